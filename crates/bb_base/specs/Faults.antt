@@ -1,0 +1,12 @@
+-- Counts of faults. A count is a number of 64 bits that begins at 0 and never falls; at its greatest value it
+-- stands still.
+use Rattle.std.specs.Prelude.{ℕ, ◌+◌, ◌-◌, ◌^◌, ◌≤◌, min}
+
+-- the count rose, or it can't rise any more
+abbrev pub Rose : ℕ → ℕ → Type 0
+Rose before now = min (before + 1) (2 ^ 64 - 1) ≤ now
+
+-- no count falls, and a call fails only where the count rose: `fails` says that this call did
+pub record HasCause (before now : ℕ) (fails : Type 0) : Type 0 where
+  pub later : before ≤ now
+  pub rose : fails → Rose before now

@@ -1,0 +1,24 @@
+-- How a number is spelt: one or more decimal digits, or `0x` or `0X` and one or more hexadecimal digits.
+use Rattle.std.specs.Prelude.{ℕ, ◌^◌, Bool, ◌&&◌, ◌||◌, List, length, drop, codes, nat_eq, nat_lt, Result, Ok, Err, if◌then◌else◌}
+use Rattle.std.specs.Char.{is_digit}
+use Rattle.std.specs.List.{list_all, starts_with}
+use Rattle.std.specs.Str.Parse.{digits_value}
+use Rattle.bb_base.specs.declared.number.NumberError.{NumberError}
+use Rattle.bb_base.specs.declared.number.NumberError.TheVariants.{NotNumber, TooLarge}
+
+-- there is a digit, and each byte is one in this radix
+abbrev pub is_numeral : ℕ → List ℕ → Bool
+is_numeral radix digits = nat_lt 0 (length digits) && list_all (λ c. is_digit c radix) digits
+
+abbrev pub numeral_value : ℕ → List ℕ → Result ℕ NumberError
+numeral_value radix digits =
+    if is_numeral radix digits
+    then (if nat_lt (digits_value radix digits) (2 ^ 32) then Ok (digits_value radix digits) else Err TooLarge)
+    else Err NotNumber
+
+abbrev pub is_hexadecimal : List ℕ → Bool
+is_hexadecimal text = starts_with nat_eq text (codes "0x") || starts_with nat_eq text (codes "0X")
+
+-- the number that a text spells, or why it spells none
+abbrev pub number_of : List ℕ → Result ℕ NumberError
+number_of text = if is_hexadecimal text then numeral_value 16 (drop 2 text) else numeral_value 10 text

@@ -1,0 +1,18 @@
+//! What every other crate of the repository stands on: texts and bytes that own their memory, CRC-32,
+//! spelt numbers, and the traits of what lies outside (files, an output) and of a record's format.
+//! Any crate may know it; it knows none of them.
+#![tactic(auto)]
+
+mod bytes;
+mod failed;
+mod memory;
+mod number;
+mod text;
+mod text_list;
+
+pub use bytes::Bytes;
+pub use failed::Failed;
+pub use memory::NoMemory;
+pub use number::{NumberError, read_number};
+pub use text::Text;
+pub use text_list::TextList;
