@@ -1,3 +1,4 @@
 -- Definitions that contracts cite.
+pub mod Crc
 pub mod Faults
 pub mod Number

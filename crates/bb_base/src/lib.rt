@@ -4,13 +4,16 @@
 #![tactic(auto)]
 
 mod bytes;
+mod crc;
 mod failed;
 mod memory;
 mod number;
+mod remainders;
 mod text;
 mod text_list;
 
 pub use bytes::Bytes;
+pub use crc::{Crc, crc32};
 pub use failed::Failed;
 pub use memory::NoMemory;
 pub use number::{NumberError, read_number};
