@@ -1,0 +1,92 @@
+ghost use Rattle.std.specs.Prelude.{◌≡◌, ◌==◌, ◌++◌, ◌∷◌, [], IfOk, OnErr, OnOk, Some};
+ghost use Rattle.std.specs.List.{list_any};
+ghost use Rattle.bb_base.specs.MemSink.{refuses_next};
+
+use crate::{Failed, NoMemory, Sink};
+use std::alloc::Global;
+use std::marker::Model;
+
+/// An output in memory. It tells all that was sent, and fails where it is told to or has no room.
+#[derive(Debug, Drop)]
+pub struct MemSink {
+    sent: Vec<u8>,
+    room: u32,
+    planned: Vec<u32>,
+    writes: u64,
+    faults: u64,
+}
+
+impl Model for MemSink {
+    ghost use Rattle.std.specs.Prelude.{◌≤◌, length};
+    ghost use Rattle.bb_base.specs.MemSink.{Kept};
+
+    ghost Value = { Kept };
+
+    ghost view = { λ s. record {
+      sent = s.sent.items;
+      room = s.room;
+      planned = s.planned.items;
+      writes = s.writes;
+      faults = s.faults;
+    } };
+
+    ghost invariant = { λ s. length s.sent.items ≤ s.room };
+}
+
+impl MemSink {
+    /// An output that takes up to `room` bytes, for which memory is taken at once.
+    pub fn with_room(alloc: Global, room: u32) -> Result<MemSink, NoMemory>
+        ensures { IfOk result (λ s. s ≡ record { sent = []; room = room; planned = []; writes = 0; faults = 0 }) }
+    {
+        Ok(MemSink {
+            sent: Vec::with_capacity(alloc, room as usize)?,
+            room,
+            planned: Vec::new(alloc),
+            writes: 0,
+            faults: 0,
+        })
+    }
+
+    /// Plans that the write with this number, counted from 0, sends nothing and fails.
+    pub fn fail_call(&mut self, call: u32) -> Result<(), NoMemory>
+        ensures ok { OnOk result (self.new ≡ record self.old { planned = self.old.planned ++ call ∷ [] }) }
+        ensures err { OnErr result (self.new ≡ self.old) }
+    {
+        self.planned.push(call)?;
+        Ok(())
+    }
+
+    /// All that was sent.
+    pub fn sent(&self) -> &[u8]
+        ensures { result.now ≡ self.now.sent }
+    {
+        self.sent.as_slice()
+    }
+
+    fn refuses(&self, piece: &[u8]) -> bool
+        ensures { result ≡ refuses_next self.now piece.now }
+    {
+        let left = self.room as usize - self.sent.as_slice().len();
+        is_planned(self.planned.as_slice(), self.writes) || left < piece.len()
+    }
+}
+
+fn is_planned(planned: &[u32], write: u64) -> bool
+    ensures { result ≡ list_any (λ n. n == write) planned.now }
+{
+    planned.iter().any(|n| u64::from(*n) == write)
+}
+
+impl Sink for MemSink {
+    ghost outlet = { λ s. record { sent = Some s.sent; faults = s.faults } };
+
+    fn write(&mut self, piece: &[u8]) -> Result<(), Failed> {
+        let refused = self.refuses(piece);
+        self.writes = self.writes.saturating_add(1);
+        if refused || self.sent.extend_from_slice(piece).is_err() {
+            self.faults = self.faults.saturating_add(1);
+            return Err(Failed);
+        }
+        Ok(())
+    }
+}
