@@ -1,7 +1,7 @@
--- What an output in memory is.
-use Rattle.std.specs.Prelude.{ℕ, ◌-◌, ◌≤◌, Bool, ◌||◌, List, length, nat_lt}
+-- What an output in memory is, and what a write makes of it.
+use Rattle.std.specs.Prelude.{ℕ, ◌==◌, ◌+◌, ◌-◌, ◌^◌, min, Bool, ◌||◌, List, ◌++◌, length, nat_lt, Some, if◌then◌else◌}
 use Rattle.std.specs.List.{list_any}
-use Rattle.std.specs.Prelude.{◌==◌}
+use Rattle.bb_base.specs.Outlet.{Outlet}
 
 -- what was sent, how much may be, which writes are to fail, how many were made, and how many failed
 pub record Kept : Type 0 where
@@ -11,6 +11,20 @@ pub record Kept : Type 0 where
   pub writes : ℕ
   pub faults : ℕ
 
+-- it tells all that was sent
+abbrev pub outlet_of : Kept → Outlet
+outlet_of sink = record { sent = Some sink.sent; faults = sink.faults }
+
 -- the next write fails: it is planned to, or the piece doesn't fit what is left of the room
 abbrev pub refuses_next : Kept → List ℕ → Bool
 refuses_next sink piece = list_any (λ n. n == sink.writes) sink.planned || nat_lt (sink.room - length sink.sent) (length piece)
+
+-- a count that stands still at its greatest value
+abbrev pub one_more : ℕ → ℕ
+one_more n = min (n + 1) (2 ^ 64 - 1)
+
+abbrev pub after_write : Kept → List ℕ → Kept
+after_write sink piece =
+    if refuses_next sink piece
+    then record sink { writes = one_more sink.writes; faults = one_more sink.faults }
+    else record sink { sent = sink.sent ++ piece; writes = one_more sink.writes }

@@ -25,3 +25,6 @@ pub use number::{NumberError, read_number};
 pub use outside::{Files, Sink};
 pub use text::Text;
 pub use text_list::TextList;
+
+#[cfg(test)]
+mod tests;

@@ -1,6 +1,8 @@
-ghost use Rattle.std.specs.Prelude.{◌≡◌, ◌==◌, ◌++◌, ◌∷◌, [], IfOk, OnErr, OnOk, Some};
+ghost use Rattle.std.specs.Prelude.{◌≡◌, ◌==◌, ◌++◌, ◌∷◌, [], IfOk, IsErr, OnErr, OnOk, is_err};
 ghost use Rattle.std.specs.List.{list_any};
-ghost use Rattle.bb_base.specs.MemSink.{refuses_next};
+ghost use Rattle.bb_base.specs.Faults.{HasCause};
+ghost use Rattle.bb_base.specs.MemSink.{after_write, outlet_of, refuses_next};
+ghost use Rattle.bb_base.specs.Outlet.{Sends, SendsFront};
 
 use crate::{Failed, NoMemory, Sink};
 use std::alloc::Global;
@@ -17,7 +19,7 @@ pub struct MemSink {
 }
 
 impl Model for MemSink {
-    ghost use Rattle.std.specs.Prelude.{◌≤◌, length};
+    ghost use Rattle.std.specs.Prelude.{◌≤◌, length, vec_capacity};
     ghost use Rattle.bb_base.specs.MemSink.{Kept};
 
     ghost Value = { Kept };
@@ -30,7 +32,7 @@ impl Model for MemSink {
       faults = s.faults;
     } };
 
-    ghost invariant = { λ s. length s.sent.items ≤ s.room };
+    ghost invariant = { λ s. (length s.sent.items ≤ s.room) × (s.room ≤ vec_capacity s.sent) };
 }
 
 impl MemSink {
@@ -78,15 +80,24 @@ fn is_planned(planned: &[u32], write: u64) -> bool
 }
 
 impl Sink for MemSink {
-    ghost outlet = { λ s. record { sent = Some s.sent; faults = s.faults } };
+    ghost outlet = { outlet_of };
 
-    fn write(&mut self, piece: &[u8]) -> Result<(), Failed> {
+    fn write(&mut self, piece: &[u8]) -> Result<(), Failed>
+        ensures sent { OnOk result (Sends piece.now (outlet_of self.old) (outlet_of self.new)) }
+        ensures front { OnErr result (SendsFront piece.now (outlet_of self.old) (outlet_of self.new)) }
+        ensures cause { HasCause self.old.faults self.new.faults (IsErr result) }
+
+        // It fails exactly where it is planned to or the piece doesn't fit, and then sends nothing.
+        ensures exact { is_err result ≡ refuses_next self.old piece.now }
+        ensures kept { self.new ≡ after_write self.old piece.now }
+    {
         let refused = self.refuses(piece);
         self.writes = self.writes.saturating_add(1);
-        if refused || self.sent.extend_from_slice(piece).is_err() {
+        if refused {
             self.faults = self.faults.saturating_add(1);
             return Err(Failed);
         }
+        self.sent.extend_from_slice(piece).unwrap();
         Ok(())
     }
 }

@@ -1,0 +1,25 @@
+-- Worked values, by computation alone.
+use Rattle.std.proofs.Common.{◌≡◌, [], refl, codes, Ok, Err}
+use Rattle.bb_base.specs.Crc.{crc_of, divided, divided_8, after_byte}
+use Rattle.bb_base.specs.Number.{number_of}
+use Rattle.bb_base.specs.declared.number.NumberError.TheVariants.{NotNumber, TooLarge}
+
+-- the check value that catalogues of CRCs give
+crc_of_check_text : crc_of (codes "123456789") ≡ 0xcbf43926
+unfolding after_byte divided_8 divided
+crc_of_check_text = refl
+
+crc_of_nothing : crc_of [] ≡ 0
+crc_of_nothing = refl
+
+hexadecimal_number : number_of (codes "0x12345678") ≡ Ok 305419896
+hexadecimal_number = refl
+
+greatest_number : number_of (codes "4294967295") ≡ Ok 4294967295
+greatest_number = refl
+
+number_past_the_greatest : number_of (codes "4294967296") ≡ Err TooLarge
+number_past_the_greatest = refl
+
+no_digit : number_of (codes "0x") ≡ Err NotNumber
+no_digit = refl
