@@ -1,0 +1,3 @@
+-- Definitions that contracts cite.
+pub use Rattle.bb_base.specs.Form
+pub mod Raw

@@ -1,0 +1,10 @@
+//! The raw record: a header of 16 bytes with the checks, and the area behind it. Only the crates that choose a
+//! record's format may know it; what keeps records knows `Format` alone.
+#![tactic(auto)]
+
+mod raw;
+
+pub use raw::Raw;
+
+#[cfg(test)]
+mod tests;
