@@ -1,5 +1,6 @@
 -- What a flash device holds at one moment: its bytes, and the health of each page.
 use Rattle.std.specs.Prelude.{◌≡◌, ℕ, ◌+◌, ◌-◌, ◌*◌, ◌/◌, ◌==◌, if◌then◌else◌, List, [], ◌∷◌, length, take, drop, fold}
+use Rattle.std.specs.Int.{div_ceil}
 use Rattle.bb_flash.specs.declared.geometry.Geometry.{Geometry}
 use Rattle.bb_flash.specs.declared.health.Health.{Health}
 use Rattle.bb_flash.specs.declared.health.Health.TheVariants.{Fine, Worn, Lost}
@@ -25,15 +26,11 @@ worse_of Lost other = Lost
 abbrev pub worst_of : List Health → Health
 worst_of pages = fold worse_of Fine pages
 
--- how many pages of a device begin before a place
-abbrev pub pages_before : ℕ → ℕ → ℕ
-pages_before page place = (place + (page - 1)) / page
-
--- the health of each page in which one of the `len` bytes at a place stands
-abbrev pub touched_pages : ℕ → List Health → ℕ → ℕ → List Health
-touched_pages page health at len =
-    if len == 0 then [] else take (pages_before page (at + len) - at / page) (drop (at / page) health)
+-- of the pages of a device, those in which one of the `len` bytes at a place stands
+abbrev pub touched_pages : ℕ → ℕ → ℕ → List Health → List Health
+touched_pages page at len pages =
+    if len == 0 then [] else take (div_ceil (at + len) page - at / page) (drop (at / page) pages)
 
 -- the worst health among the pages in which the `len` bytes at a place stand
 abbrev pub health_of : ℕ → Image → ℕ → ℕ → Health
-health_of page image at len = worst_of (touched_pages page image.health at len)
+health_of page image at len = worst_of (touched_pages page at len image.health)

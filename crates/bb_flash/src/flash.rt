@@ -19,14 +19,10 @@ pub trait Flash {
     /// The answer is the worst health among the pages that they stand in.
     fn read(&mut self, at: u32, out: &mut [u8]) -> Result<Health, Failed>
         requires { at + length out.old ≤ (device self.old).geometry.size }
-        ensures done {
-            IfOk result (λ health. ForSome (content (device self.old)) (λ image.
-            IsReading (device self.old).geometry.page image at out.new health))
-        }
+        ensures done { IfOk result (λ health. ForSome (content (device self.old)) (λ image.
+            IsReading (device self.old).geometry.page image at out.new health)) }
         ensures keeps { ReadKeeps (device self.old) (device self.new) }
         ensures whole { IsDevice (device self.new) }
         ensures faults { HasCause (device self.old).faults (device self.new).faults (IsErr result) }
-        ensures read_faults {
-            HasCause (device self.old).read_faults (device self.new).read_faults (IsErr result)
-        };
+        ensures read_faults { HasCause (device self.old).read_faults (device self.new).read_faults (IsErr result) };
 }

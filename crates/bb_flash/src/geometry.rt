@@ -15,8 +15,11 @@ pub struct Geometry {
 }
 
 const MOST_SIZE: u32 = 268_435_456;
+
 const MOST_BLOCK: u32 = 4_194_304;
+
 const MOST_PAGE: u32 = 16_384;
+
 const LEAST_PAGE: u32 = 16;
 
 /// The geometry that a word spells.

@@ -3,13 +3,20 @@
 #![tactic(auto)]
 
 mod board;
+mod fault;
 mod flash;
 mod geometry;
 mod health;
+mod mem_board;
+mod pages;
 mod region;
+#[cfg(test)]
+mod tests;
 
 pub use board::Board;
+pub use fault::{Fault, Fill};
 pub use flash::Flash;
 pub use geometry::{Geometry, geometry_of};
 pub use health::Health;
+pub use mem_board::MemBoard;
 pub use region::Region;
