@@ -1,0 +1,3 @@
+pub mod Colons
+pub mod Geometries
+pub mod Readings

@@ -1,0 +1,20 @@
+-- A read that gives the bytes of an image exactly.
+use Rattle.std.proofs.Common.{◌≡◌, ℕ, ◌+◌, ◌-◌, ◌≤◌, ◌∙◌, List, length, take, drop, ap, sym, arith, refl}
+use Rattle.std.proofs.lemmas.List.{drop-take, take-take, drop-drop}
+use Rattle.bb_flash.specs.declared.health.Health.{Health}
+use Rattle.bb_flash.specs.Image.{Image, health_of}
+use Rattle.bb_flash.specs.Device.{IsReading}
+
+-- a part of a slice
+take-drop-slice : (bytes : List ℕ) (at size k len : ℕ) → k + len ≤ size → take len (drop k (take size (drop at bytes))) ≡ take len (drop (at + k) bytes)
+take-drop-slice bytes at size k len inside =
+    let split : size ≡ k + (size - k) = omega arith in
+    let fits : len ≤ size - k = omega arith in
+    ap (λ n. take len (drop k (take n (drop at bytes)))) split ∙ ap (take len) (drop-take k (size - k) (drop at bytes))
+    ∙ take-take len (size - k) (drop k (drop at bytes)) fits ∙ ap (take len) (drop-drop k at bytes)
+
+pub is_reading : (page at : ℕ) (image : Image) (out : List ℕ) (health : Health) → out ≡ take (length out) (drop at image.bytes) → health ≡ health_of page image at (length out) → IsReading page image at out health
+is_reading page at image out health e h = record {
+  worst = h;
+  exact = λ k len inside _. ap (λ l. take len (drop k l)) e ∙ take-drop-slice image.bytes at (length out) k len inside;
+}

@@ -1,0 +1,62 @@
+-- A flash device as contracts see it, at one moment.
+use Rattle.std.specs.Prelude.{◌≡◌, ◌≢◌, ℕ, ◌+◌, ◌≤◌, List, length, take, drop, Option, option_map}
+use Rattle.std.specs.Option.{ForSome}
+use Rattle.bb_flash.specs.declared.geometry.Geometry.{Geometry}
+use Rattle.bb_flash.specs.declared.health.Health.{Health}
+use Rattle.bb_flash.specs.declared.health.Health.TheVariants.{Lost}
+use Rattle.bb_flash.specs.Geometry.{IsGeometry}
+use Rattle.bb_flash.specs.Image.{Image, IsImageOf, health_of}
+
+-- what is handed to a board that starts a system: texts as their bytes
+pub record Plan : Type 0 where
+  pub place : ℕ
+  pub linux : List ℕ
+  pub initrds : List (List ℕ)
+  pub options : List ℕ
+  pub devicetree : List ℕ
+
+-- a start that a board made: its plan, and what the device held at that moment
+pub record Start : Type 0 where
+  pub plan : Plan
+  pub image : Image
+
+-- what a device tells of itself: memory boards do, and a device behind the operating system doesn't
+pub record Told : Type 0 where
+  pub image : Image
+  -- oldest first
+  pub starts : List Start
+
+-- the counts are numbers of 64 bits that never fall
+pub record Device : Type 0 where
+  pub geometry : Geometry
+  pub told : Option Told
+  -- calls of any kind that failed, but for starts
+  pub faults : ℕ
+  -- reads that failed
+  pub read_faults : ℕ
+  -- starts that failed
+  pub start_faults : ℕ
+
+abbrev pub content : Device → Option Image
+content device = option_map (λ told. told.image) device.told
+
+abbrev pub starts : Device → Option (List Start)
+starts device = option_map (λ told. told.starts) device.told
+
+-- the geometry is within its bounds, and what the device holds fits it
+pub record IsDevice (device : Device) : Type 0 where
+  pub geometry : IsGeometry device.geometry
+  pub image : ForSome (content device) (IsImageOf device.geometry)
+
+-- what no read changes, whatever it answers
+pub record ReadKeeps (before after : Device) : Type 0 where
+  pub geometry : after.geometry ≡ before.geometry
+  pub content : content after ≡ content before
+  pub starts : starts after ≡ starts before
+  pub start_faults : after.start_faults ≡ before.start_faults
+
+-- what a read gave that answered Ok: the worst health of the pages that it touched, and their bytes; of bytes
+-- in a Lost page nothing is said
+pub record IsReading (page : ℕ) (image : Image) (at : ℕ) (out : List ℕ) (health : Health) : Type 0 where
+  pub worst : health ≡ health_of page image at (length out)
+  pub exact : (k len : ℕ) → k + len ≤ length out → health_of page image (at + k) len ≢ Lost → take len (drop k out) ≡ take len (drop (at + k) image.bytes)

@@ -1,0 +1,22 @@
+//! Flash devices: their geometries, what they hold, and what each call leaves of it.
+//! Any crate above bb_base may know it.
+#![tactic(auto)]
+
+mod board;
+mod fault;
+mod flash;
+mod geometry;
+mod health;
+mod mem_board;
+mod pages;
+mod region;
+#[cfg(test)]
+mod tests;
+
+pub use board::Board;
+pub use fault::{Fault, Fill};
+pub use flash::Flash;
+pub use geometry::{Geometry, geometry_of};
+pub use health::Health;
+pub use mem_board::MemBoard;
+pub use region::Region;

@@ -1,0 +1,54 @@
+ghost use Rattle.std.specs.Prelude.{◌≡◌, ◌+◌, ◌*◌, ◌≤◌, ◌<◌, ◌^◌, length};
+ghost use Rattle.bb_flash.specs.Image.{worse_of, worst_of, touched_pages};
+ghost use Rattle.bb_flash.specs.Device.{IsReading};
+
+use crate::Health;
+
+// The worse of two.
+fn worse(one: Health, other: Health) -> Health
+    ensures { result ≡ worse_of one other }
+{
+    match (one, other) {
+        (Health::Fine, other) => other,
+        (Health::Worn, Health::Fine) => Health::Worn,
+        (Health::Worn, other) => other,
+        (Health::Lost, _) => Health::Lost,
+    }
+}
+
+// The worst of some pages, Fine where there are none.
+pub fn worst(pages: &[Health]) -> Health
+    ensures { result ≡ worst_of pages.now }
+{
+    pages
+        .iter()
+        .fold(Health::Fine, |so_far, page| worse(so_far, *page))
+}
+
+// The pages in which one of the `len` bytes at a place stands.
+pub fn touched(pages: &[Health], page: u32, at: u32, len: u32) -> &[Health]
+    requires some { 0 < page }
+    requires inside { at + len ≤ length pages.now * page }
+    requires small { at + len < 2 ^ 32 }
+    ensures { result.now ≡ touched_pages page at len pages.now }
+{
+    if len == 0 {
+        return &[];
+    }
+    let first = at / page;
+    let end = (at + len).div_ceil(page);
+    &pages[first as usize..end as usize]
+}
+
+// Copies what stands at a place into `out`. The answer is the worst health of its pages.
+pub fn copy_out(bytes: &[u8], pages: &[Health], page: u32, at: u32, out: &mut [u8]) -> Health
+    requires some { 0 < page }
+    requires all { length bytes.now ≡ length pages.now * page }
+    requires inside { at + length out.old ≤ length bytes.now }
+    requires small { length bytes.now < 2 ^ 32 }
+    ensures { IsReading page (record { bytes = bytes.now; health = pages.now }) at out.new result }
+{
+    let first = at as usize;
+    out.copy_from_slice(&bytes[first..first + out.len()]);
+    worst(touched(pages, page, at, out.len() as u32))
+}
