@@ -1,0 +1,6 @@
+pub mod Parts
+pub mod Candidates
+pub mod Passing
+pub mod FourWords
+pub mod Sessions
+pub mod Endings

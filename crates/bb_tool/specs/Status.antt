@@ -1,0 +1,12 @@
+-- The exit status of each way in which a session ends.
+use Rattle.std.specs.Prelude.{ℕ}
+use Rattle.bb_tool.specs.declared.status.Status.{Status}
+use Rattle.bb_tool.specs.declared.status.Status.TheVariants.{Done, BadWords, BadLayout, ReadFault, SinkFault, NoMemory}
+
+abbrev pub code_of : Status → ℕ
+code_of Done = 0
+code_of BadWords = 1
+code_of BadLayout = 3
+code_of ReadFault = 8
+code_of SinkFault = 14
+code_of NoMemory = 20
