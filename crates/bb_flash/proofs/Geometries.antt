@@ -1,9 +1,9 @@
 -- What follows from the bounds of a geometry.
-use Rattle.std.proofs.Common.{◌≡◌, ℕ, zero, suc, ◌+◌, ◌<◌, ◌≤◌, ◌*◌, ◌/◌, ◌%◌, ◌∙◌, ◌⊎◌, ap, sym, arith, inl, inr, refl}
+use Rattle.std.proofs.Common.{◌≡◌, ℕ, zero, suc, ◌<◌, ◌*◌, ◌/◌, ◌%◌, ◌∙◌, ◌⊎◌, ap, sym, arith, inl, inr, refl}
 use Rattle.std.proofs.Math.Nat.{mod-mod_of_dvd, zero-mod, mod-one, div-add-mod'}
 use Rattle.std.proofs.lemmas.Nat.Gcd.{dvd_of_mod-eq-zero}
 use Rattle.bb_flash.specs.declared.geometry.Geometry.{Geometry}
-use Rattle.bb_flash.specs.Geometry.{IsGeometry, HasBlocks}
+use Rattle.bb_flash.specs.Geometry.{IsGeometry}
 
 -- a multiple of a multiple
 pub multiple_twice : (a b c : ℕ) → a % b ≡ 0 → b % c ≡ 0 → a % c ≡ 0

@@ -1,7 +1,8 @@
 -- A read that gives the bytes of an image exactly.
-use Rattle.std.proofs.Common.{◌≡◌, ℕ, ◌+◌, ◌-◌, ◌≤◌, ◌∙◌, List, length, take, drop, ap, sym, arith, refl}
+use Rattle.std.proofs.Common.{◌≡◌, ◌≢◌, ℕ, ◌+◌, ◌-◌, ◌≤◌, ◌∙◌, List, length, take, drop, take_all, ap, sym, arith}
 use Rattle.std.proofs.lemmas.List.{drop-take, take-take, drop-drop}
 use Rattle.bb_flash.specs.declared.health.Health.{Health}
+use Rattle.bb_flash.specs.declared.health.Health.TheVariants.{Lost}
 use Rattle.bb_flash.specs.Image.{Image, health_of}
 use Rattle.bb_flash.specs.Device.{IsReading}
 
@@ -18,3 +19,11 @@ is_reading page at image out health e h = record {
   worst = h;
   exact = λ k len inside _. ap (λ l. take len (drop k l)) e ∙ take-drop-slice image.bytes at (length out) k len inside;
 }
+
+-- where no page that was touched is Lost, the bytes are those of the image
+pub exact_reading : (page at : ℕ) (image : Image) (out : List ℕ) (health : Health) → IsReading page image at out health → health ≢ Lost → out ≡ take (length out) (drop at image.bytes)
+exact_reading page at image out health reading alive =
+    let here : at + 0 ≡ at = omega arith in
+    let worst : health_of page image (at + 0) (length out) ≡ health = ap (λ place. health_of page image place (length out)) here ∙ sym reading.worst in
+    sym (take_all (length out) out (omega arith)) ∙ reading.exact 0 (length out) (omega arith) (λ lost. alive (sym worst ∙ lost))
+    ∙ ap (λ place. take (length out) (drop place image.bytes)) here

@@ -6,7 +6,8 @@ ghost use Rattle.bb_flash.specs.Device.{Device, IsDevice, IsReading, ReadKeeps, 
 use crate::{Geometry, Health};
 use bb_base::Failed;
 
-/// A flash device. What a clause says of its content is said where the device tells it.
+/// A flash device. It means a `Device`: its geometry, what it holds, where it tells that, and counts of faults,
+/// which are 64-bit numbers that never fall and stand still at 2^64 - 1.
 pub trait Flash {
     ghost device: { Self → Device };
 
@@ -15,8 +16,9 @@ pub trait Flash {
         ensures value { result ≡ (device self.now).geometry }
         ensures whole { IsDevice (device self.now) };
 
-    /// Reads as many bytes as `out` has, from the byte at `at` on. They are exact, except in pages that are Lost.
-    /// The answer is the worst health among the pages that they stand in.
+    /// Reads as many bytes as `out` has, from the byte at `at` on, and answers the worst health of the pages in
+    /// which they stand. The bytes are exact, except in pages that are Lost. It changes nothing on the device.
+    /// It fails only where both counts of faults rose; what `out` then holds isn't said.
     fn read(&mut self, at: u32, out: &mut [u8]) -> Result<Health, Failed>
         requires { at + length out.old ≤ (device self.old).geometry.size }
         ensures done { IfOk result (λ health. ForSome (content (device self.old)) (λ image.

@@ -3,7 +3,7 @@ ghost use Rattle.bb_flash.specs.Geometry.{IsGeometry, IsMultiple, geometry_from,
 
 use bb_base::read_number;
 
-/// How a device is laid out: sizes in bytes.
+/// How a device is laid out. The sizes are in bytes.
 #[derive(Clone, Copy, Debug, PartialEq, Eq)]
 pub struct Geometry {
     /// What is programmed at once. 1 on a device that is overwritten in place.
@@ -22,7 +22,11 @@ const MOST_PAGE: u32 = 16_384;
 
 const LEAST_PAGE: u32 = 16;
 
-/// The geometry that a word spells.
+/// The geometry that a word spells, `None` exactly for every other word.
+/// `ov:SIZE` is a device that is overwritten in place, with SIZE from 1 to 268,435,456: its page is 1, its block 0.
+/// `er:PAGE:BLOCK:SIZE` is one that is erased in blocks, with PAGE from 16 to 16,384, BLOCK a positive multiple of
+/// PAGE up to 4,194,304, and SIZE a positive multiple of BLOCK up to 268,435,456.
+/// The numbers are spelt as `read_number` reads them.
 pub fn geometry_of(word: &str) -> Option<Geometry>
     ensures value { result ≡ geometry_from word.now }
     ensures bounds { IfSome result IsGeometry }

@@ -1,4 +1,4 @@
-ghost use Rattle.std.specs.Prelude.{◌≡◌, ◌+◌, ◌*◌, ◌≤◌, ◌<◌, ◌∷◌, length, slice_set, IfOk, IsErr, OnOk, OnErr, is_err};
+ghost use Rattle.std.specs.Prelude.{◌≡◌, ◌+◌, ◌*◌, ◌≤◌, ◌<◌, ◌∷◌, length, slice_set, IfOk, IsErr, OnOk, OnErr, is_err, option_map};
 ghost use Rattle.std.specs.Option.{ForSome};
 ghost use Rattle.bb_base.specs.Faults.{HasCause};
 ghost use Rattle.bb_flash.specs.Geometry.{IsGeometry};
@@ -11,7 +11,8 @@ use bb_base::{Failed, NoMemory};
 use std::alloc::Global;
 use std::marker::Model;
 
-/// A board in memory, which tells all that it holds. Faults are planned by the number of their call.
+/// A board in memory, which tells all that it holds. It fails where a fault was planned, by the number of the
+/// call, and where it has no room left to record a call.
 #[derive(Debug, Drop)]
 pub struct MemBoard {
     geometry: Geometry,
@@ -50,8 +51,8 @@ impl Model for MemBoard {
 }
 
 impl MemBoard {
-    /// A board that holds these bytes in pages that are Fine. It records at most `calls` calls, and at most `room`
-    /// bytes of what they change.
+    /// A board that holds these bytes, one for each byte of the geometry's size, in pages that are Fine. It
+    /// records at most `calls` flash calls, and at most `room` bytes that they change.
     pub fn of(
         alloc: Global,
         geometry: Geometry,
@@ -86,7 +87,7 @@ impl MemBoard {
         Ok(())
     }
 
-    /// Sets the health of a page of the device.
+    /// Sets the health of a page of the device, counted from 0.
     pub fn set_health(&mut self, page: u32, health: Health)
         requires { page * self.old.device.geometry.page < self.old.device.geometry.size }
         ensures { self.new ≡ with_health self.old page health }
@@ -94,9 +95,9 @@ impl MemBoard {
         self.health[page as usize] = health;
     }
 
-    /// The device's bytes.
+    /// The device's bytes, those of Lost pages too.
     pub fn bytes(&self) -> &[u8]
-        ensures { ForSome (content self.now.device) (λ image. result.now ≡ image.bytes) }
+        ensures { option_map (λ image. image.bytes) (content self.now.device) ≡ Some result.now }
     {
         &self.bytes
     }
