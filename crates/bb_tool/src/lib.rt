@@ -12,3 +12,6 @@ mod words;
 
 pub use session::run;
 pub use status::Status;
+
+#[cfg(test)]
+mod tests;
