@@ -1,0 +1,5 @@
+-- Definitions that contracts cite.
+pub mod Kind
+pub mod Mac
+pub mod Table
+pub mod Value
