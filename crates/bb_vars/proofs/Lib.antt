@@ -1,2 +1,3 @@
 -- Lemmas.
+pub mod MacText
 pub mod Names

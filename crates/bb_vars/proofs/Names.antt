@@ -23,20 +23,20 @@ pub none_before_more : (names : List (List ℕ)) (text : List ℕ) (i : ℕ) →
     → IsNoneBefore names text i → IsNoneBefore names text (i + 1)
 none_before_more names text i inside differs before =
     below_more (λ k. (d : List ℕ) → bytes_eq (get_or names k d) text ≡ false) i before
-        (λ d. sym (name_at names text i d inside) ∙ differs)
+    (λ d. sym (name_at names text i d inside) ∙ differs)
 
 pub place_of_first : (names : List (List ℕ)) (text : List ℕ) (i : ℕ) → i < length names → is_name_at names text i ≡ true
     → IsNoneBefore names text i → position (λ n. bytes_eq n text) names ≡ Some i
 place_of_first names text i inside same before =
     let place : position_or_len (λ n. bytes_eq n text) names ≡ i =
-        position_or_len_is (λ n. bytes_eq n text) names i text (omega arith) (λ k h. before k h text)
-            (λ _. sym (name_at names text i text inside) ∙ same) in
+    position_or_len_is (λ n. bytes_eq n text) names i text (omega arith) (λ k h. before k h text)
+    (λ _. sym (name_at names text i text inside) ∙ same) in
     rw place (grind arith)
 
 pub place_of_none : (names : List (List ℕ)) (text : List ℕ) → IsNoneBefore names text (length names)
     → position (λ n. bytes_eq n text) names ≡ None
 place_of_none names text before =
     let place : position_or_len (λ n. bytes_eq n text) names ≡ length names =
-        position_or_len_is (λ n. bytes_eq n text) names (length names) text (omega arith) (λ k h. before k h text)
-            (λ h. absurd (omega arith)) in
+    position_or_len_is (λ n. bytes_eq n text) names (length names) text (omega arith) (λ k h. before k h text)
+    (λ h. absurd (omega arith)) in
     rw place (grind arith)

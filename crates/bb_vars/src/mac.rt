@@ -6,7 +6,26 @@ ghost use Rattle.bb_vars.specs.Mac.{pair_of, mac_of, mac_text};
 pub fn read_mac(text: &[u8]) -> Option<[u8; 6]>
     ensures { result ≡ mac_of text.now }
 {
-    let [a, b, b':', c, d, b':', e, f, b':', g, h, b':', i, j, b':', k, l] = text else {
+    let [
+        a,
+        b,
+        b':',
+        c,
+        d,
+        b':',
+        e,
+        f,
+        b':',
+        g,
+        h,
+        b':',
+        i,
+        j,
+        b':',
+        k,
+        l,
+    ] = text
+    else {
         return None;
     };
     Some([

@@ -6,7 +6,7 @@ pub returns-then-is_name_at : goal.returns-then-is_name_at
 returns-then-is_name_at c =
     let inside : c.loop-place.place < length c.args.names.now = omega arith in
     rw (place_of_first c.args.names.now c.args.text.now c.loop-place.place inside
-        (sym c.is_name_at.ensures ∙ c.if-is_name_at.true) c.loop-place.invariant)
+    (sym c.is_name_at.ensures ∙ c.if-is_name_at.true) c.loop-place.invariant)
 
 pub loop-place-preserved : goal.loop-place-preserved
 loop-place-preserved c =
