@@ -1,4 +1,5 @@
 -- Lemmas.
+pub mod MacRead
 pub mod MacText
 pub mod Names
 pub mod Numbers
