@@ -1,6 +1,8 @@
 -- Lemmas.
+pub mod ByteWidths
 pub mod MacRead
 pub mod MacText
 pub mod Names
 pub mod Numbers
 pub mod Pairs
+pub mod Strings
