@@ -1,11 +1,11 @@
 -- Numbers of 1 and of 4 bytes, little endian, read and printed.
-use Rattle.std.proofs.Common.{◌≡◌, ℕ, ◌<◌, ◌^◌, ◌≤◌, ◌%◌, Bool, ◌⊎◌, inl, inr, true, false, nat_lt, cond, List, [], ◌∷◌, Result, Ok, Err, length, get_or, arith, refl, sym, ap, ◌∙◌, All, lit<, if◌then◌else◌}
+use Rattle.std.proofs.Common.{◌≡◌, ℕ, zero, suc, ◌<◌, ◌^◌, ◌≤◌, ◌%◌, Bool, ◌⊎◌, inl, inr, true, false, nat_lt, cond, List, [], ◌∷◌, Result, Ok, Err, length, get_or, arith, refl, sym, ap, ◌∙◌, All, lit<, if◌then◌else◌}
 use Rattle.std.proofs.lemmas.Bool.{cases_lt}
 use Rattle.std.proofs.lemmas.Bool.Decides.{nat_tests}
 use Rattle.std.proofs.lemmas.List.{get_or_past}
 use Rattle.std.proofs.lemmas.Nat.{le_bytes_4, from_le_bytes-to_le_bytes_4}
 use Rattle.std.specs.Fmt.{decimal}
-use Rattle.std.specs.Int.{Width, w8, w32, byte_len, to_le_bytes, from_le_bytes}
+use Rattle.std.specs.Int.{Width, w8, w32, byte_len, bytes_low_first, to_le_bytes, from_le_bytes}
 use Rattle.std.specs.Result.{result_unwrap_or}
 use Rattle.bb_base.specs.Number.{number_of}
 use Rattle.bb_base.specs.declared.number.NumberError.{NumberError}
@@ -25,6 +25,10 @@ small_at bytes small i = small_by_cases bytes small i (cases_lt i (length bytes)
 
 pub to_le_bytes-from : (bytes : List ℕ) → length bytes ≡ 4 → All (λ b. b < 256) bytes → to_le_bytes w32 (from_le_bytes w32 bytes) ≡ bytes
 to_le_bytes-from bytes four small = le_bytes_4 bytes (from_le_bytes w32 bytes) four (small_at bytes small) refl
+
+length-bytes_low_first : (i k n : ℕ) → length (bytes_low_first i k n) ≡ k
+length-bytes_low_first i zero n = refl
+length-bytes_low_first i (suc k) n = ap suc (length-bytes_low_first (suc i) k n)
 
 number_bytes-decimal : (width : Width) (n : ℕ) → n < 256 ^ byte_len width → n < 2 ^ 32 → number_bytes width (number_of (decimal n)) ≡ Ok (to_le_bytes width n)
 number_bytes-decimal width n fits small =
@@ -80,3 +84,8 @@ uint32_prints spelt bytes h =
     let read = number_read w32 spelt bytes h in
     let same : from_le_bytes w32 bytes ≡ read.number = ap (from_le_bytes w32) read.bytes_are ∙ from_le_bytes-to_le_bytes_4 read.number read.fits in
     ap decimal (same ∙ sym (ap (λ r. result_unwrap_or r 0) read.spelt_is))
+
+pub number_sized : (width : Width) (spelt : Result ℕ NumberError) (bytes : List ℕ) → number_bytes width spelt ≡ Ok bytes → length bytes ≡ byte_len width
+number_sized width spelt bytes h =
+    let read = number_read width spelt bytes h in
+    ap length read.bytes_are ∙ length-bytes_low_first 0 (byte_len width) read.number

@@ -96,9 +96,17 @@ lower_of (t0 ∷ t1 ∷ k0 ∷ t2 ∷ t3 ∷ k1 ∷ t4 ∷ t5 ∷ k2 ∷ t6 ∷ 
     rw (colons.1, colons.2, colons.3, colons.4, colons.5) (prints_lower t0 t1 t2 t3 t4 t5 t6 t7 t8 t9 t10 t11 bytes six)
 lower_of _ bytes long h = absurd (omega arith)
 
+-- the pairs of a text
+abbrev pairs_in : List ℕ → List (Option ℕ)
+pairs_in text = map (λ i. pair_of (get_or text i 0) (get_or text (i + 1) 0)) (0 ∷ 3 ∷ 6 ∷ 9 ∷ 12 ∷ 15 ∷ [])
+
 long_enough : (text bytes : List ℕ) → mac_of text ≡ Some bytes → length text ≡ 17
-long_enough text bytes h =
-    (colons_of text (cond_found (has_colons text) (all_of (map (λ i. pair_of (get_or text i 0) (get_or text (i + 1) 0)) (0 ∷ 3 ∷ 6 ∷ 9 ∷ 12 ∷ 15 ∷ []))) bytes h).0).0
+long_enough text bytes h = (colons_of text (cond_found (has_colons text) (all_of (pairs_in text)) bytes h).0).0
 
 pub mac_text-of : (text bytes : List ℕ) → mac_of text ≡ Some bytes → mac_text bytes ≡ str_to_ascii_lowercase text
 mac_text-of text bytes h = lower_of text bytes (long_enough text bytes h) h
+
+pub mac_sized : (text bytes : List ℕ) → mac_of text ≡ Some bytes → length bytes ≡ 6
+mac_sized text bytes h =
+    let found = (cond_found (has_colons text) (all_of (pairs_in text)) bytes h).1 in
+    ap length (six_of _ _ _ _ _ _ bytes found).items_are

@@ -1,11 +1,13 @@
 -- A string that is filled up with zero bytes ends before the first of them.
-use Rattle.std.proofs.Common.{◌≡◌, ℕ, zero, suc, ◌+◌, ◌-◌, ◌<◌, ◌≤◌, ◌==◌, Bool, true, false, not, nat_lt, ◌||◌, cond, if◌then◌else◌, List, [], ◌∷◌, ◌++◌, Ok, Err, length, take, drop, get_or, replicate, arith, refl, sym, ap, ◌∙◌, All, ◌⊎◌, inl, inr, length-append, append-nil}
+use Rattle.std.proofs.Common.{◌≡◌, ℕ, zero, suc, ◌+◌, ◌-◌, ◌<◌, ◌≤◌, ◌==◌, Bool, true, false, not, nat_lt, ◌||◌, cond, if◌then◌else◌, List, [], ◌∷◌, ◌++◌, Result, Ok, Err, length, take, drop, get_or, replicate, arith, refl, sym, ap, ◌∙◌, All, ◌⊎◌, inl, inr, length-append, append-nil}
+use Rattle.std.proofs.lemmas.List.{length-replicate}
 use Rattle.std.proofs.lemmas.Bool.{cases_lt, eqb-true}
 use Rattle.std.proofs.lemmas.Bool.Decides.{nat_tests}
 use Rattle.std.proofs.lemmas.Grind.{common_steps}
 use Rattle.std.proofs.lemmas.List.Sums.{prefix_len-le-length, split_at_first, passes_at_first, fails_before_first}
 use Rattle.std.proofs.Math.Seq.{take-append_seam, take-length}
 use Rattle.std.specs.List.{list_any, prefix_len, position_or_len, before_first, after_first}
+use Rattle.bb_vars.specs.declared.value_error.ValueError.{ValueError}
 use Rattle.bb_vars.specs.declared.value_error.ValueError.TheVariants.{TooLong, HasZeroByte}
 use Rattle.bb_vars.specs.Value.{chars_bytes}
 
@@ -26,9 +28,33 @@ length_before (c ∷ text) n none =
     let rest = length_before text n parts.1 in
     rw (parts.0, rest) (omega arith)
 
-pub before_first-filled : (text : List ℕ) (n : ℕ) → list_any is_zero text ≡ false → before_first is_zero (text ++ replicate n 0) ≡ text
+before_first-filled : (text : List ℕ) (n : ℕ) → list_any is_zero text ≡ false → before_first is_zero (text ++ replicate n 0) ≡ text
 before_first-filled text n none =
     ap (λ k. take k (text ++ replicate n 0)) (length_before text n none) ∙ take-append_seam text (replicate n 0)
+
+kept_by_cases : (long has_zero : Bool) (filled value : List ℕ)
+    → cond {A = Result (List ℕ) ValueError} long (Err TooLong) (cond {A = Result (List ℕ) ValueError} has_zero (Err HasZeroByte) (Ok filled)) ≡ Ok value
+    → (long ≡ false) × (has_zero ≡ false) × (value ≡ filled)
+kept_by_cases true has_zero filled value h = absurd (cc)
+kept_by_cases false true filled value h = absurd (cc)
+kept_by_cases false false filled value h = (refl, refl, cc)
+
+-- a string that was read is not too long, has no zero byte, and is filled up
+pub chars_read : (size : ℕ) (text value : List ℕ) → chars_bytes size text ≡ Ok value
+    → (nat_lt size (length text) ≡ false) × (list_any is_zero text ≡ false) × (value ≡ text ++ replicate (size - length text) 0)
+chars_read size text value h =
+    kept_by_cases (nat_lt size (length text)) (list_any is_zero text) (text ++ replicate (size - length text) 0) value h
+
+pub chars_print : (size : ℕ) (text value : List ℕ) → chars_bytes size text ≡ Ok value → before_first is_zero value ≡ text
+chars_print size text value h =
+    let read = chars_read size text value h in
+    ap (before_first is_zero) read.2 ∙ before_first-filled text (size - length text) read.1
+
+pub chars_sized : (size : ℕ) (text value : List ℕ) → chars_bytes size text ≡ Ok value → length value ≡ size
+chars_sized size text value h =
+    let read = chars_read size text value h in
+    let short : length text ≤ size = let test = read.0 in grind (arith, nat_tests) in
+    ap length read.2 ∙ omega (arith, length-append text (replicate (size - length text) 0), length-replicate {A = ℕ} (size - length text) 0)
 
 -- ---- a string that is printed
 

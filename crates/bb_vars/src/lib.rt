@@ -4,6 +4,7 @@
 #![tactic(auto)]
 
 mod kind;
+mod law;
 mod mac;
 mod print;
 mod read;
@@ -11,6 +12,7 @@ mod table;
 mod value_error;
 
 pub use kind::Kind;
+pub use law::{law_print_then_read, law_read_then_print};
 pub use print::print_value;
 pub use read::read_value;
 pub use table::Table;
