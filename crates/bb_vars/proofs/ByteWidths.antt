@@ -74,8 +74,8 @@ pub uint8_prints : (spelt : Result ℕ NumberError) (bytes : List ℕ) → numbe
     → decimal (from_le_bytes w8 bytes) ≡ decimal (result_unwrap_or spelt 0)
 uint8_prints spelt bytes h =
     let read = number_read w8 spelt bytes h in
-    let same : from_le_bytes w8 bytes ≡ read.number = 
-        ap (from_le_bytes w8) read.bytes_are ∙ (let small : read.number % 256 ≡ read.number = omega (arith, read.fits) in small) in
+    let same : from_le_bytes w8 bytes ≡ read.number =
+    ap (from_le_bytes w8) read.bytes_are ∙ (let small : read.number % 256 ≡ read.number = omega (arith, read.fits) in small) in
     ap decimal (same ∙ sym (ap (λ r. result_unwrap_or r 0) read.spelt_is))
 
 pub uint32_prints : (spelt : Result ℕ NumberError) (bytes : List ℕ) → number_bytes w32 spelt ≡ Ok bytes

@@ -61,7 +61,7 @@ index_prints names text value few h =
     let named = slice_get-position names text read.index read.found_is in
     let inside = slice_get_within names read.index text named in
     let number : from_le_bytes w32 value ≡ read.index =
-        ap (from_le_bytes w32) read.value_is ∙ from_le_bytes-to_le_bytes_4 read.index (omega arith) in
+    ap (from_le_bytes w32) read.value_is ∙ from_le_bytes-to_le_bytes_4 read.index (omega arith) in
     ap (λ i. unwrap_or (slice_get names i) (decimal i)) number ∙ ap (λ found. unwrap_or found (decimal read.index)) named
 
 pub prints_plain : (kind : Kind) (text value : List ℕ) → HasFewNames kind → bytes_of kind text ≡ Ok value → text_of kind value ≡ plain_text kind text

@@ -1,5 +1,6 @@
 -- Lemmas.
 pub mod ByteWidths
+pub mod Examples
 pub mod Laws
 pub mod MacRead
 pub mod MacText

@@ -18,7 +18,7 @@ six_read_back a b c d e f la lb lc ld le lf =
 pub mac_of-mac_text : (bytes : List ℕ) → length bytes ≡ 6 → All (λ b. b < 256) bytes → mac_of (mac_text bytes) ≡ Some bytes
 mac_of-mac_text (a ∷ b ∷ c ∷ d ∷ e ∷ f ∷ []) six small =
     six_read_back a b c d e f (small 0 0 (lit< tt)) (small 1 0 (lit< tt)) (small 2 0 (lit< tt))
-        (small 3 0 (lit< tt)) (small 4 0 (lit< tt)) (small 5 0 (lit< tt))
+    (small 3 0 (lit< tt)) (small 4 0 (lit< tt)) (small 5 0 (lit< tt))
 mac_of-mac_text _ six small = absurd (omega arith)
 
 -- six items, none of which is missing
@@ -82,8 +82,13 @@ prints_lower : (t0 t1 t2 t3 t4 t5 t6 t7 t8 t9 t10 t11 : ℕ) (bytes : List ℕ)
     → mac_text bytes ≡ str_to_ascii_lowercase (t0 ∷ t1 ∷ 58 ∷ t2 ∷ t3 ∷ 58 ∷ t4 ∷ t5 ∷ 58 ∷ t6 ∷ t7 ∷ 58 ∷ t8 ∷ t9 ∷ 58 ∷ t10 ∷ t11 ∷ [])
 prints_lower t0 t1 t2 t3 t4 t5 t6 t7 t8 t9 t10 t11 bytes six =
     rw (
-      six.items_are, pair_text-of t0 t1 six.a six.p_is, pair_text-of t2 t3 six.b six.q_is, pair_text-of t4 t5 six.c six.r_is,
-      pair_text-of t6 t7 six.d six.s_is, pair_text-of t8 t9 six.e six.t_is, pair_text-of t10 t11 six.f six.u_is
+      six.items_are,
+      pair_text-of t0 t1 six.a six.p_is,
+      pair_text-of t2 t3 six.b six.q_is,
+      pair_text-of t4 t5 six.c six.r_is,
+      pair_text-of t6 t7 six.d six.s_is,
+      pair_text-of t8 t9 six.e six.t_is,
+      pair_text-of t10 t11 six.f six.u_is,
     )
 
 lower_of : (text bytes : List ℕ) → length text ≡ 17 → mac_of text ≡ Some bytes → mac_text bytes ≡ str_to_ascii_lowercase text

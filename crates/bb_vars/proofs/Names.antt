@@ -30,14 +30,14 @@ pub place_of_first : (names : List (List ℕ)) (text : List ℕ) (i : ℕ) → i
     → IsNoneBefore names text i → position (λ n. bytes_eq n text) names ≡ Some i
 place_of_first names text i inside same before =
     let place : position_or_len (λ n. bytes_eq n text) names ≡ i =
-        position_or_len_is (λ n. bytes_eq n text) names i [] (omega arith) before (λ _. sym (name_at names text i inside) ∙ same) in
+    position_or_len_is (λ n. bytes_eq n text) names i [] (omega arith) before (λ _. sym (name_at names text i inside) ∙ same) in
     rw place (grind arith)
 
 pub place_of_none : (names : List (List ℕ)) (text : List ℕ) → IsNoneBefore names text (length names)
     → position (λ n. bytes_eq n text) names ≡ None
 place_of_none names text before =
     let place : position_or_len (λ n. bytes_eq n text) names ≡ length names =
-        position_or_len_is (λ n. bytes_eq n text) names (length names) [] (omega arith) before (λ h. absurd (omega arith)) in
+    position_or_len_is (λ n. bytes_eq n text) names (length names) [] (omega arith) before (λ h. absurd (omega arith)) in
     rw place (grind arith)
 
 -- ---- an index that is printed, and a name that was read
@@ -54,7 +54,7 @@ pub position-of_name : (names : List (List ℕ)) (i : ℕ) → i < length names 
 position-of_name names i inside differ =
     let text = get_or names i [] in
     place_of_first names text i inside (name_at names text i inside ∙ same_name text)
-        (λ k h. other_name _ (get_or names k []) text refl (differ k i [] h inside))
+    (λ k h. other_name _ (get_or names k []) text refl (differ k i [] h inside))
 
 pub slice_get-position : (names : List (List ℕ)) (text : List ℕ) (i : ℕ) → position (λ n. bytes_eq n text) names ≡ Some i → slice_get names i ≡ Some text
 slice_get-position names text i h =

@@ -34,7 +34,7 @@ pair_of-glyphs b small =
     let high : is_digit h 16 ≡ true = is_digit-glyph (b / 16) first in
     let low : is_digit l 16 ≡ true = is_digit-glyph (b % 16) second in
     let value : digits_value 16 (h ∷ l ∷ []) ≡ b =
-        omega (arith, pair_value h l, digit_value-glyph (b / 16) first, digit_value-glyph (b % 16) second) in
+    omega (arith, pair_value h l, digit_value-glyph (b / 16) first, digit_value-glyph (b % 16) second) in
     ap (λ t. if t && is_digit l 16 then Some (digits_value 16 (h ∷ l ∷ [])) else None) high
     ∙ ap (λ t. if t then Some (digits_value 16 (h ∷ l ∷ [])) else None) low
     ∙ ap (λ v. Some v) value

@@ -97,7 +97,7 @@ filled_by_cases value (inl inside) zeros =
     let zero_there : get_or value (position_or_len is_zero value) 0 ≡ 0 = eqb-true _ 0 (passes_at_first is_zero value 0 inside) in
     let whole = split_at_first is_zero value 0 inside in
     filled_inside (before_first is_zero value) (after_first is_zero value) value
-        (whole ∙ ap (λ c. before_first is_zero value ++ (c ∷ after_first is_zero value)) zero_there) zeros
+    (whole ∙ ap (λ c. before_first is_zero value ++ (c ∷ after_first is_zero value)) zero_there) zeros
 filled_by_cases value (inr past) zeros = filled_past value past
 
 pub chars_bytes-before_first : (size : ℕ) (value : List ℕ) → length value ≡ size → All (λ c. c ≡ 0) (after_first is_zero value)

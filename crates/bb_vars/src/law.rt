@@ -8,13 +8,11 @@ ghost use Rattle.bb_vars.specs.Value.{bytes_of, text_of};
 /// differ, and a string with only zero bytes after its first zero byte. It does nothing.
 pub fn law_print_then_read()
     ensures { (kind : Kind) (value : List ℕ) → IsValue kind value → ReadsBack kind value → bytes_of kind (text_of kind value) ≡ Ok value }
-{
-}
+{}
 
 /// A value that was read prints as the one form of its text: a number in decimal, a MAC address in lower
 /// case, a name or a string as it is. It has as many bytes as the kind has. It does nothing.
 pub fn law_read_then_print()
     ensures printed { (kind : Kind) (text value : List ℕ) → HasFewNames kind → bytes_of kind text ≡ Ok value → text_of kind value ≡ plain_text kind text }
     ensures sized { (kind : Kind) (text value : List ℕ) → bytes_of kind text ≡ Ok value → length value ≡ size_of kind }
-{
-}
+{}

@@ -17,3 +17,6 @@ pub use print::print_value;
 pub use read::read_value;
 pub use table::Table;
 pub use value_error::ValueError;
+
+#[cfg(test)]
+mod tests;
