@@ -1,41 +1,33 @@
 ghost use Rattle.std.specs.Prelude.{◌≡◌, ◌<◌, false, length};
 ghost use Rattle.std.specs.Fmt.{digit_glyph};
-ghost use Rattle.bb_vars.specs.Mac.{pair_of, mac_of, mac_text};
+ghost use Rattle.bb_vars.specs.Mac.{pair_of, has_colons, mac_of, mac_text};
 
 /// Reads six pairs of hexadecimal digits joined by `:`.
-pub fn read_mac(text: &[u8]) -> Option<[u8; 6]>
+pub(crate) fn read_mac(text: &[u8]) -> Option<[u8; 6]>
     ensures { result ≡ mac_of text.now }
 {
-    let [
-        a,
-        b,
-        b':',
-        c,
-        d,
-        b':',
-        e,
-        f,
-        b':',
-        g,
-        h,
-        b':',
-        i,
-        j,
-        b':',
-        k,
-        l,
-    ] = text
-    else {
+    if !has_colons(text) {
         return None;
-    };
+    }
     Some([
-        pair(*a, *b)?,
-        pair(*c, *d)?,
-        pair(*e, *f)?,
-        pair(*g, *h)?,
-        pair(*i, *j)?,
-        pair(*k, *l)?,
+        pair(text[0], text[1])?,
+        pair(text[3], text[4])?,
+        pair(text[6], text[7])?,
+        pair(text[9], text[10])?,
+        pair(text[12], text[13])?,
+        pair(text[15], text[16])?,
     ])
+}
+
+fn has_colons(text: &[u8]) -> bool
+    ensures { result ≡ has_colons text.now }
+{
+    text.len() == 17
+        && text[2] == b':'
+        && text[5] == b':'
+        && text[8] == b':'
+        && text[11] == b':'
+        && text[14] == b':'
 }
 
 #[tactic(auto, unfolding(crate::specs::Mac::pair_of))]
@@ -48,7 +40,7 @@ fn pair(high: u8, low: u8) -> Option<u8>
 }
 
 /// The text of a MAC address: pairs in lower case joined by `:`.
-pub fn mac_text(bytes: &[u8]) -> [u8; 17]
+pub(crate) fn mac_text(bytes: &[u8]) -> [u8; 17]
     requires { length bytes.now ≡ 6 }
     ensures { result ≡ mac_text bytes.now }
 {
