@@ -1,6 +1,5 @@
 -- The round trips, kind by kind.
-use Rattle.std.proofs.Common.{◌≡◌, ◌≢◌, ℕ, ◌-◌, ◌<◌, ◌^◌, List, [], Option, Some, None, Result, Ok, Err, length, get_or, arith, refl, ap, ◌∙◌, AllPairs, decimal, unwrap_or}
-use Rattle.std.proofs.lemmas.Grind.{common_steps}
+use Rattle.std.proofs.Common.{◌≡◌, ◌≢◌, ℕ, ◌<◌, ◌^◌, List, [], Option, Some, None, Ok, length, arith, refl, ap, ◌∙◌, AllPairs, decimal, unwrap_or}
 use Rattle.std.proofs.lemmas.Nat.{from_le_bytes-to_le_bytes_4}
 use Rattle.std.proofs.lemmas.Option.{slice_get-get_or, slice_get_within}
 use Rattle.std.specs.Int.{w8, w32, to_le_bytes, from_le_bytes}
@@ -11,10 +10,10 @@ use Rattle.bb_base.specs.Number.{number_of}
 use Rattle.bb_vars.specs.Kind.{size_of, HasFewNames}
 use Rattle.bb_vars.specs.Mac.{mac_of}
 use Rattle.bb_vars.specs.RoundTrip.{IsValue, ReadsBack, plain_text}
-use Rattle.bb_vars.specs.Value.{index_bytes, chars_bytes, bytes_of, text_of}
+use Rattle.bb_vars.specs.Value.{index_bytes, bytes_of, text_of}
 use Rattle.bb_vars.specs.declared.kind.Kind.{Kind}
 use Rattle.bb_vars.specs.declared.kind.Kind.TheVariants.{Uint8, Uint32, Enum32, Mac, Chars}
-use Rattle.bb_vars.specs.declared.value_error.ValueError.TheVariants.{NoSuchName, NotMac}
+use Rattle.bb_vars.specs.declared.value_error.ValueError.TheVariants.{NotMac}
 use Rattle.bb_vars.proofs.ByteWidths.{to_le_bytes-from, uint8_reads_back, uint32_reads_back, uint8_prints, uint32_prints, number_sized}
 use Rattle.bb_vars.proofs.MacRead.{mac_of-mac_text, mac_text-of, mac_sized}
 use Rattle.bb_vars.proofs.Names.{position-of_name, slice_get-position}

@@ -8,3 +8,4 @@ pub mod Names
 pub mod Numbers
 pub mod Pairs
 pub mod Strings
+pub mod TableRanges

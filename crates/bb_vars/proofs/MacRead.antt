@@ -1,9 +1,7 @@
 -- A MAC address that is printed reads back, and one that is read prints in lower case.
-use Rattle.std.proofs.Common.{◌≡◌, ℕ, ◌+◌, ◌/◌, ◌%◌, ◌<◌, ◌==◌, Bool, cond, true, false, ◌&&◌, List, [], ◌∷◌, Option, Some, None, length, map, get_or, arith, refl, sym, ap, ◌∙◌, lit<}
+use Rattle.std.proofs.Common.{◌≡◌, ℕ, ◌+◌, ◌<◌, ◌==◌, Bool, cond, true, false, ◌&&◌, List, [], ◌∷◌, Option, Some, None, length, map, get_or, arith, refl, ap, lit<}
 use Rattle.std.proofs.lemmas.Bool.{eqb-true}
 use Rattle.std.proofs.lemmas.Option.{none-some}
-use Rattle.std.specs.Char.{to_ascii_lowercase}
-use Rattle.std.specs.Fmt.{digit_glyph}
 use Rattle.std.specs.List.{All}
 use Rattle.std.specs.Str.{str_to_ascii_lowercase}
 use Rattle.bb_vars.specs.Mac.{pair_text, pair_of, all_of, has_colons, mac_text, mac_of}

@@ -1,12 +1,12 @@
 -- A string that is filled up with zero bytes ends before the first of them.
-use Rattle.std.proofs.Common.{◌≡◌, ℕ, zero, suc, ◌+◌, ◌-◌, ◌<◌, ◌≤◌, ◌==◌, Bool, true, false, not, nat_lt, ◌||◌, cond, if◌then◌else◌, List, [], ◌∷◌, ◌++◌, Result, Ok, Err, length, take, drop, get_or, replicate, arith, refl, sym, ap, ◌∙◌, All, ◌⊎◌, inl, inr, length-append, append-nil}
+use Rattle.std.proofs.Common.{◌≡◌, ℕ, zero, suc, ◌+◌, ◌-◌, ◌<◌, ◌≤◌, ◌==◌, Bool, true, false, not, nat_lt, ◌||◌, cond, if◌then◌else◌, List, [], ◌∷◌, ◌++◌, Result, Ok, Err, length, take, get_or, replicate, arith, refl, sym, ap, ◌∙◌, All, ◌⊎◌, inl, inr, length-append, append-nil}
 use Rattle.std.proofs.lemmas.List.{length-replicate}
 use Rattle.std.proofs.lemmas.Bool.{cases_lt, eqb-true}
 use Rattle.std.proofs.lemmas.Bool.Decides.{nat_tests}
 use Rattle.std.proofs.lemmas.Grind.{common_steps}
-use Rattle.std.proofs.lemmas.List.Sums.{prefix_len-le-length, split_at_first, passes_at_first, fails_before_first}
+use Rattle.std.proofs.lemmas.List.Sums.{prefix_len-le-length, split_at_first, passes_at_first}
 use Rattle.std.proofs.Math.Seq.{take-append_seam, take-length}
-use Rattle.std.specs.List.{list_any, prefix_len, position_or_len, before_first, after_first}
+use Rattle.std.specs.List.{list_any, position_or_len, before_first, after_first}
 use Rattle.bb_vars.specs.declared.value_error.ValueError.{ValueError}
 use Rattle.bb_vars.specs.declared.value_error.ValueError.TheVariants.{TooLong, HasZeroByte}
 use Rattle.bb_vars.specs.Value.{chars_bytes}

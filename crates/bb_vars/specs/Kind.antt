@@ -1,4 +1,4 @@
--- The kinds of variables (barebox User Manual, State Framework, "Variable Types").
+-- The kinds of variables (barebox User Manual, State Framework).
 use Rattle.std.specs.Prelude.{ℕ, ◌<◌, ◌^◌, ⊤, length}
 use Rattle.bb_vars.specs.declared.kind.Kind.{Kind}
 use Rattle.bb_vars.specs.declared.kind.Kind.TheVariants.{Uint8, Uint32, Enum32, Mac, Chars}

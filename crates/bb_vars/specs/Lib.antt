@@ -1,4 +1,5 @@
 -- Definitions that contracts cite.
+pub use Rattle.bb_base.specs.Number
 pub mod Kind
 pub mod Mac
 pub mod RoundTrip

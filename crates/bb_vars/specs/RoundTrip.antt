@@ -9,12 +9,13 @@ use Rattle.bb_vars.specs.Kind.{size_of}
 use Rattle.bb_vars.specs.declared.kind.Kind.{Kind}
 use Rattle.bb_vars.specs.declared.kind.Kind.TheVariants.{Uint8, Uint32, Enum32, Mac, Chars}
 
--- as many bytes as the kind has
+-- bytes, as many as the kind has
 pub record IsValue (kind : Kind) (value : List ℕ) : Type 0 where
   pub sized : length value ≡ size_of kind
   pub bytes : All (λ b. b < 256) value
 
--- an enum's names differ and the index is that of a name; a string has only zero bytes after its first zero byte
+-- the value has a text of its own: every number and MAC address, an index of one of an enum's names, which all
+-- differ, and a string with only zero bytes after its first zero byte
 abbrev pub ReadsBack : Kind → List ℕ → Type 0
 ReadsBack Uint8 value = ⊤
 ReadsBack Uint32 value = ⊤

@@ -1,4 +1,4 @@
--- Values as text and as the bytes of an area (barebox User Manual, State Framework, "Variable Types").
+-- Values as text and as the bytes of an area (barebox User Manual, State Framework).
 use Rattle.std.specs.Prelude.{ℕ, ◌-◌, ◌^◌, ◌==◌, ◌++◌, List, Option, Some, None, Result, Ok, Err, if◌then◌else◌, length, nat_lt, position, slice_get, unwrap_or, replicate, decimal}
 use Rattle.std.specs.Int.{Width, w8, w32, byte_len, to_le_bytes, from_le_bytes}
 use Rattle.std.specs.List.{list_any, before_first}

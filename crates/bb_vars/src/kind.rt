@@ -3,7 +3,7 @@ ghost use Rattle.std.specs.Prelude.{◌≡◌};
 use bb_base::TextList;
 
 /// The kind of a variable: how many bytes it has in an area and what they say (barebox User Manual,
-/// State Framework, "Variable Types").
+/// State Framework).
 #[derive(Debug, Drop)]
 pub enum Kind {
     /// A number of 1 byte.

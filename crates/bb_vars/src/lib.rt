@@ -12,7 +12,7 @@ mod table;
 mod value_error;
 
 pub use kind::Kind;
-pub use law::{law_print_then_read, law_read_then_print};
+pub use law::{law_print_then_read, law_read_then_print, law_set_changes_its_range};
 pub use print::print_value;
 pub use read::read_value;
 pub use table::Table;

@@ -10,9 +10,10 @@ use crate::mac::read_mac;
 use crate::{Kind, ValueError};
 use bb_base::{TextList, read_number};
 
-/// Reads a text as a value of the kind into `out`, which is unchanged after a refusal.
-/// Numbers are spelt as `read_number` reads them. An enum's text stands for the first of its names that
-/// is the same.
+/// Reads a text as a value of the kind into `out`, which has as many bytes as the kind. Numbers are spelt as
+/// `read_number` reads them and stand little endian; an enum's text stands for the first of its names that is
+/// the same, of at most 4,294,967,295; a string is filled up with zero bytes. The refusals are those of
+/// `ValueError`, and leave `out` as it was.
 pub fn read_value(kind: &Kind, text: &[u8], out: &mut [u8]) -> Result<(), ValueError>
     requires sized { length out.old ≡ size_of kind.now }
     requires few_names { HasFewNames kind.now }

@@ -28,13 +28,14 @@ impl Table {
         Ok(Table { inner })
     }
 
+    /// The bytes, from the first on.
     pub fn bytes(&self) -> &[u8]
         ensures { result.now ≡ self.now }
     {
         self.inner.as_slice()
     }
 
-    /// Replaces the bytes from `at` on, a number of bytes from the table's start. All others stay.
+    /// Replaces the bytes from byte `at` on, which are all inside. All others stay.
     pub fn put(&mut self, at: u32, bytes: &[u8])
         requires { at + length bytes.now ≤ length self.old }
         ensures replaced { self.new ≡ set_of self.old at bytes.now }

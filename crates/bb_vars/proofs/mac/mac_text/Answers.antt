@@ -1,6 +1,6 @@
-use Rattle.std.proofs.Common.{◌≡◌, length, arith}
+use Rattle.std.proofs.Common.{◌≡◌, arith}
 use Rattle.std.proofs.lemmas.Grind.{common_steps}
-use Rattle.bb_vars.proofs.MacText.{HasPairs, text_from_pairs, pairs_more, colons_stay}
+use Rattle.bb_vars.proofs.MacText.{text_from_pairs, pairs_more, colons_stay}
 use Rattle.bb_vars.proofs.mac.mac_text.Goals as goal
 
 pub loop-i-preserved : goal.loop-i-preserved

@@ -1,5 +1,5 @@
-use Rattle.std.proofs.Common.{◌≡◌, ◌<◌, true, false, length, arith, sym, ◌∙◌}
-use Rattle.bb_vars.proofs.Names.{is_name_at, place_of_first, place_of_none, none_before_more}
+use Rattle.std.proofs.Common.{◌≡◌, ◌<◌, length, arith, sym, ◌∙◌}
+use Rattle.bb_vars.proofs.Names.{place_of_first, place_of_none, none_before_more}
 use Rattle.bb_vars.proofs.read.read_index.Goals as goal
 
 pub returns-then-is_name_at : goal.returns-then-is_name_at
