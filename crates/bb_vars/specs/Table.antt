@@ -1,0 +1,6 @@
+-- A table of bytes and its ranges.
+use Rattle.std.specs.Prelude.{ℕ, ◌+◌, List, ◌++◌, length, take, drop}
+
+-- the table with these bytes from a place on, and every other byte as it was
+abbrev pub set_of : List ℕ → ℕ → List ℕ → List ℕ
+set_of table at bytes = take at table ++ bytes ++ drop (at + length bytes) table
