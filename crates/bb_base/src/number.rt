@@ -1,5 +1,5 @@
-ghost use Rattle.std.specs.Prelude.{◌≡◌, ◌*◌, ◌≤◌, ◌^◌, length};
-ghost use Rattle.bb_base.specs.Number.{number_of, numeral_value};
+ghost use Rattle.std.specs.Prelude.{◌≡◌, ◌*◌, ◌≤◌, ◌^◌, ◌↔◌, false, length, IsTrue};
+ghost use Rattle.bb_base.specs.Number.{is_spelt, number_of, numeral_value, spelt_number};
 
 use thiserror::Error;
 
@@ -20,7 +20,9 @@ const LIMIT: u64 = 1 << 32;
 /// Reads a number: one or more decimal digits, or `0x` or `0X` and one or more hexadecimal digits.
 /// No sign and no blank is part of it.
 pub fn read_number(text: &[u8]) -> Result<u32, NumberError>
-    ensures { result ≡ number_of text.now }
+    ensures value { result ≡ number_of text.now }
+    ensures not_number { (result ≡ Err NumberError.NotNumber) ↔ (is_spelt text.now ≡ false) }
+    ensures too_large { (result ≡ Err NumberError.TooLarge) ↔ (IsTrue (is_spelt text.now) × (2 ^ 32 ≤ spelt_number text.now)) }
 {
     match text {
         [b'0', b'x' | b'X', digits @ ..] => read_digits(16, digits),

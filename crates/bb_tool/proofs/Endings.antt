@@ -1,12 +1,12 @@
 -- What each answer of a session says, from the session as a whole.
 use Rattle.std.proofs.Common.{◌≡◌, ◌≢◌, ◌⊎◌, ℕ, ◌≤◌, List, Option, Some, None, Result, Ok, Err, IsErr, refl, sym, ap, subst, ◌∙◌, inl, inr}
 use Rattle.bb_base.specs.Faults.{HasCause, Rose}
-use Rattle.bb_base.specs.Outlet.{Outlet}
+use Rattle.bb_base.specs.Outlet.{Outlet, SendsFront}
 use Rattle.bb_base.specs.declared.failed.Failed.{Failed}
 use Rattle.bb_flash.specs.Device.{Device, content}
 use Rattle.bb_flash.specs.Image.{Image}
 use Rattle.bb_flash.specs.declared.geometry.Geometry.{Geometry}
-use Rattle.bb_tool.specs.Ending.{ComesExactly, Ends, IsLook, IsSent, IsSession, IsTold, ended_status, ended_text, overruled}
+use Rattle.bb_tool.specs.Ending.{ComesExactly, Ends, IsLook, IsSent, IsSession, IsTold, SendsSessionFront, ended_status, ended_text, overruled}
 use Rattle.bb_tool.specs.Layout.{IsBadLayout, stride_of}
 use Rattle.bb_tool.specs.Refusal.{line_of}
 use Rattle.bb_tool.specs.Session.{commanded, laid_out, look_of, looked, session_of}
@@ -136,6 +136,28 @@ no_memory_of words before after outlet outlet' status s e =
       | inl told ↦ absurd (session_memory (words_of words) before.geometry s.found (told_memory _ _ outlet outlet' status told e))
       | inr told ↦ told
     ]
+
+layout_sink : (laid : Result ℕ LayoutError) (found : Result (Option (List ℕ)) Failed) → ended_status (laid_out laid found) ≢ statuses.SinkFault
+layout_sink (Err e) found = λ h. cc
+layout_sink (Ok stride) (Ok area) = λ h. cc
+layout_sink (Ok stride) (Err e) = λ h. cc
+
+session_sink : (command : Option Look) (geometry : Geometry) (found : Result (Option (List ℕ)) Failed) → ended_status (commanded command geometry found) ≢ statuses.SinkFault
+session_sink None geometry found = λ h. cc
+session_sink (Some look) geometry found = layout_sink (stride_of geometry look.area_len) found
+
+cut_front : (session : Result (List ℕ) Refusal) (outlet outlet' : Outlet) (status : Status) → ended_status session ≢ statuses.SinkFault → Ends session outlet outlet' status → status ≡ statuses.SinkFault → SendsFront (ended_text session) outlet outlet'
+cut_front session outlet outlet' status own (inl (inl sent)) e = absurd (own (sym sent.status_is ∙ e))
+cut_front session outlet outlet' status own (inl (inr cut)) e = cut.front
+cut_front session outlet outlet' status own (inr (inl sent)) e = absurd (let h : statuses.NoMemory ≡ statuses.SinkFault = sym sent.status_is ∙ e in cc)
+cut_front session outlet outlet' status own (inr (inr cut)) e = absurd (let h : statuses.NoMemory ≡ statuses.SinkFault = sym cut.status_is ∙ e in cc)
+
+pub front_of : (words : List (List ℕ)) (before after : Device) (outlet outlet' : Outlet) (status : Status) → IsSession words before after outlet outlet' status → status ≡ statuses.SinkFault → SendsSessionFront words before after outlet outlet'
+front_of words before after outlet outlet' status s e = record {
+  found = s.found;
+  looked = s.looked;
+  front = cut_front (session_of words before.geometry s.found) outlet outlet' status (session_sink (words_of words) before.geometry s.found) s.ends e;
+}
 
 undisturbed_end : (words : List (List ℕ)) (geometry : Geometry) (found area : Option (List ℕ)) (outlet outlet' : Outlet) (status : Status) → (Rose outlet.faults outlet'.faults → ⊥) → found ≡ area → Ends (session_of words geometry (Ok found)) outlet outlet' status → IsSent (ended_text (session_of words geometry (Ok area))) (ended_status (session_of words geometry (Ok area))) outlet outlet' status ⊎ (status ≡ statuses.NoMemory)
 undisturbed_end words geometry found area outlet outlet' status whole same (inl (inl sent)) = inl (subst (λ (a : Option (List ℕ)). IsSent (ended_text (session_of words geometry (Ok a))) (ended_status (session_of words geometry (Ok a))) outlet outlet' status) same sent)

@@ -4,3 +4,4 @@ pub mod Passing
 pub mod FourWords
 pub mod Sessions
 pub mod Endings
+pub mod Examples

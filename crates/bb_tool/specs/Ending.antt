@@ -59,6 +59,12 @@ pub record IsSession (words : List (List ℕ)) (before after : Device) (outlet o
   pub looked : IsLook words before after found
   pub ends : Ends (session_of words before.geometry found) outlet outlet' status
 
+-- some front of the text of a session over such a look was sent
+pub record SendsSessionFront (words : List (List ℕ)) (before after : Device) (outlet outlet' : Outlet) : Type 0 where
+  pub found : Result (Option (List ℕ)) Failed
+  pub looked : IsLook words before after found
+  pub front : SendsFront (ended_text (session_of words before.geometry found)) outlet outlet'
+
 -- An answer comes exactly where a fact holds; a failing output and want of memory come before it.
 pub record ComesExactly (status answer : Status) (fact : Type 0) : Type 0 where
   pub only : status ≡ answer → fact

@@ -3,7 +3,7 @@ ghost use Rattle.std.specs.Option.{ForSome};
 ghost use Rattle.bb_base.specs.Faults.{HasCause, Rose};
 ghost use Rattle.bb_base.specs.declared.failed.Failed.{Failed};
 ghost use Rattle.bb_flash.specs.Device.{ReadKeeps, content};
-ghost use Rattle.bb_tool.specs.Ending.{ComesExactly, IsLook, IsSent, IsSession, IsTold, ended_status, ended_text, overruled, seen};
+ghost use Rattle.bb_tool.specs.Ending.{ComesExactly, IsLook, IsSent, IsSession, IsTold, SendsSessionFront, ended_status, ended_text, overruled, seen};
 ghost use Rattle.bb_tool.specs.Layout.{IsBadLayout};
 ghost use Rattle.bb_tool.specs.Refusal.{line_of};
 ghost use Rattle.bb_tool.specs.Session.{look_of, session_of};
@@ -45,6 +45,7 @@ pub fn run<F: Files, B: Board, K: Sink>(
     ensures bad_layout { ComesExactly result Status.BadLayout (IsBadLayout words.now (B.device board.old).geometry) }
     ensures read_fault { HasCause (B.device board.old).read_faults (B.device board.new).read_faults (result ≡ Status.ReadFault) }
     ensures sink_fault { HasCause (K.outlet out.old).faults (K.outlet out.new).faults (result ≡ Status.SinkFault) }
+    ensures front { result ≡ Status.SinkFault → SendsSessionFront words.now (B.device board.old) (B.device board.new) (K.outlet out.old) (K.outlet out.new) }
     ensures no_memory { result ≡ Status.NoMemory → IsTold (line_of refusals.NoMemory) Status.NoMemory (K.outlet out.old) (K.outlet out.new) result }
 {
     let _ = files;

@@ -1,4 +1,4 @@
-use Rattle.bb_tool.proofs.Endings.{bad_layout_of, bad_words_of, no_memory_of, read_fault_of, undisturbed_of}
+use Rattle.bb_tool.proofs.Endings.{bad_layout_of, bad_words_of, front_of, no_memory_of, read_fault_of, undisturbed_of}
 use Rattle.bb_tool.proofs.session.run.Goals as goal
 
 pub returns-clause-undisturbed : goal.returns-clause-undisturbed
@@ -15,3 +15,6 @@ returns-clause-read_fault g c = read_fault_of _ _ _ _ _ _ c.answer.ensures.sessi
 
 pub returns-clause-no_memory : goal.returns-clause-no_memory
 returns-clause-no_memory g c = no_memory_of _ _ _ _ _ _ c.answer.ensures.session
+
+pub returns-clause-front : goal.returns-clause-front
+returns-clause-front g c = front_of _ _ _ _ _ _ c.answer.ensures.session
