@@ -1,3 +1,6 @@
 pub mod Colons
 pub mod Geometries
+pub mod Logged
+pub mod Overwrites
 pub mod Readings
+pub mod Tearing

@@ -1,5 +1,5 @@
 -- A flash device as contracts see it, at one moment.
-use Rattle.std.specs.Prelude.{◌≡◌, ◌≢◌, ℕ, ◌+◌, ◌≤◌, List, length, take, drop, Option, option_map}
+use Rattle.std.specs.Prelude.{◌≡◌, ◌≢◌, ℕ, ◌+◌, ◌/◌, ◌≤◌, List, length, take, drop, Option, option_map}
 use Rattle.std.specs.Option.{ForSome}
 use Rattle.bb_flash.specs.declared.geometry.Geometry.{Geometry}
 use Rattle.bb_flash.specs.declared.health.Health.{Health}
@@ -20,11 +20,23 @@ pub record Start : Type 0 where
   pub plan : Plan
   pub image : Image
 
+-- a call that changed the device, or failed to: what the device held before it, and the bytes that it touched
+pub record Change : Type 0 where
+  pub before : Image
+  pub at : ℕ
+  pub len : ℕ
+
 -- what a device tells of itself: memory boards do, and a device behind the operating system doesn't
 pub record Told : Type 0 where
   pub image : Image
   -- oldest first
   pub starts : List Start
+  -- how often each block was erased
+  pub erases : List ℕ
+  -- the reads that answered Ok
+  pub reads : ℕ
+  -- oldest first, since a moment before all those that callers name
+  pub changes : List Change
 
 -- the counts are numbers of 64 bits that never fall
 pub record Device : Type 0 where
@@ -43,10 +55,21 @@ content device = option_map (λ told. told.image) device.told
 abbrev pub starts : Device → Option (List Start)
 starts device = option_map (λ told. told.starts) device.told
 
+abbrev pub erases : Device → Option (List ℕ)
+erases device = option_map (λ told. told.erases) device.told
+
+abbrev pub reads : Device → Option ℕ
+reads device = option_map (λ told. told.reads) device.told
+
+-- the clock of a device: how many changes it has seen
+abbrev pub moment : Told → ℕ
+moment told = length told.changes
+
 -- the geometry is within its bounds, and what the device holds fits it
 pub record IsDevice (device : Device) : Type 0 where
   pub geometry : IsGeometry device.geometry
   pub image : ForSome (content device) (IsImageOf device.geometry)
+  pub erases : ForSome (erases device) (λ numbers. length numbers ≡ device.geometry.size / device.geometry.block)
 
 -- what no read changes, whatever it answers
 pub record ReadKeeps (before after : Device) : Type 0 where

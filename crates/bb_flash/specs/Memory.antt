@@ -1,73 +1,181 @@
 -- A board in memory as contracts see it.
-use Rattle.std.specs.Prelude.{◌≡◌, ℕ, length, ◌*◌, ◌+◌, ◌-◌, ◌/◌, ◌^◌, ◌==◌, ◌||◌, Bool, nat_le, min, List, [], find, replicate, Option, Some, option_map, is_some, slice_set, if◌then◌else◌}
+use Rattle.std.specs.Prelude.{◌≡◌, ℕ, ◌+◌, ◌-◌, ◌*◌, ◌/◌, ◌^◌, ◌<◌, ◌≤◌, ◌==◌, ◌&&◌, ◌||◌, Bool, true, false, nat_le, nat_lt, min, List, [], ◌∷◌, length, take, find, replicate, Option, Some, None, option_map, is_some, is_none, slice_index, slice_set, if◌then◌else◌}
 use Rattle.bb_flash.specs.declared.geometry.Geometry.{Geometry}
+use Rattle.bb_flash.specs.declared.health.Health.{Health}
 use Rattle.bb_flash.specs.declared.health.Health.TheVariants.{Fine}
 use Rattle.bb_flash.specs.declared.fault.Fault.{Fault}
-use Rattle.bb_flash.specs.Device.{Device, Told}
 use Rattle.bb_flash.specs.Geometry.{IsGeometry}
-use Rattle.bb_flash.specs.declared.health.Health.{Health}
+use Rattle.bb_flash.specs.Image.{Image, IsImageOf}
+use Rattle.bb_flash.specs.Device.{Device, Told}
+use Rattle.bb_flash.specs.Calls.{changed, counted, erase_counted}
+use Rattle.bb_flash.specs.Filled.{is_cut, left_by}
 
 pub record Memory : Type 0 where
-  pub device : Device
+  pub geometry : Geometry
+  pub told : Told
+  pub faults : ℕ
+  pub read_faults : ℕ
   -- how many calls it records, and how many bytes
   pub most_calls : ℕ
   pub most_bytes : ℕ
-  -- the flash calls since the last restart
+  -- the flash calls that were recorded since the last restart, and the bytes that they were to write
   pub calls : ℕ
+  pub used : ℕ
   -- the planned faults by the number of their call, the newest first
   pub plan : List (ℕ × Fault)
+  -- a planned cut was met since the last restart
+  pub was_cut : Bool
+  -- the programs and the erases that answered Ok
+  pub programs : ℕ
+  pub erased : ℕ
 
--- what holds of the fields of every board
-pub record IsMemory (geometry : Geometry) (bytes : List ℕ) (health : List Health) : Type 0 where
-  pub geometry_within : IsGeometry geometry
-  pub all_bytes : length bytes ≡ geometry.size
-  pub all_pages : length health * geometry.page ≡ geometry.size
+-- the board as a flash device
+abbrev pub device_of : Memory → Device
+device_of memory = record {
+  geometry = memory.geometry;
+  told = Some memory.told;
+  faults = memory.faults;
+  read_faults = memory.read_faults;
+  start_faults = 0;
+}
 
 -- a fresh board: its pages are Fine, and nothing has happened
 abbrev pub fresh_memory : Geometry → List ℕ → ℕ → ℕ → Memory
 fresh_memory geometry bytes most_calls most_bytes = record {
-  device = record {
-    geometry = geometry;
-    told = Some (record { image = record { bytes = bytes; health = replicate (geometry.size / geometry.page) Fine }; starts = [] });
-    faults = 0;
-    read_faults = 0;
-    start_faults = 0;
+  geometry = geometry;
+  told = record {
+    image = record { bytes = bytes; health = replicate (geometry.size / geometry.page) Fine };
+    starts = [];
+    erases = replicate (geometry.size / geometry.block) 0;
+    reads = 0;
+    changes = [];
   };
+  faults = 0;
+  read_faults = 0;
   most_calls = most_calls;
   most_bytes = most_bytes;
   calls = 0;
+  used = 0;
   plan = [];
+  was_cut = false;
+  programs = 0;
+  erased = 0;
 }
 
 -- the fault that was last planned for a call
 abbrev pub planned_at : List (ℕ × Fault) → ℕ → Option Fault
 planned_at plan call = option_map (λ entry. entry.1) (find (λ entry. entry.0 == call) plan)
 
--- the next read fails: it would be one call too many, or a fault was planned for it
+-- the fault that was planned for the next call
+abbrev pub fault_of : Memory → Option Fault
+fault_of memory = planned_at memory.plan memory.calls
+
+-- a number that can rise no more
+abbrev pub is_full : ℕ → Bool
+is_full number = nat_le (2 ^ 64 - 1) number
+
+-- a call that is to write so many bytes is refused: a cut came before it, or there is no room to record it
+abbrev pub is_refused : Memory → ℕ → Bool
+is_refused memory len =
+    memory.was_cut || (nat_le memory.most_calls memory.calls || nat_lt memory.most_bytes (memory.used + len))
+
+-- there is room to record a call that is to write so many bytes
+pub record HasRoom (memory : Memory) (len : ℕ) : Type 0 where
+  pub call : memory.calls < memory.most_calls
+  pub count : memory.most_calls < 2 ^ 32
+  pub bytes : memory.used + len ≤ memory.most_bytes
+
+abbrev pub is_read_refused : Memory → Bool
+is_read_refused memory = is_refused memory 0 || (is_none (fault_of memory) && is_full memory.told.reads)
+
+abbrev pub is_program_refused : Memory → ℕ → Bool
+is_program_refused memory len = is_refused memory len || (is_none (fault_of memory) && is_full memory.programs)
+
+abbrev pub is_erase_refused : Memory → ℕ → Bool
+is_erase_refused memory block =
+    is_refused memory memory.geometry.block
+    || (is_none (fault_of memory) && (is_full memory.erased || is_full (slice_index memory.told.erases block)))
+
+-- the answer is Failed
 abbrev pub fails_to_read : Memory → Bool
-fails_to_read memory = nat_le memory.most_calls memory.calls || is_some (planned_at memory.plan memory.calls)
+fails_to_read memory = is_read_refused memory || is_some (fault_of memory)
+
+abbrev pub fails_to_program : Memory → ℕ → Bool
+fails_to_program memory len = is_program_refused memory len || is_some (fault_of memory)
+
+abbrev pub fails_to_erase : Memory → ℕ → Bool
+fails_to_erase memory block = is_erase_refused memory block || is_some (fault_of memory)
 
 -- one more, up to the greatest number of 64 bits
 abbrev pub count_up : ℕ → ℕ
 count_up count = min (count + 1) (2 ^ 64 - 1)
 
--- a call counts only where it is recorded
-abbrev pub calls_after : Memory → ℕ
-calls_after memory = if nat_le memory.most_calls memory.calls then memory.calls else memory.calls + 1
+-- a call failed
+abbrev pub failed : Memory → Memory
+failed memory = record memory { faults = count_up memory.faults }
+
+-- a read failed
+abbrev pub read_failed : Memory → Memory
+read_failed memory = record (failed memory) { read_faults = count_up memory.read_faults }
+
+-- a call was recorded that was to write so many bytes, and met its planned fault
+abbrev pub recorded : Option Fault → ℕ → Memory → Memory
+recorded fault len memory =
+    record memory { calls = memory.calls + 1; used = memory.used + len; was_cut = memory.was_cut || is_cut fault }
+
+abbrev pub read_by : Option Fault → Memory → Memory
+read_by None memory = record (recorded None 0 memory) { told = counted true memory.told }
+read_by (Some fault) memory = read_failed (recorded (Some fault) 0 memory)
 
 abbrev pub after_read : Memory → Memory
-after_read memory = record memory {
-  device =
-      (if fails_to_read memory
-      then record memory.device { faults = count_up memory.device.faults; read_faults = count_up memory.device.read_faults }
-      else memory.device);
-  calls = calls_after memory;
-}
+after_read memory = if is_read_refused memory then read_failed memory else read_by (fault_of memory) memory
 
--- one page has another health
-abbrev pub set_page : ℕ → Health → Told → Told
-set_page page health told = record told { image = record told.image { health = slice_set told.image.health page health } }
+-- a call was recorded that was to write bytes, and left of them what its planned fault says
+abbrev pub written : Option Fault → ℕ → List ℕ → Memory → Memory
+written fault at bytes memory =
+    record (recorded fault (length bytes) memory) {
+      told = changed at (length bytes) (left_by fault memory.geometry.page at bytes memory.told.image) memory.told;
+    }
 
+abbrev pub program_by : Option Fault → ℕ → List ℕ → Memory → Memory
+program_by None at bytes memory = record (written None at bytes memory) { programs = memory.programs + 1 }
+program_by (Some fault) at bytes memory = failed (written (Some fault) at bytes memory)
+
+abbrev pub after_program : ℕ → List ℕ → Memory → Memory
+after_program at bytes memory =
+    if is_program_refused memory (length bytes) then failed memory else program_by (fault_of memory) at bytes memory
+
+-- a block was to be erased
+abbrev pub blanked : Option Fault → ℕ → Memory → Memory
+blanked fault block memory = written fault (block * memory.geometry.block) (replicate memory.geometry.block 255) memory
+
+abbrev pub erase_by : Option Fault → ℕ → Memory → Memory
+erase_by None block memory =
+    record (blanked None block memory) { told = erase_counted block (blanked None block memory).told; erased = memory.erased + 1 }
+erase_by (Some fault) block memory = failed (blanked (Some fault) block memory)
+
+abbrev pub after_erase : ℕ → Memory → Memory
+after_erase block memory =
+    if is_erase_refused memory block then failed memory else erase_by (fault_of memory) block memory
+
+-- one page has another health; what calls changed before is forgotten, and takes no room any more
 abbrev pub with_health : Memory → ℕ → Health → Memory
 with_health memory page health =
-    record memory { device = record memory.device { told = option_map (set_page page health) memory.device.told } }
+    record memory {
+      told = record memory.told {
+        image = record memory.told.image { health = slice_set memory.told.image.health page health };
+        changes = [];
+      };
+      used = 0;
+    }
+
+-- the record and the planned faults are gone; what the device holds stays, and so do the counts
+abbrev pub restarted : Memory → Memory
+restarted memory =
+    record memory {
+      told = record memory.told { changes = [] };
+      calls = 0;
+      used = 0;
+      plan = [];
+      was_cut = false;
+    }

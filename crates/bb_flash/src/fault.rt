@@ -3,6 +3,9 @@
 pub enum Fault {
     /// The call answers Failed. What it was to write is filled.
     Fail(Fill),
+    /// A power cut: the call fails in the same way, and so does every later call, which changes nothing, until a
+    /// restart.
+    Cut(Fill),
 }
 
 /// What a failed call leaves in the range that it was to write. A read has no such range.

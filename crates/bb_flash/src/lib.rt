@@ -3,10 +3,12 @@
 #![tactic(auto)]
 
 mod board;
+mod cells;
 mod fault;
 mod flash;
 mod geometry;
 mod health;
+mod log;
 mod mem_board;
 mod pages;
 mod region;

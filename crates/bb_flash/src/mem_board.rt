@@ -1,84 +1,108 @@
-ghost use Rattle.std.specs.Prelude.{◌≡◌, ◌+◌, ◌*◌, ◌≤◌, ◌<◌, ◌∷◌, length, slice_set, IfOk, IsErr, OnOk, OnErr, is_err, option_map};
+ghost use Rattle.std.specs.Prelude.{◌≡◌, ◌+◌, ◌*◌, ◌<◌, ◌≤◌, ◌∷◌, ◌++◌, [], length, option_map, IfOk, IsErr, OnOk, OnErr, is_err, is_ok};
 ghost use Rattle.std.specs.Option.{ForSome};
 ghost use Rattle.bb_base.specs.Faults.{HasCause};
+ghost use Rattle.bb_flash.specs.Calls.{CanErase, CanProgram, ChangesOnly, counted, erased, programmed};
+ghost use Rattle.bb_flash.specs.Cuts.{IsLater};
+ghost use Rattle.bb_flash.specs.Device.{IsDevice, IsReading, ReadKeeps, content, erases, reads};
 ghost use Rattle.bb_flash.specs.Geometry.{IsGeometry};
-ghost use Rattle.bb_flash.specs.Device.{IsDevice, IsReading, ReadKeeps, content};
-ghost use Rattle.bb_flash.specs.Memory.{fresh_memory, fails_to_read, after_read, planned_at, with_health};
+ghost use Rattle.bb_flash.specs.Memory as memory;
+ghost use Rattle.bb_flash.specs.Memory.{device_of};
 
+mod calls;
+
+use crate::cells::Cells;
+use crate::log::Log;
 use crate::pages::copy_out;
 use crate::{Board, Fault, Flash, Geometry, Health};
 use bb_base::{Failed, NoMemory};
 use std::alloc::Global;
 use std::marker::Model;
 
-/// A board in memory, which tells all that it holds. It fails where a fault was planned, by the number of the
-/// call, and where it has no room left to record a call.
+/// A board in memory, which tells all that it holds. It records each call that changes it, for as many calls and
+/// bytes as it took memory for. A call fails where a fault is planned for it, where there is no room to record it,
+/// after a planned cut until a restart, and where a count but that of faults would pass 2^64 - 1.
 #[derive(Debug, Drop)]
 pub struct MemBoard {
     geometry: Geometry,
-    bytes: Vec<u8>,
-    health: Vec<Health>,
+    cells: Cells,
+    log: Log,
+    blank: Vec<u8>,
+    erases: Vec<u64>,
+    reads: u64,
     faults: u64,
     read_faults: u64,
-    most_calls: u32,
-    most_bytes: u32,
     calls: u32,
     plan: Vec<(u32, Fault)>,
+    was_cut: bool,
+    programs: u64,
+    erased: u64,
 }
 
 impl Model for MemBoard {
-    ghost use Rattle.std.specs.Prelude.{[], Some};
-    ghost use Rattle.bb_flash.specs.Memory.{Memory, IsMemory};
+    ghost use Rattle.std.specs.Prelude.{[]};
+    ghost use Rattle.bb_flash.specs.Memory.{Memory};
+    ghost use Rattle.bb_flash.specs.Saved.{history, IsMemory};
 
     ghost Value = { Memory };
 
     ghost view = { λ board.
         record {
-          device = record {
-            geometry = board.geometry;
-            told = Some (record { image = record { bytes = board.bytes.items; health = board.health.items }; starts = [] });
-            faults = board.faults;
-            read_faults = board.read_faults;
-            start_faults = 0;
+          geometry = board.geometry;
+          told = record {
+            image = board.cells;
+            starts = [];
+            erases = board.erases.items;
+            reads = board.reads;
+            changes = history board.geometry.page board.log.saved board.cells;
           };
-          most_calls = board.most_calls;
-          most_bytes = board.most_bytes;
+          faults = board.faults;
+          read_faults = board.read_faults;
+          most_calls = board.log.most_calls;
+          most_bytes = board.log.most_bytes;
           calls = board.calls;
+          used = board.log.used;
           plan = board.plan.items;
+          was_cut = board.was_cut;
+          programs = board.programs;
+          erased = board.erased;
         } };
 
-    ghost invariant = { λ board. IsMemory board.geometry board.bytes.items board.health.items };
+    ghost invariant = { λ board.
+        IsMemory board.geometry board.cells board.log board.blank.items board.erases.items board.calls };
 }
 
 impl MemBoard {
     /// A board that holds these bytes, one for each byte of the geometry's size, in pages that are Fine. It
-    /// records at most `calls` flash calls, and at most `room` bytes that they change.
-    pub fn of(
-        alloc: Global,
-        geometry: Geometry,
-        bytes: &[u8],
-        calls: u32,
-        room: u32,
-    ) -> Result<MemBoard, NoMemory>
+    /// records at most `calls` flash calls, and at most `room` bytes that they are to write.
+    pub fn of(alloc: Global, geometry: Geometry, bytes: &[u8], calls: u32, room: u32) -> Result<MemBoard, NoMemory>
         requires bounds { IsGeometry geometry }
         requires whole { length bytes.now ≡ geometry.size }
-        ensures { IfOk result (λ board. board ≡ fresh_memory geometry bytes.now calls room) }
+        ensures { IfOk result (λ board. board ≡ memory.fresh_memory geometry bytes.now calls room) }
     {
         let pages = geometry.size / geometry.page;
+        let blocks = geometry.size.checked_div(geometry.block).unwrap_or(0);
         Ok(MemBoard {
             geometry,
-            bytes: bytes.to_vec(alloc)?,
-            health: vec![in alloc; Health::Fine; pages as usize]?,
+            cells: Cells {
+                bytes: bytes.to_vec(alloc)?,
+                health: vec![in alloc; Health::Fine; pages as usize]?,
+            },
+            log: Log::with_room(alloc, calls, room)?,
+            blank: vec![in alloc; 0xFF; geometry.block as usize]?,
+            erases: vec![in alloc; 0; blocks as usize]?,
+            reads: 0,
             faults: 0,
             read_faults: 0,
-            most_calls: calls,
-            most_bytes: room,
             calls: 0,
             plan: Vec::new(alloc),
+            was_cut: false,
+            programs: 0,
+            erased: 0,
         })
     }
 
-    /// Plans a fault at a flash call, counted from 0. It takes the place of an earlier one at that call.
+    /// Plans a fault at a flash call, counted from 0 since the last restart. It takes the place of an earlier one
+    /// at that call.
     pub fn plan_fault(&mut self, call: u32, fault: Fault) -> Result<(), NoMemory>
         ensures ok { OnOk result (self.new ≡ record self.old { plan = (call, fault) ∷ self.old.plan }) }
         ensures err { OnErr result (self.new ≡ self.old) }
@@ -87,62 +111,73 @@ impl MemBoard {
         Ok(())
     }
 
-    /// Sets the health of a page of the device, counted from 0.
-    pub fn set_health(&mut self, page: u32, health: Health)
-        requires { page * self.old.device.geometry.page < self.old.device.geometry.size }
-        ensures { self.new ≡ with_health self.old page health }
+    /// Starts the board anew after a cut, or without one: what it holds stays, and so do the counts of faults, reads,
+    /// programs and erases. The record of calls and the planned faults go.
+    pub fn restart(&mut self)
+        ensures { self.new ≡ memory.restarted self.old }
     {
-        self.health[page as usize] = health;
+        self.log.clear();
+        self.plan.clear();
+        self.calls = 0;
+        self.was_cut = false;
+    }
+
+    /// Sets the health of a page of the device, counted from 0. What calls changed before is no longer recorded.
+    pub fn set_health(&mut self, page: u32, health: Health)
+        requires { page * self.old.geometry.page < self.old.geometry.size }
+        ensures { self.new ≡ memory.with_health self.old page health }
+    {
+        self.cells.health[page as usize] = health;
+        self.log.clear();
     }
 
     /// The device's bytes, those of Lost pages too.
     pub fn bytes(&self) -> &[u8]
-        ensures { option_map (λ image. image.bytes) (content self.now.device) ≡ Some result.now }
+        ensures { result.now ≡ self.now.told.image.bytes }
     {
-        &self.bytes
+        &self.cells.bytes
+    }
+
+    /// How many programs answered Ok.
+    pub fn programs(&self) -> u64
+        ensures { result ≡ self.now.programs }
+    {
+        self.programs
+    }
+
+    /// How many erases answered Ok.
+    pub fn erased(&self) -> u64
+        ensures { result ≡ self.now.erased }
+    {
+        self.erased
+    }
+
+    /// A planned cut was met since the last restart.
+    pub fn was_cut(&self) -> bool
+        ensures { result ≡ self.now.was_cut }
+    {
+        self.was_cut
     }
 }
 
 impl Flash for MemBoard {
-    ghost device = { λ board. board.device };
+    ghost device = { device_of };
 
     fn geometry(&self) -> Geometry {
         self.geometry
     }
 
-    /// Fails exactly where a fault is planned for this call, or `calls` calls were recorded before it.
-    fn read(&mut self, at: u32, out: &mut [u8]) -> Result<Health, Failed>
-        requires { at + length out.old ≤ self.old.device.geometry.size }
-        ensures answer { is_err result ≡ fails_to_read self.old }
-        ensures after { self.new ≡ after_read self.old }
-        ensures done { IfOk result (λ health. ForSome (content self.old.device) (λ image.
-            IsReading self.old.device.geometry.page image at out.new health)) }
-        ensures keeps { ReadKeeps self.old.device self.new.device }
-        ensures whole { IsDevice self.new.device }
-        ensures faults { HasCause self.old.device.faults self.new.device.faults (IsErr result) }
-        ensures read_faults { HasCause self.old.device.read_faults self.new.device.read_faults (IsErr result) }
-    {
-        let fault = planned(&self.plan, self.calls);
-        let full = self.calls >= self.most_calls;
-        if !full {
-            self.calls += 1;
-        }
-        if full || fault.is_some() {
-            self.faults = self.faults.saturating_add(1);
-            self.read_faults = self.read_faults.saturating_add(1);
-            return Err(Failed);
-        }
-        Ok(copy_out(&self.bytes, &self.health, self.geometry.page, at, out))
+    fn read(&mut self, at: u32, out: &mut [u8]) -> Result<Health, Failed> {
+        self.read_call(at, out)
+    }
+
+    fn program(&mut self, at: u32, bytes: &[u8]) -> Result<(), Failed> {
+        self.program_call(at, bytes)
+    }
+
+    fn erase(&mut self, block: u32) -> Result<(), Failed> {
+        self.erase_call(block)
     }
 }
 
 impl Board for MemBoard {}
-
-// The fault that is planned for a call.
-fn planned(plan: &[(u32, Fault)], call: u32) -> Option<Fault>
-    ensures { result ≡ planned_at plan.now call }
-{
-    plan.iter()
-        .find(|entry| entry.0 == call)
-        .map(|entry| entry.1)
-}

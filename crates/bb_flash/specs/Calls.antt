@@ -1,0 +1,57 @@
+-- What each call of a flash leaves of what the device tells.
+use Rattle.std.specs.Prelude.{◌≡◌, ℕ, ◌+◌, ◌*◌, ◌/◌, ◌<◌, ◌≤◌, ◌%◌, ◌⊎◌, Bool, List, [], ◌∷◌, ◌++◌, length, replicate, slice_index, slice_set, Option, if◌then◌else◌}
+use Rattle.std.specs.Option.{ForSome}
+use Rattle.bb_flash.specs.declared.geometry.Geometry.{Geometry}
+use Rattle.bb_flash.specs.declared.health.Health.TheVariants.{Fine}
+use Rattle.bb_flash.specs.Image.{Image, IsBlank, Torn, with_bytes}
+use Rattle.bb_flash.specs.Device.{Change, Told, Device, content}
+
+-- after a read: it counts where it answered Ok
+abbrev pub counted : Bool → Told → Told
+counted done told = record told { reads = (if done then told.reads + 1 else told.reads) }
+
+-- one change more
+abbrev pub changed : ℕ → ℕ → Image → Told → Told
+changed at len image told = record told { image = image; changes = told.changes ++ record { before = told.image; at = at; len = len } ∷ [] }
+
+-- after a program that answered Ok: exactly these bytes, in pages that are Fine
+abbrev pub programmed : ℕ → ℕ → List ℕ → Told → Told
+programmed page at bytes told = changed at (length bytes) (with_bytes page at bytes Fine told.image) told
+
+-- a block has one erase more
+abbrev pub erase_counted : ℕ → Told → Told
+erase_counted block told = record told { erases = slice_set told.erases block (slice_index told.erases block + 1) }
+
+-- after an erase that answered Ok: the block holds 0xFF alone, and its pages are Fine
+abbrev pub erased : Geometry → ℕ → Told → Told
+erased geometry block told =
+    erase_counted block (programmed geometry.page (block * geometry.block) (replicate geometry.block 255) told)
+
+-- what a program or an erase may do to the image, whatever it answers: nothing at all, or one change that is torn
+-- from what was before
+pub record IsTornBy (page at len : ℕ) (before after : Told) : Type 0 where
+  pub torn : Torn page before.image at len after.image
+  pub change : after.changes ≡ before.changes ++ record { before = before.image; at = at; len = len } ∷ []
+
+pub record IsUntouched (before after : Told) : Type 0 where
+  pub image : after.image ≡ before.image
+  pub changes : after.changes ≡ before.changes
+
+abbrev pub ChangesOnly : ℕ → ℕ → Device → Device → Type 0
+ChangesOnly at len from to =
+    ForSome from.told
+    (λ before.
+    ForSome to.told (λ after. IsUntouched before after ⊎ IsTornBy from.geometry.page at len before after))
+
+-- bytes may be programmed at a place: whole pages inside the device, and blank ones where it is erased in blocks
+pub record CanProgram (device : Device) (at len : ℕ) : Type 0 where
+  pub some : 0 < len
+  pub inside : at + len ≤ device.geometry.size
+  pub aligned : at % device.geometry.page ≡ 0
+  pub whole : len % device.geometry.page ≡ 0
+  pub blank : 0 < device.geometry.block → ForSome (content device) (λ image. IsBlank device.geometry.page image at len)
+
+-- there are blocks, and the one of this number is inside the device
+pub record CanErase (geometry : Geometry) (block : ℕ) : Type 0 where
+  pub blocks : 0 < geometry.block
+  pub inside : block < geometry.size / geometry.block

@@ -1,0 +1,80 @@
+ghost use Rattle.std.specs.Prelude.{◌≡◌, ◌+◌, ◌*◌, ◌≤◌, ◌<◌, ◌^◌, length, replicate};
+ghost use Rattle.bb_flash.specs.Filled.{filled, left_by};
+ghost use Rattle.bb_flash.specs.Image.{IsInside, overwritten, in_health};
+
+use crate::{Fault, Fill, Health};
+use std::marker::Model;
+
+/// What a board in memory holds: its bytes, and one health a page.
+#[derive(Debug, Drop)]
+pub struct Cells {
+    pub bytes: Vec<u8>,
+    pub health: Vec<Health>,
+}
+
+impl Model for Cells {
+    ghost use Rattle.bb_flash.specs.Image.{Image};
+
+    ghost Value = { Image };
+
+    ghost view = { λ cells. record { bytes = cells.bytes.items; health = cells.health.items } };
+}
+
+impl Cells {
+    // Writes bytes over those at a place.
+    fn put(&mut self, at: u32, bytes: &[u8])
+        requires { at + length bytes.now ≤ length self.old.bytes }
+        ensures { self.new ≡ record self.old { bytes = overwritten at bytes.now self.old.bytes } }
+    {
+        let first = at as usize;
+        self.bytes[first..first + bytes.len()].copy_from_slice(bytes);
+    }
+
+    // Sets `len` bytes at a place to one value.
+    fn fill(&mut self, at: u32, len: u32, value: u8)
+        requires { at + len ≤ length self.old.bytes }
+        ensures { self.new ≡ record self.old { bytes = overwritten at (replicate len value) self.old.bytes } }
+    {
+        let first = at as usize;
+        self.bytes[first..first + len as usize].fill(value);
+    }
+
+    // Sets the health of the pages in which `len` bytes at a place stand.
+    fn set_health(&mut self, page: u32, at: u32, len: u32, health: Health)
+        requires { IsInside page self.old at len }
+        ensures { self.new ≡ in_health page at len health self.old }
+    {
+        let first = (at / page) as usize;
+        let end = (at + len).div_ceil(page) as usize;
+        self.health[first..end].fill(health);
+    }
+
+    // Leaves what a failed call leaves that was to write these bytes.
+    fn tear(&mut self, page: u32, at: u32, bytes: &[u8], filling: Fill)
+        requires { IsInside page self.old at (length bytes.now) }
+        ensures { self.new ≡ filled filling page at bytes.now self.old }
+    {
+        let len = bytes.len() as u32;
+        match filling {
+            Fill::Old => return,
+            Fill::Half => self.put(at, &bytes[..bytes.len() / 2]),
+            Fill::Junk => self.fill(at, len, 0xA5),
+            Fill::Lost => return self.set_health(page, at, len, Health::Lost),
+        }
+        self.set_health(page, at, len, Health::Fine);
+    }
+
+    /// Leaves what a call leaves that was to write these bytes, by the fault that was planned for it.
+    pub fn write(&mut self, page: u32, at: u32, bytes: &[u8], fault: Option<Fault>)
+        requires { IsInside page self.old at (length bytes.now) }
+        ensures { self.new ≡ left_by fault page at bytes.now self.old }
+    {
+        match fault {
+            Some(Fault::Fail(filling) | Fault::Cut(filling)) => self.tear(page, at, bytes, filling),
+            None => {
+                self.put(at, bytes);
+                self.set_health(page, at, bytes.len() as u32, Health::Fine);
+            }
+        }
+    }
+}

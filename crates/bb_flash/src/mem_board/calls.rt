@@ -1,0 +1,147 @@
+ghost use Rattle.std.specs.Prelude.{◌≡◌, ◌+◌, ◌*◌, ◌<◌, ◌≤◌, ◌∷◌, ◌++◌, [], length, option_map, replicate, slice_index, IfOk, is_err};
+ghost use Rattle.std.specs.Bool.{OnFalse};
+ghost use Rattle.bb_flash.specs.Calls.{CanErase, CanProgram};
+ghost use Rattle.bb_flash.specs.Device.{IsReading};
+ghost use Rattle.bb_flash.specs.Filled.{is_cut, left_by};
+ghost use Rattle.bb_flash.specs.Image.{IsInside, page_count};
+ghost use Rattle.bb_flash.specs.Memory as memory;
+ghost use Rattle.bb_flash.specs.Memory.{device_of, planned_at};
+ghost use Rattle.bb_flash.specs.Saved.{history};
+
+use crate::cells::Cells;
+use crate::log::Log;
+use crate::pages::{copy_out, touched};
+use crate::{Fault, Health, MemBoard};
+use bb_base::Failed;
+
+impl MemBoard {
+    // The fault that is planned for the next call.
+    fn next_fault(&self) -> Option<Fault>
+        ensures { result ≡ memory.fault_of self.now }
+    {
+        planned(&self.plan, self.calls)
+    }
+
+    // A call that is to write so many bytes comes after a cut, or there is no room to record it.
+    fn refuses(&self, bytes: u32) -> bool
+        ensures value { result ≡ memory.is_refused self.now bytes }
+        ensures room { OnFalse result (memory.HasRoom self.now bytes) }
+    {
+        self.was_cut || self.calls >= self.log.most_calls() || self.log.lacks_room(bytes)
+    }
+
+    fn fail(&mut self) -> Failed
+        ensures { self.new ≡ memory.failed self.old }
+    {
+        self.faults = self.faults.saturating_add(1);
+        Failed
+    }
+
+    fn fail_read(&mut self) -> Failed
+        ensures { self.new ≡ memory.read_failed self.old }
+    {
+        self.faults = self.faults.saturating_add(1);
+        self.read_faults = self.read_faults.saturating_add(1);
+        Failed
+    }
+
+    // A read, exactly.
+    pub fn read_call(&mut self, at: u32, out: &mut [u8]) -> Result<Health, Failed>
+        requires { at + length out.old ≤ self.old.geometry.size }
+        ensures answer { is_err result ≡ memory.fails_to_read self.old }
+        ensures after { self.new ≡ memory.after_read self.old }
+        ensures done { IfOk result (IsReading self.old.geometry.page self.old.told.image at out.new) }
+    {
+        let fault = self.next_fault();
+        if self.refuses(0) || (fault.is_none() && self.reads == u64::MAX) {
+            return Err(self.fail_read());
+        }
+        self.calls += 1;
+        self.was_cut = self.was_cut || cuts(fault);
+        if fault.is_some() {
+            return Err(self.fail_read());
+        }
+        self.reads += 1;
+        Ok(copy_out(&self.cells.bytes, &self.cells.health, self.geometry.page, at, out))
+    }
+
+    // A program, exactly.
+    pub fn program_call(&mut self, at: u32, bytes: &[u8]) -> Result<(), Failed>
+        requires { CanProgram (device_of self.old) at (length bytes.now) }
+        ensures answer { is_err result ≡ memory.fails_to_program self.old (length bytes.now) }
+        ensures after { self.new ≡ memory.after_program at bytes.now self.old }
+    {
+        let fault = self.next_fault();
+        if self.refuses(bytes.len() as u32) || (fault.is_none() && self.programs == u64::MAX) {
+            return Err(self.fail());
+        }
+        self.calls += 1;
+        self.was_cut = self.was_cut || cuts(fault);
+        write_call(&mut self.cells, &mut self.log, self.geometry.page, at, bytes, fault);
+        if fault.is_some() {
+            return Err(self.fail());
+        }
+        self.programs += 1;
+        Ok(())
+    }
+
+    // An erase, exactly.
+    pub fn erase_call(&mut self, block: u32) -> Result<(), Failed>
+        requires { CanErase self.old.geometry block }
+        ensures answer { is_err result ≡ memory.fails_to_erase self.old block }
+        ensures after { self.new ≡ memory.after_erase block self.old }
+    {
+        let fault = self.next_fault();
+        let number = self.erases[block as usize];
+        let full = self.erased == u64::MAX || number == u64::MAX;
+        if self.refuses(self.geometry.block) || (fault.is_none() && full) {
+            return Err(self.fail());
+        }
+        self.calls += 1;
+        self.was_cut = self.was_cut || cuts(fault);
+        let at = block * self.geometry.block;
+        write_call(&mut self.cells, &mut self.log, self.geometry.page, at, &self.blank, fault);
+        if fault.is_some() {
+            return Err(self.fail());
+        }
+        self.erases[block as usize] = number + 1;
+        self.erased += 1;
+        Ok(())
+    }
+}
+
+// The fault that is planned for a call.
+fn planned(plan: &[(u32, Fault)], call: u32) -> Option<Fault>
+    ensures { result ≡ planned_at plan.now call }
+{
+    plan.iter()
+        .find(|entry| entry.0 == call)
+        .map(|entry| entry.1)
+}
+
+fn cuts(fault: Option<Fault>) -> bool
+    ensures { result ≡ is_cut fault }
+{
+    matches!(fault, Some(Fault::Cut(_)))
+}
+
+// Saves what a call is about to change, and changes it.
+fn write_call(cells: &mut Cells, log: &mut Log, page: u32, at: u32, bytes: &[u8], fault: Option<Fault>)
+    requires some { 0 < length bytes.now }
+    requires inside { IsInside page cells.old at (length bytes.now) }
+    requires pages { page_count page at (length bytes.now) ≤ length bytes.now }
+    requires calls { length log.old.saved < log.old.most_calls }
+    requires room { log.old.used + length bytes.now ≤ log.old.most_bytes }
+    ensures cells { cells.new ≡ left_by fault page at bytes.now cells.old }
+    ensures used { log.new.used ≡ log.old.used + length bytes.now }
+    ensures most_calls { log.new.most_calls ≡ log.old.most_calls }
+    ensures most_bytes { log.new.most_bytes ≡ log.old.most_bytes }
+    ensures saved { length log.new.saved ≡ length log.old.saved + 1 }
+    ensures changes { history page log.new.saved cells.new ≡ history page log.old.saved cells.old
+        ++ record { before = cells.old; at = at; len = length bytes.now } ∷ [] }
+{
+    let first = at as usize;
+    let pages = touched(&cells.health, page, at, bytes.len() as u32);
+    log.save(at, &cells.bytes[first..first + bytes.len()], pages);
+    cells.write(page, at, bytes, fault);
+}
