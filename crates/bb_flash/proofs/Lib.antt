@@ -1,3 +1,4 @@
+pub mod Boards
 pub mod Colons
 pub mod Geometries
 pub mod Logged

@@ -1,7 +1,7 @@
 -- What a torn call may leave.
 use Rattle.std.proofs.Common.{◌≡◌, ℕ, zero, suc, ◌+◌, ◌-◌, ◌*◌, ◌/◌, ◌<◌, ◌≤◌, ◌%◌, ◌∙◌, List, length, take, drop, Option, Some, None, replicate, ap, sym, subst, arith, refl, min}
 use Rattle.std.proofs.lemmas.Grind.{common_steps, div_ceil_times}
-use Rattle.std.proofs.lemmas.List.{length-replicate}
+use Rattle.std.proofs.lemmas.List.{length-replicate, length-take}
 use Rattle.std.specs.Int.{div_ceil}
 use Rattle.bb_flash.specs.declared.geometry.Geometry.{Geometry}
 use Rattle.bb_flash.specs.declared.fault.Fault.{Fault}
@@ -37,13 +37,22 @@ sum-le-product zero n h k = absurd (omega arith)
 sum-le-product (suc m) n h k = omega (arith, le-mul_of_pos_right m k)
 
 -- a range touches no more pages than it has bytes
-pub page_count-le : (page at len : ℕ) → 0 < page → 0 < len → page_count page at len ≤ len
-page_count-le page at len some more =
+pub page_count_le : (page at len : ℕ) → 0 < page → 0 < len → page_count page at len ≤ len
+page_count_le page at len some more =
     let times = div_ceil_times (at + len) page some in
     let floor : at < at / page * page + page = lt-div-mul-add some in
     let product = sum-le-product len page more some in
     let wide : div_ceil (at + len) page * page < (at / page + len + 1) * page = grind arith in
     let ceil : div_ceil (at + len) page < at / page + len + 1 = lt_of_mul-lt-mul_right page wide in
+    omega arith
+
+-- nor are the pages that it touches
+pub touched_few : (page at len : ℕ) (pages : List Health) → 0 < page → length (touched_pages page at len pages) ≤ len
+touched_few page at zero pages some = omega arith
+touched_few page at (suc len) pages some =
+    let few = page_count_le page at (suc len) some (omega arith) in
+    let short = length-take (page_count page at (suc len)) (drop (at / page) pages) in
+    let size = ap length (touched_pages-some page at (suc len) pages (omega arith)) in
     omega arith
 
 torn_health : (page : ℕ) (image : Image) (at len : ℕ) (health : Health) (bytes : List ℕ) → IsInside page image at len → SameOutside at len image.bytes bytes → Torn page image at len (in_health page at len health (record image { bytes = bytes }))

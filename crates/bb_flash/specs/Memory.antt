@@ -108,7 +108,7 @@ fails_to_erase memory block = is_erase_refused memory block || is_some (fault_of
 
 -- one more, up to the greatest number of 64 bits
 abbrev pub count_up : ℕ → ℕ
-count_up count = min (count + 1) (2 ^ 64 - 1)
+count_up count = if is_full count then count else count + 1
 
 -- a call failed
 abbrev pub failed : Memory → Memory

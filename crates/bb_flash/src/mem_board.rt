@@ -72,6 +72,7 @@ impl Model for MemBoard {
 }
 
 impl MemBoard {
+    #[tactic(auto, using(crate::proofs::Geometries::whole_pages), unfolding(crate::specs::Saved::history))]
     /// A board that holds these bytes, one for each byte of the geometry's size, in pages that are Fine. It
     /// records at most `calls` flash calls, and at most `room` bytes that they are to write.
     pub fn of(alloc: Global, geometry: Geometry, bytes: &[u8], calls: u32, room: u32) -> Result<MemBoard, NoMemory>
@@ -111,6 +112,7 @@ impl MemBoard {
         Ok(())
     }
 
+    #[tactic(auto, unfolding(crate::specs::Saved::history))]
     /// Starts the board anew after a cut, or without one: what it holds stays, and so do the counts of faults, reads,
     /// programs and erases. The record of calls and the planned faults go.
     pub fn restart(&mut self)
@@ -122,6 +124,7 @@ impl MemBoard {
         self.was_cut = false;
     }
 
+    #[tactic(auto, unfolding(crate::specs::Saved::history))]
     /// Sets the health of a page of the device, counted from 0. What calls changed before is no longer recorded.
     pub fn set_health(&mut self, page: u32, health: Health)
         requires { page * self.old.geometry.page < self.old.geometry.size }

@@ -30,7 +30,8 @@ pub fn touched(pages: &[Health], page: u32, at: u32, len: u32) -> &[Health]
     requires some { 0 < page }
     requires inside { at + len ≤ length pages.now * page }
     requires small { at + len < 2 ^ 32 }
-    ensures { result.now ≡ touched_pages page at len pages.now }
+    ensures value { result.now ≡ touched_pages page at len pages.now }
+    ensures few { length result.now ≤ len }
 {
     if len == 0 {
         return &[];

@@ -1,9 +1,9 @@
 ghost use Rattle.std.specs.Prelude.{◌≡◌, ◌+◌, ◌*◌, ◌<◌, ◌≤◌, ◌∷◌, ◌++◌, [], length, option_map, replicate, slice_index, IfOk, is_err};
 ghost use Rattle.std.specs.Bool.{OnFalse};
 ghost use Rattle.bb_flash.specs.Calls.{CanErase, CanProgram};
-ghost use Rattle.bb_flash.specs.Device.{IsReading};
+ghost use Rattle.bb_flash.specs.Device.{IsDevice, IsReading};
 ghost use Rattle.bb_flash.specs.Filled.{is_cut, left_by};
-ghost use Rattle.bb_flash.specs.Image.{IsInside, page_count};
+ghost use Rattle.bb_flash.specs.Image.{IsInside};
 ghost use Rattle.bb_flash.specs.Memory as memory;
 ghost use Rattle.bb_flash.specs.Memory.{device_of, planned_at};
 ghost use Rattle.bb_flash.specs.Saved.{history};
@@ -49,6 +49,7 @@ impl MemBoard {
     pub fn read_call(&mut self, at: u32, out: &mut [u8]) -> Result<Health, Failed>
         requires { at + length out.old ≤ self.old.geometry.size }
         ensures answer { is_err result ≡ memory.fails_to_read self.old }
+        ensures whole { IsDevice (device_of self.old) }
         ensures after { self.new ≡ memory.after_read self.old }
         ensures done { IfOk result (IsReading self.old.geometry.page self.old.told.image at out.new) }
     {
@@ -69,6 +70,7 @@ impl MemBoard {
     pub fn program_call(&mut self, at: u32, bytes: &[u8]) -> Result<(), Failed>
         requires { CanProgram (device_of self.old) at (length bytes.now) }
         ensures answer { is_err result ≡ memory.fails_to_program self.old (length bytes.now) }
+        ensures whole { IsDevice (device_of self.old) }
         ensures after { self.new ≡ memory.after_program at bytes.now self.old }
     {
         let fault = self.next_fault();
@@ -89,6 +91,7 @@ impl MemBoard {
     pub fn erase_call(&mut self, block: u32) -> Result<(), Failed>
         requires { CanErase self.old.geometry block }
         ensures answer { is_err result ≡ memory.fails_to_erase self.old block }
+        ensures whole { IsDevice (device_of self.old) }
         ensures after { self.new ≡ memory.after_erase block self.old }
     {
         let fault = self.next_fault();
@@ -129,10 +132,11 @@ fn cuts(fault: Option<Fault>) -> bool
 fn write_call(cells: &mut Cells, log: &mut Log, page: u32, at: u32, bytes: &[u8], fault: Option<Fault>)
     requires some { 0 < length bytes.now }
     requires inside { IsInside page cells.old at (length bytes.now) }
-    requires pages { page_count page at (length bytes.now) ≤ length bytes.now }
     requires calls { length log.old.saved < log.old.most_calls }
     requires room { log.old.used + length bytes.now ≤ log.old.most_bytes }
     ensures cells { cells.new ≡ left_by fault page at bytes.now cells.old }
+    ensures bytes { length cells.new.bytes ≡ length cells.old.bytes }
+    ensures health { length cells.new.health ≡ length cells.old.health }
     ensures used { log.new.used ≡ log.old.used + length bytes.now }
     ensures most_calls { log.new.most_calls ≡ log.old.most_calls }
     ensures most_bytes { log.new.most_bytes ≡ log.old.most_bytes }
