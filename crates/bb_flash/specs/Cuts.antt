@@ -1,8 +1,8 @@
 -- What a power cut may leave on a device, at any moment of the calls made on it.
-use Rattle.std.specs.Prelude.{◌≡◌, ℕ, ◌≤◌, ◌⊎◌, List, take, slice_get, Option, Some, is_some}
+use Rattle.std.specs.Prelude.{◌≡◌, ℕ, ◌≤◌, ◌⊎◌, List, take, drop, slice_get, Option, Some, is_some}
 use Rattle.std.specs.Option.{ForSome}
-use Rattle.bb_flash.specs.Image.{Image, Torn}
-use Rattle.bb_flash.specs.Device.{Change, Told, Device, moment, starts}
+use Rattle.bb_flash.specs.Image.{Image, Torn, touched_pages}
+use Rattle.bb_flash.specs.Device.{Change, Told, Device, content, moment, starts}
 
 -- a cut during one of the calls since a moment may have left this image
 pub record IsTornSince (page : ℕ) (told : Told) (since : ℕ) (image : Image) : Type 0 where
@@ -22,6 +22,15 @@ EachImage from to P =
     ForSome from.told
     (λ first.
     ForSome to.told (λ last. (image : Image) → Cuts to.geometry.page last (moment first) image → P image))
+
+-- each such image stands in a relation to what the device held in the first state
+abbrev pub EachFrom : (Image → Image → Type 0) → Device → Device → Type 0
+EachFrom R from to = EachImage from to (λ image. ForSome (content from) (λ first. R first image))
+
+-- a region of two images holds the same bytes, in pages of the same health
+pub record IsSameRegion (page at size : ℕ) (before image : Image) : Type 0 where
+  pub bytes : take size (drop at image.bytes) ≡ take size (drop at before.bytes)
+  pub health : touched_pages page at size image.health ≡ touched_pages page at size before.health
 
 -- the changes of the second state are those of the first and perhaps more
 pub record IsContinued (first last : Told) : Type 0 where
