@@ -36,8 +36,8 @@ later_of m n geometry starts faults read_faults changes = record {
   faults = faults;
   read_faults = read_faults;
   continued =
-    for_some (λ first. ForSome (Some n.told) (IsContinued first)) m.told
-    (for_some (IsContinued m.told) n.told (record { changes = changes }));
+      for_some (λ first. ForSome (Some n.told) (IsContinued first)) m.told
+      (for_some (IsContinued m.told) n.told (record { changes = changes }));
 }
 
 -- the device stays whole
@@ -48,11 +48,11 @@ whole_of m n whole geometry bytes health erases =
     record {
       geometry = subst IsGeometry (sym geometry) whole.geometry;
       image =
-        for_some (IsImageOf n.geometry) n.told.image
-        (record {
-          bytes = bytes ∙ image.bytes ∙ ap (λ g. g.size) (sym geometry);
-          pages = subst (λ (g : Geometry). length n.told.image.health * g.page ≡ g.size) (sym geometry) (ap (λ k. k * m.geometry.page) health ∙ image.pages);
-        });
+          for_some (IsImageOf n.geometry) n.told.image
+          (record {
+            bytes = bytes ∙ image.bytes ∙ ap (λ g. g.size) (sym geometry);
+            pages = subst (λ (g : Geometry). length n.told.image.health * g.page ≡ g.size) (sym geometry) (ap (λ k. k * m.geometry.page) health ∙ image.pages);
+          });
       erases = for_some (λ numbers. length numbers ≡ n.geometry.size / n.geometry.block) n.told.erases (erases ∙ blocks ∙ ap (λ g. g.size / g.block) (sym geometry));
     }
 
@@ -107,9 +107,11 @@ torn_told : (m : Memory) (fault : Option Fault) (at : ℕ) (bytes : List ℕ) �
 torn_told m fault at bytes inside = record { torn = Torn-left_by fault m.geometry.page m.told.image at bytes inside; change = refl }
 
 touched_by : (m n : Memory) (at len : ℕ) → IsUntouched m.told n.told ⊎ IsTornBy m.geometry.page at len m.told n.told → ChangesOnly at len (device_of m) (device_of n)
-touched_by m n at len how =
-    for_some (λ before. ForSome (Some n.told) (λ after. IsUntouched before after ⊎ IsTornBy m.geometry.page at len before after)) m.told
-    (for_some (λ after. IsUntouched m.told after ⊎ IsTornBy m.geometry.page at len m.told after) n.told how)
+touched_by m n at len how = record {
+  told =
+      for_some (λ before. ForSome (Some n.told) (λ after. IsUntouched before after ⊎ IsTornBy m.geometry.page at len before after)) m.told
+      (for_some (λ after. IsUntouched m.told after ⊎ IsTornBy m.geometry.page at len m.told after) n.told how);
+}
 
 program_changes_by : (m : Memory) (refused : Bool) (fault : Option Fault) (at : ℕ) (bytes : List ℕ) → IsInside m.geometry.page m.told.image at (length bytes) → ChangesOnly at (length bytes) (device_of m) (device_of (cond refused (failed m) (program_by fault at bytes m)))
 program_changes_by m true fault at bytes inside = touched_by m (failed m) at (length bytes) (inl (record { image = refl; changes = refl }))

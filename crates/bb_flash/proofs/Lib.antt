@@ -5,4 +5,6 @@ pub mod Logged
 pub mod Moments
 pub mod Overwrites
 pub mod Readings
+pub mod Regions
 pub mod Tearing
+pub mod Untold

@@ -16,7 +16,7 @@ saved_of-none bytes health = refl
 pub length-saved_of : (spans : List Span) (bytes : List ℕ) (health : List Health) → length (saved_of spans bytes health) ≡ length spans
 unfolding saved_of
 length-saved_of [] bytes health = refl
-length-saved_of (span ∷ older) bytes health = 
+length-saved_of (span ∷ older) bytes health =
     ap suc
     (length-saved_of older (take (length bytes - span.bytes) bytes) (take (length health - span.pages) health))
 
@@ -44,7 +44,7 @@ unfolding history
 history-more page saved older image before e = ap (λ b. history page older b ++ record { before = b; at = saved.at; len = length saved.bytes } ∷ []) e
 
 -- what a call saved of its range is put back
-pub restored_is : (page at len : ℕ) (before after : Image) → at + len ≤ length before.bytes → at / page + page_count page at len ≤ length before.health → Torn page before at len after → restored page (record { at = at; bytes = take len (drop at before.bytes); health = take (page_count page at len) (drop (at / page) before.health) }) after ≡ before
+pub restored_is : (page at len : ℕ) (before after : Image) → at + len ≤ length before.bytes → at / page + page_count page at len ≤ length before.health → Torn page at len before after → restored page (record { at = at; bytes = take len (drop at before.bytes); health = take (page_count page at len) (drop (at / page) before.health) }) after ≡ before
 restored_is page at len before after inside pages torn =
     let image : List ℕ → List Health → Image = λ bytes health. record { bytes = bytes; health = health } in
     let bytes = overwritten_back at len before.bytes after.bytes inside torn.bytes in
@@ -53,7 +53,7 @@ restored_is page at len before after inside pages torn =
     ∙ ap (λ h. image before.bytes h) health
 
 -- a call that saved what stood in its range, and then changed it
-pub history-saved : (page at len : ℕ) (before after : Image) (older : List Saved) (bytes : List ℕ) (health : List Health) → at + len ≤ length before.bytes → at / page + page_count page at len ≤ length before.health → Torn page before at len after → bytes ≡ take len (drop at before.bytes) → health ≡ take (page_count page at len) (drop (at / page) before.health) → history page (record { at = at; bytes = bytes; health = health } ∷ older) after ≡ history page older before ++ record { before = before; at = at; len = len } ∷ []
+pub history-saved : (page at len : ℕ) (before after : Image) (older : List Saved) (bytes : List ℕ) (health : List Health) → at + len ≤ length before.bytes → at / page + page_count page at len ≤ length before.health → Torn page at len before after → bytes ≡ take len (drop at before.bytes) → health ≡ take (page_count page at len) (drop (at / page) before.health) → history page (record { at = at; bytes = bytes; health = health } ∷ older) after ≡ history page older before ++ record { before = before; at = at; len = len } ∷ []
 history-saved page at len before after older bytes health inside pages torn b h =
     let saved : List ℕ → List Health → Saved = λ bs hs. record { at = at; bytes = bs; health = hs } in
     let size : length bytes ≡ len = ap length b ∙ grind (arith, common_steps) in

@@ -19,10 +19,10 @@ use Rattle.bb_flash.proofs.Overwrites.{SameOutside-refl, SameOutside-trans, Same
 pub touched_pages-some : (page at len : ℕ) (pages : List Health) → 0 < len → touched_pages page at len pages ≡ take (page_count page at len) (drop (at / page) pages)
 touched_pages-some page at len pages some = grind (arith, common_steps)
 
-pub Torn-refl : (page : ℕ) (image : Image) (at len : ℕ) → Torn page image at len image
+pub Torn-refl : (page : ℕ) (image : Image) (at len : ℕ) → Torn page at len image image
 Torn-refl page image at len = record { bytes = SameOutside-refl at len image.bytes; health = SameOutside-refl (at / page) (page_count page at len) image.health }
 
-pub Torn-trans : (page : ℕ) (one : Image) (at len : ℕ) (two three : Image) → Torn page one at len two → Torn page two at len three → Torn page one at len three
+pub Torn-trans : (page : ℕ) (one : Image) (at len : ℕ) (two three : Image) → Torn page at len one two → Torn page at len two three → Torn page at len one three
 Torn-trans page one at len two three h k = record {
   bytes = SameOutside-trans at len one.bytes two.bytes three.bytes h.bytes k.bytes;
   health = SameOutside-trans (at / page) (page_count page at len) one.health two.health three.health h.health k.health;
@@ -55,7 +55,7 @@ touched_few page at (suc len) pages some =
     let size = ap length (touched_pages-some page at (suc len) pages (omega arith)) in
     omega arith
 
-torn_health : (page : ℕ) (image : Image) (at len : ℕ) (health : Health) (bytes : List ℕ) → IsInside page image at len → SameOutside at len image.bytes bytes → Torn page image at len (in_health page at len health (record image { bytes = bytes }))
+torn_health : (page : ℕ) (image : Image) (at len : ℕ) (health : Health) (bytes : List ℕ) → IsInside page image at len → SameOutside at len image.bytes bytes → Torn page at len image (in_health page at len health (record image { bytes = bytes }))
 torn_health page image at len health bytes inside same =
     let size = length-replicate (page_count page at len) health in
     let pages = pages_inside page (length image.health) at len inside.page_some (omega (arith, inside.pages, inside.inside)) in
@@ -64,7 +64,7 @@ torn_health page image at len health bytes inside same =
       health = SameOutside-overwritten (at / page) (page_count page at len) (replicate (page_count page at len) health) image.health pages (omega arith);
     }
 
-torn_filled : (filling : Fill) (page : ℕ) (image : Image) (at : ℕ) (bytes : List ℕ) → IsInside page image at (length bytes) → Torn page image at (length bytes) (filled filling page at bytes image)
+torn_filled : (filling : Fill) (page : ℕ) (image : Image) (at : ℕ) (bytes : List ℕ) → IsInside page image at (length bytes) → Torn page at (length bytes) image (filled filling page at bytes image)
 torn_filled Old page image at bytes inside = Torn-refl page image at (length bytes)
 torn_filled Half page image at bytes inside =
     torn_health page image at (length bytes) Fine (overwritten at (take (length bytes / 2) bytes) image.bytes) inside
@@ -72,12 +72,12 @@ torn_filled Half page image at bytes inside =
 torn_filled Junk page image at bytes inside =
     let junk : List ℕ = replicate (length bytes) 165 in
     let size : length junk ≡ length bytes = length-replicate {A = ℕ} (length bytes) 165 in
-    subst (λ (len : ℕ). Torn page image at len (with_bytes page at junk Fine image)) size
+    subst (λ (len : ℕ). Torn page at len image (with_bytes page at junk Fine image)) size
     (torn_health page image at (length junk) Fine (overwritten at junk image.bytes) (subst (λ (len : ℕ). IsInside page image at len) (sym size) inside)
     (SameOutside-overwritten at (length junk) junk image.bytes (omega (arith, inside.inside)) (omega arith)))
 torn_filled Lost page image at bytes inside = torn_health page image at (length bytes) lost_health image.bytes inside (SameOutside-refl at (length bytes) image.bytes)
 
-pub Torn-left_by : (fault : Option Fault) (page : ℕ) (image : Image) (at : ℕ) (bytes : List ℕ) → IsInside page image at (length bytes) → Torn page image at (length bytes) (left_by fault page at bytes image)
+pub Torn-left_by : (fault : Option Fault) (page : ℕ) (image : Image) (at : ℕ) (bytes : List ℕ) → IsInside page image at (length bytes) → Torn page at (length bytes) image (left_by fault page at bytes image)
 Torn-left_by None page image at bytes inside =
     torn_health page image at (length bytes) Fine (overwritten at bytes image.bytes) inside
     (SameOutside-overwritten at (length bytes) bytes image.bytes inside.inside (omega arith))
@@ -85,7 +85,7 @@ Torn-left_by (Some (Fail filling)) page image at bytes inside = torn_filled fill
 Torn-left_by (Some (Cut filling)) page image at bytes inside = torn_filled filling page image at bytes inside
 
 -- a torn image is one of the same device
-pub IsImageOf-Torn : (geometry : Geometry) (page : ℕ) (before : Image) (at len : ℕ) (image : Image) → Torn page before at len image → IsImageOf geometry before → IsImageOf geometry image
+pub IsImageOf-Torn : (geometry : Geometry) (page : ℕ) (before : Image) (at len : ℕ) (image : Image) → Torn page at len before image → IsImageOf geometry before → IsImageOf geometry image
 IsImageOf-Torn geometry page before at len image torn whole = record {
   bytes = torn.bytes.lengths ∙ whole.bytes;
   pages = ap (λ n. n * geometry.page) torn.health.lengths ∙ whole.pages;

@@ -30,18 +30,18 @@ erased geometry block told =
 -- what a program or an erase may do to the image, whatever it answers: nothing at all, or one change that is torn
 -- from what was before
 pub record IsTornBy (page at len : ℕ) (before after : Told) : Type 0 where
-  pub torn : Torn page before.image at len after.image
+  pub torn : Torn page at len before.image after.image
   pub change : after.changes ≡ before.changes ++ record { before = before.image; at = at; len = len } ∷ []
 
 pub record IsUntouched (before after : Told) : Type 0 where
   pub image : after.image ≡ before.image
   pub changes : after.changes ≡ before.changes
 
-abbrev pub ChangesOnly : ℕ → ℕ → Device → Device → Type 0
-ChangesOnly at len from to =
-    ForSome from.told
-    (λ before.
-    ForSome to.told (λ after. IsUntouched before after ⊎ IsTornBy from.geometry.page at len before after))
+pub record ChangesOnly (at len : ℕ) (from to : Device) : Type 0 where
+  pub told :
+      ForSome from.told
+      (λ before.
+      ForSome to.told (λ after. IsUntouched before after ⊎ IsTornBy from.geometry.page at len before after))
 
 -- bytes may be programmed at a place: whole pages inside the device, and blank ones where it is erased in blocks
 pub record CanProgram (device : Device) (at len : ℕ) : Type 0 where

@@ -2,7 +2,7 @@
 use Rattle.std.specs.Prelude.{◌≡◌, ℕ, ◌≤◌, ◌⊎◌, List, take, drop, slice_get, Option, Some, is_some}
 use Rattle.std.specs.Option.{ForSome}
 use Rattle.bb_flash.specs.Image.{Image, Torn, touched_pages}
-use Rattle.bb_flash.specs.Device.{Change, Told, Device, content, moment, starts}
+use Rattle.bb_flash.specs.Device.{Change, Told, Device, moment, starts}
 
 -- a cut during one of the calls since a moment may have left this image
 pub record IsTornSince (page : ℕ) (told : Told) (since : ℕ) (image : Image) : Type 0 where
@@ -10,22 +10,24 @@ pub record IsTornSince (page : ℕ) (told : Told) (since : ℕ) (image : Image) 
   pub change : Change
   pub later : since ≤ call
   pub made : slice_get told.changes call ≡ Some change
-  pub torn : Torn page change.before change.at change.len image
+  pub torn : Torn page change.at change.len change.before image
 
 -- a cut since a moment may have left this image: it is what the device holds, or torn from a call since
 abbrev pub Cuts : ℕ → Told → ℕ → Image → Type 0
 Cuts page told since image = (image ≡ told.image) ⊎ IsTornSince page told since image
 
--- P holds of each image that a cut may have left since a device was in the first state, up to the second
-abbrev pub EachImage : Device → Device → (Image → Type 0) → Type 0
-EachImage from to P =
-    ForSome from.told
-    (λ first.
-    ForSome to.told (λ last. (image : Image) → Cuts to.geometry.page last (moment first) image → P image))
+-- R holds between what the device held in the first state and each image that a cut may have left since, up to the
+-- second state
+pub record EachImage (R : Image → Image → Type 0) (from to : Device) : Type 0 where
+  pub each :
+      ForSome from.told
+      (λ first.
+      ForSome to.told
+      (λ last. (image : Image) → Cuts to.geometry.page last (moment first) image → R first.image image))
 
--- each such image stands in a relation to what the device held in the first state
-abbrev pub EachFrom : (Image → Image → Type 0) → Device → Device → Type 0
-EachFrom R from to = EachImage from to (λ image. ForSome (content from) (λ first. R first image))
+-- each such image is torn at most in `len` bytes at a place from what the device held in the first state
+pub record EachTorn (at len : ℕ) (from to : Device) : Type 0 where
+  pub images : EachImage (Torn from.geometry.page at len) from to
 
 -- a region of two images holds the same bytes, in pages of the same health
 pub record IsSameRegion (page at size : ℕ) (before image : Image) : Type 0 where

@@ -72,6 +72,6 @@ pub record SameOutside {X : Type 0} (at len : ℕ) (before after : List X) : Typ
 
 -- what a call may leave that failed, or that a cut fell into, where it touched `len` bytes at a place: there any
 -- bytes and any health of their pages, and all else as before
-pub record Torn (page : ℕ) (before : Image) (at len : ℕ) (image : Image) : Type 0 where
+pub record Torn (page at len : ℕ) (before image : Image) : Type 0 where
   pub bytes : SameOutside at len before.bytes image.bytes
   pub health : SameOutside (at / page) (page_count page at len) before.health image.health

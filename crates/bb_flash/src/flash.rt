@@ -2,7 +2,7 @@ ghost use Rattle.std.specs.Prelude.{◌≡◌, ◌+◌, ◌*◌, ◌<◌, ◌≤
 ghost use Rattle.std.specs.Option.{ForSome};
 ghost use Rattle.bb_base.specs.Faults.{HasCause};
 ghost use Rattle.bb_flash.specs.Calls.{CanErase, CanProgram, ChangesOnly, counted, erased, programmed};
-ghost use Rattle.bb_flash.specs.Cuts.{IsLater};
+ghost use Rattle.bb_flash.specs.Cuts.{EachTorn, IsLater};
 ghost use Rattle.bb_flash.specs.Device.{Device, IsDevice, IsReading, ReadKeeps, content, erases, reads};
 
 use crate::{Geometry, Health};
@@ -40,6 +40,7 @@ pub trait Flash {
         ensures done { OnOk result ((device self.new).told ≡
             option_map (programmed (device self.old).geometry.page at bytes.now) (device self.old).told) }
         ensures changes { ChangesOnly at (length bytes.now) (device self.old) (device self.new) }
+        ensures images { EachTorn at (length bytes.now) (device self.old) (device self.new) }
         ensures erases { erases (device self.new) ≡ erases (device self.old) }
         ensures reads { reads (device self.new) ≡ reads (device self.old) }
         ensures later { IsLater (device self.old) (device self.new) }
@@ -57,6 +58,8 @@ pub trait Flash {
         ensures failed { OnErr result (erases (device self.new) ≡ erases (device self.old)) }
         ensures changes { let geometry = (device self.old).geometry in
             ChangesOnly (block * geometry.block) geometry.block (device self.old) (device self.new) }
+        ensures images { let geometry = (device self.old).geometry in
+            EachTorn (block * geometry.block) geometry.block (device self.old) (device self.new) }
         ensures reads { reads (device self.new) ≡ reads (device self.old) }
         ensures later { IsLater (device self.old) (device self.new) }
         ensures whole { IsDevice (device self.new) }

@@ -80,8 +80,8 @@ impl Log {
         requires bytes { self.old.used + length bytes.now ≤ self.old.most_bytes }
         requires pages { length health.now ≤ length bytes.now }
         ensures { self.new ≡ record self.old {
-            used = self.old.used + length bytes.now;
-            saved = record { at = at; bytes = bytes.now; health = health.now } ∷ self.old.saved;
+          used = self.old.used + length bytes.now;
+          saved = record { at = at; bytes = bytes.now; health = health.now } ∷ self.old.saved;
         } }
     {
         let span = Span {

@@ -75,7 +75,13 @@ impl MemBoard {
     #[tactic(auto, using(crate::proofs::Geometries::whole_pages), unfolding(crate::specs::Saved::history))]
     /// A board that holds these bytes, one for each byte of the geometry's size, in pages that are Fine. It
     /// records at most `calls` flash calls, and at most `room` bytes that they are to write.
-    pub fn of(alloc: Global, geometry: Geometry, bytes: &[u8], calls: u32, room: u32) -> Result<MemBoard, NoMemory>
+    pub fn of(
+        alloc: Global,
+        geometry: Geometry,
+        bytes: &[u8],
+        calls: u32,
+        room: u32,
+    ) -> Result<MemBoard, NoMemory>
         requires bounds { IsGeometry geometry }
         requires whole { length bytes.now ≡ geometry.size }
         ensures { IfOk result (λ board. board ≡ memory.fresh_memory geometry bytes.now calls room) }

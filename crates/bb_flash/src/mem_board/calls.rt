@@ -40,9 +40,8 @@ impl MemBoard {
     fn fail_read(&mut self) -> Failed
         ensures { self.new ≡ memory.read_failed self.old }
     {
-        self.faults = self.faults.saturating_add(1);
         self.read_faults = self.read_faults.saturating_add(1);
-        Failed
+        self.fail()
     }
 
     // A read, exactly.
@@ -63,7 +62,13 @@ impl MemBoard {
             return Err(self.fail_read());
         }
         self.reads += 1;
-        Ok(copy_out(&self.cells.bytes, &self.cells.health, self.geometry.page, at, out))
+        Ok(copy_out(
+            &self.cells.bytes,
+            &self.cells.health,
+            self.geometry.page,
+            at,
+            out,
+        ))
     }
 
     // A program, exactly.
@@ -79,7 +84,14 @@ impl MemBoard {
         }
         self.calls += 1;
         self.was_cut = self.was_cut || cuts(fault);
-        write_call(&mut self.cells, &mut self.log, self.geometry.page, at, bytes, fault);
+        write_call(
+            &mut self.cells,
+            &mut self.log,
+            self.geometry.page,
+            at,
+            bytes,
+            fault,
+        );
         if fault.is_some() {
             return Err(self.fail());
         }
@@ -103,7 +115,14 @@ impl MemBoard {
         self.calls += 1;
         self.was_cut = self.was_cut || cuts(fault);
         let at = block * self.geometry.block;
-        write_call(&mut self.cells, &mut self.log, self.geometry.page, at, &self.blank, fault);
+        write_call(
+            &mut self.cells,
+            &mut self.log,
+            self.geometry.page,
+            at,
+            &self.blank,
+            fault,
+        );
         if fault.is_some() {
             return Err(self.fail());
         }
@@ -129,7 +148,14 @@ fn cuts(fault: Option<Fault>) -> bool
 }
 
 // Saves what a call is about to change, and changes it.
-fn write_call(cells: &mut Cells, log: &mut Log, page: u32, at: u32, bytes: &[u8], fault: Option<Fault>)
+fn write_call(
+    cells: &mut Cells,
+    log: &mut Log,
+    page: u32,
+    at: u32,
+    bytes: &[u8],
+    fault: Option<Fault>,
+)
     requires some { 0 < length bytes.now }
     requires inside { IsInside page cells.old at (length bytes.now) }
     requires calls { length log.old.saved < log.old.most_calls }

@@ -4,6 +4,7 @@ use Rattle.bb_flash.specs.Cuts.{IsLater}
 use Rattle.bb_flash.specs.Device.{IsDevice}
 use Rattle.bb_flash.specs.Memory.{Memory, device_of}
 use Rattle.bb_flash.proofs.Boards.{program_changes, program_later, program_whole}
+use Rattle.bb_flash.proofs.Moments.{torn_of_call}
 use Rattle.bb_flash.proofs.mem_board.MemBoardFlash.program.Goals as goal
 
 pub returns-clause-changes : goal.returns-clause-changes
@@ -20,3 +21,7 @@ pub returns-clause-whole : goal.returns-clause-whole
 returns-clause-whole c =
     subst (λ (m : Memory). IsDevice (device_of m)) (sym c.program_call.ensures.after)
     (program_whole c.args.self.now c.args.at c.args.bytes.now c.program_call.ensures.whole c.requires)
+
+pub returns-clause-images : goal.returns-clause-images
+returns-clause-images c =
+    torn_of_call c.args.at (length c.args.bytes.now) (device_of c.args.self.now) (device_of c.program_call.new.self) (returns-clause-later c) (returns-clause-changes c)

@@ -6,9 +6,9 @@ use Rattle.bb_flash.proofs.Logged.{history-saved}
 use Rattle.bb_flash.proofs.Tearing.{Torn-left_by, pages_inside, touched_pages-some}
 use Rattle.bb_flash.proofs.mem_board.calls.write_call.Goals as goal
 
-torn_call : (c : goal.After-write) → Torn c.args.page c.args.cells.now c.args.at (length c.args.bytes.now) c.write.new.self
+torn_call : (c : goal.After-write) → Torn c.args.page c.args.at (length c.args.bytes.now) c.args.cells.now c.write.new.self
 torn_call c =
-    subst (λ (image : Image). Torn c.args.page c.args.cells.now c.args.at (length c.args.bytes.now) image) (sym c.write.ensures)
+    subst (λ (image : Image). Torn c.args.page c.args.at (length c.args.bytes.now) c.args.cells.now image) (sym c.write.ensures)
     (Torn-left_by c.args.fault c.args.page c.args.cells.now c.args.at c.args.bytes.now c.requires.inside)
 
 pub returns-clause-bytes : goal.returns-clause-bytes

@@ -1,0 +1,37 @@
+-- A device that tells nothing meets what calls promise of its content.
+use Rattle.std.proofs.Common.{◌≡◌, ℕ, ◌≤◌, ◌∙◌, Option, Some, None, ap, sym, refl}
+use Rattle.std.specs.Option.{ForSome, is_some, option_map}
+use Rattle.bb_flash.specs.Calls.{ChangesOnly}
+use Rattle.bb_flash.specs.Cuts.{EachImage, EachTorn, IsLater}
+use Rattle.bb_flash.specs.Device.{Device, IsDevice, Told}
+use Rattle.bb_flash.specs.Geometry.{IsGeometry}
+use Rattle.bb_flash.specs.Image.{Torn}
+
+for_none : {T : Type 0} (o : Option T) (P : T → Type 0) → o ≡ None → ForSome o P
+for_none o P e x f = let none : None ≡ Some x = sym e ∙ f in absurd cc
+
+pub untold_device : (device : Device) → IsGeometry device.geometry → device.told ≡ None → IsDevice device
+untold_device device geometry e = record {
+  geometry = geometry;
+  image = for_none _ _ (ap (λ (o : Option Told). option_map (λ (t : Told). t.image) o) e);
+  erases = for_none _ _ (ap (λ (o : Option Told). option_map (λ (t : Told). t.erases) o) e);
+}
+
+pub untold_changes : (at len : ℕ) (from to : Device) → from.told ≡ None → ChangesOnly at len from to
+untold_changes at len from to e = record { told = for_none _ _ e }
+
+pub untold_images : (at len : ℕ) (from to : Device) → from.told ≡ None → EachTorn at len from to
+untold_images at len from to e = record { images = record { each = for_none _ _ e } }
+
+pub untold_later : (from to : Device) → from.told ≡ None → to.told ≡ None → to.geometry ≡ from.geometry → to.start_faults ≡ from.start_faults → from.faults ≤ to.faults → from.read_faults ≤ to.read_faults → IsLater from to
+untold_later from to e f geometry start_faults faults read_faults = record {
+  geometry = geometry;
+  told = ap is_some f ∙ ap is_some (sym e);
+  starts = ap (λ (o : Option Told). option_map (λ (t : Told). t.starts) o) (f ∙ sym e);
+  start_faults = start_faults;
+  faults = faults;
+  read_faults = read_faults;
+  continued = for_none _ _ e;
+}
+
+pub ruleset untold = (untold_device, untold_changes, untold_images, untold_later)
