@@ -2,7 +2,7 @@ ghost use Rattle.std.specs.Prelude.{◌≡◌, ◌+◌, ◌*◌, ◌<◌, ◌≤
 ghost use Rattle.std.specs.Option.{ForSome};
 ghost use Rattle.bb_base.specs.Faults.{HasCause};
 ghost use Rattle.bb_flash.specs.Calls.{CanErase, CanProgram, ChangesOnly, counted, erased, programmed};
-ghost use Rattle.bb_flash.specs.Cuts.{IsLater};
+ghost use Rattle.bb_flash.specs.Cuts.{EachTorn, IsLater};
 ghost use Rattle.bb_flash.specs.Device.{IsDevice, IsReading, ReadKeeps, content, erases, reads};
 ghost use Rattle.bb_flash.specs.Geometry.{IsGeometry};
 ghost use Rattle.bb_flash.specs.Memory as memory;
@@ -176,15 +176,60 @@ impl Flash for MemBoard {
         self.geometry
     }
 
-    fn read(&mut self, at: u32, out: &mut [u8]) -> Result<Health, Failed> {
+    /// Its answer, and all that it leaves, follow from what the board is before it.
+    fn read(&mut self, at: u32, out: &mut [u8]) -> Result<Health, Failed>
+        requires { at + length out.old ≤ self.old.geometry.size }
+        ensures answer { is_err result ≡ memory.fails_to_read self.old }
+        ensures after { self.new ≡ memory.after_read self.old }
+        ensures done { IfOk result (λ health. ForSome (content (device_of self.old)) (λ image.
+            IsReading self.old.geometry.page image at out.new health)) }
+        ensures keeps { ReadKeeps (device_of self.old) (device_of self.new) }
+        ensures told { (device_of self.new).told ≡ option_map (counted (is_ok result)) (device_of self.old).told }
+        ensures later { IsLater (device_of self.old) (device_of self.new) }
+        ensures whole { IsDevice (device_of self.new) }
+        ensures faults { HasCause self.old.faults self.new.faults (IsErr result) }
+        ensures read_faults { HasCause self.old.read_faults self.new.read_faults (IsErr result) }
+    {
         self.read_call(at, out)
     }
 
-    fn program(&mut self, at: u32, bytes: &[u8]) -> Result<(), Failed> {
+    /// Its answer, and all that it leaves, follow from what the board is before it.
+    fn program(&mut self, at: u32, bytes: &[u8]) -> Result<(), Failed>
+        requires { CanProgram (device_of self.old) at (length bytes.now) }
+        ensures answer { is_err result ≡ memory.fails_to_program self.old (length bytes.now) }
+        ensures after { self.new ≡ memory.after_program at bytes.now self.old }
+        ensures done { OnOk result ((device_of self.new).told ≡
+            option_map (programmed self.old.geometry.page at bytes.now) (device_of self.old).told) }
+        ensures changes { ChangesOnly at (length bytes.now) (device_of self.old) (device_of self.new) }
+        ensures images { EachTorn at (length bytes.now) (device_of self.old) (device_of self.new) }
+        ensures erases { erases (device_of self.new) ≡ erases (device_of self.old) }
+        ensures reads { reads (device_of self.new) ≡ reads (device_of self.old) }
+        ensures later { IsLater (device_of self.old) (device_of self.new) }
+        ensures whole { IsDevice (device_of self.new) }
+        ensures faults { HasCause self.old.faults self.new.faults (IsErr result) }
+        ensures read_faults { self.new.read_faults ≡ self.old.read_faults }
+    {
         self.program_call(at, bytes)
     }
 
-    fn erase(&mut self, block: u32) -> Result<(), Failed> {
+    /// Its answer, and all that it leaves, follow from what the board is before it.
+    fn erase(&mut self, block: u32) -> Result<(), Failed>
+        requires { CanErase self.old.geometry block }
+        ensures answer { is_err result ≡ memory.fails_to_erase self.old block }
+        ensures after { self.new ≡ memory.after_erase block self.old }
+        ensures done { OnOk result ((device_of self.new).told ≡
+            option_map (erased self.old.geometry block) (device_of self.old).told) }
+        ensures failed { OnErr result (erases (device_of self.new) ≡ erases (device_of self.old)) }
+        ensures changes { let size = self.old.geometry.block in
+            ChangesOnly (block * size) size (device_of self.old) (device_of self.new) }
+        ensures images { let size = self.old.geometry.block in
+            EachTorn (block * size) size (device_of self.old) (device_of self.new) }
+        ensures reads { reads (device_of self.new) ≡ reads (device_of self.old) }
+        ensures later { IsLater (device_of self.old) (device_of self.new) }
+        ensures whole { IsDevice (device_of self.new) }
+        ensures faults { HasCause self.old.faults self.new.faults (IsErr result) }
+        ensures read_faults { self.new.read_faults ≡ self.old.read_faults }
+    {
         self.erase_call(block)
     }
 }

@@ -1,5 +1,5 @@
 use crate::{Fault, Fill, Flash, Geometry, Health, MemBoard, geometry_of};
-use bb_base::Failed;
+use bb_base::{Failed, NoMemory};
 use std::test::Fail;
 
 #[test]
@@ -66,5 +66,23 @@ fn a_planned_read_fails(rt: HostRuntime) -> Result<(), Fail> {
     assert_eq!(rt; board.read(0, &mut out), Err(Failed));
     assert_eq!(rt; board.read(1, &mut out), Ok(Health::Fine));
     assert_eq!(rt; out, [2]);
+    Ok(())
+}
+
+fn small(rt: &HostRuntime) -> Result<MemBoard, NoMemory> {
+    let geometry = Geometry {
+        page: 1,
+        block: 0,
+        size: 4,
+    };
+    MemBoard::of(rt.alloc(), geometry, &[1, 2, 3, 4], 9, 9)
+}
+
+#[test]
+fn a_program_writes_its_bytes_alone(rt: HostRuntime) -> Result<(), Fail> {
+    let mut board = small(&rt)?;
+    assert_eq!(rt; board.program(1, &[8, 9]), Ok(()));
+    assert_eq!(rt; board.bytes(), [1, 8, 9, 4].as_slice());
+    assert_eq!(rt; (board.programs(), board.erased()), (1, 0));
     Ok(())
 }

@@ -45,7 +45,7 @@ impl MemBoard {
     }
 
     // A read, exactly.
-    pub fn read_call(&mut self, at: u32, out: &mut [u8]) -> Result<Health, Failed>
+    pub(super) fn read_call(&mut self, at: u32, out: &mut [u8]) -> Result<Health, Failed>
         requires { at + length out.old ≤ self.old.geometry.size }
         ensures answer { is_err result ≡ memory.fails_to_read self.old }
         ensures whole { IsDevice (device_of self.old) }
@@ -72,7 +72,7 @@ impl MemBoard {
     }
 
     // A program, exactly.
-    pub fn program_call(&mut self, at: u32, bytes: &[u8]) -> Result<(), Failed>
+    pub(super) fn program_call(&mut self, at: u32, bytes: &[u8]) -> Result<(), Failed>
         requires { CanProgram (device_of self.old) at (length bytes.now) }
         ensures answer { is_err result ≡ memory.fails_to_program self.old (length bytes.now) }
         ensures whole { IsDevice (device_of self.old) }
@@ -100,7 +100,7 @@ impl MemBoard {
     }
 
     // An erase, exactly.
-    pub fn erase_call(&mut self, block: u32) -> Result<(), Failed>
+    pub(super) fn erase_call(&mut self, block: u32) -> Result<(), Failed>
         requires { CanErase self.old.geometry block }
         ensures answer { is_err result ≡ memory.fails_to_erase self.old block }
         ensures whole { IsDevice (device_of self.old) }
