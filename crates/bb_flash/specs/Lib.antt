@@ -8,3 +8,4 @@ pub mod Geometry
 pub mod Image
 pub mod Saved
 pub mod Memory
+pub mod Small

@@ -1,3 +1,6 @@
+ghost use Rattle.std.specs.Prelude.{◌≡◌, ◌<◌, IfOk};
+ghost use Rattle.bb_flash.specs.Small.{IsSmall};
+
 use crate::{Fault, Fill, Flash, Geometry, Health, MemBoard, geometry_of};
 use bb_base::{Failed, NoMemory};
 use std::test::Fail;
@@ -32,44 +35,10 @@ fn other_words_spell_none(rt: HostRuntime) {
     assert_eq!(rt; geometry_of("nand:192"), None);
 }
 
-#[test]
-fn a_read_gives_the_bytes_and_the_worst_health(rt: HostRuntime) -> Result<(), Fail> {
-    let geometry = Geometry {
-        page: 1,
-        block: 0,
-        size: 4,
-    };
-    let mut board = MemBoard::of(rt.alloc(), geometry, &[1, 2, 3, 4], 9, 9)?;
-    board.set_health(2, Health::Worn);
-    board.set_health(3, Health::Lost);
-    let mut out = [0; 2];
-    assert_eq!(rt; board.read(0, &mut out), Ok(Health::Fine));
-    assert_eq!(rt; out, [1, 2]);
-    assert_eq!(rt; board.read(1, &mut out), Ok(Health::Worn));
-    assert_eq!(rt; out, [2, 3]);
-    assert_eq!(rt; board.read(2, &mut out), Ok(Health::Lost));
-    assert_eq!(rt; board.bytes(), [1, 2, 3, 4].as_slice());
-    Ok(())
-}
-
-#[test]
-fn a_planned_read_fails(rt: HostRuntime) -> Result<(), Fail> {
-    let geometry = Geometry {
-        page: 1,
-        block: 0,
-        size: 2,
-    };
-    let mut board = MemBoard::of(rt.alloc(), geometry, &[1, 2], 9, 9)?;
-    board.plan_fault(1, Fault::Fail(Fill::Junk))?;
-    let mut out = [0; 1];
-    assert_eq!(rt; board.read(0, &mut out), Ok(Health::Fine));
-    assert_eq!(rt; board.read(0, &mut out), Err(Failed));
-    assert_eq!(rt; board.read(1, &mut out), Ok(Health::Fine));
-    assert_eq!(rt; out, [2]);
-    Ok(())
-}
-
-fn small(rt: &HostRuntime) -> Result<MemBoard, NoMemory> {
+// A board of four bytes that is overwritten in place.
+fn small(rt: &HostRuntime) -> Result<MemBoard, NoMemory>
+    ensures { IfOk result (λ board. IsSmall board.geometry) }
+{
     let geometry = Geometry {
         page: 1,
         block: 0,
@@ -78,11 +47,90 @@ fn small(rt: &HostRuntime) -> Result<MemBoard, NoMemory> {
     MemBoard::of(rt.alloc(), geometry, &[1, 2, 3, 4], 9, 9)
 }
 
+fn get(board: &mut MemBoard, at: u32) -> (Result<Health, Failed>, u8)
+    requires small { IsSmall board.old.geometry }
+    requires inside { at < 4 }
+    ensures { IsSmall board.new.geometry }
+{
+    let mut out = [0; 1];
+    let answer = board.read(at, &mut out);
+    (answer, out[0])
+}
+
+fn put(board: &mut MemBoard, at: u32, byte: u8) -> Result<(), Failed>
+    requires small { IsSmall board.old.geometry }
+    requires inside { at < 4 }
+    ensures { IsSmall board.new.geometry }
+{
+    board.program(at, &[byte])
+}
+
+#[test]
+fn a_read_gives_the_byte_and_the_health_of_its_page(rt: HostRuntime) -> Result<(), Fail> {
+    let mut board = small(&rt)?;
+    board.set_health(3, Health::Worn);
+    assert_eq!(rt; get(&mut board, 1), (Ok(Health::Fine), 2));
+    assert_eq!(rt; get(&mut board, 3), (Ok(Health::Worn), 4));
+    Ok(())
+}
+
+#[test]
+fn a_planned_read_fails(rt: HostRuntime) -> Result<(), Fail> {
+    let mut board = small(&rt)?;
+    board.plan_fault(1, Fault::Fail(Fill::Junk))?;
+    assert_eq!(rt; get(&mut board, 0).0, Ok(Health::Fine));
+    assert_eq!(rt; get(&mut board, 0).0, Err(Failed));
+    assert_eq!(rt; get(&mut board, 0).0, Ok(Health::Fine));
+    Ok(())
+}
+
 #[test]
 fn a_program_writes_its_bytes_alone(rt: HostRuntime) -> Result<(), Fail> {
     let mut board = small(&rt)?;
-    assert_eq!(rt; board.program(1, &[8, 9]), Ok(()));
-    assert_eq!(rt; board.bytes(), [1, 8, 9, 4].as_slice());
+    assert_eq!(rt; put(&mut board, 1, 9), Ok(()));
+    assert_eq!(rt; board.bytes(), [1, 9, 3, 4].as_slice());
     assert_eq!(rt; (board.programs(), board.erased()), (1, 0));
+    Ok(())
+}
+
+#[test]
+fn a_failed_program_leaves_its_filling(rt: HostRuntime) -> Result<(), Fail> {
+    let mut board = small(&rt)?;
+    board.plan_fault(0, Fault::Fail(Fill::Half))?;
+    board.plan_fault(1, Fault::Fail(Fill::Junk))?;
+    board.plan_fault(2, Fault::Fail(Fill::Lost))?;
+    assert_eq!(rt; put(&mut board, 0, 9), Err(Failed));
+    assert_eq!(rt; put(&mut board, 1, 9), Err(Failed));
+    assert_eq!(rt; put(&mut board, 2, 9), Err(Failed));
+    assert_eq!(rt; board.bytes(), [1, 0xA5, 3, 4].as_slice());
+    assert_eq!(rt; get(&mut board, 2).0, Ok(Health::Lost));
+    Ok(())
+}
+
+#[test]
+fn a_cut_lasts_until_a_restart(rt: HostRuntime) -> Result<(), Fail> {
+    let mut board = small(&rt)?;
+    board.plan_fault(0, Fault::Cut(Fill::Old))?;
+    assert_eq!(rt; put(&mut board, 0, 9), Err(Failed));
+    assert_eq!(rt; put(&mut board, 1, 9), Err(Failed));
+    assert!(rt; board.was_cut());
+    board.restart();
+    assert_eq!(rt; put(&mut board, 1, 9), Ok(()));
+    assert_eq!(rt; board.bytes(), [1, 9, 3, 4].as_slice());
+    Ok(())
+}
+
+#[test]
+fn an_erase_blanks_its_block(rt: HostRuntime) -> Result<(), Fail> {
+    let geometry = Geometry {
+        page: 16,
+        block: 32,
+        size: 64,
+    };
+    let mut board = MemBoard::of(rt.alloc(), geometry, &[0; 64], 9, 99)?;
+    let mut expected = [0; 64];
+    expected[32..].fill(255);
+    assert_eq!(rt; board.erase(1), Ok(()));
+    assert_eq!(rt; board.bytes(), expected.as_slice());
     Ok(())
 }
