@@ -1,5 +1,5 @@
 -- What the calls of a board in memory mean for it as a flash device.
-use Rattle.std.proofs.Common.{◌≡◌, ℕ, zero, suc, ◌+◌, ◌*◌, ◌/◌, ◌<◌, ◌≤◌, ◌∙◌, Bool, true, false, List, [], ◌∷◌, ◌++◌, length, take, replicate, Option, Some, None, cond, ap, sym, subst, arith, refl, inl, inr, ◌⊎◌}
+use Rattle.std.proofs.Common.{◌≡◌, ℕ, ◌+◌, ◌*◌, ◌/◌, ◌≤◌, ◌∙◌, Bool, true, false, List, [], ◌∷◌, ◌++◌, length, take, replicate, Option, Some, None, cond, ap, sym, subst, arith, refl, inl, inr, ◌⊎◌}
 use Rattle.std.specs.Prelude.{slice_index}
 use Rattle.std.specs.Option.{ForSome}
 use Rattle.std.proofs.lemmas.Grind.{common_steps}
@@ -12,9 +12,8 @@ use Rattle.bb_flash.specs.Geometry.{IsGeometry}
 use Rattle.bb_flash.specs.Calls.{CanErase, CanProgram, ChangesOnly, IsTornBy, IsUntouched}
 use Rattle.bb_flash.specs.Cuts.{IsContinued, IsLater}
 use Rattle.bb_flash.specs.Device.{Change, IsDevice, Told, moment}
-use Rattle.bb_flash.specs.Filled.{left_by}
-use Rattle.bb_flash.specs.Image.{Image, IsImageOf, IsInside, Torn}
-use Rattle.bb_flash.specs.Memory.{Memory, after_erase, after_program, after_read, blanked, count_up, device_of, erase_by, failed, fault_of, is_erase_refused, is_full, is_program_refused, is_read_refused, program_by, read_by, read_failed, written}
+use Rattle.bb_flash.specs.Image.{IsImageOf, IsInside}
+use Rattle.bb_flash.specs.Memory.{Memory, after_erase, after_program, after_read, blanked, count_up, device_of, erase_by, failed, fault_of, is_erase_refused, is_program_refused, is_read_refused, program_by, read_by, read_failed, written}
 use Rattle.bb_flash.proofs.Tearing.{Torn-left_by}
 
 for_some : {T : Type 0} (P : T → Type 0) (x : T) → P x → ForSome (Some x) P

@@ -1,11 +1,10 @@
 -- The record of a board in memory, as it grows by a call.
-use Rattle.std.proofs.Common.{◌≡◌, ℕ, suc, ◌+◌, ◌-◌, ◌/◌, ◌≤◌, ◌∙◌, List, [], ◌∷◌, ◌++◌, length, take, drop, reverse, ap, sym, arith, refl, length-append}
+use Rattle.std.proofs.Common.{◌≡◌, ℕ, suc, ◌+◌, ◌-◌, ◌/◌, ◌≤◌, ◌∙◌, List, [], ◌∷◌, ◌++◌, length, take, drop, reverse, ap, arith, refl, length-append}
 use Rattle.std.proofs.lemmas.Grind.{common_steps}
 use Rattle.std.proofs.lemmas.List.{take_at, drop_at}
 use Rattle.bb_flash.specs.declared.health.Health.{Health}
 use Rattle.bb_flash.specs.declared.log.Span.{Span}
 use Rattle.bb_flash.specs.Saved.{Saved, saved_of, history, restored}
-use Rattle.bb_flash.specs.Device.{Change}
 use Rattle.bb_flash.specs.Image.{Image, Torn, overwritten, page_count}
 use Rattle.bb_flash.proofs.Overwrites.{overwritten_back}
 

@@ -1,11 +1,10 @@
 -- A device that tells nothing meets what calls promise of its content.
-use Rattle.std.proofs.Common.{◌≡◌, ℕ, ◌≤◌, ◌∙◌, Option, Some, None, ap, sym, refl}
+use Rattle.std.proofs.Common.{◌≡◌, ℕ, ◌≤◌, ◌∙◌, Option, Some, None, ap, sym}
 use Rattle.std.specs.Option.{ForSome, is_some, option_map}
 use Rattle.bb_flash.specs.Calls.{ChangesOnly}
-use Rattle.bb_flash.specs.Cuts.{EachImage, EachTorn, IsLater}
+use Rattle.bb_flash.specs.Cuts.{EachTorn, IsLater}
 use Rattle.bb_flash.specs.Device.{Device, IsDevice, Told}
 use Rattle.bb_flash.specs.Geometry.{IsGeometry}
-use Rattle.bb_flash.specs.Image.{Torn}
 
 for_none : {T : Type 0} (o : Option T) (P : T → Type 0) → o ≡ None → ForSome o P
 for_none o P e x f = let none : None ≡ Some x = sym e ∙ f in absurd cc

@@ -1,10 +1,10 @@
 -- What each call of a flash leaves of what the device tells.
-use Rattle.std.specs.Prelude.{◌≡◌, ℕ, ◌+◌, ◌*◌, ◌/◌, ◌<◌, ◌≤◌, ◌%◌, ◌⊎◌, Bool, List, [], ◌∷◌, ◌++◌, length, replicate, slice_index, slice_set, Option, if◌then◌else◌}
+use Rattle.std.specs.Prelude.{◌≡◌, ℕ, ◌+◌, ◌*◌, ◌/◌, ◌<◌, ◌≤◌, ◌%◌, ◌⊎◌, Bool, List, [], ◌∷◌, ◌++◌, length, replicate, slice_index, slice_set, if◌then◌else◌}
 use Rattle.std.specs.Option.{ForSome}
 use Rattle.bb_flash.specs.declared.geometry.Geometry.{Geometry}
 use Rattle.bb_flash.specs.declared.health.Health.TheVariants.{Fine}
 use Rattle.bb_flash.specs.Image.{Image, IsBlank, Torn, with_bytes}
-use Rattle.bb_flash.specs.Device.{Change, Told, Device, content}
+use Rattle.bb_flash.specs.Device.{Told, Device, content}
 
 -- after a read: it counts where it answered Ok
 abbrev pub counted : Bool → Told → Told

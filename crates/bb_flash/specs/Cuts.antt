@@ -1,5 +1,5 @@
 -- What a power cut may leave on a device, at any moment of the calls made on it.
-use Rattle.std.specs.Prelude.{◌≡◌, ℕ, ◌≤◌, ◌⊎◌, List, take, drop, slice_get, Option, Some, is_some}
+use Rattle.std.specs.Prelude.{◌≡◌, ℕ, ◌≤◌, ◌⊎◌, take, drop, slice_get, Some, is_some}
 use Rattle.std.specs.Option.{ForSome}
 use Rattle.bb_flash.specs.Image.{Image, Torn, touched_pages}
 use Rattle.bb_flash.specs.Device.{Change, Told, Device, moment, starts}

@@ -8,4 +8,3 @@ pub mod Geometry
 pub mod Image
 pub mod Saved
 pub mod Memory
-pub mod Small

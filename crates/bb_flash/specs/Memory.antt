@@ -1,11 +1,9 @@
 -- A board in memory as contracts see it.
-use Rattle.std.specs.Prelude.{◌≡◌, ℕ, ◌+◌, ◌-◌, ◌*◌, ◌/◌, ◌^◌, ◌<◌, ◌≤◌, ◌==◌, ◌&&◌, ◌||◌, Bool, true, false, nat_le, nat_lt, min, List, [], ◌∷◌, length, take, find, replicate, Option, Some, None, option_map, is_some, is_none, slice_index, slice_set, if◌then◌else◌}
+use Rattle.std.specs.Prelude.{ℕ, ◌+◌, ◌-◌, ◌*◌, ◌/◌, ◌^◌, ◌<◌, ◌≤◌, ◌==◌, ◌&&◌, ◌||◌, Bool, true, false, nat_le, nat_lt, List, [], length, find, replicate, Option, Some, None, option_map, is_some, is_none, slice_index, slice_set, if◌then◌else◌}
 use Rattle.bb_flash.specs.declared.geometry.Geometry.{Geometry}
 use Rattle.bb_flash.specs.declared.health.Health.{Health}
 use Rattle.bb_flash.specs.declared.health.Health.TheVariants.{Fine}
 use Rattle.bb_flash.specs.declared.fault.Fault.{Fault}
-use Rattle.bb_flash.specs.Geometry.{IsGeometry}
-use Rattle.bb_flash.specs.Image.{Image, IsImageOf}
 use Rattle.bb_flash.specs.Device.{Device, Told}
 use Rattle.bb_flash.specs.Calls.{changed, counted, erase_counted}
 use Rattle.bb_flash.specs.Filled.{is_cut, left_by}

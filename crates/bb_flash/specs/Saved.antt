@@ -1,5 +1,5 @@
 -- The record that a board in memory keeps of the calls that changed it: for each what stood in its range before.
-use Rattle.std.specs.Prelude.{◌≡◌, ℕ, ◌+◌, ◌-◌, ◌/◌, ◌≤◌, List, replicate, [], ◌∷◌, ◌++◌, length, take, drop}
+use Rattle.std.specs.Prelude.{◌≡◌, ℕ, ◌-◌, ◌/◌, ◌≤◌, List, replicate, [], ◌∷◌, ◌++◌, length, take, drop}
 use Rattle.bb_flash.specs.declared.health.Health.{Health}
 use Rattle.bb_flash.specs.declared.log.Span.{Span}
 use Rattle.bb_flash.specs.declared.geometry.Geometry.{Geometry}

@@ -1,5 +1,4 @@
 ghost use Rattle.std.specs.Prelude.{◌≡◌, ◌<◌, IfOk};
-ghost use Rattle.bb_flash.specs.Small.{IsSmall};
 
 use crate::{Fault, Fill, Flash, Geometry, Health, MemBoard, geometry_of};
 use bb_base::{Failed, NoMemory};
@@ -37,7 +36,7 @@ fn other_words_spell_none(rt: HostRuntime) {
 
 // A board of four bytes that is overwritten in place.
 fn small(rt: &HostRuntime) -> Result<MemBoard, NoMemory>
-    ensures { IfOk result (λ board. IsSmall board.geometry) }
+    ensures { IfOk result (λ board. board.geometry ≡ record { page = 1; block = 0; size = 4 }) }
 {
     let geometry = Geometry {
         page: 1,
@@ -48,9 +47,9 @@ fn small(rt: &HostRuntime) -> Result<MemBoard, NoMemory>
 }
 
 fn get(board: &mut MemBoard, at: u32) -> (Result<Health, Failed>, u8)
-    requires small { IsSmall board.old.geometry }
+    requires small { board.old.geometry ≡ record { page = 1; block = 0; size = 4 } }
     requires inside { at < 4 }
-    ensures { IsSmall board.new.geometry }
+    ensures { board.new.geometry ≡ board.old.geometry }
 {
     let mut out = [0; 1];
     let answer = board.read(at, &mut out);
@@ -58,9 +57,9 @@ fn get(board: &mut MemBoard, at: u32) -> (Result<Health, Failed>, u8)
 }
 
 fn put(board: &mut MemBoard, at: u32, byte: u8) -> Result<(), Failed>
-    requires small { IsSmall board.old.geometry }
+    requires small { board.old.geometry ≡ record { page = 1; block = 0; size = 4 } }
     requires inside { at < 4 }
-    ensures { IsSmall board.new.geometry }
+    ensures { board.new.geometry ≡ board.old.geometry }
 {
     board.program(at, &[byte])
 }

@@ -1,9 +1,9 @@
-use Rattle.std.proofs.Common.{◌≡◌, ℕ, List, ◌<◌, ◌≤◌, ◌+◌, ◌∙◌, ◌∷◌, [], ◌++◌, cond, length, reverse, arith, ap, sym, refl, length-append}
+use Rattle.std.proofs.Common.{◌≡◌, ℕ, List, ◌+◌, ◌∙◌, ◌∷◌, [], ◌++◌, cond, length, reverse, arith, ap, length-append}
 use Rattle.std.proofs.lemmas.Grind.{common_steps}
 use Rattle.std.proofs.lemmas.List.{length-reverse}
-use Rattle.std.specs.Vec.{vec_len, vec_capacity}
+use Rattle.std.specs.Vec.{vec_len}
 use Rattle.bb_flash.specs.Saved.{Saved, Record, saved_of}
-use Rattle.std.specs.Result.{IsOk, is_ok}
+use Rattle.std.specs.Result.{IsOk}
 use Rattle.bb_flash.proofs.Logged.{saved_of-more, length-saved_of}
 use Rattle.bb_flash.proofs.log.Log.save.Goals as goal
 

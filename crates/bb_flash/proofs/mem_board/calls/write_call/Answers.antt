@@ -1,6 +1,5 @@
-use Rattle.std.proofs.Common.{◌≡◌, ℕ, ◌+◌, ◌-◌, ◌/◌, ◌≤◌, ◌∙◌, ◌∷◌, [], ◌++◌, length, take, drop, arith, ap, sym, subst, refl}
-use Rattle.std.proofs.lemmas.Grind.{common_steps}
-use Rattle.bb_flash.specs.Image.{Image, page_count, touched_pages, Torn}
+use Rattle.std.proofs.Common.{◌≡◌, ◌+◌, ◌-◌, ◌∙◌, length, take, drop, arith, ap, sym, subst}
+use Rattle.bb_flash.specs.Image.{Image, touched_pages, Torn}
 use Rattle.bb_flash.specs.Saved.{history}
 use Rattle.bb_flash.proofs.Logged.{history-saved}
 use Rattle.bb_flash.proofs.Tearing.{Torn-left_by, pages_inside, touched_pages-some}
