@@ -1,3 +1,4 @@
 -- Definitions that contracts cite.
 pub use Rattle.bb_base.specs.Form
+pub mod Laws
 pub mod Raw

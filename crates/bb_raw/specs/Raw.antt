@@ -8,7 +8,7 @@
 --   8 to 11   data_crc     CRC-32 of the area
 --   12 to 15  header_crc   CRC-32 of bytes 0 to 11
 --   16 on     the area
-use Rattle.std.specs.Prelude.{ℕ, ◌+◌, ◌==◌, Bool, ◌&&◌, List, ◌++◌, length, take, drop, nat_le, Option, Some, None, if◌then◌else◌}
+use Rattle.std.specs.Prelude.{ℕ, ◌+◌, ◌%◌, ◌^◌, ◌==◌, Bool, ◌&&◌, List, ◌++◌, length, take, drop, nat_le, Option, Some, None, if◌then◌else◌}
 use Rattle.byteorder.specs.Endian.{little_number, little_bytes}
 use Rattle.bb_base.specs.Crc.{crc_of}
 use Rattle.bb_base.specs.Form.{Form}
@@ -18,9 +18,10 @@ pub record Kind : Type 0 where
   pub magic : ℕ
   pub area_len : ℕ
 
--- the number of `len` bytes that stands at a place
-abbrev pub field : ℕ → ℕ → List ℕ → ℕ
-field len at bytes = little_number len (drop at bytes)
+-- At a place stand the `len` low bytes of a number. These are all of it: a magic and a CRC have 32 bits, and an
+-- area's length 16.
+abbrev pub has_field : ℕ → ℕ → ℕ → List ℕ → Bool
+has_field len at number bytes = little_number len (drop at bytes) == number % 256 ^ len
 
 abbrev pub area_of : ℕ → List ℕ → List ℕ
 area_of area_len bytes = take area_len (drop 16 bytes)
@@ -36,12 +37,12 @@ raw_text magic area = header_text magic area ++ little_bytes 4 (crc_of (header_t
 -- the header is of this kind, and its check holds
 abbrev pub header_agrees : ℕ → ℕ → List ℕ → Bool
 header_agrees magic area_len bytes =
-    field 4 0 bytes == magic && field 2 6 bytes == area_len && field 4 12 bytes == crc_of (take 12 bytes)
+    has_field 4 0 magic bytes && has_field 2 6 area_len bytes && has_field 4 12 (crc_of (take 12 bytes)) bytes
 
 -- there is a whole record of this kind, and its checks hold
 abbrev pub raw_agrees : ℕ → ℕ → List ℕ → Bool
 raw_agrees magic area_len bytes =
-    nat_le (16 + area_len) (length bytes) && header_agrees magic area_len bytes && field 4 8 bytes == crc_of (area_of area_len bytes)
+    nat_le (16 + area_len) (length bytes) && header_agrees magic area_len bytes && has_field 4 8 (crc_of (area_of area_len bytes)) bytes
 
 -- the area that bytes pass as, if they do; what follows the record doesn't count
 abbrev pub raw_passes : ℕ → ℕ → List ℕ → Option (List ℕ)
@@ -51,5 +52,7 @@ abbrev pub raw_form : Kind → Form
 raw_form kind = record {
   area_len = kind.area_len;
   length = 16 + kind.area_len;
+  fits = λ area. length area == kind.area_len;
+  text = raw_text kind.magic;
   passes = raw_passes kind.magic kind.area_len;
 }

@@ -1,5 +1,6 @@
-ghost use Rattle.std.specs.Prelude.{◌≡◌, ◌≤◌, ◌+◌, length};
-ghost use Rattle.bb_raw.specs.Raw.{header_agrees, raw_agrees, raw_form};
+ghost use Rattle.std.specs.Prelude.{◌≡◌, ◌≤◌, ◌+◌, ◌++◌, drop, length};
+ghost use Rattle.bb_raw.specs.Raw.{header_agrees, header_text, raw_agrees, raw_form};
+ghost use Rattle.bb_raw.specs.Laws.{raw_laws};
 
 use bb_base::{Format, crc32};
 use byteorder::{ByteOrder, LittleEndian};
@@ -49,7 +50,8 @@ impl Raw {
 }
 
 fn header_passes(bytes: &[u8], magic: u32, area_len: u32) -> bool
-    requires { 16 ≤ length bytes.now }
+    requires whole { 16 ≤ length bytes.now }
+    requires small { area_len ≤ 65535 }
     ensures { result ≡ header_agrees magic area_len bytes.now }
 {
     LittleEndian::read_u32(bytes) == magic
@@ -57,8 +59,22 @@ fn header_passes(bytes: &[u8], magic: u32, area_len: u32) -> bool
         && LittleEndian::read_u32(&bytes[12..]) == crc32(&bytes[..12])
 }
 
+// Writes bytes 0 to 11 of a record, those that the header's CRC is of.
+fn write_checked_fields(magic: u32, area: &[u8], out: &mut [u8])
+    requires small { length area.now ≤ 65535 }
+    requires room { 12 ≤ length out.old }
+    ensures { out.new ≡ header_text magic area.now ++ drop 12 out.old }
+{
+    LittleEndian::write_u32(out, magic);
+    LittleEndian::write_u16(&mut out[4..], 0);
+    LittleEndian::write_u16(&mut out[6..], area.len() as u16);
+    LittleEndian::write_u32(&mut out[8..], crc32(area));
+}
+
 impl Format for Raw {
     ghost form = { raw_form };
+
+    ghost laws = { raw_laws };
 
     fn area_len(&self) -> usize {
         self.area_len as usize
@@ -66,6 +82,13 @@ impl Format for Raw {
 
     fn length(&self) -> usize {
         HEADER_LEN + self.area_len as usize
+    }
+
+    fn pack(&self, area: &[u8], out: &mut [u8]) {
+        write_checked_fields(self.magic, area, out);
+        let header_crc = crc32(&out[..12]);
+        LittleEndian::write_u32(&mut out[12..], header_crc);
+        out[HEADER_LEN..].copy_from_slice(area);
     }
 
     fn check(&self, bytes: &[u8], area: &mut [u8]) -> bool {

@@ -16,6 +16,13 @@ fn the_worked_record_passes(rt: HostRuntime) {
 }
 
 #[test]
+fn the_worked_area_is_packed(rt: HostRuntime) {
+    let mut out = [0xFFu8; 25];
+    Raw::of(0x1234_5678, 9).pack(b"123456789", &mut out);
+    assert_eq!(rt; out, RECORD);
+}
+
+#[test]
 fn damaged_records_pass_nothing(rt: HostRuntime) {
     let raw = Raw::of(0x1234_5678, 9);
     let mut area = [0u8; 9];
