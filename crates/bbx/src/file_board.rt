@@ -72,10 +72,15 @@ fn fill_up(file: &mut File, size: u64) -> io::Result<()> {
         return Ok(());
     }
     file.seek(SeekFrom::Start(len))?;
-    for _ in 0..missing / FILLING_LEN {
+    fill(file, missing)
+}
+
+// Writes `len` bytes of 0xFF where the file stands.
+fn fill(file: &mut File, len: u64) -> io::Result<()> {
+    for _ in 0..len / FILLING_LEN {
         file.write_all(&FILLING)?;
     }
-    file.write_all(&FILLING[..(missing % FILLING_LEN) as usize])
+    file.write_all(&FILLING[..(len % FILLING_LEN) as usize])
 }
 
 impl Flash for FileBoard {
@@ -94,6 +99,36 @@ impl Flash for FileBoard {
         }
         Ok(Health::Fine)
     }
+
+    fn program(&mut self, at: u32, bytes: &[u8]) -> Result<(), Failed> {
+        if write_through(&mut self.file, u64::from(at), bytes).is_err() {
+            self.faults = self.faults.saturating_add(1);
+            return Err(Failed);
+        }
+        Ok(())
+    }
+
+    fn erase(&mut self, block: u32) -> Result<(), Failed> {
+        let len = u64::from(self.geometry.block);
+        if blank_through(&mut self.file, u64::from(block) * len, len).is_err() {
+            self.faults = self.faults.saturating_add(1);
+            return Err(Failed);
+        }
+        Ok(())
+    }
+}
+
+// Writes the bytes, and waits until they are on the disk.
+fn write_through(file: &mut File, at: u64, bytes: &[u8]) -> io::Result<()> {
+    file.write_all_at(bytes, at)?;
+    file.sync_data()
+}
+
+// Fills a range with 0xFF, and waits until it is on the disk.
+fn blank_through(file: &mut File, at: u64, len: u64) -> io::Result<()> {
+    file.seek(SeekFrom::Start(at))?;
+    fill(file, len)?;
+    file.sync_data()
 }
 
 impl Board for FileBoard {}
