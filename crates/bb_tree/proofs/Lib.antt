@@ -1,0 +1,17 @@
+pub mod Spine
+pub mod Merging
+pub mod Naming
+pub mod Changing
+pub mod Bodies
+pub mod Nodes
+pub mod Finding
+pub mod Preorder
+pub mod Below
+pub mod Cells
+pub mod Writing
+pub mod Surveying
+pub mod Takings
+pub mod Numbering
+pub mod Numbered
+pub mod Resolving
+pub mod Counting

@@ -1,0 +1,43 @@
+//! Devicetrees as values: the finished tree that layouts are read from, and the draft that a reader of source
+//! builds. Readers, writers and the layout know it; it knows no text format.
+#![tactic(auto)]
+
+mod draft;
+mod draft_node;
+mod draft_prop;
+mod draft_prop_list;
+mod find;
+mod merge;
+mod node;
+mod order;
+mod pair_list;
+mod part;
+mod part_list;
+mod phandle;
+mod place;
+mod prop;
+mod prop_list;
+mod resolve;
+mod slot;
+mod survey;
+mod taken;
+mod tree;
+mod tree_error;
+mod value;
+mod write;
+
+pub use draft::Draft;
+pub use draft_node::{DraftNode, DraftNodeList};
+pub use draft_prop::DraftProp;
+pub use draft_prop_list::DraftPropList;
+pub use node::{Node, NodeList};
+pub use pair_list::PairList;
+pub use part::Part;
+pub use part_list::PartList;
+pub use prop::Prop;
+pub use prop_list::PropList;
+pub use tree::Tree;
+pub use tree_error::TreeError;
+
+#[cfg(test)]
+mod tests;

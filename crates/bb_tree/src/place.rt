@@ -1,0 +1,106 @@
+ghost use Rattle.std.specs.Prelude.{◌≡◌, ◌<◌, ◌==◌, OnOk, IfOk, vec_len};
+ghost use Rattle.std.specs.List.{slice_split};
+ghost use Rattle.std.specs.Map.{lookup};
+ghost use Rattle.std.specs.Option.{option_and_then};
+ghost use Rattle.std.specs.Str.{bytes_eq};
+ghost use Rattle.bb_tree.specs.Paths.{names_of, names_behind};
+ghost use Rattle.bb_tree.specs.Slots.{IsSound, IsRooted, Changes, HasChild, spine, table_at, with_prop};
+ghost use Rattle.bb_tree.specs.Spine.{walk};
+
+use crate::DraftProp;
+use crate::slot::Slot;
+use bb_base::{NoMemory, Text};
+use indexmap::IndexMap;
+use std::alloc::Global;
+
+/// A slot for the root, where there is none yet.
+pub(crate) fn with_root(alloc: Global, slots: &mut Vec<Slot>) -> Result<(), NoMemory>
+    requires { IsSound slots.old.items }
+    ensures { OnOk result (IsRooted slots.old.items slots.new.items) }
+{
+    if slots.is_empty() {
+        slots.push(Slot {
+            parent: 0,
+            name: Text::of(alloc, "")?,
+            props: IndexMap::new(alloc),
+            nodes: IndexMap::new(alloc),
+        })?;
+    }
+    Ok(())
+}
+
+/// Puts a property into the node at `k`.
+pub(crate) fn put_prop(
+    alloc: Global,
+    slots: &mut Vec<Slot>,
+    k: usize,
+    prop: DraftProp,
+) -> Result<(), NoMemory>
+    requires within { k < vec_len slots.old }
+    requires sound { IsSound slots.old.items }
+    ensures { OnOk result (Changes k (with_prop prop.name prop.parts) slots.old.items slots.new.items) }
+{
+    let DraftProp { name, parts } = prop;
+    let key = String::from_str(alloc, name.as_str())?;
+    let slot = &mut slots[k];
+    let _ = slot.props.insert(key, parts)?;
+    Ok(())
+}
+
+/// Where the node of that name in the node at `k` is.
+pub(crate) fn child_at(slots: &[Slot], k: usize, name: &str) -> Option<usize>
+    ensures { result ≡ lookup (bytes_eq name.now) (table_at slots.now k) }
+{
+    slots.get(k)?.nodes.get(name).copied()
+}
+
+/// Where the node of that name in the node at `k` is, last in it where it is new.
+pub(crate) fn child_or_new(
+    alloc: Global,
+    slots: &mut Vec<Slot>,
+    k: usize,
+    name: Text,
+) -> Result<usize, NoMemory>
+    requires within { k < vec_len slots.old }
+    requires sound { IsSound slots.old.items }
+    ensures { IfOk result (λ c. HasChild k c name slots.old.items slots.new.items) }
+{
+    if let Some(c) = child_at(slots, k, name.as_str()) {
+        return Ok(c);
+    }
+    let key = String::from_str(alloc, name.as_str())?;
+    let at = slots.len();
+    slots.push(Slot {
+        parent: k,
+        name,
+        props: IndexMap::new(alloc),
+        nodes: IndexMap::new(alloc),
+    })?;
+    let slot = &mut slots[k];
+    let _ = slot.nodes.insert(key, at)?;
+    Ok(at)
+}
+
+/// Where the node at a path is.
+pub(crate) fn slot_at(slots: &[Slot], path: &str) -> Option<usize>
+    requires { IsSound slots.now }
+    ensures { result ≡ option_and_then (walk 1 (spine slots.now) 0) (names_of path.now) }
+{
+    let names = path.strip_prefix('/')?;
+    if names.is_empty() {
+        return Some(0);
+    }
+    slot_behind(slots, names)
+}
+
+// The names stand between slashes.
+fn slot_behind(slots: &[Slot], names: &str) -> Option<usize>
+    requires { IsSound slots.now }
+    ensures { result ≡ walk 1 (spine slots.now) 0 (slice_split (λ b. b == 47) names.now) }
+{
+    let mut k = 0;
+    for name in names.split('/') {
+        k = child_at(slots, k, name)?;
+    }
+    Some(k)
+}

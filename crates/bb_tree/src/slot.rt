@@ -1,0 +1,14 @@
+use crate::PartList;
+use bb_base::Text;
+use indexmap::IndexMap;
+
+/// A node of a draft in the list of all its nodes, each behind the node that it stands in. The first is the root.
+#[derive(Drop)]
+pub(crate) struct Slot {
+    /// Where the node that it stands in is in the list.
+    pub parent: usize,
+    pub name: Text,
+    pub props: IndexMap<String, PartList>,
+    /// The names of the nodes in it, and where each is in the list.
+    pub nodes: IndexMap<String, usize>,
+}

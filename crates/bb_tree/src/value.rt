@@ -1,0 +1,142 @@
+ghost use Rattle.std.specs.Prelude.{◌≡◌, ◌++◌, [], IfOk, unwrap_or};
+ghost use Rattle.std.specs.Int.{to_be_bytes, w32};
+ghost use Rattle.std.specs.Map.{lookup};
+ghost use Rattle.std.specs.Option.{option_and_then, option_copied};
+ghost use Rattle.std.specs.Str.{bytes_eq};
+ghost use Rattle.bb_tree.specs.Draft.{path_labelled};
+ghost use Rattle.bb_tree.specs.Resolve as resolve;
+ghost use Rattle.bb_tree.specs.SlotValues.{slot_labelled, value_in};
+ghost use Rattle.bb_tree.specs.Slots.{IsSound, props_at, tree_of};
+ghost use Rattle.bb_tree.specs.Texts.{texts_in};
+
+use crate::phandle::phandle_in;
+use crate::place::slot_at;
+use crate::slot::Slot;
+use crate::{Part, PartList};
+use bb_base::{Bytes, NoMemory, Text};
+use indexmap::IndexMap;
+use std::alloc::Global;
+
+/// The bytes of a value that are there before anything is resolved.
+pub(crate) fn literal(alloc: Global, parts: &PartList) -> Result<Bytes, NoMemory>
+    ensures { IfOk result (λ bytes. bytes ≡ resolve.literal parts.now) }
+{
+    let mut bytes = Bytes::none(alloc);
+    for part in parts.as_slice() {
+        bytes.add(bytes_there(part))?;
+    }
+    Ok(bytes)
+}
+
+fn bytes_there(part: &Part) -> &[u8]
+    ensures { result.now ≡ resolve.bytes_there part.now }
+{
+    match part {
+        Part::Bytes(bytes) => bytes.as_slice(),
+        Part::Cell { .. } | Part::Path { .. } => &[],
+    }
+}
+
+/// The phandle of the node at `k`.
+pub(crate) fn phandle_at(alloc: Global, slots: &[Slot], k: usize) -> Result<Option<u32>, NoMemory>
+    ensures { IfOk result (λ phandle. phandle ≡ resolve.phandle_among (props_at slots.now k)) }
+{
+    let Some(parts) = parts_of(slots, k, "phandle") else {
+        return Ok(None);
+    };
+    let bytes = literal(alloc, parts)?;
+    Ok(phandle_in(bytes.as_slice()))
+}
+
+fn parts_of<'a>(slots: &'a [Slot], k: usize, name: &str) -> Option<&'a PartList>
+    ensures { option_copied result ≡ lookup (bytes_eq name.now) (props_at slots.now k) }
+{
+    slots.get(k)?.props.get(name)
+}
+
+/// Where the node that a label stands for is.
+pub(crate) fn label_slot(
+    slots: &[Slot],
+    labels: &IndexMap<String, Text>,
+    label: &str,
+) -> Option<usize>
+    requires { IsSound slots.now }
+    ensures { result ≡ slot_labelled (texts_in labels.now.entries) slots.now label.now }
+{
+    let path = labels.get(label)?;
+    slot_at(slots, path.as_str())
+}
+
+/// The bytes that a value stands for.
+pub(crate) fn resolved_value(
+    alloc: Global,
+    slots: &[Slot],
+    labels: &IndexMap<String, Text>,
+    parts: &PartList,
+) -> Result<Bytes, NoMemory>
+    requires { IsSound slots.now }
+    ensures { IfOk result (λ bytes. bytes ≡ value_in (texts_in labels.now.entries) slots.now parts.now) }
+{
+    let mut bytes = Bytes::none(alloc);
+    for part in parts.as_slice() {
+        bytes = add_part(alloc, slots, labels, part, bytes)?;
+    }
+    Ok(bytes)
+}
+
+fn add_part(
+    alloc: Global,
+    slots: &[Slot],
+    labels: &IndexMap<String, Text>,
+    part: &Part,
+    bytes: Bytes,
+) -> Result<Bytes, NoMemory>
+    requires { IsSound slots.now }
+    ensures { IfOk result (λ more. more ≡ bytes ++ resolve.resolved_part (texts_in labels.now.entries) (tree_of slots.now) part.now) }
+{
+    match part {
+        Part::Bytes(more) => {
+            return added(bytes, more.as_slice());
+        }
+        Part::Cell { label, .. } => {
+            let cell = cell_of(alloc, slots, labels, label.as_str())?;
+            return added(bytes, &cell);
+        }
+        Part::Path { label, .. } => {
+            let path = path_text(labels, label.as_str());
+            let bytes = added(bytes, path.as_bytes())?;
+            return added(bytes, &[0]);
+        }
+    }
+}
+
+fn added(mut bytes: Bytes, more: &[u8]) -> Result<Bytes, NoMemory>
+    ensures { IfOk result (λ all. all ≡ bytes ++ more.now) }
+{
+    bytes.add(more)?;
+    Ok(bytes)
+}
+
+fn path_text<'a>(labels: &'a IndexMap<String, Text>, label: &str) -> &'a str
+    ensures { result.now ≡ unwrap_or (path_labelled (texts_in labels.now.entries) label.now) [] }
+{
+    match labels.get(label) {
+        Some(path) => path.as_str(),
+        None => "",
+    }
+}
+
+fn cell_of(
+    alloc: Global,
+    slots: &[Slot],
+    labels: &IndexMap<String, Text>,
+    label: &str,
+) -> Result<[u8; 4], NoMemory>
+    requires { IsSound slots.now }
+    ensures { IfOk result (λ cell. cell ≡ to_be_bytes w32 (unwrap_or (option_and_then (λ k. resolve.phandle_among (props_at slots.now k)) (slot_labelled (texts_in labels.now.entries) slots.now label.now)) 0)) }
+{
+    let Some(k) = label_slot(slots, labels, label) else {
+        return Ok([0; 4]);
+    };
+    Ok(phandle_at(alloc, slots, k)?.unwrap_or(0).to_be_bytes())
+}
