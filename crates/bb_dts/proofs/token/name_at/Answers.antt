@@ -1,0 +1,14 @@
+use Rattle.std.proofs.Common.{◌≡◌, ◌+◌, ◌-◌, arith}
+use Rattle.std.proofs.lemmas.Grind.{common_steps}
+use Rattle.bb_dts.specs.Characters.{is_name}
+use Rattle.bb_dts.proofs.AsciiLemmas.{IsAscii-prefix, IsAscii-label, small_name, word_of-name, word_of-label, take-front}
+use Rattle.bb_dts.proofs.token.name_at.Goals as goal
+
+pub returns-then-starts_with-clause-plain : goal.returns-then-starts_with-clause-plain
+returns-then-starts_with-clause-plain c =
+    rw (word_of-label, take-front c.args.text.now c.label_len-label.result (grind (arith, common_steps)), c.label_len-label.ensures.value) (IsAscii-label c.args.text.now)
+
+pub returns-then-name-gt0-clause-plain : goal.returns-then-name-gt0-clause-plain
+returns-then-name-gt0-clause-plain c =
+    let back : c.name_len-name.result - 1 + 1 ≡ c.name_len-name.result = omega arith in
+    rw (word_of-name, back, c.name_len-name.ensures.value) (IsAscii-prefix is_name small_name c.args.text.now)

@@ -1,0 +1,27 @@
+//! The reader of devicetree source. It accepts exactly the grammar of docs/FORMATS.md, gives the tree, and refuses
+//! everything else by name with an offset. Only the program's session and its tests know it.
+#![tactic(auto)]
+
+mod body;
+mod character;
+mod content;
+mod error;
+mod input;
+mod kind;
+mod label;
+mod next_token;
+mod number;
+mod outermost;
+mod property;
+mod reader;
+mod source;
+mod string;
+mod token;
+mod value;
+mod word;
+
+pub use error::DtsError;
+pub use source::read_source;
+
+#[cfg(test)]
+mod tests;

@@ -1,0 +1,72 @@
+ghost use Rattle.std.specs.Prelude.{◌≡◌, ◌≢◌, ◌<◌, ◌≤◌, ◌-◌, Ok, Err, IfOk, IfErr, length};
+ghost use Rattle.bb_dts.specs.declared.kind.Kind.TheVariants.{End};
+ghost use Rattle.bb_dts.specs.Tokens.{first_token, word_of, IsPlainWord};
+
+use crate::DtsError;
+use crate::kind::{Kind, Lexed, Mode};
+use crate::token::token_at;
+
+/// A token of the text.
+#[derive(Clone, Copy, Debug)]
+pub(crate) struct Token<'a> {
+    pub kind: Kind,
+    /// What it says: a label's name, a string's inside, and otherwise all its bytes.
+    pub word: &'a [u8],
+    /// The offset at which it begins.
+    pub at: usize,
+    /// The text behind it.
+    pub rest: &'a [u8],
+}
+
+/// The first token of the text, behind blanks and comments. The text is the end of one of `total` bytes.
+pub(crate) fn next_token(mode: Mode, total: usize, text: &[u8]) -> Result<Token<'_>, DtsError>
+    requires { length text.now ≤ total }
+    ensures found { IfOk result (λ t. first_token mode total 0 text.now
+        ≡ Ok (record { kind = t.kind; word = t.word.now; at = t.at; rest = t.rest.now })) }
+    ensures refused { IfErr result (λ e. first_token mode total 0 text.now ≡ Err e) }
+    ensures plain { IfOk result (λ t. IsPlainWord t.kind t.word.now) }
+    ensures within { IfOk result (λ t. length t.rest.now ≤ length text.now) }
+    ensures shorter { IfOk result (λ t. t.kind ≢ End → length t.rest.now < length text.now) }
+{
+    let mut rest = text;
+    while !rest.is_empty() {
+        let at = total - rest.len();
+        match token_at(mode, rest) {
+            Lexed::Blank(n) => rest = &rest[n + 1..],
+            Lexed::Token(kind, n) => {
+                let (bytes, rest) = rest.split_at(n + 1);
+                let word = word_of(kind, bytes);
+                return Ok(Token {
+                    kind,
+                    word,
+                    at,
+                    rest,
+                });
+            }
+            Lexed::BadToken => return Err(DtsError::BadToken(at)),
+            Lexed::LeftOut => return Err(DtsError::LeftOut(at)),
+        }
+    }
+    Ok(Token {
+        kind: Kind::End,
+        word: &[],
+        at: total,
+        rest: &[],
+    })
+}
+
+#[tactic(auto, unfolding(crate::specs::Tokens::word_of))]
+fn word_of(kind: Kind, bytes: &[u8]) -> &[u8]
+    requires { 1 ≤ length bytes.now }
+    ensures { result.now ≡ word_of kind bytes.now }
+{
+    match kind {
+        Kind::Reference => &bytes[1..],
+        Kind::Label => &bytes[..bytes.len() - 1],
+        Kind::Quoted => {
+            let inside = &bytes[1..];
+            &inside[..bytes.len().saturating_sub(2)]
+        }
+        _ => bytes,
+    }
+}

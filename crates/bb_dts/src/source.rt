@@ -1,0 +1,102 @@
+ghost use Rattle.std.specs.Prelude.{◌≡◌, ◌≢◌, ◌+◌, ◌≤◌, [], Ok, Err, IfOk, IfErr, length};
+ghost use Rattle.bb_tree.specs.Draft.{nothing_drafted};
+ghost use Rattle.bb_tree.specs.Node.{preorder};
+ghost use Rattle.bb_dts.specs.declared.label.Level.TheVariants.{AtHead};
+ghost use Rattle.bb_dts.specs.Descent.{from, refused, labels_from};
+ghost use Rattle.bb_dts.specs.Outermost.{finished_on};
+ghost use Rattle.bb_dts.specs.Source.{source_of, tree_of, refused_last};
+ghost use Rattle.bb_dts.specs.Trees.{read_of};
+ghost use Rattle.bb_dts.specs.Walk.{root, start, walked};
+
+use crate::DtsError;
+use crate::input::Input;
+use crate::kind::{Kind, Mode};
+use crate::next_token::next_token;
+use crate::outermost::read_semicolon;
+use crate::reader::Reader;
+use bb_tree::{Draft, Tree, TreeError};
+use std::alloc::Global;
+use std::str;
+
+/// Reads a devicetree source of at most 4,294,967,295 bytes (Devicetree Specification v0.4, section 6; docs/FORMATS.md
+/// has the grammar, and what is left out of the language). The first fault in the text decides, and a text that isn't
+/// UTF-8 is refused before all others.
+pub fn read_source(alloc: Global, text: &[u8]) -> Result<Tree, DtsError>
+    requires { length text.now ≤ 4294967295 }
+    ensures ok { IfOk result (λ tree. source_of text.now ≡ Ok (read_of tree)) }
+    ensures refused { IfErr result (λ e. e ≢ DtsError.NoMemory → source_of text.now ≡ Err e) }
+{
+    if let Err(fault) = str::from_utf8(text) {
+        return Err(DtsError::NotText(fault.valid_up_to()));
+    }
+    let total = text.len();
+    read_text(Input { alloc, total }, text)
+}
+
+fn read_text(input: Input, text: &[u8]) -> Result<Tree, DtsError>
+    requires whole { input.total ≡ length text.now }
+    requires short { length text.now ≤ 4294967295 }
+    ensures ok { IfOk result (λ tree. tree_of (length text.now) (walked text.now) ≡ Ok (read_of tree)) }
+    ensures refused { IfErr result (λ e. e ≢ DtsError.NoMemory → tree_of (length text.now) (walked text.now) ≡ Err e) }
+{
+    let rest = read_version(input, text)?;
+    let mut reader = Reader::new(input);
+    reader.read_outermost(rest)?;
+    reader.finish()
+}
+
+// Reads `/dts-v1/;`.
+#[tactic(auto, using(crate::proofs::OuterLemmas::start_step, crate::proofs::OuterLemmas::version_step))]
+fn read_version(input: Input, text: &[u8]) -> Result<&[u8], DtsError>
+    requires { length text.now ≤ input.total }
+    ensures ok { IfOk result (λ rest. from input.total start text.now ≡ labels_from input.total AtHead [] rest.now [] root) }
+    ensures refused { IfErr result (λ e. from input.total start text.now ≡ refused e) }
+    ensures shorter { IfOk result (λ rest. length rest.now + 2 ≤ length text.now) }
+{
+    let token = next_token(Mode::Directives, input.total, text)?;
+    match token.kind {
+        Kind::DtsV1 => read_semicolon(Mode::Directives, input, token.rest),
+        _ => Err(DtsError::Unexpected(token.at)),
+    }
+}
+
+impl Reader {
+    fn new(input: Input) -> Reader
+        ensures input { result.input ≡ input }
+        ensures draft { result.draft ≡ nothing_drafted }
+    {
+        Reader {
+            input,
+            draft: Draft::none(input.alloc),
+            path: String::new(input.alloc),
+        }
+    }
+
+    // The tree, with its references resolved.
+    fn finish(self) -> Result<Tree, DtsError>
+        requires { length (preorder self.draft.tree) ≤ 4294967294 }
+        ensures ok { IfOk result (λ tree. finished_on self.input.total self.draft ≡ Ok (read_of tree)) }
+        ensures refused { IfErr result (λ e. e ≢ DtsError.NoMemory → finished_on self.input.total self.draft ≡ Err e) }
+    {
+        let Reader {
+            input,
+            draft,
+            path: _,
+        } = self;
+        match draft.finish() {
+            Ok(tree) => Ok(tree),
+            Err(error) => Err(refused_last(input.total, error)),
+        }
+    }
+}
+
+fn refused_last(total: usize, error: TreeError) -> DtsError
+    ensures { result ≡ refused_last total error }
+{
+    match error {
+        TreeError::DuplicateLabel => DtsError::DuplicateLabel(total),
+        TreeError::DuplicatePhandle => DtsError::DuplicatePhandle(total),
+        TreeError::NoSuchLabel(at) => DtsError::NoSuchLabel(at),
+        TreeError::NoMemory => DtsError::NoMemory,
+    }
+}

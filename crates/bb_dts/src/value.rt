@@ -1,0 +1,207 @@
+ghost use Rattle.std.specs.Prelude.{◌≡◌, ◌≤◌, ◌<◌, ◌^◌, ◌++◌, ◌∷◌, [], Ok, Err, IfOk, IfErr, OnOk, length};
+ghost use Rattle.std.specs.Str.{IsAscii};
+ghost use Rattle.bb_dts.specs.Places.{Value, Cells, Bytes, After};
+ghost use Rattle.bb_dts.specs.Strings.{unescaped};
+ghost use Rattle.bb_dts.specs.Walk.{limited, byte_value, referring, with_bytes};
+ghost use Rattle.bb_dts.specs.Descent.{value_from, value_refused, value_done, prop_read, spoken};
+
+use crate::DtsError;
+use crate::input::Input;
+use crate::kind::{Kind, Mode};
+use crate::next_token::{Token, next_token};
+use crate::number::{NumberFault, read_number};
+use crate::property::Property;
+use crate::string::{read_byte, unescape};
+use crate::word::word_text;
+use bb_base::NoMemory;
+use bb_tree::{DraftProp, Part, PartList};
+use std::alloc::Global;
+
+/// A property without a value. Its name must be ASCII.
+pub(crate) fn empty_prop(alloc: Global, name: &[u8]) -> Result<DraftProp, NoMemory>
+    requires { IsAscii name.now }
+    ensures name { IfOk result (λ prop. prop.name ≡ name.now) }
+    ensures parts { IfOk result (λ prop. prop.parts ≡ []) }
+{
+    let name = word_text(alloc, name)?;
+    let parts = PartList::none(alloc);
+    Ok(DraftProp { name, parts })
+}
+
+/// Reads a property, behind its `=`, with its `;`. Its name must be ASCII.
+#[tactic(auto, using(crate::proofs::WalkLemmas::value_done_is))]
+pub(crate) fn read_property<'a>(
+    input: Input,
+    name: &[u8],
+    text: &'a [u8],
+) -> Result<(DraftProp, &'a [u8]), DtsError>
+    requires within { length text.now ≤ input.total }
+    requires plain { IsAscii name.now }
+    ensures name { IfOk result (λ r. r.0.name ≡ name.now) }
+    ensures ok { IfOk result (λ r. value_from input.total Value (record { name = name.now; parts = []; bytes = [] }) text.now ≡ prop_read input.total r.0.name r.0.parts r.1.now) }
+    ensures refused { IfErr result (λ e. spoken e (value_from input.total Value (record { name = name.now; parts = []; bytes = [] }) text.now) ≡ spoken e (value_refused e)) }
+    ensures shorter { IfOk result (λ r. length r.1.now < length text.now) }
+{
+    let mut property = Property::named(input.alloc, word_text(input.alloc, name)?);
+    let rest = read_value(input, &mut property, text)?;
+    Ok((property.finish()?, rest))
+}
+
+// Reads a property's value, behind the `=`, with the `;`.
+#[tactic(auto, using(crate::proofs::WalkLemmas::value_from_after))]
+fn read_value<'a>(
+    input: Input,
+    property: &mut Property,
+    text: &'a [u8],
+) -> Result<&'a [u8], DtsError>
+    requires { length text.now ≤ input.total }
+    ensures name { OnOk result (property.new.name ≡ property.old.name) }
+    ensures ok { IfOk result (λ rest. value_from input.total Value property.old text.now ≡ value_done input.total property.new rest.now) }
+    ensures refused { IfErr result (λ e. spoken e (value_from input.total Value property.old text.now) ≡ spoken e (value_refused e)) }
+    ensures shorter { IfOk result (λ rest. length rest.now < length text.now) }
+{
+    let mut rest = read_part(input, property, text)?;
+    loop {
+        let token = next_token(Mode::Values, input.total, rest)?;
+        match token.kind {
+            Kind::Comma => rest = read_part(input, property, token.rest)?,
+            Kind::Semicolon => return Ok(token.rest),
+            _ => return Err(DtsError::Unexpected(token.at)),
+        }
+    }
+}
+
+// Reads a string, the cells between `< >`, the bytes between `[ ]` or a reference.
+#[tactic(auto, using(crate::proofs::WalkLemmas::value_from_value))]
+fn read_part<'a>(
+    input: Input,
+    property: &mut Property,
+    text: &'a [u8],
+) -> Result<&'a [u8], DtsError>
+    requires { length text.now ≤ input.total }
+    ensures name { OnOk result (property.new.name ≡ property.old.name) }
+    ensures ok { IfOk result (λ rest. value_from input.total Value property.old text.now ≡ value_from input.total After property.new rest.now) }
+    ensures refused { IfErr result (λ e. spoken e (value_from input.total Value property.old text.now) ≡ spoken e (value_refused e)) }
+    ensures shorter { IfOk result (λ rest. length rest.now < length text.now) }
+{
+    let token = next_token(Mode::Values, input.total, text)?;
+    match token.kind {
+        Kind::Quoted => {
+            add_string(property, token.word)?;
+            Ok(token.rest)
+        }
+        Kind::Reference => {
+            let label = word_text(input.alloc, token.word)?;
+            refer(
+                input,
+                property,
+                Part::Path {
+                    label,
+                    at: token.at,
+                },
+                token.at,
+            )?;
+            Ok(token.rest)
+        }
+        Kind::Less => read_cells(input, property, token.rest),
+        Kind::OpenBracket => read_bytes(input, property, token.rest),
+        _ => Err(DtsError::Unexpected(token.at)),
+    }
+}
+
+fn add_string(property: &mut Property, word: &[u8]) -> Result<(), NoMemory>
+    ensures { OnOk result (property.new ≡ with_bytes property.old (unescaped 0 word.now ++ 0 ∷ [])) }
+{
+    unescape(&mut property.bytes, word)?;
+    property.add(&[0])
+}
+
+fn refer(input: Input, property: &mut Property, reference: Part, at: usize) -> Result<(), DtsError>
+    ensures ok { OnOk result (referring property.old reference at ≡ Ok property.new) }
+    ensures name { OnOk result (property.new.name ≡ property.old.name) }
+    ensures refused { IfErr result (λ e. spoken e (referring property.old reference at) ≡ spoken e (Err e)) }
+{
+    if property.is_phandle() {
+        return Err(DtsError::Unexpected(at));
+    }
+    property.refer(input.alloc, reference)?;
+    Ok(())
+}
+
+// Reads the cells behind a `<`, with the `>`.
+#[tactic(auto, using(crate::proofs::WalkLemmas::value_from_cells))]
+fn read_cells<'a>(
+    input: Input,
+    property: &mut Property,
+    text: &'a [u8],
+) -> Result<&'a [u8], DtsError>
+    requires { length text.now ≤ input.total }
+    ensures name { OnOk result (property.new.name ≡ property.old.name) }
+    ensures ok { IfOk result (λ rest. value_from input.total Cells property.old text.now ≡ value_from input.total After property.new rest.now) }
+    ensures refused { IfErr result (λ e. spoken e (value_from input.total Cells property.old text.now) ≡ spoken e (value_refused e)) }
+    ensures shorter { IfOk result (λ rest. length rest.now < length text.now) }
+{
+    let mut rest = text;
+    loop {
+        let token = next_token(Mode::Numbers, input.total, rest)?;
+        match token.kind {
+            Kind::Greater => return Ok(token.rest),
+            Kind::Number => property.add(&cell(token.word, token.at)?.to_be_bytes())?,
+            Kind::Reference => {
+                let label = word_text(input.alloc, token.word)?;
+                refer(
+                    input,
+                    property,
+                    Part::Cell {
+                        label,
+                        at: token.at,
+                    },
+                    token.at,
+                )?;
+            }
+            _ => return Err(DtsError::Unexpected(token.at)),
+        }
+        rest = token.rest;
+    }
+}
+
+fn cell(word: &[u8], at: usize) -> Result<u32, DtsError>
+    ensures { result ≡ limited (2 ^ 32) word.now at }
+{
+    match read_number(word) {
+        Ok(n) => u32::try_from(n).map_err(|_| DtsError::NumberTooLarge(at)),
+        Err(NumberFault::Malformed) => Err(DtsError::BadToken(at)),
+        Err(NumberFault::TooLarge) => Err(DtsError::NumberTooLarge(at)),
+    }
+}
+
+// Reads the bytes behind a `[`, with the `]`.
+#[tactic(auto, using(crate::proofs::WalkLemmas::value_from_bytes))]
+fn read_bytes<'a>(
+    input: Input,
+    property: &mut Property,
+    text: &'a [u8],
+) -> Result<&'a [u8], DtsError>
+    requires { length text.now ≤ input.total }
+    ensures name { OnOk result (property.new.name ≡ property.old.name) }
+    ensures ok { IfOk result (λ rest. value_from input.total Bytes property.old text.now ≡ value_from input.total After property.new rest.now) }
+    ensures refused { IfErr result (λ e. spoken e (value_from input.total Bytes property.old text.now) ≡ spoken e (value_refused e)) }
+    ensures shorter { IfOk result (λ rest. length rest.now < length text.now) }
+{
+    let mut rest = text;
+    loop {
+        let token = next_token(Mode::Pairs, input.total, rest)?;
+        match token.kind {
+            Kind::CloseBracket => return Ok(token.rest),
+            Kind::Byte => property.add(&[byte(token.word, token.at)?])?,
+            _ => return Err(DtsError::Unexpected(token.at)),
+        }
+        rest = token.rest;
+    }
+}
+
+fn byte(word: &[u8], at: usize) -> Result<u8, DtsError>
+    ensures { result ≡ byte_value word.now at }
+{
+    read_byte(16, word).ok_or(DtsError::BadToken(at))
+}
