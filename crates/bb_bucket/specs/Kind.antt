@@ -1,0 +1,45 @@
+-- What a bucket means: a region of a device that holds one record, and may be torn.
+use Rattle.std.specs.Prelude.{◌≡◌, ℕ, ◌<◌, ◌≤◌, ◌^◌, ◌++◌, Bool, List, length, take, drop, Option, Some, None}
+use Rattle.bb_flash.specs.declared.geometry.Geometry.{Geometry}
+use Rattle.bb_flash.specs.declared.region.Region.{Region}
+use Rattle.bb_flash.specs.Image.{Image, touched_pages}
+
+-- the part of an image that lies in a region: its bytes, and the pages in which they stand
+abbrev pub part_of : ℕ → Region → Image → Image
+part_of page region image = record {
+  bytes = take region.size (drop region.at image.bytes);
+  health = touched_pages page region.at region.size image.health;
+}
+
+-- what stays the same for a bucket's whole life
+pub record Kind : Type 0 where
+  -- where it stands, and how long a record may be
+  pub region : Region
+  pub room : ℕ
+  -- the geometries for which it was made
+  pub serves : Geometry → Bool
+  -- the bytes that stand in its region as its record, if any do, and whether a page of them is Worn
+  pub candidate_of : Image → Option (List ℕ)
+  pub is_worn : Image → Bool
+  -- its region after a record was written there, and after it was voided
+  pub after_write : List ℕ → Image → Image
+  pub after_void : Image → Image
+
+pub record Holding : Type 0 where
+  pub kind : Kind
+  -- what it keeps of its region, if anything, is what stands there
+  pub agrees : Image → Bool
+  -- it knows where a record goes without a look at the device
+  pub placed : Bool
+
+-- a record begins what stands in a region
+pub record IsBegun (rec : List ℕ) (candidate : Option (List ℕ)) : Type 0 where
+  pub rest : List ℕ
+  pub begins : candidate ≡ Some (rec ++ rest)
+
+-- what holds of every kind
+pub record IsKind (kind : Kind) : Type 0 where
+  -- a record that was written is the candidate, or begins it
+  pub written : (rec : List ℕ) (region : Image) → length rec ≤ kind.room → kind.room < 2 ^ 32 → IsBegun rec (kind.candidate_of (kind.after_write rec region))
+  -- nothing stands where a record was voided
+  pub voided : (region : Image) → kind.candidate_of (kind.after_void region) ≡ None

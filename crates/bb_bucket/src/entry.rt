@@ -1,0 +1,31 @@
+ghost use Rattle.std.specs.Prelude.{◌≡◌, ◌≤◌, ◌<◌, ◌+◌, ◌^◌, Some, None, length, if◌then◌else◌};
+ghost use Rattle.bb_bucket.specs.Stride.{entry_of, has_front, len_of};
+
+use byteorder::{ByteOrder, LittleEndian};
+
+/// The words in front of a record: the magic one, and the record's length.
+pub const FRONT_LEN: u32 = 8;
+
+const FRONT_MAGIC: u32 = 0x2354_fdf3;
+
+/// The length that the front gives, where it is a front and a stride of `size` bytes holds so much.
+pub(crate) fn record_len(size: u32, front: &[u8]) -> Option<u32>
+    requires some { 8 ≤ size }
+    requires whole { length front.now ≡ 8 }
+    ensures { result ≡ (if has_front size front.now then Some (len_of front.now) else None) }
+{
+    let len = LittleEndian::read_u32(&front[4..]);
+    let is_front = LittleEndian::read_u32(front) == FRONT_MAGIC && len <= size - FRONT_LEN;
+    is_front.then_some(len)
+}
+
+/// Writes a record with its front into `out`, which has room for exactly these.
+pub(crate) fn write_entry(rec: &[u8], out: &mut [u8])
+    requires small { length rec.now < 2 ^ 32 }
+    requires room { length out.old ≡ 8 + length rec.now }
+    ensures { out.new ≡ entry_of rec.now }
+{
+    LittleEndian::write_u32(out, FRONT_MAGIC);
+    LittleEndian::write_u32(&mut out[4..], rec.len() as u32);
+    out[FRONT_LEN as usize..].copy_from_slice(rec);
+}

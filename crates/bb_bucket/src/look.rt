@@ -1,0 +1,74 @@
+ghost use Rattle.std.specs.Prelude.{◌≡◌, ◌≤◌, ◌-◌, IfOk, IfSome, IsErr, IsTrue, length};
+ghost use Rattle.std.specs.Option.{ForSome};
+ghost use Rattle.bb_base.specs.Faults.{HasCause};
+ghost use Rattle.bb_flash.specs.Cuts.{IsLater};
+ghost use Rattle.bb_flash.specs.Device.{IsDevice, ReadKeeps, content};
+ghost use Rattle.bb_bucket.specs.Calls.{IsFound, told_but_reads};
+ghost use Rattle.bb_bucket.specs.Kind.{part_of};
+ghost use Rattle.bb_bucket.specs.Stride.{found_of, holds, is_lost, stride_kind};
+
+use crate::Found;
+use crate::entry::{FRONT_LEN, record_len};
+use crate::parts::read_part;
+use bb_base::Failed;
+use bb_flash::{Flash, Health, Region};
+
+const NOTHING: Found = Found {
+    len: None,
+    worn: false,
+};
+
+/// Looks for the record of a stride: one read of the front, and one of the record.
+pub(crate) fn read_record<F: Flash>(
+    flash: &mut F,
+    stride: Region,
+    out: &mut [u8],
+) -> Result<Found, Failed>
+    requires held { IsTrue (holds stride (F.device flash.old).geometry) }
+    requires least { 8 ≤ stride.size }
+    requires room { length out.old ≡ stride.size - 8 }
+    ensures done { IfOk result (λ found. ForSome (content (F.device flash.old)) (λ image.
+        IsFound (stride_kind stride) (part_of (F.device flash.old).geometry.page stride image) out.new found)) }
+    ensures fits { IfOk result (λ found. IfSome found.len (λ len. len ≤ stride.size - 8)) }
+    ensures keeps { ReadKeeps (F.device flash.old) (F.device flash.new) }
+    ensures told { told_but_reads (F.device flash.new) ≡ told_but_reads (F.device flash.old) }
+    ensures later { IsLater (F.device flash.old) (F.device flash.new) }
+    ensures whole { IsDevice (F.device flash.new) }
+    ensures faults { HasCause (F.device flash.old).faults (F.device flash.new).faults (IsErr result) }
+    ensures read_faults { HasCause (F.device flash.old).read_faults (F.device flash.new).read_faults (IsErr result) }
+{
+    let mut front = [0u8; FRONT_LEN as usize];
+    let front_health = read_part(flash, stride, 0, &mut front)?;
+    if is_lost(front_health) {
+        return Ok(NOTHING);
+    }
+    let Some(len) = record_len(stride.size, &front) else {
+        return Ok(NOTHING);
+    };
+    let health = read_part(flash, stride, FRONT_LEN, &mut out[..len as usize])?;
+    Ok(found(len, health))
+}
+
+fn is_lost(health: Health) -> bool
+    ensures { result ≡ is_lost health }
+{
+    matches!(health, Health::Lost)
+}
+
+// A record of this length was read.
+fn found(len: u32, health: Health) -> Found
+    ensures value { result ≡ found_of len health }
+    ensures whole { IfSome result.len (λ n. n ≡ len) }
+{
+    match health {
+        Health::Fine => Found {
+            len: Some(len),
+            worn: false,
+        },
+        Health::Worn => Found {
+            len: Some(len),
+            worn: true,
+        },
+        Health::Lost => NOTHING,
+    }
+}

@@ -1,0 +1,57 @@
+ghost use Rattle.std.specs.Prelude.{◌≡◌, ◌≤◌, ◌<◌, ◌+◌, ◌^◌, IsErr, IsTrue, OnOk, length};
+ghost use Rattle.bb_base.specs.Faults.{HasCause};
+ghost use Rattle.bb_flash.specs.Cuts.{EachTorn, IsLater};
+ghost use Rattle.bb_flash.specs.Device.{IsDevice, reads};
+ghost use Rattle.bb_bucket.specs.Calls.{EachCall, EndsTorn, IsVoidCall, IsWriteCall, Leaves};
+ghost use Rattle.bb_bucket.specs.Stride.{holds, stride_kind};
+
+use crate::entry::{FRONT_LEN, write_entry};
+use crate::parts::program_front;
+use bb_base::Failed;
+use bb_flash::{Flash, Region};
+
+/// Writes a record and its front to the start of a stride, by one program. They are put together in `memory`,
+/// which has the stride's size.
+pub(crate) fn write_record<F: Flash>(
+    flash: &mut F,
+    stride: Region,
+    memory: &mut [u8],
+    rec: &[u8],
+) -> Result<(), Failed>
+    requires held { IsTrue (holds stride (F.device flash.old).geometry) }
+    requires room { 8 + length rec.now ≤ stride.size }
+    requires small { stride.size < 2 ^ 32 }
+    requires memory { length memory.old ≡ stride.size }
+    ensures done { OnOk result (Leaves stride ((stride_kind stride).after_write rec.now)
+        (F.device flash.old) (F.device flash.new)) }
+    ensures calls { EachCall (IsWriteCall (stride_kind stride) (F.device flash.old).geometry.page rec.now)
+        (F.device flash.old) (F.device flash.new) }
+    ensures ends { EndsTorn (F.device flash.old) (F.device flash.new) }
+    ensures images { EachTorn stride.at stride.size (F.device flash.old) (F.device flash.new) }
+    ensures later { IsLater (F.device flash.old) (F.device flash.new) }
+    ensures whole { IsDevice (F.device flash.new) }
+    ensures faults { HasCause (F.device flash.old).faults (F.device flash.new).faults (IsErr result) }
+    ensures reads { reads (F.device flash.new) ≡ reads (F.device flash.old) }
+{
+    let entry = &mut memory[..FRONT_LEN as usize + rec.len()];
+    write_entry(rec, entry);
+    program_front(flash, stride, entry)
+}
+
+/// Writes zeros over the front of a stride, by one program.
+pub(crate) fn void_record<F: Flash>(flash: &mut F, stride: Region) -> Result<(), Failed>
+    requires held { IsTrue (holds stride (F.device flash.old).geometry) }
+    requires least { 8 ≤ stride.size }
+    ensures done { OnOk result (Leaves stride (stride_kind stride).after_void
+        (F.device flash.old) (F.device flash.new)) }
+    ensures calls { EachCall (IsVoidCall (stride_kind stride) (F.device flash.old).geometry.page)
+        (F.device flash.old) (F.device flash.new) }
+    ensures ends { EndsTorn (F.device flash.old) (F.device flash.new) }
+    ensures images { EachTorn stride.at stride.size (F.device flash.old) (F.device flash.new) }
+    ensures later { IsLater (F.device flash.old) (F.device flash.new) }
+    ensures whole { IsDevice (F.device flash.new) }
+    ensures faults { HasCause (F.device flash.old).faults (F.device flash.new).faults (IsErr result) }
+    ensures reads { reads (F.device flash.new) ≡ reads (F.device flash.old) }
+{
+    program_front(flash, stride, &[0; FRONT_LEN as usize])
+}

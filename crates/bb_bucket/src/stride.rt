@@ -1,0 +1,71 @@
+ghost use Rattle.std.specs.Prelude.{◌≡◌, ◌≤◌, ◌+◌, IfOk, length};
+ghost use Rattle.bb_bucket.specs.Stride.{stride_holding};
+ghost use Rattle.bb_bucket.specs.StrideLaws.{stride_laws};
+
+use crate::entry::FRONT_LEN;
+use crate::look::read_record;
+use crate::store::{void_record, write_record};
+use crate::{Bucket, Found};
+use bb_base::{Failed, NoMemory};
+use bb_flash::{Flash, Region};
+use std::alloc::Global;
+use std::marker::Model;
+
+/// A bucket on a device that is overwritten in place. Its region begins with 8 bytes in front, the magic word
+/// 0x2354FDF3 and the record's length, both little endian, and the record follows (barebox User Manual, State
+/// Framework, the backend storage type `direct`). It is written by one program. Clauses see the region.
+#[derive(Debug, Drop)]
+pub struct Stride {
+    region: Region,
+    // front and record, before they are programmed
+    entry: Vec<u8>,
+}
+
+impl Model for Stride {
+    ghost use Rattle.std.specs.Prelude.{◌≡◌, ◌≤◌, length};
+    ghost use Rattle.bb_flash.specs.declared.region.Region.{Region};
+    ghost use Rattle.bb_bucket.specs.Stride.{IsStride};
+
+    ghost Value = { Region };
+
+    ghost view = { λ stride. stride.region };
+
+    ghost invariant = { λ stride. IsStride stride.region stride.entry.items };
+}
+
+impl Stride {
+    /// A stride in this region, which has at least 9 bytes. It takes memory for as many.
+    pub fn of(alloc: Global, region: Region) -> Result<Stride, NoMemory>
+        requires { 9 ≤ region.size }
+        ensures { IfOk result (λ stride. stride ≡ region) }
+    {
+        let entry = vec![in alloc; 0; region.size as usize]?;
+        Ok(Stride { region, entry })
+    }
+}
+
+impl Bucket for Stride {
+    ghost holding = { stride_holding };
+
+    ghost laws = { stride_laws };
+
+    fn region(&self) -> Region {
+        self.region
+    }
+
+    fn room(&self) -> u32 {
+        self.region.size - FRONT_LEN
+    }
+
+    fn read<F: Flash>(&mut self, flash: &mut F, out: &mut [u8]) -> Result<Found, Failed> {
+        read_record(flash, self.region, out)
+    }
+
+    fn write<F: Flash>(&mut self, flash: &mut F, rec: &[u8]) -> Result<(), Failed> {
+        write_record(flash, self.region, &mut self.entry, rec)
+    }
+
+    fn void<F: Flash>(&mut self, flash: &mut F) -> Result<(), Failed> {
+        void_record(flash, self.region)
+    }
+}
