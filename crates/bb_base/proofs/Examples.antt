@@ -1,6 +1,8 @@
 -- Worked values, by computation alone.
-use Rattle.std.proofs.Common.{◌≡◌, [], refl, codes, Ok, Err}
+use Rattle.std.proofs.Common.{◌≡◌, [], ◌∷◌, refl, codes, filter_map, Ok, Err}
 use Rattle.bb_base.specs.Crc.{crc_of, divided, divided_8, after_byte}
+use Rattle.std.specs.Path.{rsplit_once}
+use Rattle.bb_base.specs.Folder.{name_in}
 use Rattle.bb_base.specs.Number.{number_of}
 use Rattle.bb_base.specs.declared.number.NumberError.TheVariants.{NotNumber, TooLarge}
 
@@ -23,3 +25,12 @@ number_past_the_greatest = refl
 
 no_digit : number_of (codes "0x") ≡ Err NotNumber
 no_digit = refl
+
+-- a folder's own names, without those of a folder in it
+names_of_a_folder : filter_map (name_in (codes "a")) (codes "a/b" ∷ codes "a/c/d" ∷ codes "a/e" ∷ []) ≡ codes "b" ∷ codes "e" ∷ []
+unfolding rsplit_once
+names_of_a_folder = refl
+
+names_of_no_folder : filter_map (name_in (codes "z")) (codes "a/b" ∷ codes "a/c/d" ∷ codes "a/e" ∷ []) ≡ []
+unfolding rsplit_once
+names_of_no_folder = refl

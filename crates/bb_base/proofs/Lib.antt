@@ -1,3 +1,6 @@
 pub mod Capped
 pub mod Division
+pub mod Entries
 pub mod Examples
+pub mod LastSlash
+pub mod Names

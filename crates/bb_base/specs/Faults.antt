@@ -10,3 +10,7 @@ Rose before now = min (before + 1) (2 ^ 64 - 1) ≤ now
 pub record HasCause (before now : ℕ) (fails : Type 0) : Type 0 where
   pub later : before ≤ now
   pub rose : fails → Rose before now
+
+-- a count that stands still at its greatest value
+abbrev pub one_more : ℕ → ℕ
+one_more n = min (n + 1) (2 ^ 64 - 1)

@@ -1,6 +1,7 @@
 -- What an output in memory is, and what a write makes of it.
-use Rattle.std.specs.Prelude.{ℕ, ◌==◌, ◌+◌, ◌-◌, ◌^◌, min, Bool, ◌||◌, List, ◌++◌, length, nat_lt, Some, if◌then◌else◌}
+use Rattle.std.specs.Prelude.{ℕ, ◌==◌, ◌-◌, Bool, ◌||◌, List, ◌++◌, length, nat_lt, Some, if◌then◌else◌}
 use Rattle.std.specs.List.{list_any}
+use Rattle.bb_base.specs.Faults.{one_more}
 use Rattle.bb_base.specs.Outlet.{Outlet}
 
 -- what was sent, how much may be, which writes are to fail, how many were made, and how many failed
@@ -18,10 +19,6 @@ outlet_of sink = record { sent = Some sink.sent; faults = sink.faults }
 -- the next write fails: it is planned to, or the piece doesn't fit what is left of the room
 abbrev pub refuses_next : Kept → List ℕ → Bool
 refuses_next sink piece = list_any (λ n. n == sink.writes) sink.planned || nat_lt (sink.room - length sink.sent) (length piece)
-
--- a count that stands still at its greatest value
-abbrev pub one_more : ℕ → ℕ
-one_more n = min (n + 1) (2 ^ 64 - 1)
 
 abbrev pub after_write : Kept → List ℕ → Kept
 after_write sink piece =

@@ -6,23 +6,28 @@
 mod bytes;
 mod crc;
 mod failed;
+mod files;
 mod format;
+mod mem_files;
 mod mem_sink;
 mod memory;
 mod number;
-mod outside;
+mod planned;
 mod remainders;
+mod sink;
 mod text;
 mod text_list;
 
 pub use bytes::Bytes;
 pub use crc::{Crc, crc32};
 pub use failed::Failed;
+pub use files::{FileFail, Files};
 pub use format::Format;
+pub use mem_files::MemFiles;
 pub use mem_sink::MemSink;
 pub use memory::NoMemory;
 pub use number::{NumberError, read_number};
-pub use outside::{Files, Sink};
+pub use sink::Sink;
 pub use text::Text;
 pub use text_list::TextList;
 

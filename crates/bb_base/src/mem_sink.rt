@@ -1,9 +1,9 @@
-ghost use Rattle.std.specs.Prelude.{◌≡◌, ◌==◌, ◌++◌, ◌∷◌, [], IfOk, IsErr, OnErr, OnOk, is_err};
-ghost use Rattle.std.specs.List.{list_any};
+ghost use Rattle.std.specs.Prelude.{◌≡◌, ◌++◌, ◌∷◌, [], IfOk, IsErr, OnErr, OnOk, is_err};
 ghost use Rattle.bb_base.specs.Faults.{HasCause};
 ghost use Rattle.bb_base.specs.MemSink.{after_write, outlet_of, refuses_next};
 ghost use Rattle.bb_base.specs.Outlet.{Sends, SendsFront};
 
+use crate::planned::is_planned;
 use crate::{Failed, NoMemory, Sink};
 use std::alloc::Global;
 use std::marker::Model;
@@ -71,12 +71,6 @@ impl MemSink {
         let left = self.room as usize - self.sent.as_slice().len();
         is_planned(self.planned.as_slice(), self.writes) || left < piece.len()
     }
-}
-
-fn is_planned(planned: &[u32], write: u64) -> bool
-    ensures { result ≡ list_any (λ n. n == write) planned.now }
-{
-    planned.iter().any(|n| u64::from(*n) == write)
 }
 
 impl Sink for MemSink {

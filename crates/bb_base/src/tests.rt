@@ -1,4 +1,5 @@
 use super::*;
+use std::alloc::Global;
 use std::test::Fail;
 
 #[test]
@@ -80,5 +81,70 @@ fn a_sink_fails_where_it_is_told_to_or_full(rt: HostRuntime) -> Result<(), Fail>
     assert_eq!(rt; sink.write(b"cd"), Err(Failed));
     assert_eq!(rt; sink.write(b"c"), Ok(()));
     assert_eq!(rt; sink.sent(), b"abc".as_slice());
+    Ok(())
+}
+
+fn three_files(alloc: Global) -> Result<MemFiles, NoMemory> {
+    let mut files = MemFiles::none(alloc);
+    files.add("a/e", b"1")?;
+    files.add("a/c/d", b"2")?;
+    files.add("a/b", b"3")?;
+    Ok(files)
+}
+
+#[test]
+fn a_file_is_read_behind_what_is_there(rt: HostRuntime) -> Result<(), Fail> {
+    let mut files = three_files(rt.alloc())?;
+    let mut out = Bytes::none(rt.alloc());
+    assert_eq!(rt; files.read("a/b", &mut out), Ok(true));
+    assert_eq!(rt; files.read("a/c", &mut out), Ok(false));
+    assert_eq!(rt; files.read("a/c/d", &mut out), Ok(true));
+    assert_eq!(rt; out.as_slice(), b"32".as_slice());
+    files.add("a/b", b"new")?;
+    assert_eq!(rt; files.read("a/b", &mut out), Ok(true));
+    assert_eq!(rt; out.as_slice(), b"32new".as_slice());
+    Ok(())
+}
+
+#[test]
+fn a_folder_gives_its_own_names_in_order(rt: HostRuntime) -> Result<(), Fail> {
+    let mut files = three_files(rt.alloc())?;
+    let mut names = TextList::none(rt.alloc());
+    assert_eq!(rt; files.names("z", &mut names), Ok(false));
+    assert!(rt; names.is_empty());
+    assert_eq!(rt; files.names("a", &mut names), Ok(true));
+    assert_eq!(rt; names.len(), 2);
+    assert_eq!(rt; names.get(0).map(|n| n.as_str()), Some("b"));
+    assert_eq!(rt; names.get(1).map(|n| n.as_str()), Some("e"));
+    Ok(())
+}
+
+#[test]
+fn the_longest_file_and_one_byte_more(rt: HostRuntime) -> Result<(), Fail> {
+    let alloc = rt.alloc();
+    let mut files = MemFiles::none(alloc);
+    files.add("full", vec![in alloc; 0; 1_048_576]?.as_slice())?;
+    files.add("long", vec![in alloc; 0; 1_048_577]?.as_slice())?;
+    let mut out = Bytes::none(alloc);
+    assert_eq!(rt; files.read("long", &mut out), Err(FileFail::TooLong));
+    assert!(rt; out.as_slice().is_empty());
+    assert_eq!(rt; files.read("full", &mut out), Ok(true));
+    assert_eq!(rt; out.as_slice().len(), 1_048_576);
+    Ok(())
+}
+
+#[test]
+fn files_fail_where_they_are_told_to(rt: HostRuntime) -> Result<(), Fail> {
+    let mut files = three_files(rt.alloc())?;
+    files.fail_call(1)?;
+    files.fail_call(2)?;
+    let mut out = Bytes::none(rt.alloc());
+    let mut names = TextList::none(rt.alloc());
+    assert_eq!(rt; files.read("a/b", &mut out), Ok(true));
+    assert_eq!(rt; files.names("a", &mut names), Err(FileFail::Fault));
+    assert_eq!(rt; files.read("a/b", &mut out), Err(FileFail::Fault));
+    assert_eq!(rt; files.names("a", &mut names), Ok(true));
+    assert_eq!(rt; out.as_slice(), b"3".as_slice());
+    assert_eq!(rt; names.len(), 2);
     Ok(())
 }

@@ -38,6 +38,15 @@ impl TextList {
         Ok(())
     }
 
+    /// Appends all texts of another list, which are dropped where memory is refused.
+    pub fn append(&mut self, mut more: TextList) -> Result<(), NoMemory>
+        ensures ok { OnOk result (self.new ≡ self.old ++ more) }
+        ensures err { OnErr result (self.new ≡ self.old) }
+    {
+        self.inner.append(&mut more.inner)?;
+        Ok(())
+    }
+
     pub fn len(&self) -> usize
         ensures { result ≡ length self.now }
     {
