@@ -1,7 +1,7 @@
 -- What a cut may leave, over the calls of a flash: three laws of `Cuts`, and what they give for runs of calls.
 use Rattle.std.proofs.Common.{◌≡◌, ℕ, Bool, true, zero, suc, ◌+◌, ◌-◌, ◌%◌, ◌<◌, ◌≤◌, ◌∙◌, List, [], ◌∷◌, ◌++◌, length, take, Option, Some, None, ap, sym, subst, arith, refl, inl, inr, ◌⊎◌}
 use Rattle.std.specs.Prelude.{slice_get}
-use Rattle.std.specs.Option.{is_some, option_map}
+use Rattle.std.specs.Option.{ForSome, is_some, option_map}
 use Rattle.std.proofs.lemmas.List.{length-take, take-take}
 use Rattle.std.proofs.lemmas.Option.{slice_get_within}
 use Rattle.bb_flash.specs.Calls.{ChangesOnly, IsTornBy, IsUntouched, counted}
@@ -143,19 +143,26 @@ joined_at one two three k first mid g last f continued image (inr torn) = elim (
   | inr late ↦ inr (inr (record { call = torn.call; change = torn.change; later = late; made = torn.made; torn = torn.torn }))
 ]
 
--- where two runs follow each other, and an image torn in the first has T, and so does one torn in the second
-pub images_joined : (R S T : Image → Image → Type 0) (one two three : Device) → ((x y : Image) → R x y → T x y) → ((x y z : Image) → R x y → S y z → T x z) → IsLater one two → IsLater two three → EachImage R one two → EachImage S two three → EachImage T one three
-images_joined R S T one two three early late h k first_run second_run = record {
+-- where two runs follow each other, and an image torn in the first has T, and so does one torn in the second, which
+-- began with an image that has M
+pub images_joined_at : (R S T M : Image → Image → Type 0) (one two three : Device) → ((x y : Image) → R x y → T x y) → ((x y z : Image) → M x y → S y z → T x z) → IsLater one two → IsLater two three → ForSome one.told (λ first. ForSome two.told (λ mid. M first.image mid.image)) → EachImage R one two → EachImage S two three → EachImage T one three
+images_joined_at R S T M one two three early late h k between first_run second_run = record {
   each = λ first e last f image cut.
       let there = some_of two.told (h.told ∙ ap is_some e) in
       let mid = there.0 in
       let g : two.told ≡ Some mid = there.1 in
-      let between : R first.image mid.image = first_run.each first e mid g mid.image (Cuts-now two.geometry.page mid (moment first)) in
       elim (joined_at one two three k first mid g last f (k.continued mid g last f) image cut) [
         | inl before ↦ early first.image image (first_run.each first e mid g image before)
-        | inr after ↦ late first.image mid.image image between (second_run.each mid g last f image after)
+        | inr after ↦ late first.image mid.image image (between first e mid g) (second_run.each mid g last f image after)
       ];
 }
+
+-- what the first run leaves is an image of it too
+pub images_joined : (R S T : Image → Image → Type 0) (one two three : Device) → ((x y : Image) → R x y → T x y) → ((x y z : Image) → R x y → S y z → T x z) → IsLater one two → IsLater two three → EachImage R one two → EachImage S two three → EachImage T one three
+images_joined R S T one two three early late h k first_run second_run =
+    images_joined_at R S T R one two three early late h k
+    (λ first e mid g. first_run.each first e mid g mid.image (Cuts-now two.geometry.page mid (moment first)))
+    first_run second_run
 
 -- two runs that each tear one range at most
 pub torn_joined : (at len : ℕ) (one two three : Device) → IsLater one two → IsLater two three → EachTorn at len one two → EachTorn at len two three → EachTorn at len one three
