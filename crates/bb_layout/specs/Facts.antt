@@ -1,0 +1,54 @@
+-- What is true of every layout.
+use Rattle.std.specs.Prelude.{◌≡◌, ◌≢◌, ℕ, ◌+◌, ◌<◌, ◌≤◌, List, All, AllPairs}
+use Rattle.bb_flash.specs.Geometry.{IsGeometry}
+use Rattle.bb_flash.specs.declared.geometry.Geometry.{Geometry}
+use Rattle.bb_flash.specs.declared.region.Region.{Region}
+use Rattle.bb_layout.specs.Copies.{region_of, room_for, spacing}
+use Rattle.bb_layout.specs.declared.storage.Storage.{Storage}
+use Rattle.bb_layout.specs.declared.var.Var.{Var}
+use Rattle.std.specs.Coded.{Unit-prop, le_prop}
+use Rattle.bb_layout.specs.Ranges.{end_of}
+use Rattle.bb_layout.specs.Variables.{IsWellFormed}
+use Rattle.bb_vars.specs.Kind.{HasFewNames}
+use Rattle.bb_vars.specs.declared.kind.Kind.{Kind}
+use Rattle.bb_vars.specs.declared.kind.Kind.TheVariants.{Uint8, Uint32, Enum32, Mac, Chars}
+
+-- this fact has one proof at most, as a type that keeps it asks for
+pub HasFewNames-prop : (kind : Kind) → IsProp (HasFewNames kind)
+HasFewNames-prop Uint8 = Unit-prop
+HasFewNames-prop Uint32 = Unit-prop
+HasFewNames-prop (Enum32 names) = le_prop
+HasFewNames-prop Mac = Unit-prop
+HasFewNames-prop (Chars size) = Unit-prop
+
+-- a region lies in another
+pub record IsWithin (outer inner : Region) : Type 0 where
+  pub from : outer.at ≤ inner.at
+  pub to : inner.at + inner.size ≤ outer.at + outer.size
+
+-- no byte is in both ranges
+abbrev pub ShareNoByte : Var → Var → Type 0
+ShareNoByte v w = (k : ℕ) → v.at ≤ k → k < end_of v → w.at ≤ k → k < end_of w → ⊥
+
+-- variables of an area of so many bytes
+pub record AreVars (area_len : ℕ) (vars : List Var) : Type 0 where
+  pub each : All IsWellFormed vars
+  pub inside : All (λ v. end_of v ≤ area_len) vars
+  pub names_differ : AllPairs (λ v w. v.name ≢ w.name) vars
+  pub apart : AllPairs ShareNoByte vars
+
+-- copies of an area of so many bytes in a partition of a device: each has a region in the partition, with room for its
+-- record
+pub record HasCopies (geometry : Geometry) (partition : Region) (storage : Storage) (copies area_len : ℕ) : Type 0 where
+  pub in_place : geometry.block ≡ 0
+  pub on_device : partition.at + partition.size ≤ geometry.size
+  pub least : 2 ≤ copies
+  pub most : copies ≤ 3
+  pub inside : (copy : ℕ) → copy < copies → IsWithin partition (region_of storage partition copy)
+  pub room : room_for area_len ≤ spacing storage
+
+pub record IsLayout (geometry : Geometry) (partition : Region) (storage : Storage) (copies area_len : ℕ) (vars : List Var) : Type 0 where
+  pub geometry_is : IsGeometry geometry
+  pub copied : HasCopies geometry partition storage copies area_len
+  pub area_most : area_len ≤ 65535
+  pub vars_are : AreVars area_len vars

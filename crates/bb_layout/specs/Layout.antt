@@ -1,0 +1,74 @@
+-- The layout that a devicetree gives, or the first refusal (devicetree binding `barebox,state`; barebox User Manual, State
+-- Framework).
+use Rattle.std.specs.Prelude.{ℕ, List, Option, Result, Ok, ok_or}
+use Rattle.bb_flash.specs.declared.geometry.Geometry.{Geometry}
+use Rattle.bb_flash.specs.declared.region.Region.{Region}
+use Rattle.bb_tree.specs.Node.{Branch}
+use Rattle.bb_layout.specs.Backend.{backend_of}
+use Rattle.bb_layout.specs.Copies.{copies_of}
+use Rattle.bb_layout.specs.Ranges.{area_of}
+use Rattle.bb_layout.specs.StateNode.{state_of}
+use Rattle.bb_layout.specs.StateProps.{props_of}
+use Rattle.bb_layout.specs.Steps.{result_then}
+use Rattle.bb_layout.specs.Storage.{stored}
+use Rattle.bb_layout.specs.Variables.{variables_of}
+use Rattle.bb_layout.specs.declared.format_kind.FormatKind.{FormatKind}
+use Rattle.bb_layout.specs.declared.format_kind.FormatKind.TheVariants.{Raw}
+use Rattle.bb_layout.specs.declared.layout.Layout.{Layout}
+use Rattle.bb_layout.specs.declared.layout_error.LayoutError.{LayoutError}
+use Rattle.bb_layout.specs.declared.layout_error.LayoutError.TheVariants.{NoState}
+use Rattle.bb_layout.specs.declared.storage.Storage.{Storage}
+use Rattle.bb_layout.specs.declared.var.Var.{Var}
+
+-- what a layout says, field by field
+pub record Laid : Type 0 where
+  pub name : List ℕ
+  pub node : List ℕ
+  pub magic : ℕ
+  pub format : FormatKind
+  pub storage : Storage
+  pub geometry : Geometry
+  pub region : Region
+  pub copies : ℕ
+  pub area_len : ℕ
+  pub vars : List Var
+
+abbrev pub laid : Layout → Laid
+laid l = record {
+  name = l.name;
+  node = l.node;
+  magic = l.magic;
+  format = l.format;
+  storage = l.storage;
+  geometry = l.geometry;
+  region = l.region;
+  copies = l.copies;
+  area_len = l.area_len;
+  vars = l.vars;
+}
+
+-- the layout of a state node, by a name
+abbrev pub layout_at : Branch (List ℕ) → List ℕ → Branch (List ℕ) → Geometry → Result Laid LayoutError
+layout_at tree name state geometry =
+    result_then (props_of state) (λ props.
+    result_then (variables_of state) (λ vars.
+    result_then (area_of vars) (λ area_len.
+    result_then (backend_of tree state) (λ region.
+    result_then (stored geometry region props.stride area_len) (λ storage.
+    Ok (record {
+      name = name;
+      node = state.name;
+      magic = props.magic;
+      format = Raw;
+      storage = storage;
+      geometry = geometry;
+      region = region;
+      copies = copies_of storage region;
+      area_len = area_len;
+      vars = vars;
+    }))))))
+
+-- the layout that a tree gives for a device, by the name that is asked for, if there is one
+abbrev pub layout_from : Branch (List ℕ) → Option (List ℕ) → Geometry → Result Laid LayoutError
+layout_from tree name geometry =
+    result_then (ok_or (state_of tree name) NoState) (λ found. layout_at tree found.0 found.1 geometry)

@@ -1,0 +1,19 @@
+-- Definitions that contracts cite.
+pub mod Backend
+pub mod Copies
+pub mod Defaults
+pub mod Facts
+pub mod Fields
+pub mod Layout
+pub mod Ranges
+pub mod Refusals
+pub mod Results
+pub mod Spans
+pub mod StateNode
+pub mod StateProps
+pub mod Steps
+pub mod Storage
+pub mod VarNames
+pub mod VarType
+pub mod Variables
+pub mod Walk

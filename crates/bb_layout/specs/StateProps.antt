@@ -1,0 +1,59 @@
+-- The properties of the state node itself, in the order in which they are looked at (devicetree binding `barebox,state`;
+-- barebox User Manual, State Framework).
+use Rattle.std.specs.Prelude.{ℕ, Bool, false, ◌||◌, ◌∷◌, [], ◌++◌, List, Option, Some, None, Result, Ok, Err, if◌then◌else◌, codes, nat_lt, ok_or, option_and_then}
+use Rattle.std.specs.Option.{option_map_or}
+use Rattle.std.specs.Str.{bytes_eq}
+use Rattle.bb_tree.specs.Node.{Branch}
+use Rattle.bb_tree.specs.Paths.{prop_of}
+use Rattle.bb_layout.specs.Fields.{cell_of}
+use Rattle.bb_layout.specs.Steps.{result_then}
+use Rattle.bb_layout.specs.declared.layout_error.LayoutError.{LayoutError}
+use Rattle.bb_layout.specs.declared.layout_error.LayoutError.TheVariants.{Missing, BadProp}
+use Rattle.bb_layout.specs.declared.state_props.Props.{Props}
+
+-- a property that must be there
+abbrev pub needed : Branch (List ℕ) → List ℕ → Result (List ℕ) LayoutError
+needed b name = ok_or (prop_of name b) (Missing name)
+
+-- the value is this string: its bytes and a zero byte
+abbrev pub is_string : List ℕ → List ℕ → Bool
+is_string value text = bytes_eq value (text ++ 0 ∷ [])
+
+-- `magic` is one cell
+abbrev pub magic_of : Branch (List ℕ) → Result ℕ LayoutError
+magic_of b = result_then (needed b (codes "magic")) (λ value. ok_or (cell_of value) (BadProp (codes "magic")))
+
+-- what a property must be, if it is there
+abbrev pub checked : Branch (List ℕ) → List ℕ → (List ℕ → Bool) → Result (Unit {0}) LayoutError
+checked b name is_good = option_map_or (λ value. if is_good value then Ok tt else Err (BadProp name)) (prop_of name b) (Ok tt)
+
+-- `backend-type` is `raw`, the one format so far
+abbrev pub type_of : Branch (List ℕ) → Result (Unit {0}) LayoutError
+type_of b = result_then (needed b (codes "backend-type")) (λ _. checked b (codes "backend-type") (λ value. is_string value (codes "raw")))
+
+-- `algo` asks for a key, which no format takes so far
+abbrev pub algo_of : Branch (List ℕ) → Result (Unit {0}) LayoutError
+algo_of b = checked b (codes "algo") (λ _. false)
+
+abbrev pub is_storage_type : List ℕ → Bool
+is_storage_type value = is_string value (codes "circular") || is_string value (codes "noncircular") || is_string value (codes "direct")
+
+abbrev pub storage_type_of : Branch (List ℕ) → Result (Unit {0}) LayoutError
+storage_type_of b = checked b (codes "backend-storage-type") is_storage_type
+
+-- `backend-stridesize` is one cell above 0
+abbrev pub some_cell : List ℕ → Option ℕ
+some_cell value = option_and_then (λ n. if nat_lt 0 n then Some n else None) (cell_of value)
+
+abbrev pub stride_of : Branch (List ℕ) → Result (Option ℕ) LayoutError
+stride_of b =
+    option_map_or (λ value. option_map_or (λ n. Ok (Some n)) (some_cell value) (Err (BadProp (codes "backend-stridesize"))))
+    (prop_of (codes "backend-stridesize") b) (Ok None)
+
+abbrev pub props_of : Branch (List ℕ) → Result Props LayoutError
+props_of b =
+    result_then (magic_of b) (λ magic.
+    result_then (type_of b) (λ _.
+    result_then (algo_of b) (λ _.
+    result_then (storage_type_of b) (λ _.
+    result_then (stride_of b) (λ stride. Ok (record { magic = magic; stride = stride }))))))

@@ -1,0 +1,30 @@
+ghost use Rattle.std.specs.Prelude.{◌≡◌, ◌≤◌, ◌+◌, All, length};
+ghost use Rattle.bb_layout.specs.Defaults.{defaults_of};
+ghost use Rattle.bb_vars.specs.Table.{set_of};
+
+use crate::{Var, VarList};
+
+#[tactic(auto, using(crate::proofs::Filling::defaults_more, crate::proofs::Filling::room_at))]
+/// Fills an area, in which each default has room at its place: zero bytes, and over them the defaults.
+pub(crate) fn fill_defaults(vars: &VarList, out: &mut [u8])
+    requires { All (λ v. v.at + length v.default ≤ length out.old) vars.now }
+    ensures { out.new ≡ defaults_of (length out.old) vars.now }
+{
+    out.fill(0);
+    for place in 0..vars.len() {
+        let Some(var) = vars.get(place) else {
+            unreachable!()
+        };
+        put_default(var, out);
+    }
+}
+
+fn put_default(var: &Var, out: &mut [u8])
+    requires { var.now.at + length var.now.default ≤ length out.old }
+    ensures put { out.new ≡ set_of out.old var.now.at var.now.default }
+    ensures same_length { length out.new ≡ length out.old }
+{
+    let at = var.at as usize;
+    let bytes = var.default.as_slice();
+    out[at..at + bytes.len()].copy_from_slice(bytes);
+}

@@ -1,0 +1,34 @@
+//! From the state node of a devicetree to the layout of its variables and copies (barebox User Manual, State
+//! Framework). States and choosers stand on it; it knows no text format and makes no device call.
+#![tactic(auto)]
+
+mod backend;
+mod defaults;
+mod fields;
+mod format_kind;
+mod from_tree;
+mod layout;
+mod layout_error;
+mod placing;
+mod ranges;
+mod state_node;
+mod state_props;
+mod storage;
+mod var;
+mod var_list;
+mod var_type;
+mod variable;
+mod variables;
+
+pub use format_kind::FormatKind;
+pub use from_tree::layout_of;
+pub use layout::Layout;
+pub use layout_error::LayoutError;
+pub use storage::Storage;
+pub use var::Var;
+pub use var_list::VarList;
+
+#[cfg(test)]
+mod board_tests;
+#[cfg(test)]
+mod tests;

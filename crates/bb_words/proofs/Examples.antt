@@ -1,0 +1,123 @@
+-- Words by computation.
+use Rattle.std.proofs.Common.{◌≡◌, ℕ, List, [], ◌∷◌, Option, Some, None, Ok, Err, codes, refl}
+use Rattle.hex.specs.Hex.{decode_pairs}
+use Rattle.bb_words.specs.declared.command.Command.{Command}
+use Rattle.bb_words.specs.declared.command.Command.TheVariants.{State}
+use Rattle.bb_words.specs.declared.command.Output.{Output}
+use Rattle.bb_words.specs.declared.command.Output.TheVariants.{Value, Dump, DumpShell}
+use Rattle.bb_words.specs.declared.command.RawAction.TheVariants.{Look, Write}
+use Rattle.bb_words.specs.Words.{raw_of, words_from, words_of}
+
+no_words : words_of [] ≡ Err 0
+unfolding words_from
+no_words = refl
+
+other_command : words_of (codes "raw2" ∷ codes "1" ∷ []) ≡ Err 0
+unfolding words_from
+other_command = refl
+
+raw_look : words_of (codes "raw" ∷ codes "0x12345678" ∷ codes "9" ∷ codes "-g" ∷ []) ≡ Ok (raw_of 305419896 9 Look)
+unfolding words_from
+raw_look = refl
+
+raw_write : words_of (codes "raw" ∷ codes "1" ∷ codes "2" ∷ codes "-s" ∷ codes "aB01" ∷ []) ≡ Ok (raw_of 1 2 (Write (171 ∷ 1 ∷ [])))
+unfolding words_from decode_pairs
+raw_write = refl
+
+raw_missing : words_of (codes "raw" ∷ codes "1" ∷ []) ≡ Err 2
+unfolding words_from
+raw_missing = refl
+
+raw_fifth : words_of (codes "raw" ∷ codes "0x1" ∷ codes "9" ∷ codes "-g" ∷ codes "x" ∷ []) ≡ Err 4
+unfolding words_from
+raw_fifth = refl
+
+raw_odd : words_of (codes "raw" ∷ codes "1" ∷ codes "9" ∷ codes "-s" ∷ codes "31323334353637383" ∷ []) ≡ Err 4
+unfolding words_from
+raw_odd = refl
+
+raw_short : words_of (codes "raw" ∷ codes "1" ∷ codes "2" ∷ codes "-s" ∷ codes "ab" ∷ []) ≡ Err 4
+unfolding words_from
+raw_short = refl
+
+raw_no_digit : words_of (codes "raw" ∷ codes "1" ∷ codes "1" ∷ codes "-s" ∷ codes "0g" ∷ []) ≡ Err 4
+unfolding words_from decode_pairs
+raw_no_digit = refl
+
+raw_sixth : words_of (codes "raw" ∷ codes "1" ∷ codes "2" ∷ codes "-s" ∷ codes "abcd" ∷ codes "x" ∷ []) ≡ Err 5
+unfolding words_from decode_pairs
+raw_sixth = refl
+
+magic_too_large : words_of (codes "raw" ∷ codes "4294967296" ∷ codes "9" ∷ codes "-g" ∷ []) ≡ Err 1
+unfolding words_from
+magic_too_large = refl
+
+length_last : words_of (codes "raw" ∷ codes "1" ∷ codes "65535" ∷ codes "-g" ∷ []) ≡ Ok (raw_of 1 65535 Look)
+unfolding words_from
+length_last = refl
+
+length_past : words_of (codes "raw" ∷ codes "1" ∷ codes "65536" ∷ codes "-g" ∷ []) ≡ Err 2
+unfolding words_from
+length_past = refl
+
+no_long_form : words_of (codes "raw" ∷ codes "1" ∷ codes "9" ∷ codes "--get" ∷ []) ≡ Err 3
+unfolding words_from
+no_long_form = refl
+
+-- ---- `state`
+
+abbrev state : List ℕ → Option (List ℕ) → List Output → Command
+state file name outputs = State (record { file = file; name = name; outputs = outputs })
+
+all_options : words_of (codes "state" ∷ codes "-d" ∷ codes "-n" ∷ codes "boot" ∷ codes "--get=a" ∷ codes "--input" ∷ codes "x.dts" ∷ codes "--dump-shell" ∷ codes "-g" ∷ codes "-d" ∷ codes "--dump" ∷ [])
+    ≡ Ok (state (codes "x.dts") (Some (codes "boot")) (Dump ∷ Value (codes "a") ∷ DumpShell ∷ Value (codes "-d") ∷ Dump ∷ []))
+unfolding words_from
+all_options = refl
+
+file_alone : words_of (codes "state" ∷ codes "--input=a=b" ∷ []) ≡ Ok (state (codes "a=b") None [])
+unfolding words_from
+file_alone = refl
+
+empty_value : words_of (codes "state" ∷ codes "-i" ∷ codes "f" ∷ codes "--get=" ∷ []) ≡ Ok (state (codes "f") None (Value [] ∷ []))
+unfolding words_from
+empty_value = refl
+
+no_file : words_of (codes "state" ∷ codes "-d" ∷ []) ≡ Err 2
+unfolding words_from
+no_file = refl
+
+state_alone : words_of (codes "state" ∷ []) ≡ Err 1
+unfolding words_from
+state_alone = refl
+
+no_value : words_of (codes "state" ∷ codes "-i" ∷ codes "f" ∷ codes "-g" ∷ []) ≡ Err 4
+unfolding words_from
+no_value = refl
+
+second_file : words_of (codes "state" ∷ codes "-i" ∷ codes "f" ∷ codes "--input=f" ∷ []) ≡ Err 3
+unfolding words_from
+second_file = refl
+
+second_name : words_of (codes "state" ∷ codes "-n" ∷ codes "a" ∷ codes "-n" ∷ codes "a" ∷ []) ≡ Err 3
+unfolding words_from
+second_name = refl
+
+short_with_value : words_of (codes "state" ∷ codes "-i=f" ∷ []) ≡ Err 1
+unfolding words_from
+short_with_value = refl
+
+dump_with_value : words_of (codes "state" ∷ codes "-i" ∷ codes "f" ∷ codes "--dump=x" ∷ []) ≡ Err 3
+unfolding words_from
+dump_with_value = refl
+
+shell_with_value : words_of (codes "state" ∷ codes "--dump-shell=x" ∷ []) ≡ Err 1
+unfolding words_from
+shell_with_value = refl
+
+no_set : words_of (codes "state" ∷ codes "-i" ∷ codes "f" ∷ codes "-s" ∷ codes "a=1" ∷ []) ≡ Err 3
+unfolding words_from
+no_set = refl
+
+no_key : words_of (codes "state" ∷ codes "-k" ∷ codes "key" ∷ []) ≡ Err 1
+unfolding words_from
+no_key = refl

@@ -1,0 +1,6 @@
+-- Lemmas.
+pub mod Areas
+pub mod Examples
+pub mod FirstBadLemmas
+pub mod GrammarLemmas
+pub mod Steps

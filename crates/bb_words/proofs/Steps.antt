@@ -1,0 +1,175 @@
+-- What the words from a place on are, by the word at that place.
+use Rattle.std.proofs.Common.{◌≡◌, ℕ, zero, suc, ◌+◌, ◌≤◌, List, [], ◌∷◌, Bool, true, false, Option, Some, None, Result, Ok, Err, if◌then◌else◌, codes, drop, length, refl, add-one, ◌∙◌, sym, ap, subst, IfOk, IfErr}
+use Rattle.std.proofs.lemmas.Option.{slice_get_past}
+use Rattle.std.specs.Prelude.{slice_get, option_and_then}
+use Rattle.std.specs.Option.{ok_or, option_map, option_map_or}
+use Rattle.std.specs.Result.{IsErrAnd}
+use Rattle.std.specs.Str.{bytes_eq}
+use Rattle.bb_words.specs.Answer.{Refuses}
+use Rattle.bb_words.specs.declared.command.Command.{Command}
+use Rattle.bb_words.specs.declared.command.Command.TheVariants.{State}
+use Rattle.bb_words.specs.declared.command.RawAction.TheVariants.{Look, Write}
+use Rattle.bb_words.specs.declared.command.StateCommand.{StateCommand}
+use Rattle.bb_words.specs.declared.given.Given.{Given}
+use Rattle.bb_words.specs.declared.option.Valued.{Valued}
+use Rattle.bb_words.specs.declared.error.WordsError.{WordsError}
+use Rattle.bb_words.specs.declared.error.WordsError.TheVariants.{BadWord, NoMemory}
+use Rattle.bb_words.specs.Options.{none_given}
+use Rattle.bb_words.specs.Words.{Stage, Start, Magic, Length, Action, Area, Options, Whole, raw_of, number_up_to, area_of, state_of, next, command_at, words_from, words_of}
+
+-- ---- answers
+
+-- the error of a `?`
+pub raised : {T E : Type 0} (P : E → Type 0) (r : Result T E) (e : E) → IsErrAnd r (λ y. y ≡ e) → P e → IfErr r P
+raised P (Ok x) e h p = tt
+raised P (Err y) e h p = subst P (sym h) p
+
+pub moved : {X : Type 0} (x y : Result X ℕ) (cause : WordsError) → x ≡ y → Refuses y cause → Refuses x cause
+moved x y cause e h = subst (λ x. Refuses x cause) (sym e) h
+
+-- where a value is read, and where none is
+pub read_on : {A X : Type 0} (x d : X) (f : A → X) (o : Option A) (a : A) → x ≡ option_map_or f o d → o ≡ Some a → x ≡ f a
+read_on x d f o a e found = e ∙ ap (λ o. option_map_or f o d) found
+
+pub none_on : {A X : Type 0} (x : Result X ℕ) (f : A → Result X ℕ) (o : Option A) (place : ℕ) (cause : WordsError) → x ≡ option_map_or f o (Err place)
+    → (cause ≡ BadWord place) × (o ≡ None) → Refuses x cause
+none_on x f o place cause e bad = subst (Refuses x) (sym bad.0) (e ∙ ap (λ o. option_map_or f o (Err place)) bad.1)
+
+lost : {A X : Type 0} (f : A → Result X ℕ) (o : Option A) (at place : ℕ) → ok_or o at ≡ Err place → option_map_or f o (Err at) ≡ Err place
+lost f None at place h = ap (λ e. Err e) (same at place h)
+  where
+    same : {A : Type 0} (a b : ℕ) → ◌≡◌ {A = Result A ℕ} (Err a) (Err b) → a ≡ b
+    same a b h = cc
+lost f (Some a) at place h = absurd (cc)
+
+pub lost_on : {A X : Type 0} (x : Result X ℕ) (f : A → Result X ℕ) (o : Option A) (at : ℕ) (cause : WordsError) → x ≡ option_map_or f o (Err at)
+    → Refuses (ok_or o at) cause → Refuses x cause
+lost_on x f o at (BadWord place) e h = e ∙ lost f o at place h
+lost_on x f o at NoMemory e h = tt
+
+-- ---- the word at a place
+
+-- the words from a place on, where the next place is m and the word is the n-th
+abbrev pub behind_word : ℕ → ℕ → List (List ℕ) → Stage → List ℕ → Result Command ℕ
+behind_word place m words stage word = option_map_or (λ behind. words_from (place + 1) behind (drop m words)) (next stage word) (Err place)
+
+step_at : (place n : ℕ) (stage : Stage) (words : List (List ℕ)) →
+    words_from place stage (drop n words) ≡ option_map_or (behind_word place (suc n) words stage) (slice_get words n) (ok_or (command_at stage) place)
+unfolding words_from
+step_at place zero stage [] = refl
+step_at place (suc n) stage [] = refl
+step_at place zero stage (w ∷ ws) = refl
+step_at place (suc n) stage (w ∷ ws) = step_at place n stage ws
+
+step_to : (place m : ℕ) (stage : Stage) (words : List (List ℕ)) → m ≡ suc place →
+    words_from place stage (drop place words) ≡ option_map_or (behind_word place m words stage) (slice_get words place) (ok_or (command_at stage) place)
+step_to place m stage words e = rw e (step_at place place stage words)
+
+step : (place : ℕ) (stage : Stage) (words : List (List ℕ)) →
+    words_from place stage (drop place words) ≡ option_map_or (behind_word place (place + 1) words stage) (slice_get words place) (ok_or (command_at stage) place)
+step place stage words = step_to place (place + 1) stage words (add-one place)
+
+step_word : (place : ℕ) (stage : Stage) (words : List (List ℕ)) (word : List ℕ) → slice_get words place ≡ Some word →
+    words_from place stage (drop place words) ≡ behind_word place (place + 1) words stage word
+step_word place stage words word found = read_on _ _ _ _ word (step place stage words) found
+
+-- a word that may come, one that may not, and none
+pub step_on : (place : ℕ) (stage behind : Stage) (words : List (List ℕ)) (word : List ℕ) → slice_get words place ≡ Some word → next stage word ≡ Some behind →
+    words_from place stage (drop place words) ≡ words_from (place + 1) behind (drop (place + 1) words)
+step_on place stage behind words word found may = read_on _ _ _ _ behind (step_word place stage words word found) may
+
+pub step_bad : (place : ℕ) (stage : Stage) (words : List (List ℕ)) (word : List ℕ) → slice_get words place ≡ Some word → next stage word ≡ None →
+    words_from place stage (drop place words) ≡ Err place
+step_bad place stage words word found bad = step_word place stage words word found ∙ ap (λ o. option_map_or (λ behind. words_from (place + 1) behind (drop (place + 1) words)) o (Err place)) bad
+
+pub step_lost : (place : ℕ) (stage : Stage) (words : List (List ℕ)) (word : List ℕ) (cause : WordsError) → slice_get words place ≡ Some word →
+    Refuses (ok_or (next stage word) place) cause → Refuses (words_from place stage (drop place words)) cause
+step_lost place stage words word cause found h = lost_on _ _ (next stage word) place cause (step_word place stage words word found) h
+
+step_none : (place : ℕ) (stage : Stage) (words : List (List ℕ)) → slice_get words place ≡ None →
+    words_from place stage (drop place words) ≡ ok_or (command_at stage) place
+step_none place stage words none = step place stage words ∙ ap (λ o. option_map_or (behind_word place (place + 1) words stage) o (ok_or (command_at stage) place)) none
+
+pub at_end : (place : ℕ) (command : Command) (words : List (List ℕ)) →
+    words_from place (Whole command) (drop place words) ≡ option_map_or (λ word. Err place) (slice_get words place) (Ok command)
+at_end place command words = step place (Whole command) words
+
+-- a word is missing
+pub missing : (place : ℕ) (stage : Stage) (words : List (List ℕ)) (cause : WordsError) → command_at stage ≡ None → (cause ≡ BadWord place) × (slice_get words place ≡ None) →
+    Refuses (words_from place stage (drop place words)) cause
+missing place stage words cause none bad =
+    subst (Refuses _) (sym bad.0) (step_none place stage words bad.1 ∙ ap (λ o. ok_or o place) none)
+
+-- ---- words that stand for a value
+
+mapped : {A X : Type 0} (g : Stage → X) (make : A → Stage) (read : List ℕ → Option A) (d : X) (o : Option (List ℕ)) →
+    option_map_or (λ word. option_map_or g (option_map make (read word)) d) o d ≡ option_map_or (λ v. g (make v)) (option_and_then read o) d
+mapped g make read d None = refl
+mapped g make read d (Some word) = mapped_value g make d (read word)
+  where
+    mapped_value : {A X : Type 0} (g : Stage → X) (make : A → Stage) (d : X) (o : Option A) → option_map_or g (option_map make o) d ≡ option_map_or (λ v. g (make v)) o d
+    mapped_value g make d None = refl
+    mapped_value g make d (Some v) = refl
+
+pub at_magic : (place : ℕ) (words : List (List ℕ)) →
+    words_from place Magic (drop place words) ≡
+    option_map_or (λ n. words_from (place + 1) (Length n) (drop (place + 1) words)) (option_and_then (number_up_to 4294967295) (slice_get words place)) (Err place)
+at_magic place words = step place Magic words ∙ mapped _ (λ n. Length n) (number_up_to 4294967295) _ (slice_get words place)
+
+pub at_length : (place magic : ℕ) (words : List (List ℕ)) →
+    words_from place (Length magic) (drop place words) ≡
+    option_map_or (λ n. words_from (place + 1) (Action magic n) (drop (place + 1) words)) (option_and_then (number_up_to 65535) (slice_get words place)) (Err place)
+at_length place magic words = step place (Length magic) words ∙ mapped _ (λ n. Action magic n) (number_up_to 65535) _ (slice_get words place)
+
+pub at_area : (place magic len : ℕ) (words : List (List ℕ)) →
+    words_from place (Area magic len) (drop place words) ≡
+    option_map_or (λ area. words_from (place + 1) (Whole (raw_of magic len (Write area))) (drop (place + 1) words)) (option_and_then (area_of len) (slice_get words place)) (Err place)
+at_area place magic len words = step place (Area magic len) words ∙ mapped _ (λ area. Whole (raw_of magic len (Write area))) (area_of len) _ (slice_get words place)
+
+-- ---- words that are compared
+
+is_test : {X : Type 0} (b : Bool) (x y : X) → b ≡ true → (if b then x else y) ≡ x
+is_test b x y h = ap (λ b. if b then x else y) h
+
+not_test : {X : Type 0} (b : Bool) (x y : X) → b ≡ false → (if b then x else y) ≡ y
+not_test b x y h = ap (λ b. if b then x else y) h
+
+pub look_word : (magic len : ℕ) (words : List (List ℕ)) (word : List ℕ) → slice_get words 3 ≡ Some word → bytes_eq word (codes "-g") ≡ true →
+    words_from 3 (Action magic len) (drop 3 words) ≡ words_from 4 (Whole (raw_of magic len Look)) (drop 4 words)
+look_word magic len words word found get = step_on 3 (Action magic len) _ words word found (is_test _ _ _ get)
+
+pub write_word : (magic len : ℕ) (words : List (List ℕ)) (word : List ℕ) → slice_get words 3 ≡ Some word → bytes_eq word (codes "-g") ≡ false → bytes_eq word (codes "-s") ≡ true →
+    words_from 3 (Action magic len) (drop 3 words) ≡ words_from 4 (Area magic len) (drop 4 words)
+write_word magic len words word found get set = step_on 3 (Action magic len) _ words word found (not_test _ _ _ get ∙ is_test _ _ _ set)
+
+pub other_word : (magic len : ℕ) (words : List (List ℕ)) (word : List ℕ) → slice_get words 3 ≡ Some word → bytes_eq word (codes "-g") ≡ false → bytes_eq word (codes "-s") ≡ false →
+    words_from 3 (Action magic len) (drop 3 words) ≡ Err 3
+other_word magic len words word found get set = step_bad 3 (Action magic len) words word found (not_test _ _ _ get ∙ not_test _ _ _ set)
+
+pub raw_command : (words : List (List ℕ)) (word : List ℕ) → slice_get words 0 ≡ Some word → bytes_eq word (codes "raw") ≡ true →
+    words_of words ≡ words_from 1 Magic (drop 1 words)
+raw_command words word found raw = step_on 0 Start _ words word found (is_test _ _ _ raw)
+
+pub state_command : (words : List (List ℕ)) (word : List ℕ) → slice_get words 0 ≡ Some word → bytes_eq word (codes "raw") ≡ false → bytes_eq word (codes "state") ≡ true →
+    words_of words ≡ words_from 1 (Options None none_given) (drop 1 words)
+state_command words word found raw state = step_on 0 Start _ words word found (not_test _ _ _ raw ∙ is_test _ _ _ state)
+
+pub no_command : (words : List (List ℕ)) (word : List ℕ) → slice_get words 0 ≡ Some word → bytes_eq word (codes "raw") ≡ false → bytes_eq word (codes "state") ≡ false →
+    words_of words ≡ Err 0
+no_command words word found raw state = step_bad 0 Start words word found (not_test _ _ _ raw ∙ not_test _ _ _ state)
+
+-- ---- the end of the options
+
+pub state_made : (x : Result Command ℕ) (words : List (List ℕ)) (due : Option Valued) (given : Given) (place : ℕ) (r : Result StateCommand WordsError) →
+    length words ≤ place → x ≡ words_from place (Options due given) (drop place words) →
+    IfOk r (λ state. state_of due given ≡ Some state) → IfOk r (λ state. x ≡ Ok (State state))
+state_made x words due given place (Ok state) past e made =
+    e ∙ step_none place (Options due given) words (slice_get_past words place past) ∙ ap (λ o. ok_or (option_map (λ state. State state) o) place) made
+state_made x words due given place (Err cause) past e made = tt
+
+pub state_lost : (x : Result Command ℕ) (words : List (List ℕ)) (due : Option Valued) (given : Given) (place : ℕ) (r : Result StateCommand WordsError) →
+    length words ≤ place → x ≡ words_from place (Options due given) (drop place words) →
+    IfErr r (λ cause. (cause ≡ BadWord place) × (state_of due given ≡ None)) → IfErr r (Refuses x)
+state_lost x words due given place (Ok state) past e bad = tt
+state_lost x words due given place (Err cause) past e bad =
+    moved x _ cause e (missing place (Options due given) words cause (ap (option_map (λ state. State state)) bad.1) (bad.0, slice_get_past words place past))

@@ -1,0 +1,50 @@
+use crate::OutputList;
+use bb_base::{Bytes, Text};
+
+/// A command of the program.
+#[derive(Debug, Drop)]
+pub enum Command {
+    Raw(RawCommand),
+    State(StateCommand),
+}
+
+/// `raw`: a raw record in three strides of a device.
+#[derive(Debug, Drop)]
+pub struct RawCommand {
+    /// The record's magic.
+    pub magic: u32,
+    /// In bytes, at most 65,535.
+    pub area_len: u32,
+    pub action: RawAction,
+}
+
+/// What is done with a raw record.
+#[derive(Debug, Drop)]
+pub enum RawAction {
+    /// `-g`: its area is looked at.
+    Look,
+    /// `-s`: this area is written, of exactly `area_len` bytes.
+    Write(Bytes),
+}
+
+/// `state`: the variables that a file describes.
+#[derive(Debug, Drop)]
+pub struct StateCommand {
+    /// `-i`: the file that describes the state.
+    pub file: Text,
+    /// `-n`: which state of the file, if that is said.
+    pub name: Option<Text>,
+    /// What is sent, in the order of the words.
+    pub outputs: OutputList,
+}
+
+/// What is sent of a state.
+#[derive(Debug, Drop)]
+pub enum Output {
+    /// `-g`: the value of this variable.
+    Value(Text),
+    /// `-d`: each variable with its value.
+    Dump,
+    /// `--dump-shell`: the same for a shell.
+    DumpShell,
+}

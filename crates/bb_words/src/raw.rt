@@ -1,0 +1,101 @@
+ghost use Rattle.std.specs.Prelude.{◌≡◌, ◌≤◌, ℕ, IfOk, IfErr, IfSome, OnOk, drop, length, option_and_then, slice_get};
+ghost use Rattle.std.specs.Option.{ok_or};
+ghost use Rattle.bb_words.specs.Answer.{IsSizedFor, IsSizedRaw, Refuses};
+ghost use Rattle.bb_words.specs.declared.command.Command.{Command};
+ghost use Rattle.bb_words.specs.declared.command.Command.TheVariants.{Raw};
+ghost use Rattle.bb_words.specs.Words.{Magic, Action, Whole, raw_of, number_up_to, area_of, words_from};
+
+use crate::word::word_at;
+use crate::{RawAction, RawCommand, WordsError};
+use bb_base::{Bytes, TextList, read_number};
+use hex::FromHexError;
+use std::alloc::Global;
+
+// In bytes.
+const MOST_AREA_LEN: u32 = 65_535;
+
+/// Reads the words behind `raw`.
+pub(crate) fn read_raw(alloc: Global, words: &TextList) -> Result<RawCommand, WordsError>
+    ensures ok { IfOk result (λ raw. words_from 1 Magic (drop 1 words.now) ≡ Ok (Raw raw)) }
+    ensures sized { IfOk result IsSizedRaw }
+    ensures refused { IfErr result (Refuses (words_from 1 Magic (drop 1 words.now))) }
+{
+    let magic = number_at(words, 1, u32::MAX)?;
+    let area_len = number_at(words, 2, MOST_AREA_LEN)?;
+    let action = read_action(alloc, words, area_len)?;
+    Ok(RawCommand {
+        magic,
+        area_len,
+        action,
+    })
+}
+
+// Reads the words behind the area's length.
+fn read_action(alloc: Global, words: &TextList, len: u32) -> Result<RawAction, WordsError>
+    ensures ok { IfOk result (λ action. (magic : ℕ) → words_from 3 (Action magic len) (drop 3 words.now) ≡ Ok (raw_of magic len action)) }
+    ensures sized { IfOk result (IsSizedFor len) }
+    ensures refused { IfErr result (λ cause. (magic : ℕ) → Refuses (words_from 3 (Action magic len) (drop 3 words.now)) cause) }
+{
+    let word = word_at(words, 3)?;
+    if word == "-g" {
+        ends_at(words, 4)?;
+        return Ok(RawAction::Look);
+    }
+    if word == "-s" {
+        let area = area_at(alloc, words, 4, len)?;
+        ends_at(words, 5)?;
+        return Ok(RawAction::Write(area));
+    }
+    Err(WordsError::BadWord(3))
+}
+
+// The number at this place, up to a greatest one.
+fn number_at(words: &TextList, place: usize, most: u32) -> Result<u32, WordsError>
+    ensures ok { IfOk result (λ n. option_and_then (number_up_to most) (slice_get words.now place) ≡ Some n) }
+    ensures bound { IfOk result (λ n. n ≤ most) }
+    ensures refused { IfErr result (λ cause. (cause ≡ WordsError.BadWord place) × (option_and_then (number_up_to most) (slice_get words.now place) ≡ None)) }
+{
+    words
+        .get(place)
+        .and_then(|word| number_up_to(most, word.as_str()))
+        .ok_or(WordsError::BadWord(place))
+}
+
+fn number_up_to(most: u32, text: &str) -> Option<u32>
+    ensures value { result ≡ number_up_to most text.now }
+    ensures bound { IfSome result (λ n. n ≤ most) }
+{
+    read_number(text.as_bytes()).ok().filter(|n| *n <= most)
+}
+
+// The area that the digits at this place spell, of so many bytes.
+fn area_at(alloc: Global, words: &TextList, place: usize, len: u32) -> Result<Bytes, WordsError>
+    ensures ok { IfOk result (λ area. option_and_then (area_of len) (slice_get words.now place) ≡ Some area) }
+    ensures sized { IfOk result (λ area. length area ≡ len) }
+    ensures refused { IfErr result (Refuses (ok_or (option_and_then (area_of len) (slice_get words.now place)) place)) }
+{
+    let digits = word_at(words, place)?;
+    if digits.len() != 2 * len as usize {
+        return Err(WordsError::BadWord(place));
+    }
+    let decoded = match hex::decode(alloc, digits) {
+        Ok(decoded) => decoded,
+        Err(FromHexError::OutOfMemory) => return Err(WordsError::NoMemory),
+        Err(_) => return Err(WordsError::BadWord(place)),
+    };
+    let mut area = Bytes::none(alloc);
+    area.add(decoded.as_slice())?;
+    Ok(area)
+}
+
+// No word stands at this place.
+#[tactic(auto, using(crate::proofs::Steps::at_end))]
+fn ends_at(words: &TextList, place: usize) -> Result<(), WordsError>
+    ensures ok { OnOk result ((command : Command) → words_from place (Whole command) (drop place words.now) ≡ Ok command) }
+    ensures refused { IfErr result (λ cause. (command : Command) → Refuses (words_from place (Whole command) (drop place words.now)) cause) }
+{
+    match words.get(place) {
+        None => Ok(()),
+        Some(_) => Err(WordsError::BadWord(place)),
+    }
+}

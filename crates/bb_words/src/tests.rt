@@ -1,0 +1,110 @@
+use super::*;
+use bb_base::{NoMemory, Text, TextList};
+use std::alloc::Global;
+use std::test::Fail;
+
+fn list(alloc: Global, words: &[&str]) -> Result<TextList, NoMemory> {
+    let mut list = TextList::none(alloc);
+    for word in words {
+        list.push(Text::of(alloc, word)?)?;
+    }
+    Ok(list)
+}
+
+// The place at which the words are refused.
+fn bad_place(alloc: Global, words: &[&str]) -> Result<Option<usize>, NoMemory> {
+    match read_words(alloc, &list(alloc, words)?) {
+        Ok(_) => Ok(None),
+        Err(WordsError::BadWord(place)) => Ok(Some(place)),
+        Err(WordsError::NoMemory) => Err(NoMemory),
+    }
+}
+
+#[test]
+fn a_look_is_read(rt: HostRuntime) -> Result<(), Fail> {
+    let words = list(rt.alloc(), &["raw", "0x12345678", "9", "-g"])?;
+    let command = read_words(rt.alloc(), &words).map_err(|_| NoMemory)?;
+    let Command::Raw(raw) = command else {
+        return Err(Fail::from(NoMemory));
+    };
+    assert_eq!(rt; raw.magic, 0x1234_5678);
+    assert_eq!(rt; raw.area_len, 9);
+    assert!(rt; matches!(raw.action, RawAction::Look));
+    Ok(())
+}
+
+#[test]
+fn an_area_is_read(rt: HostRuntime) -> Result<(), Fail> {
+    let words = list(rt.alloc(), &["raw", "1", "3", "-s", "00aBfF"])?;
+    let command = read_words(rt.alloc(), &words).map_err(|_| NoMemory)?;
+    let Command::Raw(raw) = command else {
+        return Err(Fail::from(NoMemory));
+    };
+    let RawAction::Write(area) = raw.action else {
+        return Err(Fail::from(NoMemory));
+    };
+    assert_eq!(rt; area.as_slice(), b"\x00\xab\xff".as_slice());
+    Ok(())
+}
+
+#[test]
+fn options_come_in_any_order(rt: HostRuntime) -> Result<(), Fail> {
+    let words = list(
+        rt.alloc(),
+        &[
+            "state",
+            "-d",
+            "--get=a",
+            "-i",
+            "x.dts",
+            "--dump-shell",
+            "-n",
+            "-n",
+        ],
+    )?;
+    let command = read_words(rt.alloc(), &words).map_err(|_| NoMemory)?;
+    let Command::State(state) = command else {
+        return Err(Fail::from(NoMemory));
+    };
+    assert_eq!(rt; state.file.as_str(), "x.dts");
+    assert_eq!(rt; state.name.as_ref().map(|name| name.as_str()), Some("-n"));
+    assert_eq!(rt; state.outputs.len(), 3);
+    assert!(rt; !state.outputs.is_empty());
+    assert!(rt; matches!(state.outputs.get(0), Some(Output::Dump)));
+    assert!(rt; matches!(state.outputs.get(1), Some(Output::Value(name)) if name.as_str() == "a"));
+    assert!(rt; matches!(state.outputs.get(2), Some(Output::DumpShell)));
+    assert!(rt; state.outputs.get(3).is_none());
+    Ok(())
+}
+
+#[test]
+fn a_bad_word_has_its_place(rt: HostRuntime) -> Result<(), Fail> {
+    assert_eq!(rt; bad_place(rt.alloc(), &[])?, Some(0));
+    assert_eq!(rt; bad_place(rt.alloc(), &["state", "-d"])?, Some(2));
+    assert_eq!(rt; bad_place(rt.alloc(), &["raw", "1"])?, Some(2));
+    assert_eq!(rt;
+        bad_place(rt.alloc(), &["raw", "0x1", "9", "-g", "x"])?,
+        Some(4)
+    );
+    assert_eq!(rt;
+        bad_place(rt.alloc(), &["raw", "1", "9", "-s", "31323334353637383"])?,
+        Some(4)
+    );
+    assert_eq!(rt;
+        bad_place(rt.alloc(), &["raw", "1", "1", "-s", "31", "x"])?,
+        Some(5)
+    );
+    assert_eq!(rt;
+        bad_place(rt.alloc(), &["raw", "4294967296", "9", "-g"])?,
+        Some(1)
+    );
+    assert_eq!(rt;
+        bad_place(rt.alloc(), &["raw", "1", "65536", "-g"])?,
+        Some(2)
+    );
+    assert_eq!(rt;
+        bad_place(rt.alloc(), &["state", "-i", "a", "--input", "a"])?,
+        Some(3)
+    );
+    Ok(())
+}
