@@ -1,7 +1,11 @@
-pub mod Parts
-pub mod Candidates
-pub mod Passing
-pub mod FourWords
-pub mod Sessions
 pub mod Endings
 pub mod Examples
+pub mod Given
+pub mod Holds
+pub mod Lines
+pub mod Looked
+pub mod Passing
+pub mod Plans
+pub mod Quiet
+pub mod Saves
+pub mod Sources

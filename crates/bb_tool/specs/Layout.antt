@@ -1,9 +1,7 @@
 -- Where the copies of a raw record stand: three strides, each a third of a device that is overwritten in place.
-use Rattle.std.specs.Prelude.{◌≡◌, ℕ, ◌+◌, ◌*◌, ◌/◌, ◌==◌, nat_lt, List, Some, Result, Ok, Err, IsErr, if◌then◌else◌}
+use Rattle.std.specs.Prelude.{ℕ, ◌+◌, ◌*◌, ◌/◌, ◌==◌, nat_lt, Result, Ok, Err, if◌then◌else◌}
 use Rattle.bb_flash.specs.declared.geometry.Geometry.{Geometry}
 use Rattle.bb_flash.specs.declared.region.Region.{Region}
-use Rattle.bb_tool.specs.Words.{words_of}
-use Rattle.bb_tool.specs.declared.words.Look.{Look}
 use Rattle.bb_tool.specs.declared.layout.LayoutError.{LayoutError}
 use Rattle.bb_tool.specs.declared.layout.LayoutError.TheVariants.{StorageType, TooSmall}
 
@@ -16,9 +14,3 @@ stride_of geometry area_len =
 
 abbrev pub region_of : ℕ → ℕ → Region
 region_of stride copy = record { at = copy * stride; size = stride }
-
--- the layout of a look is refused
-pub record IsBadLayout (words : List (List ℕ)) (geometry : Geometry) : Type 0 where
-  pub look : Look
-  pub words_are : words_of words ≡ Some look
-  pub refused : IsErr (stride_of geometry look.area_len)

@@ -1,7 +1,9 @@
-ghost use Rattle.std.specs.Prelude.{◌≡◌, ◌≤◌, ◌+◌, ◌*◌, IfOk, OnOk};
-ghost use Rattle.bb_tool.specs.Layout.{stride_of};
+ghost use Rattle.std.specs.Prelude.{◌≡◌, ◌≤◌, ◌<◌, ◌+◌, ◌*◌, ◌^◌, IfOk, IsTrue};
+ghost use Rattle.bb_bucket.specs.Stride.{holds};
+ghost use Rattle.bb_flash.specs.Geometry.{IsGeometry};
+ghost use Rattle.bb_tool.specs.Layout.{region_of, stride_of};
 
-use bb_flash::Geometry;
+use bb_flash::{Geometry, Region};
 
 /// Why the copies can't stand on a device.
 #[derive(Clone, Copy, Debug, PartialEq, Eq)]
@@ -12,20 +14,34 @@ pub enum LayoutError {
     TooSmall,
 }
 
-/// The length in bytes of each of the three strides in which copies of an area stand.
+/// How many copies there are.
+pub(crate) const COPIES: u32 = 3;
+
+/// The length in bytes of each of the strides in which copies of an area stand.
 pub(crate) fn stride(geometry: Geometry, area_len: u32) -> Result<u32, LayoutError>
-    requires { area_len ≤ 65535 }
+    requires geometry { IsGeometry geometry }
+    requires area { area_len ≤ 65535 }
     ensures value { result ≡ stride_of geometry area_len }
-    ensures in_place { OnOk result (geometry.block ≡ 0) }
     ensures room { IfOk result (λ stride. 24 + area_len ≤ stride) }
-    ensures inside { IfOk result (λ stride. 3 * stride ≤ geometry.size) }
+    ensures held { IfOk result (λ stride. IsTrue (holds (record { at = 0; size = 3 * stride }) geometry)) }
 {
     if geometry.block != 0 {
         return Err(LayoutError::StorageType);
     }
-    let stride = geometry.size / 3;
+    let stride = geometry.size / COPIES;
     if stride < 24 + area_len {
         return Err(LayoutError::TooSmall);
     }
     Ok(stride)
+}
+
+/// Where a copy stands.
+pub(crate) fn region(stride: u32, copy: u32) -> Region
+    requires { (copy + 1) * stride < 2 ^ 32 }
+    ensures { result ≡ region_of stride copy }
+{
+    Region {
+        at: copy * stride,
+        size: stride,
+    }
 }

@@ -2,16 +2,17 @@
 //! stands on it.
 #![tactic(auto)]
 
-mod copy;
+mod copies;
+mod copy_error;
 mod layout;
+mod line;
 mod look;
 mod refusal;
+mod save;
 mod session;
+mod state;
 mod status;
-mod words;
+mod tell;
 
 pub use session::run;
 pub use status::Status;
-
-#[cfg(test)]
-mod tests;

@@ -7,10 +7,22 @@ pub enum Status {
     Done,
     /// The words aren't a command.
     BadWords,
-    /// The copies can't stand on this device.
+    /// The file isn't a devicetree source.
+    BadTree,
+    /// The copies can't stand on this device, or the devicetree gives no layout for it.
     BadLayout,
+    /// A variable that a word names isn't in the layout.
+    BadVariable,
+    /// There is no file of the name that a word gives.
+    FileMissing,
+    /// A file couldn't be read.
+    FileFault,
+    /// A file has more than 1,048,576 bytes.
+    FileTooLong,
     /// The device couldn't be read.
     ReadFault,
+    /// A copy couldn't be written.
+    WriteFault,
     /// The text couldn't be sent whole. It takes the place of any other status but `NoMemory`.
     SinkFault,
     /// Memory was refused.
@@ -27,8 +39,14 @@ impl Status {
         match self {
             Status::Done => 0,
             Status::BadWords => 1,
+            Status::BadTree => 2,
             Status::BadLayout => 3,
+            Status::BadVariable => 4,
+            Status::FileMissing => 5,
+            Status::FileFault => 6,
+            Status::FileTooLong => 7,
             Status::ReadFault => 8,
+            Status::WriteFault => 9,
             Status::SinkFault => 14,
             Status::NoMemory => 20,
         }
