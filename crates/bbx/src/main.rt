@@ -44,7 +44,7 @@ fn start<K: Sink>(rt: &HostRuntime, line: &CommandLine, out: &mut K) -> Status {
             let Ok(mut board) = FileBoard::open(rt, device.as_str(), geometry) else {
                 return tell("fault 8 ReadFault\n", Status::ReadFault, out);
             };
-            run(rt.alloc(), words, &mut RealFiles::new(), &mut board, out)
+            run(rt.alloc(), words, &mut RealFiles::new(rt), &mut board, out)
         }
     }
 }

@@ -1,13 +1,108 @@
-use bb_base::Files;
+ghost use Rattle.std.specs.Prelude.{◌≡◌, false, IfOk, IsErrOf, IsTrue, None};
+ghost use Rattle.std.specs.Bool.{OnFalse};
+ghost use Rattle.bb_base.specs.Faults.{HasCause};
+ghost use Rattle.bb_base.specs.Folder.{is_fault};
+ghost use Rattle.bb_base.specs.declared.files.FileFail.TheVariants.{TooLong};
 
-/// The files of the folder that the program runs in. No command reads one yet.
+use bb_base::{Bytes, FileFail, Files, NoMemory, Text, TextList};
+use std::alloc::Global;
+use std::fs::{DirEntry, File};
+use std::io::{ErrorKind, Read};
+use std::{fs, io};
+
+/// Files of the system, by paths from the folder that the program runs in. They don't tell what they hold, and count
+/// the calls that met a fault. What the system doesn't find isn't there; every other error of it is a fault.
 #[derive(Drop)]
-pub struct RealFiles;
+pub struct RealFiles<'r> {
+    rt: &'r HostRuntime,
+    faults: u64,
+}
 
-impl RealFiles {
-    pub fn new() -> RealFiles {
-        RealFiles
+impl<'r> RealFiles<'r> {
+    pub fn new(rt: &'r HostRuntime) -> RealFiles<'r> {
+        RealFiles { rt, faults: 0 }
+    }
+
+    // What a call answers at an error of the system. A fault is counted.
+    fn answer_to(&mut self, error: &io::Error) -> Result<bool, FileFail>
+        ensures missing { IfOk result (λ there. there ≡ false) }
+        ensures never_long { ¬ IsErrOf result TooLong }
+        ensures cause { HasCause self.old.faults self.new.faults (IsTrue (is_fault result)) }
+        ensures calm { OnFalse (is_fault result) (self.new.faults ≡ self.old.faults) }
+    {
+        match error.kind() {
+            ErrorKind::NotFound => Ok(false),
+            ErrorKind::OutOfMemory => Err(FileFail::NoMemory),
+            _ => {
+                self.faults = self.faults.saturating_add(1);
+                Err(FileFail::Fault)
+            }
+        }
     }
 }
 
-impl Files for RealFiles {}
+// The most bytes that a file may have. No more than one byte beyond it is taken in.
+const FILE_LIMIT: usize = 1_048_576;
+
+impl<'r> Files for RealFiles<'r> {
+    ghost folder = { λ f. record { told = None; faults = f.faults } };
+
+    fn read(&mut self, name: &str, out: &mut Bytes) -> Result<bool, FileFail> {
+        let bytes = match read_front(self.rt, name) {
+            Ok(bytes) => bytes,
+            Err(error) => return self.answer_to(&error),
+        };
+        if bytes.len() > FILE_LIMIT {
+            return Err(FileFail::TooLong);
+        }
+        out.add(bytes.as_slice())?;
+        Ok(true)
+    }
+
+    fn names(&mut self, dir: &str, out: &mut TextList) -> Result<bool, FileFail> {
+        let names = match list(self.rt, dir) {
+            Ok(names) => names,
+            Err(error) => return self.answer_to(&error),
+        };
+        out.append(texts_of(self.rt.alloc(), &names)?)?;
+        Ok(true)
+    }
+}
+
+// A file's bytes, up to one more than it may have.
+fn read_front(rt: &HostRuntime, name: &str) -> io::Result<Vec<u8>> {
+    let mut bytes = Vec::new(rt.alloc());
+    let mut front = File::open(rt, name)?.take(FILE_LIMIT as u64 + 1);
+    front.read_to_end(&mut bytes)?;
+    Ok(bytes)
+}
+
+// The names of the files in a folder, in rising order of their bytes.
+fn list(rt: &HostRuntime, dir: &str) -> io::Result<Vec<String>> {
+    let mut names = Vec::new(rt.alloc());
+    for entry in fs::read_dir(rt, dir)? {
+        let entry = entry?;
+        if is_file(rt, &entry)? {
+            names.push(String::from_str(rt.alloc(), entry.file_name())?)?;
+        }
+    }
+    names.sort_unstable();
+    Ok(names)
+}
+
+fn texts_of(alloc: Global, names: &[String]) -> Result<TextList, NoMemory> {
+    let mut texts = TextList::none(alloc);
+    for name in names {
+        texts.push(Text::of(alloc, name.as_str())?)?;
+    }
+    Ok(texts)
+}
+
+// Whether a name in a folder is a file's. That of a folder, or of a link to nothing, isn't.
+fn is_file(rt: &HostRuntime, entry: &DirEntry<HostRuntime>) -> io::Result<bool> {
+    match fs::metadata(rt, entry.path()) {
+        Ok(found) => Ok(!found.is_dir()),
+        Err(error) if error.kind() == ErrorKind::NotFound => Ok(false),
+        Err(error) => Err(error),
+    }
+}

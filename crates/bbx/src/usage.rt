@@ -14,15 +14,33 @@ GEOMETRY
 COMMAND
   raw MAGIC LEN -g     prints the first area that passes, in hexadecimal, or `none`;
                        MAGIC is the record's magic, LEN the area's bytes, up to 65535
+  raw MAGIC LEN -s HEX saves an area into all three copies, and prints nothing;
+                       HEX is two hexadecimal digits a byte
+  state -i FILE [-n NAME] [-g VAR] [-d] [--dump-shell]
+                       reads the devicetree source FILE, looks at the state of the name NAME
+                       or else at the board's, and writes nothing; options come in any order,
+                       -g, -d and --dump-shell as often as wanted, and print in their order
+     -i, --input FILE  the file, up to 1048576 bytes
+     -n, --name NAME   an alias of a state's node, or a state's node
+     -g, --get VAR     the variable's value
+     -d, --dump        VAR=VALUE for each variable
+     --dump-shell      each variable as a shell's assignment to NAME_VAR, with _ for each dot
 
 Numbers are decimal, or hexadecimal behind 0x. A device file that is absent or short
 is first filled up with 0xff.
 
 STATUS
    0 Done        the session was done
-   1 BadWords    the words aren't one of the above
-   3 BadLayout   the copies can't stand on such a device
+   1 BadWords    a word doesn't fit or is missing; the line has its number, COMMAND being
+                 word 1, or 0 where DEVICE or GEOMETRY is wrong or a word is no text
+   2 BadTree     FILE isn't a devicetree source; the line has the cause and its place in bytes
+   3 BadLayout   the copies can't stand on such a device, or FILE gives no layout for it
+   4 BadVariable a variable isn't in the layout; the line has its name
+   5 FileMissing a file isn't there; the line has its name, as for 6 and 7
+   6 FileFault   a file can't be read
+   7 FileTooLong a file is longer than 1048576 bytes
    8 ReadFault   the device can't be opened or read
+   9 WriteFault  a copy can't be written; the line has its number, from 0
   14 SinkFault   the output can't be written
   20 NoMemory    memory was refused
 ";
