@@ -14,10 +14,10 @@ use Rattle.bb_words.specs.declared.command.Command.{Command}
 use Rattle.bb_words.specs.declared.command.Command.TheVariants.{Raw}
 use Rattle.bb_words.specs.declared.command.Output.{Output}
 use Rattle.bb_words.specs.declared.command.RawCommand.{RawCommand}
-use Rattle.bb_tool.specs.Ending.{AreAnswers, ComesExactly, ComesPlanned, IsAnswered, IsCutOff, IsGiven, IsRefusedWith, IsSaving, IsSent, IsSession, IsTold, IsToldLine, IsToldRefusal, IsWithoutMemory, IsWriteFault, SendsSessionFront, ended_status, ended_text, is_planning, overruled, record_of}
+use Rattle.bb_tool.specs.Ending.{AreAnswers, ComesExactly, ComesPlanned, IsAnswered, IsCutOff, IsGiven, IsRefusedWith, IsSaving, IsSent, IsSession, IsTold, IsToldLine, IsToldRefusal, IsWithoutMemory, IsWriteFault, MayHaveFailed, SendsSessionFront, ended_status, ended_text, is_planning, overruled, record_of}
 use Rattle.bb_tool.specs.Layout.{stride_of}
 use Rattle.bb_tool.specs.Looking.{IsQuiet}
-use Rattle.bb_tool.specs.Plan.{FileAnswer, Plan, RawLook, RawSave, StateLook, file_for, plan_of, planned, raw_laid}
+use Rattle.bb_tool.specs.Plan.{FileAnswer, Plan, RawLook, RawSave, StateLook, file_for, names_file, plan_of, planned, raw_laid}
 use Rattle.bb_tool.specs.Refusal.{line_of, status_of}
 use Rattle.bb_tool.specs.Saving.{Between, IsCutSave, IsSaved}
 use Rattle.bb_tool.specs.Session.{Answers, Writes, NotBegun, AllDone, FailedAt, answers_of, followed, look_for, looked, saved, session_of, shown, worked}
@@ -27,7 +27,7 @@ use Rattle.bb_tool.specs.declared.refusal.Refusal.{Refusal}
 use Rattle.bb_tool.specs.declared.refusal.Refusal.TheVariants as refusals
 use Rattle.bb_tool.specs.declared.status.Status.{Status}
 use Rattle.bb_tool.specs.declared.status.Status.TheVariants as statuses
-use Rattle.bb_tool.proofs.Plans.{faulty_words, plan_refusal, same_plan, saving_plan, saving_words, words_refused}
+use Rattle.bb_tool.proofs.Plans.{alone_plan, faulty_words, plan_refusal, same_plan, saving_plan, saving_words, words_refused}
 use Rattle.bb_tool.proofs.Quiet.{quiet_cuts, quiet_same, quiet_torn}
 
 -- a session's own status is that of its refusal, and isn't that of a failing output
@@ -454,41 +454,49 @@ sink_fault_of words folder folder' before after outlet outlet' status (inr memor
 }
 
 -- where nothing failed, what was answered is what the files and the device hold
-looked_same : (shows : Result (Option (List ℕ)) Failed → Result (List ℕ) Refusal) (found : Result (Option (List ℕ)) Failed) (area : Option (List ℕ)) (before after : Device) → (IsErr found → Rose before.faults after.faults) → (Rose before.faults after.faults → ⊥) → IfOk found (λ a. a ≡ area) → shows found ≡ shows (Ok area)
-looked_same shows (Ok found) area before after fault whole same = ap (λ a. shows (Ok a)) same
-looked_same shows (Err e) area before after fault whole same = absurd (whole (fault refl))
+looked_same : (shows : Result (Option (List ℕ)) Failed → Result (List ℕ) Refusal) (found : Result (Option (List ℕ)) Failed) (area : Option (List ℕ)) → (IsErr found → ⊥) → IfOk found (λ a. a ≡ area) → shows found ≡ shows (Ok area)
+looked_same shows (Ok found) area whole same = ap (λ a. shows (Ok a)) same
+looked_same shows (Err e) area whole same = absurd (whole refl)
 
 saved_same : (stride : ℕ) (rec : List ℕ) (before after : Device) (writes : Writes) → Leaves stride rec before after writes → (Rose before.faults after.faults → ⊥) → (saved writes ≡ saved AllDone) ⊎ (saved writes ≡ Err refusals.NoMemory)
 saved_same stride rec before after NotBegun left whole = inr refl
 saved_same stride rec before after AllDone left whole = inl refl
 saved_same stride rec before after (FailedAt copy) left whole = absurd (whole left.cause)
 
+look_fault : (words : List (List ℕ)) (folder folder' : Folder) (before after : Device) (answers : Answers) → AreAnswers words folder folder' before after answers → IsErr answers.look → MayHaveFailed words before after
+look_fault words folder folder' before after answers answered err = record { fault = answered.looked.fault err; read = λ none. answered.looked.cause err }
+
 -- these answers, of a plan, are those of nothing but what is held
 held_answers : FileAnswer → Result Plan Refusal → Image → Answers
 held_answers file plan image = record { file = file; look = Ok (look_for plan image); writes = AllDone }
 
-work_same : (words : List (List ℕ)) (folder folder' : Folder) (before after : Device) (answers : Answers) → AreAnswers words folder folder' before after answers → (Rose before.faults after.faults → ⊥) → (image : Image) → content before ≡ Some image → (plan : Plan) → planned words before.geometry answers.file ≡ Ok plan → (file : FileAnswer) → (worked plan answers ≡ worked plan (held_answers file (Ok plan) image)) ⊎ (worked plan answers ≡ Err refusals.NoMemory)
+work_same : (words : List (List ℕ)) (folder folder' : Folder) (before after : Device) (answers : Answers) → AreAnswers words folder folder' before after answers → (MayHaveFailed words before after → ⊥) → (image : Image) → content before ≡ Some image → (plan : Plan) → planned words before.geometry answers.file ≡ Ok plan → (file : FileAnswer) → (worked plan answers ≡ worked plan (held_answers file (Ok plan) image)) ⊎ (worked plan answers ≡ Err refusals.NoMemory)
 unfolding held_answers
 work_same words folder folder' before after answers answered whole image told (RawLook kind stride) is file =
-    inl (looked_same looked answers.look (look_for (Ok (RawLook kind stride)) image) before after answered.looked.fault whole (subst (λ (p : Result Plan Refusal). IfOk answers.look (λ area. area ≡ look_for p image)) is (answered.looked.told image told)))
+    inl (looked_same looked answers.look (look_for (Ok (RawLook kind stride)) image) (λ err. whole (look_fault words folder folder' before after answers answered err)) (subst (λ (p : Result Plan Refusal). IfOk answers.look (λ area. area ≡ look_for p image)) is (answered.looked.told image told)))
 work_same words folder folder' before after answers answered whole image told (StateLook laid outputs) is file =
-    inl (looked_same (shown laid outputs) answers.look (look_for (Ok (StateLook laid outputs)) image) before after answered.looked.fault whole (subst (λ (p : Result Plan Refusal). IfOk answers.look (λ area. area ≡ look_for p image)) is (answered.looked.told image told)))
+    inl (looked_same (shown laid outputs) answers.look (look_for (Ok (StateLook laid outputs)) image) (λ err. whole (look_fault words folder folder' before after answers answered err)) (subst (λ (p : Result Plan Refusal). IfOk answers.look (λ area. area ≡ look_for p image)) is (answered.looked.told image told)))
 work_same words folder folder' before after answers answered whole image told (RawSave stride rec) is file =
     let saving = saving_words words before.geometry answers.file stride rec is in
-    saved_same saving.stride (record_of saving) before after answers.writes (answered.saved saving).left whole
+    saved_same saving.stride (record_of saving) before after answers.writes (answered.saved saving).left (λ rose. whole (record { fault = rose; read = λ none. absurd (none saving) }))
 
-plan_same : (words : List (List ℕ)) (folder folder' : Folder) (before after : Device) (answers : Answers) → AreAnswers words folder folder' before after answers → (Rose before.faults after.faults → ⊥) → (image : Image) → content before ≡ Some image → (plan : Result Plan Refusal) → planned words before.geometry answers.file ≡ plan → (file : FileAnswer) → (followed plan answers ≡ followed plan (held_answers file plan image)) ⊎ (followed plan answers ≡ Err refusals.NoMemory)
+plan_same : (words : List (List ℕ)) (folder folder' : Folder) (before after : Device) (answers : Answers) → AreAnswers words folder folder' before after answers → (MayHaveFailed words before after → ⊥) → (image : Image) → content before ≡ Some image → (plan : Result Plan Refusal) → planned words before.geometry answers.file ≡ plan → (file : FileAnswer) → (followed plan answers ≡ followed plan (held_answers file plan image)) ⊎ (followed plan answers ≡ Err refusals.NoMemory)
 plan_same words folder folder' before after answers answered whole image told (Ok plan) is file = work_same words folder folder' before after answers answered whole image told plan is file
 plan_same words folder folder' before after answers answered whole image told (Err refusal) is file = inl refl
 
-session_same : (words : List (List ℕ)) (folder folder' : Folder) (before after : Device) (answers : Answers) → AreAnswers words folder folder' before after answers → (Rose folder.faults folder'.faults → ⊥) → (Rose before.faults after.faults → ⊥) → (files : FileMap) → folder.told ≡ Some files → (image : Image) → content before ≡ Some image → (session_of words before.geometry answers ≡ session_of words before.geometry (answers_of words before.geometry files image)) ⊎ (session_of words before.geometry answers ≡ Err refusals.NoMemory)
+-- the session is that of what is held, where the plan is
+session_same : (words : List (List ℕ)) (folder folder' : Folder) (before after : Device) (answers : Answers) → AreAnswers words folder folder' before after answers → (MayHaveFailed words before after → ⊥) → (files : FileMap) → planned words before.geometry answers.file ≡ planned words before.geometry (file_for words files) → (image : Image) → content before ≡ Some image → (session_of words before.geometry answers ≡ session_of words before.geometry (answers_of words before.geometry files image)) ⊎ (session_of words before.geometry answers ≡ Err refusals.NoMemory)
 unfolding held_answers
-session_same words folder folder' before after answers answered calm whole files known image told =
+session_same words folder folder' before after answers answered whole files same image told =
+    elim (plan_same words folder folder' before after answers answered whole image told (planned words before.geometry answers.file) refl (file_for words files)) [
+      | inl worked_so ↦ inl (worked_so ∙ ap (λ (p : Result Plan Refusal). followed p (held_answers (file_for words files) p image)) same)
+      | inr memory ↦ inr memory
+    ]
+
+session_told : (words : List (List ℕ)) (folder folder' : Folder) (before after : Device) (answers : Answers) → AreAnswers words folder folder' before after answers → (Rose folder.faults folder'.faults → ⊥) → (MayHaveFailed words before after → ⊥) → (files : FileMap) → folder.told ≡ Some files → (image : Image) → content before ≡ Some image → (session_of words before.geometry answers ≡ session_of words before.geometry (answers_of words before.geometry files image)) ⊎ (session_of words before.geometry answers ≡ Err refusals.NoMemory)
+session_told words folder folder' before after answers answered calm whole files known image told =
     elim (same_plan words before.geometry folder folder' answers.file answered.filed files known) [
-      | inl same ↦ elim (plan_same words folder folder' before after answers answered whole image told (planned words before.geometry answers.file) refl (file_for words files)) [
-        | inl worked_so ↦ inl (worked_so ∙ ap (λ (p : Result Plan Refusal). followed p (held_answers (file_for words files) p image)) same)
-        | inr memory ↦ inr memory
-      ]
+      | inl same ↦ session_same words folder folder' before after answers answered whole files same image told
       | inr odd ↦ elim odd [
         | inl faulty ↦ absurd (
             let named = faulty_words words before.geometry answers.file (words_of words) refl faulty.refused in
@@ -501,14 +509,23 @@ told_whole : (text : List ℕ) (ended : Status) (before after : Outlet) (status 
 told_whole text ended before after status (inl sent) whole = sent
 told_whole text ended before after status (inr cut) whole = absurd (whole cut.cause)
 
-pub undisturbed_of : (words : List (List ℕ)) (folder folder' : Folder) (before after : Device) (outlet outlet' : Outlet) (status : Status) → IsSession words folder folder' before after outlet outlet' status → (Rose folder.faults folder'.faults → ⊥) → (Rose before.faults after.faults → ⊥) → (Rose outlet.faults outlet'.faults → ⊥) → (files : FileMap) → folder.told ≡ Some files → (image : Image) → content before ≡ Some image → IsSent (ended_text (session_of words before.geometry (answers_of words before.geometry files image))) (ended_status (session_of words before.geometry (answers_of words before.geometry files image))) outlet outlet' status ⊎ (status ≡ statuses.NoMemory)
+-- what was sent whole of a session is sent of each that is the same
+told_same : (given other : Result (List ℕ) Refusal) (outlet outlet' : Outlet) (status : Status) → IsTold (ended_text given) (ended_status given) outlet outlet' status → (Rose outlet.faults outlet'.faults → ⊥) → (given ≡ other) ⊎ (given ≡ Err refusals.NoMemory) → IsSent (ended_text other) (ended_status other) outlet outlet' status ⊎ (status ≡ statuses.NoMemory)
+told_same given other outlet outlet' status told sent (inl same) =
+    inl (subst (λ (r : Result (List ℕ) Refusal). IsSent (ended_text r) (ended_status r) outlet outlet' status) same (told_whole _ _ outlet outlet' status told sent))
+told_same given other outlet outlet' status told sent (inr memory) = inr ((told_whole _ _ outlet outlet' status told sent).status_is ∙ ap ended_status memory)
+
+pub undisturbed_of : (words : List (List ℕ)) (folder folder' : Folder) (before after : Device) (outlet outlet' : Outlet) (status : Status) → IsSession words folder folder' before after outlet outlet' status → (Rose folder.faults folder'.faults → ⊥) → (MayHaveFailed words before after → ⊥) → (Rose outlet.faults outlet'.faults → ⊥) → (files : FileMap) → folder.told ≡ Some files → (image : Image) → content before ≡ Some image → IsSent (ended_text (session_of words before.geometry (answers_of words before.geometry files image))) (ended_status (session_of words before.geometry (answers_of words before.geometry files image))) outlet outlet' status ⊎ (status ≡ statuses.NoMemory)
 undisturbed_of words folder folder' before after outlet outlet' status (inr memory) calm whole sent files known image told = inr (told_whole _ _ outlet outlet' status memory.told sent).status_is
 undisturbed_of words folder folder' before after outlet outlet' status (inl ending) calm whole sent files known image told =
-    let own = told_whole _ _ outlet outlet' status ending.told sent in
-    elim (session_same words folder folder' before after ending.answers ending.answered calm whole files known image told) [
-      | inl same ↦ inl (subst (λ (r : Result (List ℕ) Refusal). IsSent (ended_text r) (ended_status r) outlet outlet' status) same own)
-      | inr memory ↦ inr (own.status_is ∙ ap ended_status memory)
-    ]
+    told_same (session_of words before.geometry ending.answers) (session_of words before.geometry (answers_of words before.geometry files image)) outlet outlet' status ending.told sent
+    (session_told words folder folder' before after ending.answers ending.answered calm whole files known image told)
+
+pub undisturbed_alone_of : (words : List (List ℕ)) (folder folder' : Folder) (before after : Device) (outlet outlet' : Outlet) (status : Status) → IsSession words folder folder' before after outlet outlet' status → names_file words ≡ false → (MayHaveFailed words before after → ⊥) → (Rose outlet.faults outlet'.faults → ⊥) → (files : FileMap) → (image : Image) → content before ≡ Some image → IsSent (ended_text (session_of words before.geometry (answers_of words before.geometry files image))) (ended_status (session_of words before.geometry (answers_of words before.geometry files image))) outlet outlet' status ⊎ (status ≡ statuses.NoMemory)
+undisturbed_alone_of words folder folder' before after outlet outlet' status (inr memory) none whole sent files image told = inr (told_whole _ _ outlet outlet' status memory.told sent).status_is
+undisturbed_alone_of words folder folder' before after outlet outlet' status (inl ending) none whole sent files image told =
+    told_same (session_of words before.geometry ending.answers) (session_of words before.geometry (answers_of words before.geometry files image)) outlet outlet' status ending.told sent
+    (session_same words folder folder' before after ending.answers ending.answered whole files (alone_plan (words_of words) before.geometry ending.answers.file (file_for words files) none) image told)
 
 -- a session that ends with a line that takes memory is no save
 abbrev is_written : Refusal → Bool

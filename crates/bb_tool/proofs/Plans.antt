@@ -19,7 +19,7 @@ use Rattle.bb_words.specs.declared.command.StateCommand.{StateCommand}
 use Rattle.bb_tool.specs.Ending.{IsRefusedWith, IsSaving, record_of}
 use Rattle.bb_tool.specs.Filing.{IsFiled}
 use Rattle.bb_tool.specs.Layout.{stride_of}
-use Rattle.bb_tool.specs.Plan.{FileAnswer, Plan, RawLook, RawSave, StateLook, file_for, file_named, plan_of, planned, raw_laid, raw_work, state_laid, state_named, state_plan, state_read}
+use Rattle.bb_tool.specs.Plan.{FileAnswer, Plan, RawLook, RawSave, StateLook, file_for, file_named, has_file, plan_of, planned, raw_laid, raw_work, state_laid, state_named, state_plan, state_read}
 use Rattle.bb_tool.specs.declared.layout.LayoutError.{LayoutError}
 use Rattle.bb_tool.specs.declared.refusal.Refusal.{Refusal}
 use Rattle.bb_tool.specs.declared.refusal.Refusal.TheVariants as refusals
@@ -162,6 +162,12 @@ saving_plan words geometry file saving =
     ap (λ (w : Result Command ℕ). plan_of w geometry file) saving.words_are
     ∙ ap (raw_laid saving.command) saving.stride_is
     ∙ ap (λ (a : RawAction). Ok (raw_work saving.command saving.stride a)) saving.action_is
+
+-- where no file is named, the plan is the same whatever is answered of one
+pub alone_plan : (command : Result Command ℕ) (geometry : Geometry) (one two : FileAnswer) → has_file command ≡ false → plan_of command geometry one ≡ plan_of command geometry two
+alone_plan (Ok (Raw command)) geometry one two none = refl
+alone_plan (Ok (State command)) geometry one two none = absurd cc
+alone_plan (Err place) geometry one two none = refl
 
 -- ---- files that are told
 

@@ -56,6 +56,12 @@ pub record AreAnswers (words : List (List ℕ)) (folder folder' : Folder) (befor
   pub other : (IsSaving words before.geometry → ⊥) → IsQuiet before after
   pub unasked : IsErr (planned words before.geometry answers.file) → after ≡ before
 
+-- a call of the device may have failed on which the session stands: a count of faults rose, and where the session
+-- isn't a save, that of the reads too
+pub record MayHaveFailed (words : List (List ℕ)) (before after : Device) : Type 0 where
+  pub fault : Rose before.faults after.faults
+  pub read : (IsSaving words before.geometry → ⊥) → Rose before.read_faults after.read_faults
+
 -- the status and the text of a session
 abbrev pub ended_status : Result (List ℕ) Refusal → Status
 ended_status (Ok text) = statuses.Done

@@ -1,6 +1,6 @@
 -- What a session is to do on the device, or why it is refused before: a function of its words, of the device's geometry,
 -- and of what reading the file gave that a word names.
-use Rattle.std.specs.Prelude.{ℕ, List, Option, Some, None, Result, Ok, Err}
+use Rattle.std.specs.Prelude.{ℕ, Bool, true, false, List, Option, Some, None, Result, Ok, Err}
 use Rattle.bb_base.specs.Folder.{FileMap, file_of}
 use Rattle.bb_base.specs.declared.files.FileFail.{FileFail}
 use Rattle.bb_base.specs.declared.files.FileFail.TheVariants as file_fails
@@ -83,6 +83,15 @@ plan_of (Err place) geometry file = Err (refusals.BadWords place)
 -- the steps that make no device call, in their order. The first refusal decides.
 abbrev pub planned : List (List ℕ) → Geometry → FileAnswer → Result Plan Refusal
 planned words geometry file = plan_of (words_of words) geometry file
+
+-- a command names a file
+abbrev pub has_file : Result Command ℕ → Bool
+has_file (Ok (Raw command)) = false
+has_file (Ok (State command)) = true
+has_file (Err place) = false
+
+abbrev pub names_file : List (List ℕ) → Bool
+names_file words = has_file (words_of words)
 
 -- the file that the words name, among these files; where they name none, none is read
 abbrev pub file_named : Result Command ℕ → FileMap → FileAnswer

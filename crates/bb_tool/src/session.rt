@@ -1,18 +1,18 @@
-ghost use Rattle.std.specs.Prelude.{◌≡◌, ◌⊎◌, ◌≤◌, ◌*◌, ℕ, List, true, Ok, IfErr, IsErr};
+ghost use Rattle.std.specs.Prelude.{◌≡◌, ◌⊎◌, ◌≤◌, ◌*◌, ℕ, List, true, false, Ok, IfErr, IsErr};
 ghost use Rattle.std.specs.Option.{ForSome};
 ghost use Rattle.bb_base.specs.Faults.{HasCause, Rose};
-ghost use Rattle.bb_base.specs.Folder.{Folder};
+ghost use Rattle.bb_base.specs.Folder.{FileMap, Folder};
 ghost use Rattle.bb_flash.specs.Cuts.{EachImage, EachTorn, IsLater};
 ghost use Rattle.bb_flash.specs.Device.{content};
 ghost use Rattle.bb_words.specs.Answer.{IsSizedRaw};
 ghost use Rattle.bb_words.specs.Words.{words_of};
 ghost use Rattle.bb_words.specs.declared.command.Command.TheVariants as commands;
 ghost use Rattle.bb_words.specs.declared.command.RawCommand.{RawCommand};
-ghost use Rattle.bb_tool.specs.Ending.{ComesExactly, ComesPlanned, IsGiven, IsSaving, IsSent, IsSession, IsWithoutMemory, IsWriteFault, SendsSessionFront, ended_status, ended_text, is_planning, record_of};
+ghost use Rattle.bb_tool.specs.Ending.{ComesExactly, ComesPlanned, IsGiven, IsSaving, IsSent, IsSession, IsWithoutMemory, IsWriteFault, MayHaveFailed, SendsSessionFront, ended_status, ended_text, is_planning, record_of};
 ghost use Rattle.bb_tool.specs.Filing.{IsFolderLater};
 ghost use Rattle.bb_tool.specs.Layout.{stride_of};
 ghost use Rattle.bb_tool.specs.Looking.{IsQuiet};
-ghost use Rattle.bb_tool.specs.Plan.{file_for, planned};
+ghost use Rattle.bb_tool.specs.Plan.{file_for, names_file, planned};
 ghost use Rattle.bb_tool.specs.Refusal.{IsTellable};
 ghost use Rattle.bb_tool.specs.Saving.{Between, IsCutSave, IsSaved};
 ghost use Rattle.bb_tool.specs.Session.{answers_of, session_of};
@@ -45,10 +45,17 @@ pub fn run<F: Files, B: Board, K: Sink>(
     ensures session { IsSession words.now (F.folder files.old) (F.folder files.new) (B.device board.old) (B.device board.new) (K.outlet out.old) (K.outlet out.new) result }
 
     // Where nothing failed, they are those of the session over what the files and the device hold, or memory was refused.
-    ensures undisturbed { (Rose (F.folder files.old).faults (F.folder files.new).faults → ⊥) → (Rose (B.device board.old).faults (B.device board.new).faults → ⊥)
+    ensures undisturbed { (Rose (F.folder files.old).faults (F.folder files.new).faults → ⊥) → (MayHaveFailed words.now (B.device board.old) (B.device board.new) → ⊥)
         → (Rose (K.outlet out.old).faults (K.outlet out.new).faults → ⊥) → ForSome (F.folder files.old).told (λ folder. ForSome (content (B.device board.old)) (λ image.
         let session = session_of words.now (B.device board.old).geometry (answers_of words.now (B.device board.old).geometry folder image) in
         IsSent (ended_text session) (ended_status session) (K.outlet out.old) (K.outlet out.new) result ⊎ (result ≡ Status.NoMemory))) }
+
+    // So they are where the words name no file, over any files: none is read.
+    ensures undisturbed_alone { names_file words.now ≡ false → (MayHaveFailed words.now (B.device board.old) (B.device board.new) → ⊥)
+        → (Rose (K.outlet out.old).faults (K.outlet out.new).faults → ⊥) → (folder : FileMap) → ForSome (content (B.device board.old)) (λ image.
+        let session = session_of words.now (B.device board.old).geometry (answers_of words.now (B.device board.old).geometry folder image) in
+        IsSent (ended_text session) (ended_status session) (K.outlet out.old) (K.outlet out.new) result ⊎ (result ≡ Status.NoMemory)) }
+    ensures unread { names_file words.now ≡ false → F.folder files.new ≡ F.folder files.old }
 
     // A session that isn't a save changes nothing on the device, and none changes a file.
     ensures quiet { (IsSaving words.now (B.device board.old).geometry → ⊥) → IsQuiet (B.device board.old) (B.device board.new) }
@@ -96,6 +103,7 @@ fn answer<N: Files, F: Flash, K: Sink>(
 ) -> Status
     ensures session { IsSession words.now (N.folder files.old) (N.folder files.new) (F.device flash.old) (F.device flash.new) (K.outlet out.old) (K.outlet out.new) result }
     ensures files { IsFolderLater (N.folder files.old) (N.folder files.new) }
+    ensures unread { names_file words.now ≡ false → N.folder files.new ≡ N.folder files.old }
     ensures later { IsLater (F.device flash.old) (F.device flash.new) }
     ensures faults { (K.outlet out.old).faults ≤ (K.outlet out.new).faults }
 {
@@ -116,6 +124,7 @@ fn session<N: Files, F: Flash>(
         ⊎ IsRefusedMemory (F.device flash.old) (F.device flash.new) result }
     ensures tellable { IfErr result IsTellable }
     ensures files { IsFolderLater (N.folder files.old) (N.folder files.new) }
+    ensures unread { names_file words.now ≡ false → N.folder files.new ≡ N.folder files.old }
     ensures later { IsLater (F.device flash.old) (F.device flash.new) }
 {
     match read_words(alloc, words)? {

@@ -1,10 +1,13 @@
 use Rattle.std.proofs.Common.{refl}
 use Rattle.bb_tool.specs.declared.status.Status.TheVariants as statuses
-use Rattle.bb_tool.proofs.Endings.{bad_raw_layout_of, bad_words_of, comes_planned, file_fault_of, front_of, images_of, no_memory_of, outside_of, quiet_of, read_fault_of, saved_of, sink_fault_of, stopped_of, unasked_of, undisturbed_of, write_fault_of}
+use Rattle.bb_tool.proofs.Endings.{bad_raw_layout_of, bad_words_of, comes_planned, file_fault_of, front_of, images_of, no_memory_of, outside_of, quiet_of, read_fault_of, saved_of, sink_fault_of, stopped_of, unasked_of, undisturbed_alone_of, undisturbed_of, write_fault_of}
 use Rattle.bb_tool.proofs.session.run.Goals as goal
 
 pub returns-clause-undisturbed : goal.returns-clause-undisturbed
 returns-clause-undisturbed g c = undisturbed_of _ _ _ _ _ _ _ _ c.answer.ensures.session
+
+pub returns-clause-undisturbed_alone : goal.returns-clause-undisturbed_alone
+returns-clause-undisturbed_alone g c = undisturbed_alone_of _ _ _ _ _ _ _ _ c.answer.ensures.session
 
 pub returns-clause-quiet : goal.returns-clause-quiet
 returns-clause-quiet g c = quiet_of _ _ _ _ _ _ _ _ c.answer.ensures.session
