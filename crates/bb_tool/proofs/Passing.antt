@@ -3,7 +3,7 @@ use Rattle.std.proofs.Common.{◌≡◌, ℕ, zero, suc, ◌<◌, true, false, L
 use Rattle.std.specs.Bool.{then_some}
 use Rattle.std.specs.Option.{option_or}
 use Rattle.std.proofs.lemmas.Grind.{common_steps}
-use Rattle.bb_flash.specs.Device.{Device, ReadKeeps}
+use Rattle.bb_flash.specs.Device.{Device}
 use Rattle.bb_flash.proofs.Moments.{later_joined}
 use Rattle.bb_tool.specs.Looking.{IsQuiet, first_of}
 use Rattle.bb_tool.proofs.Saves.{before_or_at}
@@ -51,15 +51,6 @@ take-refill n bytes others whole = grind (arith, common_steps)
 -- reads at most, one after another
 pub quiet_joined : (a b c : Device) → IsQuiet a b → IsQuiet b c → IsQuiet a c
 quiet_joined a b c first second = record { told = second.told ∙ first.told; later = later_joined a b c first.later second.later }
-
--- one read after another
-pub keeps_joined : (a b c : Device) → ReadKeeps a b → ReadKeeps b c → ReadKeeps a c
-keeps_joined a b c first second = record {
-  geometry = second.geometry ∙ first.geometry;
-  content = second.content ∙ first.content;
-  starts = second.starts ∙ first.starts;
-  start_faults = second.start_faults ∙ first.start_faults;
-}
 
 pub found_of : (found : Option (Vec ℕ Global)) → is_some found ≡ true → is_some (option_map (λ v. v.items) found) ≡ true
 found_of None some = some

@@ -1,10 +1,11 @@
 -- A device on which nothing was changed.
-use Rattle.std.proofs.Common.{◌≡◌, ℕ, List, length, take, Option, Some, refl, sym, ap, subst, ◌∙◌, arith, inl, inr}
+use Rattle.std.proofs.Common.{◌≡◌, ℕ, List, length, take, Option, Some, None, refl, sym, ap, subst, ◌∙◌, arith, inl, inr}
 use Rattle.std.specs.Option.{option_map}
 use Rattle.std.proofs.lemmas.List.{take_all}
 use Rattle.std.proofs.lemmas.Option.{slice_get_within}
+use Rattle.bb_bucket.specs.Calls.{but_reads}
 use Rattle.bb_flash.specs.Cuts.{EachImage, EachTorn, IsLater, IsTornSince}
-use Rattle.bb_flash.specs.Device.{Device, Told, moment}
+use Rattle.bb_flash.specs.Device.{Device, Told, content, moment}
 use Rattle.bb_flash.specs.Image.{Image, Torn}
 use Rattle.bb_flash.proofs.Moments.{images_weaker}
 use Rattle.bb_flash.proofs.Tearing.{Torn-refl}
@@ -26,6 +27,14 @@ later_same device = record {
 
 pub quiet_same : (device : Device) → IsQuiet device device
 quiet_same device = record { told = refl; later = later_same device }
+
+content_but_reads : (told : Option Told) → option_map (λ (t : Told). t.image) (option_map but_reads told) ≡ option_map (λ (t : Told). t.image) told
+content_but_reads None = refl
+content_but_reads (Some t) = refl
+
+-- reads change nothing of what the device holds
+pub quiet_content : (from to : Device) → IsQuiet from to → content to ≡ content from
+quiet_content from to quiet = sym (content_but_reads to.told) ∙ ap (option_map (λ (t : Told). t.image)) quiet.told ∙ content_but_reads from.told
 
 -- the changes and the content are the same
 but_reads_told : (a b : Option Told) (first last : Told) → a ≡ Some first → b ≡ Some last → option_map (λ (t : Told). record t { reads = 0 }) b ≡ option_map (λ (t : Told). record t { reads = 0 }) a → (last.changes ≡ first.changes) × (last.image ≡ first.image)

@@ -157,26 +157,26 @@ apart_cases zero (suc b) h = inl (omega arith)
 apart_cases (suc a) zero h = inr (omega arith)
 apart_cases (suc a) (suc b) h = elim (apart_cases a b (λ e. h (ap suc e))) [ inl l ↦ inl (omega arith) | inr g ↦ inr (omega arith) ]
 
-times_more : (stride a b : ℕ) → a < b → a * stride + stride ≤ b * stride
+times_more : (stride a b : ℕ) → a < b → 0 + a * stride + stride ≤ 0 + b * stride
 times_more stride a b less = grind (arith)
 
-strides_apart : (stride a b : ℕ) → a ≢ b → (a * stride + stride ≤ b * stride) ⊎ (b * stride + stride ≤ a * stride)
+strides_apart : (stride a b : ℕ) → a ≢ b → (0 + a * stride + stride ≤ 0 + b * stride) ⊎ (0 + b * stride + stride ≤ 0 + a * stride)
 strides_apart stride a b h = elim (apart_cases a b h) [ inl less ↦ inl (times_more stride a b less) | inr more ↦ inr (times_more stride b a more) ]
 
-same_copy : (stride other : ℕ) (x y : Image) → IsSameRegion 1 (other * stride) stride x y → IsKept stride other x y
+same_copy : (stride other : ℕ) (x y : Image) → IsSameRegion 1 (0 + other * stride) stride x y → IsKept stride other x y
 same_copy stride other x y same = rw (same.bytes, same.health) refl
 
 one_whole : (n : ℕ) → n % 1 ≡ 0
 one_whole n = grind (arith)
 
 -- what is torn in the stride of one copy leaves the others
-pub torn_others : (stride copy : ℕ) (from to : Device) → from.geometry.page ≡ 1 → EachTorn (copy * stride) stride from to → EachImage (KeepsOthers stride copy) from to
+pub torn_others : (stride copy : ℕ) (from to : Device) → from.geometry.page ≡ 1 → EachTorn (0 + copy * stride) stride from to → EachImage (KeepsOthers stride copy) from to
 torn_others stride copy from to page torn =
-    images_weaker (Torn from.geometry.page (copy * stride) stride) (KeepsOthers stride copy) from to
+    images_weaker (Torn from.geometry.page (0 + copy * stride) stride) (KeepsOthers stride copy) from to
     (λ x y tears. record {
       kept = λ other inside apart.
-          let here : Torn 1 (copy * stride) stride x y = subst (λ (p : ℕ). Torn p (copy * stride) stride x y) page tears in
-          same_copy stride other x y (Torn-region 1 (copy * stride) stride (other * stride) stride x y (omega arith) (one_whole (copy * stride)) (one_whole stride) here (strides_apart stride other copy apart));
+          let here : Torn 1 (0 + copy * stride) stride x y = subst (λ (p : ℕ). Torn p (0 + copy * stride) stride x y) page tears in
+          same_copy stride other x y (Torn-region 1 (0 + copy * stride) stride (0 + other * stride) stride x y (omega arith) (one_whole (0 + copy * stride)) (one_whole stride) here (strides_apart stride other copy apart));
     })
     torn.images
 

@@ -1,7 +1,7 @@
--- Where the copies of a raw record stand: three strides, each a third of a device that is overwritten in place.
-use Rattle.std.specs.Prelude.{ℕ, ◌+◌, ◌*◌, ◌/◌, ◌==◌, nat_lt, Result, Ok, Err, if◌then◌else◌}
+-- How long the three strides are in which the copies of a raw record stand: each is a third of a device that is
+-- overwritten in place.
+use Rattle.std.specs.Prelude.{ℕ, ◌+◌, ◌/◌, ◌==◌, nat_lt, Result, Ok, Err, if◌then◌else◌}
 use Rattle.bb_flash.specs.declared.geometry.Geometry.{Geometry}
-use Rattle.bb_flash.specs.declared.region.Region.{Region}
 use Rattle.bb_tool.specs.declared.layout.LayoutError.{LayoutError}
 use Rattle.bb_tool.specs.declared.layout.LayoutError.TheVariants.{StorageType, TooSmall}
 
@@ -11,6 +11,3 @@ stride_of geometry area_len =
     if geometry.block == 0
     then (if nat_lt (geometry.size / 3) (24 + area_len) then Err TooSmall else Ok (geometry.size / 3))
     else Err StorageType
-
-abbrev pub region_of : ℕ → ℕ → Region
-region_of stride copy = record { at = copy * stride; size = stride }

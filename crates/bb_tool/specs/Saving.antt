@@ -5,11 +5,11 @@ use Rattle.bb_flash.specs.Device.{Device, content}
 use Rattle.bb_flash.specs.Image.{Image}
 use Rattle.bb_bucket.specs.Kind.{part_of}
 use Rattle.bb_bucket.specs.Stride.{begun_with, entry_of}
-use Rattle.bb_tool.specs.Layout.{region_of}
+use Rattle.bb_tool.specs.Looking.{region_in, thirds}
 
 -- the stride of a copy, where a page is a byte
 abbrev pub copy_of : ℕ → ℕ → Image → Image
-copy_of stride copy image = part_of 1 (region_of stride copy) image
+copy_of stride copy image = part_of 1 (region_in (thirds stride) copy) image
 
 -- this copy holds the record, behind its front; all after it is as before
 abbrev pub IsWritten : ℕ → List ℕ → ℕ → Image → Image → Type 0

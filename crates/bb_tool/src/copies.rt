@@ -5,6 +5,9 @@ ghost use Rattle.bb_tool.specs.Looking.{laid_copies, region_in, thirds};
 use bb_flash::Region;
 use bb_layout::{Layout, Storage};
 
+/// How many copies there are of a raw record.
+pub(crate) const COPIES: u32 = 3;
+
 /// Copies that stand one behind another on a device. Places and sizes are in bytes.
 #[derive(Clone, Copy, Debug, PartialEq, Eq)]
 pub struct Copies {
@@ -23,7 +26,7 @@ impl Copies {
         Copies {
             at: 0,
             stride,
-            count: 3,
+            count: COPIES,
         }
     }
 

@@ -1,9 +1,10 @@
-ghost use Rattle.std.specs.Prelude.{◌≡◌, ◌≤◌, ◌<◌, ◌+◌, ◌*◌, ◌^◌, IfOk, IsTrue};
+ghost use Rattle.std.specs.Prelude.{◌≡◌, ◌≤◌, ◌+◌, ◌*◌, IfOk, IsTrue};
 ghost use Rattle.bb_bucket.specs.Stride.{holds};
 ghost use Rattle.bb_flash.specs.Geometry.{IsGeometry};
-ghost use Rattle.bb_tool.specs.Layout.{region_of, stride_of};
+ghost use Rattle.bb_tool.specs.Layout.{stride_of};
 
-use bb_flash::{Geometry, Region};
+use crate::copies::COPIES;
+use bb_flash::Geometry;
 
 /// Why the copies can't stand on a device.
 #[derive(Clone, Copy, Debug, PartialEq, Eq)]
@@ -13,9 +14,6 @@ pub enum LayoutError {
     /// A stride doesn't hold a record.
     TooSmall,
 }
-
-/// How many copies there are.
-pub(crate) const COPIES: u32 = 3;
 
 /// The length in bytes of each of the strides in which copies of an area stand.
 pub(crate) fn stride(geometry: Geometry, area_len: u32) -> Result<u32, LayoutError>
@@ -33,15 +31,4 @@ pub(crate) fn stride(geometry: Geometry, area_len: u32) -> Result<u32, LayoutErr
         return Err(LayoutError::TooSmall);
     }
     Ok(stride)
-}
-
-/// Where a copy stands.
-pub(crate) fn region(stride: u32, copy: u32) -> Region
-    requires { (copy + 1) * stride < 2 ^ 32 }
-    ensures { result ≡ region_of stride copy }
-{
-    Region {
-        at: copy * stride,
-        size: stride,
-    }
 }

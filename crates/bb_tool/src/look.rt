@@ -3,7 +3,7 @@ ghost use Rattle.std.specs.Option.{ForSome};
 ghost use Rattle.bb_base.specs.Faults.{HasCause};
 ghost use Rattle.bb_bucket.specs.Stride.{holds};
 ghost use Rattle.bb_flash.specs.Cuts.{IsLater};
-ghost use Rattle.bb_flash.specs.Device.{ReadKeeps, content};
+ghost use Rattle.bb_flash.specs.Device.{content};
 ghost use Rattle.bb_tool.specs.Looking.{IsQuiet, first_passing, look_text, passing_of, region_in, thirds};
 ghost use Rattle.bb_tool.specs.Refusal.{IsTellable};
 ghost use Rattle.bb_tool.specs.Work.{IsLooked, IsRefusedMemory};
@@ -49,7 +49,6 @@ pub(crate) fn first_passing<F: Flash>(
     ensures done { IfOk result (λ found. ForSome (content (F.device flash.old)) (λ image.
         option_map (λ area. area.items) found ≡ first_passing raw copies image)) }
     ensures sized { IfOk result (λ found. IfSome found (λ area. length area.items ≡ raw.area_len)) }
-    ensures keeps { ReadKeeps (F.device flash.old) (F.device flash.new) }
     ensures quiet { IsQuiet (F.device flash.old) (F.device flash.new) }
     ensures cause { HasCause (F.device flash.old).read_faults (F.device flash.new).read_faults (IsErrOf result Unread) }
     ensures fault { HasCause (F.device flash.old).faults (F.device flash.new).faults (IsErrOf result Unread) }
@@ -75,7 +74,6 @@ fn passing_area<F: Flash>(
     ensures done { IfOk result (λ found. ForSome (content (F.device flash.old)) (λ image.
         option_map (λ area. area.items) found ≡ passing_of raw region image)) }
     ensures sized { IfOk result (λ found. IfSome found (λ area. length area.items ≡ raw.area_len)) }
-    ensures keeps { ReadKeeps (F.device flash.old) (F.device flash.new) }
     ensures quiet { IsQuiet (F.device flash.old) (F.device flash.new) }
     ensures cause { HasCause (F.device flash.old).read_faults (F.device flash.new).read_faults (IsErrOf result Unread) }
     ensures fault { HasCause (F.device flash.old).faults (F.device flash.new).faults (IsErrOf result Unread) }

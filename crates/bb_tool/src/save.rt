@@ -5,11 +5,11 @@ ghost use Rattle.bb_flash.specs.Cuts.{EachImage, EachTorn, IsLater};
 ghost use Rattle.bb_flash.specs.Device.{IsDevice};
 ghost use Rattle.bb_raw.specs.Raw.{raw_text};
 ghost use Rattle.bb_tool.specs.Refusal.{IsTellable};
-ghost use Rattle.bb_tool.specs.Layout.{region_of};
+ghost use Rattle.bb_tool.specs.Looking.{region_in, thirds};
 ghost use Rattle.bb_tool.specs.Saving.{Between, IsCutSave, IsSaved, IsSavedUpTo, IsWritten, KeepsOthers};
 ghost use Rattle.bb_tool.specs.Work.{IsRefusedMemory, IsSavedBy};
 
-use crate::layout::region;
+use crate::copies::Copies;
 use crate::refusal::Refusal;
 use bb_base::{Bytes, Failed, Format, NoMemory};
 use bb_bucket::{Bucket, Stride};
@@ -56,17 +56,18 @@ impl Save {
         requires room { 24 + raw.area_len ≤ stride }
         requires small { 3 * stride < 2 ^ 32 }
         ensures rec { IfOk result (λ save. save.rec.items ≡ raw_text raw.magic area.now) }
-        ensures first { IfOk result (λ save. save.first ≡ region_of stride 0) }
-        ensures second { IfOk result (λ save. save.second ≡ region_of stride 1) }
-        ensures third { IfOk result (λ save. save.third ≡ region_of stride 2) }
+        ensures first { IfOk result (λ save. save.first ≡ region_in (thirds stride) 0) }
+        ensures second { IfOk result (λ save. save.second ≡ region_in (thirds stride) 1) }
+        ensures third { IfOk result (λ save. save.third ≡ region_in (thirds stride) 2) }
     {
         let mut rec = vec![in alloc; 0u8; raw.length()]?;
         raw.pack(area, &mut rec);
+        let copies = Copies::thirds(stride);
         Ok(Save {
             rec,
-            first: Stride::of(alloc, region(stride, 0))?,
-            second: Stride::of(alloc, region(stride, 1))?,
-            third: Stride::of(alloc, region(stride, 2))?,
+            first: Stride::of(alloc, copies.region(0))?,
+            second: Stride::of(alloc, copies.region(1))?,
+            third: Stride::of(alloc, copies.region(2))?,
         })
     }
 
@@ -74,9 +75,9 @@ impl Save {
     fn write<F: Flash>(mut self, flash: &mut F, stride: u32) -> Result<(), u32>
         requires held { IsTrue (holds (record { at = 0; size = 3 * stride }) (F.device flash.old).geometry) }
         requires room { 8 + length self.rec.items ≤ stride }
-        requires first { self.first ≡ region_of stride 0 }
-        requires second { self.second ≡ region_of stride 1 }
-        requires third { self.third ≡ region_of stride 2 }
+        requires first { self.first ≡ region_in (thirds stride) 0 }
+        requires second { self.second ≡ region_in (thirds stride) 1 }
+        requires third { self.third ≡ region_in (thirds stride) 2 }
         requires whole { IsDevice (F.device flash.old) }
         ensures done { OnOk result (Between (IsSaved stride self.rec.items) (F.device flash.old) (F.device flash.new)) }
         ensures failed { IfErr result (λ copy. Between (IsSavedUpTo stride self.rec.items copy) (F.device flash.old) (F.device flash.new)) }
@@ -104,7 +105,7 @@ fn write_copy<F: Flash>(
     requires held { IsTrue (holds (record { at = 0; size = 3 * stride }) (F.device flash.old).geometry) }
     requires whole { IsDevice (F.device flash.old) }
     requires inside { copy < 3 }
-    requires here { bucket.old ≡ region_of stride copy }
+    requires here { bucket.old ≡ region_in (thirds stride) copy }
     requires room { 8 + length rec.now ≤ stride }
     ensures done { OnOk result (Between (IsWritten stride rec.now copy) (F.device flash.old) (F.device flash.new)) }
     ensures failed { IfErr result (λ failed. failed ≡ copy) }

@@ -1,4 +1,4 @@
-use Rattle.std.proofs.Common.{◌*◌, subst, arith}
+use Rattle.std.proofs.Common.{◌+◌, ◌*◌, subst, arith}
 use Rattle.bb_flash.specs.Cuts.{EachTorn}
 use Rattle.bb_flash.specs.declared.region.Region.{Region}
 use Rattle.bb_flash.proofs.Moments.{torn_wider}
@@ -10,26 +10,26 @@ pub returns-in-Ok-clause-others : goal.returns-in-Ok-clause-others
 returns-in-Ok-clause-others g c =
     let from = g.F.Flash.device c.args.flash.now in
     let to = g.F.Flash.device c.write.new.flash in
-    let torn : EachTorn (c.args.copy * c.args.stride) c.args.stride from to = subst (λ (r : Region). EachTorn r.at r.size from to) c.requires.here c.in-Ok.ensures.images in
+    let torn : EachTorn (0 + c.args.copy * c.args.stride) c.args.stride from to = subst (λ (r : Region). EachTorn r.at r.size from to) c.requires.here c.in-Ok.ensures.images in
     torn_others c.args.stride c.args.copy from to (in_place_page _ from.geometry c.requires.held) torn
 
 pub returns-in-Ok-clause-outside : goal.returns-in-Ok-clause-outside
 returns-in-Ok-clause-outside g c =
     let from = g.F.Flash.device c.args.flash.now in
     let to = g.F.Flash.device c.write.new.flash in
-    let torn : EachTorn (c.args.copy * c.args.stride) c.args.stride from to = subst (λ (r : Region). EachTorn r.at r.size from to) c.requires.here c.in-Ok.ensures.images in
-    torn_wider (c.args.copy * c.args.stride) c.args.stride 0 (3 * c.args.stride) from to c.requires.whole (omega arith) (omega (arith, copy_within c.args.stride c.args.copy c.requires.inside)) torn
+    let torn : EachTorn (0 + c.args.copy * c.args.stride) c.args.stride from to = subst (λ (r : Region). EachTorn r.at r.size from to) c.requires.here c.in-Ok.ensures.images in
+    torn_wider (0 + c.args.copy * c.args.stride) c.args.stride 0 (3 * c.args.stride) from to c.requires.whole (omega arith) (omega (arith, copy_within c.args.stride c.args.copy c.requires.inside)) torn
 
 pub returns-in-Err-clause-others : goal.returns-in-Err-clause-others
 returns-in-Err-clause-others g c =
     let from = g.F.Flash.device c.args.flash.now in
     let to = g.F.Flash.device c.write.new.flash in
-    let torn : EachTorn (c.args.copy * c.args.stride) c.args.stride from to = subst (λ (r : Region). EachTorn r.at r.size from to) c.requires.here c.in-Err.ensures.images in
+    let torn : EachTorn (0 + c.args.copy * c.args.stride) c.args.stride from to = subst (λ (r : Region). EachTorn r.at r.size from to) c.requires.here c.in-Err.ensures.images in
     torn_others c.args.stride c.args.copy from to (in_place_page _ from.geometry c.requires.held) torn
 
 pub returns-in-Err-clause-outside : goal.returns-in-Err-clause-outside
 returns-in-Err-clause-outside g c =
     let from = g.F.Flash.device c.args.flash.now in
     let to = g.F.Flash.device c.write.new.flash in
-    let torn : EachTorn (c.args.copy * c.args.stride) c.args.stride from to = subst (λ (r : Region). EachTorn r.at r.size from to) c.requires.here c.in-Err.ensures.images in
-    torn_wider (c.args.copy * c.args.stride) c.args.stride 0 (3 * c.args.stride) from to c.requires.whole (omega arith) (omega (arith, copy_within c.args.stride c.args.copy c.requires.inside)) torn
+    let torn : EachTorn (0 + c.args.copy * c.args.stride) c.args.stride from to = subst (λ (r : Region). EachTorn r.at r.size from to) c.requires.here c.in-Err.ensures.images in
+    torn_wider (0 + c.args.copy * c.args.stride) c.args.stride 0 (3 * c.args.stride) from to c.requires.whole (omega arith) (omega (arith, copy_within c.args.stride c.args.copy c.requires.inside)) torn

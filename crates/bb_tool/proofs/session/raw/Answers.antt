@@ -9,7 +9,7 @@ use Rattle.bb_tool.specs.Session.{looked}
 use Rattle.bb_tool.specs.Work.{IsLooked, IsSavedBy}
 use Rattle.bb_tool.specs.declared.refusal.Refusal.{Refusal}
 use Rattle.bb_bucket.specs.Stride.{holds}
-use Rattle.bb_tool.proofs.Holds.{holds_third}
+use Rattle.bb_tool.proofs.Holds.{holds_copy}
 use Rattle.bb_tool.proofs.Given.{given_layout, given_look, given_save}
 use Rattle.bb_tool.proofs.session.raw.Goals as goal
 
@@ -44,5 +44,5 @@ returns-in-Write-clause-gives g c = λ words folder is.
 
 pub look-requires-clause-held : goal.look-requires-clause-held
 look-requires-clause-held g c = λ copy low.
-    holds_third c.in_ok-stride.stride copy (g.F.Flash.device c.args.flash.now).geometry low
+    holds_copy c.in_ok-stride.stride copy (g.F.Flash.device c.args.flash.now).geometry low
     (subst (λ (geometry : Geometry). IsTrue (holds (record { at = 0; size = 3 * c.in_ok-stride.stride }) geometry)) c.geometry.ensures.value c.in_ok-stride.ensures.held)
