@@ -8,6 +8,7 @@ use Rattle.bb_flash.specs.Image.{Image}
 use Rattle.bb_words.specs.Words.{words_from}
 use Rattle.hex.specs.Hex.{decode_pairs, encode_with}
 use Rattle.std.specs.Fmt.{digits}
+use Rattle.bb_tool.specs.AfterSave.{but_first}
 use Rattle.bb_tool.specs.Layout.{stride_of}
 use Rattle.bb_tool.specs.Looking.{first_of, first_passing, look_text, passing_of, region_in, thirds}
 use Rattle.bb_tool.specs.Refusal.{line_of}
@@ -67,6 +68,15 @@ third_copy_passes = refl
 no_copy_passes : first_passing (record { magic = 0x12345678; area_len = 9 }) (thirds 64) (record { bytes = replicate 192 0xff; health = replicate 192 Fine }) ≡ None
 unfolding first_of
 no_copy_passes = refl
+
+-- the copies but the first are the second and the third
+only_the_first_passes : first_passing (record { magic = 0x12345678; area_len = 9 }) (but_first 64) (device_with (codes "123456789") (codes "023456789") (codes "023456789")) ≡ None
+unfolding first_of device_with stride_with entry_front after_byte divided_8 divided
+only_the_first_passes = refl
+
+second_copy_passes : first_passing (record { magic = 0x12345678; area_len = 9 }) (but_first 64) (device_with (codes "023456789") (codes "123456789") (codes "023456789")) ≡ Some (codes "123456789")
+unfolding first_of device_with stride_with entry_front after_byte divided_8 divided
+second_copy_passes = refl
 
 text_of_an_area : look_text (Some (codes "123456789")) ≡ codes "313233343536373839\n"
 unfolding encode_with

@@ -1,3 +1,4 @@
+pub mod AfterSave
 pub mod Endings
 pub mod Examples
 pub mod Given

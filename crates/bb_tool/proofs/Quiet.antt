@@ -1,5 +1,5 @@
 -- A device on which nothing was changed.
-use Rattle.std.proofs.Common.{◌≡◌, ℕ, List, length, take, Option, Some, None, refl, sym, ap, subst, ◌∙◌, arith, inl, inr}
+use Rattle.std.proofs.Common.{◌≡◌, ℕ, ◌+◌, ◌*◌, List, length, take, Option, Some, None, refl, sym, ap, subst, ◌∙◌, arith, inl, inr}
 use Rattle.std.specs.Option.{option_map}
 use Rattle.std.proofs.lemmas.List.{take_all}
 use Rattle.std.proofs.lemmas.Option.{slice_get_within}
@@ -11,6 +11,7 @@ use Rattle.bb_flash.proofs.Moments.{images_weaker}
 use Rattle.bb_flash.proofs.Tearing.{Torn-refl}
 use Rattle.bb_tool.specs.Looking.{IsQuiet}
 use Rattle.bb_tool.specs.Saving.{IsCutSave}
+use Rattle.bb_tool.proofs.Saves.{nothing_begun}
 
 later_same : (device : Device) → IsLater device device
 later_same device = record {
@@ -63,7 +64,14 @@ quiet_cuts stride rec from to quiet =
     images_weaker (λ before image. image ≡ before) (IsCutSave stride rec) from to
     (λ x y same. subst (λ (z : Image). IsCutSave stride rec x z) (sym same) (record {
       at = 0;
-      saved = record { inside = omega arith; written = λ k early. absurd (omega arith); kept = λ k late inside. refl };
+      saved = record {
+        inside = omega arith;
+        written = λ k early. absurd (omega arith);
+        kept = λ k late inside. refl;
+        begun = x;
+        below = nothing_begun stride rec x;
+        tears = record { torn = Torn-refl 1 x (0 + 0 * stride) stride; kept = λ k inside apart. refl };
+      };
     }))
     (quiet_images from to quiet)
 

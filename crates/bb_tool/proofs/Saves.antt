@@ -8,22 +8,17 @@ use Rattle.bb_flash.specs.Device.{Device, Told, content, moment}
 use Rattle.bb_flash.specs.Image.{Image, Torn}
 use Rattle.bb_flash.proofs.Moments.{Cuts-now, images_joined_at, images_weaker, later_joined, torn_joined}
 use Rattle.bb_flash.proofs.Regions.{Torn-region}
-use Rattle.bb_tool.specs.Saving.{Between, IsCutSave, IsKept, IsSaved, IsSavedUpTo, IsWritten, KeepsOthers}
+use Rattle.bb_tool.specs.Saving.{Between, IsCutSave, IsKept, IsSaved, IsSavedBelow, IsSavedUpTo, IsWritten, TearsCopy}
 
 -- what a write of one copy gives, whatever it answers
 pub record IsCopyCall (stride copy : ℕ) (from to : Device) : Type 0 where
-  pub others : EachImage (KeepsOthers stride copy) from to
+  pub images : EachImage (TearsCopy stride copy) from to
   pub outside : EachTorn 0 (3 * stride) from to
   pub later : IsLater from to
 
--- the first copies hold the record, and the rest are as before
-pub record IsBegun (stride : ℕ) (rec : List ℕ) (count : ℕ) (before after : Image) : Type 0 where
-  pub written : (copy : ℕ) → copy < count → IsWritten stride rec copy before after
-  pub kept : (copy : ℕ) → count ≤ copy → copy < 3 → IsKept stride copy before after
-
 -- so many copies were written
 pub record IsRun (stride : ℕ) (rec : List ℕ) (count : ℕ) (from to : Device) : Type 0 where
-  pub saved : Between (IsBegun stride rec count) from to
+  pub saved : Between (IsSavedBelow stride rec count) from to
   pub images : EachImage (IsCutSave stride rec) from to
   pub outside : EachTorn 0 (3 * stride) from to
   pub later : IsLater from to
@@ -72,15 +67,18 @@ before_or_at (suc a) zero h = absurd (omega arith)
 before_or_at (suc a) (suc b) h = elim (before_or_at a b (omega arith)) [ inl l ↦ inl (omega arith) | inr e ↦ inr (ap suc e) ]
 
 -- an image of the write of a copy, after those before it were written
-cut_later : (stride : ℕ) (rec : List ℕ) (copy : ℕ) → copy < 3 → (x y z : Image) → IsBegun stride rec copy x y → KeepsOthers stride copy y z → IsSavedUpTo stride rec copy x z
+cut_later : (stride : ℕ) (rec : List ℕ) (copy : ℕ) → copy < 3 → (x y z : Image) → IsSavedBelow stride rec copy x y → TearsCopy stride copy y z → IsSavedUpTo stride rec copy x z
 cut_later stride rec copy low x y z begun others = record {
   inside = low;
   written = λ k early. others.kept k (omega (arith, low)) (λ e. omega (arith, e)) ∙ begun.written k early;
   kept = λ k late inside. others.kept k inside (λ e. omega (arith, e)) ∙ begun.kept k (omega arith) inside;
+  begun = y;
+  below = begun;
+  tears = others;
 }
 
 -- the first copies and one more
-begun_more : (stride : ℕ) (rec : List ℕ) (copy : ℕ) → copy < 3 → (x y z : Image) → IsBegun stride rec copy x y → KeepsOthers stride copy y z → IsWritten stride rec copy y z → IsBegun stride rec (suc copy) x z
+begun_more : (stride : ℕ) (rec : List ℕ) (copy : ℕ) → copy < 3 → (x y z : Image) → IsSavedBelow stride rec copy x y → TearsCopy stride copy y z → IsWritten stride rec copy y z → IsSavedBelow stride rec (suc copy) x z
 begun_more stride rec copy low x y z begun others here = record {
   written = λ k early. elim (before_or_at k copy early) [
     | inl less ↦ others.kept k (omega (arith, low)) (λ e. omega (arith, e)) ∙ begun.written k less
@@ -89,20 +87,20 @@ begun_more stride rec copy low x y z begun others here = record {
   kept = λ k late inside. others.kept k inside (λ e. omega (arith, e)) ∙ begun.kept k (omega arith) inside;
 }
 
-nothing_begun : (stride : ℕ) (rec : List ℕ) (x : Image) → IsBegun stride rec 0 x x
+pub nothing_begun : (stride : ℕ) (rec : List ℕ) (x : Image) → IsSavedBelow stride rec 0 x x
 nothing_begun stride rec x = record { written = λ k early. absurd (omega arith); kept = λ k late inside. refl }
 
-cut_first : (stride : ℕ) (rec : List ℕ) (x y : Image) → KeepsOthers stride 0 x y → IsSavedUpTo stride rec 0 x y
+cut_first : (stride : ℕ) (rec : List ℕ) (x y : Image) → TearsCopy stride 0 x y → IsSavedUpTo stride rec 0 x y
 cut_first stride rec x y others = cut_later stride rec 0 (omega arith) x x y (nothing_begun stride rec x) others
 
 first_images : (stride : ℕ) (rec : List ℕ) (from to : Device) → IsCopyCall stride 0 from to → EachImage (IsCutSave stride rec) from to
 first_images stride rec from to call =
-    images_weaker (KeepsOthers stride 0) (IsCutSave stride rec) from to (λ x y others. record { at = 0; saved = cut_first stride rec x y others }) call.others
+    images_weaker (TearsCopy stride 0) (IsCutSave stride rec) from to (λ x y others. record { at = 0; saved = cut_first stride rec x y others }) call.images
 
 -- the first copy was written
 pub run_first : (stride : ℕ) (rec : List ℕ) (from to : Device) → IsCopyCall stride 0 from to → Between (IsWritten stride rec 0) from to → IsRun stride rec 1 from to
 run_first stride rec from to call done = record {
-  saved = λ x e y f. begun_more stride rec 0 (omega arith) x x y (nothing_begun stride rec x) (now_of (KeepsOthers stride 0) from to call.others x e y f) (done x e y f);
+  saved = λ x e y f. begun_more stride rec 0 (omega arith) x x y (nothing_begun stride rec x) (now_of (TearsCopy stride 0) from to call.images x e y f) (done x e y f);
   images = first_images stride rec from to call;
   outside = call.outside;
   later = call.later;
@@ -110,7 +108,7 @@ run_first stride rec from to call done = record {
 
 pub stopped_first : (stride : ℕ) (rec : List ℕ) (from to : Device) → IsCopyCall stride 0 from to → IsStopped stride rec 0 from to
 stopped_first stride rec from to call = record {
-  saved = λ x e y f. cut_first stride rec x y (now_of (KeepsOthers stride 0) from to call.others x e y f);
+  saved = λ x e y f. cut_first stride rec x y (now_of (TearsCopy stride 0) from to call.images x e y f);
   images = first_images stride rec from to call;
   outside = call.outside;
   later = call.later;
@@ -118,19 +116,19 @@ stopped_first stride rec from to call = record {
 
 joined_images : (stride : ℕ) (rec : List ℕ) (copy : ℕ) → copy < 3 → (one two three : Device) → IsRun stride rec copy one two → IsCopyCall stride copy two three → EachImage (IsCutSave stride rec) one three
 joined_images stride rec copy low one two three run call =
-    images_joined_at (IsCutSave stride rec) (KeepsOthers stride copy) (IsCutSave stride rec) (IsBegun stride rec copy) one two three
+    images_joined_at (IsCutSave stride rec) (TearsCopy stride copy) (IsCutSave stride rec) (IsSavedBelow stride rec copy) one two three
     (λ x y cut. cut)
     (λ x y z begun others. record { at = copy; saved = cut_later stride rec copy low x y z begun others })
     run.later call.later
     (λ first e mid g. run.saved first.image (ap (option_map (λ (t : Told). t.image)) e) mid.image (ap (option_map (λ (t : Told). t.image)) g))
-    run.images call.others
+    run.images call.images
 
 -- one copy more was written
 pub run_next : (stride : ℕ) (rec : List ℕ) (copy : ℕ) → copy < 3 → (one two three : Device) → IsRun stride rec copy one two → IsCopyCall stride copy two three → Between (IsWritten stride rec copy) two three → IsRun stride rec (suc copy) one three
 run_next stride rec copy low one two three run call done = record {
   saved = λ x e z g.
       let mid = content_then one two run.later x e in
-      begun_more stride rec copy low x mid.0 z (run.saved x e mid.0 mid.1) (now_of (KeepsOthers stride copy) two three call.others mid.0 mid.1 z g) (done mid.0 mid.1 z g);
+      begun_more stride rec copy low x mid.0 z (run.saved x e mid.0 mid.1) (now_of (TearsCopy stride copy) two three call.images mid.0 mid.1 z g) (done mid.0 mid.1 z g);
   images = joined_images stride rec copy low one two three run call;
   outside = torn_joined 0 (3 * stride) one two three run.later call.later run.outside call.outside;
   later = later_joined one two three run.later call.later;
@@ -141,7 +139,7 @@ pub stopped_next : (stride : ℕ) (rec : List ℕ) (copy : ℕ) → copy < 3 →
 stopped_next stride rec copy low one two three run call = record {
   saved = λ x e z g.
       let mid = content_then one two run.later x e in
-      cut_later stride rec copy low x mid.0 z (run.saved x e mid.0 mid.1) (now_of (KeepsOthers stride copy) two three call.others mid.0 mid.1 z g);
+      cut_later stride rec copy low x mid.0 z (run.saved x e mid.0 mid.1) (now_of (TearsCopy stride copy) two three call.images mid.0 mid.1 z g);
   images = joined_images stride rec copy low one two three run call;
   outside = torn_joined 0 (3 * stride) one two three run.later call.later run.outside call.outside;
   later = later_joined one two three run.later call.later;
@@ -170,10 +168,11 @@ one_whole : (n : ℕ) → n % 1 ≡ 0
 one_whole n = grind (arith)
 
 -- what is torn in the stride of one copy leaves the others
-pub torn_others : (stride copy : ℕ) (from to : Device) → from.geometry.page ≡ 1 → EachTorn (0 + copy * stride) stride from to → EachImage (KeepsOthers stride copy) from to
+pub torn_others : (stride copy : ℕ) (from to : Device) → from.geometry.page ≡ 1 → EachTorn (0 + copy * stride) stride from to → EachImage (TearsCopy stride copy) from to
 torn_others stride copy from to page torn =
-    images_weaker (Torn from.geometry.page (0 + copy * stride) stride) (KeepsOthers stride copy) from to
+    images_weaker (Torn from.geometry.page (0 + copy * stride) stride) (TearsCopy stride copy) from to
     (λ x y tears. record {
+      torn = subst (λ (p : ℕ). Torn p (0 + copy * stride) stride x y) page tears;
       kept = λ other inside apart.
           let here : Torn 1 (0 + copy * stride) stride x y = subst (λ (p : ℕ). Torn p (0 + copy * stride) stride x y) page tears in
           same_copy stride other x y (Torn-region 1 (0 + copy * stride) stride (0 + other * stride) stride x y (omega arith) (one_whole (0 + copy * stride)) (one_whole stride) here (strides_apart stride other copy apart));

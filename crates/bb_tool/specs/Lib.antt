@@ -6,6 +6,7 @@ pub use Rattle.bb_flash.specs.Cuts
 pub use Rattle.bb_flash.specs.Device
 pub use Rattle.bb_flash.specs.Image
 pub use Rattle.bb_words.specs.Words
+pub mod AfterSave
 pub mod Ending
 pub mod Filing
 pub mod Layout

@@ -6,7 +6,7 @@ ghost use Rattle.bb_flash.specs.Device.{IsDevice};
 ghost use Rattle.bb_raw.specs.Raw.{raw_text};
 ghost use Rattle.bb_tool.specs.Refusal.{IsTellable};
 ghost use Rattle.bb_tool.specs.Looking.{region_in, thirds};
-ghost use Rattle.bb_tool.specs.Saving.{Between, IsCutSave, IsSaved, IsSavedUpTo, IsWritten, KeepsOthers};
+ghost use Rattle.bb_tool.specs.Saving.{Between, IsCutSave, IsSaved, IsSavedUpTo, IsWritten, TearsCopy};
 ghost use Rattle.bb_tool.specs.Work.{IsRefusedMemory, IsSavedBy};
 
 use crate::copies::Copies;
@@ -109,7 +109,7 @@ fn write_copy<F: Flash>(
     requires room { 8 + length rec.now ≤ stride }
     ensures done { OnOk result (Between (IsWritten stride rec.now copy) (F.device flash.old) (F.device flash.new)) }
     ensures failed { IfErr result (λ failed. failed ≡ copy) }
-    ensures others { EachImage (KeepsOthers stride copy) (F.device flash.old) (F.device flash.new) }
+    ensures images { EachImage (TearsCopy stride copy) (F.device flash.old) (F.device flash.new) }
     ensures outside { EachTorn 0 (3 * stride) (F.device flash.old) (F.device flash.new) }
     ensures later { IsLater (F.device flash.old) (F.device flash.new) }
     ensures whole { IsDevice (F.device flash.new) }

@@ -8,11 +8,12 @@ ghost use Rattle.bb_words.specs.Answer.{IsSizedRaw};
 ghost use Rattle.bb_words.specs.Words.{words_of};
 ghost use Rattle.bb_words.specs.declared.command.Command.TheVariants as commands;
 ghost use Rattle.bb_words.specs.declared.command.RawCommand.{RawCommand};
+ghost use Rattle.bb_tool.specs.AfterSave.{Finds, IsOutlived};
 ghost use Rattle.bb_tool.specs.Ending.{ComesExactly, ComesPlanned, IsGiven, IsSaving, IsSent, IsSession, IsWithoutMemory, IsWriteFault, MayHaveFailed, SendsSessionFront, ended_status, ended_text, is_planning, record_of};
 ghost use Rattle.bb_tool.specs.Filing.{IsFolderLater};
 ghost use Rattle.bb_tool.specs.Layout.{stride_of};
 ghost use Rattle.bb_tool.specs.Looking.{IsQuiet};
-ghost use Rattle.bb_tool.specs.Plan.{file_for, names_file, planned};
+ghost use Rattle.bb_tool.specs.Plan.{file_for, kind_of, names_file, planned};
 ghost use Rattle.bb_tool.specs.Refusal.{IsTellable};
 ghost use Rattle.bb_tool.specs.Saving.{Between, IsCutSave, IsSaved};
 ghost use Rattle.bb_tool.specs.Session.{answers_of, session_of};
@@ -67,6 +68,12 @@ pub fn run<F: Files, B: Board, K: Sink>(
 
     // A cut during a save, at any moment, leaves the record in the copies before one, and those behind it as they were.
     ensures images { (saving : IsSaving words.now (B.device board.old).geometry) → EachImage (IsCutSave saving.stride (record_of saving)) (B.device board.old) (B.device board.new) }
+    // A look finds the area once a save is done. After a cut during it, or a write that failed, a look finds the area or
+    // what was there before, unless the first copy passes by luck.
+    ensures found { (saving : IsSaving words.now (B.device board.old).geometry) → result ≡ Status.Done
+        → Between (Finds (kind_of saving.command) saving.stride saving.area) (B.device board.old) (B.device board.new) }
+    ensures outlived { (saving : IsSaving words.now (B.device board.old).geometry)
+        → EachImage (IsOutlived (kind_of saving.command) saving.stride saving.area) (B.device board.old) (B.device board.new) }
     ensures outside { (saving : IsSaving words.now (B.device board.old).geometry) → EachTorn 0 (3 * saving.stride) (B.device board.old) (B.device board.new) }
     ensures later { IsLater (B.device board.old) (B.device board.new) }
 

@@ -6,8 +6,8 @@ use Rattle.bb_tool.proofs.Holds.{copy_within, in_place_page}
 use Rattle.bb_tool.proofs.Saves.{torn_others}
 use Rattle.bb_tool.proofs.save.write_copy.Goals as goal
 
-pub returns-in-Ok-clause-others : goal.returns-in-Ok-clause-others
-returns-in-Ok-clause-others g c =
+pub returns-in-Ok-clause-images : goal.returns-in-Ok-clause-images
+returns-in-Ok-clause-images g c =
     let from = g.F.Flash.device c.args.flash.now in
     let to = g.F.Flash.device c.write.new.flash in
     let torn : EachTorn (0 + c.args.copy * c.args.stride) c.args.stride from to = subst (λ (r : Region). EachTorn r.at r.size from to) c.requires.here c.in-Ok.ensures.images in
@@ -20,8 +20,8 @@ returns-in-Ok-clause-outside g c =
     let torn : EachTorn (0 + c.args.copy * c.args.stride) c.args.stride from to = subst (λ (r : Region). EachTorn r.at r.size from to) c.requires.here c.in-Ok.ensures.images in
     torn_wider (0 + c.args.copy * c.args.stride) c.args.stride 0 (3 * c.args.stride) from to c.requires.whole (omega arith) (omega (arith, copy_within c.args.stride c.args.copy c.requires.inside)) torn
 
-pub returns-in-Err-clause-others : goal.returns-in-Err-clause-others
-returns-in-Err-clause-others g c =
+pub returns-in-Err-clause-images : goal.returns-in-Err-clause-images
+returns-in-Err-clause-images g c =
     let from = g.F.Flash.device c.args.flash.now in
     let to = g.F.Flash.device c.write.new.flash in
     let torn : EachTorn (0 + c.args.copy * c.args.stride) c.args.stride from to = subst (λ (r : Region). EachTorn r.at r.size from to) c.requires.here c.in-Err.ensures.images in

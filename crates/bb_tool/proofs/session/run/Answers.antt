@@ -1,5 +1,6 @@
 use Rattle.std.proofs.Common.{refl}
 use Rattle.bb_tool.specs.declared.status.Status.TheVariants as statuses
+use Rattle.bb_tool.proofs.AfterSave.{found_of_saved, outlived_of}
 use Rattle.bb_tool.proofs.Endings.{bad_raw_layout_of, bad_words_of, comes_planned, file_fault_of, front_of, images_of, no_memory_of, outside_of, quiet_of, read_fault_of, saved_of, sink_fault_of, stopped_of, unasked_of, undisturbed_alone_of, undisturbed_of, write_fault_of}
 use Rattle.bb_tool.proofs.session.run.Goals as goal
 
@@ -17,6 +18,12 @@ returns-clause-saved g c = saved_of _ _ _ _ _ _ _ _ c.answer.ensures.session
 
 pub returns-clause-images : goal.returns-clause-images
 returns-clause-images g c = images_of _ _ _ _ _ _ _ _ c.answer.ensures.session
+
+pub returns-clause-found : goal.returns-clause-found
+returns-clause-found g c = found_of_saved _ _ _ _ _ _ _ _ c.answer.ensures.session
+
+pub returns-clause-outlived : goal.returns-clause-outlived
+returns-clause-outlived g c = outlived_of _ _ _ _ _ _ _ _ c.answer.ensures.session
 
 pub returns-clause-outside : goal.returns-clause-outside
 returns-clause-outside g c = outside_of _ _ _ _ _ _ _ _ c.answer.ensures.session

@@ -10,7 +10,7 @@ returns-in_err-write_copy-clause-failed g c =
     let same = c.as_slice-rec.ensures.value in
     let zero = g.F.Flash.device c.args.flash.now in
     let one = g.F.Flash.device c.write_copy.new.flash in
-    let call_one : IsCopyCall stride 0 zero one = record { others = c.write_copy.ensures.others; outside = c.write_copy.ensures.outside; later = c.write_copy.ensures.later } in
+    let call_one : IsCopyCall stride 0 zero one = record { images = c.write_copy.ensures.images; outside = c.write_copy.ensures.outside; later = c.write_copy.ensures.later } in
     let stopped = stopped_first stride rec zero one call_one in
     handed_on c.from_residual.result (λ copy. Between (IsSavedUpTo stride rec copy) zero one) _ 0 c.from_residual.ensures.1 c.in_err-write_copy.ensures.failed stopped.saved
 
@@ -21,7 +21,7 @@ returns-in_err-write_copy-clause-images g c =
     let same = c.as_slice-rec.ensures.value in
     let zero = g.F.Flash.device c.args.flash.now in
     let one = g.F.Flash.device c.write_copy.new.flash in
-    let call_one : IsCopyCall stride 0 zero one = record { others = c.write_copy.ensures.others; outside = c.write_copy.ensures.outside; later = c.write_copy.ensures.later } in
+    let call_one : IsCopyCall stride 0 zero one = record { images = c.write_copy.ensures.images; outside = c.write_copy.ensures.outside; later = c.write_copy.ensures.later } in
     let stopped = stopped_first stride rec zero one call_one in
     stopped.images
 
@@ -32,9 +32,9 @@ returns-in_err-write_copy-2-clause-failed g c =
     let same = c.as_slice-rec.ensures.value in
     let zero = g.F.Flash.device c.args.flash.now in
     let one = g.F.Flash.device c.write_copy.new.flash in
-    let call_one : IsCopyCall stride 0 zero one = record { others = c.write_copy.ensures.others; outside = c.write_copy.ensures.outside; later = c.write_copy.ensures.later } in
+    let call_one : IsCopyCall stride 0 zero one = record { images = c.write_copy.ensures.images; outside = c.write_copy.ensures.outside; later = c.write_copy.ensures.later } in
     let two = g.F.Flash.device c.write_copy-2.new.flash in
-    let call_two : IsCopyCall stride 1 one two = record { others = c.write_copy-2.ensures.others; outside = c.write_copy-2.ensures.outside; later = c.write_copy-2.ensures.later } in
+    let call_two : IsCopyCall stride 1 one two = record { images = c.write_copy-2.ensures.images; outside = c.write_copy-2.ensures.outside; later = c.write_copy-2.ensures.later } in
     let run_one = run_first stride rec zero one call_one (subst (λ (r : List ℕ). Between (IsWritten stride r 0) zero one) same c.in_ok-write_copy.ensures.done) in
     let stopped = stopped_next stride rec 1 (omega arith) zero one two run_one call_two in
     handed_on c.from_residual-in_err-write_copy-2.result (λ copy. Between (IsSavedUpTo stride rec copy) zero two) _ 1 c.from_residual-in_err-write_copy-2.ensures.1 c.in_err-write_copy-2.ensures.failed stopped.saved
@@ -46,9 +46,9 @@ returns-in_err-write_copy-2-clause-images g c =
     let same = c.as_slice-rec.ensures.value in
     let zero = g.F.Flash.device c.args.flash.now in
     let one = g.F.Flash.device c.write_copy.new.flash in
-    let call_one : IsCopyCall stride 0 zero one = record { others = c.write_copy.ensures.others; outside = c.write_copy.ensures.outside; later = c.write_copy.ensures.later } in
+    let call_one : IsCopyCall stride 0 zero one = record { images = c.write_copy.ensures.images; outside = c.write_copy.ensures.outside; later = c.write_copy.ensures.later } in
     let two = g.F.Flash.device c.write_copy-2.new.flash in
-    let call_two : IsCopyCall stride 1 one two = record { others = c.write_copy-2.ensures.others; outside = c.write_copy-2.ensures.outside; later = c.write_copy-2.ensures.later } in
+    let call_two : IsCopyCall stride 1 one two = record { images = c.write_copy-2.ensures.images; outside = c.write_copy-2.ensures.outside; later = c.write_copy-2.ensures.later } in
     let run_one = run_first stride rec zero one call_one (subst (λ (r : List ℕ). Between (IsWritten stride r 0) zero one) same c.in_ok-write_copy.ensures.done) in
     let stopped = stopped_next stride rec 1 (omega arith) zero one two run_one call_two in
     stopped.images
@@ -60,9 +60,9 @@ returns-in_err-write_copy-2-clause-outside g c =
     let same = c.as_slice-rec.ensures.value in
     let zero = g.F.Flash.device c.args.flash.now in
     let one = g.F.Flash.device c.write_copy.new.flash in
-    let call_one : IsCopyCall stride 0 zero one = record { others = c.write_copy.ensures.others; outside = c.write_copy.ensures.outside; later = c.write_copy.ensures.later } in
+    let call_one : IsCopyCall stride 0 zero one = record { images = c.write_copy.ensures.images; outside = c.write_copy.ensures.outside; later = c.write_copy.ensures.later } in
     let two = g.F.Flash.device c.write_copy-2.new.flash in
-    let call_two : IsCopyCall stride 1 one two = record { others = c.write_copy-2.ensures.others; outside = c.write_copy-2.ensures.outside; later = c.write_copy-2.ensures.later } in
+    let call_two : IsCopyCall stride 1 one two = record { images = c.write_copy-2.ensures.images; outside = c.write_copy-2.ensures.outside; later = c.write_copy-2.ensures.later } in
     let run_one = run_first stride rec zero one call_one (subst (λ (r : List ℕ). Between (IsWritten stride r 0) zero one) same c.in_ok-write_copy.ensures.done) in
     let stopped = stopped_next stride rec 1 (omega arith) zero one two run_one call_two in
     stopped.outside
@@ -74,9 +74,9 @@ returns-in_err-write_copy-2-clause-later g c =
     let same = c.as_slice-rec.ensures.value in
     let zero = g.F.Flash.device c.args.flash.now in
     let one = g.F.Flash.device c.write_copy.new.flash in
-    let call_one : IsCopyCall stride 0 zero one = record { others = c.write_copy.ensures.others; outside = c.write_copy.ensures.outside; later = c.write_copy.ensures.later } in
+    let call_one : IsCopyCall stride 0 zero one = record { images = c.write_copy.ensures.images; outside = c.write_copy.ensures.outside; later = c.write_copy.ensures.later } in
     let two = g.F.Flash.device c.write_copy-2.new.flash in
-    let call_two : IsCopyCall stride 1 one two = record { others = c.write_copy-2.ensures.others; outside = c.write_copy-2.ensures.outside; later = c.write_copy-2.ensures.later } in
+    let call_two : IsCopyCall stride 1 one two = record { images = c.write_copy-2.ensures.images; outside = c.write_copy-2.ensures.outside; later = c.write_copy-2.ensures.later } in
     let run_one = run_first stride rec zero one call_one (subst (λ (r : List ℕ). Between (IsWritten stride r 0) zero one) same c.in_ok-write_copy.ensures.done) in
     let stopped = stopped_next stride rec 1 (omega arith) zero one two run_one call_two in
     stopped.later
@@ -88,11 +88,11 @@ returns-clause-done g c =
     let same = c.as_slice-rec.ensures.value in
     let zero = g.F.Flash.device c.args.flash.now in
     let one = g.F.Flash.device c.write_copy.new.flash in
-    let call_one : IsCopyCall stride 0 zero one = record { others = c.write_copy.ensures.others; outside = c.write_copy.ensures.outside; later = c.write_copy.ensures.later } in
+    let call_one : IsCopyCall stride 0 zero one = record { images = c.write_copy.ensures.images; outside = c.write_copy.ensures.outside; later = c.write_copy.ensures.later } in
     let two = g.F.Flash.device c.write_copy-2.new.flash in
-    let call_two : IsCopyCall stride 1 one two = record { others = c.write_copy-2.ensures.others; outside = c.write_copy-2.ensures.outside; later = c.write_copy-2.ensures.later } in
+    let call_two : IsCopyCall stride 1 one two = record { images = c.write_copy-2.ensures.images; outside = c.write_copy-2.ensures.outside; later = c.write_copy-2.ensures.later } in
     let three = g.F.Flash.device c.write_copy-3.new.flash in
-    let call_three : IsCopyCall stride 2 two three = record { others = c.write_copy-3.ensures.others; outside = c.write_copy-3.ensures.outside; later = c.write_copy-3.ensures.later } in
+    let call_three : IsCopyCall stride 2 two three = record { images = c.write_copy-3.ensures.images; outside = c.write_copy-3.ensures.outside; later = c.write_copy-3.ensures.later } in
     let run_one = run_first stride rec zero one call_one (subst (λ (r : List ℕ). Between (IsWritten stride r 0) zero one) same c.in_ok-write_copy.ensures.done) in
     let run_two = run_next stride rec 1 (omega arith) zero one two run_one call_two (subst (λ (r : List ℕ). Between (IsWritten stride r 1) one two) same c.in_ok-write_copy-2.ensures.done) in
     done_then c.write_copy-3.result
@@ -106,11 +106,11 @@ returns-clause-failed g c =
     let same = c.as_slice-rec.ensures.value in
     let zero = g.F.Flash.device c.args.flash.now in
     let one = g.F.Flash.device c.write_copy.new.flash in
-    let call_one : IsCopyCall stride 0 zero one = record { others = c.write_copy.ensures.others; outside = c.write_copy.ensures.outside; later = c.write_copy.ensures.later } in
+    let call_one : IsCopyCall stride 0 zero one = record { images = c.write_copy.ensures.images; outside = c.write_copy.ensures.outside; later = c.write_copy.ensures.later } in
     let two = g.F.Flash.device c.write_copy-2.new.flash in
-    let call_two : IsCopyCall stride 1 one two = record { others = c.write_copy-2.ensures.others; outside = c.write_copy-2.ensures.outside; later = c.write_copy-2.ensures.later } in
+    let call_two : IsCopyCall stride 1 one two = record { images = c.write_copy-2.ensures.images; outside = c.write_copy-2.ensures.outside; later = c.write_copy-2.ensures.later } in
     let three = g.F.Flash.device c.write_copy-3.new.flash in
-    let call_three : IsCopyCall stride 2 two three = record { others = c.write_copy-3.ensures.others; outside = c.write_copy-3.ensures.outside; later = c.write_copy-3.ensures.later } in
+    let call_three : IsCopyCall stride 2 two three = record { images = c.write_copy-3.ensures.images; outside = c.write_copy-3.ensures.outside; later = c.write_copy-3.ensures.later } in
     let run_one = run_first stride rec zero one call_one (subst (λ (r : List ℕ). Between (IsWritten stride r 0) zero one) same c.in_ok-write_copy.ensures.done) in
     let run_two = run_next stride rec 1 (omega arith) zero one two run_one call_two (subst (λ (r : List ℕ). Between (IsWritten stride r 1) one two) same c.in_ok-write_copy-2.ensures.done) in
     let stopped = stopped_next stride rec 2 (omega arith) zero two three run_two call_three in
@@ -123,11 +123,11 @@ returns-clause-images g c =
     let same = c.as_slice-rec.ensures.value in
     let zero = g.F.Flash.device c.args.flash.now in
     let one = g.F.Flash.device c.write_copy.new.flash in
-    let call_one : IsCopyCall stride 0 zero one = record { others = c.write_copy.ensures.others; outside = c.write_copy.ensures.outside; later = c.write_copy.ensures.later } in
+    let call_one : IsCopyCall stride 0 zero one = record { images = c.write_copy.ensures.images; outside = c.write_copy.ensures.outside; later = c.write_copy.ensures.later } in
     let two = g.F.Flash.device c.write_copy-2.new.flash in
-    let call_two : IsCopyCall stride 1 one two = record { others = c.write_copy-2.ensures.others; outside = c.write_copy-2.ensures.outside; later = c.write_copy-2.ensures.later } in
+    let call_two : IsCopyCall stride 1 one two = record { images = c.write_copy-2.ensures.images; outside = c.write_copy-2.ensures.outside; later = c.write_copy-2.ensures.later } in
     let three = g.F.Flash.device c.write_copy-3.new.flash in
-    let call_three : IsCopyCall stride 2 two three = record { others = c.write_copy-3.ensures.others; outside = c.write_copy-3.ensures.outside; later = c.write_copy-3.ensures.later } in
+    let call_three : IsCopyCall stride 2 two three = record { images = c.write_copy-3.ensures.images; outside = c.write_copy-3.ensures.outside; later = c.write_copy-3.ensures.later } in
     let run_one = run_first stride rec zero one call_one (subst (λ (r : List ℕ). Between (IsWritten stride r 0) zero one) same c.in_ok-write_copy.ensures.done) in
     let run_two = run_next stride rec 1 (omega arith) zero one two run_one call_two (subst (λ (r : List ℕ). Between (IsWritten stride r 1) one two) same c.in_ok-write_copy-2.ensures.done) in
     let stopped = stopped_next stride rec 2 (omega arith) zero two three run_two call_three in
@@ -140,11 +140,11 @@ returns-clause-outside g c =
     let same = c.as_slice-rec.ensures.value in
     let zero = g.F.Flash.device c.args.flash.now in
     let one = g.F.Flash.device c.write_copy.new.flash in
-    let call_one : IsCopyCall stride 0 zero one = record { others = c.write_copy.ensures.others; outside = c.write_copy.ensures.outside; later = c.write_copy.ensures.later } in
+    let call_one : IsCopyCall stride 0 zero one = record { images = c.write_copy.ensures.images; outside = c.write_copy.ensures.outside; later = c.write_copy.ensures.later } in
     let two = g.F.Flash.device c.write_copy-2.new.flash in
-    let call_two : IsCopyCall stride 1 one two = record { others = c.write_copy-2.ensures.others; outside = c.write_copy-2.ensures.outside; later = c.write_copy-2.ensures.later } in
+    let call_two : IsCopyCall stride 1 one two = record { images = c.write_copy-2.ensures.images; outside = c.write_copy-2.ensures.outside; later = c.write_copy-2.ensures.later } in
     let three = g.F.Flash.device c.write_copy-3.new.flash in
-    let call_three : IsCopyCall stride 2 two three = record { others = c.write_copy-3.ensures.others; outside = c.write_copy-3.ensures.outside; later = c.write_copy-3.ensures.later } in
+    let call_three : IsCopyCall stride 2 two three = record { images = c.write_copy-3.ensures.images; outside = c.write_copy-3.ensures.outside; later = c.write_copy-3.ensures.later } in
     let run_one = run_first stride rec zero one call_one (subst (λ (r : List ℕ). Between (IsWritten stride r 0) zero one) same c.in_ok-write_copy.ensures.done) in
     let run_two = run_next stride rec 1 (omega arith) zero one two run_one call_two (subst (λ (r : List ℕ). Between (IsWritten stride r 1) one two) same c.in_ok-write_copy-2.ensures.done) in
     let stopped = stopped_next stride rec 2 (omega arith) zero two three run_two call_three in
@@ -157,11 +157,11 @@ returns-clause-later g c =
     let same = c.as_slice-rec.ensures.value in
     let zero = g.F.Flash.device c.args.flash.now in
     let one = g.F.Flash.device c.write_copy.new.flash in
-    let call_one : IsCopyCall stride 0 zero one = record { others = c.write_copy.ensures.others; outside = c.write_copy.ensures.outside; later = c.write_copy.ensures.later } in
+    let call_one : IsCopyCall stride 0 zero one = record { images = c.write_copy.ensures.images; outside = c.write_copy.ensures.outside; later = c.write_copy.ensures.later } in
     let two = g.F.Flash.device c.write_copy-2.new.flash in
-    let call_two : IsCopyCall stride 1 one two = record { others = c.write_copy-2.ensures.others; outside = c.write_copy-2.ensures.outside; later = c.write_copy-2.ensures.later } in
+    let call_two : IsCopyCall stride 1 one two = record { images = c.write_copy-2.ensures.images; outside = c.write_copy-2.ensures.outside; later = c.write_copy-2.ensures.later } in
     let three = g.F.Flash.device c.write_copy-3.new.flash in
-    let call_three : IsCopyCall stride 2 two three = record { others = c.write_copy-3.ensures.others; outside = c.write_copy-3.ensures.outside; later = c.write_copy-3.ensures.later } in
+    let call_three : IsCopyCall stride 2 two three = record { images = c.write_copy-3.ensures.images; outside = c.write_copy-3.ensures.outside; later = c.write_copy-3.ensures.later } in
     let run_one = run_first stride rec zero one call_one (subst (λ (r : List ℕ). Between (IsWritten stride r 0) zero one) same c.in_ok-write_copy.ensures.done) in
     let run_two = run_next stride rec 1 (omega arith) zero one two run_one call_two (subst (λ (r : List ℕ). Between (IsWritten stride r 1) one two) same c.in_ok-write_copy-2.ensures.done) in
     let stopped = stopped_next stride rec 2 (omega arith) zero two three run_two call_three in
