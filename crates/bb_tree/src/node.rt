@@ -1,4 +1,4 @@
-ghost use Rattle.std.specs.Prelude.{◌≡◌, ◌==◌, ◌++◌, ◌∷◌, [], length, OnOk, OnErr, slice_get};
+ghost use Rattle.std.specs.Prelude.{◌≡◌, ◌==◌, ◌++◌, ◌∷◌, [], length, IfOk, OnOk, OnErr, slice_get};
 ghost use Rattle.std.specs.Option.{option_copied, option_map};
 
 use crate::PropList;
@@ -33,6 +33,14 @@ impl NodeList {
         NodeList {
             inner: Vec::new(alloc),
         }
+    }
+
+    /// No nodes, with room for so many.
+    pub(crate) fn with_room(alloc: Global, room: usize) -> Result<NodeList, NoMemory>
+        ensures { IfOk result (λ list. branches_of list ≡ []) }
+    {
+        let inner = Vec::with_capacity(alloc, room)?;
+        Ok(NodeList { inner })
     }
 
     /// Appends the node. It is dropped where memory is refused.

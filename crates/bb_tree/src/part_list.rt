@@ -36,6 +36,10 @@ impl PartList {
         ensures ok { OnOk result (self.new ≡ self.old ++ part ∷ []) }
         ensures err { OnErr result (self.new ≡ self.old) }
     {
+        // most lists have one part
+        if self.inner.is_empty() {
+            self.inner.reserve_exact(1)?;
+        }
         self.inner.push(part)?;
         Ok(())
     }

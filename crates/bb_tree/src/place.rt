@@ -44,7 +44,20 @@ pub(crate) fn put_prop(
     let key = String::from_str(alloc, name.as_str())?;
     let slot = &mut slots[k];
     let _ = slot.props.insert(key, parts)?;
+    give_back(&mut slot.props);
     Ok(())
+}
+
+// A table makes room for nine entries at its first, and most nodes have few properties and few nodes in them.
+const FEW: usize = 4;
+
+// Gives back the room behind few entries.
+fn give_back<V>(table: &mut IndexMap<String, V>)
+    ensures { table.new.entries ≡ table.old.entries }
+{
+    if table.len() <= FEW {
+        table.shrink_to_fit();
+    }
 }
 
 /// Where the node of that name in the node at `k` is.
@@ -78,6 +91,7 @@ pub(crate) fn child_or_new(
     })?;
     let slot = &mut slots[k];
     let _ = slot.nodes.insert(key, at)?;
+    give_back(&mut slot.nodes);
     Ok(at)
 }
 

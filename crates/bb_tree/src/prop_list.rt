@@ -1,4 +1,4 @@
-ghost use Rattle.std.specs.Prelude.{◌≡◌, ◌==◌, ◌++◌, ◌∷◌, [], length, OnOk, OnErr, slice_get};
+ghost use Rattle.std.specs.Prelude.{◌≡◌, ◌==◌, ◌++◌, ◌∷◌, [], length, IfOk, OnOk, OnErr, slice_get};
 ghost use Rattle.std.specs.Option.{option_copied};
 
 use crate::Prop;
@@ -29,6 +29,14 @@ impl PropList {
         PropList {
             inner: Vec::new(alloc),
         }
+    }
+
+    /// No properties, with room for so many.
+    pub(crate) fn with_room(alloc: Global, room: usize) -> Result<PropList, NoMemory>
+        ensures { IfOk result (λ list. list ≡ []) }
+    {
+        let inner = Vec::with_capacity(alloc, room)?;
+        Ok(PropList { inner })
     }
 
     /// Appends the prop. It is dropped where memory is refused.

@@ -26,8 +26,9 @@ pub(crate) fn node_of(
     ensures { IfOk result (λ node. branch_of node ≡ finished (texts_in labels.now.entries) slots.now name k) }
 {
     let props = finished_props(alloc, slots, labels, k)?;
-    let mut nodes = NodeList::none(alloc);
-    for i in 0..count_nodes(slots, k) {
+    let count = count_nodes(slots, k);
+    let mut nodes = NodeList::with_room(alloc, count)?;
+    for i in 0..count {
         let Some((name, child)) = nth_node(slots, k, i) else {
             unreachable!()
         };
@@ -48,8 +49,9 @@ fn finished_props(
     requires sound { IsSound slots.now }
     ensures { IfOk result (λ props. map prop_pair props ≡ values_in (texts_in labels.now.entries) slots.now (props_at slots.now k)) }
 {
-    let mut props = PropList::none(alloc);
-    for i in 0..count_props(slots, k) {
+    let count = count_props(slots, k);
+    let mut props = PropList::with_room(alloc, count)?;
+    for i in 0..count {
         let Some((name, parts)) = nth_prop(slots, k, i) else {
             unreachable!()
         };

@@ -34,9 +34,9 @@ returns c =
     let at : slice_get slots c.args.k ≡ Some slot = slice_get_before slots x slot c.args.k (omega arith) (ap (λ l. slice_get l c.args.k) (sym items) ∙ read) in
     let name = c.in_ok-key.ensures.ok ∙ c.as_str-2.ensures in
     let empty = ap (λ o. lookup (bytes_eq c.args.name) (option_map_or table_in o [])) (sym at) ∙ free in
-    let table = ap texts_in c.in_ok-insert.ensures.entries ∙ table_last slot.nodes.entries c.in_ok-key.key c.args.name c.len-at.result name empty in
+    let table = ap texts_in (c.give_back.ensures ∙ c.in_ok-insert.ensures.entries) ∙ table_last slot.nodes.entries c.in_ok-key.key c.args.name c.len-at.result name empty in
     let bare : IsBare c.args.k c.args.name x = record { parent = refl; named = refl; props = ap texts_in c.new.ensures.empty; table = ap texts_in c.new-2.ensures.empty } in
-    let t : Slot = record { parent = slot.parent; name = slot.name; props = slot.props; nodes = c.insert.new.self } in
+    let t : Slot = record { parent = slot.parent; name = slot.name; props = slot.props; nodes = c.give_back.new.table } in
     let len : c.len-at.result ≡ length slots = search rules in
     let done = HasChild-new slots c.args.k c.args.name slot t x at c.requires.sound bare free refl refl refl (table ∙ ap (λ n. table_in slot ++ (c.args.name, n) ∷ []) len) in
     subst (λ (n : ℕ). HasChild c.args.k n c.args.name slots (slice_set pushed c.args.k t)) (sym len)

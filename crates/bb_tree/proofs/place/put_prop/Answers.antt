@@ -14,5 +14,5 @@ returns c =
     let slot = c.index_mut-slot.result.now in
     let at = slice_get_read slots (length slots) c.args.k slot refl (omega arith) c.index_mut-slot.ensures.value in
     let name = c.in_ok-key.ensures.ok ∙ c.as_str.ensures in
-    let props = ap texts_in c.in_ok-insert.ensures.entries ∙ put_entries slot.props.entries c.in_ok-key.key c.args.prop.parts ∙ ap (λ n. put (props_in slot) n c.args.prop.parts) name in
+    let props = ap texts_in (c.give_back.ensures ∙ c.in_ok-insert.ensures.entries) ∙ put_entries slot.props.entries c.in_ok-key.key c.args.prop.parts ∙ ap (λ n. put (props_in slot) n c.args.prop.parts) name in
     Changes-put slots c.args.k slot _ c.args.prop.name c.args.prop.parts at (record { parent = refl; name = refl; table = refl }) props c.requires.sound

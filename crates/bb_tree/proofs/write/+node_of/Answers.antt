@@ -31,7 +31,7 @@ returns t c =
     let labels = texts_in c.args.labels.now.entries in
     let slots = c.args.slots.now in
     let table = table_at slots c.args.k in
-    let all = c.loop-i.invariant ∙ ap (map (child_finished labels slots)) (take_all c.loop-i.i table (omega (arith, c.count_nodes-i-end.ensures))) in
+    let all = c.loop-i.invariant ∙ ap (map (child_finished labels slots)) (take_all c.loop-i.i table (omega (arith, c.count_nodes-count.ensures))) in
     fold-roll-Node (Branch (List ℕ)) (List (Branch (List ℕ))) seen_node seen_nodes _
     ∙ ap (λ (ps : List (List ℕ × List ℕ)). record { name = c.args.name; props = ps; nodes = forest (branches_of c.loop-i.nodes) }) c.in_ok-props.ensures
     ∙ ap (λ (l : List (Branch (List ℕ))). record { name = c.args.name; props = values_in labels slots (props_at slots c.args.k); nodes = forest l }) all

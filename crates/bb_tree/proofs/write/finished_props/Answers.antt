@@ -26,4 +26,4 @@ pub returns : goal.returns
 returns c =
     let labels = texts_in c.args.labels.now.entries in
     let props = props_at c.args.slots.now c.args.k in
-    c.loop-i.invariant ∙ ap (values_in labels c.args.slots.now) (take_all c.loop-i.i props (omega (arith, c.count_props-i-end.ensures)))
+    c.loop-i.invariant ∙ ap (values_in labels c.args.slots.now) (take_all c.loop-i.i props (omega (arith, c.count_props-count.ensures)))
