@@ -56,13 +56,12 @@ module _ {A : Type 0} {p : LayoutError → Bool} where
   fails_map_or f (Some x) d h k = h x
 
 module _ {A B : Type 0} {p : LayoutError → Bool} where
-  fails_then : (r : Result A LayoutError) (next : A → Result B LayoutError) → Fails p r → ((x : A) → Fails p (next x)) → Fails p (result_then r next)
-  fails_then (Ok x) next h k = k x
-  fails_then (Err x) next h k = fails_err x (h.passes x refl)
-
   fails_and_then : (next : A → Result B LayoutError) (r : Result A LayoutError) → Fails p r → ((x : A) → Fails p (next x)) → Fails p (result_and_then next r)
   fails_and_then next (Ok x) h k = k x
   fails_and_then next (Err x) h k = fails_err x (h.passes x refl)
+
+  fails_then : (r : Result A LayoutError) (next : A → Result B LayoutError) → Fails p r → ((x : A) → Fails p (next x)) → Fails p (result_then r next)
+  fails_then r next h k = fails_and_then next r h k
 
 fails_all : {A X : Type 0} {p : LayoutError → Bool} (f : X → Result A LayoutError) (xs : List X) → ((x : X) → Fails p (f x)) → Fails p (all_ok (map f xs))
 fails_all f [] h = fails_ok []

@@ -1,13 +1,13 @@
 -- Steps that may refuse, one after another: the first refusal decides.
 use Rattle.std.specs.Prelude.{◌≡◌, ◌≢◌, Result, Ok, Err}
 use Rattle.std.specs.Borrow.{Bor}
+use Rattle.bb_layout.specs.Results.{result_and_then}
 use Rattle.bb_layout.specs.declared.layout_error.LayoutError.{LayoutError}
 use Rattle.bb_layout.specs.declared.layout_error.LayoutError.TheVariants.{NoMemory}
 
 -- the next step, on what this one gave
 abbrev pub result_then : {A B : Type 0} → Result A LayoutError → (A → Result B LayoutError) → Result B LayoutError
-result_then (Ok x) next = next x
-result_then (Err e) next = Err e
+result_then result next = result_and_then next result
 
 -- what a step that takes memory answers: what is expected of it, or that memory was refused
 abbrev pub Gives : {A : Type 0} → Result A LayoutError → Result A LayoutError → Type 0
