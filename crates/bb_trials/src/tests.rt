@@ -1,3 +1,5 @@
+ghost use Rattle.std.specs.Prelude.{◌≤◌};
+
 use bb_base::{MemFiles, MemSink, Text, TextList};
 use bb_flash::{Fault, Fill, Flash, Health, MemBoard, geometry_of};
 use bb_tool::{Status, run};
@@ -33,14 +35,14 @@ fn blank() -> [u8; ENTRY_LEN] {
 // A device of three strides that begin with these bytes.
 fn strides(copies: [[u8; ENTRY_LEN]; 3]) -> [u8; 192] {
     let [first, second, third] = copies;
-    let mut device = [0xff; 192];
-    device[..ENTRY_LEN].copy_from_slice(&first);
-    device[64..64 + ENTRY_LEN].copy_from_slice(&second);
-    with_third(device, third)
+    with(with(with(fresh(), 0, first), 64, second), 128, third)
 }
 
-fn with_third(mut device: [u8; 192], third: [u8; ENTRY_LEN]) -> [u8; 192] {
-    device[128..128 + ENTRY_LEN].copy_from_slice(&third);
+// The device with these bytes from there on.
+fn with(mut device: [u8; 192], at: usize, begins: [u8; ENTRY_LEN]) -> [u8; 192]
+    requires { at ≤ 159 }
+{
+    device[at..at + ENTRY_LEN].copy_from_slice(&begins);
     device
 }
 
@@ -182,16 +184,17 @@ fn layouts_that_dont_fit_are_refused(rt: HostRuntime) -> Result<(), Fail> {
         &mut device,
         Status::Done,
         NONE,
-    )?;
-    let mut blocks = board(&rt, alloc, "er:16:32:64", &[0xff; 64])?;
-    says(
-        &rt,
-        alloc,
-        &SAVE,
-        &mut blocks,
-        Status::BadLayout,
-        "fault 3 BadLayout BadProp backend-storage-type\n",
     )
+}
+
+#[test]
+fn devices_with_blocks_are_refused(rt: HostRuntime) -> Result<(), Fail> {
+    let alloc = rt.alloc();
+    let bytes = vec![in alloc; 0xffu8; 1048576]?;
+    let mut device = board(&rt, alloc, "er:256:65536:1048576", bytes.as_slice())?;
+    let line = "fault 3 BadLayout BadProp backend-storage-type\n";
+    says(&rt, alloc, &LOOK, &mut device, Status::BadLayout, line)?;
+    says(&rt, alloc, &SAVE, &mut device, Status::BadLayout, line)
 }
 
 // The line of bad words gives the first word that doesn't fit, and no call of the device is made: the first call

@@ -159,7 +159,8 @@ fn stops(
     fault: Fault,
     end: End,
 ) -> Result<(), Fail> {
-    let mut device = board(rt, alloc, "ov:192", &strides([start.bytes; 3]))?;
+    let old = start.bytes;
+    let mut device = board(rt, alloc, "ov:192", &strides([old; 3]))?;
     device.plan_fault(call, fault)?;
     says(rt, alloc, &SAVE, &mut device, end.status, end.line)?;
     assert_eq!(rt; device.programs(), u64::from(call));
@@ -170,8 +171,8 @@ fn stops(
 fn holds(rt: &impl Abort, alloc: Global, device: &mut MemBoard, end: End) -> Result<(), Fail> {
     device.restart();
     let [first, second, third] = end.left;
-    let left = strides([first.bytes, second.bytes, third.bytes]);
-    assert_eq!(rt; device.bytes(), left.as_slice());
+    let (zero, one, two) = (first.bytes, second.bytes, third.bytes);
+    assert_eq!(rt; device.bytes(), strides([zero, one, two]).as_slice());
     has_health(rt, device, 0, first.health);
     has_health(rt, device, 1, second.health);
     has_health(rt, device, 2, third.health);
