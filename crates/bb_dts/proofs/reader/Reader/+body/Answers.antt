@@ -4,7 +4,8 @@ use Rattle.std.specs.String.{string_bytes}
 use Rattle.bb_tree.specs.declared.part.Part.{Part}
 use Rattle.bb_tree.specs.DraftViews.{drafts_of}
 use Rattle.bb_tree.specs.Node.{Branch, forest}
-use Rattle.bb_dts.proofs.CountLemmas.{count, count-push}
+use Rattle.bb_tree.proofs.Counting.{count}
+use Rattle.bb_dts.proofs.CountLemmas.{count-push}
 use Rattle.bb_dts.specs.Descent.{labels_from, OnwardLabels, OnwardValue, body_of, count_of, value_from}
 use Rattle.bb_dts.specs.Places.{Value}
 use Rattle.bb_dts.specs.Tokens.{Found}
