@@ -1,7 +1,7 @@
 -- The raw record is a format.
 use Rattle.std.proofs.Common.{◌≡◌, ℕ, ◌+◌, ◌-◌, ◌%◌, ◌^◌, ◌==◌, ◌<◌, ◌≤◌, Bool, true, false, ◌&&◌, List, ◌++◌, length, take, drop, Some, None, refl, sym, ap, ◌∙◌, arith, cond, nat_le, length-append, take_all, length-drop, inl, inr}
 use Rattle.std.proofs.Math.Nat.{div-one}
-use Rattle.std.proofs.lemmas.Bool.{cases_lt, eq-eqb, eqb-true, le-leb, leb-true}
+use Rattle.std.proofs.lemmas.Bool.{and_from, and_parts, cases_lt, eq-eqb, eqb-true, le-leb, leb-true}
 use Rattle.std.proofs.lemmas.Bool.Decides.{leb_tells}
 use Rattle.std.proofs.lemmas.List.{drop-take, length-take-le, take-take}
 use Rattle.std.proofs.lemmas.Grind.{common_steps}
@@ -10,13 +10,6 @@ use Rattle.byteorder.specs.Numbers.{little_from-bytes, little_from-take}
 use Rattle.bb_base.specs.Crc.{crc_of}
 use Rattle.bb_base.specs.Form.{IsForm}
 use Rattle.bb_raw.specs.Raw.{Kind, area_of, has_field, header_agrees, header_text, raw_agrees, raw_form, raw_passes, raw_text}
-
-both : {a b : Bool} → a ≡ true → b ≡ true → (a && b) ≡ true
-both p q = rw (p, q) refl
-
-first_of_both : (a b : Bool) → (a && b) ≡ true → a ≡ true
-first_of_both true b e = refl
-first_of_both false b e = e
 
 -- what was written as a number's low bytes is a field of that number
 field_written : (len number : ℕ) (rest : List ℕ) → (little_number len (little_bytes len number ++ rest) == number % 256 ^ len) ≡ true
@@ -33,11 +26,11 @@ headed_agrees magic len data_crc header_crc rest enough e h =
     let after_len : List ℕ = little_bytes 4 data_crc ++ after_data in
     let after_magic : List ℕ = little_bytes 2 0 ++ (little_bytes 2 len ++ after_len) in
     let bytes : List ℕ = headed magic len data_crc header_crc rest in
-    both
-    (both
+    and_from _ _
+    (and_from _ _
     (le-leb (16 + len) (length bytes) (omega arith))
-    (both
-    (both (field_written 4 magic after_magic) (field_written 2 len after_len))
+    (and_from _ _
+    (and_from _ _ (field_written 4 magic after_magic) (field_written 2 len after_len))
     (ap (λ n. has_field 4 12 n bytes) (sym h) ∙ field_written 4 header_crc rest)))
     (ap (λ n. has_field 4 8 n bytes) (sym e) ∙ field_written 4 data_crc after_data)
 
@@ -67,7 +60,7 @@ chosen false x y e = absurd cc
 passed_whole : (magic area_len : ℕ) (bytes area : List ℕ) → raw_passes magic area_len bytes ≡ Some area → length area ≡ area_len
 passed_whole magic area_len bytes area e =
     let choice = chosen (raw_agrees magic area_len bytes) (area_of area_len bytes) area e in
-    let enough : 16 + area_len ≤ length bytes = leb-true _ _ (first_of_both _ _ (first_of_both _ _ choice.0)) in
+    let enough : 16 + area_len ≤ length bytes = leb-true _ _ (and_parts _ _ (and_parts _ _ choice.0).0).0 in
     ap length (sym choice.1) ∙ length-take-le area_len (drop 16 bytes) (omega (arith, length-drop 16 bytes))
 
 -- a field that lies within some first bytes is one of them
