@@ -1,4 +1,4 @@
-ghost use Rattle.std.specs.Prelude.{◌≡◌, ◌*◌, ◌≤◌, ◌^◌, ◌↔◌, false, length, IsTrue};
+ghost use Rattle.std.specs.Prelude.{◌≡◌, ◌*◌, ◌≤◌, ◌^◌, ◌↔◌, false, IsTrue};
 ghost use Rattle.bb_base.specs.Number.{is_spelt, number_of, numeral_value, spelt_number};
 
 use thiserror::Error;

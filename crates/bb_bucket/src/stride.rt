@@ -1,4 +1,4 @@
-ghost use Rattle.std.specs.Prelude.{◌≡◌, ◌≤◌, ◌+◌, IfOk, length};
+ghost use Rattle.std.specs.Prelude.{◌≡◌, ◌≤◌, IfOk};
 ghost use Rattle.bb_bucket.specs.Stride.{stride_holding};
 ghost use Rattle.bb_bucket.specs.StrideLaws.{stride_laws};
 
@@ -22,7 +22,7 @@ pub struct Stride {
 }
 
 impl Model for Stride {
-    ghost use Rattle.std.specs.Prelude.{◌≡◌, ◌≤◌, length};
+    ghost use Rattle.std.specs.Prelude.{◌≡◌, ◌≤◌};
     ghost use Rattle.bb_flash.specs.declared.region.Region.{Region};
     ghost use Rattle.bb_bucket.specs.Stride.{IsStride};
 

@@ -1,7 +1,7 @@
-ghost use Rattle.std.specs.Prelude.{◌≡◌, ◌≢◌, ◌≤◌, ◌<◌, ◌+◌, ◌++◌, ◌∷◌, [], false, IfOk, IfErr, OnOk, length};
+ghost use Rattle.std.specs.Prelude.{◌≡◌, ◌≤◌, ◌<◌, ◌+◌, ◌++◌, ◌∷◌, [], false, IfOk, IfErr, OnOk, length};
 ghost use Rattle.std.specs.Str.{IsAscii};
 ghost use Rattle.std.specs.String.{string_bytes};
-ghost use Rattle.bb_dts.specs.Walk.{body_at, label_all, node_of};
+ghost use Rattle.bb_dts.specs.Walk.{body_at, label_all};
 ghost use Rattle.bb_dts.specs.Descent.{labels_from, item_behind, named_from, entered, left, refused, body_of, items_at, count_of, spoken};
 ghost use Rattle.bb_dts.specs.declared.label.Level.TheVariants.{AtProps, AtNodes};
 

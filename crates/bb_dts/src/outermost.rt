@@ -1,4 +1,4 @@
-ghost use Rattle.std.specs.Prelude.{◌≡◌, ◌≢◌, ◌≤◌, ◌<◌, ◌+◌, ◌^◌, ◌++◌, ◌∷◌, [], Ok, Err, Some, None, map, IfOk, IfErr, OnOk, length};
+ghost use Rattle.std.specs.Prelude.{◌≡◌, ◌≢◌, ◌≤◌, ◌<◌, ◌+◌, ◌^◌, [], Ok, Err, Some, None, map, IfOk, IfErr, OnOk, length};
 ghost use Rattle.std.specs.Str.{IsAscii};
 ghost use Rattle.std.specs.String.{string_bytes};
 ghost use Rattle.bb_tree.specs.Draft.{path_labelled};
@@ -6,8 +6,8 @@ ghost use Rattle.bb_tree.specs.DraftViews.{draft_of, drafts_of};
 ghost use Rattle.bb_tree.specs.Merge.{merged};
 ghost use Rattle.bb_tree.specs.Node.{forest};
 ghost use Rattle.bb_dts.specs.Places.{Address, TopClose};
-ghost use Rattle.bb_dts.specs.Walk.{limited, root, state_at, body_at, stem_of, level_of, path_text, node_of};
-ghost use Rattle.bb_dts.specs.Descent.{spoken, body_of, node_count};
+ghost use Rattle.bb_dts.specs.Walk.{limited, root, state_at, body_at, stem_of, path_text};
+ghost use Rattle.bb_dts.specs.Descent.{spoken, node_count};
 ghost use Rattle.bb_dts.specs.Outermost.{outer, outer_from, outer_at, outer_open, outer_level, finished_on, comes_to, rest_len, opened_body, led_to, with_reserve, reserved_of, semicolon_of, StaysAtHead, IsShorter};
 ghost use Rattle.bb_dts.specs.Tokens.{first_token, IsPlainWord};
 ghost use Rattle.bb_dts.specs.declared.kind.Kind.TheVariants.{Label};

@@ -1,4 +1,4 @@
-ghost use Rattle.std.specs.Prelude.{◌≡◌, ◌++◌, [], OnOk, IfOk, codes};
+ghost use Rattle.std.specs.Prelude.{◌≡◌, [], OnOk, IfOk, codes};
 ghost use Rattle.std.specs.Str.{bytes_eq};
 
 use bb_base::{Bytes, NoMemory, Text};

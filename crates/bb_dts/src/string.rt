@@ -1,4 +1,4 @@
-ghost use Rattle.std.specs.Prelude.{◌≡◌, ◌++◌, ◌<◌, ◌≤◌, ◌==◌, not, false, IfSome, IfOk, OnOk, OnErr, length, take};
+ghost use Rattle.std.specs.Prelude.{◌≡◌, ◌++◌, ◌<◌, ◌≤◌, ◌==◌, not, false, IfSome, IfOk, OnOk, length};
 ghost use Rattle.std.specs.List.{prefix_len};
 ghost use Rattle.bb_dts.specs.Characters.{is_octal, is_hexadecimal};
 ghost use Rattle.bb_dts.specs.Numbers.{numeral_value};

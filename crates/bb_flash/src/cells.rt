@@ -1,4 +1,4 @@
-ghost use Rattle.std.specs.Prelude.{◌≡◌, ◌+◌, ◌*◌, ◌≤◌, ◌<◌, ◌^◌, length, replicate};
+ghost use Rattle.std.specs.Prelude.{◌≡◌, ◌+◌, ◌≤◌, ◌<◌, length, replicate};
 ghost use Rattle.bb_flash.specs.Filled.{filled, left_by};
 ghost use Rattle.bb_flash.specs.Image.{IsInside, overwritten, in_health};
 

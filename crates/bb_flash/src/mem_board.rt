@@ -1,4 +1,4 @@
-ghost use Rattle.std.specs.Prelude.{◌≡◌, ◌+◌, ◌*◌, ◌<◌, ◌≤◌, ◌∷◌, ◌++◌, [], length, option_map, IfOk, IsErr, OnOk, OnErr, is_err, is_ok};
+ghost use Rattle.std.specs.Prelude.{◌≡◌, ◌+◌, ◌*◌, ◌<◌, ◌≤◌, ◌∷◌, [], length, option_map, IfOk, IsErr, OnOk, OnErr, is_err, is_ok};
 ghost use Rattle.std.specs.Option.{ForSome};
 ghost use Rattle.bb_base.specs.Faults.{HasCause};
 ghost use Rattle.bb_flash.specs.Calls.{CanErase, CanProgram, ChangesOnly, counted, erased, programmed};

@@ -1,4 +1,4 @@
-ghost use Rattle.std.specs.Prelude.{◌≡◌, ◌<◌, ◌≤◌, ◌^◌, IfOk};
+ghost use Rattle.std.specs.Prelude.{◌≡◌, ◌<◌, ◌≤◌, IfOk};
 ghost use Rattle.bb_layout.specs.Copies as copy;
 ghost use Rattle.bb_layout.specs.Facts.{HasCopies};
 ghost use Rattle.bb_layout.specs.Steps.{Gives};

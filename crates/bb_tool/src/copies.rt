@@ -1,4 +1,4 @@
-ghost use Rattle.std.specs.Prelude.{◌≡◌, ◌≤◌, ◌<◌, ◌+◌, ◌*◌, ◌^◌};
+ghost use Rattle.std.specs.Prelude.{◌≡◌, ◌<◌, ◌+◌, ◌*◌, ◌^◌};
 ghost use Rattle.bb_layout.specs.Layout.{laid};
 ghost use Rattle.bb_tool.specs.Looking.{laid_copies, region_in, thirds};
 

@@ -1,5 +1,5 @@
-ghost use Rattle.std.specs.Prelude.{◌≡◌, ◌+◌, ◌++◌, ◌<◌, IfOk, codes, decimal, string_bytes};
-ghost use Rattle.bb_tool.specs.Refusal.{layout_line, layout_words, line_of, tree_words};
+ghost use Rattle.std.specs.Prelude.{◌≡◌, ◌+◌, ◌<◌, IfOk, string_bytes};
+ghost use Rattle.bb_tool.specs.Refusal.{layout_line, line_of};
 ghost use Rattle.bb_tool.specs.declared.refusal.Refusal.TheVariants as refusals;
 
 use crate::layout::LayoutError;

@@ -3,7 +3,7 @@ ghost use Rattle.std.specs.List.{slice_split};
 ghost use Rattle.std.specs.Map.{lookup};
 ghost use Rattle.std.specs.Option.{option_and_then};
 ghost use Rattle.std.specs.Str.{bytes_eq};
-ghost use Rattle.bb_tree.specs.Paths.{names_of, names_behind};
+ghost use Rattle.bb_tree.specs.Paths.{names_of};
 ghost use Rattle.bb_tree.specs.Slots.{IsSound, IsRooted, Changes, HasChild, spine, table_at, with_prop};
 ghost use Rattle.bb_tree.specs.Spine.{walk};
 

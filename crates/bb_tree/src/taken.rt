@@ -1,4 +1,4 @@
-ghost use Rattle.std.specs.Prelude.{List, ℕ, codes, vec_len, IfOk, ◌≡◌, ◌<◌, ◌≤◌, ◌^◌, ◌-◌, ◌++◌, ◌∷◌, [], false, map, IfSome, OnOk, IfErr};
+ghost use Rattle.std.specs.Prelude.{List, ℕ, codes, vec_len, IfOk, ◌≡◌, ◌<◌, ◌≤◌, ◌^◌, ◌-◌, ◌++◌, ◌∷◌, [], false, map, IfSome, OnOk};
 ghost use Rattle.std.specs.List.{filter_map};
 ghost use Rattle.bb_tree.specs.Resolve.{phandle_among};
 ghost use Rattle.std.specs.Int.{to_be_bytes, w32};

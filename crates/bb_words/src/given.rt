@@ -1,7 +1,7 @@
-ghost use Rattle.std.specs.Prelude.{◌≡◌, [], None, Some, IfOk, IfErr, OnOk, option_and_then};
-ghost use Rattle.std.specs.Option.{ok_or, option_map, option_map_or};
+ghost use Rattle.std.specs.Prelude.{◌≡◌, None, Some, IfOk, IfErr, OnOk, option_and_then};
+ghost use Rattle.std.specs.Option.{ok_or, option_map};
 ghost use Rattle.bb_words.specs.Answer.{Refuses};
-ghost use Rattle.bb_words.specs.Options.{none_given, may_come, with_output, with_value, value_in, valued_of};
+ghost use Rattle.bb_words.specs.Options.{none_given, may_come, with_value, value_in, valued_of};
 ghost use Rattle.bb_words.specs.Words.{Options, next, opened, closed, behind_option, state_of};
 
 use crate::option::{Valued, dump_of, value_in, valued_of};

@@ -1,4 +1,4 @@
-ghost use Rattle.std.specs.Prelude.{◌≡◌, IfOk, None};
+ghost use Rattle.std.specs.Prelude.{None};
 ghost use Rattle.bb_flash.specs.Geometry.{IsGeometry};
 
 use bb_base::Failed;

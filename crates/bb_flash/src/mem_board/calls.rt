@@ -1,4 +1,4 @@
-ghost use Rattle.std.specs.Prelude.{◌≡◌, ◌+◌, ◌*◌, ◌<◌, ◌≤◌, ◌∷◌, ◌++◌, [], length, option_map, replicate, slice_index, IfOk, is_err};
+ghost use Rattle.std.specs.Prelude.{◌≡◌, ◌+◌, ◌*◌, ◌<◌, ◌≤◌, ◌∷◌, ◌++◌, [], length, IfOk, is_err};
 ghost use Rattle.std.specs.Bool.{OnFalse};
 ghost use Rattle.bb_flash.specs.Calls.{CanErase, CanProgram};
 ghost use Rattle.bb_flash.specs.Device.{IsDevice, IsReading};
