@@ -3,6 +3,8 @@
 #![tactic(auto)]
 
 mod command_line;
+mod device_file;
+mod disk;
 mod file_board;
 mod output;
 mod real_files;
@@ -12,6 +14,7 @@ use bb_base::{NoMemory, Sink};
 use bb_flash::geometry_of;
 use bb_tool::{Status, run};
 use command_line::{CommandLine, LineError};
+use device_file::OpenError;
 use file_board::FileBoard;
 use output::Out;
 use real_files::RealFiles;
@@ -41,16 +44,21 @@ fn start<K: Sink>(rt: &HostRuntime, line: &CommandLine, out: &mut K) -> Status {
             let Some(geometry) = geometry_of(geometry.as_str()) else {
                 return bad_words(out);
             };
-            let Ok(mut board) = FileBoard::open(rt, device.as_str(), geometry) else {
-                return tell("fault 8 ReadFault\n", Status::ReadFault, out);
-            };
-            run(rt.alloc(), words, &mut RealFiles::new(rt), &mut board, out)
+            match FileBoard::open(rt, device.as_str(), geometry) {
+                Ok(mut board) => run(rt.alloc(), words, &mut RealFiles::new(rt), &mut board, out),
+                Err(OpenError::NoDevice) => no_device(out),
+                Err(OpenError::NoMemory) => no_memory(out),
+            }
         }
     }
 }
 
 fn bad_words<K: Sink>(out: &mut K) -> Status {
     tell("fault 1 BadWords 0\n", Status::BadWords, out)
+}
+
+fn no_device<K: Sink>(out: &mut K) -> Status {
+    tell("fault 8 ReadFault\n", Status::ReadFault, out)
 }
 
 fn no_memory<K: Sink>(out: &mut K) -> Status {
