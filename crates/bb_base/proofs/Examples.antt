@@ -1,8 +1,9 @@
 -- Worked values, by computation alone.
-use Rattle.std.proofs.Common.{◌≡◌, [], ◌∷◌, refl, codes, filter_map, Ok, Err}
+use Rattle.std.proofs.Common.{◌≡◌, [], ◌∷◌, true, false, refl, codes, filter_map, Ok, Err}
 use Rattle.bb_base.specs.Crc.{crc_of, divided, divided_8, after_byte}
+use Rattle.std.specs.List.{list_any}
 use Rattle.std.specs.Path.{rsplit_once}
-use Rattle.bb_base.specs.Folder.{name_in}
+use Rattle.bb_base.specs.Folder.{is_under, name_in}
 use Rattle.bb_base.specs.Number.{number_of}
 use Rattle.bb_base.specs.declared.number.NumberError.TheVariants.{NotNumber, TooLarge}
 
@@ -34,3 +35,15 @@ names_of_a_folder = refl
 names_of_no_folder : filter_map (name_in (codes "z")) (codes "a/b" ∷ codes "a/c/d" ∷ codes "a/e" ∷ []) ≡ []
 unfolding rsplit_once
 names_of_no_folder = refl
+
+-- a folder that holds folders alone is there, and has no names of its own
+folder_of_folders : list_any (is_under (codes "a")) (codes "a/c/d" ∷ []) ≡ true
+folder_of_folders = refl
+
+names_of_a_folder_of_folders : filter_map (name_in (codes "a")) (codes "a/c/d" ∷ []) ≡ []
+unfolding rsplit_once
+names_of_a_folder_of_folders = refl
+
+-- names that only begin alike, or end in the folder's name, are in no folder of that name
+folder_of_longer_names : list_any (is_under (codes "a")) (codes "a" ∷ codes "ab/c" ∷ codes "b/a" ∷ []) ≡ false
+folder_of_longer_names = refl

@@ -4,3 +4,4 @@ pub mod Entries
 pub mod Examples
 pub mod LastSlash
 pub mod Names
+pub mod Under

@@ -1,7 +1,8 @@
 -- What is known of files by name.
-use Rattle.std.specs.Prelude.{ℕ, Bool, true, false, List, [], length, drop, nat_lt, filter_map, Option, Some, None, unwrap_or, option_and_then, Result, Ok, Err, if◌then◌else◌}
+use Rattle.std.specs.Prelude.{ℕ, Bool, true, false, List, [], ◌∷◌, ◌++◌, length, drop, nat_eq, nat_lt, filter_map, Option, Some, None, unwrap_or, option_and_then, Result, Ok, Err, if◌then◌else◌}
 use Rattle.std.specs.Cmp.Lexicographic.{slice_cmp}
 use Rattle.std.specs.FinMap.{FinMap, get, keys}
+use Rattle.std.specs.List.{list_any, starts_with}
 use Rattle.std.specs.Ordering.{nat_cmp}
 use Rattle.std.specs.Path.{rsplit_once, slash}
 use Rattle.std.specs.Str.{bytes_eq}
@@ -35,6 +36,14 @@ name_in dir name = option_and_then (λ parts. if bytes_eq parts.0 dir then Some 
 -- the names in a folder, in rising order of their bytes
 abbrev pub names_in : FileMap → List ℕ → List (List ℕ)
 names_in files dir = filter_map (name_in dir) (keys files)
+
+-- a name begins with the folder's name and a `/`
+abbrev pub is_under : List ℕ → List ℕ → Bool
+is_under dir name = starts_with nat_eq name (dir ++ slash ∷ [])
+
+-- a folder is there where some name is under it, be it in a folder of its own
+abbrev pub has_folder : FileMap → List ℕ → Bool
+has_folder files dir = list_any (is_under dir) (keys files)
 
 -- what a call that answered so read: the bytes that came behind the old ones, if there is such a file
 abbrev pub added : Bool → List ℕ → List ℕ → Option (List ℕ)

@@ -1,8 +1,8 @@
-ghost use Rattle.std.specs.Prelude.{◌≡◌, ◌+◌, ◌≤◌, ◌++◌, length, take, nat_lt, IfOk, IsErrOf, IsTrue, Ok, Err, OnErr, OnOk};
+ghost use Rattle.std.specs.Prelude.{◌≡◌, ◌+◌, ◌≤◌, ◌++◌, length, take, IfOk, IsErrOf, IsTrue, Ok, Err, OnErr, OnOk};
 ghost use Rattle.std.specs.Bool.{OnFalse};
 ghost use Rattle.std.specs.Option.{ForSome};
 ghost use Rattle.bb_base.specs.Faults.{HasCause};
-ghost use Rattle.bb_base.specs.Folder.{Folder, added, file_limit, file_of, is_fault, names_in};
+ghost use Rattle.bb_base.specs.Folder.{Folder, added, file_limit, file_of, has_folder, is_fault, names_in};
 ghost use Rattle.bb_base.specs.declared.files.FileFail.TheVariants.{TooLong};
 
 use crate::{Bytes, NoMemory, TextList};
@@ -53,11 +53,12 @@ pub trait Files {
         ensures calm { OnFalse (is_fault result) ((folder self.new).faults ≡ (folder self.old).faults) };
 
     /// Appends the names in a folder in rising order of their bytes, each without the folder's name and the `/` behind
-    /// it, or answers false where the folder isn't there. It never answers `TooLong`.
+    /// it, or answers false where the folder isn't there: where no name begins with the folder's name and a `/`. A
+    /// folder that holds folders alone is there and gives no names. It never answers `TooLong`.
     fn names(&mut self, dir: &str, out: &mut TextList) -> Result<bool, FileFail>
-        // Where the files are told, a folder is there exactly where some name is in it.
+        // Where the files are told, a folder is there exactly where some name begins with it and a `/`.
         ensures there { IfOk result (λ there. ForSome (folder self.old).told (λ files.
-            there ≡ nat_lt 0 (length (names_in files dir.now)))) }
+            there ≡ has_folder files dir.now)) }
         ensures names { OnOk result (ForSome (folder self.old).told (λ files.
             out.new ≡ out.old ++ names_in files dir.now)) }
         ensures never_long { ¬ IsErrOf result TooLong }

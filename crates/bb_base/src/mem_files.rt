@@ -3,7 +3,7 @@ ghost use Rattle.std.specs.Bool.{OnFalse};
 ghost use Rattle.std.specs.FinMap as map;
 ghost use Rattle.std.specs.Option.{ForSome};
 ghost use Rattle.bb_base.specs.Faults.{HasCause};
-ghost use Rattle.bb_base.specs.Folder.{added, file_limit, file_of, is_fault, name_in, names_in};
+ghost use Rattle.bb_base.specs.Folder.{added, file_limit, file_of, has_folder, is_fault, is_under, name_in, names_in};
 ghost use Rattle.bb_base.specs.MemFiles.{after_call, folder_of, refuses_next};
 ghost use Rattle.bb_base.specs.declared.files.FileFail.TheVariants.{TooLong};
 
@@ -101,6 +101,17 @@ impl MemFiles {
         self.files.get(name).map(|bytes| bytes.as_slice())
     }
 
+    fn has_folder(&self, dir: &str) -> bool
+        ensures { result ≡ has_folder self.now.files dir.now }
+    {
+        for name in self.files.keys() {
+            if is_under(dir, name.as_str()) {
+                return true;
+            }
+        }
+        false
+    }
+
     fn parts_in(&self, dir: &str) -> Result<TextList, NoMemory>
         ensures { IfOk result (λ names. names ≡ names_in self.now.files dir.now) }
     {
@@ -112,6 +123,14 @@ impl MemFiles {
         }
         Ok(names)
     }
+}
+
+// Whether the name begins with the folder's name and a `/`.
+fn is_under(dir: &str, name: &str) -> bool
+    ensures { result ≡ is_under dir.now name.now }
+{
+    let behind = name.as_bytes().strip_prefix(dir.as_bytes());
+    behind.is_some_and(|rest| rest.starts_with(b"/"))
 }
 
 // What stands behind the last `/`, where the folder's name stands before it.
@@ -157,7 +176,7 @@ impl Files for MemFiles {
 
     fn names(&mut self, dir: &str, out: &mut TextList) -> Result<bool, FileFail>
         ensures there { IfOk result (λ there. ForSome (folder_of self.old).told (λ files.
-            there ≡ nat_lt 0 (length (names_in files dir.now)))) }
+            there ≡ has_folder files dir.now)) }
         ensures names { OnOk result (ForSome (folder_of self.old).told (λ files.
             out.new ≡ out.old ++ names_in files dir.now)) }
         ensures never_long { ¬ IsErrOf result TooLong }
@@ -175,9 +194,10 @@ impl Files for MemFiles {
         if self.is_refused() {
             return Err(FileFail::Fault);
         }
-        let names = self.parts_in(dir)?;
-        let there = !names.is_empty();
-        out.append(names)?;
+        let there = self.has_folder(dir);
+        if there {
+            out.append(self.parts_in(dir)?)?;
+        }
         Ok(there)
     }
 }

@@ -120,6 +120,17 @@ fn a_folder_gives_its_own_names_in_order(rt: HostRuntime) -> Result<(), Fail> {
 }
 
 #[test]
+fn a_folder_of_folders_is_there(rt: HostRuntime) -> Result<(), Fail> {
+    let mut files = MemFiles::none(rt.alloc());
+    files.add("a/c/d", b"1")?;
+    let mut names = TextList::none(rt.alloc());
+    assert_eq!(rt; files.names("a", &mut names), Ok(true));
+    assert_eq!(rt; files.names("c", &mut names), Ok(false));
+    assert!(rt; names.is_empty());
+    Ok(())
+}
+
+#[test]
 fn the_longest_file_and_one_byte_more(rt: HostRuntime) -> Result<(), Fail> {
     let alloc = rt.alloc();
     let mut files = MemFiles::none(alloc);
