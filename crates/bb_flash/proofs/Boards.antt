@@ -1,7 +1,7 @@
 -- What the calls of a board in memory mean for it as a flash device.
-use Rattle.std.proofs.Common.{◌≡◌, ℕ, ◌+◌, ◌*◌, ◌/◌, ◌≤◌, ◌∙◌, Bool, true, false, List, [], ◌∷◌, ◌++◌, length, take, replicate, Option, Some, None, cond, ap, sym, subst, arith, refl, inl, inr, ◌⊎◌}
-use Rattle.std.specs.Prelude.{slice_index}
-use Rattle.std.specs.Option.{ForSome}
+use Rattle.std.proofs.Common.{◌≡◌, ℕ, ◌+◌, ◌*◌, ◌/◌, ◌≤◌, ◌∙◌, Bool, true, false, List, [], ◌∷◌, ◌++◌, length, take, Option, Some, None, cond, ap, sym, subst, arith, refl, inl, inr, ◌⊎◌}
+use Rattle.std.specs.Prelude.{slice_get, slice_index, unwrap_or}
+use Rattle.std.specs.Option.{ForSome, option_map}
 use Rattle.std.proofs.lemmas.Grind.{common_steps}
 use Rattle.std.proofs.lemmas.List.{take_at, take_all, length-replicate}
 use Rattle.std.proofs.Math.Nat.{div-mul-le_self, mul-le-mul_right}
@@ -9,11 +9,12 @@ use Rattle.std.proofs.Math.ListN.{length-set}
 use Rattle.bb_flash.specs.declared.fault.Fault.{Fault}
 use Rattle.bb_flash.specs.declared.geometry.Geometry.{Geometry}
 use Rattle.bb_flash.specs.Geometry.{IsGeometry}
-use Rattle.bb_flash.specs.Calls.{CanErase, CanProgram, ChangesOnly, IsTornBy, IsUntouched}
+use Rattle.bb_flash.specs.Calls.{CanErase, CanProgram, ChangesOnly, IsTornBy, IsUntouched, blank_block}
 use Rattle.bb_flash.specs.Cuts.{IsContinued, IsLater}
-use Rattle.bb_flash.specs.Device.{Change, IsDevice, Told, moment}
-use Rattle.bb_flash.specs.Image.{IsImageOf, IsInside}
+use Rattle.bb_flash.specs.Device.{Change, IsDevice, Told, change_of, moment}
+use Rattle.bb_flash.specs.Image.{Image, IsImageOf, IsInside}
 use Rattle.bb_flash.specs.Memory.{Memory, after_erase, after_program, after_read, blanked, count_up, device_of, erase_by, failed, fault_of, is_erase_refused, is_program_refused, is_read_refused, program_by, read_by, read_failed, written}
+use Rattle.bb_flash.proofs.Moments.{image_at-now}
 use Rattle.bb_flash.proofs.Tearing.{Torn-left_by}
 
 for_some : {T : Type 0} (P : T → Type 0) (x : T) → P x → ForSome (Some x) P
@@ -26,17 +27,13 @@ count_up-le : (count : ℕ) → count ≤ count_up count
 count_up-le count = grind (arith, common_steps)
 
 -- the device goes on
-later_of : (m n : Memory) → n.geometry ≡ m.geometry → n.told.starts ≡ m.told.starts → m.faults ≤ n.faults → m.read_faults ≤ n.read_faults → take (moment m.told) n.told.changes ≡ m.told.changes → IsLater (device_of m) (device_of n)
-later_of m n geometry starts faults read_faults changes = record {
+later_of : (m n : Memory) → n.geometry ≡ m.geometry → m.faults ≤ n.faults → m.read_faults ≤ n.read_faults → IsContinued m.told n.told → IsLater (device_of m) (device_of n)
+later_of m n geometry faults read_faults continued = record {
   geometry = geometry;
   told = refl;
-  starts = ap Some starts;
-  start_faults = refl;
   faults = faults;
   read_faults = read_faults;
-  continued =
-      for_some (λ first. ForSome (Some n.told) (IsContinued first)) m.told
-      (for_some (IsContinued m.told) n.told (record { changes = changes }));
+  continued = for_some (λ first. ForSome (Some n.told) (IsContinued first)) m.told (for_some (IsContinued m.told) n.told continued);
 }
 
 -- the device stays whole
@@ -77,6 +74,23 @@ inside_erase m block len whole can size =
       small = omega (arith, image.bytes, whole.geometry.size_most);
     }
 
+-- what a call leaves that made no change, a read or one that was refused
+continued_same : (told : Told) (reads : ℕ) → IsContinued told (record told { reads = reads })
+continued_same told reads = record { changes = take_all (moment told) told.changes (same_number (moment told)); held = image_at-now told }
+
+get_last : {X : Type 0} → (xs : List X) (x : X) → slice_get (xs ++ x ∷ []) (length xs) ≡ Some x
+get_last [] x = refl
+get_last (y ∷ xs) x = get_last xs x
+
+-- one change more, from what was held
+continued_more : (first last : Told) (change : Change) → change.before ≡ first.image → last.changes ≡ first.changes ++ change ∷ [] → IsContinued first last
+continued_more first last change before more =
+    let held : Option Change → Image = λ o. unwrap_or (option_map (λ (c : Change). c.before) o) last.image in
+    record {
+      changes = ap (take (moment first)) more ∙ take_at first.changes (change ∷ []) (moment first) refl;
+      held = ap (λ changes. held (slice_get changes (moment first))) more ∙ ap held (get_last first.changes change) ∙ before;
+    }
+
 -- reads
 read_whole_by : (m : Memory) (refused : Bool) (fault : Option Fault) → IsDevice (device_of m) → IsDevice (device_of (cond refused (read_failed m) (read_by fault m)))
 read_whole_by m true fault whole = whole_of m (read_failed m) whole refl refl refl refl
@@ -86,38 +100,44 @@ read_whole_by m false (Some fault) whole = whole_of m (read_by (Some fault) m) w
 pub read_whole : (m : Memory) → IsDevice (device_of m) → IsDevice (device_of (after_read m))
 read_whole m whole = read_whole_by m (is_read_refused m) (fault_of m) whole
 
--- programs and erases
-changes_more : (told : Told) (change : Change) → take (moment told) (told.changes ++ change ∷ []) ≡ told.changes
-changes_more told change = take_at told.changes (change ∷ []) (moment told) refl
+read_later_by : (m : Memory) (refused : Bool) (fault : Option Fault) → IsLater (device_of m) (device_of (cond refused (read_failed m) (read_by fault m)))
+read_later_by m true fault = later_of m (read_failed m) refl (count_up-le m.faults) (count_up-le m.read_faults) (continued_same m.told m.told.reads)
+read_later_by m false None = later_of m (read_by None m) refl (same_number m.faults) (same_number m.read_faults) (continued_same m.told (m.told.reads + 1))
+read_later_by m false (Some fault) = later_of m (read_by (Some fault) m) refl (count_up-le m.faults) (count_up-le m.read_faults) (continued_same m.told m.told.reads)
 
+pub read_later : (m : Memory) → IsLater (device_of m) (device_of (after_read m))
+read_later m = read_later_by m (is_read_refused m) (fault_of m)
+
+-- programs and erases
 written_later : (m : Memory) (fault : Option Fault) (at : ℕ) (bytes : List ℕ) (faults : ℕ) → m.faults ≤ faults → IsLater (device_of m) (device_of (record (written fault at bytes m) { faults = faults }))
 written_later m fault at bytes faults more =
-    later_of m (record (written fault at bytes m) { faults = faults }) refl refl more (same_number m.read_faults) (changes_more m.told _)
+    later_of m (record (written fault at bytes m) { faults = faults }) refl more (same_number m.read_faults)
+    (continued_more m.told _ (change_of m.geometry.page at bytes m.told.image) refl refl)
 
 program_later_by : (m : Memory) (refused : Bool) (fault : Option Fault) (at : ℕ) (bytes : List ℕ) → IsLater (device_of m) (device_of (cond refused (failed m) (program_by fault at bytes m)))
-program_later_by m true fault at bytes = later_of m (failed m) refl refl (count_up-le m.faults) (same_number m.read_faults) (take_all (moment m.told) m.told.changes (same_number (moment m.told)))
+program_later_by m true fault at bytes = later_of m (failed m) refl (count_up-le m.faults) (same_number m.read_faults) (continued_same m.told m.told.reads)
 program_later_by m false None at bytes = written_later m None at bytes m.faults (same_number m.faults)
 program_later_by m false (Some fault) at bytes = written_later m (Some fault) at bytes (count_up m.faults) (count_up-le m.faults)
 
 pub program_later : (m : Memory) (at : ℕ) (bytes : List ℕ) → IsLater (device_of m) (device_of (after_program at bytes m))
 program_later m at bytes = program_later_by m (is_program_refused m (length bytes)) (fault_of m) at bytes
 
-torn_told : (m : Memory) (fault : Option Fault) (at : ℕ) (bytes : List ℕ) → IsInside m.geometry.page m.told.image at (length bytes) → IsTornBy m.geometry.page at (length bytes) m.told (written fault at bytes m).told
+torn_told : (m : Memory) (fault : Option Fault) (at : ℕ) (bytes : List ℕ) → IsInside m.geometry.page m.told.image at (length bytes) → IsTornBy m.geometry.page at bytes m.told (written fault at bytes m).told
 torn_told m fault at bytes inside = record { torn = Torn-left_by fault m.geometry.page m.told.image at bytes inside; change = refl }
 
-touched_by : (m n : Memory) (at len : ℕ) → IsUntouched m.told n.told ⊎ IsTornBy m.geometry.page at len m.told n.told → ChangesOnly at len (device_of m) (device_of n)
-touched_by m n at len how = record {
+touched_by : (m n : Memory) (at : ℕ) (bytes : List ℕ) → IsUntouched m.told n.told ⊎ IsTornBy m.geometry.page at bytes m.told n.told → ChangesOnly at bytes (device_of m) (device_of n)
+touched_by m n at bytes how = record {
   told =
-      for_some (λ before. ForSome (Some n.told) (λ after. IsUntouched before after ⊎ IsTornBy m.geometry.page at len before after)) m.told
-      (for_some (λ after. IsUntouched m.told after ⊎ IsTornBy m.geometry.page at len m.told after) n.told how);
+      for_some (λ before. ForSome (Some n.told) (λ after. IsUntouched before after ⊎ IsTornBy m.geometry.page at bytes before after)) m.told
+      (for_some (λ after. IsUntouched m.told after ⊎ IsTornBy m.geometry.page at bytes m.told after) n.told how);
 }
 
-program_changes_by : (m : Memory) (refused : Bool) (fault : Option Fault) (at : ℕ) (bytes : List ℕ) → IsInside m.geometry.page m.told.image at (length bytes) → ChangesOnly at (length bytes) (device_of m) (device_of (cond refused (failed m) (program_by fault at bytes m)))
-program_changes_by m true fault at bytes inside = touched_by m (failed m) at (length bytes) (inl (record { image = refl; changes = refl }))
-program_changes_by m false None at bytes inside = touched_by m (program_by None at bytes m) at (length bytes) (inr (torn_told m None at bytes inside))
-program_changes_by m false (Some fault) at bytes inside = touched_by m (program_by (Some fault) at bytes m) at (length bytes) (inr (torn_told m (Some fault) at bytes inside))
+program_changes_by : (m : Memory) (refused : Bool) (fault : Option Fault) (at : ℕ) (bytes : List ℕ) → IsInside m.geometry.page m.told.image at (length bytes) → ChangesOnly at bytes (device_of m) (device_of (cond refused (failed m) (program_by fault at bytes m)))
+program_changes_by m true fault at bytes inside = touched_by m (failed m) at bytes (inl (record { image = refl; changes = refl }))
+program_changes_by m false None at bytes inside = touched_by m (program_by None at bytes m) at bytes (inr (torn_told m None at bytes inside))
+program_changes_by m false (Some fault) at bytes inside = touched_by m (program_by (Some fault) at bytes m) at bytes (inr (torn_told m (Some fault) at bytes inside))
 
-pub program_changes : (m : Memory) (at : ℕ) (bytes : List ℕ) → IsDevice (device_of m) → CanProgram (device_of m) at (length bytes) → ChangesOnly at (length bytes) (device_of m) (device_of (after_program at bytes m))
+pub program_changes : (m : Memory) (at : ℕ) (bytes : List ℕ) → IsDevice (device_of m) → CanProgram (device_of m) at (length bytes) → ChangesOnly at bytes (device_of m) (device_of (after_program at bytes m))
 program_changes m at bytes whole can = program_changes_by m (is_program_refused m (length bytes)) (fault_of m) at bytes (inside_program m at (length bytes) whole can)
 
 program_whole_by : (m : Memory) (refused : Bool) (fault : Option Fault) (at : ℕ) (bytes : List ℕ) → IsInside m.geometry.page m.told.image at (length bytes) → IsDevice (device_of m) → IsDevice (device_of (cond refused (failed m) (program_by fault at bytes m)))
@@ -133,29 +153,30 @@ pub program_whole : (m : Memory) (at : ℕ) (bytes : List ℕ) → IsDevice (dev
 program_whole m at bytes whole can = program_whole_by m (is_program_refused m (length bytes)) (fault_of m) at bytes (inside_program m at (length bytes) whole can) whole
 
 -- erases
+abbrev erase_change : Memory → ℕ → Change
+erase_change m block = change_of m.geometry.page (block * m.geometry.block) (blank_block m.geometry) m.told.image
+
 erase_later_by : (m : Memory) (refused : Bool) (fault : Option Fault) (block : ℕ) → IsLater (device_of m) (device_of (cond refused (failed m) (erase_by fault block m)))
-erase_later_by m true fault block = later_of m (failed m) refl refl (count_up-le m.faults) (same_number m.read_faults) (take_all (moment m.told) m.told.changes (same_number (moment m.told)))
-erase_later_by m false None block = later_of m (erase_by None block m) refl refl (same_number m.faults) (same_number m.read_faults) (changes_more m.told _)
-erase_later_by m false (Some fault) block = later_of m (erase_by (Some fault) block m) refl refl (count_up-le m.faults) (same_number m.read_faults) (changes_more m.told _)
+erase_later_by m true fault block = later_of m (failed m) refl (count_up-le m.faults) (same_number m.read_faults) (continued_same m.told m.told.reads)
+erase_later_by m false None block = later_of m (erase_by None block m) refl (same_number m.faults) (same_number m.read_faults) (continued_more m.told _ (erase_change m block) refl refl)
+erase_later_by m false (Some fault) block = later_of m (erase_by (Some fault) block m) refl (count_up-le m.faults) (same_number m.read_faults) (continued_more m.told _ (erase_change m block) refl refl)
 
 pub erase_later : (m : Memory) (block : ℕ) → IsLater (device_of m) (device_of (after_erase block m))
 erase_later m block = erase_later_by m (is_erase_refused m block) (fault_of m) block
 
-torn_block : (m : Memory) (fault : Option Fault) (block : ℕ) → IsDevice (device_of m) → CanErase m.geometry block → IsTornBy m.geometry.page (block * m.geometry.block) m.geometry.block m.told (blanked fault block m).told
+torn_block : (m : Memory) (fault : Option Fault) (block : ℕ) → IsDevice (device_of m) → CanErase m.geometry block → IsTornBy m.geometry.page (block * m.geometry.block) (blank_block m.geometry) m.told (blanked fault block m).told
 torn_block m fault block whole can =
-    let bytes : List ℕ = replicate m.geometry.block 255 in
-    let size : length bytes ≡ m.geometry.block = length-replicate {A = ℕ} m.geometry.block 255 in
-    subst (λ (len : ℕ). IsTornBy m.geometry.page (block * m.geometry.block) len m.told (blanked fault block m).told) size
-    (torn_told m fault (block * m.geometry.block) bytes (inside_erase m block (length bytes) whole can size))
+    let bytes : List ℕ = blank_block m.geometry in
+    torn_told m fault (block * m.geometry.block) bytes (inside_erase m block (length bytes) whole can (length-replicate {A = ℕ} m.geometry.block 255))
 
-erase_torn_by : (m : Memory) (refused : Bool) (fault : Option Fault) (block : ℕ) → IsDevice (device_of m) → CanErase m.geometry block → IsUntouched m.told (cond refused (failed m) (erase_by fault block m)).told ⊎ IsTornBy m.geometry.page (block * m.geometry.block) m.geometry.block m.told (cond refused (failed m) (erase_by fault block m)).told
+erase_torn_by : (m : Memory) (refused : Bool) (fault : Option Fault) (block : ℕ) → IsDevice (device_of m) → CanErase m.geometry block → IsUntouched m.told (cond refused (failed m) (erase_by fault block m)).told ⊎ IsTornBy m.geometry.page (block * m.geometry.block) (blank_block m.geometry) m.told (cond refused (failed m) (erase_by fault block m)).told
 erase_torn_by m true fault block whole can = inl (record { image = refl; changes = refl })
 erase_torn_by m false None block whole can = let torn = torn_block m None block whole can in inr (record { torn = torn.torn; change = torn.change })
 erase_torn_by m false (Some fault) block whole can = let torn = torn_block m (Some fault) block whole can in inr (record { torn = torn.torn; change = torn.change })
 
-pub erase_changes : (m : Memory) (block : ℕ) → IsDevice (device_of m) → CanErase m.geometry block → ChangesOnly (block * m.geometry.block) m.geometry.block (device_of m) (device_of (after_erase block m))
+pub erase_changes : (m : Memory) (block : ℕ) → IsDevice (device_of m) → CanErase m.geometry block → ChangesOnly (block * m.geometry.block) (blank_block m.geometry) (device_of m) (device_of (after_erase block m))
 erase_changes m block whole can =
-    touched_by m (after_erase block m) (block * m.geometry.block) m.geometry.block (erase_torn_by m (is_erase_refused m block) (fault_of m) block whole can)
+    touched_by m (after_erase block m) (block * m.geometry.block) (blank_block m.geometry) (erase_torn_by m (is_erase_refused m block) (fault_of m) block whole can)
 
 erase_whole_by : (m : Memory) (refused : Bool) (fault : Option Fault) (block : ℕ) → IsDevice (device_of m) → CanErase m.geometry block → IsDevice (device_of (cond refused (failed m) (erase_by fault block m)))
 erase_whole_by m true fault block whole can = whole_of m (failed m) whole refl refl refl refl

@@ -1,5 +1,6 @@
 pub mod Boards
 pub mod Colons
+pub mod Counting
 pub mod Geometries
 pub mod Logged
 pub mod Moments

@@ -1,12 +1,12 @@
 -- What a cut may leave, over the calls of a flash: three laws of `Cuts`, and what they give for runs of calls.
 use Rattle.std.proofs.Common.{◌≡◌, ℕ, Bool, true, zero, suc, ◌+◌, ◌-◌, ◌%◌, ◌<◌, ◌≤◌, ◌∙◌, List, [], ◌∷◌, ◌++◌, length, take, Option, Some, None, ap, sym, subst, arith, refl, inl, inr, ◌⊎◌}
-use Rattle.std.specs.Prelude.{slice_get}
+use Rattle.std.specs.Prelude.{slice_get, unwrap_or}
 use Rattle.std.specs.Option.{ForSome, is_some, option_map}
 use Rattle.std.proofs.lemmas.List.{length-take, take-take}
-use Rattle.std.proofs.lemmas.Option.{slice_get_within}
+use Rattle.std.proofs.lemmas.Option.{slice_get_past, slice_get_within}
 use Rattle.bb_flash.specs.Calls.{ChangesOnly, IsTornBy, IsUntouched, counted}
 use Rattle.bb_flash.specs.Cuts.{Cuts, EachImage, EachTorn, IsContinued, IsLater, IsSameRegion, IsTornSince}
-use Rattle.bb_flash.specs.Device.{Change, Device, IsDevice, Told, moment}
+use Rattle.bb_flash.specs.Device.{Change, Device, IsDevice, Told, change_of, image_at, moment}
 use Rattle.bb_flash.specs.Image.{Image, Torn}
 use Rattle.bb_flash.proofs.Tearing.{Torn-refl, Torn-trans}
 use Rattle.bb_flash.proofs.Regions.{IsSameRegion-trans, Torn-region, Torn-wider}
@@ -44,12 +44,12 @@ below_or_not zero (suc n) = inl (omega arith)
 below_or_not (suc m) (suc n) = elim (below_or_not m n) [ inl h ↦ inl (omega arith) | inr h ↦ inr (omega arith) ]
 
 -- a call that touched `len` bytes at a place adds to what counts only what it left, and what is torn from before
-pub Cuts-changes : (page at len : ℕ) (before after : Told) (since : ℕ) (image : Image) → IsUntouched before after ⊎ IsTornBy page at len before after → Cuts page after since image → Cuts page before since image ⊎ ((image ≡ after.image) ⊎ Torn page at len before.image image)
-Cuts-changes page at len before after since image how (inl now) = inr (inl now)
-Cuts-changes page at len before after since image (inl same) (inr torn) =
+pub Cuts-changes : (page at : ℕ) (bytes : List ℕ) (before after : Told) (since : ℕ) (image : Image) → IsUntouched before after ⊎ IsTornBy page at bytes before after → Cuts page after since image → Cuts page before since image ⊎ ((image ≡ after.image) ⊎ Torn page at (length bytes) before.image image)
+Cuts-changes page at bytes before after since image how (inl now) = inr (inl now)
+Cuts-changes page at bytes before after since image (inl same) (inr torn) =
     inl (inr (record { call = torn.call; change = torn.change; later = torn.later; made = ap (λ changes. slice_get changes torn.call) (sym same.changes) ∙ torn.made; torn = torn.torn }))
-Cuts-changes page at len before after since image (inr tears) (inr torn) =
-    let change : Change = record { before = before.image; at = at; len = len } in
+Cuts-changes page at bytes before after since image (inr tears) (inr torn) =
+    let change : Change = change_of page at bytes before.image in
     elim (slice_get-append before.changes (change ∷ []) torn.call torn.change (ap (λ changes. slice_get changes torn.call) (sym tears.change) ∙ torn.made)) [
       | inl old ↦ inl (inr (record { call = torn.call; change = torn.change; later = torn.later; made = old; torn = torn.torn }))
       | inr new ↦
@@ -57,9 +57,9 @@ Cuts-changes page at len before after since image (inr tears) (inr torn) =
           inr (inr (subst (λ (c : Change). Torn page c.at c.len c.before image) (sym same) torn.torn))
     ]
 
-torn_last : (page at len : ℕ) (before after : Told) → IsUntouched before after ⊎ IsTornBy page at len before after → Torn page at len before.image after.image
-torn_last page at len before after (inl same) = subst (λ (i : Image). Torn page at len before.image i) (sym same.image) (Torn-refl page before.image at len)
-torn_last page at len before after (inr tears) = tears.torn
+torn_last : (page at : ℕ) (bytes : List ℕ) (before after : Told) → IsUntouched before after ⊎ IsTornBy page at bytes before after → Torn page at (length bytes) before.image after.image
+torn_last page at bytes before after (inl same) = subst (λ (i : Image). Torn page at (length bytes) before.image i) (sym same.image) (Torn-refl page before.image at (length bytes))
+torn_last page at bytes before after (inr tears) = tears.torn
 
 -- no call since the present moment
 too_late : (page : ℕ) (told : Told) (image : Image) → IsTornSince page told (moment told) image → ⊥
@@ -70,13 +70,14 @@ some_of None e = absurd cc
 some_of (Some x) e = (x, refl)
 
 -- each image that a cut during a program or an erase may have left is torn from what was before
-pub images_of_call : (page at len : ℕ) (from to : Device) → from.geometry.page ≡ page → IsLater from to → ChangesOnly at len from to → EachImage (Torn page at len) from to
-images_of_call page at len from to same_page later changes = record {
+pub images_of_call : (page at : ℕ) (bytes : List ℕ) (from to : Device) → from.geometry.page ≡ page → IsLater from to → ChangesOnly at bytes from to → EachImage (Torn page at (length bytes)) from to
+images_of_call page at bytes from to same_page later changes = record {
   each = λ first e last f image cut.
+      let len : ℕ = length bytes in
       let here : Cuts page last (moment first) image = subst (λ (p : ℕ). Cuts p last (moment first) image) (ap (λ geo. geo.page) later.geometry ∙ same_page) cut in
-      let how : IsUntouched first last ⊎ IsTornBy page at len first last = subst (λ (p : ℕ). IsUntouched first last ⊎ IsTornBy p at len first last) same_page (changes.told first e last f) in
-      let torn : Torn page at len first.image last.image = torn_last page at len first last how in
-      elim (Cuts-changes page at len first last (moment first) image how here) [
+      let how : IsUntouched first last ⊎ IsTornBy page at bytes first last = subst (λ (p : ℕ). IsUntouched first last ⊎ IsTornBy p at bytes first last) same_page (changes.told first e last f) in
+      let torn : Torn page at len first.image last.image = torn_last page at bytes first last how in
+      elim (Cuts-changes page at bytes first last (moment first) image how here) [
         | inl old ↦ elim old [
           | inl same ↦ subst (λ (i : Image). Torn page at len first.image i) (sym same) (Torn-refl page first.image at len)
           | inr torn_before ↦ absurd (too_late page first image torn_before)
@@ -105,12 +106,35 @@ images_weaker R S from to weaker images = record { each = λ first e last f imag
 IsLater-moment : (first last : Told) → IsContinued first last → moment first ≤ moment last
 IsLater-moment first last continued = let e = ap length continued.changes in omega (arith, length-take (moment first) last.changes)
 
+get_inside : {X : Type 0} → (xs : List X) (k : ℕ) → k < length xs → (x : X) × (slice_get xs k ≡ Some x)
+get_inside [] k h = absurd (omega arith)
+get_inside (x ∷ xs) zero h = (x, refl)
+get_inside (x ∷ xs) (suc k) h = get_inside xs k (omega arith)
+
+-- what was held at an earlier moment doesn't change as the device goes on
+image_at-earlier : (mid last : Told) (k : ℕ) → take (moment mid) last.changes ≡ mid.changes → k < moment mid → image_at last k ≡ image_at mid k
+image_at-earlier mid last k same early =
+    let there = get_inside mid.changes k early in
+    let kept : slice_get last.changes k ≡ slice_get mid.changes k = sym (slice_get-take (moment mid) last.changes k early) ∙ ap (λ changes. slice_get changes k) same in
+    ap (λ o. unwrap_or (option_map (λ (c : Change). c.before) o) last.image) (kept ∙ there.1)
+    ∙ ap (λ o. unwrap_or (option_map (λ (c : Change). c.before) o) mid.image) (sym there.1)
+
+-- at the present moment the device holds what it holds
+pub image_at-now : (told : Told) → image_at told (moment told) ≡ told.image
+image_at-now told = ap (λ o. unwrap_or (option_map (λ (c : Change). c.before) o) told.image) (slice_get_past told.changes (moment told) (omega arith))
+
+held_joined : (first mid last : Told) → IsContinued first mid → IsContinued mid last → moment first ≤ moment mid → image_at last (moment first) ≡ first.image
+held_joined first mid last early late order = elim (below_or_not (moment first) (moment mid)) [
+  | inl before ↦ image_at-earlier mid last (moment first) late.changes before ∙ early.held
+  | inr same ↦
+      let e : moment first ≡ moment mid = omega arith in
+      ap (image_at last) e ∙ late.held ∙ sym (image_at-now mid) ∙ ap (image_at mid) (sym e) ∙ early.held
+]
+
 pub later_joined : (one two three : Device) → IsLater one two → IsLater two three → IsLater one three
 later_joined one two three h k = record {
   geometry = k.geometry ∙ h.geometry;
   told = k.told ∙ h.told;
-  starts = k.starts ∙ h.starts;
-  start_faults = k.start_faults ∙ h.start_faults;
   faults = omega (arith, h.faults, k.faults);
   read_faults = omega (arith, h.read_faults, k.read_faults);
   continued = λ first e last f.
@@ -122,6 +146,7 @@ later_joined one two three h k = record {
         changes =
             sym (take-take (moment first) (moment mid) last.changes (IsLater-moment first mid early)) ∙ ap (take (moment first)) late.changes
             ∙ early.changes;
+        held = held_joined first mid last early late (IsLater-moment first mid early);
       };
 }
 
@@ -180,8 +205,8 @@ torn_wider at len first size from to whole low high each = record {
 }
 
 -- a call that touches whole pages tears no more than them
-pub torn_of_call : (at len : ℕ) (from to : Device) → IsLater from to → ChangesOnly at len from to → EachTorn at len from to
-torn_of_call at len from to later changes = record { images = images_of_call from.geometry.page at len from to refl later changes }
+pub torn_of_call : (at : ℕ) (bytes : List ℕ) (from to : Device) → IsLater from to → ChangesOnly at bytes from to → EachTorn at (length bytes) from to
+torn_of_call at bytes from to later changes = record { images = images_of_call from.geometry.page at bytes from to refl later changes }
 
 -- two runs that leave a region
 pub images_same_joined : (page at size : ℕ) (one two three : Device) → IsLater one two → IsLater two three → EachImage (IsSameRegion page at size) one two → EachImage (IsSameRegion page at size) two three → EachImage (IsSameRegion page at size) one three

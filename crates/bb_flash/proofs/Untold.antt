@@ -1,9 +1,9 @@
 -- A device that tells nothing meets what calls promise of its content.
-use Rattle.std.proofs.Common.{◌≡◌, ℕ, ◌≤◌, ◌∙◌, Option, Some, None, ap, sym}
+use Rattle.std.proofs.Common.{◌≡◌, ℕ, ◌≤◌, ◌∙◌, List, Option, Some, None, ap, sym}
 use Rattle.std.specs.Option.{ForSome, is_some, option_map}
 use Rattle.bb_flash.specs.Calls.{ChangesOnly}
 use Rattle.bb_flash.specs.Cuts.{EachTorn, IsLater}
-use Rattle.bb_flash.specs.Device.{Device, IsDevice, Told}
+use Rattle.bb_flash.specs.Device.{Device, IsDevice, LeavesStarts, Told}
 use Rattle.bb_flash.specs.Geometry.{IsGeometry}
 
 for_none : {T : Type 0} (o : Option T) (P : T → Type 0) → o ≡ None → ForSome o P
@@ -16,21 +16,25 @@ untold_device device geometry e = record {
   erases = for_none _ _ (ap (λ (o : Option Told). option_map (λ (t : Told). t.erases) o) e);
 }
 
-pub untold_changes : (at len : ℕ) (from to : Device) → from.told ≡ None → ChangesOnly at len from to
-untold_changes at len from to e = record { told = for_none _ _ e }
+pub untold_changes : (at : ℕ) (bytes : List ℕ) (from to : Device) → from.told ≡ None → ChangesOnly at bytes from to
+untold_changes at bytes from to e = record { told = for_none _ _ e }
 
 pub untold_images : (at len : ℕ) (from to : Device) → from.told ≡ None → EachTorn at len from to
 untold_images at len from to e = record { images = record { each = for_none _ _ e } }
 
-pub untold_later : (from to : Device) → from.told ≡ None → to.told ≡ None → to.geometry ≡ from.geometry → to.start_faults ≡ from.start_faults → from.faults ≤ to.faults → from.read_faults ≤ to.read_faults → IsLater from to
-untold_later from to e f geometry start_faults faults read_faults = record {
-  geometry = geometry;
-  told = ap is_some f ∙ ap is_some (sym e);
+pub untold_starts : (from to : Device) → from.told ≡ None → to.told ≡ None → to.start_faults ≡ from.start_faults → LeavesStarts from to
+untold_starts from to e f start_faults = record {
   starts = ap (λ (o : Option Told). option_map (λ (t : Told). t.starts) o) (f ∙ sym e);
   start_faults = start_faults;
+}
+
+pub untold_later : (from to : Device) → from.told ≡ None → to.told ≡ None → to.geometry ≡ from.geometry → from.faults ≤ to.faults → from.read_faults ≤ to.read_faults → IsLater from to
+untold_later from to e f geometry faults read_faults = record {
+  geometry = geometry;
+  told = ap is_some f ∙ ap is_some (sym e);
   faults = faults;
   read_faults = read_faults;
   continued = for_none _ _ e;
 }
 
-pub ruleset untold = (untold_device, untold_changes, untold_images, untold_later)
+pub ruleset untold = (untold_device, untold_changes, untold_images, untold_starts, untold_later)

@@ -2,7 +2,7 @@
 use Rattle.std.specs.Prelude.{◌≡◌, ℕ, ◌≤◌, ◌⊎◌, take, drop, slice_get, Some, is_some}
 use Rattle.std.specs.Option.{ForSome}
 use Rattle.bb_flash.specs.Image.{Image, Torn, touched_pages}
-use Rattle.bb_flash.specs.Device.{Change, Told, Device, moment, starts}
+use Rattle.bb_flash.specs.Device.{Change, Told, Device, image_at, moment}
 
 -- a cut during one of the calls since a moment may have left this image
 pub record IsTornSince (page : ℕ) (told : Told) (since : ℕ) (image : Image) : Type 0 where
@@ -34,16 +34,15 @@ pub record IsSameRegion (page at size : ℕ) (before image : Image) : Type 0 whe
   pub bytes : take size (drop at image.bytes) ≡ take size (drop at before.bytes)
   pub health : touched_pages page at size image.health ≡ touched_pages page at size before.health
 
--- the changes of the second state are those of the first and perhaps more
+-- the second state has the changes of the first and perhaps more, from what the first held on
 pub record IsContinued (first last : Told) : Type 0 where
   pub changes : take (moment first) last.changes ≡ first.changes
+  pub held : image_at last (moment first) ≡ first.image
 
 -- the second state may come of the first by calls of a flash
 pub record IsLater (from to : Device) : Type 0 where
   pub geometry : to.geometry ≡ from.geometry
   pub told : is_some to.told ≡ is_some from.told
-  pub starts : starts to ≡ starts from
-  pub start_faults : to.start_faults ≡ from.start_faults
   pub faults : from.faults ≤ to.faults
   pub read_faults : from.read_faults ≤ to.read_faults
   pub continued : ForSome from.told (λ first. ForSome to.told (IsContinued first))

@@ -1,11 +1,11 @@
 -- A flash device as contracts see it, at one moment.
-use Rattle.std.specs.Prelude.{◌≡◌, ◌≢◌, ℕ, ◌+◌, ◌/◌, ◌≤◌, List, length, take, drop, Option, option_map}
+use Rattle.std.specs.Prelude.{◌≡◌, ◌≢◌, ℕ, ◌+◌, ◌/◌, ◌≤◌, List, length, take, drop, slice_get, unwrap_or, Option, option_map}
 use Rattle.std.specs.Option.{ForSome}
 use Rattle.bb_flash.specs.declared.geometry.Geometry.{Geometry}
 use Rattle.bb_flash.specs.declared.health.Health.{Health}
-use Rattle.bb_flash.specs.declared.health.Health.TheVariants.{Lost}
+use Rattle.bb_flash.specs.declared.health.Health.TheVariants.{Fine, Lost}
 use Rattle.bb_flash.specs.Geometry.{IsGeometry}
-use Rattle.bb_flash.specs.Image.{Image, IsImageOf, health_of}
+use Rattle.bb_flash.specs.Image.{Image, IsImageOf, health_of, with_bytes}
 
 -- what is handed to a board that starts a system: texts as their bytes
 pub record Plan : Type 0 where
@@ -20,11 +20,22 @@ pub record Start : Type 0 where
   pub plan : Plan
   pub image : Image
 
--- a call that changed the device, or failed to: what the device held before it, and the bytes that it touched
+-- a call that changed the device, or failed to: what the device held before it, what the call leaves
+-- where it answers Ok, and the bytes that it touched
 pub record Change : Type 0 where
   pub before : Image
+  pub after : Image
   pub at : ℕ
   pub len : ℕ
+
+-- the call that is to write these bytes at a place
+abbrev pub change_of : ℕ → ℕ → List ℕ → Image → Change
+change_of page at bytes before = record {
+  before = before;
+  after = with_bytes page at bytes Fine before;
+  at = at;
+  len = length bytes;
+}
 
 -- what a device tells of itself: memory boards do, and a device behind the operating system doesn't
 pub record Told : Type 0 where
@@ -65,11 +76,21 @@ reads device = option_map (λ told. told.reads) device.told
 abbrev pub moment : Told → ℕ
 moment told = length told.changes
 
+-- what the device held at a moment: before the change of that number, or now where there is none
+abbrev pub image_at : Told → ℕ → Image
+image_at told when =
+    unwrap_or (option_map (λ change. change.before) (slice_get told.changes when)) told.image
+
 -- the geometry is within its bounds, and what the device holds fits it
 pub record IsDevice (device : Device) : Type 0 where
   pub geometry : IsGeometry device.geometry
   pub image : ForSome (content device) (IsImageOf device.geometry)
   pub erases : ForSome (erases device) (λ numbers. length numbers ≡ device.geometry.size / device.geometry.block)
+
+-- no system was started in between, nor did a start fail
+pub record LeavesStarts (before after : Device) : Type 0 where
+  pub starts : starts after ≡ starts before
+  pub start_faults : after.start_faults ≡ before.start_faults
 
 -- what no read changes, whatever it answers
 pub record ReadKeeps (before after : Device) : Type 0 where

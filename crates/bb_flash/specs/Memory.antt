@@ -5,7 +5,7 @@ use Rattle.bb_flash.specs.declared.health.Health.{Health}
 use Rattle.bb_flash.specs.declared.health.Health.TheVariants.{Fine}
 use Rattle.bb_flash.specs.declared.fault.Fault.{Fault}
 use Rattle.bb_flash.specs.Device.{Device, Told}
-use Rattle.bb_flash.specs.Calls.{changed, counted, erase_counted}
+use Rattle.bb_flash.specs.Calls.{blank_block, changed, counted, erase_counted}
 use Rattle.bb_flash.specs.Filled.{is_cut, left_by}
 
 pub record Memory : Type 0 where
@@ -131,8 +131,9 @@ after_read memory = if is_read_refused memory then read_failed memory else read_
 -- a call was recorded that was to write bytes, and left of them what its planned fault says
 abbrev pub written : Option Fault → ℕ → List ℕ → Memory → Memory
 written fault at bytes memory =
+    let page = memory.geometry.page in
     record (recorded fault (length bytes) memory) {
-      told = changed at (length bytes) (left_by fault memory.geometry.page at bytes memory.told.image) memory.told;
+      told = changed page at bytes (left_by fault page at bytes memory.told.image) memory.told;
     }
 
 abbrev pub program_by : Option Fault → ℕ → List ℕ → Memory → Memory
@@ -145,7 +146,8 @@ after_program at bytes memory =
 
 -- a block was to be erased
 abbrev pub blanked : Option Fault → ℕ → Memory → Memory
-blanked fault block memory = written fault (block * memory.geometry.block) (replicate memory.geometry.block 255) memory
+blanked fault block memory =
+    written fault (block * memory.geometry.block) (blank_block memory.geometry) memory
 
 abbrev pub erase_by : Option Fault → ℕ → Memory → Memory
 erase_by None block memory =

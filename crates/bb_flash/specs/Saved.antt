@@ -1,37 +1,49 @@
--- The record that a board in memory keeps of the calls that changed it: for each what stood in its range before.
-use Rattle.std.specs.Prelude.{◌≡◌, ℕ, ◌-◌, ◌/◌, ◌≤◌, List, replicate, [], ◌∷◌, ◌++◌, length, take, drop}
+-- The record that a board in memory keeps of the calls that changed it: for each what stood in its
+-- range before, and what it was to write there.
+use Rattle.std.specs.Prelude.{◌≡◌, ℕ, ◌-◌, ◌/◌, ◌≤◌, List, [], ◌∷◌, ◌++◌, length, take, drop}
 use Rattle.bb_flash.specs.declared.health.Health.{Health}
 use Rattle.bb_flash.specs.declared.log.Span.{Span}
 use Rattle.bb_flash.specs.declared.geometry.Geometry.{Geometry}
 use Rattle.bb_flash.specs.Geometry.{IsGeometry}
 use Rattle.bb_flash.specs.Image.{Image, IsImageOf, overwritten}
-use Rattle.bb_flash.specs.Device.{Change}
+use Rattle.bb_flash.specs.Device.{Change, change_of}
+use Rattle.bb_flash.specs.Calls.{blank_block}
 
--- what stood in the range of a call before it
+-- what stood in the range of a call before it, and the bytes that it was to write there
 pub record Saved : Type 0 where
   pub at : ℕ
-  pub bytes : List ℕ
+  pub before : List ℕ
   pub health : List Health
+  pub bytes : List ℕ
 
 pub record Record : Type 0 where
   pub most_calls : ℕ
   pub most_bytes : ℕ
-  -- how many bytes are saved in all
+  -- how many bytes the calls were to write in all
   pub used : ℕ
   -- newest first
   pub saved : List Saved
 
--- the ranges, newest first, whose bytes and health lie one behind another, the newest last
-unfoldable pub saved_of : List Span → List ℕ → List Health → List Saved
-saved_of [] bytes health = []
-saved_of (span ∷ older) bytes health =
-    record { at = span.at; bytes = drop (length bytes - span.bytes) bytes; health = drop (length health - span.pages) health }
-    ∷ saved_of older (take (length bytes - span.bytes) bytes) (take (length health - span.pages) health)
+-- the ranges, newest first; what stood in them, its health and the calls' bytes lie one behind
+-- another, the newest last
+unfoldable pub saved_of : List Span → List ℕ → List Health → List ℕ → List Saved
+saved_of [] before health bytes = []
+saved_of (span ∷ older) before health bytes =
+    record {
+      at = span.at;
+      before = drop (length before - span.bytes) before;
+      health = drop (length health - span.pages) health;
+      bytes = drop (length bytes - span.bytes) bytes;
+    }
+    ∷ saved_of older
+    (take (length before - span.bytes) before)
+    (take (length health - span.pages) health)
+    (take (length bytes - span.bytes) bytes)
 
 -- what the device held before the call, where it held this image after it
 abbrev pub restored : ℕ → Saved → Image → Image
 restored page saved image = record {
-  bytes = overwritten saved.at saved.bytes image.bytes;
+  bytes = overwritten saved.at saved.before image.bytes;
   health = overwritten (saved.at / page) saved.health image.health;
 }
 
@@ -40,12 +52,12 @@ unfoldable pub history : ℕ → List Saved → Image → List Change
 history page [] image = []
 history page (saved ∷ older) image =
     history page older (restored page saved image)
-    ++ record { before = restored page saved image; at = saved.at; len = length saved.bytes } ∷ []
+    ++ change_of page saved.at saved.bytes (restored page saved image) ∷ []
 
 -- what holds of the fields of every board in memory
 pub record IsMemory (geometry : Geometry) (image : Image) (log : Record) (blank : List ℕ) (numbers : List ℕ) (calls : ℕ) : Type 0 where
   pub geometry_within : IsGeometry geometry
   pub image_whole : IsImageOf geometry image
-  pub block_blank : blank ≡ replicate geometry.block 255
+  pub block_blank : blank ≡ blank_block geometry
   pub each_block : length numbers ≡ geometry.size / geometry.block
   pub all_calls : length log.saved ≤ calls

@@ -1,9 +1,9 @@
 ghost use Rattle.std.specs.Prelude.{◌≡◌, ◌+◌, ◌*◌, ◌<◌, ◌≤◌, length, option_map, IfOk, IsErr, OnOk, OnErr, is_ok};
 ghost use Rattle.std.specs.Option.{ForSome};
 ghost use Rattle.bb_base.specs.Faults.{HasCause};
-ghost use Rattle.bb_flash.specs.Calls.{CanErase, CanProgram, ChangesOnly, counted, erased, programmed};
+ghost use Rattle.bb_flash.specs.Calls.{CanErase, CanProgram, ChangesOnly, blank_block, counted, erased, programmed};
 ghost use Rattle.bb_flash.specs.Cuts.{EachTorn, IsLater};
-ghost use Rattle.bb_flash.specs.Device.{Device, IsDevice, IsReading, ReadKeeps, content, erases, reads};
+ghost use Rattle.bb_flash.specs.Device.{Device, IsDevice, IsReading, LeavesStarts, ReadKeeps, content, erases, reads};
 
 use crate::{Geometry, Health};
 use bb_base::Failed;
@@ -39,11 +39,12 @@ pub trait Flash {
         requires { CanProgram (device self.old) at (length bytes.now) }
         ensures done { OnOk result ((device self.new).told ≡
             option_map (programmed (device self.old).geometry.page at bytes.now) (device self.old).told) }
-        ensures changes { ChangesOnly at (length bytes.now) (device self.old) (device self.new) }
+        ensures changes { ChangesOnly at bytes.now (device self.old) (device self.new) }
         ensures images { EachTorn at (length bytes.now) (device self.old) (device self.new) }
         ensures erases { erases (device self.new) ≡ erases (device self.old) }
         ensures reads { reads (device self.new) ≡ reads (device self.old) }
         ensures later { IsLater (device self.old) (device self.new) }
+        ensures starts { LeavesStarts (device self.old) (device self.new) }
         ensures whole { IsDevice (device self.new) }
         ensures faults { HasCause (device self.old).faults (device self.new).faults (IsErr result) }
         ensures read_faults { (device self.new).read_faults ≡ (device self.old).read_faults };
@@ -57,11 +58,13 @@ pub trait Flash {
             option_map (erased (device self.old).geometry block) (device self.old).told) }
         ensures failed { OnErr result (erases (device self.new) ≡ erases (device self.old)) }
         ensures changes { let geometry = (device self.old).geometry in
-            ChangesOnly (block * geometry.block) geometry.block (device self.old) (device self.new) }
+            ChangesOnly (block * geometry.block) (blank_block geometry)
+            (device self.old) (device self.new) }
         ensures images { let geometry = (device self.old).geometry in
             EachTorn (block * geometry.block) geometry.block (device self.old) (device self.new) }
         ensures reads { reads (device self.new) ≡ reads (device self.old) }
         ensures later { IsLater (device self.old) (device self.new) }
+        ensures starts { LeavesStarts (device self.old) (device self.new) }
         ensures whole { IsDevice (device self.new) }
         ensures faults { HasCause (device self.old).faults (device self.new).faults (IsErr result) }
         ensures read_faults { (device self.new).read_faults ≡ (device self.old).read_faults };

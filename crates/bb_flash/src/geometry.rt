@@ -1,4 +1,4 @@
-ghost use Rattle.std.specs.Prelude.{◌≡◌, ◌<◌, ◌==◌, IfSome, option_map, position};
+ghost use Rattle.std.specs.Prelude.{◌≡◌, ◌/◌, ◌<◌, ◌==◌, IfSome, option_map, position};
 ghost use Rattle.bb_flash.specs.Geometry.{IsGeometry, IsMultiple, geometry_from, blocks_from, multiple_of, in_place_of, first_part, other_parts};
 
 use bb_base::read_number;
@@ -12,6 +12,15 @@ pub struct Geometry {
     pub block: u32,
     /// The whole device.
     pub size: u32,
+}
+
+impl Geometry {
+    // How many blocks the device has: none where it is overwritten in place.
+    pub(crate) fn blocks(self) -> u32
+        ensures { result ≡ self.size / self.block }
+    {
+        self.size.checked_div(self.block).unwrap_or(0)
+    }
 }
 
 const MOST_SIZE: u32 = 268_435_456;

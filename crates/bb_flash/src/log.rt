@@ -13,19 +13,20 @@ pub struct Span {
     pub pages: usize,
 }
 
-/// What stood in the range of each call that changed a board, before that call. It takes its memory once, and then
-/// only fills it.
+/// What stood in the range of each call that changed a board, before that call, and what the call was to
+/// write. It takes its memory once, and then only fills it.
 #[derive(Debug, Drop)]
 pub struct Log {
     most_calls: u32,
     most_bytes: u32,
     spans: Vec<Span>,
-    bytes: Vec<u8>,
+    before: Vec<u8>,
     health: Vec<Health>,
+    bytes: Vec<u8>,
 }
 
 impl Model for Log {
-    ghost use Rattle.std.specs.Prelude.{◌≤◌, length, reverse};
+    ghost use Rattle.std.specs.Prelude.{◌≡◌, ◌≤◌, length, reverse};
     ghost use Rattle.std.specs.Vec.{vec_len, vec_capacity};
     ghost use Rattle.bb_flash.specs.Saved.{Record, saved_of};
 
@@ -36,27 +37,31 @@ impl Model for Log {
           most_calls = log.most_calls;
           most_bytes = log.most_bytes;
           used = length log.bytes.items;
-          saved = saved_of (reverse log.spans.items) log.bytes.items log.health.items;
+          saved = saved_of (reverse log.spans.items)
+              log.before.items log.health.items log.bytes.items;
         } };
 
     ghost invariant = { λ log.
-        (log.most_calls ≤ vec_capacity log.spans) × (log.most_bytes ≤ vec_capacity log.bytes)
-        × (log.most_bytes ≤ vec_capacity log.health) × (vec_len log.spans ≤ log.most_calls)
-        × (vec_len log.bytes ≤ log.most_bytes) × (vec_len log.health ≤ vec_len log.bytes) };
+        (log.most_calls ≤ vec_capacity log.spans) × (log.most_bytes ≤ vec_capacity log.before)
+        × (log.most_bytes ≤ vec_capacity log.health) × (log.most_bytes ≤ vec_capacity log.bytes)
+        × (vec_len log.spans ≤ log.most_calls) × (vec_len log.before ≡ vec_len log.bytes)
+        × (vec_len log.health ≤ vec_len log.bytes) × (vec_len log.bytes ≤ log.most_bytes) };
 }
 
 impl Log {
     #[tactic(auto, unfolding(crate::specs::Saved::saved_of))]
-    /// Nothing, with room for so many calls and bytes.
+    /// Nothing, with room for so many calls and so many bytes that they are to write.
     pub fn with_room(alloc: Global, calls: u32, bytes: u32) -> Result<Log, NoMemory>
-        ensures { IfOk result (λ log. log ≡ record { most_calls = calls; most_bytes = bytes; used = 0; saved = [] }) }
+        ensures { IfOk result (λ log.
+            log ≡ record { most_calls = calls; most_bytes = bytes; used = 0; saved = [] }) }
     {
         Ok(Log {
             most_calls: calls,
             most_bytes: bytes,
             spans: Vec::with_capacity(alloc, calls as usize)?,
-            bytes: Vec::with_capacity(alloc, bytes as usize)?,
+            before: Vec::with_capacity(alloc, bytes as usize)?,
             health: Vec::with_capacity(alloc, bytes as usize)?,
+            bytes: Vec::with_capacity(alloc, bytes as usize)?,
         })
     }
 
@@ -74,14 +79,16 @@ impl Log {
         self.bytes.len() + bytes as usize > self.most_bytes as usize
     }
 
-    /// Saves what stands in the range of a call. It takes no memory.
-    pub fn save(&mut self, at: u32, bytes: &[u8], health: &[Health])
+    /// Saves what stands in the range of a call, and what the call is to write. It takes no memory.
+    pub fn save(&mut self, at: u32, before: &[u8], health: &[Health], bytes: &[u8])
         requires calls { length self.old.saved < self.old.most_calls }
         requires bytes { self.old.used + length bytes.now ≤ self.old.most_bytes }
+        requires range { length before.now ≡ length bytes.now }
         requires pages { length health.now ≤ length bytes.now }
         ensures { self.new ≡ record self.old {
           used = self.old.used + length bytes.now;
-          saved = record { at = at; bytes = bytes.now; health = health.now } ∷ self.old.saved;
+          saved = record { at = at; before = before.now; health = health.now; bytes = bytes.now }
+              ∷ self.old.saved;
         } }
     {
         let span = Span {
@@ -90,8 +97,9 @@ impl Log {
             pages: health.len(),
         };
         let _ = self.spans.push(span);
-        let _ = self.bytes.extend_from_slice(bytes);
+        let _ = self.before.extend_from_slice(before);
         let _ = self.health.extend_from_slice(health);
+        let _ = self.bytes.extend_from_slice(bytes);
     }
 
     #[tactic(auto, unfolding(crate::specs::Saved::saved_of))]
@@ -100,7 +108,8 @@ impl Log {
         ensures { self.new ≡ record self.old { used = 0; saved = [] } }
     {
         self.spans.clear();
-        self.bytes.clear();
+        self.before.clear();
         self.health.clear();
+        self.bytes.clear();
     }
 }

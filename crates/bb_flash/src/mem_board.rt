@@ -1,9 +1,9 @@
 ghost use Rattle.std.specs.Prelude.{◌≡◌, ◌+◌, ◌*◌, ◌<◌, ◌≤◌, ◌∷◌, [], length, option_map, IfOk, IsErr, OnOk, OnErr, is_err, is_ok};
 ghost use Rattle.std.specs.Option.{ForSome};
 ghost use Rattle.bb_base.specs.Faults.{HasCause};
-ghost use Rattle.bb_flash.specs.Calls.{CanErase, CanProgram, ChangesOnly, counted, erased, programmed};
+ghost use Rattle.bb_flash.specs.Calls.{CanErase, CanProgram, ChangesOnly, blank_block, counted, erased, programmed};
 ghost use Rattle.bb_flash.specs.Cuts.{EachTorn, IsLater};
-ghost use Rattle.bb_flash.specs.Device.{IsDevice, IsReading, ReadKeeps, content, erases, reads};
+ghost use Rattle.bb_flash.specs.Device.{IsDevice, IsReading, LeavesStarts, ReadKeeps, content, erases, reads};
 ghost use Rattle.bb_flash.specs.Geometry.{IsGeometry};
 ghost use Rattle.bb_flash.specs.Memory as memory;
 ghost use Rattle.bb_flash.specs.Memory.{device_of};
@@ -87,7 +87,6 @@ impl MemBoard {
         ensures { IfOk result (λ board. board ≡ memory.fresh_memory geometry bytes.now calls room) }
     {
         let pages = geometry.size / geometry.page;
-        let blocks = geometry.size.checked_div(geometry.block).unwrap_or(0);
         Ok(MemBoard {
             geometry,
             cells: Cells {
@@ -96,7 +95,7 @@ impl MemBoard {
             },
             log: Log::with_room(alloc, calls, room)?,
             blank: vec![in alloc; 0xFF; geometry.block as usize]?,
-            erases: vec![in alloc; 0; blocks as usize]?,
+            erases: vec![in alloc; 0; geometry.blocks() as usize]?,
             reads: 0,
             faults: 0,
             read_faults: 0,
@@ -145,6 +144,13 @@ impl MemBoard {
         ensures { result.now ≡ self.now.told.image.bytes }
     {
         &self.cells.bytes
+    }
+
+    /// How many reads answered Ok.
+    pub fn reads(&self) -> u64
+        ensures { result ≡ self.now.told.reads }
+    {
+        self.reads
     }
 
     /// How many programs answered Ok.
@@ -200,11 +206,12 @@ impl Flash for MemBoard {
         ensures after { self.new ≡ memory.after_program at bytes.now self.old }
         ensures done { OnOk result ((device_of self.new).told ≡
             option_map (programmed self.old.geometry.page at bytes.now) (device_of self.old).told) }
-        ensures changes { ChangesOnly at (length bytes.now) (device_of self.old) (device_of self.new) }
+        ensures changes { ChangesOnly at bytes.now (device_of self.old) (device_of self.new) }
         ensures images { EachTorn at (length bytes.now) (device_of self.old) (device_of self.new) }
         ensures erases { erases (device_of self.new) ≡ erases (device_of self.old) }
         ensures reads { reads (device_of self.new) ≡ reads (device_of self.old) }
         ensures later { IsLater (device_of self.old) (device_of self.new) }
+        ensures starts { LeavesStarts (device_of self.old) (device_of self.new) }
         ensures whole { IsDevice (device_of self.new) }
         ensures faults { HasCause self.old.faults self.new.faults (IsErr result) }
         ensures read_faults { self.new.read_faults ≡ self.old.read_faults }
@@ -220,12 +227,14 @@ impl Flash for MemBoard {
         ensures done { OnOk result ((device_of self.new).told ≡
             option_map (erased self.old.geometry block) (device_of self.old).told) }
         ensures failed { OnErr result (erases (device_of self.new) ≡ erases (device_of self.old)) }
-        ensures changes { let size = self.old.geometry.block in
-            ChangesOnly (block * size) size (device_of self.old) (device_of self.new) }
+        ensures changes { let geometry = self.old.geometry in
+            ChangesOnly (block * geometry.block) (blank_block geometry)
+            (device_of self.old) (device_of self.new) }
         ensures images { let size = self.old.geometry.block in
             EachTorn (block * size) size (device_of self.old) (device_of self.new) }
         ensures reads { reads (device_of self.new) ≡ reads (device_of self.old) }
         ensures later { IsLater (device_of self.old) (device_of self.new) }
+        ensures starts { LeavesStarts (device_of self.old) (device_of self.new) }
         ensures whole { IsDevice (device_of self.new) }
         ensures faults { HasCause self.old.faults self.new.faults (IsErr result) }
         ensures read_faults { self.new.read_faults ≡ self.old.read_faults }

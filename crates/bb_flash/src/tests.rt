@@ -80,6 +80,7 @@ fn a_planned_read_fails(rt: HostRuntime) -> Result<(), Fail> {
     assert_eq!(rt; get(&mut board, 0).0, Ok(Health::Fine));
     assert_eq!(rt; get(&mut board, 0).0, Err(Failed));
     assert_eq!(rt; get(&mut board, 0).0, Ok(Health::Fine));
+    assert_eq!(rt; board.reads(), 2);
     Ok(())
 }
 

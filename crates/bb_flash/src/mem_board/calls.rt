@@ -1,7 +1,7 @@
 ghost use Rattle.std.specs.Prelude.{◌≡◌, ◌+◌, ◌*◌, ◌<◌, ◌≤◌, ◌∷◌, ◌++◌, [], length, IfOk, is_err};
 ghost use Rattle.std.specs.Bool.{OnFalse};
 ghost use Rattle.bb_flash.specs.Calls.{CanErase, CanProgram};
-ghost use Rattle.bb_flash.specs.Device.{IsDevice, IsReading};
+ghost use Rattle.bb_flash.specs.Device.{IsDevice, IsReading, change_of};
 ghost use Rattle.bb_flash.specs.Filled.{is_cut, left_by};
 ghost use Rattle.bb_flash.specs.Image.{IsInside};
 ghost use Rattle.bb_flash.specs.Memory as memory;
@@ -147,7 +147,7 @@ fn cuts(fault: Option<Fault>) -> bool
     matches!(fault, Some(Fault::Cut(_)))
 }
 
-// Saves what a call is about to change, and changes it.
+// Saves what a call is about to change and what it is to write, and writes it.
 fn write_call(
     cells: &mut Cells,
     log: &mut Log,
@@ -168,10 +168,11 @@ fn write_call(
     ensures most_bytes { log.new.most_bytes ≡ log.old.most_bytes }
     ensures saved { length log.new.saved ≡ length log.old.saved + 1 }
     ensures changes { history page log.new.saved cells.new ≡ history page log.old.saved cells.old
-        ++ record { before = cells.old; at = at; len = length bytes.now } ∷ [] }
+        ++ change_of page at bytes.now cells.old ∷ [] }
 {
     let first = at as usize;
     let pages = touched(&cells.health, page, at, bytes.len() as u32);
-    log.save(at, &cells.bytes[first..first + bytes.len()], pages);
+    let before = &cells.bytes[first..first + bytes.len()];
+    log.save(at, before, pages, bytes);
     cells.write(page, at, bytes, fault);
 }

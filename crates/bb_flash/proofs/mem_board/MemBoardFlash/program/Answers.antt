@@ -1,4 +1,4 @@
-use Rattle.std.proofs.Common.{length, sym, subst}
+use Rattle.std.proofs.Common.{sym, subst}
 use Rattle.bb_flash.specs.Calls.{ChangesOnly}
 use Rattle.bb_flash.specs.Cuts.{IsLater}
 use Rattle.bb_flash.specs.Device.{IsDevice}
@@ -9,7 +9,7 @@ use Rattle.bb_flash.proofs.mem_board.MemBoardFlash.program.Goals as goal
 
 pub returns-clause-changes : goal.returns-clause-changes
 returns-clause-changes c =
-    subst (λ (m : Memory). ChangesOnly c.args.at (length c.args.bytes.now) (device_of c.args.self.now) (device_of m)) (sym c.program_call.ensures.after)
+    subst (λ (m : Memory). ChangesOnly c.args.at c.args.bytes.now (device_of c.args.self.now) (device_of m)) (sym c.program_call.ensures.after)
     (program_changes c.args.self.now c.args.at c.args.bytes.now c.program_call.ensures.whole c.requires)
 
 pub returns-clause-later : goal.returns-clause-later
@@ -24,4 +24,4 @@ returns-clause-whole c =
 
 pub returns-clause-images : goal.returns-clause-images
 returns-clause-images c =
-    torn_of_call c.args.at (length c.args.bytes.now) (device_of c.args.self.now) (device_of c.program_call.new.self) (returns-clause-later c) (returns-clause-changes c)
+    torn_of_call c.args.at c.args.bytes.now (device_of c.args.self.now) (device_of c.program_call.new.self) (returns-clause-later c) (returns-clause-changes c)

@@ -22,11 +22,10 @@ returns-clause-changes c =
     let inside = c.requires.inside in
     let bytes : c.cells.inside.bytes.items ≡ c.args.cells.now.bytes = ap (λ image. image.bytes) c.cells.view_is in
     let health : c.cells.inside.health.items ≡ c.args.cells.now.health = ap (λ image. image.health) c.cells.view_is in
-    let torn = torn_call c in
     let pages = pages_inside c.args.page (length c.args.cells.now.health) c.args.at len inside.page_some (omega (arith, inside.pages, inside.inside)) in
     let some = touched_pages-some c.args.page c.args.at len c.args.cells.now.health c.requires.some in
     let size : c.args.at + len - c.args.at ≡ len = omega arith in
     ap (λ saved. history c.args.page saved c.write.new.self) (ap (λ log. log.saved) c.save.ensures)
-    ∙ history-saved c.args.page c.args.at len c.args.cells.now c.write.new.self c.args.log.now.saved _ _ inside.inside pages torn
+    ∙ history-saved c.args.page _ c.args.log.now.saved c.args.cells.now c.write.new.self inside.inside pages (torn_call c)
     (ap (λ n. take n (drop c.args.at c.deref-2.result.now)) size ∙ ap (λ b. take len (drop c.args.at b)) (c.deref-2.ensures.value ∙ bytes))
     (c.touched-pages.ensures.value ∙ ap (λ h. touched_pages c.args.page c.args.at len h) (c.deref.ensures.value ∙ health) ∙ some)
