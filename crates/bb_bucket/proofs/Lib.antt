@@ -4,4 +4,6 @@ pub mod OneCall
 pub mod Outcomes
 pub mod Programs
 pub mod Quiet
+pub mod Runs
+pub mod StrideCalls
 pub mod Within

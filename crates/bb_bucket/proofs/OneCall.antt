@@ -1,47 +1,77 @@
 -- A call of a bucket that makes one flash call.
-use Rattle.std.proofs.Common.{◌≡◌, ℕ, zero, suc, ◌<◌, ◌≤◌, List, [], ◌∷◌, ◌++◌, length, Some, refl, sym, ap, ◌∙◌, subst, arith, inl, inr, ◌⊎◌}
+use Rattle.std.proofs.Common.{◌≡◌, ℕ, zero, suc, ◌*◌, ◌<◌, ◌≤◌, List, [], ◌∷◌, ◌++◌, length, Some, sym, ap, ◌∙◌, subst, arith, inl, inr, ◌⊎◌, option_map}
 use Rattle.std.specs.Prelude.{slice_get}
 use Rattle.std.proofs.lemmas.Option.{slice_get_within}
+use Rattle.bb_flash.specs.declared.geometry.Geometry.{Geometry}
 use Rattle.bb_flash.specs.Calls.{ChangesOnly, IsTornBy, IsUntouched}
-use Rattle.bb_flash.specs.Device.{Change, Device, Told, moment}
-use Rattle.bb_flash.specs.Image.{Image}
-use Rattle.bb_bucket.specs.Calls.{EachCall, EndsTorn, IsTornLast, IsVoidCall, IsWriteCall}
-use Rattle.bb_bucket.specs.Kind.{Kind}
+use Rattle.bb_flash.specs.Cuts.{IsLater}
+use Rattle.bb_flash.specs.Device.{Change, Device, IsDevice, Told, change_of, moment}
+use Rattle.bb_flash.specs.Image.{Image, IsImageOf, Torn}
+use Rattle.bb_bucket.specs.Calls.{EachCall, EndsTorn, IsTornLast}
 
 -- an item past all others is the last
-last_item : {X : Type 0} (xs : List X) (y x : X) (k : ℕ) → length xs ≤ k → slice_get (xs ++ y ∷ []) k ≡ Some x → y ≡ x
+last_item :
+    {X : Type 0} (xs : List X) (y x : X) (k : ℕ) →
+    length xs ≤ k → slice_get (xs ++ y ∷ []) k ≡ Some x → y ≡ x
 last_item [] y x zero past e = cc
 last_item [] y x (suc k) past e = absurd cc
 last_item (z ∷ xs) y x zero past e = absurd (omega arith)
 last_item (z ∷ xs) y x (suc k) past e = last_item xs y x k (omega arith) e
 
-change_is : (page at len : ℕ) (first last : Told) (call : ℕ) (change : Change) → IsUntouched first last ⊎ IsTornBy page at len first last → moment first ≤ call → slice_get last.changes call ≡ Some change → record { before = first.image; at = at; len = len } ≡ change
-change_is page at len first last call change (inl same) late made =
-    let within : call < length first.changes = slice_get_within first.changes call change (ap (λ changes. slice_get changes call) (sym same.changes) ∙ made) in
-    absurd (omega arith)
-change_is page at len first last call change (inr torn) late made =
-    last_item first.changes _ change call late (ap (λ changes. slice_get changes call) (sym torn.change) ∙ made)
-
-pub one_call : (P : Image → Change → Type 0) (at len : ℕ) (from to : Device) → ChangesOnly at len from to → ((first : Image) → P first (record { before = first; at = at; len = len })) → EachCall P from to
-one_call P at len from to changes holds = record {
-  each = λ first e last f call change late made.
-      subst (λ (c : Change). P first.image c) (change_is from.geometry.page at len first last call change (changes.told first e last f) late made) (holds first.image);
+-- what an image of a device is torn from is one of the same device
+untorn :
+    (geometry : Geometry) (page at len : ℕ) (before image : Image) →
+    Torn page at len before image → IsImageOf geometry image → IsImageOf geometry before
+untorn geometry page at len before image torn whole = record {
+  bytes = sym torn.bytes.lengths ∙ whole.bytes;
+  pages = ap (λ n. n * geometry.page) (sym torn.health.lengths) ∙ whole.pages;
 }
 
-pub one_write_call : (kind : Kind) (page at len : ℕ) (rec : List ℕ) (from to : Device) → kind.region.at ≡ at → len ≤ kind.region.size → ChangesOnly at len from to → EachCall (IsWriteCall kind page rec) from to
-one_write_call kind page at len rec from to here fits changes =
-    one_call (IsWriteCall kind page rec) at len from to changes
-    (λ first. record { within = record { low = omega arith; high = omega arith }; candidate = inl refl })
+one_change :
+    (P : Image → Change → Type 0) (geometry : Geometry) (at : ℕ) (bytes : List ℕ) (first last : Told) (call : ℕ)
+    (change : Change) →
+    ((image : Image) → IsImageOf geometry image → P image (change_of geometry.page at bytes image)) →
+    IsImageOf geometry last.image →
+    IsUntouched first last ⊎ IsTornBy geometry.page at bytes first last →
+    moment first ≤ call →
+    slice_get last.changes call ≡ Some change →
+    P first.image change
+one_change P geometry at bytes first last call change holds whole (inl same) late made =
+    let within : call < length first.changes = slice_get_within first.changes call change (ap (λ changes. slice_get changes call) (sym same.changes) ∙ made) in
+    absurd (omega arith)
+one_change P geometry at bytes first last call change holds whole (inr torn) late made =
+    let before = untorn geometry geometry.page at (length bytes) first.image last.image torn.torn whole in
+    let is = last_item first.changes _ change call late (ap (λ changes. slice_get changes call) (sym torn.change) ∙ made) in
+    subst (λ (c : Change). P first.image c) is (holds first.image before)
 
-pub one_void_call : (kind : Kind) (page at len : ℕ) (from to : Device) → kind.region.at ≡ at → len ≤ kind.region.size → ChangesOnly at len from to → EachCall (IsVoidCall kind page) from to
-one_void_call kind page at len from to here fits changes =
-    one_call (IsVoidCall kind page) at len from to changes
-    (λ first. record { within = record { low = omega arith; high = omega arith }; candidate = inl refl })
+-- one flash call was made, which was to write these bytes
+pub one_call :
+    (P : Image → Change → Type 0) (at : ℕ) (bytes : List ℕ) (from to : Device) →
+    ((image : Image) →
+    IsImageOf from.geometry image →
+    P image (change_of from.geometry.page at bytes image)) →
+    IsLater from to →
+    IsDevice to →
+    ChangesOnly at bytes from to →
+    EachCall P from to
+one_call P at bytes from to holds later whole changes = record {
+  each = λ first e last f call change late made.
+      let image = whole.image last.image (ap (λ told. option_map (λ (t : Told). t.image) told) f) in
+      let same = subst (λ (geometry : Geometry). IsImageOf geometry last.image) later.geometry image in
+      one_change P from.geometry at bytes first last call change holds same (changes.told first e last f) late made;
+}
 
-ends_so : (page at len : ℕ) (first last : Told) → IsUntouched first last ⊎ IsTornBy page at len first last → IsUntouched first last ⊎ IsTornLast page first last
-ends_so page at len first last (inl same) = inl same
-ends_so page at len first last (inr torn) =
-    inr (record { earlier = []; change = record { before = first.image; at = at; len = len }; made = torn.change; torn = torn.torn })
+ends_so :
+    (page at : ℕ) (bytes : List ℕ) (first last : Told) →
+    IsUntouched first last ⊎ IsTornBy page at bytes first last →
+    IsUntouched first last ⊎ IsTornLast page first last
+ends_so page at bytes first last (inl same) = inl same
+ends_so page at bytes first last (inr torn) =
+    inr (record { earlier = []; change = change_of page at bytes first.image; made = torn.change; torn = torn.torn })
 
-pub ends_torn : (at len : ℕ) (from to : Device) → ChangesOnly at len from to → EndsTorn from to
-ends_torn at len from to changes = record { ends = λ first e last f. ends_so from.geometry.page at len first last (changes.told first e last f) }
+pub ends_torn :
+    (at : ℕ) (bytes : List ℕ) (from to : Device) →
+    ChangesOnly at bytes from to → EndsTorn from to
+ends_torn at bytes from to changes = record {
+  ends = λ first e last f. ends_so from.geometry.page at bytes first last (changes.told first e last f);
+}

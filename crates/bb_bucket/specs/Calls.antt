@@ -1,19 +1,22 @@
 -- What a bucket's calls make of a device.
-use Rattle.std.specs.Prelude.{◌≡◌, ℕ, ◌+◌, ◌≤◌, ◌⊎◌, List, [], ◌∷◌, ◌++◌, length, take, slice_get, Option, Some, None, option_map, IsTrue}
+use Rattle.std.specs.Prelude.{◌≡◌, ℕ, ◌+◌, ◌/◌, ◌≤◌, ◌⊎◌, Bool, List, [], ◌∷◌, ◌++◌, length, take, slice_get, slice_index, slice_set, Contains, Option, Some, None, option_map, IsTrue, if◌then◌else◌}
 use Rattle.std.specs.Option.{ForSome}
+use Rattle.bb_flash.specs.declared.geometry.Geometry.{Geometry}
 use Rattle.bb_flash.specs.declared.region.Region.{Region}
 use Rattle.bb_flash.specs.Calls.{IsUntouched}
 use Rattle.bb_flash.specs.Image.{Image, Torn}
-use Rattle.bb_flash.specs.Device.{Change, Device, Told, content, moment}
+use Rattle.bb_flash.specs.Device.{Change, Device, Told, content, erases, moment}
 use Rattle.bb_bucket.specs.declared.bucket.Found.{Found}
 use Rattle.bb_bucket.specs.Kind.{Holding, IsBegun, Kind, part_of}
 
 -- the bucket keeps of its region what stands there, where the device tells it
 pub record Agrees (holding : Holding) (device : Device) : Type 0 where
   pub here :
-      ForSome (content device) (λ image. IsTrue (holding.agrees (part_of device.geometry.page holding.kind.region image)))
+      ForSome (content device)
+      (λ image. IsTrue (holding.agrees (part_of device.geometry.page holding.kind.region image)))
 
--- what a read found: the candidate's length, its bytes in front of `out`, and whether a page of it is Worn
+-- what a read found: the candidate's length, its bytes in front of `out`, and whether a page of it
+-- is Worn
 pub record IsFound (kind : Kind) (region : Image) (out : List ℕ) (found : Found) : Type 0 where
   pub len : found.len ≡ option_map (λ bytes. length bytes) (kind.candidate_of region)
   pub bytes : option_map (λ len. take len out) found.len ≡ kind.candidate_of region
@@ -31,48 +34,89 @@ pub record Leaves (region : Region) (f : Image → Image) (from to : Device) : T
   pub there :
       ForSome (content from)
       (λ before.
-      ForSome (content to) (λ after. part_of from.geometry.page region after ≡ f (part_of from.geometry.page region before)))
+      ForSome (content to)
+      (λ after.
+      part_of from.geometry.page region after ≡ f (part_of from.geometry.page region before)))
 
--- P holds between what the device held in the first state and each call since that changed it, or failed to
+-- P holds between what the device held in the first state and each call since that changed it, or
+-- failed to
 pub record EachCall (P : Image → Change → Type 0) (from to : Device) : Type 0 where
   pub each :
       ForSome from.told
       (λ first.
       ForSome to.told
       (λ last.
-      (call : ℕ) (change : Change) → moment first ≤ call → slice_get last.changes call ≡ Some change → P first.image change))
+      (call : ℕ) (change : Change) →
+      moment first ≤ call → slice_get last.changes call ≡ Some change → P first.image change))
 
--- the device holds in the second state what it held before the last of the calls that changed it since, but for the
--- bytes that this call touched
+-- the device holds in the second state what it held before the last of the calls that changed it
+-- since, but for the bytes that this call touched
 pub record IsTornLast (page : ℕ) (first last : Told) : Type 0 where
   pub earlier : List Change
   pub change : Change
   pub made : last.changes ≡ first.changes ++ (earlier ++ change ∷ [])
   pub torn : Torn page change.at change.len change.before last.image
 
--- the device holds in the second state what it held in the first, or what is torn from the last call since
+-- the device holds in the second state what it held in the first, or what is torn from the last
+-- call since
 pub record EndsTorn (from to : Device) : Type 0 where
   pub ends :
       ForSome from.told
-      (λ first. ForSome to.told (λ last. IsUntouched first last ⊎ IsTornLast from.geometry.page first last))
+      (λ first.
+      ForSome to.told
+      (λ last. IsUntouched first last ⊎ IsTornLast from.geometry.page first last))
 
 -- a call touches the region alone
 pub record IsWithin (region : Region) (change : Change) : Type 0 where
   pub low : region.at ≤ change.at
   pub high : change.at + change.len ≤ region.at + region.size
 
--- a flash call of a write: it touches the region alone, and began where the candidate was still the old one, was
--- none, or began with the record already
-pub record IsWriteCall (kind : Kind) (page : ℕ) (rec : List ℕ) (before : Image) (change : Change) : Type 0 where
-  pub within : IsWithin kind.region change
-  pub candidate :
-      (kind.candidate_of (part_of page kind.region change.before) ≡ kind.candidate_of (part_of page kind.region before))
-      ⊎ ((kind.candidate_of (part_of page kind.region change.before) ≡ None)
-      ⊎ IsBegun rec (kind.candidate_of (part_of page kind.region change.before)))
+-- the bytes that a call touches
+abbrev pub range_of : Change → Region
+range_of change = record { at = change.at; size = change.len }
 
--- a flash call of a void: the same, but no record comes
+-- the candidate in an image of a device
+abbrev pub candidate_in : Kind → ℕ → Image → Option (List ℕ)
+candidate_in kind page image = kind.candidate_of (part_of page kind.region image)
+
+-- the candidate of an image is that of the image before, or none
+abbrev pub IsOldOrNone : Kind → ℕ → Image → Image → Type 0
+IsOldOrNone kind page before image =
+    (candidate_in kind page image ≡ candidate_in kind page before)
+    ⊎ (candidate_in kind page image ≡ None)
+
+-- it is that of the image before, none, or one that begins with the record
+abbrev pub IsOldOrBegun : Kind → ℕ → List ℕ → Image → Image → Type 0
+IsOldOrBegun kind page rec before image =
+    IsOldOrNone kind page before image ⊎ IsBegun rec (candidate_in kind page image)
+
+-- A flash call of a write: it touches one of the ranges that its kind names, inside the region.
+-- What it began from, and what it leaves where it answers Ok, have the old candidate, none, or one
+-- that begins with the record.
+pub record IsWriteCall
+    (kind : Kind) (page : ℕ) (rec : List ℕ) (before : Image) (change : Change) : Type 0 where
+  pub within : IsWithin kind.region change
+  pub range : Contains (kind.write_ranges rec (part_of page kind.region before)) (range_of change)
+  pub begins : IsOldOrBegun kind page rec before change.before
+  pub leaves : IsOldOrBegun kind page rec before change.after
+
+-- A flash call of a void: the same, but no record comes.
 pub record IsVoidCall (kind : Kind) (page : ℕ) (before : Image) (change : Change) : Type 0 where
   pub within : IsWithin kind.region change
-  pub candidate :
-      (kind.candidate_of (part_of page kind.region change.before) ≡ kind.candidate_of (part_of page kind.region before))
-      ⊎ (kind.candidate_of (part_of page kind.region change.before) ≡ None)
+  pub range : Contains kind.void_ranges (range_of change)
+  pub begins : IsOldOrNone kind page before change.before
+  pub leaves : IsOldOrNone kind page before change.after
+
+-- the numbers of erases after a call: that of the region's block is one more where it erased
+abbrev pub erases_after : Geometry → Region → Bool → List ℕ → List ℕ
+erases_after geometry region erased numbers =
+    let block = region.at / geometry.block in
+    if erased then slice_set numbers block (slice_index numbers block + 1) else numbers
+
+-- the call erased the region exactly where f says so of what stood there
+pub record ErasesWhere (region : Region) (f : Image → Bool) (from to : Device) : Type 0 where
+  pub counted :
+      ForSome (content from)
+      (λ before.
+      let erased = f (part_of from.geometry.page region before) in
+      erases to ≡ option_map (erases_after from.geometry region erased) (erases from))

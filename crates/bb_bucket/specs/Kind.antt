@@ -1,8 +1,8 @@
 -- What a bucket means: a region of a device that holds one record, and may be torn.
-use Rattle.std.specs.Prelude.{◌≡◌, ℕ, ◌<◌, ◌≤◌, ◌^◌, ◌++◌, Bool, List, length, take, drop, Option, Some, None}
+use Rattle.std.specs.Prelude.{◌≡◌, ℕ, ◌+◌, ◌≤◌, ◌%◌, ◌++◌, Bool, List, length, take, drop, Option, Some, None, IsTrue}
 use Rattle.bb_flash.specs.declared.geometry.Geometry.{Geometry}
 use Rattle.bb_flash.specs.declared.region.Region.{Region}
-use Rattle.bb_flash.specs.Image.{Image, touched_pages}
+use Rattle.bb_flash.specs.Image.{Image, IsImageOf, touched_pages}
 
 -- the part of an image that lies in a region: its bytes, and the pages in which they stand
 abbrev pub part_of : ℕ → Region → Image → Image
@@ -24,6 +24,12 @@ pub record Kind : Type 0 where
   -- its region after a record was written there, and after it was voided
   pub after_write : List ℕ → Image → Image
   pub after_void : Image → Image
+  -- the ranges of the device that the flash calls of a write may touch, and those of a void
+  pub write_ranges : List ℕ → Image → List Region
+  pub void_ranges : List Region
+  -- whether a write erases its region, and whether a void does
+  pub write_erases : List ℕ → Image → Bool
+  pub void_erases : Bool
 
 pub record Holding : Type 0 where
   pub kind : Kind
@@ -37,9 +43,25 @@ pub record IsBegun (rec : List ℕ) (candidate : Option (List ℕ)) : Type 0 whe
   pub rest : List ℕ
   pub begins : candidate ≡ Some (rec ++ rest)
 
+-- a region lies on a device, in whole pages
+pub record LiesOn (geometry : Geometry) (region : Region) : Type 0 where
+  pub inside : region.at + region.size ≤ geometry.size
+  pub aligned : region.at % geometry.page ≡ 0
+  pub whole : region.size % geometry.page ≡ 0
+
+-- a record that was written to a bucket is its candidate, or begins it, whatever the device held
+-- before
+abbrev pub KeepsRecords : Kind → Geometry → Type 0
+KeepsRecords kind geometry =
+    (rec : List ℕ) (image : Image) →
+    length rec ≤ kind.room →
+    IsImageOf geometry image →
+    IsBegun rec (kind.candidate_of (kind.after_write rec (part_of geometry.page kind.region image)))
+
 -- what holds of every kind
 pub record IsKind (kind : Kind) : Type 0 where
-  -- a record that was written is the candidate, or begins it
-  pub written : (rec : List ℕ) (region : Image) → length rec ≤ kind.room → kind.room < 2 ^ 32 → IsBegun rec (kind.candidate_of (kind.after_write rec region))
+  -- it stands on each device that it serves, and keeps what is written there
+  pub lies : (geometry : Geometry) → IsTrue (kind.serves geometry) → LiesOn geometry kind.region
+  pub written : (geometry : Geometry) → IsTrue (kind.serves geometry) → KeepsRecords kind geometry
   -- nothing stands where a record was voided
   pub voided : (region : Image) → kind.candidate_of (kind.after_void region) ≡ None

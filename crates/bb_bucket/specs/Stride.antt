@@ -1,7 +1,8 @@
--- A stride: a region on a device that is overwritten in place. It begins with the words 0x2354fdf3 and the record's
--- length, both of 4 bytes and little endian, and the record follows (barebox User Manual, State Framework, the
--- backend storage type `direct`; the words' order of bytes is this project's profile).
-use Rattle.std.specs.Prelude.{◌≡◌, ◌≢◌, ℕ, ◌+◌, ◌-◌, ◌≤◌, ◌==◌, Bool, true, false, ◌&&◌, not, nat_le, List, ◌++◌, length, take, drop, replicate, Option, Some, None, is_some, if◌then◌else◌}
+-- A stride: a region on a device that is overwritten in place. It begins with the words 0x2354fdf3
+-- and the record's length, both of 4 bytes and little endian, and the record follows (barebox User
+-- Manual, State Framework, the backend storage type `direct`; the words' order of bytes is this
+-- project's profile).
+use Rattle.std.specs.Prelude.{◌≡◌, ◌≢◌, ℕ, ◌+◌, ◌-◌, ◌≤◌, ◌==◌, Bool, true, false, ◌&&◌, not, nat_le, List, [], ◌∷◌, ◌++◌, length, take, drop, replicate, Option, Some, None, is_some, if◌then◌else◌}
 use Rattle.byteorder.specs.Endian.{little_bytes, little_number}
 use Rattle.bb_flash.specs.declared.geometry.Geometry.{Geometry}
 use Rattle.bb_flash.specs.declared.health.Health.{Health}
@@ -31,7 +32,8 @@ pub record IsStride (region : Region) (entry : List ℕ) : Type 0 where
   pub least : 9 ≤ region.size
   pub memory : length entry ≡ region.size
 
--- these bytes were read at a place of a stride of this size; they are exact, where none of their pages is Lost
+-- these bytes were read at a place of a stride of this size; they are exact, where none of their
+-- pages is Lost
 pub record IsPart (stride : Image) (size at : ℕ) (out : List ℕ) (health : Health) : Type 0 where
   pub size_is : length stride.bytes ≡ size
   pub health_is : health ≡ health_of 1 stride at (length out)
@@ -70,6 +72,10 @@ found_of len Lost = record { len = None; worn = false }
 abbrev pub entry_of : List ℕ → List ℕ
 entry_of rec = little_bytes 4 0x2354fdf3 ++ little_bytes 4 (length rec) ++ rec
 
+-- the first bytes of a stride
+abbrev pub first_bytes : Region → ℕ → Region
+first_bytes stride len = record { at = stride.at; size = len }
+
 -- bytes were written over the first ones of a stride
 abbrev pub begun_with : List ℕ → Image → Image
 begun_with bytes stride = with_bytes 1 0 bytes Fine stride
@@ -83,6 +89,10 @@ stride_kind region = record {
   is_worn = stride_is_worn;
   after_write = λ rec stride. begun_with (entry_of rec) stride;
   after_void = begun_with (replicate 8 0);
+  write_ranges = λ rec stride. first_bytes region (8 + length rec) ∷ [];
+  void_ranges = first_bytes region 8 ∷ [];
+  write_erases = λ rec stride. false;
+  void_erases = false;
 }
 
 -- a stride keeps nothing of its region, and a record always goes to its start

@@ -2,7 +2,7 @@ ghost use Rattle.std.specs.Prelude.{◌≡◌, ◌≤◌, IfOk, IfSome, IsErr, I
 ghost use Rattle.std.specs.Option.{ForSome};
 ghost use Rattle.bb_base.specs.Faults.{HasCause};
 ghost use Rattle.bb_flash.specs.Cuts.{EachTorn, IsLater};
-ghost use Rattle.bb_flash.specs.Device.{IsDevice, ReadKeeps, content, reads};
+ghost use Rattle.bb_flash.specs.Device.{IsDevice, LeavesStarts, ReadKeeps, content, reads};
 
 use bb_base::Failed;
 use bb_flash::{Flash, Region};
@@ -16,12 +16,12 @@ pub struct Found {
     pub worn: bool,
 }
 
-/// A region of a device that holds one record. All calls need a flash of a geometry for which the bucket was made,
-/// and a bucket that agrees with what its region holds; after each call, and each that failed, it agrees again.
-/// A call fails only where the flash's count of faults rose.
+/// A region of a device that holds one record. All calls need a flash of a geometry for which the
+/// bucket was made, and a bucket that agrees with what its region holds; after each call, and each
+/// that failed, it agrees again. A call fails only where the flash's count of faults rose.
 pub trait Bucket {
     ghost use Rattle.bb_bucket.specs.Kind.{Holding, IsKind, part_of};
-    ghost use Rattle.bb_bucket.specs.Calls.{Agrees, EachCall, EndsTorn, IsFound, IsVoidCall, IsWriteCall, Leaves, told_but_reads};
+    ghost use Rattle.bb_bucket.specs.Calls.{Agrees, EachCall, EndsTorn, ErasesWhere, IsFound, IsVoidCall, IsWriteCall, Leaves, told_but_reads};
 
     ghost holding: { Self → Holding };
 
@@ -33,62 +33,85 @@ pub trait Bucket {
     fn room(&self) -> u32
         ensures { result ≡ (holding self.now).kind.room };
 
-    /// Looks for the record, and leaves it at the front of `out`, which has `room` bytes. It changes nothing on the
-    /// device. It fails only where both counts of faults rose; what `out` then holds isn't said.
+    /// Looks for the record, and leaves it at the front of `out`, which has `room` bytes. It
+    /// changes nothing on the device. It fails only where both counts of faults rose; what `out`
+    /// then holds isn't said.
     fn read<F: Flash>(&mut self, flash: &mut F, out: &mut [u8]) -> Result<Found, Failed>
         requires serves { IsTrue ((holding self.old).kind.serves (F.device flash.old).geometry) }
         requires agreed { Agrees (holding self.old) (F.device flash.old) }
         requires room { length out.old ≡ (holding self.old).kind.room }
         ensures done { IfOk result (λ found. ForSome (content (F.device flash.old)) (λ image.
             IsFound (holding self.old).kind
-            (part_of (F.device flash.old).geometry.page (holding self.old).kind.region image) out.new found)) }
-        ensures fits { IfOk result (λ found. IfSome found.len (λ len. len ≤ (holding self.old).kind.room)) }
+            (part_of (F.device flash.old).geometry.page (holding self.old).kind.region image)
+            out.new found)) }
+        ensures fits { IfOk result (λ found.
+            IfSome found.len (λ len. len ≤ (holding self.old).kind.room)) }
         ensures keeps { ReadKeeps (F.device flash.old) (F.device flash.new) }
         ensures told { told_but_reads (F.device flash.new) ≡ told_but_reads (F.device flash.old) }
         ensures later { IsLater (F.device flash.old) (F.device flash.new) }
         ensures whole { IsDevice (F.device flash.new) }
-        ensures faults { HasCause (F.device flash.old).faults (F.device flash.new).faults (IsErr result) }
-        ensures read_faults { HasCause (F.device flash.old).read_faults (F.device flash.new).read_faults (IsErr result) }
+        ensures faults { HasCause (F.device flash.old).faults
+            (F.device flash.new).faults (IsErr result) }
+        ensures read_faults { HasCause (F.device flash.old).read_faults
+            (F.device flash.new).read_faults (IsErr result) }
         ensures kind { (holding self.new).kind ≡ (holding self.old).kind }
         ensures agrees { Agrees (holding self.new) (F.device flash.new) }
         ensures placed { OnOk result (IsTrue (holding self.new).placed) };
 
-    /// Writes a record of at most `room` bytes, which outlives a cut once the call answered Ok. A cut while it goes
-    /// on, and a call that fails, leave nothing changed outside the region.
+    /// Writes a record of at most `room` bytes, which outlives a cut once the call answered Ok. A
+    /// cut while it goes on, and a call that fails, change nothing outside the ranges that the
+    /// bucket's kind names, which lie in the region.
     fn write<F: Flash>(&mut self, flash: &mut F, rec: &[u8]) -> Result<(), Failed>
         requires serves { IsTrue ((holding self.old).kind.serves (F.device flash.old).geometry) }
         requires agreed { Agrees (holding self.old) (F.device flash.old) }
         requires room { length rec.now ≤ (holding self.old).kind.room }
-        ensures done { OnOk result (Leaves (holding self.old).kind.region ((holding self.old).kind.after_write rec.now)
+        ensures done { OnOk result (Leaves (holding self.old).kind.region
+            ((holding self.old).kind.after_write rec.now)
             (F.device flash.old) (F.device flash.new)) }
-        ensures calls { EachCall (IsWriteCall (holding self.old).kind (F.device flash.old).geometry.page rec.now)
+        ensures calls { EachCall
+            (IsWriteCall (holding self.old).kind (F.device flash.old).geometry.page rec.now)
             (F.device flash.old) (F.device flash.new) }
         ensures ends { EndsTorn (F.device flash.old) (F.device flash.new) }
-        ensures images { EachTorn (holding self.old).kind.region.at (holding self.old).kind.region.size
+        ensures images { EachTorn
+            (holding self.old).kind.region.at (holding self.old).kind.region.size
             (F.device flash.old) (F.device flash.new) }
+        ensures erases { OnOk result (ErasesWhere (holding self.old).kind.region
+            ((holding self.old).kind.write_erases rec.now)
+            (F.device flash.old) (F.device flash.new)) }
         ensures later { IsLater (F.device flash.old) (F.device flash.new) }
+        ensures starts { LeavesStarts (F.device flash.old) (F.device flash.new) }
         ensures whole { IsDevice (F.device flash.new) }
-        ensures faults { HasCause (F.device flash.old).faults (F.device flash.new).faults (IsErr result) }
-        ensures reads { IsTrue (holding self.old).placed → reads (F.device flash.new) ≡ reads (F.device flash.old) }
+        ensures faults { HasCause (F.device flash.old).faults
+            (F.device flash.new).faults (IsErr result) }
+        ensures reads { IsTrue (holding self.old).placed →
+            reads (F.device flash.new) ≡ reads (F.device flash.old) }
         ensures kind { (holding self.new).kind ≡ (holding self.old).kind }
         ensures agrees { Agrees (holding self.new) (F.device flash.new) }
         ensures placed { OnOk result (IsTrue (holding self.new).placed) };
 
-    /// Makes the region hold no record, which outlives a cut once the call answered Ok. A cut while it goes on, and
-    /// a call that fails, leave nothing changed outside the region.
+    /// Makes the region hold no record, which outlives a cut once the call answered Ok. A cut while
+    /// it goes on, and a call that fails, change nothing outside the ranges that the bucket's kind
+    /// names, which lie in the region.
     fn void<F: Flash>(&mut self, flash: &mut F) -> Result<(), Failed>
         requires serves { IsTrue ((holding self.old).kind.serves (F.device flash.old).geometry) }
         requires agreed { Agrees (holding self.old) (F.device flash.old) }
-        ensures done { OnOk result (Leaves (holding self.old).kind.region (holding self.old).kind.after_void
-            (F.device flash.old) (F.device flash.new)) }
-        ensures calls { EachCall (IsVoidCall (holding self.old).kind (F.device flash.old).geometry.page)
+        ensures done { OnOk result (Leaves (holding self.old).kind.region
+            (holding self.old).kind.after_void (F.device flash.old) (F.device flash.new)) }
+        ensures calls { EachCall
+            (IsVoidCall (holding self.old).kind (F.device flash.old).geometry.page)
             (F.device flash.old) (F.device flash.new) }
         ensures ends { EndsTorn (F.device flash.old) (F.device flash.new) }
-        ensures images { EachTorn (holding self.old).kind.region.at (holding self.old).kind.region.size
+        ensures images { EachTorn
+            (holding self.old).kind.region.at (holding self.old).kind.region.size
             (F.device flash.old) (F.device flash.new) }
+        ensures erases { OnOk result (ErasesWhere (holding self.old).kind.region
+            (λ region. (holding self.old).kind.void_erases)
+            (F.device flash.old) (F.device flash.new)) }
         ensures later { IsLater (F.device flash.old) (F.device flash.new) }
+        ensures starts { LeavesStarts (F.device flash.old) (F.device flash.new) }
         ensures whole { IsDevice (F.device flash.new) }
-        ensures faults { HasCause (F.device flash.old).faults (F.device flash.new).faults (IsErr result) }
+        ensures faults { HasCause (F.device flash.old).faults
+            (F.device flash.new).faults (IsErr result) }
         ensures kind { (holding self.new).kind ≡ (holding self.old).kind }
         ensures agrees { Agrees (holding self.new) (F.device flash.new) }
         ensures placed { OnOk result (IsTrue (holding self.new).placed) };

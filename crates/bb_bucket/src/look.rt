@@ -28,14 +28,17 @@ pub(crate) fn read_record<F: Flash>(
     requires least { 8 ≤ stride.size }
     requires room { length out.old ≡ stride.size - 8 }
     ensures done { IfOk result (λ found. ForSome (content (F.device flash.old)) (λ image.
-        IsFound (stride_kind stride) (part_of (F.device flash.old).geometry.page stride image) out.new found)) }
+        IsFound (stride_kind stride)
+        (part_of (F.device flash.old).geometry.page stride image) out.new found)) }
     ensures fits { IfOk result (λ found. IfSome found.len (λ len. len ≤ stride.size - 8)) }
     ensures keeps { ReadKeeps (F.device flash.old) (F.device flash.new) }
     ensures told { told_but_reads (F.device flash.new) ≡ told_but_reads (F.device flash.old) }
     ensures later { IsLater (F.device flash.old) (F.device flash.new) }
     ensures whole { IsDevice (F.device flash.new) }
-    ensures faults { HasCause (F.device flash.old).faults (F.device flash.new).faults (IsErr result) }
-    ensures read_faults { HasCause (F.device flash.old).read_faults (F.device flash.new).read_faults (IsErr result) }
+    ensures faults { HasCause (F.device flash.old).faults
+        (F.device flash.new).faults (IsErr result) }
+    ensures read_faults { HasCause (F.device flash.old).read_faults
+        (F.device flash.new).read_faults (IsErr result) }
 {
     let mut front = [0u8; FRONT_LEN as usize];
     let front_health = read_part(flash, stride, 0, &mut front)?;

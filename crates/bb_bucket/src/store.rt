@@ -1,8 +1,8 @@
 ghost use Rattle.std.specs.Prelude.{◌≡◌, ◌≤◌, ◌<◌, ◌+◌, ◌^◌, IsErr, IsTrue, OnOk, length};
 ghost use Rattle.bb_base.specs.Faults.{HasCause};
 ghost use Rattle.bb_flash.specs.Cuts.{EachTorn, IsLater};
-ghost use Rattle.bb_flash.specs.Device.{IsDevice, reads};
-ghost use Rattle.bb_bucket.specs.Calls.{EachCall, EndsTorn, IsVoidCall, IsWriteCall, Leaves};
+ghost use Rattle.bb_flash.specs.Device.{IsDevice, LeavesStarts, reads};
+ghost use Rattle.bb_bucket.specs.Calls.{EachCall, EndsTorn, ErasesWhere, IsVoidCall, IsWriteCall, Leaves};
 ghost use Rattle.bb_bucket.specs.Stride.{holds, stride_kind};
 
 use crate::entry::{FRONT_LEN, write_entry};
@@ -10,8 +10,8 @@ use crate::parts::program_front;
 use bb_base::Failed;
 use bb_flash::{Flash, Region};
 
-/// Writes a record and its front to the start of a stride, by one program. They are put together in `memory`,
-/// which has the stride's size.
+/// Writes a record and its front to the start of a stride, by one program. They are put together in
+/// `memory`, which has the stride's size.
 pub(crate) fn write_record<F: Flash>(
     flash: &mut F,
     stride: Region,
@@ -24,13 +24,18 @@ pub(crate) fn write_record<F: Flash>(
     requires memory { length memory.old ≡ stride.size }
     ensures done { OnOk result (Leaves stride ((stride_kind stride).after_write rec.now)
         (F.device flash.old) (F.device flash.new)) }
-    ensures calls { EachCall (IsWriteCall (stride_kind stride) (F.device flash.old).geometry.page rec.now)
+    ensures calls { EachCall
+        (IsWriteCall (stride_kind stride) (F.device flash.old).geometry.page rec.now)
         (F.device flash.old) (F.device flash.new) }
     ensures ends { EndsTorn (F.device flash.old) (F.device flash.new) }
     ensures images { EachTorn stride.at stride.size (F.device flash.old) (F.device flash.new) }
+    ensures erases { OnOk result (ErasesWhere stride ((stride_kind stride).write_erases rec.now)
+        (F.device flash.old) (F.device flash.new)) }
     ensures later { IsLater (F.device flash.old) (F.device flash.new) }
+    ensures starts { LeavesStarts (F.device flash.old) (F.device flash.new) }
     ensures whole { IsDevice (F.device flash.new) }
-    ensures faults { HasCause (F.device flash.old).faults (F.device flash.new).faults (IsErr result) }
+    ensures faults { HasCause (F.device flash.old).faults
+        (F.device flash.new).faults (IsErr result) }
     ensures reads { reads (F.device flash.new) ≡ reads (F.device flash.old) }
 {
     let entry = &mut memory[..FRONT_LEN as usize + rec.len()];
@@ -48,9 +53,13 @@ pub(crate) fn void_record<F: Flash>(flash: &mut F, stride: Region) -> Result<(),
         (F.device flash.old) (F.device flash.new) }
     ensures ends { EndsTorn (F.device flash.old) (F.device flash.new) }
     ensures images { EachTorn stride.at stride.size (F.device flash.old) (F.device flash.new) }
+    ensures erases { OnOk result (ErasesWhere stride (λ region. (stride_kind stride).void_erases)
+        (F.device flash.old) (F.device flash.new)) }
     ensures later { IsLater (F.device flash.old) (F.device flash.new) }
+    ensures starts { LeavesStarts (F.device flash.old) (F.device flash.new) }
     ensures whole { IsDevice (F.device flash.new) }
-    ensures faults { HasCause (F.device flash.old).faults (F.device flash.new).faults (IsErr result) }
+    ensures faults { HasCause (F.device flash.old).faults
+        (F.device flash.new).faults (IsErr result) }
     ensures reads { reads (F.device flash.new) ≡ reads (F.device flash.old) }
 {
     program_front(flash, stride, &[0; FRONT_LEN as usize])

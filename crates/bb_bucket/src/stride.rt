@@ -11,9 +11,10 @@ use bb_flash::{Flash, Region};
 use std::alloc::Global;
 use std::marker::Model;
 
-/// A bucket on a device that is overwritten in place. Its region begins with 8 bytes in front, the magic word
-/// 0x2354FDF3 and the record's length, both little endian, and the record follows (barebox User Manual, State
-/// Framework, the backend storage type `direct`). It is written by one program. Clauses see the region.
+/// A bucket on a device that is overwritten in place. Its region begins with 8 bytes in front, the
+/// magic word 0x2354FDF3 and the record's length, both little endian, and the record follows
+/// (barebox User Manual, State Framework, the backend storage type `direct`). It is written by one
+/// program. Clauses see the region.
 #[derive(Debug, Drop)]
 pub struct Stride {
     region: Region,

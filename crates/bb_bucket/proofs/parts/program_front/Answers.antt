@@ -1,7 +1,7 @@
 use Rattle.bb_bucket.proofs.OneCall.{ends_torn}
 use Rattle.bb_bucket.proofs.Outcomes.{on_ok_weaker}
 use Rattle.bb_bucket.proofs.Programs.{leaves_program, torn_in_stride}
-use Rattle.bb_bucket.proofs.Within.{held_by}
+use Rattle.bb_bucket.specs.StrideLaws.{held_by}
 use Rattle.bb_bucket.proofs.parts.program_front.Goals as goal
 
 pub returns-clause-done : goal.returns-clause-done

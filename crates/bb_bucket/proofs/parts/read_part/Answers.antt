@@ -2,7 +2,8 @@ use Rattle.std.proofs.Common.{◌∙◌, ◌+◌, ◌≤◌, ap, length, arith}
 use Rattle.bb_flash.specs.declared.geometry.Geometry.{Geometry}
 use Rattle.bb_bucket.proofs.Outcomes.{ok_weaker}
 use Rattle.bb_bucket.proofs.Quiet.{read_but_reads}
-use Rattle.bb_bucket.proofs.Within.{held_by, part_read}
+use Rattle.bb_bucket.specs.StrideLaws.{held_by}
+use Rattle.bb_bucket.proofs.Within.{part_read}
 use Rattle.bb_bucket.proofs.parts.read_part.Goals as goal
 
 pub returns-clause-done : goal.returns-clause-done

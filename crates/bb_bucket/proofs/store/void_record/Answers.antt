@@ -1,8 +1,9 @@
-use Rattle.std.proofs.Common.{refl}
-use Rattle.bb_bucket.specs.Stride.{stride_kind}
-use Rattle.bb_bucket.proofs.OneCall.{one_void_call}
+use Rattle.bb_bucket.specs.StrideLaws.{held_by}
+use Rattle.bb_bucket.proofs.StrideCalls.{void_calls}
 use Rattle.bb_bucket.proofs.store.void_record.Goals as goal
 
 pub returns-clause-calls : goal.returns-clause-calls
 returns-clause-calls g c =
-    one_void_call (stride_kind c.args.stride) _ _ _ _ _ refl c.requires.least c.program_front.ensures.changes
+    let held = held_by c.args.stride (g.F.Flash.device c.args.flash.now).geometry c.requires.held in
+    let made = c.program_front.ensures in
+    void_calls c.args.stride _ _ held c.requires.least made.later made.whole made.changes

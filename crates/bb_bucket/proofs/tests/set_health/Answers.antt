@@ -1,6 +1,6 @@
 use Rattle.std.proofs.Common.{◌*◌, ◌<◌, sym, subst, arith}
 use Rattle.bb_flash.specs.declared.region.Region.{Region}
-use Rattle.bb_bucket.proofs.Within.{held_by}
+use Rattle.bb_bucket.specs.StrideLaws.{held_by}
 use Rattle.bb_bucket.proofs.tests.set_health.Goals as goal
 
 pub set_health-requires : goal.set_health-requires
