@@ -1,0 +1,236 @@
+-- All copies, once each is settled.
+use Rattle.std.proofs.Common.{◌≡◌, ◌≢◌, ◌⊎◌, ◌∙◌, ℕ, zero, suc, ◌+◌, ◌<◌, ◌≤◌, Bool, true, false, not, cond, get_or, is_some, MatchOption, List, [], ◌∷◌, length, set, Option, Some, None, count_by, option_map, ap, sym, subst, arith, refl, inl, inr, get_or-set_other, get_or-set_same}
+use Rattle.std.specs.Prelude.{slice_get}
+use Rattle.std.specs.Option.{ForSome}
+use Rattle.std.proofs.lemmas.List.{get_or_past}
+use Rattle.std.proofs.lemmas.List.Sums.{get_or-le-sum_by, sum_by-cons, sum_by-set}
+use Rattle.std.proofs.lemmas.Option.{slice_get_within}
+use Rattle.bb_base.specs.Faults.{Rose}
+use Rattle.bb_base.specs.Form.{Form}
+use Rattle.bb_flash.specs.Cuts.{EachImage, IsLater}
+use Rattle.bb_flash.specs.Device.{Device, Told, content}
+use Rattle.bb_flash.specs.Image.{Image}
+use Rattle.bb_flash.proofs.Moments.{images_joined}
+use Rattle.bb_bucket.specs.Kind.{Kind}
+use Rattle.bb_copies.specs.Buckets.{EachCopy}
+use Rattle.bb_copies.specs.Looking.{IsFirst}
+use Rattle.bb_copies.specs.Passing.{passing_of, passings}
+use Rattle.bb_copies.specs.Refreshing.{AllHeld, AllSettled, AllWritten, IsFirstMarked, IsSettledAt, IsUntouched, IsWrittenAt, KeepsMarked, LeavesOthers, NeverEmpty, NoOther, held, is_marked}
+use Rattle.bb_copies.specs.Settling.{IsUndisturbed, RoseBy}
+use Rattle.bb_copies.specs.StandsFor.{SomePasses}
+use Rattle.bb_copies.proofs.Below.{kind_inside, leaves_still, passes_still, still_leaves}
+use Rattle.bb_copies.proofs.Many.{same_or_not, same_passing}
+use Rattle.bb_copies.proofs.Passed.{some_passes}
+use Rattle.bb_copies.proofs.Runs.{untouched_joined}
+
+-- ---- marks
+
+below_or_past : (m n : ℕ) → (m < n) ⊎ (n ≤ m)
+below_or_past m zero = inr (omega arith)
+below_or_past zero (suc n) = inl (omega arith)
+below_or_past (suc m) (suc n) = elim (below_or_past m n) [ inl h ↦ inl (omega arith) | inr h ↦ inr (omega arith) ]
+
+pub true_or_false : (b : Bool) → (b ≡ true) ⊎ (b ≡ false)
+true_or_false true = inl refl
+true_or_false false = inr refl
+
+pub unmarked_counts : (good : List Bool) (copy : ℕ) → copy < length good → is_marked good copy ≡ false → 1 ≤ count_by not good
+unmarked_counts good copy inside mark =
+    let count : Bool → ℕ = λ x. cond (not x) 1 0 in
+    let here : count (get_or good copy false) ≡ 1 = ap count mark in
+    let less : count (get_or good copy false) ≤ count_by not good = get_or-le-sum_by count good copy false inside in
+    omega (arith, here, less)
+
+marked_inside : (good : List Bool) (copy : ℕ) → is_marked good copy ≡ true → copy < length good
+marked_inside good copy mark = elim (below_or_past copy (length good)) [
+  | inl low ↦ low
+  | inr past ↦ let none = get_or_past good copy false past in absurd cc
+]
+
+pub set_counts : (good : List Bool) (copy : ℕ) → is_marked good copy ≡ true → count_by not (set good copy false) ≡ count_by not good + 1
+set_counts good copy mark =
+    let count : Bool → ℕ = λ x. cond (not x) 1 0 in
+    let here : count (get_or good copy false) ≡ 0 = ap count mark in
+    let sum : count_by not (set good copy false) + count (get_or good copy false) ≡ count_by not good + 1 = sum_by-set count good copy false false (marked_inside good copy mark) in
+    omega (arith, here, sum)
+
+set_again : (good : List Bool) (copy : ℕ) → is_marked good copy ≡ true → set good copy true ≡ good
+set_again [] copy mark = refl
+set_again (b ∷ good) zero mark = ap (λ x. x ∷ good) (sym mark)
+set_again (b ∷ good) (suc copy) mark = ap (λ xs. b ∷ xs) (set_again good copy mark)
+
+-- ---- some copy passes in every image
+
+pub spares_by : (form : Form) (kinds : List Kind) (copy : ℕ) (kind : Kind) (area : List ℕ) (from to : Device) → slice_get kinds copy ≡ Some kind → IsUntouched kind from to → ForSome (content from) (λ image. passing_of form from.geometry.page kind image ≡ Some area) → NeverEmpty form kinds from to
+spares_by form kinds copy kind area from to e untouched passes = record {
+  each = λ first f last h image cut.
+      let page : ℕ = from.geometry.page in
+      let held_map : Told → Image = λ t. t.image in
+      let old = passes first.image (ap (option_map held_map) f) in
+      let kept = same_passing form page kind first.image image (untouched.each first f last h image cut) in
+      some_passes (λ k. passing_of form page k image) kinds copy kind area e (kept ∙ old);
+}
+
+pub never_joined : (form : Form) (kinds : List Kind) (one two three : Device) → IsLater one two → IsLater two three → NeverEmpty form kinds one two → NeverEmpty form kinds two three → NeverEmpty form kinds one three
+never_joined form kinds one two three h k first second =
+    let page : ℕ = one.geometry.page in
+    let some : Image → Image → Type 0 = λ before image. SomePasses (passings form page kinds image) in
+    images_joined some some some one two three (λ x y s. s) (λ x y z s t. t) h k first
+    (subst (λ (p : ℕ). EachImage (λ before image. SomePasses (passings form p kinds image)) two three) (ap (λ geo. geo.page) h.geometry) second)
+
+-- ---- after the others were settled
+
+-- the copies that were marked before passed the area
+pub MarkedPass : Form → List Kind → List ℕ → List Bool → Device → Type 0
+MarkedPass form kinds area marked device = EachCopy kinds (λ copy kind. is_marked marked copy ≡ true → ForSome (content device) (λ image. passing_of form device.geometry.page kind image ≡ Some area))
+
+pub first_marked : (form : Form) (kinds : List Kind) (area : List ℕ) (good : List Bool) (bound used : ℕ) (device : Device) → bound ≡ length kinds → ForSome (content device) (λ image. IsFirst form device.geometry.page kinds bound area good image used) → MarkedPass form kinds area (set good used true) device
+unfolding MarkedPass
+first_marked form kinds area good bound used device many first = λ copy kind e mark image f. elim (same_or_not copy used) [
+  | inl same ↦ (first image f).passes copy kind e same
+  | inr other ↦
+      let fresh : is_marked good copy ≡ true = sym (get_or-set_other good used copy true false other) ∙ mark in
+      (((first image f).fresh copy kind e (omega (arith, slice_get_within kinds copy kind e, many))).0 fresh).passes
+]
+
+-- the used copy isn't touched while the others are settled
+pub used_spares : (form : Form) (kinds : List Kind) (area : List ℕ) (good : List Bool) (bound used : ℕ) (from to : Device) → bound ≡ length kinds → used < bound → used < length good → ForSome (content from) (λ image. IsFirst form from.geometry.page kinds bound area good image used) → KeepsMarked kinds (set good used true) from to → NeverEmpty form kinds from to
+used_spares form kinds area good bound used from to many low inside first kept =
+    let there = kind_inside kinds used (omega (arith, many)) in
+    spares_by form kinds used there.0 area from to there.1 (kept used there.0 there.1 (get_or-set_same good used true false inside)) (λ image f. (first image f).passes used there.0 there.1 refl)
+
+pub none_of_match : {X : Type 0} (r : Option X) (P : Type 0) (Q : X → Type 0) → MatchOption r P Q → is_some r ≡ false → P
+none_of_match None P Q h e = h
+none_of_match (Some x) P Q h e = absurd cc
+
+pub some_of_match : {X : Type 0} (r : Option X) (P : Type 0) (Q : X → Type 0) → MatchOption r P Q → is_some r ≡ true → (x : X) × Q x
+some_of_match None P Q h e = absurd cc
+some_of_match (Some x) P Q h e = (x, h)
+
+pub held_all : (form : Form) (kinds : List Kind) (area : List ℕ) (marked good : List Bool) (from to : Device) → IsLater from to → MarkedPass form kinds area marked from → KeepsMarked kinds marked from to → AllSettled form kinds area marked good from to → AllHeld form kinds area good from to
+unfolding MarkedPass
+held_all form kinds area marked good from to later before kept settled = record {
+  each = λ copy kind e. elim (true_or_false (is_marked marked copy)) [
+    | inr fresh ↦ settled.each copy kind e fresh
+    | inl mark ↦
+        subst (λ (b : Bool). ForSome (content to) (λ image. passing_of form from.geometry.page kind image ≡ held area b)) (sym (settled.stays copy mark))
+        (passes_still form kind from.geometry.page (Some area) from to refl later (kept copy kind e mark) (before copy kind e mark))
+  ];
+  dead = settled.dead;
+}
+
+-- ---- after the used one was settled too
+
+pub dead_set : (good : List Bool) (used : ℕ) (g : Bool) (one two three : Device) → is_marked good used ≡ true → IsLater two three → (g ≡ false → Rose two.faults three.faults) → RoseBy (count_by not good) one.faults two.faults → RoseBy (count_by not (set good used g)) one.faults three.faults
+dead_set good used true one two three mark k cause rose =
+    let later = k.faults in
+    subst (λ (xs : List Bool). RoseBy (count_by not xs) one.faults three.faults) (sym (set_again good used mark)) (omega (arith, rose, later))
+dead_set good used false one two three mark k cause rose =
+    let more = cause refl in
+    subst (λ (n : ℕ). RoseBy n one.faults three.faults) (sym (set_counts good used mark)) (omega (arith, rose, more))
+
+pub held_more : (form : Form) (kinds : List Kind) (area : List ℕ) (good : List Bool) (used : ℕ) (g : Bool) (from mid to : Device) → used < length good → is_marked good used ≡ true → IsLater from mid → IsLater mid to → AllHeld form kinds area good from mid → LeavesOthers kinds used mid to → IsSettledAt form kinds area used mid to g → AllHeld form kinds area (set good used g) from to
+held_more form kinds area good used g from mid to inside mark h k before others settled =
+    let page : mid.geometry.page ≡ from.geometry.page = ap (λ geo. geo.page) h.geometry in
+    record {
+      each = λ copy kind e. elim (same_or_not copy used) [
+        | inl same ↦
+            let now : is_marked (set good used g) copy ≡ g = ap (is_marked (set good used g)) same ∙ get_or-set_same good used g false inside in
+            subst (λ (b : Bool). ForSome (content to) (λ image. passing_of form from.geometry.page kind image ≡ held area b)) (sym now)
+            (subst (λ (p : ℕ). ForSome (content to) (λ image. passing_of form p kind image ≡ held area g)) page (settled.passes copy kind e same))
+        | inr other ↦
+            let now : is_marked (set good used g) copy ≡ is_marked good copy = get_or-set_other good used copy g false other in
+            subst (λ (b : Bool). ForSome (content to) (λ image. passing_of form from.geometry.page kind image ≡ held area b)) (sym now)
+            (passes_still form kind from.geometry.page (held area (is_marked good copy)) mid to page k (others copy kind e other) (before.each copy kind e))
+      ];
+      dead = dead_set good used g from mid to mark k settled.cause before.dead;
+    }
+
+-- a copy other than the used one is good, so that some copy passes while the used one is settled
+pub spares_other : (form : Form) (kinds : List Kind) (area : List ℕ) (good : List Bool) (used copy : ℕ) (from mid to : Device) → IsLater from mid → length good ≡ length kinds → IsFirstMarked good used copy → AllHeld form kinds area good from mid → LeavesOthers kinds used mid to → NeverEmpty form kinds mid to
+spares_other form kinds area good used copy from mid to h many first before others =
+    let there = kind_inside kinds copy (omega (arith, first.inside)) in
+    let page : mid.geometry.page ≡ from.geometry.page = ap (λ geo. geo.page) h.geometry in
+    let passes : ForSome (content mid) (λ image. passing_of form from.geometry.page there.0 image ≡ Some area) = subst (λ (b : Bool). ForSome (content mid) (λ image. passing_of form from.geometry.page there.0 image ≡ held area b)) first.marked (before.each copy there.0 there.1) in
+    spares_by form kinds copy there.0 area mid to there.1 (others copy there.0 there.1 first.other)
+    (subst (λ (p : ℕ). ForSome (content mid) (λ image. passing_of form p there.0 image ≡ Some area)) (sym page) passes)
+
+-- ---- where no call failed
+
+other_of : (n used : ℕ) → 2 ≤ n → (copy : ℕ) × (copy < n) × (copy ≢ used)
+other_of n zero many = (1, omega arith, λ e. absurd (omega arith))
+other_of n (suc used) many = (0, omega arith, λ e. absurd (omega arith))
+
+-- no copy is dead, so that another is good
+pub quiet_other : (form : Form) (kinds : List Kind) (area : List ℕ) (good : List Bool) (used : ℕ) (from to : Device) → 2 ≤ length good → NoOther good used → AllHeld form kinds area good from to → IsUndisturbed from to → ⊥
+quiet_other form kinds area good used from to many none all quiet =
+    let other = other_of (length good) used many in
+    let some = unmarked_counts good other.0 other.1 (none other.0 other.1 other.2) in
+    let dead = all.dead in
+    quiet (omega (arith, some, dead))
+
+pub written_others : (kinds : List Kind) (rec : List ℕ) (good : List Bool) (used : ℕ) (from mid to : Device) → IsLater from mid → IsLater mid to → KeepsMarked kinds (set good used true) from mid → AllWritten kinds rec (set good used true) from mid → LeavesOthers kinds used mid to → IsWrittenAt kinds used rec mid to → used < length good → AllWritten kinds rec good from to
+written_others kinds rec good used from mid to h k kept written others last inside = record {
+  each = λ copy kind e fresh. elim (same_or_not copy used) [
+    | inl same ↦
+        let mark : is_marked (set good used true) copy ≡ true = ap (is_marked (set good used true)) same ∙ get_or-set_same good used true false inside in
+        still_leaves kind (kind.after_write rec) from mid to h k (kept copy kind e mark) (last copy kind e same).leaves
+    | inr other ↦
+        let new : is_marked (set good used true) copy ≡ false = get_or-set_other good used copy true false other ∙ fresh in
+        leaves_still kind (kind.after_write rec) from mid to h k (others copy kind e other) (written.each copy kind e new)
+  ];
+}
+
+pub kept_others : (kinds : List Kind) (good : List Bool) (used : ℕ) (from mid to : Device) → IsLater from mid → IsLater mid to → is_marked good used ≡ false → KeepsMarked kinds (set good used true) from mid → LeavesOthers kinds used mid to → KeepsMarked kinds good from to
+kept_others kinds good used from mid to h k stale kept others = λ copy kind e mark.
+    let other : copy ≢ used = λ same. let clash : is_marked good used ≡ true = ap (is_marked good) (sym same) ∙ mark in absurd cc in
+    untouched_joined kind from mid to h k (kept copy kind e (get_or-set_other good used copy true false other ∙ mark)) (others copy kind e other)
+
+-- where the used one is fresh, or there is no other
+pub kept_marked : (kinds : List Kind) (good : List Bool) (used : ℕ) (from to : Device) → used < length good → KeepsMarked kinds (set good used true) from to → KeepsMarked kinds good from to
+kept_marked kinds good used from to inside kept = λ copy kind e mark. kept copy kind e (elim (same_or_not copy used) [
+  | inl same ↦ ap (is_marked (set good used true)) same ∙ get_or-set_same good used true false inside
+  | inr other ↦ get_or-set_other good used copy true false other ∙ mark
+])
+
+pub written_fresh : (kinds : List Kind) (rec : List ℕ) (good : List Bool) (used : ℕ) (from to : Device) → is_marked good used ≡ true → AllWritten kinds rec (set good used true) from to → AllWritten kinds rec good from to
+written_fresh kinds rec good used from to mark written = record {
+  each = λ copy kind e fresh.
+      let other : copy ≢ used = λ same. let clash : is_marked good used ≡ false = ap (is_marked good) (sym same) ∙ fresh in absurd cc in
+      written.each copy kind e (get_or-set_other good used copy true false other ∙ fresh);
+}
+
+-- ---- a save over a used copy
+
+one_dead : (g : Bool) (good : List Bool) → g ≡ false → count_by not (g ∷ good) ≡ 1 + count_by not good
+one_dead g good mark =
+    let other : Bool → ℕ = λ x. cond (not x) 1 0 in
+    let here : other g ≡ 1 = ap other mark in
+    sum_by-cons other g good ∙ ap (λ n. n + count_by not good) here
+
+no_fewer : (g : Bool) (good : List Bool) → count_by not good ≤ count_by not (g ∷ good)
+no_fewer g good =
+    let other : Bool → ℕ = λ x. cond (not x) 1 0 in
+    let sum : count_by not (g ∷ good) ≡ other g + count_by not good = sum_by-cons other g good in
+    omega (arith, sum)
+
+pub none_live : (good : List Bool) → ((copy : ℕ) → copy < length good → is_marked good copy ≡ false) → length good ≤ count_by not good
+none_live [] none = omega arith
+none_live (g ∷ good) none =
+    let rest = none_live good (λ copy low. none (suc copy) (omega arith)) in
+    let here = one_dead g good (none 0 (omega arith)) in
+    let size : length (g ∷ good) ≡ length good + 1 = omega arith in
+    omega (arith, rest, here, size)
+
+pub few_live : (good : List Bool) (used : ℕ) → NoOther good used → length good ≤ count_by not good + 1
+few_live [] used none = omega arith
+few_live (g ∷ good) zero none =
+    let rest = none_live good (λ copy low. none (suc copy) (omega arith) (λ e. absurd (omega arith))) in
+    let more = no_fewer g good in
+    let size : length (g ∷ good) ≡ length good + 1 = omega arith in
+    omega (arith, rest, more, size)
+few_live (g ∷ good) (suc used) none =
+    let rest = few_live good used (λ copy low other. none (suc copy) (omega arith) (λ e. other (omega arith))) in
+    let here = one_dead g good (none 0 (omega arith) (λ e. absurd (omega arith))) in
+    let size : length (g ∷ good) ≡ length good + 1 = omega arith in
+    omega (arith, rest, here, size)

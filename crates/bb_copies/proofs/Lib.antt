@@ -1,0 +1,19 @@
+mod Examples
+pub mod Calls
+pub mod Ends
+pub mod Finding
+pub mod Held
+pub mod History
+pub mod Loads
+pub mod Many
+pub mod Marks
+pub mod OneCopy
+pub mod Below
+pub mod Passed
+pub mod Places
+pub mod Runs
+pub mod Saves
+pub mod Settled
+pub mod Chronicle
+pub mod Trails
+pub mod WorkedContents

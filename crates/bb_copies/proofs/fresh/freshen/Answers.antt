@@ -1,0 +1,450 @@
+use Rattle.std.proofs.Common.{◌≡◌, ◌∙◌, ℕ, ◌<◌, Bool, true, false, List, Err, IfErr, length, set, length-set, MatchOption, get_or-set_same, get_or-set_other, not, ap, sym, subst, arith}
+use Rattle.std.proofs.lemmas.List.{get_or_read, length-map}
+use Rattle.std.proofs.lemmas.Result.{err_from_is_err_and}
+use Rattle.bb_base.specs.Form.{Form}
+use Rattle.bb_flash.specs.Device.{Device}
+use Rattle.bb_bucket.specs.Kind.{Kind}
+use Rattle.bb_copies.specs.Buckets.{kinds_of}
+use Rattle.bb_copies.specs.Refreshing.{AllHeld, IsFirstMarked, IsSettledAt, IsStuckAt, IsWrittenAt, LeavesOthers, NoOther, Refreshes}
+use Rattle.bb_copies.proofs.Below.{stuck_earlier, stuck_rose}
+use Rattle.bb_copies.proofs.Held.{first_marked, held_all, held_more, kept_marked, kept_others, never_joined, none_of_match, quiet_other, some_of_match, spares_other, used_spares, written_fresh, written_others}
+use Rattle.bb_copies.proofs.Runs.{refreshes_joined, undisturbed_first, undisturbed_second}
+use Rattle.bb_copies.proofs.fresh.freshen.Goals as goal
+
+pub returns-in_err-refresh-clause-spares : goal.returns-in_err-refresh-clause-spares
+returns-in_err-refresh-clause-spares g c =
+    let form : Form = g.M.Format.form c.args.format.now in
+    let kinds : List Kind = kinds_of g.B.Bucket.holding c.args.buckets.now.items in
+    let area : List ℕ = c.args.area.now in
+    let rec : List ℕ = c.args.room.now.record.items in
+    let good : List Bool = c.args.good.now.items in
+    let used : ℕ = c.args.used in
+    let from : Device = g.F.Flash.device c.args.flash.now in
+    let mid : Device = g.F.Flash.device c.refresh.new.flash in
+    let r = c.refresh.ensures in
+    let many : length c.args.buckets.now.items ≡ length kinds = sym (length-map c.args.buckets.now.items _) in
+    let inside : used < length good = omega (arith, c.requires.inside, c.requires.marks) in
+    used_spares form kinds area good (length c.args.buckets.now.items) used from mid many c.requires.inside inside c.requires.first r.kept
+
+pub returns-in_err-refresh-clause-kept : goal.returns-in_err-refresh-clause-kept
+returns-in_err-refresh-clause-kept g c =
+    let form : Form = g.M.Format.form c.args.format.now in
+    let kinds : List Kind = kinds_of g.B.Bucket.holding c.args.buckets.now.items in
+    let area : List ℕ = c.args.area.now in
+    let rec : List ℕ = c.args.room.now.record.items in
+    let good : List Bool = c.args.good.now.items in
+    let used : ℕ = c.args.used in
+    let from : Device = g.F.Flash.device c.args.flash.now in
+    let mid : Device = g.F.Flash.device c.refresh.new.flash in
+    let r = c.refresh.ensures in
+    let many : length c.args.buckets.now.items ≡ length kinds = sym (length-map c.args.buckets.now.items _) in
+    let inside : used < length good = omega (arith, c.requires.inside, c.requires.marks) in
+    λ quiet. absurd (quiet (stuck_rose form kinds area c.in_err-refresh.field-0.0 from mid c.in_err-refresh.ensures.stuck))
+
+pub returns-in_err-refresh-clause-exact : goal.returns-in_err-refresh-clause-exact
+returns-in_err-refresh-clause-exact g c =
+    let form : Form = g.M.Format.form c.args.format.now in
+    let kinds : List Kind = kinds_of g.B.Bucket.holding c.args.buckets.now.items in
+    let area : List ℕ = c.args.area.now in
+    let rec : List ℕ = c.args.room.now.record.items in
+    let good : List Bool = c.args.good.now.items in
+    let used : ℕ = c.args.used in
+    let from : Device = g.F.Flash.device c.args.flash.now in
+    let mid : Device = g.F.Flash.device c.refresh.new.flash in
+    let r = c.refresh.ensures in
+    let many : length c.args.buckets.now.items ≡ length kinds = sym (length-map c.args.buckets.now.items _) in
+    let inside : used < length good = omega (arith, c.requires.inside, c.requires.marks) in
+    λ quiet. absurd (quiet (stuck_rose form kinds area c.in_err-refresh.field-0.0 from mid c.in_err-refresh.ensures.stuck))
+
+pub returns-then-fresh-clause-spares : goal.returns-then-fresh-clause-spares
+returns-then-fresh-clause-spares g c =
+    let form : Form = g.M.Format.form c.args.format.now in
+    let kinds : List Kind = kinds_of g.B.Bucket.holding c.args.buckets.now.items in
+    let area : List ℕ = c.args.area.now in
+    let rec : List ℕ = c.args.room.now.record.items in
+    let good : List Bool = c.args.good.now.items in
+    let used : ℕ = c.args.used in
+    let from : Device = g.F.Flash.device c.args.flash.now in
+    let mid : Device = g.F.Flash.device c.refresh.new.flash in
+    let r = c.refresh.ensures in
+    let many : length c.args.buckets.now.items ≡ length kinds = sym (length-map c.args.buckets.now.items _) in
+    let inside : used < length good = omega (arith, c.requires.inside, c.requires.marks) in
+    used_spares form kinds area good (length c.args.buckets.now.items) used from mid many c.requires.inside inside c.requires.first r.kept
+
+pub returns-then-fresh-clause-held : goal.returns-then-fresh-clause-held
+returns-then-fresh-clause-held g c =
+    let form : Form = g.M.Format.form c.args.format.now in
+    let kinds : List Kind = kinds_of g.B.Bucket.holding c.args.buckets.now.items in
+    let area : List ℕ = c.args.area.now in
+    let rec : List ℕ = c.args.room.now.record.items in
+    let good : List Bool = c.args.good.now.items in
+    let used : ℕ = c.args.used in
+    let from : Device = g.F.Flash.device c.args.flash.now in
+    let mid : Device = g.F.Flash.device c.refresh.new.flash in
+    let r = c.refresh.ensures in
+    let many : length c.args.buckets.now.items ≡ length kinds = sym (length-map c.args.buckets.now.items _) in
+    let inside : used < length good = omega (arith, c.requires.inside, c.requires.marks) in
+    let all : AllHeld form kinds area c.refresh.new.good.items from mid =
+    held_all form kinds area (set good used true) c.refresh.new.good.items from mid r.refreshes.later (first_marked form kinds area good (length c.args.buckets.now.items) used from many c.requires.first) r.kept c.in_ok-refresh.ensures.settled in
+    all
+
+pub returns-then-fresh-clause-kept : goal.returns-then-fresh-clause-kept
+returns-then-fresh-clause-kept g c =
+    let form : Form = g.M.Format.form c.args.format.now in
+    let kinds : List Kind = kinds_of g.B.Bucket.holding c.args.buckets.now.items in
+    let area : List ℕ = c.args.area.now in
+    let rec : List ℕ = c.args.room.now.record.items in
+    let good : List Bool = c.args.good.now.items in
+    let used : ℕ = c.args.used in
+    let from : Device = g.F.Flash.device c.args.flash.now in
+    let mid : Device = g.F.Flash.device c.refresh.new.flash in
+    let r = c.refresh.ensures in
+    let many : length c.args.buckets.now.items ≡ length kinds = sym (length-map c.args.buckets.now.items _) in
+    let inside : used < length good = omega (arith, c.requires.inside, c.requires.marks) in
+    λ quiet. kept_marked kinds good used from mid inside r.kept
+
+pub returns-then-is_none-clause-spares : goal.returns-then-is_none-clause-spares
+returns-then-is_none-clause-spares g c =
+    let form : Form = g.M.Format.form c.args.format.now in
+    let kinds : List Kind = kinds_of g.B.Bucket.holding c.args.buckets.now.items in
+    let area : List ℕ = c.args.area.now in
+    let rec : List ℕ = c.args.room.now.record.items in
+    let good : List Bool = c.args.good.now.items in
+    let used : ℕ = c.args.used in
+    let from : Device = g.F.Flash.device c.args.flash.now in
+    let mid : Device = g.F.Flash.device c.refresh.new.flash in
+    let r = c.refresh.ensures in
+    let many : length c.args.buckets.now.items ≡ length kinds = sym (length-map c.args.buckets.now.items _) in
+    let inside : used < length good = omega (arith, c.requires.inside, c.requires.marks) in
+    used_spares form kinds area good (length c.args.buckets.now.items) used from mid many c.requires.inside inside c.requires.first r.kept
+
+pub returns-then-is_none-clause-held : goal.returns-then-is_none-clause-held
+returns-then-is_none-clause-held g c =
+    let form : Form = g.M.Format.form c.args.format.now in
+    let kinds : List Kind = kinds_of g.B.Bucket.holding c.args.buckets.now.items in
+    let area : List ℕ = c.args.area.now in
+    let rec : List ℕ = c.args.room.now.record.items in
+    let good : List Bool = c.args.good.now.items in
+    let used : ℕ = c.args.used in
+    let from : Device = g.F.Flash.device c.args.flash.now in
+    let mid : Device = g.F.Flash.device c.refresh.new.flash in
+    let r = c.refresh.ensures in
+    let many : length c.args.buckets.now.items ≡ length kinds = sym (length-map c.args.buckets.now.items _) in
+    let inside : used < length good = omega (arith, c.requires.inside, c.requires.marks) in
+    let all : AllHeld form kinds area c.refresh.new.good.items from mid =
+    held_all form kinds area (set good used true) c.refresh.new.good.items from mid r.refreshes.later (first_marked form kinds area good (length c.args.buckets.now.items) used from many c.requires.first) r.kept c.in_ok-refresh.ensures.settled in
+    all
+
+pub returns-then-is_none-clause-kept : goal.returns-then-is_none-clause-kept
+returns-then-is_none-clause-kept g c =
+    let form : Form = g.M.Format.form c.args.format.now in
+    let kinds : List Kind = kinds_of g.B.Bucket.holding c.args.buckets.now.items in
+    let area : List ℕ = c.args.area.now in
+    let rec : List ℕ = c.args.room.now.record.items in
+    let good : List Bool = c.args.good.now.items in
+    let used : ℕ = c.args.used in
+    let from : Device = g.F.Flash.device c.args.flash.now in
+    let mid : Device = g.F.Flash.device c.refresh.new.flash in
+    let r = c.refresh.ensures in
+    let many : length c.args.buckets.now.items ≡ length kinds = sym (length-map c.args.buckets.now.items _) in
+    let inside : used < length good = omega (arith, c.requires.inside, c.requires.marks) in
+    λ quiet. kept_marked kinds good used from mid inside r.kept
+
+pub returns-then-fresh-clause-exact : goal.returns-then-fresh-clause-exact
+returns-then-fresh-clause-exact g c =
+    let form : Form = g.M.Format.form c.args.format.now in
+    let kinds : List Kind = kinds_of g.B.Bucket.holding c.args.buckets.now.items in
+    let area : List ℕ = c.args.area.now in
+    let rec : List ℕ = c.args.room.now.record.items in
+    let good : List Bool = c.args.good.now.items in
+    let used : ℕ = c.args.used in
+    let from : Device = g.F.Flash.device c.args.flash.now in
+    let mid : Device = g.F.Flash.device c.refresh.new.flash in
+    let r = c.refresh.ensures in
+    let many : length c.args.buckets.now.items ≡ length kinds = sym (length-map c.args.buckets.now.items _) in
+    let inside : used < length good = omega (arith, c.requires.inside, c.requires.marks) in
+    let mark = sym (get_or_read good used _ inside c.index-fresh.ensures false) ∙ c.if-fresh.true in
+    λ quiet. written_fresh kinds rec good used from mid mark (r.exact quiet)
+
+pub returns-then-is_none-clause-exact : goal.returns-then-is_none-clause-exact
+returns-then-is_none-clause-exact g c =
+    let form : Form = g.M.Format.form c.args.format.now in
+    let kinds : List Kind = kinds_of g.B.Bucket.holding c.args.buckets.now.items in
+    let area : List ℕ = c.args.area.now in
+    let rec : List ℕ = c.args.room.now.record.items in
+    let good : List Bool = c.args.good.now.items in
+    let used : ℕ = c.args.used in
+    let from : Device = g.F.Flash.device c.args.flash.now in
+    let mid : Device = g.F.Flash.device c.refresh.new.flash in
+    let r = c.refresh.ensures in
+    let many : length c.args.buckets.now.items ≡ length kinds = sym (length-map c.args.buckets.now.items _) in
+    let inside : used < length good = omega (arith, c.requires.inside, c.requires.marks) in
+    let all : AllHeld form kinds area c.refresh.new.good.items from mid =
+    held_all form kinds area (set good used true) c.refresh.new.good.items from mid r.refreshes.later (first_marked form kinds area good (length c.args.buckets.now.items) used from many c.requires.first) r.kept c.in_ok-refresh.ensures.settled in
+    let none : NoOther c.refresh.new.good.items used = none_of_match c.first_good.result (NoOther c.refresh.new.good.items used) (IsFirstMarked c.refresh.new.good.items used) (subst (λ (xs : List Bool). MatchOption c.first_good.result (NoOther xs used) (IsFirstMarked xs used)) c.deref.ensures.value c.first_good.ensures) (c.is_none.ensures ∙ ap not c.if-is_none.true) in
+    λ quiet. absurd (quiet_other form kinds area c.refresh.new.good.items used from mid (omega (arith, c.requires.many, c.requires.marks, r.marks, length-set good used true)) none all quiet)
+
+pub returns-in_err-good-clause-refreshes : goal.returns-in_err-good-clause-refreshes
+returns-in_err-good-clause-refreshes g c =
+    let form : Form = g.M.Format.form c.args.format.now in
+    let kinds : List Kind = kinds_of g.B.Bucket.holding c.args.buckets.now.items in
+    let area : List ℕ = c.args.area.now in
+    let rec : List ℕ = c.args.room.now.record.items in
+    let good : List Bool = c.args.good.now.items in
+    let used : ℕ = c.args.used in
+    let from : Device = g.F.Flash.device c.args.flash.now in
+    let mid : Device = g.F.Flash.device c.refresh.new.flash in
+    let r = c.refresh.ensures in
+    let many : length c.args.buckets.now.items ≡ length kinds = sym (length-map c.args.buckets.now.items _) in
+    let inside : used < length good = omega (arith, c.requires.inside, c.requires.marks) in
+    let to : Device = g.F.Flash.device c.settle_copy.new.flash in
+    let s = c.settle_copy.ensures in
+    let others : LeavesOthers kinds used mid to = subst (λ (ks : List Kind). LeavesOthers ks used mid to) r.kinds s.others in
+    refreshes_joined form kinds area from mid to r.refreshes (subst (λ (ks : List Kind). Refreshes form ks area mid to) r.kinds s.refreshes)
+
+pub returns-in_err-good-clause-spares : goal.returns-in_err-good-clause-spares
+returns-in_err-good-clause-spares g c =
+    let form : Form = g.M.Format.form c.args.format.now in
+    let kinds : List Kind = kinds_of g.B.Bucket.holding c.args.buckets.now.items in
+    let area : List ℕ = c.args.area.now in
+    let rec : List ℕ = c.args.room.now.record.items in
+    let good : List Bool = c.args.good.now.items in
+    let used : ℕ = c.args.used in
+    let from : Device = g.F.Flash.device c.args.flash.now in
+    let mid : Device = g.F.Flash.device c.refresh.new.flash in
+    let r = c.refresh.ensures in
+    let many : length c.args.buckets.now.items ≡ length kinds = sym (length-map c.args.buckets.now.items _) in
+    let inside : used < length good = omega (arith, c.requires.inside, c.requires.marks) in
+    let all : AllHeld form kinds area c.refresh.new.good.items from mid =
+    held_all form kinds area (set good used true) c.refresh.new.good.items from mid r.refreshes.later (first_marked form kinds area good (length c.args.buckets.now.items) used from many c.requires.first) r.kept c.in_ok-refresh.ensures.settled in
+    let to : Device = g.F.Flash.device c.settle_copy.new.flash in
+    let s = c.settle_copy.ensures in
+    let others : LeavesOthers kinds used mid to = subst (λ (ks : List Kind). LeavesOthers ks used mid to) r.kinds s.others in
+    let other = some_of_match c.first_good.result (NoOther c.refresh.new.good.items used) (IsFirstMarked c.refresh.new.good.items used) (subst (λ (xs : List Bool). MatchOption c.first_good.result (NoOther xs used) (IsFirstMarked xs used)) c.deref.ensures.value c.first_good.ensures) (c.is_none.ensures ∙ ap not c.if-is_none.false) in
+    never_joined form kinds from mid to r.refreshes.later s.refreshes.later
+    (used_spares form kinds area good (length c.args.buckets.now.items) used from mid many c.requires.inside inside c.requires.first r.kept)
+    (spares_other form kinds area c.refresh.new.good.items used other.0 from mid to r.refreshes.later (omega (arith, many, c.requires.marks, r.marks, length-set good used true)) other.1 all others)
+
+pub returns-in_err-good-clause-stuck : goal.returns-in_err-good-clause-stuck
+returns-in_err-good-clause-stuck g c =
+    let form : Form = g.M.Format.form c.args.format.now in
+    let kinds : List Kind = kinds_of g.B.Bucket.holding c.args.buckets.now.items in
+    let area : List ℕ = c.args.area.now in
+    let rec : List ℕ = c.args.room.now.record.items in
+    let good : List Bool = c.args.good.now.items in
+    let used : ℕ = c.args.used in
+    let from : Device = g.F.Flash.device c.args.flash.now in
+    let mid : Device = g.F.Flash.device c.refresh.new.flash in
+    let r = c.refresh.ensures in
+    let many : length c.args.buckets.now.items ≡ length kinds = sym (length-map c.args.buckets.now.items _) in
+    let inside : used < length good = omega (arith, c.requires.inside, c.requires.marks) in
+    let to : Device = g.F.Flash.device c.settle_copy.new.flash in
+    let s = c.settle_copy.ensures in
+    let others : LeavesOthers kinds used mid to = subst (λ (ks : List Kind). LeavesOthers ks used mid to) r.kinds s.others in
+    let stuck : IsStuckAt form kinds area c.in_err-good.field-0.0 mid to = subst (λ (ks : List Kind). IsStuckAt form ks area c.in_err-good.field-0.0 mid to) r.kinds c.in_err-good.ensures.stuck in
+    let whole = stuck_earlier form kinds area c.in_err-good.field-0.0 from mid to r.refreshes.later s.refreshes.later stuck in
+    let p = err_from_is_err_and c.from_residual-in_err-good.result c.from_residual-in_err-good.ensures.1 in
+    subst (λ r. IfErr r (λ copy. IsStuckAt form kinds area copy from to)) (sym (p.1 ∙ ap (λ e. Err e) p.2)) whole
+
+pub returns-in_err-good-clause-kept : goal.returns-in_err-good-clause-kept
+returns-in_err-good-clause-kept g c =
+    let form : Form = g.M.Format.form c.args.format.now in
+    let kinds : List Kind = kinds_of g.B.Bucket.holding c.args.buckets.now.items in
+    let area : List ℕ = c.args.area.now in
+    let rec : List ℕ = c.args.room.now.record.items in
+    let good : List Bool = c.args.good.now.items in
+    let used : ℕ = c.args.used in
+    let from : Device = g.F.Flash.device c.args.flash.now in
+    let mid : Device = g.F.Flash.device c.refresh.new.flash in
+    let r = c.refresh.ensures in
+    let many : length c.args.buckets.now.items ≡ length kinds = sym (length-map c.args.buckets.now.items _) in
+    let inside : used < length good = omega (arith, c.requires.inside, c.requires.marks) in
+    let to : Device = g.F.Flash.device c.settle_copy.new.flash in
+    let s = c.settle_copy.ensures in
+    let others : LeavesOthers kinds used mid to = subst (λ (ks : List Kind). LeavesOthers ks used mid to) r.kinds s.others in
+    let stuck : IsStuckAt form kinds area c.in_err-good.field-0.0 mid to = subst (λ (ks : List Kind). IsStuckAt form ks area c.in_err-good.field-0.0 mid to) r.kinds c.in_err-good.ensures.stuck in
+    let whole = stuck_earlier form kinds area c.in_err-good.field-0.0 from mid to r.refreshes.later s.refreshes.later stuck in
+    λ quiet. absurd (quiet (stuck_rose form kinds area c.in_err-good.field-0.0 from to whole))
+
+pub returns-in_err-good-clause-exact : goal.returns-in_err-good-clause-exact
+returns-in_err-good-clause-exact g c =
+    let form : Form = g.M.Format.form c.args.format.now in
+    let kinds : List Kind = kinds_of g.B.Bucket.holding c.args.buckets.now.items in
+    let area : List ℕ = c.args.area.now in
+    let rec : List ℕ = c.args.room.now.record.items in
+    let good : List Bool = c.args.good.now.items in
+    let used : ℕ = c.args.used in
+    let from : Device = g.F.Flash.device c.args.flash.now in
+    let mid : Device = g.F.Flash.device c.refresh.new.flash in
+    let r = c.refresh.ensures in
+    let many : length c.args.buckets.now.items ≡ length kinds = sym (length-map c.args.buckets.now.items _) in
+    let inside : used < length good = omega (arith, c.requires.inside, c.requires.marks) in
+    let to : Device = g.F.Flash.device c.settle_copy.new.flash in
+    let s = c.settle_copy.ensures in
+    let others : LeavesOthers kinds used mid to = subst (λ (ks : List Kind). LeavesOthers ks used mid to) r.kinds s.others in
+    let stuck : IsStuckAt form kinds area c.in_err-good.field-0.0 mid to = subst (λ (ks : List Kind). IsStuckAt form ks area c.in_err-good.field-0.0 mid to) r.kinds c.in_err-good.ensures.stuck in
+    let whole = stuck_earlier form kinds area c.in_err-good.field-0.0 from mid to r.refreshes.later s.refreshes.later stuck in
+    λ quiet. absurd (quiet (stuck_rose form kinds area c.in_err-good.field-0.0 from to whole))
+
+pub returns-clause-refreshes : goal.returns-clause-refreshes
+returns-clause-refreshes g c =
+    let form : Form = g.M.Format.form c.args.format.now in
+    let kinds : List Kind = kinds_of g.B.Bucket.holding c.args.buckets.now.items in
+    let area : List ℕ = c.args.area.now in
+    let rec : List ℕ = c.args.room.now.record.items in
+    let good : List Bool = c.args.good.now.items in
+    let used : ℕ = c.args.used in
+    let from : Device = g.F.Flash.device c.args.flash.now in
+    let mid : Device = g.F.Flash.device c.refresh.new.flash in
+    let r = c.refresh.ensures in
+    let many : length c.args.buckets.now.items ≡ length kinds = sym (length-map c.args.buckets.now.items _) in
+    let inside : used < length good = omega (arith, c.requires.inside, c.requires.marks) in
+    let to : Device = g.F.Flash.device c.settle_copy.new.flash in
+    let s = c.settle_copy.ensures in
+    let others : LeavesOthers kinds used mid to = subst (λ (ks : List Kind). LeavesOthers ks used mid to) r.kinds s.others in
+    refreshes_joined form kinds area from mid to r.refreshes (subst (λ (ks : List Kind). Refreshes form ks area mid to) r.kinds s.refreshes)
+
+pub returns-clause-spares : goal.returns-clause-spares
+returns-clause-spares g c =
+    let form : Form = g.M.Format.form c.args.format.now in
+    let kinds : List Kind = kinds_of g.B.Bucket.holding c.args.buckets.now.items in
+    let area : List ℕ = c.args.area.now in
+    let rec : List ℕ = c.args.room.now.record.items in
+    let good : List Bool = c.args.good.now.items in
+    let used : ℕ = c.args.used in
+    let from : Device = g.F.Flash.device c.args.flash.now in
+    let mid : Device = g.F.Flash.device c.refresh.new.flash in
+    let r = c.refresh.ensures in
+    let many : length c.args.buckets.now.items ≡ length kinds = sym (length-map c.args.buckets.now.items _) in
+    let inside : used < length good = omega (arith, c.requires.inside, c.requires.marks) in
+    let all : AllHeld form kinds area c.refresh.new.good.items from mid =
+    held_all form kinds area (set good used true) c.refresh.new.good.items from mid r.refreshes.later (first_marked form kinds area good (length c.args.buckets.now.items) used from many c.requires.first) r.kept c.in_ok-refresh.ensures.settled in
+    let to : Device = g.F.Flash.device c.settle_copy.new.flash in
+    let s = c.settle_copy.ensures in
+    let others : LeavesOthers kinds used mid to = subst (λ (ks : List Kind). LeavesOthers ks used mid to) r.kinds s.others in
+    let other = some_of_match c.first_good.result (NoOther c.refresh.new.good.items used) (IsFirstMarked c.refresh.new.good.items used) (subst (λ (xs : List Bool). MatchOption c.first_good.result (NoOther xs used) (IsFirstMarked xs used)) c.deref.ensures.value c.first_good.ensures) (c.is_none.ensures ∙ ap not c.if-is_none.false) in
+    never_joined form kinds from mid to r.refreshes.later s.refreshes.later
+    (used_spares form kinds area good (length c.args.buckets.now.items) used from mid many c.requires.inside inside c.requires.first r.kept)
+    (spares_other form kinds area c.refresh.new.good.items used other.0 from mid to r.refreshes.later (omega (arith, many, c.requires.marks, r.marks, length-set good used true)) other.1 all others)
+
+pub returns-clause-held : goal.returns-clause-held
+returns-clause-held g c =
+    let form : Form = g.M.Format.form c.args.format.now in
+    let kinds : List Kind = kinds_of g.B.Bucket.holding c.args.buckets.now.items in
+    let area : List ℕ = c.args.area.now in
+    let rec : List ℕ = c.args.room.now.record.items in
+    let good : List Bool = c.args.good.now.items in
+    let used : ℕ = c.args.used in
+    let from : Device = g.F.Flash.device c.args.flash.now in
+    let mid : Device = g.F.Flash.device c.refresh.new.flash in
+    let r = c.refresh.ensures in
+    let many : length c.args.buckets.now.items ≡ length kinds = sym (length-map c.args.buckets.now.items _) in
+    let inside : used < length good = omega (arith, c.requires.inside, c.requires.marks) in
+    let all : AllHeld form kinds area c.refresh.new.good.items from mid =
+    held_all form kinds area (set good used true) c.refresh.new.good.items from mid r.refreshes.later (first_marked form kinds area good (length c.args.buckets.now.items) used from many c.requires.first) r.kept c.in_ok-refresh.ensures.settled in
+    let to : Device = g.F.Flash.device c.settle_copy.new.flash in
+    let s = c.settle_copy.ensures in
+    let others : LeavesOthers kinds used mid to = subst (λ (ks : List Kind). LeavesOthers ks used mid to) r.kinds s.others in
+    held_more form kinds area c.refresh.new.good.items used c.in_ok-good.field-0 from mid to
+    (omega (arith, inside, r.marks, length-set good used true)) (c.in_ok-refresh.ensures.settled.stays used (get_or-set_same good used true false inside)) r.refreshes.later s.refreshes.later all others
+    (subst (λ (ks : List Kind). IsSettledAt form ks area used mid to c.in_ok-good.field-0) r.kinds c.in_ok-good.ensures.settled)
+
+pub returns-clause-kept : goal.returns-clause-kept
+returns-clause-kept g c =
+    let form : Form = g.M.Format.form c.args.format.now in
+    let kinds : List Kind = kinds_of g.B.Bucket.holding c.args.buckets.now.items in
+    let area : List ℕ = c.args.area.now in
+    let rec : List ℕ = c.args.room.now.record.items in
+    let good : List Bool = c.args.good.now.items in
+    let used : ℕ = c.args.used in
+    let from : Device = g.F.Flash.device c.args.flash.now in
+    let mid : Device = g.F.Flash.device c.refresh.new.flash in
+    let r = c.refresh.ensures in
+    let many : length c.args.buckets.now.items ≡ length kinds = sym (length-map c.args.buckets.now.items _) in
+    let inside : used < length good = omega (arith, c.requires.inside, c.requires.marks) in
+    let to : Device = g.F.Flash.device c.settle_copy.new.flash in
+    let s = c.settle_copy.ensures in
+    let others : LeavesOthers kinds used mid to = subst (λ (ks : List Kind). LeavesOthers ks used mid to) r.kinds s.others in
+    let stale = sym (get_or_read good used _ inside c.index-fresh.ensures false) ∙ c.if-fresh.false in
+    λ quiet. kept_others kinds good used from mid to r.refreshes.later s.refreshes.later stale r.kept others
+
+pub returns-clause-exact : goal.returns-clause-exact
+returns-clause-exact g c =
+    let form : Form = g.M.Format.form c.args.format.now in
+    let kinds : List Kind = kinds_of g.B.Bucket.holding c.args.buckets.now.items in
+    let area : List ℕ = c.args.area.now in
+    let rec : List ℕ = c.args.room.now.record.items in
+    let good : List Bool = c.args.good.now.items in
+    let used : ℕ = c.args.used in
+    let from : Device = g.F.Flash.device c.args.flash.now in
+    let mid : Device = g.F.Flash.device c.refresh.new.flash in
+    let r = c.refresh.ensures in
+    let many : length c.args.buckets.now.items ≡ length kinds = sym (length-map c.args.buckets.now.items _) in
+    let inside : used < length good = omega (arith, c.requires.inside, c.requires.marks) in
+    let to : Device = g.F.Flash.device c.settle_copy.new.flash in
+    let s = c.settle_copy.ensures in
+    let others : LeavesOthers kinds used mid to = subst (λ (ks : List Kind). LeavesOthers ks used mid to) r.kinds s.others in
+    λ quiet.
+    written_others kinds rec good used from mid to r.refreshes.later s.refreshes.later r.kept (r.exact (undisturbed_first from mid to s.refreshes.later quiet)) others
+    (subst (λ (ks : List Kind). IsWrittenAt ks used rec mid to) r.kinds
+    (subst (λ (xs : List ℕ). IsWrittenAt (kinds_of g.B.Bucket.holding c.refresh.new.buckets.items) used xs mid to) r.«record» (s.exact (undisturbed_second from mid to r.refreshes.later quiet))))
+    inside
+
+pub returns-then-fresh-clause-some : goal.returns-then-fresh-clause-some
+returns-then-fresh-clause-some g c =
+    let form : Form = g.M.Format.form c.args.format.now in
+    let kinds : List Kind = kinds_of g.B.Bucket.holding c.args.buckets.now.items in
+    let area : List ℕ = c.args.area.now in
+    let rec : List ℕ = c.args.room.now.record.items in
+    let good : List Bool = c.args.good.now.items in
+    let used : ℕ = c.args.used in
+    let from : Device = g.F.Flash.device c.args.flash.now in
+    let mid : Device = g.F.Flash.device c.refresh.new.flash in
+    let r = c.refresh.ensures in
+    let many : length c.args.buckets.now.items ≡ length kinds = sym (length-map c.args.buckets.now.items _) in
+    let inside : used < length good = omega (arith, c.requires.inside, c.requires.marks) in
+    record {
+      copy = used;
+      inside = omega (arith, inside, r.marks, length-set good used true);
+      marked = c.in_ok-refresh.ensures.settled.stays used (get_or-set_same good used true false inside);
+    }
+
+pub returns-then-is_none-clause-some : goal.returns-then-is_none-clause-some
+returns-then-is_none-clause-some g c =
+    let form : Form = g.M.Format.form c.args.format.now in
+    let kinds : List Kind = kinds_of g.B.Bucket.holding c.args.buckets.now.items in
+    let area : List ℕ = c.args.area.now in
+    let rec : List ℕ = c.args.room.now.record.items in
+    let good : List Bool = c.args.good.now.items in
+    let used : ℕ = c.args.used in
+    let from : Device = g.F.Flash.device c.args.flash.now in
+    let mid : Device = g.F.Flash.device c.refresh.new.flash in
+    let r = c.refresh.ensures in
+    let many : length c.args.buckets.now.items ≡ length kinds = sym (length-map c.args.buckets.now.items _) in
+    let inside : used < length good = omega (arith, c.requires.inside, c.requires.marks) in
+    record {
+      copy = used;
+      inside = omega (arith, inside, r.marks, length-set good used true);
+      marked = c.in_ok-refresh.ensures.settled.stays used (get_or-set_same good used true false inside);
+    }
+
+pub returns-clause-some : goal.returns-clause-some
+returns-clause-some g c =
+    let form : Form = g.M.Format.form c.args.format.now in
+    let kinds : List Kind = kinds_of g.B.Bucket.holding c.args.buckets.now.items in
+    let area : List ℕ = c.args.area.now in
+    let rec : List ℕ = c.args.room.now.record.items in
+    let good : List Bool = c.args.good.now.items in
+    let used : ℕ = c.args.used in
+    let from : Device = g.F.Flash.device c.args.flash.now in
+    let mid : Device = g.F.Flash.device c.refresh.new.flash in
+    let r = c.refresh.ensures in
+    let many : length c.args.buckets.now.items ≡ length kinds = sym (length-map c.args.buckets.now.items _) in
+    let inside : used < length good = omega (arith, c.requires.inside, c.requires.marks) in
+    let other = some_of_match c.first_good.result (NoOther c.refresh.new.good.items used) (IsFirstMarked c.refresh.new.good.items used) (subst (λ (xs : List Bool). MatchOption c.first_good.result (NoOther xs used) (IsFirstMarked xs used)) c.deref.ensures.value c.first_good.ensures) (c.is_none.ensures ∙ ap not c.if-is_none.false) in
+    let set_size = length-set c.refresh.new.good.items used c.in_ok-good.field-0 in
+    record {
+      copy = other.0;
+      inside = omega (arith, other.1.inside, set_size);
+      marked = get_or-set_other c.refresh.new.good.items used other.0 c.in_ok-good.field-0 false other.1.other ∙ other.1.marked;
+    }

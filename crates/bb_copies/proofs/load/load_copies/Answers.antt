@@ -1,0 +1,197 @@
+use Rattle.std.proofs.Common.{◌≡◌, ◌∙◌, ℕ, ◌<◌, Bool, List, Option, IfSome, IsTrue, length, ap, sym, subst}
+use Rattle.std.specs.Option.{ForSome}
+use Rattle.std.proofs.lemmas.List.{length-map}
+use Rattle.bb_base.specs.Form.{Form}
+use Rattle.bb_flash.specs.Device.{Device, content}
+use Rattle.bb_bucket.specs.Kind.{Kind}
+use Rattle.bb_copies.specs.Buckets.{kinds_of}
+use Rattle.bb_copies.specs.Loading.{IsTally}
+use Rattle.bb_copies.specs.Looking.{FindsBelow, IsFirst}
+use Rattle.bb_copies.specs.Refreshing.{AllHeld, AllWritten, IsStuckAt, KeepsMarked, NeverEmpty, Refreshes}
+use Rattle.bb_copies.proofs.Loads.{first_again, first_area, fresh_runs, load_gives, load_stuck, loads_exactly, none_found, unchanged_runs}
+use Rattle.bb_copies.proofs.load.load_copies.Goals as goal
+
+pub returns-in_default-clause-runs : goal.returns-in_default-clause-runs
+returns-in_default-clause-runs g c =
+    let form : Form = g.M.Format.form c.args.format.now in
+    let kinds : List Kind = kinds_of g.B.Bucket.holding c.args.buckets.now.items in
+    let here : List Kind = kinds_of g.B.Bucket.holding c.look_over.new.buckets.items in
+    let from : Device = g.F.Flash.device c.args.flash.now in
+    let mid : Device = g.F.Flash.device c.look_over.new.flash in
+    let area : List ℕ = c.look_over.new.area in
+    let good : List Bool = c.look_over.new.good.items in
+    let bound : ℕ = length c.args.buckets.now.items in
+    let many : bound ≡ length kinds = sym (length-map c.args.buckets.now.items _) in
+    let k = c.look_over.ensures in
+    unchanged_runs form kinds from mid k.told k.keeps k.later k.whole
+
+pub returns-in_default-found-clause-runs : goal.returns-in_default-found-clause-runs
+returns-in_default-found-clause-runs g c =
+    let form : Form = g.M.Format.form c.args.format.now in
+    let kinds : List Kind = kinds_of g.B.Bucket.holding c.args.buckets.now.items in
+    let here : List Kind = kinds_of g.B.Bucket.holding c.look_over.new.buckets.items in
+    let from : Device = g.F.Flash.device c.args.flash.now in
+    let mid : Device = g.F.Flash.device c.look_over.new.flash in
+    let area : List ℕ = c.look_over.new.area in
+    let good : List Bool = c.look_over.new.good.items in
+    let bound : ℕ = length c.args.buckets.now.items in
+    let many : bound ≡ length kinds = sym (length-map c.args.buckets.now.items _) in
+    let k = c.look_over.ensures in
+    unchanged_runs form kinds from mid k.told k.keeps k.later k.whole
+
+pub returns-in_default-found-clause-gives : goal.returns-in_default-found-clause-gives
+returns-in_default-found-clause-gives g c =
+    let form : Form = g.M.Format.form c.args.format.now in
+    let kinds : List Kind = kinds_of g.B.Bucket.holding c.args.buckets.now.items in
+    let here : List Kind = kinds_of g.B.Bucket.holding c.look_over.new.buckets.items in
+    let from : Device = g.F.Flash.device c.args.flash.now in
+    let mid : Device = g.F.Flash.device c.look_over.new.flash in
+    let area : List ℕ = c.look_over.new.area in
+    let good : List Bool = c.look_over.new.good.items in
+    let bound : ℕ = length c.args.buckets.now.items in
+    let many : bound ≡ length kinds = sym (length-map c.args.buckets.now.items _) in
+    let k = c.look_over.ensures in
+    none_found form kinds bound good from mid many k.keeps.content
+    (λ image e. subst (λ (o : Option ℕ). FindsBelow form from.geometry.page kinds bound area good image o) c.in_default-found.is (c.in-Ok.ensures.done image e))
+
+pub freshen-requires-clause-first : goal.freshen-requires-clause-first
+freshen-requires-clause-first g c =
+    let form : Form = g.M.Format.form c.args.format.now in
+    let kinds : List Kind = kinds_of g.B.Bucket.holding c.args.buckets.now.items in
+    let here : List Kind = kinds_of g.B.Bucket.holding c.look_over.new.buckets.items in
+    let from : Device = g.F.Flash.device c.args.flash.now in
+    let mid : Device = g.F.Flash.device c.look_over.new.flash in
+    let area : List ℕ = c.look_over.new.area in
+    let good : List Bool = c.look_over.new.good.items in
+    let bound : ℕ = length c.args.buckets.now.items in
+    let many : bound ≡ length kinds = sym (length-map c.args.buckets.now.items _) in
+    let k = c.look_over.ensures in
+    let used : ℕ = c.in-Some.used in
+    let first : ForSome (content from) (λ image. IsFirst form from.geometry.page kinds bound area good image used) =
+    λ image e. subst (λ (o : Option ℕ). FindsBelow form from.geometry.page kinds bound area good image o) c.in-Some.is (c.in-Ok.ensures.done image e) in
+    let inside : used < bound = subst (λ (o : Option ℕ). IfSome o (λ copy. copy < bound)) c.in-Some.is c.in-Ok.ensures.inside in
+    let again : length c.look_over.new.buckets.items ≡ bound = sym (length-map c.look_over.new.buckets.items _) ∙ ap length k.kinds ∙ sym many in
+    first_again form kinds here area good bound (length c.look_over.new.buckets.items) used from mid k.kinds again k.keeps first
+
+pub returns-in-Ok-freshen-clause-runs : goal.returns-in-Ok-freshen-clause-runs
+returns-in-Ok-freshen-clause-runs g c =
+    let form : Form = g.M.Format.form c.args.format.now in
+    let kinds : List Kind = kinds_of g.B.Bucket.holding c.args.buckets.now.items in
+    let here : List Kind = kinds_of g.B.Bucket.holding c.look_over.new.buckets.items in
+    let from : Device = g.F.Flash.device c.args.flash.now in
+    let mid : Device = g.F.Flash.device c.look_over.new.flash in
+    let area : List ℕ = c.look_over.new.area in
+    let good : List Bool = c.look_over.new.good.items in
+    let bound : ℕ = length c.args.buckets.now.items in
+    let many : bound ≡ length kinds = sym (length-map c.args.buckets.now.items _) in
+    let k = c.look_over.ensures in
+    let used : ℕ = c.in-Some.used in
+    let first : ForSome (content from) (λ image. IsFirst form from.geometry.page kinds bound area good image used) =
+    λ image e. subst (λ (o : Option ℕ). FindsBelow form from.geometry.page kinds bound area good image o) c.in-Some.is (c.in-Ok.ensures.done image e) in
+    let inside : used < bound = subst (λ (o : Option ℕ). IfSome o (λ copy. copy < bound)) c.in-Some.is c.in-Ok.ensures.inside in
+    let to : Device = g.F.Flash.device c.freshen.new.flash in
+    let f = c.freshen.ensures in
+    let entry = first_area form kinds area good bound used from many inside first in
+    let run : Refreshes form kinds area mid to = subst (λ (ks : List Kind). Refreshes form ks area mid to) k.kinds f.refreshes in
+    fresh_runs form kinds area from mid to k.told k.keeps k.later k.whole entry run
+    (subst (λ (ks : List Kind). NeverEmpty form ks mid to) k.kinds f.spares)
+
+pub returns-in-Err-clause-runs : goal.returns-in-Err-clause-runs
+returns-in-Err-clause-runs g c =
+    let form : Form = g.M.Format.form c.args.format.now in
+    let kinds : List Kind = kinds_of g.B.Bucket.holding c.args.buckets.now.items in
+    let here : List Kind = kinds_of g.B.Bucket.holding c.look_over.new.buckets.items in
+    let from : Device = g.F.Flash.device c.args.flash.now in
+    let mid : Device = g.F.Flash.device c.look_over.new.flash in
+    let area : List ℕ = c.look_over.new.area in
+    let good : List Bool = c.look_over.new.good.items in
+    let bound : ℕ = length c.args.buckets.now.items in
+    let many : bound ≡ length kinds = sym (length-map c.args.buckets.now.items _) in
+    let k = c.look_over.ensures in
+    let used : ℕ = c.in-Some.used in
+    let first : ForSome (content from) (λ image. IsFirst form from.geometry.page kinds bound area good image used) =
+    λ image e. subst (λ (o : Option ℕ). FindsBelow form from.geometry.page kinds bound area good image o) c.in-Some.is (c.in-Ok.ensures.done image e) in
+    let inside : used < bound = subst (λ (o : Option ℕ). IfSome o (λ copy. copy < bound)) c.in-Some.is c.in-Ok.ensures.inside in
+    let to : Device = g.F.Flash.device c.freshen.new.flash in
+    let f = c.freshen.ensures in
+    let entry = first_area form kinds area good bound used from many inside first in
+    let run : Refreshes form kinds area mid to = subst (λ (ks : List Kind). Refreshes form ks area mid to) k.kinds f.refreshes in
+    fresh_runs form kinds area from mid to k.told k.keeps k.later k.whole entry run
+    (subst (λ (ks : List Kind). NeverEmpty form ks mid to) k.kinds f.spares)
+
+pub returns-in-Ok-freshen-clause-gives : goal.returns-in-Ok-freshen-clause-gives
+returns-in-Ok-freshen-clause-gives g c =
+    let form : Form = g.M.Format.form c.args.format.now in
+    let kinds : List Kind = kinds_of g.B.Bucket.holding c.args.buckets.now.items in
+    let here : List Kind = kinds_of g.B.Bucket.holding c.look_over.new.buckets.items in
+    let from : Device = g.F.Flash.device c.args.flash.now in
+    let mid : Device = g.F.Flash.device c.look_over.new.flash in
+    let area : List ℕ = c.look_over.new.area in
+    let good : List Bool = c.look_over.new.good.items in
+    let bound : ℕ = length c.args.buckets.now.items in
+    let many : bound ≡ length kinds = sym (length-map c.args.buckets.now.items _) in
+    let k = c.look_over.ensures in
+    let used : ℕ = c.in-Some.used in
+    let first : ForSome (content from) (λ image. IsFirst form from.geometry.page kinds bound area good image used) =
+    λ image e. subst (λ (o : Option ℕ). FindsBelow form from.geometry.page kinds bound area good image o) c.in-Some.is (c.in-Ok.ensures.done image e) in
+    let inside : used < bound = subst (λ (o : Option ℕ). IfSome o (λ copy. copy < bound)) c.in-Some.is c.in-Ok.ensures.inside in
+    let to : Device = g.F.Flash.device c.freshen.new.flash in
+    let f = c.freshen.ensures in
+    let entry = first_area form kinds area good bound used from many inside first in
+    let run : Refreshes form kinds area mid to = subst (λ (ks : List Kind). Refreshes form ks area mid to) k.kinds f.refreshes in
+    let again : length c.look_over.new.buckets.items ≡ bound = sym (length-map c.look_over.new.buckets.items _) ∙ ap length k.kinds ∙ sym many in
+    let now : List Bool = c.freshen.new.good.items in
+    let all : AllHeld form kinds area now mid to = subst (λ (ks : List Kind). AllHeld form ks area now mid to) k.kinds c.in-Ok-freshen.ensures.held in
+    load_gives form kinds area now from mid to c.tally.result (f.marks ∙ k.marks ∙ c.requires.marks ∙ many) k.later entry all
+    (subst (λ (xs : List Bool). IsTally xs c.tally.result) c.deref.ensures.value c.tally.ensures)
+
+pub returns-in-Ok-freshen-clause-exact : goal.returns-in-Ok-freshen-clause-exact
+returns-in-Ok-freshen-clause-exact g c =
+    let form : Form = g.M.Format.form c.args.format.now in
+    let kinds : List Kind = kinds_of g.B.Bucket.holding c.args.buckets.now.items in
+    let here : List Kind = kinds_of g.B.Bucket.holding c.look_over.new.buckets.items in
+    let from : Device = g.F.Flash.device c.args.flash.now in
+    let mid : Device = g.F.Flash.device c.look_over.new.flash in
+    let area : List ℕ = c.look_over.new.area in
+    let good : List Bool = c.look_over.new.good.items in
+    let bound : ℕ = length c.args.buckets.now.items in
+    let many : bound ≡ length kinds = sym (length-map c.args.buckets.now.items _) in
+    let k = c.look_over.ensures in
+    let used : ℕ = c.in-Some.used in
+    let first : ForSome (content from) (λ image. IsFirst form from.geometry.page kinds bound area good image used) =
+    λ image e. subst (λ (o : Option ℕ). FindsBelow form from.geometry.page kinds bound area good image o) c.in-Some.is (c.in-Ok.ensures.done image e) in
+    let inside : used < bound = subst (λ (o : Option ℕ). IfSome o (λ copy. copy < bound)) c.in-Some.is c.in-Ok.ensures.inside in
+    let to : Device = g.F.Flash.device c.freshen.new.flash in
+    let f = c.freshen.ensures in
+    let entry = first_area form kinds area good bound used from many inside first in
+    let run : Refreshes form kinds area mid to = subst (λ (ks : List Kind). Refreshes form ks area mid to) k.kinds f.refreshes in
+    loads_exactly form kinds area c.pack.new.room.record.items good bound used from mid to c.tally.result many c.pack.ensures.packed k.later k.keeps first
+    (λ quiet. subst (λ (ks : List Kind). KeepsMarked ks good mid to) k.kinds (f.kept quiet))
+    (λ quiet. subst (λ (ks : List Kind). AllWritten ks c.pack.new.room.record.items good mid to) k.kinds (f.exact quiet))
+
+pub returns-in-Err-clause-fails : goal.returns-in-Err-clause-fails
+returns-in-Err-clause-fails g c =
+    let form : Form = g.M.Format.form c.args.format.now in
+    let kinds : List Kind = kinds_of g.B.Bucket.holding c.args.buckets.now.items in
+    let here : List Kind = kinds_of g.B.Bucket.holding c.look_over.new.buckets.items in
+    let from : Device = g.F.Flash.device c.args.flash.now in
+    let mid : Device = g.F.Flash.device c.look_over.new.flash in
+    let area : List ℕ = c.look_over.new.area in
+    let good : List Bool = c.look_over.new.good.items in
+    let bound : ℕ = length c.args.buckets.now.items in
+    let many : bound ≡ length kinds = sym (length-map c.args.buckets.now.items _) in
+    let k = c.look_over.ensures in
+    let used : ℕ = c.in-Some.used in
+    let first : ForSome (content from) (λ image. IsFirst form from.geometry.page kinds bound area good image used) =
+    λ image e. subst (λ (o : Option ℕ). FindsBelow form from.geometry.page kinds bound area good image o) c.in-Some.is (c.in-Ok.ensures.done image e) in
+    let inside : used < bound = subst (λ (o : Option ℕ). IfSome o (λ copy. copy < bound)) c.in-Some.is c.in-Ok.ensures.inside in
+    let to : Device = g.F.Flash.device c.freshen.new.flash in
+    let f = c.freshen.ensures in
+    let entry = first_area form kinds area good bound used from many inside first in
+    let run : Refreshes form kinds area mid to = subst (λ (ks : List Kind). Refreshes form ks area mid to) k.kinds f.refreshes in
+    load_stuck form kinds area c.in-Err.copy from mid to k.later run.later entry
+    (subst (λ (ks : List Kind). IsStuckAt form ks area c.in-Err.copy mid to) k.kinds c.in-Err.ensures.stuck)
+
+pub returns-in-Ok-freshen-clause-fits : goal.returns-in-Ok-freshen-clause-fits
+returns-in-Ok-freshen-clause-fits g c = λ taken.
+    subst (λ (o : Option ℕ). IfSome o (λ _. IsTrue ((g.M.Format.form c.args.format.now).fits c.look_over.new.area))) c.in-Some.is c.in-Ok.ensures.fits

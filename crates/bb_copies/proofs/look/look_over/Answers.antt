@@ -1,0 +1,56 @@
+use Rattle.std.proofs.Common.{◌≡◌, ◌∙◌, ℕ, ◌<◌, Bool, List, length, set, length-set, ap, subst, arith}
+use Rattle.bb_base.specs.Form.{Form}
+use Rattle.bb_flash.proofs.Moments.{later_joined}
+use Rattle.bb_flash.specs.Device.{Device}
+use Rattle.bb_bucket.specs.Kind.{Kind}
+use Rattle.bb_copies.specs.Buckets.{kinds_of}
+use Rattle.bb_copies.specs.Looking.{FindsBelow, area_by, good_by}
+use Rattle.bb_copies.proofs.Ends.{whole_slice}
+use Rattle.bb_copies.proofs.Finding.{finds_step, fits_step, inside_step, keeps_joined, reading_from}
+use Rattle.bb_copies.proofs.look.look_over.Goals as goal
+
+pub loop-copy-preserved : goal.loop-copy-preserved
+loop-copy-preserved g c =
+    let i = c.loop-copy.invariant in
+    let r = c.in_ok-passed.ensures in
+    let m = c.compare-first.ensures in
+    let form : Form = g.M.Format.form c.args.format.now in
+    let kinds : List Kind = kinds_of g.B.Bucket.holding c.args.buckets.now.items in
+    let from : Device = g.F.Flash.device c.args.flash.now in
+    let mid : Device = g.F.Flash.device c.loop-copy.flash in
+    let copy : ℕ = c.loop-copy.copy in
+    let good : List Bool = c.loop-copy.good.items in
+    let out : List ℕ = c.read_at.new.area in
+    let is_out : c.deref.result.now ≡ out = c.deref.ensures.value ∙ whole_slice out c.loop-copy.room.area.items _ (c.read_at.auto.area ∙ c.deref_mut-in-loop-copy.ensures.len) in
+    let inside : copy < length good = omega (arith, i.marks, c.requires.marks, c.len-copy-end.ensures, c.args.buckets.now.ok) in
+    let size : length (set good copy c.compare-first.result.1) ≡ length good = length-set good copy c.compare-first.result.1 in
+    let is_area = m.area ∙ ap (λ xs. area_by xs c.in_ok-passed.passed c.loop-copy.area c.loop-copy.used) is_out in
+    let is_good = m.good ∙ ap (λ xs. good_by xs c.in_ok-passed.passed c.compare-first.new.area) is_out in
+    record {
+      finds = λ image e.
+          finds_step form from.geometry.page kinds copy out c.loop-copy.area c.compare-first.new.area good c.compare-first.result.1 c.in_ok-passed.passed image c.loop-copy.used c.compare-first.result.0
+          m.used is_area is_good inside (i.finds image e)
+          (reading_from form kinds (kinds_of g.B.Bucket.holding c.loop-copy.buckets.items) copy image out c.in_ok-passed.passed from mid i.keeps i.kinds (r.done image (i.keeps.content ∙ e)));
+      inside = inside_step copy c.in_ok-passed.passed c.loop-copy.used c.compare-first.result.0 m.used i.inside;
+      fits = fits_step form copy out c.loop-copy.area c.compare-first.new.area c.in_ok-passed.passed c.loop-copy.used c.compare-first.result.0 m.used is_area i.fits r.fits;
+      keeps = keeps_joined from mid _ i.keeps r.keeps;
+      told = r.told ∙ i.told;
+      later = later_joined from mid _ i.later r.later;
+      whole = r.whole;
+      kinds = r.kinds ∙ i.kinds;
+      agrees = r.agrees;
+      marks = size ∙ i.marks;
+      found = ap length (whole_slice c.read_at.new.found c.loop-copy.room.found.items _ (c.read_at.auto.found ∙ c.deref_mut.ensures.len)) ∙ c.read_at.auto.found ∙ ap length c.deref_mut.ensures.value ∙ i.found;
+      scratch = ap length (whole_slice out c.loop-copy.room.area.items _ (c.read_at.auto.area ∙ c.deref_mut-in-loop-copy.ensures.len)) ∙ c.read_at.auto.area ∙ ap length c.deref_mut-in-loop-copy.ensures.value ∙ i.scratch;
+      packed = i.packed;
+      sized = c.compare-first.auto.area ∙ i.sized;
+    }
+
+pub returns-clause-done : goal.returns-clause-done
+returns-clause-done g c =
+    let i = c.loop-copy.invariant in
+    let form : Form = g.M.Format.form c.args.format.now in
+    let from : Device = g.F.Flash.device c.args.flash.now in
+    let kinds : List Kind = kinds_of g.B.Bucket.holding c.args.buckets.now.items in
+    let all : c.loop-copy.copy ≡ length c.args.buckets.now.items = omega (arith, c.len-copy-end.ensures, c.args.buckets.now.ok) in
+    λ image e. subst (λ (n : ℕ). FindsBelow form from.geometry.page kinds n c.loop-copy.area c.loop-copy.good.items image c.loop-copy.used) all (i.finds image e)

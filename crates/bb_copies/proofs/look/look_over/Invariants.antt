@@ -1,0 +1,31 @@
+use Rattle.std.proofs.Common.{◌≡◌, ◌<◌, length, IfSome, IsTrue}
+use Rattle.std.specs.Option.{ForSome}
+use Rattle.bb_flash.specs.Cuts.{IsLater}
+use Rattle.bb_flash.specs.Device.{IsDevice, ReadKeeps, content}
+use Rattle.bb_bucket.specs.Calls.{told_but_reads}
+use Rattle.bb_copies.specs.Buckets.{AllAgree, kinds_of}
+use Rattle.bb_copies.specs.Looking.{FindsBelow}
+use Rattle.bb_copies.proofs.look.look_over.Given as goal
+
+abbrev pub invariant-loop-copy : goal.invariant-loop-copy
+invariant-loop-copy g l =
+    let form = g.M.Format.form l.format in
+    let from = g.F.Flash.device l.fn.flash in
+    let now = g.F.Flash.device l.flash in
+    record {
+      finds :
+          ForSome (content from) (λ image. FindsBelow form from.geometry.page (kinds_of g.B.Bucket.holding l.fn.buckets.items) l.copy l.area l.good.items image l.used);
+      inside : IfSome l.used (λ copy. copy < l.copy);
+      fits : IfSome l.used (λ _. IsTrue (form.fits l.area));
+      keeps : ReadKeeps from now;
+      told : told_but_reads now ≡ told_but_reads from;
+      later : IsLater from now;
+      whole : IsDevice now;
+      kinds : kinds_of g.B.Bucket.holding l.buckets.items ≡ kinds_of g.B.Bucket.holding l.fn.buckets.items;
+      agrees : AllAgree g.B.Bucket.holding now l.buckets.items;
+      marks : length l.good.items ≡ length l.fn.good.items;
+      found : length l.room.found.items ≡ length l.fn.room.found.items;
+      scratch : length l.room.area.items ≡ length l.fn.room.area.items;
+      packed : length l.room.record.items ≡ length l.fn.room.record.items;
+      sized : length l.area ≡ length l.fn.area;
+    }

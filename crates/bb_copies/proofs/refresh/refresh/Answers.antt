@@ -1,0 +1,140 @@
+use Rattle.std.proofs.Common.{◌≡◌, ◌∙◌, ℕ, ◌<◌, Bool, false, List, length, set, length-set, Err, IfErr, ap, sym, subst, refl, arith}
+use Rattle.std.proofs.lemmas.List.{get_or_read, length-map}
+use Rattle.std.proofs.lemmas.Result.{err_from_is_err_and}
+use Rattle.bb_base.specs.Form.{Form}
+use Rattle.bb_flash.specs.Device.{Device}
+use Rattle.bb_bucket.specs.Kind.{Kind}
+use Rattle.bb_copies.specs.Buckets.{kinds_of}
+use Rattle.bb_copies.specs.Refreshing.{IsSettledAt, IsStuckAt, IsWrittenAt, LeavesOthers, Refreshes}
+use Rattle.bb_copies.proofs.Below.{RefreshedBelow, all_settled, all_written, keeps_marked, none_refreshed, settled_more, skipped, stuck_earlier, stuck_keeps, stuck_rose}
+use Rattle.bb_copies.proofs.Runs.{refreshes_joined}
+use Rattle.bb_copies.proofs.refresh.refresh.Goals as goal
+
+pub loop-copy-init : goal.loop-copy-init
+loop-copy-init g c = record {
+  below = none_refreshed (g.M.Format.form c.args.format.now) (kinds_of g.B.Bucket.holding c.args.buckets.now.items) c.args.area.now c.args.room.now.record.items c.args.good.now.items (g.F.Flash.device c.args.flash.now) c.requires.whole;
+  kinds = refl;
+  agrees = c.requires.agreed;
+  marks = refl;
+  found = refl;
+  scratch = refl;
+  packed = refl;
+}
+
+pub loop-copy-preserved-then-index : goal.loop-copy-preserved-then-index
+loop-copy-preserved-then-index g c =
+    let i = c.loop-copy.invariant in
+    let inside : c.loop-copy.copy < length c.loop-copy.good.items = omega (arith, i.marks, c.requires.marks, c.len-copy-end.ensures, c.args.buckets.now.ok) in
+    let mark = sym (get_or_read c.loop-copy.good.items c.loop-copy.copy _ inside c.index.ensures false) ∙ c.if-index.true in
+    record {
+      below = skipped (g.M.Format.form c.args.format.now) (kinds_of g.B.Bucket.holding c.args.buckets.now.items) c.args.area.now c.args.room.now.record.items c.args.good.now.items c.loop-copy.good.items c.loop-copy.copy (g.F.Flash.device c.args.flash.now) (g.F.Flash.device c.loop-copy.flash) inside mark i.below;
+      kinds = i.kinds;
+      agrees = i.agrees;
+      marks = i.marks;
+      found = i.found;
+      scratch = i.scratch;
+      packed = i.packed;
+    }
+
+pub returns-in_err-good-clause-refreshes : goal.returns-in_err-good-clause-refreshes
+returns-in_err-good-clause-refreshes g c =
+    let i = c.loop-copy.invariant in
+    let form : Form = g.M.Format.form c.args.format.now in
+    let mid : Device = g.F.Flash.device c.loop-copy.flash in
+    let to : Device = g.F.Flash.device c.settle_copy.new.flash in
+    refreshes_joined form (kinds_of g.B.Bucket.holding c.args.buckets.now.items) c.args.area.now (g.F.Flash.device c.args.flash.now) mid to i.below.refreshes
+    (subst (λ (ks : List Kind). Refreshes form ks c.args.area.now mid to) i.kinds c.settle_copy.ensures.refreshes)
+
+pub returns-in_err-good-clause-kept : goal.returns-in_err-good-clause-kept
+returns-in_err-good-clause-kept g c =
+    let i = c.loop-copy.invariant in
+    let inside : c.loop-copy.copy < length c.loop-copy.good.items = omega (arith, i.marks, c.requires.marks, c.len-copy-end.ensures, c.args.buckets.now.ok) in
+    let unmarked = sym (get_or_read c.loop-copy.good.items c.loop-copy.copy _ inside c.index.ensures false) ∙ c.if-index.false in
+    let mid : Device = g.F.Flash.device c.loop-copy.flash in
+    let to : Device = g.F.Flash.device c.settle_copy.new.flash in
+    stuck_keeps (g.M.Format.form c.args.format.now) (kinds_of g.B.Bucket.holding c.args.buckets.now.items) c.args.area.now c.args.room.now.record.items c.args.good.now.items c.loop-copy.good.items c.loop-copy.copy (g.F.Flash.device c.args.flash.now) mid to unmarked i.below c.settle_copy.ensures.refreshes.later
+    (subst (λ (ks : List Kind). LeavesOthers ks c.loop-copy.copy mid to) i.kinds c.settle_copy.ensures.others)
+
+pub returns-in_err-good-clause-stuck : goal.returns-in_err-good-clause-stuck
+returns-in_err-good-clause-stuck g c =
+    let i = c.loop-copy.invariant in
+    let form : Form = g.M.Format.form c.args.format.now in
+    let kinds : List Kind = kinds_of g.B.Bucket.holding c.args.buckets.now.items in
+    let from : Device = g.F.Flash.device c.args.flash.now in
+    let mid : Device = g.F.Flash.device c.loop-copy.flash in
+    let to : Device = g.F.Flash.device c.settle_copy.new.flash in
+    let stuck : IsStuckAt form kinds c.args.area.now c.in_err-good.field-0.0 mid to = subst (λ (ks : List Kind). IsStuckAt form ks c.args.area.now c.in_err-good.field-0.0 mid to) i.kinds c.in_err-good.ensures.stuck in
+    let p = err_from_is_err_and c.from_residual.result c.from_residual.ensures.1 in
+    let whole = stuck_earlier form kinds c.args.area.now c.in_err-good.field-0.0 from mid to i.below.refreshes.later c.settle_copy.ensures.refreshes.later stuck in
+    subst (λ r. IfErr r (λ copy. IsStuckAt form kinds c.args.area.now copy from to)) (sym (p.1 ∙ ap (λ e. Err e) p.2)) whole
+
+pub returns-in_err-good-clause-exact : goal.returns-in_err-good-clause-exact
+returns-in_err-good-clause-exact g c = λ quiet.
+    let i = c.loop-copy.invariant in
+    let form : Form = g.M.Format.form c.args.format.now in
+    let kinds : List Kind = kinds_of g.B.Bucket.holding c.args.buckets.now.items in
+    let mid : Device = g.F.Flash.device c.loop-copy.flash in
+    let to : Device = g.F.Flash.device c.settle_copy.new.flash in
+    let from : Device = g.F.Flash.device c.args.flash.now in
+    let stuck : IsStuckAt form kinds c.args.area.now c.in_err-good.field-0.0 mid to = subst (λ (ks : List Kind). IsStuckAt form ks c.args.area.now c.in_err-good.field-0.0 mid to) i.kinds c.in_err-good.ensures.stuck in
+    absurd (quiet (stuck_rose form kinds c.args.area.now c.in_err-good.field-0.0 from to (stuck_earlier form kinds c.args.area.now c.in_err-good.field-0.0 from mid to i.below.refreshes.later c.settle_copy.ensures.refreshes.later stuck)))
+
+pub loop-copy-preserved : goal.loop-copy-preserved
+loop-copy-preserved g c =
+    let i = c.loop-copy.invariant in
+    let s = c.settle_copy.ensures in
+    let form : Form = g.M.Format.form c.args.format.now in
+    let kinds : List Kind = kinds_of g.B.Bucket.holding c.args.buckets.now.items in
+    let area : List ℕ = c.args.area.now in
+    let rec : List ℕ = c.args.room.now.record.items in
+    let copy : ℕ = c.loop-copy.copy in
+    let good : List Bool = c.loop-copy.good.items in
+    let from : Device = g.F.Flash.device c.args.flash.now in
+    let mid : Device = g.F.Flash.device c.loop-copy.flash in
+    let to : Device = g.F.Flash.device c.settle_copy.new.flash in
+    let inside : copy < length good = omega (arith, i.marks, c.requires.marks, c.len-copy-end.ensures, c.args.buckets.now.ok) in
+    let unmarked = sym (get_or_read good copy _ inside c.index.ensures false) ∙ c.if-index.false in
+    let size : length (set good copy c.in_ok-good.field-0) ≡ length good = length-set good copy c.in_ok-good.field-0 in
+    record {
+      below =
+          settled_more form kinds area rec c.args.good.now.items good copy c.in_ok-good.field-0 from mid to inside (omega (arith, size)) unmarked i.below
+          (subst (λ (ks : List Kind). Refreshes form ks area mid to) i.kinds s.refreshes)
+          (subst (λ (ks : List Kind). LeavesOthers ks copy mid to) i.kinds s.others)
+          (subst (λ (ks : List Kind). IsSettledAt form ks area copy mid to c.in_ok-good.field-0) i.kinds c.in_ok-good.ensures.settled)
+          (λ quiet. subst (λ (ks : List Kind). IsWrittenAt ks copy rec mid to) i.kinds (subst (λ (r : List ℕ). IsWrittenAt (kinds_of g.B.Bucket.holding c.loop-copy.buckets.items) copy r mid to) i.packed (s.exact quiet)));
+      kinds = s.kinds ∙ i.kinds;
+      agrees = s.agrees;
+      marks = size ∙ i.marks;
+      found = s.found ∙ i.found;
+      scratch = s.scratch ∙ i.scratch;
+      packed = s.«record» ∙ i.packed;
+    }
+
+pub returns-clause-kept : goal.returns-clause-kept
+returns-clause-kept g c =
+    let i = c.loop-copy.invariant in
+    keeps_marked (g.M.Format.form c.args.format.now) (kinds_of g.B.Bucket.holding c.args.buckets.now.items) c.args.area.now c.args.room.now.record.items c.args.good.now.items c.loop-copy.good.items c.loop-copy.copy (g.F.Flash.device c.args.flash.now) (g.F.Flash.device c.loop-copy.flash) i.below
+
+pub returns-clause-settled : goal.returns-clause-settled
+returns-clause-settled g c =
+    let i = c.loop-copy.invariant in
+    let form : Form = g.M.Format.form c.args.format.now in
+    let kinds : List Kind = kinds_of g.B.Bucket.holding c.args.buckets.now.items in
+    let from : Device = g.F.Flash.device c.args.flash.now in
+    let to : Device = g.F.Flash.device c.loop-copy.flash in
+    let all : c.loop-copy.copy ≡ length c.loop-copy.good.items = omega (arith, i.marks, c.requires.marks, c.len-copy-end.ensures, c.args.buckets.now.ok) in
+    let many : length c.loop-copy.good.items ≡ length kinds = i.marks ∙ c.requires.marks ∙ sym (length-map c.args.buckets.now.items _) in
+    all_settled form kinds c.args.area.now c.args.room.now.record.items c.args.good.now.items c.loop-copy.good.items from to many
+    (subst (λ (n : ℕ). RefreshedBelow form kinds c.args.area.now c.args.room.now.record.items c.args.good.now.items c.loop-copy.good.items n from to) all i.below)
+
+pub returns-clause-exact : goal.returns-clause-exact
+returns-clause-exact g c =
+    let i = c.loop-copy.invariant in
+    let form : Form = g.M.Format.form c.args.format.now in
+    let kinds : List Kind = kinds_of g.B.Bucket.holding c.args.buckets.now.items in
+    let from : Device = g.F.Flash.device c.args.flash.now in
+    let to : Device = g.F.Flash.device c.loop-copy.flash in
+    let all : c.loop-copy.copy ≡ length c.loop-copy.good.items = omega (arith, i.marks, c.requires.marks, c.len-copy-end.ensures, c.args.buckets.now.ok) in
+    let many : length c.loop-copy.good.items ≡ length kinds = i.marks ∙ c.requires.marks ∙ sym (length-map c.args.buckets.now.items _) in
+    all_written form kinds c.args.area.now c.args.room.now.record.items c.args.good.now.items c.loop-copy.good.items from to many
+    (subst (λ (n : ℕ). RefreshedBelow form kinds c.args.area.now c.args.room.now.record.items c.args.good.now.items c.loop-copy.good.items n from to) all i.below)

@@ -1,0 +1,277 @@
+use Rattle.std.proofs.Common.{◌≡◌, ◌∙◌, ℕ, ◌<◌, Bool, true, false, not, List, Err, Some, IfErr, MatchOption, length, length-set, get_or-set_same, get_or-set_other, ap, sym, subst, arith, inl, inr}
+use Rattle.std.proofs.lemmas.List.{length-map}
+use Rattle.std.proofs.lemmas.Result.{err_from_is_err_and}
+use Rattle.bb_base.specs.Form.{Form}
+use Rattle.bb_flash.specs.Device.{Device}
+use Rattle.bb_bucket.specs.Kind.{Kind}
+use Rattle.bb_copies.specs.Buckets.{kinds_of}
+use Rattle.bb_copies.specs.Refreshing.{IsFirstMarked, IsSettledAt, IsStuckAt, IsWrittenAt, LeavesOthers, NoOther, Refreshes}
+use Rattle.bb_copies.specs.Saving.{IsWriteFault}
+use Rattle.bb_copies.proofs.Below.{stuck_earlier}
+use Rattle.bb_copies.proofs.Held.{none_of_match, some_of_match}
+use Rattle.bb_copies.proofs.Runs.{refreshes_joined, undisturbed_first, undisturbed_second}
+use Rattle.bb_copies.proofs.Saves.{alone, over_held, over_other, over_spares, over_written, spares_joined}
+use Rattle.bb_copies.proofs.save.save_over.Goals as goal
+
+pub returns-in_err-refresh-clause-spares : goal.returns-in_err-refresh-clause-spares
+returns-in_err-refresh-clause-spares g c =
+    let form : Form = g.M.Format.form c.args.format.now in
+    let kinds : List Kind = kinds_of g.B.Bucket.holding c.args.buckets.now.items in
+    let area : List ℕ = c.args.area.now in
+    let rec : List ℕ = c.args.room.now.record.items in
+    let marked : List Bool = c.args.good.now.items in
+    let from : Device = g.F.Flash.device c.args.flash.now in
+    let mid : Device = g.F.Flash.device c.refresh.new.flash in
+    let r = c.refresh.ensures in
+    let many : length c.args.buckets.now.items ≡ length kinds = sym (length-map c.args.buckets.now.items _) in
+    let used : ℕ = c.args.used in
+    let within : used < length marked = omega (arith, c.requires.inside, c.requires.marks) in
+    let inside : used < length kinds = omega (arith, c.requires.inside, many) in
+    over_spares form kinds marked used from mid inside within r.kept
+
+pub returns-then-is_none-clause-spares : goal.returns-then-is_none-clause-spares
+returns-then-is_none-clause-spares g c =
+    let form : Form = g.M.Format.form c.args.format.now in
+    let kinds : List Kind = kinds_of g.B.Bucket.holding c.args.buckets.now.items in
+    let area : List ℕ = c.args.area.now in
+    let rec : List ℕ = c.args.room.now.record.items in
+    let marked : List Bool = c.args.good.now.items in
+    let from : Device = g.F.Flash.device c.args.flash.now in
+    let mid : Device = g.F.Flash.device c.refresh.new.flash in
+    let r = c.refresh.ensures in
+    let many : length c.args.buckets.now.items ≡ length kinds = sym (length-map c.args.buckets.now.items _) in
+    let used : ℕ = c.args.used in
+    let within : used < length marked = omega (arith, c.requires.inside, c.requires.marks) in
+    let inside : used < length kinds = omega (arith, c.requires.inside, many) in
+    over_spares form kinds marked used from mid inside within r.kept
+
+pub returns-then-is_none-clause-fails : goal.returns-then-is_none-clause-fails
+returns-then-is_none-clause-fails g c =
+    let form : Form = g.M.Format.form c.args.format.now in
+    let kinds : List Kind = kinds_of g.B.Bucket.holding c.args.buckets.now.items in
+    let area : List ℕ = c.args.area.now in
+    let rec : List ℕ = c.args.room.now.record.items in
+    let marked : List Bool = c.args.good.now.items in
+    let from : Device = g.F.Flash.device c.args.flash.now in
+    let mid : Device = g.F.Flash.device c.refresh.new.flash in
+    let r = c.refresh.ensures in
+    let many : length c.args.buckets.now.items ≡ length kinds = sym (length-map c.args.buckets.now.items _) in
+    let used : ℕ = c.args.used in
+    let within : used < length marked = omega (arith, c.requires.inside, c.requires.marks) in
+    let inside : used < length kinds = omega (arith, c.requires.inside, many) in
+    let good : List Bool = c.refresh.new.good.items in
+    let size = length-set marked used true in
+    let all : length good ≡ length kinds = omega (arith, r.marks, size, c.requires.marks, many) in
+    let found = subst (λ (xs : List Bool). MatchOption c.first_good.result (NoOther xs used) (IsFirstMarked xs used)) c.deref.ensures.value c.first_good.ensures in
+    let none : NoOther good used = none_of_match c.first_good.result (NoOther good used) (IsFirstMarked good used) found (c.is_none.ensures ∙ ap not c.if-is_none.true) in
+    inr (inl (alone form kinds area marked good used from mid c.requires.unmarked all within none r.kept c.in_ok-refresh.ensures.settled))
+
+pub returns-in_err-good-clause-refreshes : goal.returns-in_err-good-clause-refreshes
+returns-in_err-good-clause-refreshes g c =
+    let form : Form = g.M.Format.form c.args.format.now in
+    let kinds : List Kind = kinds_of g.B.Bucket.holding c.args.buckets.now.items in
+    let area : List ℕ = c.args.area.now in
+    let rec : List ℕ = c.args.room.now.record.items in
+    let marked : List Bool = c.args.good.now.items in
+    let from : Device = g.F.Flash.device c.args.flash.now in
+    let mid : Device = g.F.Flash.device c.refresh.new.flash in
+    let r = c.refresh.ensures in
+    let many : length c.args.buckets.now.items ≡ length kinds = sym (length-map c.args.buckets.now.items _) in
+    let used : ℕ = c.args.used in
+    let within : used < length marked = omega (arith, c.requires.inside, c.requires.marks) in
+    let inside : used < length kinds = omega (arith, c.requires.inside, many) in
+    let good : List Bool = c.refresh.new.good.items in
+    let size = length-set marked used true in
+    let all : length good ≡ length kinds = omega (arith, r.marks, size, c.requires.marks, many) in
+    let found = subst (λ (xs : List Bool). MatchOption c.first_good.result (NoOther xs used) (IsFirstMarked xs used)) c.deref.ensures.value c.first_good.ensures in
+    let to : Device = g.F.Flash.device c.settle_copy.new.flash in
+    let s = c.settle_copy.ensures in
+    let others : LeavesOthers kinds used mid to = subst (λ (ks : List Kind). LeavesOthers ks used mid to) r.kinds s.others in
+    let other = some_of_match c.first_good.result (NoOther good used) (IsFirstMarked good used) found (c.is_none.ensures ∙ ap not c.if-is_none.false) in
+    refreshes_joined form kinds area from mid to r.refreshes (subst (λ (ks : List Kind). Refreshes form ks area mid to) r.kinds s.refreshes)
+
+pub returns-in_err-good-clause-spares : goal.returns-in_err-good-clause-spares
+returns-in_err-good-clause-spares g c =
+    let form : Form = g.M.Format.form c.args.format.now in
+    let kinds : List Kind = kinds_of g.B.Bucket.holding c.args.buckets.now.items in
+    let area : List ℕ = c.args.area.now in
+    let rec : List ℕ = c.args.room.now.record.items in
+    let marked : List Bool = c.args.good.now.items in
+    let from : Device = g.F.Flash.device c.args.flash.now in
+    let mid : Device = g.F.Flash.device c.refresh.new.flash in
+    let r = c.refresh.ensures in
+    let many : length c.args.buckets.now.items ≡ length kinds = sym (length-map c.args.buckets.now.items _) in
+    let used : ℕ = c.args.used in
+    let within : used < length marked = omega (arith, c.requires.inside, c.requires.marks) in
+    let inside : used < length kinds = omega (arith, c.requires.inside, many) in
+    let good : List Bool = c.refresh.new.good.items in
+    let size = length-set marked used true in
+    let all : length good ≡ length kinds = omega (arith, r.marks, size, c.requires.marks, many) in
+    let found = subst (λ (xs : List Bool). MatchOption c.first_good.result (NoOther xs used) (IsFirstMarked xs used)) c.deref.ensures.value c.first_good.ensures in
+    let to : Device = g.F.Flash.device c.settle_copy.new.flash in
+    let s = c.settle_copy.ensures in
+    let others : LeavesOthers kinds used mid to = subst (λ (ks : List Kind). LeavesOthers ks used mid to) r.kinds s.others in
+    let other = some_of_match c.first_good.result (NoOther good used) (IsFirstMarked good used) found (c.is_none.ensures ∙ ap not c.if-is_none.false) in
+    spares_joined form kinds (Some used) from mid to r.refreshes.later s.refreshes.later
+    (over_spares form kinds marked used from mid inside within r.kept)
+    (over_other form kinds area marked good used other.0 from mid to c.requires.unmarked r.refreshes.later all other.1 c.in_ok-refresh.ensures.settled others)
+
+pub returns-in_err-good-clause-fails : goal.returns-in_err-good-clause-fails
+returns-in_err-good-clause-fails g c =
+    let form : Form = g.M.Format.form c.args.format.now in
+    let kinds : List Kind = kinds_of g.B.Bucket.holding c.args.buckets.now.items in
+    let area : List ℕ = c.args.area.now in
+    let rec : List ℕ = c.args.room.now.record.items in
+    let marked : List Bool = c.args.good.now.items in
+    let from : Device = g.F.Flash.device c.args.flash.now in
+    let mid : Device = g.F.Flash.device c.refresh.new.flash in
+    let r = c.refresh.ensures in
+    let many : length c.args.buckets.now.items ≡ length kinds = sym (length-map c.args.buckets.now.items _) in
+    let used : ℕ = c.args.used in
+    let within : used < length marked = omega (arith, c.requires.inside, c.requires.marks) in
+    let inside : used < length kinds = omega (arith, c.requires.inside, many) in
+    let good : List Bool = c.refresh.new.good.items in
+    let size = length-set marked used true in
+    let all : length good ≡ length kinds = omega (arith, r.marks, size, c.requires.marks, many) in
+    let found = subst (λ (xs : List Bool). MatchOption c.first_good.result (NoOther xs used) (IsFirstMarked xs used)) c.deref.ensures.value c.first_good.ensures in
+    let to : Device = g.F.Flash.device c.settle_copy.new.flash in
+    let s = c.settle_copy.ensures in
+    let others : LeavesOthers kinds used mid to = subst (λ (ks : List Kind). LeavesOthers ks used mid to) r.kinds s.others in
+    let other = some_of_match c.first_good.result (NoOther good used) (IsFirstMarked good used) found (c.is_none.ensures ∙ ap not c.if-is_none.false) in
+    let stuck : IsStuckAt form kinds area c.in_err-good.field-0.0 mid to = subst (λ (ks : List Kind). IsStuckAt form ks area c.in_err-good.field-0.0 mid to) r.kinds c.in_err-good.ensures.stuck in
+    let whole = stuck_earlier form kinds area c.in_err-good.field-0.0 from mid to r.refreshes.later s.refreshes.later stuck in
+    let p = err_from_is_err_and c.from_residual-in_err-good.result c.from_residual-in_err-good.ensures.1 in
+    subst (λ r. IfErr r (IsWriteFault form kinds (Some used) area from to)) (sym (p.1 ∙ ap (λ e. Err e) p.2)) (inl whole)
+
+pub returns-clause-refreshes : goal.returns-clause-refreshes
+returns-clause-refreshes g c =
+    let form : Form = g.M.Format.form c.args.format.now in
+    let kinds : List Kind = kinds_of g.B.Bucket.holding c.args.buckets.now.items in
+    let area : List ℕ = c.args.area.now in
+    let rec : List ℕ = c.args.room.now.record.items in
+    let marked : List Bool = c.args.good.now.items in
+    let from : Device = g.F.Flash.device c.args.flash.now in
+    let mid : Device = g.F.Flash.device c.refresh.new.flash in
+    let r = c.refresh.ensures in
+    let many : length c.args.buckets.now.items ≡ length kinds = sym (length-map c.args.buckets.now.items _) in
+    let used : ℕ = c.args.used in
+    let within : used < length marked = omega (arith, c.requires.inside, c.requires.marks) in
+    let inside : used < length kinds = omega (arith, c.requires.inside, many) in
+    let good : List Bool = c.refresh.new.good.items in
+    let size = length-set marked used true in
+    let all : length good ≡ length kinds = omega (arith, r.marks, size, c.requires.marks, many) in
+    let found = subst (λ (xs : List Bool). MatchOption c.first_good.result (NoOther xs used) (IsFirstMarked xs used)) c.deref.ensures.value c.first_good.ensures in
+    let to : Device = g.F.Flash.device c.settle_copy.new.flash in
+    let s = c.settle_copy.ensures in
+    let others : LeavesOthers kinds used mid to = subst (λ (ks : List Kind). LeavesOthers ks used mid to) r.kinds s.others in
+    let other = some_of_match c.first_good.result (NoOther good used) (IsFirstMarked good used) found (c.is_none.ensures ∙ ap not c.if-is_none.false) in
+    refreshes_joined form kinds area from mid to r.refreshes (subst (λ (ks : List Kind). Refreshes form ks area mid to) r.kinds s.refreshes)
+
+pub returns-clause-spares : goal.returns-clause-spares
+returns-clause-spares g c =
+    let form : Form = g.M.Format.form c.args.format.now in
+    let kinds : List Kind = kinds_of g.B.Bucket.holding c.args.buckets.now.items in
+    let area : List ℕ = c.args.area.now in
+    let rec : List ℕ = c.args.room.now.record.items in
+    let marked : List Bool = c.args.good.now.items in
+    let from : Device = g.F.Flash.device c.args.flash.now in
+    let mid : Device = g.F.Flash.device c.refresh.new.flash in
+    let r = c.refresh.ensures in
+    let many : length c.args.buckets.now.items ≡ length kinds = sym (length-map c.args.buckets.now.items _) in
+    let used : ℕ = c.args.used in
+    let within : used < length marked = omega (arith, c.requires.inside, c.requires.marks) in
+    let inside : used < length kinds = omega (arith, c.requires.inside, many) in
+    let good : List Bool = c.refresh.new.good.items in
+    let size = length-set marked used true in
+    let all : length good ≡ length kinds = omega (arith, r.marks, size, c.requires.marks, many) in
+    let found = subst (λ (xs : List Bool). MatchOption c.first_good.result (NoOther xs used) (IsFirstMarked xs used)) c.deref.ensures.value c.first_good.ensures in
+    let to : Device = g.F.Flash.device c.settle_copy.new.flash in
+    let s = c.settle_copy.ensures in
+    let others : LeavesOthers kinds used mid to = subst (λ (ks : List Kind). LeavesOthers ks used mid to) r.kinds s.others in
+    let other = some_of_match c.first_good.result (NoOther good used) (IsFirstMarked good used) found (c.is_none.ensures ∙ ap not c.if-is_none.false) in
+    spares_joined form kinds (Some used) from mid to r.refreshes.later s.refreshes.later
+    (over_spares form kinds marked used from mid inside within r.kept)
+    (over_other form kinds area marked good used other.0 from mid to c.requires.unmarked r.refreshes.later all other.1 c.in_ok-refresh.ensures.settled others)
+
+pub returns-clause-held : goal.returns-clause-held
+returns-clause-held g c =
+    let form : Form = g.M.Format.form c.args.format.now in
+    let kinds : List Kind = kinds_of g.B.Bucket.holding c.args.buckets.now.items in
+    let area : List ℕ = c.args.area.now in
+    let rec : List ℕ = c.args.room.now.record.items in
+    let marked : List Bool = c.args.good.now.items in
+    let from : Device = g.F.Flash.device c.args.flash.now in
+    let mid : Device = g.F.Flash.device c.refresh.new.flash in
+    let r = c.refresh.ensures in
+    let many : length c.args.buckets.now.items ≡ length kinds = sym (length-map c.args.buckets.now.items _) in
+    let used : ℕ = c.args.used in
+    let within : used < length marked = omega (arith, c.requires.inside, c.requires.marks) in
+    let inside : used < length kinds = omega (arith, c.requires.inside, many) in
+    let good : List Bool = c.refresh.new.good.items in
+    let size = length-set marked used true in
+    let all : length good ≡ length kinds = omega (arith, r.marks, size, c.requires.marks, many) in
+    let found = subst (λ (xs : List Bool). MatchOption c.first_good.result (NoOther xs used) (IsFirstMarked xs used)) c.deref.ensures.value c.first_good.ensures in
+    let to : Device = g.F.Flash.device c.settle_copy.new.flash in
+    let s = c.settle_copy.ensures in
+    let others : LeavesOthers kinds used mid to = subst (λ (ks : List Kind). LeavesOthers ks used mid to) r.kinds s.others in
+    let other = some_of_match c.first_good.result (NoOther good used) (IsFirstMarked good used) found (c.is_none.ensures ∙ ap not c.if-is_none.false) in
+    over_held form kinds area marked good used c.in_ok-good.field-0 from mid to c.requires.unmarked (omega (arith, all, inside)) (c.in_ok-refresh.ensures.settled.stays used (get_or-set_same marked used true false within)) r.refreshes.later s.refreshes.later c.in_ok-refresh.ensures.settled others
+    (subst (λ (ks : List Kind). IsSettledAt form ks area used mid to c.in_ok-good.field-0) r.kinds c.in_ok-good.ensures.settled)
+
+pub returns-clause-some : goal.returns-clause-some
+returns-clause-some g c =
+    let form : Form = g.M.Format.form c.args.format.now in
+    let kinds : List Kind = kinds_of g.B.Bucket.holding c.args.buckets.now.items in
+    let area : List ℕ = c.args.area.now in
+    let rec : List ℕ = c.args.room.now.record.items in
+    let marked : List Bool = c.args.good.now.items in
+    let from : Device = g.F.Flash.device c.args.flash.now in
+    let mid : Device = g.F.Flash.device c.refresh.new.flash in
+    let r = c.refresh.ensures in
+    let many : length c.args.buckets.now.items ≡ length kinds = sym (length-map c.args.buckets.now.items _) in
+    let used : ℕ = c.args.used in
+    let within : used < length marked = omega (arith, c.requires.inside, c.requires.marks) in
+    let inside : used < length kinds = omega (arith, c.requires.inside, many) in
+    let good : List Bool = c.refresh.new.good.items in
+    let size = length-set marked used true in
+    let all : length good ≡ length kinds = omega (arith, r.marks, size, c.requires.marks, many) in
+    let found = subst (λ (xs : List Bool). MatchOption c.first_good.result (NoOther xs used) (IsFirstMarked xs used)) c.deref.ensures.value c.first_good.ensures in
+    let to : Device = g.F.Flash.device c.settle_copy.new.flash in
+    let s = c.settle_copy.ensures in
+    let others : LeavesOthers kinds used mid to = subst (λ (ks : List Kind). LeavesOthers ks used mid to) r.kinds s.others in
+    let other = some_of_match c.first_good.result (NoOther good used) (IsFirstMarked good used) found (c.is_none.ensures ∙ ap not c.if-is_none.false) in
+    let set_size = length-set good used c.in_ok-good.field-0 in
+    let first = other.1 in
+    let low = first.inside in
+    record {
+      copy = other.0;
+      inside = omega (arith, low, set_size);
+      marked = get_or-set_other good used other.0 c.in_ok-good.field-0 false first.other ∙ first.marked;
+    }
+
+pub returns-clause-exact : goal.returns-clause-exact
+returns-clause-exact g c =
+    let form : Form = g.M.Format.form c.args.format.now in
+    let kinds : List Kind = kinds_of g.B.Bucket.holding c.args.buckets.now.items in
+    let area : List ℕ = c.args.area.now in
+    let rec : List ℕ = c.args.room.now.record.items in
+    let marked : List Bool = c.args.good.now.items in
+    let from : Device = g.F.Flash.device c.args.flash.now in
+    let mid : Device = g.F.Flash.device c.refresh.new.flash in
+    let r = c.refresh.ensures in
+    let many : length c.args.buckets.now.items ≡ length kinds = sym (length-map c.args.buckets.now.items _) in
+    let used : ℕ = c.args.used in
+    let within : used < length marked = omega (arith, c.requires.inside, c.requires.marks) in
+    let inside : used < length kinds = omega (arith, c.requires.inside, many) in
+    let good : List Bool = c.refresh.new.good.items in
+    let size = length-set marked used true in
+    let all : length good ≡ length kinds = omega (arith, r.marks, size, c.requires.marks, many) in
+    let found = subst (λ (xs : List Bool). MatchOption c.first_good.result (NoOther xs used) (IsFirstMarked xs used)) c.deref.ensures.value c.first_good.ensures in
+    let to : Device = g.F.Flash.device c.settle_copy.new.flash in
+    let s = c.settle_copy.ensures in
+    let others : LeavesOthers kinds used mid to = subst (λ (ks : List Kind). LeavesOthers ks used mid to) r.kinds s.others in
+    let other = some_of_match c.first_good.result (NoOther good used) (IsFirstMarked good used) found (c.is_none.ensures ∙ ap not c.if-is_none.false) in
+    λ quiet.
+    over_written kinds rec marked used from mid to c.requires.unmarked within r.refreshes.later s.refreshes.later r.kept (r.exact (undisturbed_first from mid to s.refreshes.later quiet)) others
+    (subst (λ (ks : List Kind). IsWrittenAt ks used rec mid to) r.kinds
+    (subst (λ (xs : List ℕ). IsWrittenAt (kinds_of g.B.Bucket.holding c.refresh.new.buckets.items) used xs mid to) r.«record» (s.exact (undisturbed_second from mid to r.refreshes.later quiet))))

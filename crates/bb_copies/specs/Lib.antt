@@ -1,0 +1,20 @@
+-- Definitions that contracts cite.
+pub use Rattle.bb_base.specs.Faults
+pub use Rattle.bb_base.specs.Form
+pub use Rattle.bb_flash.specs.Counted
+pub use Rattle.bb_flash.specs.Cuts
+pub use Rattle.bb_flash.specs.Device
+pub use Rattle.bb_flash.specs.Image
+pub use Rattle.bb_bucket.specs.Kind
+pub mod Buckets
+pub mod Chronicle
+pub mod Loading
+pub mod Looking
+pub mod Luck
+pub mod Passing
+pub mod Refreshing
+pub mod Saving
+pub mod Settling
+pub mod StandsFor
+pub mod Store
+pub mod Trail

@@ -1,0 +1,127 @@
+-- What a load makes of a device, and what it answers.
+use Rattle.std.specs.Prelude.{◌≡◌, ℕ, ◌-◌, ◌<◌, ◌≤◌, Bool, List, length, Option, Some, None, is_some, count_by, true, false}
+use Rattle.std.specs.Option.{ForSome}
+use Rattle.bb_base.specs.Faults.{Rose}
+use Rattle.bb_base.specs.Form.{Form}
+use Rattle.bb_flash.specs.declared.region.Region.{Region}
+use Rattle.bb_flash.specs.Counted.{EachCounted}
+use Rattle.bb_flash.specs.Cuts.{EachImage, IsLater, IsSameRegion}
+use Rattle.bb_flash.specs.Device.{Device, IsDevice, LeavesStarts, content}
+use Rattle.bb_flash.specs.Image.{Image}
+use Rattle.bb_bucket.specs.Kind.{Kind, part_of}
+use Rattle.bb_copies.specs.declared.answers.CopyFault.{CopyFault}
+use Rattle.bb_copies.specs.declared.answers.CopyFault.TheVariants.{ReadFault, WriteFault, Unsure}
+use Rattle.bb_copies.specs.declared.answers.Loaded.{Loaded}
+use Rattle.bb_copies.specs.declared.answers.Loaded.TheVariants.{Copy, NoCopy}
+use Rattle.bb_copies.specs.Buckets.{EachCopy, IsOutside}
+use Rattle.bb_copies.specs.Looking.{IsFresh}
+use Rattle.bb_copies.specs.Luck.{IsLucky}
+use Rattle.bb_copies.specs.Passing.{passes_at, passings}
+use Rattle.bb_copies.specs.Refreshing.{IsFirstMarked, IsStuckAt}
+use Rattle.bb_copies.specs.Settling.{IsUndisturbed, RoseBy}
+use Rattle.bb_copies.specs.StandsFor.{EachPassesOrNothing, SomePasses, Stands, StandsFor, first_passed}
+
+-- whatever list of areas a content stood for, and whichever of them was acknowledged, it still does
+abbrev pub StandsStill : List (Option (List ℕ)) → List (Option (List ℕ)) → Type 0
+StandsStill before image =
+    (first : List ℕ) (h : List (List ℕ)) (a : ℕ) (marks : List (Option ℕ)) → StandsFor first before h a marks → Stands first image h a
+
+-- so it is in each image of a load that counts
+abbrev pub LoadImages : Form → List Kind → Device → Device → Type 0
+LoadImages form kinds from to =
+    let passing = passings form from.geometry.page kinds in
+    EachCounted (IsLucky passing) (λ before image. StandsStill (passing before) (passing image)) from to
+
+-- in every image what lies outside the copies is as before, and so are the pages in which it stands
+abbrev pub KeepsOutside : List Kind → Device → Device → Type 0
+KeepsOutside kinds from to =
+    (region : Region) → IsOutside kinds region → EachImage (IsSameRegion from.geometry.page region.at region.size) from to
+
+-- the area is that of the first copy that passes
+pub record IsFirstArea (area : List ℕ) (passing : List (Option (List ℕ))) : Type 0 where
+  pub some : SomePasses passing
+  pub first : (first : List ℕ) → first_passed first passing ≡ area
+
+-- Each copy passes the area or nothing. `used` is the first that passes it, and `live` their
+-- number, one at least.
+pub record IsKept (area : List ℕ) (used live : ℕ) (passing : List (Option (List ℕ))) : Type 0 where
+  pub each : EachPassesOrNothing area passing
+  pub passes : passes_at passing used ≡ Some area
+  pub first : (copy : ℕ) → copy < used → passes_at passing copy ≡ None
+  pub counted : live ≡ count_by is_some passing
+
+-- after a load or a save that answered Ok: a call failed for each copy that passes nothing
+pub record IsAllKept (form : Form) (kinds : List Kind) (area : List ℕ) (used live : ℕ) (from to : Device) : Type 0 where
+  pub kept : ForSome (content to) (λ image. IsKept area used live (passings form from.geometry.page kinds image))
+  pub inside : used < length kinds
+  pub some : 1 ≤ live
+  pub dead : RoseBy (length kinds - live) from.faults to.faults
+
+-- the first copy that passed at entry was taken
+pub record IsTaken (form : Form) (kinds : List Kind) (area : List ℕ) (used live : ℕ) (from to : Device) : Type 0 where
+  pub entry : ForSome (content from) (λ image. IsFirstArea area (passings form from.geometry.page kinds image))
+  pub exit : IsAllKept form kinds area used live from to
+
+-- no copy passed, and nothing changed
+pub record IsEmpty (form : Form) (kinds : List Kind) (from to : Device) : Type 0 where
+  pub none : ForSome (content from) (λ image. SomePasses (passings form from.geometry.page kinds image) → ⊥)
+  pub content : content to ≡ content from
+
+-- what a load answers
+abbrev pub LoadGives : Form → List Kind → List ℕ → Device → Device → Loaded → Type 0
+LoadGives form kinds area from to (Copy used live) = IsTaken form kinds area used live from to
+LoadGives form kinds area from to NoCopy = IsEmpty form kinds from to
+
+-- a copy couldn't be read, and nothing changed
+pub record IsReadFault (from to : Device) : Type 0 where
+  pub cause : Rose from.faults to.faults
+  pub read : Rose from.read_faults to.read_faults
+  pub content : content to ≡ content from
+
+-- the copy of this number couldn't be settled with the area of the first that passed
+pub record IsLoadStuck (form : Form) (kinds : List Kind) (area : List ℕ) (copy : ℕ) (from to : Device) : Type 0 where
+  pub entry : ForSome (content from) (λ image. IsFirstArea area (passings form from.geometry.page kinds image))
+  pub stuck : IsStuckAt form kinds area copy from to
+
+-- how a load is refused
+abbrev pub LoadFails : Form → List Kind → List ℕ → Device → Device → CopyFault → Type 0
+LoadFails form kinds area from to ReadFault = IsReadFault from to
+LoadFails form kinds area from to (WriteFault copy) = IsLoadStuck form kinds area copy from to
+LoadFails form kinds area from to Unsure = ⊥
+
+-- a region is as before where its copy passed the area from a record without a Worn page, else as
+-- after a write
+pub record IsExact (form : Form) (page : ℕ) (kind : Kind) (area : List ℕ) (before after : Image) : Type 0 where
+  pub fresh : IsFresh form page kind area before → part_of page kind.region after ≡ part_of page kind.region before
+  pub stale :
+      (IsFresh form page kind area before → ⊥) →
+      part_of page kind.region after ≡ kind.after_write (form.text area) (part_of page kind.region before)
+
+-- without a fault a load that took a copy wrote exactly the copies that had to be written
+abbrev pub LoadsExactly : Form → List Kind → List ℕ → Device → Device → Loaded → Type 0
+LoadsExactly form kinds area from to (Copy used live) =
+    IsUndisturbed from to →
+    ForSome (content from) (λ before. ForSome (content to) (λ after. EachCopy kinds (λ copy kind. IsExact form from.geometry.page kind area before after)))
+LoadsExactly form kinds area from to NoCopy = Unit {0}
+
+-- what holds of every load, whatever it answers
+pub record LoadRuns (form : Form) (kinds : List Kind) (from to : Device) : Type 0 where
+  pub images : LoadImages form kinds from to
+  pub outside : KeepsOutside kinds from to
+  pub later : IsLater from to
+  pub starts : LeavesStarts from to
+  pub whole : IsDevice to
+
+-- what the marks say: the first that is marked, and their number
+abbrev pub IsTally : List Bool → Loaded → Type 0
+IsTally good (Copy used live) = IsFirstMarked good (length good) used × (live ≡ count_by (λ marked. marked) good)
+IsTally good NoCopy = ⊥
+
+-- what a look answers: whether a copy passes, and the area of the first
+abbrev pub LookGives : Form → List Kind → List ℕ → Device → Bool → Type 0
+LookGives form kinds area from true =
+    ForSome (content from)
+    (λ image. IsFirstArea area (passings form from.geometry.page kinds image))
+LookGives form kinds area from false =
+    ForSome (content from)
+    (λ image. SomePasses (passings form from.geometry.page kinds image) → ⊥)

@@ -1,0 +1,89 @@
+-- What settling one copy makes of a device: calls that are to make it pass an area, or nothing.
+use Rattle.std.specs.Prelude.{◌≡◌, ◌≢◌, ◌⊎◌, ℕ, ◌+◌, ◌-◌, ◌^◌, ◌≤◌, min, List, [], ◌∷◌, Option, Some, None}
+use Rattle.std.specs.Option.{ForSome}
+use Rattle.bb_base.specs.Faults.{Rose}
+use Rattle.bb_base.specs.Form.{Form}
+use Rattle.bb_flash.specs.Counted.{EachCounted}
+use Rattle.bb_flash.specs.Cuts.{EachTorn, IsLater}
+use Rattle.bb_flash.specs.Device.{Device, IsDevice, LeavesStarts, content}
+use Rattle.bb_bucket.specs.Calls.{ErasesWhere, Leaves}
+use Rattle.bb_bucket.specs.Kind.{Kind}
+use Rattle.bb_copies.specs.declared.settle.Settled.{Settled}
+use Rattle.bb_copies.specs.declared.settle.Settled.TheVariants.{Good, Dead, Stuck}
+use Rattle.bb_copies.specs.Luck.{IsLucky}
+use Rattle.bb_copies.specs.Passing.{passing_of, passings}
+use Rattle.bb_copies.specs.StandsFor.{IsKeptOrTaken}
+
+-- the count rose by this much at least, or it can't rise any more
+abbrev pub RoseBy : ℕ → ℕ → ℕ → Type 0
+RoseBy rise before now = min (before + rise) (2 ^ 64 - 1) ≤ now
+
+-- no call failed
+abbrev pub IsUndisturbed : Device → Device → Type 0
+IsUndisturbed from to = Rose from.faults to.faults → ⊥
+
+-- In each image that counts the copy passes what it passed before, nothing, or the area. Its region
+-- alone changed, in every image.
+pub record SettlesCopy (form : Form) (kind : Kind) (area : List ℕ) (from to : Device) : Type 0 where
+  pub counted :
+      EachCounted
+      (IsLucky (passings form from.geometry.page (kind ∷ [])))
+      (λ before image.
+      IsKeptOrTaken area (passing_of form from.geometry.page kind before) (passing_of form from.geometry.page kind image))
+      from
+      to
+  pub torn : EachTorn kind.region.at kind.region.size from to
+  pub later : IsLater from to
+  pub starts : LeavesStarts from to
+  pub whole : IsDevice to
+
+-- the copy passes an area that isn't this one
+pub record PassesAnother (area : List ℕ) (passes : Option (List ℕ)) : Type 0 where
+  pub other : List ℕ
+  pub passed : passes ≡ Some other
+  pub differs : other ≢ area
+
+-- it passes the area
+pub record IsGood (form : Form) (kind : Kind) (area : List ℕ) (from to : Device) : Type 0 where
+  pub passes : ForSome (content to) (λ image. passing_of form from.geometry.page kind image ≡ Some area)
+
+-- it passes nothing, and a call failed
+pub record IsDead (form : Form) (kind : Kind) (from to : Device) : Type 0 where
+  pub passes : ForSome (content to) (λ image. passing_of form from.geometry.page kind image ≡ None)
+  pub cause : Rose from.faults to.faults
+
+-- it passes another area, and two calls failed
+pub record IsStale (form : Form) (kind : Kind) (area : List ℕ) (from to : Device) : Type 0 where
+  pub passes : ForSome (content to) (λ image. PassesAnother area (passing_of form from.geometry.page kind image))
+  pub cause : RoseBy 2 from.faults to.faults
+
+-- it couldn't be read back, and three calls failed, of which one is a read
+pub record IsUnread (from to : Device) : Type 0 where
+  pub cause : RoseBy 3 from.faults to.faults
+  pub read : Rose from.read_faults to.read_faults
+
+-- how a copy ends that was to be settled
+abbrev pub EndsAs : Form → Kind → List ℕ → Device → Device → Settled → Type 0
+EndsAs form kind area from to Good = IsGood form kind area from to
+EndsAs form kind area from to Dead = IsDead form kind from to
+EndsAs form kind area from to Stuck = IsStale form kind area from to ⊎ IsUnread from to
+
+-- the record was written to the copy, and nothing else was done
+pub record IsWritten (kind : Kind) (rec : List ℕ) (from to : Device) : Type 0 where
+  pub leaves : Leaves kind.region (kind.after_write rec) from to
+  pub erases : ErasesWhere kind.region (kind.write_erases rec) from to
+
+-- what a copy passes as that is read back: the area, nothing, or another area; or it can't be read
+abbrev pub ReadsAs : Form → Kind → List ℕ → Device → Device → Settled → Type 0
+ReadsAs form kind area from to Good = IsGood form kind area from to
+ReadsAs form kind area from to Dead =
+    ForSome (content to) (λ image. passing_of form from.geometry.page kind image ≡ None)
+ReadsAs form kind area from to Stuck =
+    ForSome (content to) (λ image. PassesAnother area (passing_of form from.geometry.page kind image))
+    ⊎ (Rose from.faults to.faults × Rose from.read_faults to.read_faults)
+
+-- two areas are one, or they are two
+abbrev pub IsCompared : List ℕ → List ℕ → Settled → Type 0
+IsCompared passed wanted Good = passed ≡ wanted
+IsCompared passed wanted Dead = ⊥
+IsCompared passed wanted Stuck = passed ≢ wanted

@@ -1,0 +1,29 @@
+/// What a load found.
+#[derive(Clone, Copy, Debug, PartialEq, Eq)]
+pub enum Loaded {
+    /// An area. `used` is the first copy that passes it now, counted from 0, and `live` the number
+    /// of those that do.
+    Copy { used: u32, live: u32 },
+    /// No copy passes.
+    NoCopy,
+}
+
+/// What a save did.
+#[derive(Clone, Copy, Debug, PartialEq, Eq)]
+pub struct Saved {
+    /// How many copies pass the new area.
+    pub live: u32,
+}
+
+/// Why a load or a save was refused.
+#[derive(Clone, Copy, Debug, PartialEq, Eq)]
+pub enum CopyFault {
+    /// A copy couldn't be read. Nothing was changed.
+    ReadFault,
+    /// A copy, counted from 0, passes another area, or can't be read, and could be neither written
+    /// nor voided; or no copy but this one can be written.
+    WriteFault { copy: u32 },
+    /// No load has answered Ok yet, or the last load or save was refused: what the copies pass
+    /// isn't known.
+    Unsure,
+}

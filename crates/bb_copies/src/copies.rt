@@ -1,0 +1,260 @@
+ghost use Rattle.std.specs.Prelude.{◌≡◌, ◌≢◌, ◌≤◌, ◌↔◌, IfErr, IfOk, IsErr, IsErrOf, IsTrue, None, OnOk, false, is_ok, length};
+ghost use Rattle.bb_flash.specs.Cuts.{IsLater};
+ghost use Rattle.bb_base.specs.Faults.{HasCause};
+ghost use Rattle.bb_flash.specs.Device.{IsDevice, LeavesStarts, ReadKeeps};
+ghost use Rattle.bb_bucket.specs.Calls.{told_but_reads};
+ghost use Rattle.bb_copies.specs.declared.answers.Loaded.TheVariants.{NoCopy};
+ghost use Rattle.bb_copies.specs.Buckets.{AllAgree, AllFit, AllServe, HaveRoom, kinds_of};
+ghost use Rattle.bb_copies.specs.Loading.{KeepsOutside, LoadFails, LoadGives, LoadImages, LoadsExactly, LookGives};
+ghost use Rattle.bb_copies.specs.Saving.{EachWritten, IsSaved, SaveFails, SaveImages};
+ghost use Rattle.bb_copies.specs.Settling.{IsUndisturbed};
+ghost use Rattle.bb_copies.specs.declared.answers.CopyFault.TheVariants.{ReadFault, Unsure};
+ghost use Rattle.bb_copies.specs.Store.{used_after};
+
+use crate::load::load_copies;
+use crate::look::look_over;
+use crate::room::Room;
+use crate::save::save_copies;
+use crate::{BucketList, CopyFault, Loaded, Saved};
+use bb_base::{Format, NoMemory};
+use bb_bucket::Bucket;
+use bb_flash::Flash;
+use std::alloc::Global;
+use std::marker::Model;
+
+/// An area that is kept in two or three copies. Clauses see a `Store`: the buckets, the format, the
+/// copy that is used, and whether the last load or save answered Ok.
+#[derive(Drop)]
+pub struct Copies<B: Bucket + Drop, M: Format + Drop> {
+    buckets: Vec<B>,
+    format: M,
+    room: Room,
+    // which copies are fresh, and then which are good
+    good: Vec<bool>,
+    used: Option<usize>,
+    sure: bool,
+}
+
+impl<B: Bucket + Drop, M: Format + Drop> Model for Copies<B, M> {
+    ghost use Rattle.std.specs.Prelude.{length};
+    ghost use Rattle.bb_copies.specs.Buckets.{kinds_of};
+    ghost use Rattle.bb_copies.specs.Store.{IsMounted, Store};
+
+    ghost Value = { Store B M };
+
+    ghost view = { λ copies. record {
+      buckets = copies.buckets.items;
+      format = copies.format;
+      used = copies.used;
+      sure = copies.sure;
+    } };
+
+    ghost invariant = { λ copies.
+        IsMounted (M.form copies.format) (kinds_of B.holding copies.buckets.items) copies.used
+        (length copies.good.items) (length copies.room.found.items)
+        (length copies.room.record.items)
+        (length copies.room.area.items) };
+}
+
+impl<B: Bucket + Drop, M: Format + Drop> Copies<B, M> {
+    /// Copies in two or three buckets, which stand apart and have room for the format's records. It
+    /// takes all memory that `load` and `save` use.
+    pub fn mount(alloc: Global, buckets: BucketList<B>, format: M) -> Result<Copies<B, M>, NoMemory>
+        requires many { 2 ≤ length buckets }
+        requires few { length buckets ≤ 3 }
+        requires room { HaveRoom (M.form format) (kinds_of B.holding buckets) }
+        ensures buckets { IfOk result (λ copies. copies.buckets ≡ buckets) }
+        ensures format { IfOk result (λ copies. copies.format ≡ format) }
+        ensures used { IfOk result (λ copies. copies.used ≡ None) }
+        ensures sure { IfOk result (λ copies. copies.sure ≡ false) }
+    {
+        let buckets = buckets.items;
+        let record = vec![in alloc; 0u8; format.length()]?;
+        let found = vec![in alloc; 0u8; most_room(&buckets)]?;
+        let area = vec![in alloc; 0u8; format.area_len()]?;
+        let good = vec![in alloc; false; buckets.len()]?;
+        Ok(Copies {
+            buckets,
+            format,
+            room: Room {
+                record,
+                found,
+                area,
+            },
+            good,
+            used: None,
+            sure: false,
+        })
+    }
+
+    /// Reads all copies, takes the area of the first that passes, which is then in `area`, and
+    /// makes the others pass it too: each that doesn't, or has a Worn page, is written; where that
+    /// fails it is voided. The used copy is written anew only where it is worn and another is good.
+    pub fn load<F: Flash>(&mut self, flash: &mut F, area: &mut [u8]) -> Result<Loaded, CopyFault>
+        requires serves { AllServe (kinds_of B.holding self.old.buckets)
+            (F.device flash.old).geometry }
+        requires agreed { AllAgree B.holding (F.device flash.old) self.old.buckets }
+        requires whole { IsDevice (F.device flash.old) }
+        requires area { length area.old ≡ (M.form self.old.format).area_len }
+        ensures images { LoadImages (M.form self.old.format) (kinds_of B.holding self.old.buckets)
+            (F.device flash.old) (F.device flash.new) }
+        ensures gives { IfOk result (LoadGives (M.form self.old.format)
+            (kinds_of B.holding self.old.buckets) area.new
+            (F.device flash.old) (F.device flash.new)) }
+        ensures fails { IfErr result (LoadFails (M.form self.old.format)
+            (kinds_of B.holding self.old.buckets) area.new
+            (F.device flash.old) (F.device flash.new)) }
+        ensures fits { IfOk result (λ loaded. loaded ≢ NoCopy
+            → IsTrue ((M.form self.old.format).fits area.new)) }
+        ensures exact { IfOk result (LoadsExactly (M.form self.old.format)
+            (kinds_of B.holding self.old.buckets) area.new
+            (F.device flash.old) (F.device flash.new)) }
+        ensures outside { KeepsOutside (kinds_of B.holding self.old.buckets) (F.device flash.old)
+            (F.device flash.new) }
+        ensures later { IsLater (F.device flash.old) (F.device flash.new) }
+        ensures starts { LeavesStarts (F.device flash.old) (F.device flash.new) }
+        ensures whole { IsDevice (F.device flash.new) }
+        ensures kinds { kinds_of B.holding self.new.buckets ≡ kinds_of B.holding self.old.buckets }
+        ensures format { self.new.format ≡ self.old.format }
+        ensures agrees { AllAgree B.holding (F.device flash.new) self.new.buckets }
+        ensures used { IfOk result (λ loaded. self.new.used ≡ used_after loaded) }
+        ensures sure { self.new.sure ≡ is_ok result }
+    {
+        self.sure = false;
+        let loaded = load_copies(
+            &mut self.buckets,
+            &mut self.good,
+            &self.format,
+            flash,
+            area,
+            &mut self.room,
+        )?;
+        self.used = used(loaded);
+        self.sure = true;
+        Ok(loaded)
+    }
+
+    /// Writes an area, which fits the format, to every copy, to the used one last. A copy that
+    /// can't be written is voided. Where no other copy took the area the used one isn't touched,
+    /// and the answer is a WriteFault with its number.
+    pub fn save<F: Flash>(&mut self, flash: &mut F, area: &[u8]) -> Result<Saved, CopyFault>
+        requires serves { AllServe (kinds_of B.holding self.old.buckets)
+            (F.device flash.old).geometry }
+        requires agreed { AllAgree B.holding (F.device flash.old) self.old.buckets }
+        requires whole { IsDevice (F.device flash.old) }
+        requires fits { IsTrue ((M.form self.old.format).fits area.now) }
+        ensures unsure { IsErrOf result Unsure ↔ (self.old.sure ≡ false) }
+        ensures images { SaveImages (M.form self.old.format) (kinds_of B.holding self.old.buckets)
+            self.old.used area.now (F.device flash.old) (F.device flash.new) }
+        ensures outside { KeepsOutside (kinds_of B.holding self.old.buckets) (F.device flash.old)
+            (F.device flash.new) }
+        ensures later { IsLater (F.device flash.old) (F.device flash.new) }
+        ensures starts { LeavesStarts (F.device flash.old) (F.device flash.new) }
+        ensures whole { IsDevice (F.device flash.new) }
+        ensures saved { IfOk result (λ saved. IsSaved (M.form self.old.format)
+            (kinds_of B.holding self.old.buckets)
+            area.now self.new.used saved.live (F.device flash.old) (F.device flash.new)) }
+        ensures fails { IfErr result (SaveFails (M.form self.old.format)
+            (kinds_of B.holding self.old.buckets)
+            self.old.used area.now (F.device flash.old) (F.device flash.new)) }
+        ensures exact { IsUndisturbed (F.device flash.old) (F.device flash.new)
+            → OnOk result (EachWritten (kinds_of B.holding self.old.buckets)
+            ((M.form self.old.format).text area.now)
+            (F.device flash.old) (F.device flash.new)) }
+        ensures kinds { kinds_of B.holding self.new.buckets ≡ kinds_of B.holding self.old.buckets }
+        ensures format { self.new.format ≡ self.old.format }
+        ensures agrees { AllAgree B.holding (F.device flash.new) self.new.buckets }
+        ensures sure { self.new.sure ≡ is_ok result }
+    {
+        if !self.sure {
+            return Err(CopyFault::Unsure);
+        }
+        self.sure = false;
+        let taken = save_copies(
+            &mut self.buckets,
+            &mut self.good,
+            self.used,
+            &self.format,
+            flash,
+            area,
+            &mut self.room,
+        )?;
+        self.used = Some(taken.used as usize);
+        self.sure = true;
+        Ok(Saved { live: taken.live })
+    }
+
+    /// Whether the last load or save answered Ok.
+    pub fn is_sure(&self) -> bool
+        ensures { result ≡ self.now.sure }
+    {
+        self.sure
+    }
+
+    /// Whether a copy passes, and then the area of the first in `area`. It reads all copies. Nothing
+    /// changes on the device, nor what is known of the copies.
+    pub fn look<F: Flash>(&mut self, flash: &mut F, area: &mut [u8]) -> Result<bool, CopyFault>
+        requires serves { AllServe (kinds_of B.holding self.old.buckets)
+            (F.device flash.old).geometry }
+        requires agreed { AllAgree B.holding (F.device flash.old) self.old.buckets }
+        requires whole { IsDevice (F.device flash.old) }
+        requires area { length area.old ≡ (M.form self.old.format).area_len }
+        ensures gives { IfOk result (LookGives (M.form self.old.format)
+            (kinds_of B.holding self.old.buckets) area.new (F.device flash.old)) }
+        ensures fails { IfErr result (λ fault. fault ≡ ReadFault) }
+        ensures keeps { ReadKeeps (F.device flash.old) (F.device flash.new) }
+        ensures told { told_but_reads (F.device flash.new) ≡ told_but_reads (F.device flash.old) }
+        ensures later { IsLater (F.device flash.old) (F.device flash.new) }
+        ensures whole { IsDevice (F.device flash.new) }
+        ensures faults { HasCause (F.device flash.old).faults (F.device flash.new).faults
+            (IsErr result) }
+        ensures read_faults { HasCause (F.device flash.old).read_faults
+            (F.device flash.new).read_faults (IsErr result) }
+        ensures kinds { kinds_of B.holding self.new.buckets ≡ kinds_of B.holding self.old.buckets }
+        ensures format { self.new.format ≡ self.old.format }
+        ensures agrees { AllAgree B.holding (F.device flash.new) self.new.buckets }
+        ensures used { self.new.used ≡ self.old.used }
+        ensures sure { self.new.sure ≡ self.old.sure }
+    {
+        let looked = look_over(
+            &mut self.buckets,
+            &mut self.good,
+            &self.format,
+            flash,
+            area,
+            &mut self.room,
+        );
+        let Ok(found) = looked else {
+            return Err(CopyFault::ReadFault);
+        };
+        Ok(found.is_some())
+    }
+}
+
+// The copy that a load took.
+fn used(loaded: Loaded) -> Option<usize>
+    ensures { result ≡ used_after loaded }
+{
+    match loaded {
+        Loaded::Copy { used, .. } => Some(used as usize),
+        Loaded::NoCopy => None,
+    }
+}
+
+// What a copy may hold at most.
+fn most_room<B: Bucket>(buckets: &Vec<B>) -> usize
+    ensures { AllFit (kinds_of B.holding buckets.now.items) result }
+{
+    let mut most = 0;
+    for copy in 0..buckets.len() {
+        most = larger(most, buckets[copy].room() as usize);
+    }
+    most
+}
+
+fn larger(one: usize, other: usize) -> usize
+    ensures first { one ≤ result }
+    ensures second { other ≤ result }
+{
+    one.max(other)
+}

@@ -1,0 +1,20 @@
+//! An area that is kept in two or three copies, and outlives a cut of power at any moment.
+//! It knows of buckets and formats what their traits say. Only bb_state may know it.
+#![tactic(auto)]
+
+mod answers;
+mod bucket_list;
+mod copies;
+mod fresh;
+mod load;
+mod look;
+mod read;
+mod refresh;
+mod room;
+mod save;
+mod settle;
+mod tally;
+
+pub use answers::{CopyFault, Loaded, Saved};
+pub use bucket_list::BucketList;
+pub use copies::Copies;

@@ -1,0 +1,127 @@
+ghost use Rattle.std.specs.Prelude.{◌≡◌, ◌<◌, ◌≤◌, IfOk, IfSome, IsErr, IsTrue, length};
+ghost use Rattle.std.specs.Option.{ForSome};
+ghost use Rattle.bb_base.specs.Faults.{HasCause};
+ghost use Rattle.bb_flash.specs.Cuts.{IsLater};
+ghost use Rattle.bb_flash.specs.Device.{IsDevice, ReadKeeps, content};
+ghost use Rattle.bb_bucket.specs.Calls.{told_but_reads};
+ghost use Rattle.bb_copies.specs.Buckets.{AllAgree, AllFit, AllServe, kinds_of};
+ghost use Rattle.bb_copies.specs.Looking.{FindsBelow, IsReadAt, area_by, good_by, used_by};
+
+use crate::read::{Passed, read_copy};
+use crate::room::Room;
+use bb_base::{Failed, Format};
+use bb_bucket::Bucket;
+use bb_flash::Flash;
+
+/// Reads all copies. `area` is then that of the first that passes, whose number is the answer;
+/// those that pass it too, and have no Worn page, are marked. Where none passes `area` is as
+/// before. Nothing changes on the device.
+pub(crate) fn look_over<B: Bucket, M: Format, F: Flash>(
+    buckets: &mut Vec<B>,
+    good: &mut Vec<bool>,
+    format: &M,
+    flash: &mut F,
+    area: &mut [u8],
+    room: &mut Room,
+) -> Result<Option<usize>, Failed>
+    requires serves { AllServe (kinds_of B.holding buckets.old.items) (F.device flash.old).geometry }
+    requires found { AllFit (kinds_of B.holding buckets.old.items) (length room.old.found.items) }
+    requires agreed { AllAgree B.holding (F.device flash.old) buckets.old.items }
+    requires whole { IsDevice (F.device flash.old) }
+    requires marks { length good.old.items ≡ length buckets.old.items }
+    requires scratch { length room.old.area.items ≡ (M.form format.now).area_len }
+    requires area { length area.old ≡ (M.form format.now).area_len }
+    ensures done { IfOk result (λ used. ForSome (content (F.device flash.old)) (λ image.
+        FindsBelow (M.form format.now) (F.device flash.old).geometry.page
+        (kinds_of B.holding buckets.old.items)
+        (length buckets.old.items) area.new good.new.items image used)) }
+    ensures inside { IfOk result (λ used. IfSome used (λ copy. copy < length buckets.old.items)) }
+    ensures fits { IfOk result (λ used. IfSome used (λ _. IsTrue
+        ((M.form format.now).fits area.new))) }
+    ensures keeps { ReadKeeps (F.device flash.old) (F.device flash.new) }
+    ensures told { told_but_reads (F.device flash.new) ≡ told_but_reads (F.device flash.old) }
+    ensures later { IsLater (F.device flash.old) (F.device flash.new) }
+    ensures whole { IsDevice (F.device flash.new) }
+    ensures faults { HasCause (F.device flash.old).faults (F.device flash.new).faults (IsErr result) }
+    ensures read_faults { HasCause (F.device flash.old).read_faults (F.device flash.new).read_faults
+        (IsErr result) }
+    ensures kinds { kinds_of B.holding buckets.new.items ≡ kinds_of B.holding buckets.old.items }
+    ensures agrees { AllAgree B.holding (F.device flash.new) buckets.new.items }
+    ensures marks { length good.new.items ≡ length good.old.items }
+    ensures found { length room.new.found.items ≡ length room.old.found.items }
+    ensures scratch { length room.new.area.items ≡ length room.old.area.items }
+    ensures record { length room.new.record.items ≡ length room.old.record.items }
+{
+    let mut used = None;
+    for copy in 0..buckets.len() {
+        let passed = read_at(
+            buckets,
+            copy,
+            format,
+            flash,
+            &mut room.found,
+            &mut room.area,
+        )?;
+        let (first, fresh) = compare(passed, &room.area, copy, used, area);
+        used = first;
+        good[copy] = fresh;
+    }
+    Ok(used)
+}
+
+// Reads the copy of a number, and leaves the area that it passes as in `area`, if it does.
+fn read_at<B: Bucket, M: Format, F: Flash>(
+    buckets: &mut Vec<B>,
+    copy: usize,
+    format: &M,
+    flash: &mut F,
+    found: &mut [u8],
+    area: &mut [u8],
+) -> Result<Option<Passed>, Failed>
+    requires inside { copy < length buckets.old.items }
+    requires serves { AllServe (kinds_of B.holding buckets.old.items) (F.device flash.old).geometry }
+    requires found { AllFit (kinds_of B.holding buckets.old.items) (length found.old) }
+    requires agreed { AllAgree B.holding (F.device flash.old) buckets.old.items }
+    requires area { length area.old ≡ (M.form format.now).area_len }
+    ensures done { IfOk result (λ passed. ForSome (content (F.device flash.old)) (λ image.
+        IsReadAt (M.form format.now) (F.device flash.old).geometry.page
+        (kinds_of B.holding buckets.old.items)
+        copy image area.new passed)) }
+    ensures fits { IfOk result (λ passed.
+        IfSome passed (λ _. IsTrue ((M.form format.now).fits area.new))) }
+    ensures keeps { ReadKeeps (F.device flash.old) (F.device flash.new) }
+    ensures told { told_but_reads (F.device flash.new) ≡ told_but_reads (F.device flash.old) }
+    ensures later { IsLater (F.device flash.old) (F.device flash.new) }
+    ensures whole { IsDevice (F.device flash.new) }
+    ensures faults { HasCause (F.device flash.old).faults (F.device flash.new).faults (IsErr result) }
+    ensures read_faults { HasCause (F.device flash.old).read_faults (F.device flash.new).read_faults
+        (IsErr result) }
+    ensures kinds { kinds_of B.holding buckets.new.items ≡ kinds_of B.holding buckets.old.items }
+    ensures agrees { AllAgree B.holding (F.device flash.new) buckets.new.items }
+{
+    read_copy(&mut buckets[copy], format, flash, found, area)
+}
+
+// What the copy of a number means for the first that passes, whose area is `area`: the copy takes
+// its place where none did yet. The answer is the first one's number now, and whether this copy is
+// fresh.
+fn compare(
+    passed: Option<Passed>,
+    found: &[u8],
+    copy: usize,
+    used: Option<usize>,
+    area: &mut [u8],
+) -> (Option<usize>, bool)
+    requires { length found.now ≡ length area.old }
+    ensures used { result.0 ≡ used_by copy passed used }
+    ensures area { area.new ≡ area_by found.now passed area.old used }
+    ensures good { result.1 ≡ good_by found.now passed area.new }
+{
+    let Some(passed) = passed else {
+        return (used, false);
+    };
+    if used.is_none() {
+        area.copy_from_slice(found);
+    }
+    (used.or(Some(copy)), !passed.worn && *found == *area)
+}

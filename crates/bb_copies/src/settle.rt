@@ -1,0 +1,100 @@
+ghost use Rattle.std.specs.Prelude.{◌≡◌, ◌≤◌, IsTrue, length};
+ghost use Rattle.bb_flash.specs.Device.{IsDevice};
+ghost use Rattle.bb_bucket.specs.Calls.{Agrees};
+ghost use Rattle.bb_copies.specs.Settling.{EndsAs, IsUndisturbed, IsCompared, IsWritten, ReadsAs, SettlesCopy};
+
+use crate::read::read_copy;
+use crate::room::Room;
+use bb_base::{Failed, Format};
+use bb_bucket::Bucket;
+use bb_flash::Flash;
+
+/// How a copy is that was to be written.
+#[derive(Clone, Copy, Debug, PartialEq, Eq)]
+pub(crate) enum Settled {
+    /// It passes the wanted area.
+    Good,
+    /// It passes nothing.
+    Dead,
+    /// It passes another area and can't be voided, or it can't be read.
+    Stuck,
+}
+
+/// Writes the record of an area, which `room` holds, to a copy; voids it where that fails; reads it
+/// back where that fails too.
+pub(crate) fn settle<B: Bucket, M: Format, F: Flash>(
+    bucket: &mut B,
+    format: &M,
+    flash: &mut F,
+    area: &[u8],
+    room: &mut Room,
+) -> Settled
+    requires serves { IsTrue ((B.holding bucket.old).kind.serves (F.device flash.old).geometry) }
+    requires agreed { Agrees (B.holding bucket.old) (F.device flash.old) }
+    requires whole { IsDevice (F.device flash.old) }
+    requires fits { IsTrue ((M.form format.now).fits area.now) }
+    requires packed { room.old.record.items ≡ (M.form format.now).text area.now }
+    requires room { (M.form format.now).length ≤ (B.holding bucket.old).kind.room }
+    requires found { (B.holding bucket.old).kind.room ≤ length room.old.found.items }
+    requires area { length room.old.area.items ≡ (M.form format.now).area_len }
+    ensures ends { EndsAs (M.form format.now) (B.holding bucket.old).kind area.now
+        (F.device flash.old) (F.device flash.new) result }
+    ensures settles { SettlesCopy (M.form format.now) (B.holding bucket.old).kind area.now
+        (F.device flash.old) (F.device flash.new) }
+    ensures exact { IsUndisturbed (F.device flash.old) (F.device flash.new)
+        → IsWritten (B.holding bucket.old).kind room.old.record.items (F.device flash.old)
+        (F.device flash.new) }
+    ensures kind { (B.holding bucket.new).kind ≡ (B.holding bucket.old).kind }
+    ensures agrees { Agrees (B.holding bucket.new) (F.device flash.new) }
+    ensures record { room.new.record.items ≡ room.old.record.items }
+    ensures found { length room.new.found.items ≡ length room.old.found.items }
+    ensures scratch { length room.new.area.items ≡ length room.old.area.items }
+{
+    if bucket.write(flash, &room.record).is_ok() {
+        return Settled::Good;
+    }
+    if bucket.void(flash).is_ok() {
+        return Settled::Dead;
+    }
+    read_back(bucket, format, flash, area, room)
+}
+
+// Reads a copy that could be neither written nor voided.
+fn read_back<B: Bucket, M: Format, F: Flash>(
+    bucket: &mut B,
+    format: &M,
+    flash: &mut F,
+    area: &[u8],
+    room: &mut Room,
+) -> Settled
+    requires serves { IsTrue ((B.holding bucket.old).kind.serves (F.device flash.old).geometry) }
+    requires agreed { Agrees (B.holding bucket.old) (F.device flash.old) }
+    requires found { (B.holding bucket.old).kind.room ≤ length room.old.found.items }
+    requires area { length room.old.area.items ≡ (M.form format.now).area_len }
+    ensures ends { ReadsAs (M.form format.now) (B.holding bucket.old).kind area.now
+        (F.device flash.old) (F.device flash.new) result }
+    ensures settles { SettlesCopy (M.form format.now) (B.holding bucket.old).kind area.now
+        (F.device flash.old) (F.device flash.new) }
+    ensures kind { (B.holding bucket.new).kind ≡ (B.holding bucket.old).kind }
+    ensures agrees { Agrees (B.holding bucket.new) (F.device flash.new) }
+    ensures record { room.new.record.items ≡ room.old.record.items }
+    ensures found { length room.new.found.items ≡ length room.old.found.items }
+    ensures scratch { length room.new.area.items ≡ length room.old.area.items }
+{
+    match read_copy(bucket, format, flash, &mut room.found, &mut room.area) {
+        Ok(None) => Settled::Dead,
+        Ok(Some(_)) => compared(&room.area, area),
+        Err(Failed) => Settled::Stuck,
+    }
+}
+
+// A copy passes one area, and another or the same is wanted.
+fn compared(passed: &[u8], wanted: &[u8]) -> Settled
+    ensures { IsCompared passed.now wanted.now result }
+{
+    if passed == wanted {
+        Settled::Good
+    } else {
+        Settled::Stuck
+    }
+}
