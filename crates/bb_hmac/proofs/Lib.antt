@@ -1,0 +1,5 @@
+pub mod Blocks
+pub mod Differences
+mod Examples
+pub mod PairBytes
+pub mod Refusals

@@ -1,0 +1,4 @@
+-- Definitions that contracts cite.
+pub mod Hmac
+pub mod Key
+pub mod Mac
