@@ -15,3 +15,4 @@ pub mod Numbering
 pub mod Numbered
 pub mod Resolving
 pub mod Counting
+pub mod Lengths

@@ -14,3 +14,5 @@ pub mod DraftCode
 pub mod DraftView
 pub mod SlotValues
 pub mod Taking
+pub mod Blob
+pub mod BlobLength

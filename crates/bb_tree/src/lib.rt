@@ -2,6 +2,7 @@
 //! builds. Readers, writers and the layout know it; it knows no text format.
 #![tactic(auto)]
 
+mod blob;
 mod draft;
 mod draft_node;
 mod draft_prop;
@@ -26,6 +27,10 @@ mod tree_error;
 mod value;
 mod write;
 
+/// The level of the deepest nodes that a reader of a tree takes, where the root's is 1.
+pub const DEEPEST: usize = 32;
+
+pub use blob::blob_length;
 pub use draft::Draft;
 pub use draft_node::{DraftNode, DraftNodeList};
 pub use draft_prop::DraftProp;

@@ -67,7 +67,7 @@ impl PropList {
         self.inner.get(place)
     }
 
-    pub(crate) fn as_slice(&self) -> &[Prop]
+    pub fn as_slice(&self) -> &[Prop]
         ensures { result.now ≡ self.now }
     {
         self.inner.as_slice()

@@ -45,6 +45,7 @@ fn finishes_an_empty_draft(rt: HostRuntime) -> Result<(), Fail> {
     assert!(rt; tree.by_phandle(1).is_none());
     assert!(rt; tree.root.prop("a").is_none());
     assert!(rt; tree.root.nodes.is_empty());
+    assert_eq!(rt; blob_length(&tree), 72);
     Ok(())
 }
 
@@ -73,6 +74,8 @@ fn a_tree_is_looked_through_in_preorder(rt: HostRuntime) -> Result<(), Fail> {
         root,
         reserved: PairList::none(rt.alloc()),
     };
+    // dtc 1.6.1 makes as many of `/ { a { phandle = <7>; }; };`
+    assert_eq!(rt; blob_length(&tree), 108);
     let found = tree.by_phandle(7).ok_or("no node has the phandle")?;
     assert_eq!(rt; found.name.as_str(), "a");
     assert!(rt; tree.by_phandle(8).is_none());

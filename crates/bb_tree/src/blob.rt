@@ -1,0 +1,147 @@
+ghost use Rattle.std.specs.Prelude.{◌≡◌, ◌≤◌, ◌<◌, ◌+◌, ◌-◌, ◌^◌, false, length, map, take, if◌then◌else◌};
+ghost use Rattle.bb_tree.specs.Blob.{blob_text, devicetree_of, capped, has_name, whole_words};
+ghost use Rattle.bb_tree.specs.BlobLength.{nodes_length, props_length, names_under, added, StandAt};
+ghost use Rattle.bb_tree.specs.Node.{grow, empty};
+ghost use Rattle.bb_tree.specs.NodeViews.{branch_of, prop_pair};
+
+use crate::{Node, PropList, Tree};
+
+/// The header, the pair of zeros behind the reservation list, and the token FDT_END.
+const FIXED: u64 = 40 + 16 + 4;
+
+/// The length in bytes of the tree's blob (Devicetree Specification v0.4, chapter 5), or 2^64 - 1 where the blob is
+/// longer. It takes no memory. Where many properties have names of their own, it takes time by the square of their
+/// number.
+pub fn blob_length(tree: &Tree) -> u64
+    ensures { result ≡ capped (length (blob_text (devicetree_of tree.now))) }
+{
+    let structure = node_length(&tree.root);
+    if structure == u64::MAX {
+        return u64::MAX;
+    }
+    let mut place = 0;
+    let strings = strings_length(&tree.root, &tree.root, &mut place);
+    (tree.reserved.len() as u64)
+        .saturating_mul(16)
+        .saturating_add(FIXED)
+        .saturating_add(structure)
+        .saturating_add(strings)
+}
+
+// How many bytes the node takes in the structure block.
+fn node_length(node: &Node) -> u64
+    ensures { result ≡ capped (nodes_length (grow (branch_of node.now) empty)) }
+{
+    let own = 8 + whole_words(node.name.as_str().len() + 1);
+    let mut sum = props_length(&node.props).saturating_add(own);
+    for child in &node.nodes.inner {
+        sum = sum.saturating_add(node_length(child));
+    }
+    sum
+}
+
+fn props_length(props: &PropList) -> u64
+    ensures { result ≡ capped (props_length (map prop_pair props.now)) }
+{
+    let mut sum = 0u64;
+    for prop in props.as_slice() {
+        let own = 12 + whole_words(prop.value.as_slice().len());
+        sum = sum.saturating_add(own);
+    }
+    sum
+}
+
+// The next multiple of 4.
+fn whole_words(len: usize) -> u64
+    requires { len ≤ 9223372036854775808 }
+    ensures { result ≡ whole_words len }
+{
+    4 * ((len as u64 + 3) / 4)
+}
+
+// How many bytes the names under the node add to the strings block. They stand at `place` among those under the root,
+// and `place` becomes the place behind them.
+fn strings_length(node: &Node, root: &Node, place: &mut u64) -> u64
+    requires stands { StandAt place.old (names_under (branch_of node.now)) (names_under
+        (branch_of root.now)) }
+    requires fits { place.old + length (names_under (branch_of node.now)) < 2 ^ 64 }
+    ensures sum { result
+        ≡ capped (added (take place.old (names_under (branch_of root.now))) (names_under
+        (branch_of node.now))) }
+    ensures place { place.new ≡ place.old + length (names_under (branch_of node.now)) }
+{
+    let mut sum = own_length(root, &node.props, place);
+    for child in &node.nodes.inner {
+        sum = sum.saturating_add(strings_length(child, root, place));
+    }
+    sum
+}
+
+// The same for the names of some properties.
+fn own_length(root: &Node, props: &PropList, place: &mut u64) -> u64
+    requires stands { StandAt place.old (map (λ p. p.0) (map prop_pair props.now)) (names_under
+        (branch_of root.now)) }
+    requires fits { place.old + length props.now < 2 ^ 64 }
+    ensures sum { result
+        ≡ capped (added (take place.old (names_under (branch_of root.now))) (map (λ p. p.0)
+        (map prop_pair props.now))) }
+    ensures place { place.new ≡ place.old + length props.now }
+{
+    let mut sum = 0u64;
+    for prop in props.as_slice() {
+        sum = sum.saturating_add(name_length(root, prop.name.as_str(), *place));
+        *place += 1;
+    }
+    sum
+}
+
+// How many bytes the name adds to the strings block at this place.
+fn name_length(root: &Node, name: &str, place: u64) -> u64
+    ensures { result
+        ≡ (if has_name (take place (names_under
+        (branch_of root.now))) name.now then 0 else length name.now + 1) }
+{
+    let mut left = place;
+    if is_before(root, name, &mut left) {
+        return 0;
+    }
+    name.len() as u64 + 1
+}
+
+// Whether the name is among the first `left` names under the node. Where it isn't, `left` becomes how many are left
+// of them behind the node.
+fn is_before(node: &Node, name: &str, left: &mut u64) -> bool
+    ensures found { result ≡ has_name (take left.old (names_under (branch_of node.now))) name.now }
+    ensures left { result ≡ false → left.new
+        ≡ left.old - length (names_under (branch_of node.now)) }
+{
+    if is_among(&node.props, name, left) {
+        return true;
+    }
+    for child in &node.nodes.inner {
+        if *left == 0 {
+            return false;
+        }
+        if is_before(child, name, left) {
+            return true;
+        }
+    }
+    false
+}
+
+fn is_among(props: &PropList, name: &str, left: &mut u64) -> bool
+    ensures found { result
+        ≡ has_name (take left.old (map (λ p. p.0) (map prop_pair props.now))) name.now }
+    ensures left { result ≡ false → left.new ≡ left.old - length props.now }
+{
+    for prop in props.as_slice() {
+        if *left == 0 {
+            return false;
+        }
+        if name == prop.name.as_str() {
+            return true;
+        }
+        *left -= 1;
+    }
+    false
+}
