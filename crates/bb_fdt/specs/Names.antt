@@ -1,0 +1,17 @@
+-- Names with where they begin in the strings block.
+use Rattle.std.specs.Prelude.{◌≡◌, ℕ, ◌+◌, List, [], ◌∷◌, length, map}
+use Rattle.bb_tree.specs.Blob.{strings_block}
+use Rattle.bb_tree.specs.Texts.{texts_in}
+use Rattle.bb_fdt.specs.declared.names.Names.TheInside.{Inside}
+
+-- each name with where it begins, where the first one begins at `at`
+abbrev pub placed : ℕ → List (List ℕ) → List (List ℕ × ℕ)
+placed at [] = []
+placed at (name ∷ names) = (name, at) ∷ placed (at + (length name + 1)) names
+
+abbrev pub names_in : Inside → List (List ℕ)
+names_in n = map (λ e. e.0) (texts_in n.places.entries)
+
+pub record ArePlaced (n : Inside) : Type 0 where
+  pub places : texts_in n.places.entries ≡ placed 0 (names_in n)
+  pub len : n.len ≡ length (strings_block (names_in n))

@@ -1,0 +1,64 @@
+ghost use Rattle.std.specs.Prelude.{◌≡◌, ◌==◌, true, IfOk, IfSome};
+ghost use Rattle.std.specs.List.{position_or_len};
+ghost use Rattle.std.specs.Option.{option_map};
+ghost use Rattle.bb_fdt.specs.Tokens.{ended, is_name, name_in};
+
+use bb_base::{NoMemory, Text};
+use std::alloc::Global;
+use std::str;
+
+/// What stands before the first zero byte, if there is one.
+#[tactic(auto, unfolding(crate::specs::Tokens::ended))]
+pub(crate) fn ended(text: &[u8]) -> Option<&[u8]>
+    ensures { option_map (λ name. name.now) result ≡ ended text.now }
+{
+    let len = zero_place(text);
+    if len < text.len() {
+        Some(text.split_at(len).0)
+    } else {
+        None
+    }
+}
+
+fn zero_place(text: &[u8]) -> usize
+    ensures { result ≡ position_or_len (λ c. c == 0) text.now }
+{
+    text.iter().take_while(|c| **c != 0).count()
+}
+
+/// Whether these are some bytes, each from 0x21 to 0x7E.
+pub(crate) fn is_name(name: &[u8]) -> bool
+    ensures { result ≡ is_name name.now }
+{
+    for c in name {
+        if !matches!(*c, 0x21..=0x7e) {
+            return false;
+        }
+    }
+    !name.is_empty()
+}
+
+/// The name that begins there in the strings block.
+#[tactic(auto, unfolding(crate::specs::Tokens::name_in))]
+pub(crate) fn name_in(strings: &[u8], at: u32) -> Option<&[u8]>
+    ensures name { option_map (λ name. name.now) result ≡ name_in strings.now at }
+    ensures fits { IfSome result (λ name. is_name name.now ≡ true) }
+{
+    let at = at as usize;
+    if strings.len() <= at {
+        return None;
+    }
+    let name = ended(strings.split_at(at).1)?;
+    if is_name(name) { Some(name) } else { None }
+}
+
+/// A copy of a name as text.
+pub(crate) fn name_text(alloc: Global, name: &[u8]) -> Result<Text, NoMemory>
+    requires { is_name name.now ≡ true }
+    ensures { IfOk result (λ text. text ≡ name.now) }
+{
+    match str::from_utf8(name) {
+        Ok(text) => Text::of(alloc, text),
+        Err(_) => unreachable!(),
+    }
+}
