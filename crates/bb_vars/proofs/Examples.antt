@@ -2,7 +2,7 @@
 use Rattle.std.proofs.Common.{◌≡◌, [], ◌∷◌, Ok, Err, codes, refl}
 use Rattle.std.specs.Fmt.{digits}
 use Rattle.bb_vars.specs.Mac.{pair_text, pair_of}
-use Rattle.bb_vars.specs.Table.{set_of}
+use Rattle.bb_vars.specs.Table.{table_with}
 use Rattle.bb_vars.specs.Value.{bytes_of, text_of}
 use Rattle.bb_vars.specs.declared.kind.Kind.TheVariants.{Uint8, Uint32, Enum32, Mac, Chars}
 use Rattle.bb_vars.specs.declared.value_error.ValueError.TheVariants.{NotNumber, TooLarge, NoSuchName, NotMac, TooLong, HasZeroByte}
@@ -75,5 +75,5 @@ mac_lower = refl
 string_text : text_of (Chars 4) (97 ∷ 98 ∷ 0 ∷ 99 ∷ []) ≡ codes "ab"
 string_text = refl
 
-table_set : set_of (1 ∷ 2 ∷ 3 ∷ 4 ∷ []) 1 (9 ∷ 9 ∷ []) ≡ 1 ∷ 9 ∷ 9 ∷ 4 ∷ []
+table_set : table_with (1 ∷ 2 ∷ 3 ∷ 4 ∷ []) 1 (9 ∷ 9 ∷ []) ≡ 1 ∷ 9 ∷ 9 ∷ 4 ∷ []
 table_set = refl

@@ -2,5 +2,5 @@
 use Rattle.std.specs.Prelude.{ℕ, ◌+◌, List, ◌++◌, length, take, drop}
 
 -- the table with these bytes from a place on, and every other byte as it was
-abbrev pub set_of : List ℕ → ℕ → List ℕ → List ℕ
-set_of table at bytes = take at table ++ bytes ++ drop (at + length bytes) table
+abbrev pub table_with : List ℕ → ℕ → List ℕ → List ℕ
+table_with table at bytes = take at table ++ bytes ++ drop (at + length bytes) table

@@ -2,7 +2,7 @@ ghost use Rattle.std.specs.Prelude.{◌≡◌, ◌+◌, ◌<◌, ◌≤◌, ◌�
 ghost use Rattle.bb_vars.specs.declared.kind.Kind.{Kind};
 ghost use Rattle.bb_vars.specs.Kind.{size_of, HasFewNames};
 ghost use Rattle.bb_vars.specs.RoundTrip.{IsValue, ReadsBack, plain_text};
-ghost use Rattle.bb_vars.specs.Table.{set_of};
+ghost use Rattle.bb_vars.specs.Table.{table_with};
 ghost use Rattle.bb_vars.specs.Value.{bytes_of, text_of};
 
 /// A printed value reads back as its bytes: each number and MAC address, an index of an enum whose names
@@ -24,8 +24,8 @@ pub fn law_read_then_print()
 /// does nothing.
 pub fn law_set_changes_its_range()
     ensures inside { (table : List ℕ) (at : ℕ) (bytes : List ℕ) → at + length bytes ≤ length table
-        → slice_range (set_of table at bytes) at (at + length bytes) ≡ bytes }
+        → slice_range (table_with table at bytes) at (at + length bytes) ≡ bytes }
     ensures outside { (table : List ℕ) (at : ℕ) (bytes : List ℕ) → at + length bytes ≤ length table
         → (k : ℕ) → (k < at) ⊎ (at + length bytes ≤ k)
-        → slice_index (set_of table at bytes) k ≡ slice_index table k }
+        → slice_index (table_with table at bytes) k ≡ slice_index table k }
 {}

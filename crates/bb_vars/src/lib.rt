@@ -14,7 +14,7 @@ mod value_error;
 pub use kind::Kind;
 pub use law::{law_print_then_read, law_read_then_print, law_set_changes_its_range};
 pub use print::print_value;
-pub use read::read_value;
+pub use read::{check_value, read_value};
 pub use table::Table;
 pub use value_error::ValueError;
 

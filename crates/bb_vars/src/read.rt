@@ -1,6 +1,7 @@
-ghost use Rattle.std.specs.Prelude.{◌≡◌, ◌∷◌, [], ◌<◌, ◌^◌, length, OnOk, OnErr, IfOk, IfErr, false, position, slice_get};
+ghost use Rattle.std.specs.Prelude.{◌≡◌, ◌∷◌, ◌++◌, [], ◌-◌, ◌<◌, ◌≤◌, ◌^◌, length, OnOk, OnErr, IfOk, IfErr, None, false, position, replicate, slice_get};
 ghost use Rattle.std.specs.Int.{w8};
 ghost use Rattle.std.specs.Option.{ok_or, option_map_or};
+ghost use Rattle.std.specs.Result.{result_err};
 ghost use Rattle.std.specs.Str.{bytes_eq};
 ghost use Rattle.bb_base.specs.Number.{number_of};
 ghost use Rattle.bb_vars.specs.Kind.{size_of, HasFewNames};
@@ -27,6 +28,30 @@ pub fn read_value(kind: &Kind, text: &[u8], out: &mut [u8]) -> Result<(), ValueE
         Kind::Enum32(names) => out.copy_from_slice(&read_index(names, text)?.to_le_bytes()),
         Kind::Mac => out.copy_from_slice(&read_mac(text).ok_or(ValueError::NotMac)?),
         Kind::Chars(_) => read_chars(text, out)?,
+    }
+    Ok(())
+}
+
+/// Whether a text is a value of the kind: the refusals are those of `read_value`, and nothing is written.
+pub fn check_value(kind: &Kind, text: &[u8]) -> Result<(), ValueError>
+    requires few_names { HasFewNames kind.now }
+    ensures fits { OnOk result (result_err (bytes_of kind.now text.now) ≡ None) }
+    ensures refused { IfErr result (λ cause. bytes_of kind.now text.now ≡ Err cause) }
+{
+    match kind {
+        Kind::Uint8 => {
+            read_uint8(text)?;
+        }
+        Kind::Uint32 => {
+            read_number(text)?;
+        }
+        Kind::Enum32(names) => {
+            read_index(names, text)?;
+        }
+        Kind::Mac => {
+            read_mac(text).ok_or(ValueError::NotMac)?;
+        }
+        Kind::Chars(size) => check_chars(*size as usize, text)?,
     }
     Ok(())
 }
@@ -63,13 +88,22 @@ fn read_chars(text: &[u8], out: &mut [u8]) -> Result<(), ValueError>
     ensures refused { IfErr result (λ cause. chars_bytes (length out.old) text.now ≡ Err cause) }
     ensures unchanged { OnErr result (out.new ≡ out.old) }
 {
-    if text.len() > out.len() {
+    check_chars(out.len(), text)?;
+    out[..text.len()].copy_from_slice(text);
+    out[text.len()..].fill(0);
+    Ok(())
+}
+
+fn check_chars(size: usize, text: &[u8]) -> Result<(), ValueError>
+    ensures fits { OnOk result (chars_bytes size text.now ≡ Ok (text.now ++ replicate (size - length text.now) 0)) }
+    ensures inside { OnOk result (length text.now ≤ size) }
+    ensures refused { IfErr result (λ cause. chars_bytes size text.now ≡ Err cause) }
+{
+    if text.len() > size {
         return Err(ValueError::TooLong);
     }
     if text.contains(&0) {
         return Err(ValueError::HasZeroByte);
     }
-    out[..text.len()].copy_from_slice(text);
-    out[text.len()..].fill(0);
     Ok(())
 }

@@ -61,6 +61,10 @@ fn a_table_takes_bytes_at_a_place(rt: HostRuntime) -> Result<(), Fail> {
     let mut table = Table::of(rt.alloc(), b"abcdef")?;
     table.put(2, b"XY");
     assert_eq!(rt; table.bytes(), b"abXYef".as_slice());
+    let put = table.put_value(&Kind::Uint8, 3, b"0x7a");
+    assert_eq!(rt; put, Ok(()));
+    assert_eq!(rt; table.bytes(), b"abXzef".as_slice());
+    assert_eq!(rt; check_value(&Kind::Chars(4), b"abcd"), Ok(()));
     assert_eq!(rt; Kind::Chars(9).size(), 9);
     Ok(())
 }
