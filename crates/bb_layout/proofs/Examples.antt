@@ -1,12 +1,16 @@
 -- Variables and areas by computation.
 use Rattle.std.proofs.Common.{◌≡◌, ℕ, List, [], ◌∷◌, ◌++◌, Some, None, Ok, Err, codes, refl}
+use Rattle.bb_flash.specs.declared.geometry.Geometry.{Geometry}
+use Rattle.bb_flash.specs.declared.region.Region.{Region}
 use Rattle.bb_tree.specs.Node.{Branch, empty, forest}
 use Rattle.bb_vars.specs.declared.kind.Kind.{Kind}
 use Rattle.bb_vars.specs.declared.kind.Kind.TheVariants.{Uint8, Uint32, Enum32, Mac, Chars}
+use Rattle.bb_layout.specs.Copies.{region_of}
 use Rattle.bb_layout.specs.Fields.{cell_of, two_cells_of, string_of, strings_of}
 use Rattle.bb_layout.specs.Ranges.{area_of}
+use Rattle.bb_layout.specs.Thirds.{laid_thirds, raw_layout, thirds_of, whole_device}
 use Rattle.bb_layout.specs.Variables.{default_of, variables_of}
-use Rattle.bb_layout.specs.declared.layout_error.LayoutError.TheVariants.{Missing, BadProp, BadType, BadReg, Overlap, AreaTooLong, NameTwice}
+use Rattle.bb_layout.specs.declared.layout_error.LayoutError.TheVariants.{Missing, BadProp, BadType, BadReg, Overlap, AreaTooLong, NameTwice, TooSmall}
 use Rattle.bb_layout.specs.declared.var.Var.{Var}
 
 -- ---- values of properties
@@ -148,3 +152,28 @@ longest = refl
 
 one_too_long : area_of (bytes (codes "a") 65000 536 ∷ []) ≡ Err AreaTooLong
 one_too_long = refl
+
+-- ---- raw records in the thirds of a device
+
+in_place : Geometry
+in_place = record { page = 1; block = 0; size = 192 }
+
+with_blocks : Geometry
+with_blocks = record { page = 256; block = 65536; size = 1048576 }
+
+-- a third of 192 bytes holds an area of 40 bytes, and none of 41
+thirds_of_64_bytes : raw_layout 1 40 in_place ≡ Ok (laid_thirds 1 40 in_place)
+unfolding in_place
+thirds_of_64_bytes = refl
+
+third_copy : region_of (thirds_of in_place) (whole_device in_place) 2 ≡ record { at = 128; size = 64 }
+unfolding in_place
+third_copy = refl
+
+one_byte_more : raw_layout 1 41 in_place ≡ Err TooSmall
+unfolding in_place
+one_byte_more = refl
+
+raw_on_blocks : raw_layout 1 9 with_blocks ≡ Err (BadProp (codes "backend-storage-type"))
+unfolding with_blocks
+raw_on_blocks = refl

@@ -2,6 +2,7 @@
 pub mod Apart
 pub mod Boards
 pub mod Calling
+pub mod CopiesApart
 pub mod Examples
 pub mod Failing
 pub mod Filling
@@ -9,6 +10,7 @@ pub mod Meeting
 pub mod Pairs
 pub mod Places
 pub mod RangeFacts
+pub mod RawLayouts
 pub mod Refusing
 pub mod Strings
 pub mod Texts

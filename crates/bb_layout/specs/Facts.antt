@@ -37,14 +37,20 @@ pub record AreVars (area_len : ℕ) (vars : List Var) : Type 0 where
   pub names_differ : AllPairs (λ v w. v.name ≢ w.name) vars
   pub apart : AllPairs ShareNoByte vars
 
+-- a region ends where another begins, or before: no byte is in both
+abbrev pub EndsBefore : Region → Region → Type 0
+EndsBefore first second = first.at + first.size ≤ second.at
+
 -- copies of an area of so many bytes in a partition of a device: each has a region in the partition, with room for its
--- record
+-- record, and no two of them share a byte
 pub record HasCopies (geometry : Geometry) (partition : Region) (storage : Storage) (copies area_len : ℕ) : Type 0 where
   pub in_place : geometry.block ≡ 0
   pub on_device : partition.at + partition.size ≤ geometry.size
   pub least : 2 ≤ copies
   pub most : copies ≤ 3
   pub inside : (copy : ℕ) → copy < copies → IsWithin partition (region_of storage partition copy)
+  pub apart : (first second : ℕ) → first < second
+      → EndsBefore (region_of storage partition first) (region_of storage partition second)
   pub room : room_for area_len ≤ spacing storage
 
 pub record IsLayout (geometry : Geometry) (partition : Region) (storage : Storage) (copies area_len : ℕ) (vars : List Var) : Type 0 where

@@ -13,6 +13,7 @@ pub mod StateNode
 pub mod StateProps
 pub mod Steps
 pub mod Storage
+pub mod Thirds
 pub mod VarNames
 pub mod VarType
 pub mod Variables

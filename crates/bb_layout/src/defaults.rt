@@ -1,6 +1,6 @@
 ghost use Rattle.std.specs.Prelude.{◌≡◌, ◌≤◌, ◌+◌, All, length};
 ghost use Rattle.bb_layout.specs.Defaults.{defaults_of};
-ghost use Rattle.bb_vars.specs.Table.{set_of};
+ghost use Rattle.bb_vars.specs.Table.{table_with};
 
 use crate::{Var, VarList};
 
@@ -21,7 +21,7 @@ pub(crate) fn fill_defaults(vars: &VarList, out: &mut [u8])
 
 fn put_default(var: &Var, out: &mut [u8])
     requires { var.now.at + length var.now.default ≤ length out.old }
-    ensures put { out.new ≡ set_of out.old var.now.at var.now.default }
+    ensures put { out.new ≡ table_with out.old var.now.at var.now.default }
     ensures same_length { length out.new ≡ length out.old }
 {
     let at = var.at as usize;

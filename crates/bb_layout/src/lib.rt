@@ -14,6 +14,7 @@ mod ranges;
 mod state_node;
 mod state_props;
 mod storage;
+mod thirds;
 mod var;
 mod var_list;
 mod var_type;
@@ -25,6 +26,7 @@ pub use from_tree::layout_of;
 pub use layout::Layout;
 pub use layout_error::LayoutError;
 pub use storage::Storage;
+pub use thirds::raw_layout;
 pub use var::Var;
 pub use var_list::VarList;
 

@@ -8,6 +8,7 @@ use crate::{LayoutError, Storage};
 use bb_flash::{Geometry, Region};
 use std::alloc::Global;
 
+#[tactic(auto, using(crate::proofs::CopiesApart::ends_before))]
 /// How copies of an area are stored in a partition of a device, in strides of the size that is given.
 pub(crate) fn stored(
     alloc: Global,
@@ -63,7 +64,12 @@ const FRONT_LEN: u32 = 8;
 
 const HEADER_LEN: u32 = 16;
 
-fn check_room(storage: Storage, partition: Region, area_len: u32) -> Result<(), LayoutError>
+/// Whether two copies fit, and a record fits into each.
+pub(crate) fn check_room(
+    storage: Storage,
+    partition: Region,
+    area_len: u32,
+) -> Result<(), LayoutError>
     requires { area_len ≤ 65535 }
     ensures { result ≡ spec.fitted storage partition area_len }
 {

@@ -1,0 +1,57 @@
+ghost use Rattle.std.specs.Prelude.{◌≡◌, ◌≢◌, ◌≤◌, ◌<◌, ◌/◌, Ok, Err, IfOk, IfErr, codes};
+ghost use Rattle.bb_flash.specs.Geometry.{IsGeometry};
+ghost use Rattle.bb_layout.specs.Copies.{room_for};
+ghost use Rattle.bb_layout.specs.Layout.{laid};
+ghost use Rattle.bb_layout.specs.Refusals.{ComesExactly};
+ghost use Rattle.bb_layout.specs.Thirds.{raw_layout};
+
+use crate::placing::{check_room, copies};
+use crate::{FormatKind, Layout, LayoutError, Storage, VarList};
+use bb_base::Text;
+use bb_flash::{Geometry, Region};
+use std::alloc::Global;
+
+/// The layout of raw records with an area of so many bytes, at most 65,535: no name and no variables, and three copies
+/// in the thirds of a device that is overwritten in place.
+pub fn raw_layout(
+    alloc: Global,
+    magic: u32,
+    area_len: u32,
+    geometry: Geometry,
+) -> Result<Layout, LayoutError>
+    requires geometry { IsGeometry geometry }
+    requires area { area_len ≤ 65535 }
+    ensures ok { IfOk result (λ layout. raw_layout magic area_len geometry ≡ Ok (laid layout)) }
+    ensures refused { IfErr result (λ e. e ≢ LayoutError.NoMemory
+        → raw_layout magic area_len geometry ≡ Err e) }
+    ensures device { IfOk result (λ layout. layout.geometry ≡ geometry) }
+    ensures three { IfOk result (λ layout. layout.copies ≡ 3) }
+
+    // Each refusal, and where it comes.
+    ensures bad_prop { ComesExactly result (LayoutError.BadProp (codes "backend-storage-type"))
+        (geometry.block ≢ 0) }
+    ensures too_small { ComesExactly result LayoutError.TooSmall
+        ((geometry.block ≡ 0) × (geometry.size / 3 < room_for area_len)) }
+{
+    if geometry.block != 0 {
+        return Err(LayoutError::bad_prop(alloc, "backend-storage-type"));
+    }
+    let storage = Storage::Stride(geometry.size / 3);
+    let region = Region {
+        at: 0,
+        size: geometry.size,
+    };
+    check_room(storage, region, area_len)?;
+    Ok(Layout {
+        name: Text::of(alloc, "")?,
+        node: Text::of(alloc, "")?,
+        magic,
+        format: FormatKind::Raw,
+        storage,
+        geometry,
+        region,
+        copies: copies(storage, region),
+        area_len,
+        vars: VarList::none(alloc),
+    })
+}
