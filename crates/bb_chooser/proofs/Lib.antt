@@ -1,0 +1,13 @@
+-- Lemmas.
+pub mod Best
+pub mod Binds
+pub mod Bound
+pub mod Counts
+mod Examples
+pub mod Following
+pub mod GivenSteps
+pub mod Reading
+pub mod Refusing
+pub mod Resetting
+pub mod Texts
+pub mod Writing

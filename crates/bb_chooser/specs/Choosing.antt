@@ -1,0 +1,56 @@
+-- Which target is best, by a table of the area's bytes (barebox User Manual, Bootchooser).
+use Rattle.std.specs.Prelude.{◌≡◌, ℕ, ◌+◌, ◌<◌, ◌≤◌, List, map, slice_get, slice_range, unwrap_or}
+use Rattle.std.specs.Int.{w32, from_le_bytes, to_le_bytes}
+use Rattle.bb_vars.specs.Table.{table_with}
+use Rattle.bb_chooser.specs.Binding.{Binding}
+use Rattle.bb_chooser.specs.declared.bound_target.BoundTarget.{BoundTarget}
+use Rattle.bb_chooser.specs.declared.count.Count.{Count}
+
+-- ---- what a table holds
+
+-- a uint32 of a table
+abbrev pub number_at : List ℕ → ℕ → ℕ
+number_at table at = from_le_bytes w32 (slice_range table at (at + 4))
+
+abbrev pub with_number : List ℕ → ℕ → ℕ → List ℕ
+with_number table at n = table_with table at (to_le_bytes w32 n)
+
+-- a target's priority and remaining attempts
+abbrev pub count_in : List ℕ → BoundTarget → Count
+count_in table t = record { priority = number_at table t.priority_at; attempts = number_at table t.attempts_at }
+
+abbrev pub counts_of : Binding → List ℕ → List Count
+counts_of b table = map (count_in table) b.targets
+
+-- those of a target, counted from 0; a target that isn't there has neither
+abbrev pub count_of : List Count → ℕ → Count
+count_of counts target = unwrap_or (slice_get counts target) (record { priority = 0; attempts = 0 })
+
+abbrev pub priority_of : Binding → List ℕ → ℕ → ℕ
+priority_of b table target = (count_of (counts_of b table) target).priority
+
+abbrev pub attempts_of : Binding → List ℕ → ℕ → ℕ
+attempts_of b table target = (count_of (counts_of b table) target).attempts
+
+-- the place of the target that was chosen last, from 1, or 0
+abbrev pub last_chosen_of : Binding → List ℕ → ℕ
+last_chosen_of b table = number_at table b.last_chosen_at
+
+-- ---- the best target
+
+-- it has a priority, and attempts left
+pub record QualifiesIn (counts : List Count) (target : ℕ) : Type 0 where
+  pub priority : 0 < (count_of counts target).priority
+  pub attempts : 0 < (count_of counts target).attempts
+
+-- no target that qualifies has a higher priority, and none of the same stands earlier
+pub record IsBestIn (counts : List Count) (target : ℕ) : Type 0 where
+  pub qualifies : QualifiesIn counts target
+  pub highest : (other : ℕ) → QualifiesIn counts other → (count_of counts other).priority ≤ (count_of counts target).priority
+  pub earliest : (other : ℕ) → QualifiesIn counts other → (count_of counts other).priority ≡ (count_of counts target).priority → target ≤ other
+
+abbrev pub Qualifies : Binding → List ℕ → ℕ → Type 0
+Qualifies b table target = QualifiesIn (counts_of b table) target
+
+abbrev pub IsBest : Binding → List ℕ → ℕ → Type 0
+IsBest b table target = IsBestIn (counts_of b table) target

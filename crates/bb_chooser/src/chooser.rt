@@ -1,0 +1,287 @@
+ghost use Rattle.std.specs.Prelude.{◌≡◌, ◌≢◌, ◌==◌, ◌&&◌, Ok, Err, IfOk, IfErr};
+ghost use Rattle.bb_chooser.specs.Binding.{bind_of};
+ghost use Rattle.bb_chooser.specs.Resets.{has_cause};
+
+use crate::SettingsError;
+use crate::after::{are_used_up, best_after, have_no_priority};
+use crate::bind::{bound_targets, last_chosen_at};
+use crate::bound_target::BoundTarget;
+use crate::cause::Cause;
+use crate::events::Events;
+use crate::number::{number_at, put_number};
+use crate::resets::Resets;
+use crate::rules::Rules;
+use crate::settings::Settings;
+use crate::writes::{reset_attempts, reset_priorities};
+use bb_base::Text;
+use bb_layout::Layout;
+use bb_vars::Table;
+use std::alloc::Global;
+use std::marker::Model;
+
+/// Targets that are bound to the variables of a layout. They are counted from 0; a target's place, as a table keeps it, is
+/// that number plus 1. No two of their variables share a byte.
+#[derive(Drop)]
+pub struct Chooser {
+    targets: Vec<BoundTarget>,
+    rules: Rules,
+    last_chosen_at: u32,
+    area_len: u32,
+}
+
+impl Model for Chooser {
+    ghost use Rattle.bb_chooser.specs.Binding.{Binding, IsBinding, binding};
+
+    ghost Value = { Binding };
+
+    ghost view = { λ c. binding c.targets.items c.rules c.last_chosen_at c.area_len };
+
+    ghost invariant = { λ c. IsBinding (binding c.targets.items c.rules c.last_chosen_at c.area_len) };
+}
+
+impl Chooser {
+    ghost use Rattle.std.specs.Prelude.{◌≢◌, ◌<◌, ◌↔◌, List, ℕ, Ok, Err, IfOk, IfErr, IfSome, IsNone, IsTrue, IsSome, length, slice_get};
+    ghost use Rattle.std.specs.Option.{option_copied, option_map};
+    ghost use Rattle.bb_chooser.specs.Binding.{bind_of};
+    ghost use Rattle.bb_chooser.specs.Choosing as choosing;
+    ghost use Rattle.bb_chooser.specs.Choosing.{IsBest, Qualifies};
+    ghost use Rattle.bb_chooser.specs.Counting.{chosen_target, mark_good_of, spend_of};
+    ghost use Rattle.bb_chooser.specs.Others.{KeepsOthers};
+    ghost use Rattle.bb_chooser.specs.Refusals.{ComesFrom, Refuses};
+    ghost use Rattle.bb_chooser.specs.Resets.{reset_of};
+    ghost use Rattle.bb_chooser.specs.ResetsOf.{attempts_reset, priorities_reset, resets_of};
+
+    /// Binds each target to its variables of the layout, `remaining_attempts` before `priority`, and `last_chosen` last.
+    /// The prefix's first name is the layout's, and the rest leads to the variables (barebox User Manual, Bootchooser).
+    pub fn bind(
+        alloc: Global,
+        settings: Settings,
+        layout: &Layout,
+    ) -> Result<Chooser, SettingsError>
+        ensures ok { IfOk result (λ chooser. bind_of settings layout.now ≡ Ok chooser) }
+        ensures refused { IfErr result (Refuses (bind_of settings layout.now)) }
+        ensures sized { IfOk result (λ chooser. chooser.area_len ≡ layout.now.area_len) }
+
+        // Each refusal, and where it comes.
+        ensures no_such_variable { (name : List ℕ) → ComesFrom result (bind_of settings layout.now) (SettingsError.NoSuchVariable name) }
+        ensures not_uint32 { (name : List ℕ) → ComesFrom result (bind_of settings layout.now) (SettingsError.NotUint32 name) }
+    {
+        bound_chooser(alloc, settings, layout)
+    }
+
+    /// How many targets there are.
+    pub fn count(&self) -> usize
+        ensures { result ≡ length self.now.targets }
+    {
+        self.targets.len()
+    }
+
+    /// A target's name, `None` exactly from the count on.
+    pub fn name(&self, target: usize) -> Option<&Text>
+        ensures { option_copied result ≡ option_map (λ t. t.target.name) (slice_get self.now.targets target) }
+    {
+        let bound = self.targets.get(target)?;
+        Some(&bound.target.name)
+    }
+
+    /// The name of a target's entry file, `None` exactly from the count on.
+    pub fn entry(&self, target: usize) -> Option<&Text>
+        ensures { option_copied result ≡ option_map (λ t. t.target.entry) (slice_get self.now.targets target) }
+    {
+        let bound = self.targets.get(target)?;
+        Some(&bound.target.entry)
+    }
+
+    /// Whether another target is tried in the same session after one that failed.
+    pub fn retry(&self) -> bool
+        ensures { result ≡ self.now.rules.retry }
+    {
+        self.rules.retry
+    }
+
+    /// What a table has as a target's priority.
+    pub fn priority(&self, table: &Table, target: usize) -> u32
+        requires sized { length table.now ≡ self.now.area_len }
+        requires there { target < length self.now.targets }
+        ensures { result ≡ choosing.priority_of self.now table.now target }
+    {
+        number_at(table, self.targets[target].priority_at)
+    }
+
+    /// What a table has as a target's remaining attempts.
+    pub fn attempts(&self, table: &Table, target: usize) -> u32
+        requires sized { length table.now ≡ self.now.area_len }
+        requires there { target < length self.now.targets }
+        ensures { result ≡ choosing.attempts_of self.now table.now target }
+    {
+        number_at(table, self.targets[target].attempts_at)
+    }
+
+    /// What a table has as the place of the target that was chosen last.
+    pub fn last_chosen(&self, table: &Table) -> u32
+        requires { length table.now ≡ self.now.area_len }
+        ensures { result ≡ choosing.last_chosen_of self.now table.now }
+    {
+        number_at(table, self.last_chosen_at)
+    }
+
+    /// The target that starts next: of those with a priority and attempts left the one of the highest priority, and of
+    /// equal ones the first. `None` exactly where there is none.
+    pub fn choose(&self, table: &Table) -> Option<usize>
+        requires { length table.now ≡ self.now.area_len }
+        ensures best { IfSome result (IsBest self.now table.now) }
+        ensures none { IsNone result ↔ ((target : ℕ) → ¬ Qualifies self.now table.now target) }
+    {
+        let resets = Resets {
+            priorities: false,
+            attempts: false,
+        };
+        best_after(self.targets.as_slice(), table, resets)
+    }
+
+    /// The target that `choose` gives for the table that `reset` would leave. Nothing is changed.
+    pub fn choose_after(&self, table: &Table, cause: Cause) -> Option<usize>
+        requires { length table.now ≡ self.now.area_len }
+        ensures best { IfSome result (IsBest self.now (reset_of self.now cause table.now)) }
+        ensures none { IsNone result ↔ ((target : ℕ) → ¬ Qualifies self.now (reset_of self.now cause table.now) target) }
+    {
+        best_after(self.targets.as_slice(), table, self.resets(table, cause))
+    }
+
+    /// Gives priorities, and then attempts, their defaults back, where the settings say so for this cause and table.
+    pub fn reset(&self, table: &mut Table, cause: Cause)
+        requires { length table.old ≡ self.now.area_len }
+        ensures reset { table.new ≡ reset_of self.now cause table.old }
+        ensures others { KeepsOthers self.now table.old table.new }
+    {
+        let resets = self.resets(table, cause);
+        reset_priorities(self.targets.as_slice(), table, resets);
+        reset_attempts(self.targets.as_slice(), table, resets);
+    }
+
+    // What a reset brings back.
+    fn resets(&self, table: &Table, cause: Cause) -> Resets
+        requires { length table.now ≡ self.now.area_len }
+        ensures { result ≡ resets_of self.now cause table.now }
+    {
+        let priorities = self.resets_priorities(table);
+        let resets = Resets {
+            priorities,
+            attempts: false,
+        };
+        Resets {
+            priorities,
+            attempts: self.resets_attempts(table, cause, resets),
+        }
+    }
+
+    fn resets_priorities(&self, table: &Table) -> bool
+        requires { length table.now ≡ self.now.area_len }
+        ensures { result ≡ priorities_reset self.now table.now }
+    {
+        self.rules.reset_priorities && have_no_priority(self.targets.as_slice(), table)
+    }
+
+    // Whether attempts get their defaults back, after what has been reset.
+    fn resets_attempts(&self, table: &Table, cause: Cause, resets: Resets) -> bool
+        requires { length table.now ≡ self.now.area_len }
+        ensures { result ≡ attempts_reset self.now cause resets table.now }
+    {
+        let events = self.rules.reset_attempts;
+        if has_cause(events, cause) {
+            return true;
+        }
+        events.all_zero && are_used_up(self.targets.as_slice(), table, resets)
+    }
+
+    /// Takes an attempt from a target, which has one, and notes it as the one that was chosen last. With its last attempt
+    /// it loses its priority, where the settings say so.
+    pub fn spend(&self, table: &mut Table, target: usize)
+        requires sized { length table.old ≡ self.now.area_len }
+        requires there { target < length self.now.targets }
+        requires left { 0 < choosing.attempts_of self.now table.old target }
+        ensures spent { table.new ≡ spend_of self.now table.old target }
+        ensures others { KeepsOthers self.now table.old table.new }
+    {
+        let bound = &self.targets[target];
+        let left = number_at(table, bound.attempts_at) - 1;
+        put_number(table, bound.attempts_at, left);
+        put_number(table, self.last_chosen_at, target as u32 + 1);
+        if !disables(self.rules, left) {
+            return;
+        }
+        put_number(table, bound.priority_at, 0);
+    }
+
+    /// Gives the target that was chosen last its default attempts back. The answer is false, and nothing changes, exactly
+    /// where no target has that place.
+    pub fn mark_good(&self, table: &mut Table) -> bool
+        requires { length table.old ≡ self.now.area_len }
+        ensures good { IsTrue result ↔ IsSome (chosen_target self.now table.old) }
+        ensures marked { table.new ≡ mark_good_of self.now table.old }
+        ensures others { KeepsOthers self.now table.old table.new }
+    {
+        let Some(target) = self.chosen_target(table) else {
+            return false;
+        };
+        let bound = &self.targets[target];
+        put_number(table, bound.attempts_at, bound.target.default_attempts);
+        true
+    }
+
+    // The target that was chosen last, from 0.
+    fn chosen_target(&self, table: &Table) -> Option<usize>
+        requires { length table.now ≡ self.now.area_len }
+        ensures { result ≡ chosen_target self.now table.now }
+    {
+        let place = number_at(table, self.last_chosen_at) as usize;
+        if place == 0 {
+            return None;
+        }
+        if place > self.targets.len() {
+            return None;
+        }
+        Some(place - 1)
+    }
+}
+
+// Whether a target loses its priority.
+fn disables(rules: Rules, left: u32) -> bool
+    ensures { result ≡ (rules.disable_on_zero_attempts && (left == 0)) }
+{
+    rules.disable_on_zero_attempts && left == 0
+}
+
+fn bound_chooser(
+    alloc: Global,
+    settings: Settings,
+    layout: &Layout,
+) -> Result<Chooser, SettingsError>
+    ensures ok { IfOk result (λ chooser. bind_of settings layout.now ≡ Ok chooser) }
+    ensures refused { IfErr result (λ e. e ≢ SettingsError.NoMemory → bind_of settings layout.now ≡ Err e) }
+    ensures sized { IfOk result (λ chooser. chooser.area_len ≡ layout.now.area_len) }
+{
+    let Settings {
+        targets,
+        prefix,
+        rules,
+    } = settings;
+    let targets = bound_targets(alloc, layout, prefix.as_str(), targets)?;
+    let last_chosen_at = last_chosen_at(alloc, layout, prefix.as_str())?;
+    Ok(Chooser {
+        targets,
+        rules,
+        last_chosen_at,
+        area_len: layout.area_len,
+    })
+}
+
+fn has_cause(events: Events, cause: Cause) -> bool
+    ensures { result ≡ has_cause events cause }
+{
+    match cause {
+        Cause::PowerOn => events.power_on,
+        Cause::Reset => events.reset,
+        Cause::Other => false,
+    }
+}

@@ -1,0 +1,4 @@
+mod board;
+mod choosing;
+mod expected;
+mod resets;
