@@ -1,0 +1,87 @@
+-- The lines of a state by computation.
+use Rattle.std.proofs.Common.{◌≡◌, ℕ, List, [], ◌∷◌, Some, None, Ok, Err, codes, refl}
+use Rattle.std.specs.List.{flat_map}
+use Rattle.std.specs.Fmt.{digits}
+use Rattle.bb_vars.specs.Mac.{pair_text}
+use Rattle.bb_vars.specs.declared.kind.Kind.{Kind}
+use Rattle.bb_vars.specs.declared.kind.Kind.TheVariants.{Uint8, Enum32, Mac, Chars}
+use Rattle.bb_layout.specs.declared.var.Var.{Var}
+use Rattle.bb_vars.specs.declared.value_error.ValueError.TheVariants.{TooLarge, TooLong, NoSuchName, NotMac}
+use Rattle.bb_state.specs.Lines.{dump_line, shell_line, shell_name, shell_value}
+use Rattle.bb_state.specs.Named.{after_set, refusal_for, text_for}
+use Rattle.bb_state.specs.declared.error.StateError.TheVariants as states
+
+-- a variable with no default
+abbrev var : List ℕ → ℕ → ℕ → Kind → Var
+var name at size kind = record { name = name; path = name ∷ []; at = at; size = size; kind = kind; default = [] }
+
+abbrev two_vars : List Var
+two_vars =
+    var (codes "n") 0 1 Uint8
+    ∷ var (codes "mode") 4 4 (Enum32 (codes "primary" ∷ codes "backup" ∷ []))
+    ∷ var (codes "eth") 8 6 Mac
+    ∷ var (codes "host") 16 4 (Chars 4)
+    ∷ []
+
+-- the defaults of two_vars
+abbrev two_area : List ℕ
+two_area =
+    0 ∷ 0 ∷ 0 ∷ 0 ∷ 1 ∷ 0 ∷ 0 ∷ 0 ∷ 0 ∷ 17 ∷ 34 ∷ 51 ∷ 68 ∷ 85 ∷ 0 ∷ 0 ∷ 97 ∷ 98 ∷ 0 ∷ 0 ∷ []
+
+dump_of_two : flat_map (dump_line two_area) two_vars ≡ codes "n=0\nmode=backup\neth=00:11:22:33:44:55\nhost=ab\n"
+unfolding digits pair_text
+dump_of_two = refl
+
+shell_dump_of_two : flat_map (shell_line (codes "state") two_area) two_vars
+    ≡ codes "state_n=\"0\"\nstate_mode=\"backup\"\nstate_eth=\"00:11:22:33:44:55\"\nstate_host=\"ab\"\n"
+unfolding digits pair_text
+shell_dump_of_two = refl
+
+four_characters : shell_value (codes "a\\b\"c$d`e") ≡ codes "a\\\\b\\\"c\\$d\\`e"
+four_characters = refl
+
+dots : shell_name (codes "bootstate.system0.priority") ≡ codes "bootstate_system0_priority"
+dots = refl
+
+-- ---- by name
+
+host_is : text_for two_vars (codes "host") two_area ≡ Ok (codes "ab")
+host_is = refl
+
+no_nope : text_for two_vars (codes "nope") two_area ≡ Err states.NoSuchVariable
+no_nope = refl
+
+host_set : after_set two_vars (codes "host") (codes "abcd") two_area
+    ≡ 0 ∷ 0 ∷ 0 ∷ 0 ∷ 1 ∷ 0 ∷ 0 ∷ 0 ∷ 0 ∷ 17 ∷ 34 ∷ 51 ∷ 68 ∷ 85 ∷ 0 ∷ 0 ∷ 97 ∷ 98 ∷ 99 ∷ 100 ∷ []
+host_set = refl
+
+mode_set : after_set two_vars (codes "mode") (codes "primary") two_area
+    ≡ 0 ∷ 0 ∷ 0 ∷ 0 ∷ 0 ∷ 0 ∷ 0 ∷ 0 ∷ 0 ∷ 17 ∷ 34 ∷ 51 ∷ 68 ∷ 85 ∷ 0 ∷ 0 ∷ 97 ∷ 98 ∷ 0 ∷ 0 ∷ []
+mode_set = refl
+
+n_last : refusal_for two_vars (codes "n") (codes "255") ≡ None
+n_last = refl
+
+n_past : refusal_for two_vars (codes "n") (codes "256") ≡ Some (states.Value TooLarge)
+n_past = refl
+
+n_past_kept : after_set two_vars (codes "n") (codes "256") two_area ≡ two_area
+n_past_kept = refl
+
+host_long : refusal_for two_vars (codes "host") (codes "abcde") ≡ Some (states.Value TooLong)
+host_long = refl
+
+host_empty : refusal_for two_vars (codes "host") [] ≡ None
+host_empty = refl
+
+no_spare : refusal_for two_vars (codes "mode") (codes "spare") ≡ Some (states.Value NoSuchName)
+no_spare = refl
+
+five_pairs : refusal_for two_vars (codes "eth") (codes "00:11:22:33:44") ≡ Some (states.Value NotMac)
+five_pairs = refl
+
+nope_set : refusal_for two_vars (codes "nope") (codes "1") ≡ Some states.NoSuchVariable
+nope_set = refl
+
+empty_name_set : refusal_for two_vars [] (codes "1") ≡ Some states.NoSuchVariable
+empty_name_set = refl

@@ -1,0 +1,72 @@
+-- What the copies say of their buckets and format, said of a layout.
+use Rattle.std.proofs.Common.{◌≡◌, ℕ, zero, suc, List, [], ◌∷◌, ◌++◌, length, take, drop, Ok, Err, Option, Result, IfErr, refl, subst, sym, ap, arith}
+use Rattle.std.specs.Result.{IsErrAnd}
+use Rattle.bb_base.specs.Form.{Form}
+use Rattle.bb_flash.specs.Cuts.{IsLater}
+use Rattle.bb_flash.specs.Device.{Device, IsDevice, LeavesStarts}
+use Rattle.bb_bucket.specs.Kind.{Kind}
+use Rattle.bb_copies.specs.Loading.{KeepsOutside, LoadFails, LoadsExactly}
+use Rattle.bb_copies.specs.Saving.{IsSaved, SaveImages, SaveRuns}
+use Rattle.bb_copies.specs.declared.answers.CopyFault.{CopyFault}
+use Rattle.bb_copies.specs.declared.answers.Loaded.{Loaded}
+use Rattle.bb_layout.specs.Layout.{Laid}
+use Rattle.bb_state.specs.Backed.{Backed, form_in, kinds_in}
+use Rattle.bb_state.specs.Kinds.{laid_form, laid_kinds}
+use Rattle.bb_state.specs.State.{IsRefused, IsStored}
+
+-- the error of a `?`
+pub raised : {T E : Type 0} (P : E → Type 0) (r : Result T E) (e : E) → IsErrAnd r (λ y. y ≡ e) → P e → IfErr r P
+raised P (Ok x) e h p = tt
+raised P (Err y) e h p = subst P (sym h) p
+
+pub outside_of : (kinds : List Kind) (layout : Laid) (from to : Device) → kinds ≡ laid_kinds layout → KeepsOutside kinds from to → KeepsOutside (laid_kinds layout) from to
+outside_of kinds layout from to e h = subst (λ kinds. KeepsOutside kinds from to) e h
+
+pub refused_of : (form : Form) (kinds : List Kind) (layout : Laid) (area : List ℕ) (from to : Device) (fault : CopyFault) →
+    form ≡ laid_form layout → kinds ≡ laid_kinds layout → LoadFails form kinds area from to fault → IsRefused layout from to fault
+refused_of form kinds layout area from to fault ef ek h = record {
+  area = area;
+  fails =
+      subst (λ form. LoadFails form (laid_kinds layout) area from to fault) ef
+      (subst (λ kinds. LoadFails form kinds area from to fault) ek h);
+}
+
+pub stored_of : (form : Form) (kinds : List Kind) (layout : Laid) (table : List ℕ) (used : Option ℕ) (live : ℕ) (from to : Device) →
+    form ≡ laid_form layout → kinds ≡ laid_kinds layout → IsSaved form kinds table used live from to → IsStored layout table used from to
+stored_of form kinds layout table used live from to ef ek h = record {
+  live = live;
+  saved =
+      subst (λ form. IsSaved form (laid_kinds layout) table used live from to) ef
+      (subst (λ kinds. IsSaved form kinds table used live from to) ek h);
+}
+
+pub exact_of : (form : Form) (kinds : List Kind) (layout : Laid) (area table : List ℕ) (from to : Device) (loaded : Loaded) →
+    form ≡ laid_form layout → kinds ≡ laid_kinds layout → table ≡ area → LoadsExactly form kinds area from to loaded →
+    LoadsExactly (laid_form layout) (laid_kinds layout) table from to loaded
+exact_of form kinds layout area table from to loaded ef ek et h =
+    subst (λ table. LoadsExactly (laid_form layout) (laid_kinds layout) table from to loaded) (sym et)
+    (subst (λ form. LoadsExactly form (laid_kinds layout) area from to loaded) ef
+    (subst (λ kinds. LoadsExactly form kinds area from to loaded) ek h))
+
+pub runs_of : (form : Form) (kinds : List Kind) (used : Option ℕ) (seen : Backed) (table : List ℕ) (from to : Device) →
+    form ≡ form_in seen → kinds ≡ kinds_in seen → used ≡ seen.used →
+    SaveImages form kinds used table from to → KeepsOutside kinds from to → IsLater from to → LeavesStarts from to → IsDevice to →
+    SaveRuns (form_in seen) (kinds_in seen) seen.used table from to
+runs_of form kinds used seen table from to ef ek eu images outside later starts whole = record {
+  images =
+      subst (λ form. SaveImages form (kinds_in seen) seen.used table from to) ef
+      (subst (λ kinds. SaveImages form kinds seen.used table from to) ek
+      (subst (λ used. SaveImages form kinds used table from to) eu images));
+  outside = subst (λ kinds. KeepsOutside kinds from to) ek outside;
+  later = later;
+  starts = starts;
+  whole = whole;
+}
+
+-- bytes that were written over all of a table
+pub whole_written : (n : ℕ) (xs ys : List ℕ) → length xs ≡ n → length ys ≡ n → take n (xs ++ drop (length xs) ys) ≡ xs
+whole_written zero [] ys ex ey = refl
+whole_written zero (x ∷ xs) ys ex ey = absurd (omega (arith, ex))
+whole_written (suc n) [] ys ex ey = absurd (omega (arith, ex))
+whole_written (suc n) (x ∷ xs) [] ex ey = absurd (omega (arith, ey))
+whole_written (suc n) (x ∷ xs) (y ∷ ys) ex ey = ap (λ xs. x ∷ xs) (whole_written n xs ys (omega (arith, ex)) (omega (arith, ey)))

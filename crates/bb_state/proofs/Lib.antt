@@ -1,0 +1,7 @@
+-- Lemmas.
+pub mod Examples
+pub mod Handed
+pub mod Lists
+pub mod Mounting
+pub mod NamedVars
+pub mod Rooms

@@ -1,0 +1,145 @@
+-- The buckets that a layout has.
+use Rattle.std.proofs.Common.{◌≡◌, ℕ, ◌+◌, ◌<◌, ◌≤◌, List, [], ◌∷◌, ◌++◌, Some, length, map, slice_get, refl, sym, ap, ◌∙◌, subst, arith, IsTrue, inl, inr, ◌≢◌}
+use Rattle.std.specs.List.{range_with_len}
+use Rattle.std.proofs.lemmas.List.FromFn.{length-map-range_with_len, get_or-map-range_with_len, map-range_with_len_more}
+use Rattle.std.proofs.lemmas.Simd.{map-map}
+use Rattle.std.proofs.lemmas.Bool.{cases_lt, eq-eqb}
+use Rattle.std.proofs.lemmas.Bool.Decides.{nat_tests}
+use Rattle.std.proofs.lemmas.Option.{slice_get_within, get_or_from_slice_get}
+use Rattle.bb_base.specs.Form.{Form}
+use Rattle.bb_flash.specs.Geometry.{IsGeometry}
+use Rattle.bb_flash.specs.declared.geometry.Geometry.{Geometry}
+use Rattle.bb_flash.specs.declared.region.Region.{Region}
+use Rattle.bb_flash.specs.Device.{Device}
+use Rattle.bb_bucket.specs.Calls.{Agrees}
+use Rattle.bb_bucket.specs.Kind.{Kind}
+use Rattle.bb_bucket.specs.Stride.{stride_kind}
+use Rattle.bb_copies.specs.Buckets.{AllAgree, AllServe, AreApart, HaveRoom, IsApart, kinds_of}
+use Rattle.bb_layout.specs.Copies.{region_of, room_for, spacing}
+use Rattle.bb_layout.specs.Facts.{EndsBefore, HasCopies, IsLayout, IsWithin}
+use Rattle.bb_layout.specs.Layout.{Laid}
+use Rattle.bb_layout.specs.declared.format_kind.FormatKind.{FormatKind}
+use Rattle.bb_layout.specs.declared.format_kind.FormatKind.TheVariants.{Raw}
+use Rattle.bb_layout.specs.declared.storage.Storage.{Storage}
+use Rattle.bb_layout.specs.declared.storage.Storage.TheVariants.{Stride}
+use Rattle.bb_state.specs.Kinds.{any_form, any_holding, bucket_at, format_of, laid_buckets, laid_form, laid_kinds}
+use Rattle.bb_state.specs.declared.any_bucket.AnyBucket.{AnyBucket}
+use Rattle.bb_state.specs.declared.any_bucket.AnyBucket.TheVariants as any
+
+-- one bucket more
+pub buckets_more : (storage : Storage) (partition : Region) (copy : ℕ) →
+    map (bucket_at storage partition) (range_with_len 0 copy) ++ bucket_at storage partition copy ∷ []
+    ≡ map (bucket_at storage partition) (range_with_len 0 (copy + 1))
+buckets_more storage partition copy = sym (map-range_with_len_more (bucket_at storage partition) 0 copy copy (omega arith))
+
+kind_at : Storage → Region → ℕ → Kind
+kind_at storage partition copy = (any_holding (bucket_at storage partition copy)).kind
+
+kinds_are : (layout : Laid) → laid_kinds layout ≡ map (kind_at layout.storage layout.region) (range_with_len 0 layout.copies)
+unfolding kind_at
+kinds_are layout = map-map (λ (b : AnyBucket). (any_holding b).kind) (bucket_at layout.storage layout.region) (range_with_len 0 layout.copies)
+
+pub buckets_len : (layout : Laid) → length (laid_buckets layout) ≡ layout.copies
+buckets_len layout = length-map-range_with_len (bucket_at layout.storage layout.region) 0 layout.copies
+
+-- the copy of a number stands among the copies, and has the kind of its number
+record IsAt (layout : Laid) (copy : ℕ) (kind : Kind) : Type 0 where
+  inside : copy < layout.copies
+  kind_is : kind_at layout.storage layout.region copy ≡ kind
+
+kind_there : (layout : Laid) (copy : ℕ) (kind : Kind) → slice_get (laid_kinds layout) copy ≡ Some kind → IsAt layout copy kind
+kind_there layout copy kind h =
+    let there = subst (λ kinds. slice_get kinds copy ≡ Some kind) (kinds_are layout) h in
+    let numbers = map (kind_at layout.storage layout.region) (range_with_len 0 layout.copies) in
+    let within = slice_get_within numbers copy kind there in
+    let len = length-map-range_with_len (kind_at layout.storage layout.region) 0 layout.copies in
+    let inside : copy < layout.copies = omega (arith, within, len) in
+    record {
+      inside = inside;
+      kind_is = sym (get_or-map-range_with_len (kind_at layout.storage layout.region) 0 layout.copies copy copy kind inside (omega arith)) ∙ get_or_from_slice_get numbers copy kind kind there;
+    }
+
+-- a bucket stands in its region, with room for a record, on the device
+record IsFit (form : Form) (geometry : Geometry) (region : Region) (kind : Kind) : Type 0 where
+  region_is : kind.region ≡ region
+  room : form.length ≤ kind.room
+  serves : IsTrue (kind.serves geometry)
+
+fit_of : (storage : Storage) (format : FormatKind) (geometry : Geometry) (partition : Region) (copies area_len magic copy : ℕ) → IsGeometry geometry →
+    HasCopies geometry partition storage copies area_len → copy < copies →
+    IsFit (any_form (format_of format magic area_len)) geometry (region_of storage partition copy) (kind_at storage partition copy)
+unfolding kind_at
+fit_of (Stride stride) Raw geometry partition copies area_len magic copy is has below =
+    let within = has.inside copy below in
+    let room = has.room in
+    let page = is.in_place has.in_place in
+    let block = has.in_place in
+    let on_device = has.on_device in
+    let small = is.size_most in
+    let to = within.to in
+    record {
+      region_is = refl;
+      room = omega arith;
+      serves = grind (arith, nat_tests);
+    }
+
+-- what the facts of a layout say of a copy
+abbrev pub AreFacts : Laid → Type 0
+AreFacts layout = IsLayout layout.geometry layout.region layout.storage layout.copies layout.area_len layout.vars
+
+kind_fit : (layout : Laid) (copy : ℕ) (kind : Kind) → AreFacts layout → slice_get (laid_kinds layout) copy ≡ Some kind →
+    (copy < layout.copies) × IsFit (laid_form layout) layout.geometry (region_of layout.storage layout.region copy) kind
+kind_fit layout copy kind facts h =
+    let at = kind_there layout copy kind h in (
+      at.inside,
+      subst (IsFit (laid_form layout) layout.geometry (region_of layout.storage layout.region copy)) at.kind_is
+          (fit_of layout.storage layout.format layout.geometry layout.region layout.copies layout.area_len layout.magic copy facts.geometry_is facts.copied at.inside),
+    )
+
+apart_of : (layout : Laid) (one two : ℕ) → AreFacts layout → one ≢ two →
+    IsApart (region_of layout.storage layout.region one) (region_of layout.storage layout.region two)
+apart_of layout one two facts differ =
+    elim (cases_lt one two) [
+      | inl before ↦ inl (facts.copied.apart one two before)
+      | inr behind ↦
+          let differs : one ≡ two → ⊥ = differ in
+          let after : two < one = lt_of one two behind differs in
+          inr (facts.copied.apart two one after)
+    ]
+  where
+    lt_of : (one two : ℕ) → two ≤ one → (one ≡ two → ⊥) → two < one
+    lt_of one two behind differs =
+        elim (cases_lt two one) [
+          | inl less ↦ less
+          | inr more ↦ absurd (differs (omega arith))
+        ]
+
+regions_apart : (one two a b : Region) → one ≡ a → two ≡ b → IsApart a b → IsApart one two
+regions_apart one two a b ea eb h = subst (λ r. IsApart r two) (sym ea) (subst (IsApart a) (sym eb) h)
+
+pub have_room : (layout : Laid) → AreFacts layout → HaveRoom (laid_form layout) (laid_kinds layout)
+have_room layout facts = record {
+  room = λ copy kind there. (kind_fit layout copy kind facts there).1.room;
+  apart = λ copy kind there other beside found differ.
+      let one = kind_fit layout copy kind facts there in
+      let two = kind_fit layout other beside facts found in
+      regions_apart kind.region beside.region _ _ one.1.region_is two.1.region_is
+      (apart_of layout copy other facts (λ same. differ (sym same)));
+}
+
+pub all_serve : (layout : Laid) → AreFacts layout → AllServe (laid_kinds layout) layout.geometry
+all_serve layout facts copy kind there = (kind_fit layout copy kind facts there).1.serves
+
+-- ---- what holds of a fresh state
+
+bucket_agrees : (device : Device) (bucket : AnyBucket) → Agrees (any_holding bucket) device
+bucket_agrees device (any.Stride region) = record { here = λ image told. refl }
+
+pub all_agree : (device : Device) (buckets : List AnyBucket) → AllAgree any_holding device buckets
+all_agree device buckets copy bucket there = bucket_agrees device bucket
+
+fits_at : (format : FormatKind) (magic area_len : ℕ) (table : List ℕ) → length table ≡ area_len → IsTrue ((any_form (format_of format magic area_len)).fits table)
+fits_at Raw magic area_len table sized = eq-eqb _ _ sized
+
+pub sized_fits : (layout : Laid) (table : List ℕ) → length table ≡ layout.area_len → IsTrue ((laid_form layout).fits table)
+sized_fits layout table sized = fits_at layout.format layout.magic layout.area_len table sized

@@ -1,0 +1,36 @@
+use Rattle.std.proofs.Common.{◌≡◌, ◌∙◌, ap, ◌++◌, ℕ, List, drop, length, arith, take}
+use Rattle.bb_copies.specs.Buckets.{kinds_of}
+use Rattle.bb_state.specs.Backed.{Backed}
+use Rattle.bb_state.specs.Kinds.{any_form, any_holding, laid_form, laid_kinds}
+use Rattle.bb_state.proofs.Handed.{exact_of, outside_of, raised, refused_of, whole_written}
+use Rattle.bb_state.proofs.backing.Backing.load.Goals as goal
+
+pub returns-in_err-loaded-clause-fails : goal.returns-in_err-loaded-clause-fails
+returns-in_err-loaded-clause-fails g c =
+    let kinds : kinds_of any_holding c.self.inside.copies.buckets ≡ laid_kinds c.args.self.now.layout = c.self.invariant.kinds ∙ ap (λ (b : Backed). laid_kinds b.layout) c.self.view_is in
+    let form : any_form c.self.inside.copies.format ≡ laid_form c.args.self.now.layout = ap any_form c.self.invariant.format_is ∙ ap (λ (b : Backed). laid_form b.layout) c.self.view_is in
+    raised _ c.from_residual.result c.in_err-loaded.field-0.0 c.from_residual.ensures.1
+    (refused_of _ _ c.args.self.now.layout c.load.new.area _ _ c.in_err-loaded.field-0.0 form kinds c.in_err-loaded.ensures.fails)
+
+pub returns-in_err-loaded-clause-outside : goal.returns-in_err-loaded-clause-outside
+returns-in_err-loaded-clause-outside g c =
+    let kinds : kinds_of any_holding c.self.inside.copies.buckets ≡ laid_kinds c.args.self.now.layout = c.self.invariant.kinds ∙ ap (λ (b : Backed). laid_kinds b.layout) c.self.view_is in
+    outside_of _ c.args.self.now.layout _ _ kinds c.load.ensures.outside
+
+pub returns-then-eq-clause-outside : goal.returns-then-eq-clause-outside
+returns-then-eq-clause-outside g c =
+    let kinds : kinds_of any_holding c.self.inside.copies.buckets ≡ laid_kinds c.args.self.now.layout = c.self.invariant.kinds ∙ ap (λ (b : Backed). laid_kinds b.layout) c.self.view_is in
+    outside_of _ c.args.self.now.layout _ _ kinds c.load.ensures.outside
+
+pub returns-else-eq-clause-outside : goal.returns-else-eq-clause-outside
+returns-else-eq-clause-outside g c =
+    let kinds : kinds_of any_holding c.self.inside.copies.buckets ≡ laid_kinds c.args.self.now.layout = c.self.invariant.kinds ∙ ap (λ (b : Backed). laid_kinds b.layout) c.self.view_is in
+    outside_of _ c.args.self.now.layout _ _ kinds c.load.ensures.outside
+
+pub returns-else-eq-clause-exact : goal.returns-else-eq-clause-exact
+returns-else-eq-clause-exact g c =
+    let kinds : kinds_of any_holding c.self.inside.copies.buckets ≡ laid_kinds c.args.self.now.layout = c.self.invariant.kinds ∙ ap (λ (b : Backed). laid_kinds b.layout) c.self.view_is in
+    let form : any_form c.self.inside.copies.format ≡ laid_form c.args.self.now.layout = ap any_form c.self.invariant.format_is ∙ ap (λ (b : Backed). laid_form b.layout) c.self.view_is in
+    let kept = take c.self.inside.kept.len (c.load.new.area ++ drop (length c.load.new.area) c.self.inside.kept.items) in
+    let same : kept ≡ c.load.new.area = whole_written c.self.inside.kept.len c.load.new.area c.self.inside.kept.items (grind arith) (grind arith) in
+    exact_of _ _ c.args.self.now.layout c.load.new.area kept (g.F.Flash.device c.args.flash.now) (g.F.Flash.device c.load.new.flash) c.in_ok-loaded.loaded form kinds same c.in_ok-loaded.ensures.exact

@@ -1,0 +1,63 @@
+-- The kinds of buckets and of formats, and which of them the copies of a layout have.
+use Rattle.std.specs.Prelude.{ℕ, List, Option, map}
+use Rattle.std.specs.List.{range_with_len}
+use Rattle.bb_base.specs.Form.{Form, IsForm}
+use Rattle.bb_flash.specs.Image.{Image}
+use Rattle.bb_flash.specs.declared.region.Region.{Region}
+use Rattle.bb_bucket.specs.Kind.{Holding, IsKind, Kind}
+use Rattle.bb_bucket.specs.Stride.{stride_holding}
+use Rattle.bb_bucket.specs.StrideLaws.{stride_laws}
+use Rattle.bb_raw.specs.Laws.{raw_laws}
+use Rattle.bb_raw.specs.Raw.{raw_form}
+use Rattle.bb_layout.specs.Copies.{region_of}
+use Rattle.bb_layout.specs.Layout.{Laid}
+use Rattle.bb_layout.specs.declared.format_kind.FormatKind.{FormatKind}
+use Rattle.bb_layout.specs.declared.format_kind.FormatKind.TheVariants as formats
+use Rattle.bb_layout.specs.declared.storage.Storage.{Storage}
+use Rattle.bb_layout.specs.declared.storage.Storage.TheVariants as storages
+use Rattle.bb_copies.specs.Buckets.{kinds_of}
+use Rattle.bb_copies.specs.Passing.{passings}
+use Rattle.bb_state.specs.declared.any_bucket.AnyBucket.{AnyBucket}
+use Rattle.bb_state.specs.declared.any_bucket.AnyBucket.TheVariants.{Stride}
+use Rattle.bb_state.specs.declared.any_format.AnyFormat.{AnyFormat}
+use Rattle.bb_state.specs.declared.any_format.AnyFormat.TheVariants.{Raw}
+
+-- ---- each is what the kind inside is
+
+abbrev pub any_holding : AnyBucket → Holding
+any_holding (Stride region) = stride_holding region
+
+pub any_bucket_laws : (bucket : AnyBucket) → IsKind (any_holding bucket).kind
+any_bucket_laws (Stride region) = stride_laws region
+
+abbrev pub any_form : AnyFormat → Form
+any_form (Raw kind) = raw_form kind
+
+pub any_format_laws : (format : AnyFormat) → IsForm (any_form format)
+any_format_laws (Raw kind) = raw_laws kind
+
+-- ---- of a layout
+
+-- the bucket of a copy, counted from 0
+abbrev pub bucket_at : Storage → Region → ℕ → AnyBucket
+bucket_at (storages.Stride stride) partition copy =
+    Stride (region_of (storages.Stride stride) partition copy)
+
+-- the buckets of all copies, in their order, and their kinds
+abbrev pub laid_buckets : Laid → List AnyBucket
+laid_buckets layout = map (bucket_at layout.storage layout.region) (range_with_len 0 layout.copies)
+
+abbrev pub laid_kinds : Laid → List Kind
+laid_kinds layout = kinds_of any_holding (laid_buckets layout)
+
+-- the format of their records
+abbrev pub format_of : FormatKind → ℕ → ℕ → AnyFormat
+format_of formats.Raw magic area_len = Raw (record { magic = magic; area_len = area_len })
+
+abbrev pub laid_form : Laid → Form
+laid_form layout = any_form (format_of layout.format layout.magic layout.area_len)
+
+-- what each copy of a layout passes in an image: an area, or nothing
+abbrev pub laid_passings : Laid → Image → List (Option (List ℕ))
+laid_passings layout image =
+    passings (laid_form layout) layout.geometry.page (laid_kinds layout) image

@@ -1,0 +1,83 @@
+-- What a state is to those who load and save it.
+use Rattle.std.specs.Prelude.{◌≡◌, ℕ, Bool, ◌&&◌, not, ⊤, List, Option, length, IsTrue}
+use Rattle.std.specs.Str.{bytes_eq}
+use Rattle.bb_base.specs.Form.{Form}
+use Rattle.bb_flash.specs.Device.{Device, IsDevice}
+use Rattle.bb_bucket.specs.Kind.{Kind}
+use Rattle.bb_copies.specs.Buckets.{AllAgree}
+use Rattle.bb_copies.specs.Loading.{LoadFails}
+use Rattle.bb_copies.specs.Saving.{IsSaved}
+use Rattle.bb_copies.specs.declared.answers.CopyFault.{CopyFault}
+use Rattle.bb_copies.specs.declared.answers.Loaded.{Loaded}
+use Rattle.bb_copies.specs.declared.answers.Loaded.TheVariants.{Copy, NoCopy}
+use Rattle.bb_layout.specs.Defaults.{defaults_of}
+use Rattle.bb_layout.specs.Layout.{Laid}
+use Rattle.bb_state.specs.Backed.{form_in, kinds_in}
+use Rattle.bb_state.specs.Kinds.{any_holding, laid_form, laid_kinds}
+use Rattle.bb_state.specs.declared.state.State.{State}
+
+-- its layout
+abbrev pub laid_of : State → Laid
+laid_of state = state.backing.layout
+
+-- the format of its copies, and their kinds
+abbrev pub form_of : State → Form
+form_of state = form_in state.backing
+
+abbrev pub kinds_of : State → List Kind
+kinds_of state = kinds_in state.backing
+
+-- the table that was last loaded or saved, and the copy that passed it first, if any did
+abbrev pub kept_of : State → List ℕ
+kept_of state = state.backing.kept
+
+abbrev pub used_of : State → Option ℕ
+used_of state = state.backing.used
+
+-- whether the last load or save answered Ok
+abbrev pub is_sure : State → Bool
+is_sure state = state.backing.sure
+
+-- whether that is known to be its table, and whether it is known to be another
+abbrev pub is_kept : State → Bool
+is_kept state = is_sure state && bytes_eq state.table (kept_of state)
+
+abbrev pub has_changed : State → Bool
+has_changed state = is_sure state && not (bytes_eq state.table (kept_of state))
+
+-- its table has the layout's length
+abbrev pub IsSized : State → Type 0
+IsSized state = length state.table ≡ (laid_of state).area_len
+
+-- its table can be kept as a record
+abbrev pub FitsForm : State → Type 0
+FitsForm state = IsTrue ((form_of state).fits state.table)
+
+-- it may be used with a device: one of the layout's geometry, of which its buckets keep what
+-- stands there
+pub record IsOn (state : State) (device : Device) : Type 0 where
+  pub geometry : device.geometry ≡ (laid_of state).geometry
+  pub agrees : AllAgree any_holding device state.backing.buckets
+  pub whole : IsDevice device
+
+-- so it may be with every device of that geometry
+abbrev pub IsFresh : State → Type 0
+IsFresh state =
+    (device : Device) →
+    device.geometry ≡ (laid_of state).geometry → IsDevice device → IsOn state device
+
+-- where no copy passed a load gives the defaults
+abbrev pub IsDefault : Laid → List ℕ → Loaded → Type 0
+IsDefault layout table (Copy used live) = ⊤
+IsDefault layout table NoCopy = table ≡ defaults_of layout.area_len layout.vars
+
+-- a load was refused, as the copies refuse it over the area that they found, if they did
+pub record IsRefused (layout : Laid) (from to : Device) (fault : CopyFault) : Type 0 where
+  pub area : List ℕ
+  pub fails : LoadFails (laid_form layout) (laid_kinds layout) area from to fault
+
+-- all copies pass the table or nothing, and the first that passes it is used
+pub record IsStored
+    (layout : Laid) (table : List ℕ) (used : Option ℕ) (from to : Device) : Type 0 where
+  pub live : ℕ
+  pub saved : IsSaved (laid_form layout) (laid_kinds layout) table used live from to

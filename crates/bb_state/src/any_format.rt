@@ -1,0 +1,41 @@
+ghost use Rattle.bb_state.specs.Kinds.{any_form, any_format_laws};
+
+use bb_base::Format;
+use bb_raw::Raw;
+
+/// A format of any kind: each call is that of the format inside.
+#[derive(Clone, Copy, Debug)]
+pub enum AnyFormat {
+    /// The raw record.
+    Raw(Raw),
+}
+
+impl Format for AnyFormat {
+    ghost form = { any_form };
+
+    ghost laws = { any_format_laws };
+
+    fn area_len(&self) -> usize {
+        match self {
+            AnyFormat::Raw(raw) => raw.area_len(),
+        }
+    }
+
+    fn length(&self) -> usize {
+        match self {
+            AnyFormat::Raw(raw) => raw.length(),
+        }
+    }
+
+    fn pack(&self, area: &[u8], out: &mut [u8]) {
+        match self {
+            AnyFormat::Raw(raw) => raw.pack(area, out),
+        }
+    }
+
+    fn check(&self, bytes: &[u8], area: &mut [u8]) -> bool {
+        match self {
+            AnyFormat::Raw(raw) => raw.check(bytes, area),
+        }
+    }
+}

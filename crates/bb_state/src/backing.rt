@@ -1,0 +1,209 @@
+ghost use Rattle.std.specs.Prelude.{◌≡◌, ◌<◌, ◌&&◌, ◌↔◌, IfErr, IfOk, IsErr, IsErrOf, IsTrue, OnOk, false, is_ok, length};
+ghost use Rattle.std.specs.Str.{bytes_eq};
+ghost use Rattle.bb_base.specs.Faults.{HasCause};
+ghost use Rattle.bb_flash.specs.Cuts.{IsLater};
+ghost use Rattle.bb_flash.specs.Device.{Device, IsDevice, LeavesStarts, ReadKeeps};
+ghost use Rattle.bb_bucket.specs.Calls.{told_but_reads};
+ghost use Rattle.bb_copies.specs.Buckets.{AllAgree};
+ghost use Rattle.bb_copies.specs.Loading.{KeepsOutside, LoadGives, LoadImages, LoadsExactly, LookGives};
+ghost use Rattle.bb_copies.specs.Saving.{EachWritten, SaveFails, SaveRuns};
+ghost use Rattle.bb_copies.specs.Settling.{IsUndisturbed};
+ghost use Rattle.bb_copies.specs.Store.{used_after};
+ghost use Rattle.bb_copies.specs.declared.answers.CopyFault.TheVariants.{ReadFault, Unsure};
+ghost use Rattle.bb_layout.specs.Layout.{laid};
+ghost use Rattle.bb_state.specs.Backed.{form_in, kinds_in};
+ghost use Rattle.bb_state.specs.Kinds.{any_holding, bucket_at, format_of, laid_buckets};
+ghost use Rattle.bb_state.specs.State.{IsDefault, IsRefused, IsStored};
+
+use crate::{AnyBucket, AnyFormat};
+use bb_base::NoMemory;
+use bb_bucket::Stride;
+use bb_copies::{BucketList, Copies, CopyFault, Loaded};
+use bb_flash::Flash;
+use bb_layout::{FormatKind, Layout, Storage};
+use bb_raw::Raw;
+use std::alloc::Global;
+use std::marker::Model;
+
+/// The copies of a layout's area, and the table that they were last known to hold.
+#[derive(Drop)]
+pub(crate) struct Backing {
+    layout: Layout,
+    copies: Copies<AnyBucket, AnyFormat>,
+    kept: Vec<u8>,
+}
+
+impl Model for Backing {
+    ghost use Rattle.bb_layout.specs.Layout.{laid};
+    ghost use Rattle.bb_state.specs.Backed.{Backed, IsBacked};
+
+    ghost Value = { Backed };
+
+    ghost view = { λ b. record {
+      layout = laid b.layout;
+      buckets = b.copies.buckets;
+      used = b.copies.used;
+      sure = b.copies.sure;
+      kept = b.kept.items;
+    } };
+
+    ghost invariant = { λ b.
+        IsBacked (laid b.layout) b.copies.buckets b.copies.format b.kept.items };
+}
+
+impl Backing {
+    /// Copies of which nothing is known yet.
+    #[tactic(auto, using(crate::proofs::Mounting::all_agree))]
+    pub(crate) fn mount(alloc: Global, layout: Layout) -> Result<Backing, NoMemory>
+        ensures layout { IfOk result (λ b. b.layout ≡ laid layout) }
+        ensures buckets { IfOk result (λ b. b.buckets ≡ laid_buckets (laid layout)) }
+        ensures agrees { IfOk result (λ b.
+            (device : Device) → AllAgree any_holding device b.buckets) }
+        ensures sure { IfOk result (λ b. b.sure ≡ false) }
+    {
+        let kept = vec![in alloc; 0u8; layout.area_len as usize]?;
+        let copies = Copies::mount(alloc, buckets_of(alloc, &layout)?, format_of(&layout))?;
+        Ok(Backing {
+            layout,
+            copies,
+            kept,
+        })
+    }
+
+    /// The layout.
+    pub(crate) fn layout(&self) -> &Layout
+        ensures { laid result.now ≡ self.now.layout }
+    {
+        &self.layout
+    }
+
+    /// The table that was last loaded or saved.
+    pub(crate) fn kept(&self) -> &[u8]
+        ensures kept { result.now ≡ self.now.kept }
+        ensures sized { length result.now ≡ self.now.layout.area_len }
+    {
+        self.kept.as_slice()
+    }
+
+    /// Loads the copies. The table that they have, or the defaults where no copy passes, is then at hand.
+    pub(crate) fn load<F: Flash>(&mut self, flash: &mut F) -> Result<Loaded, CopyFault>
+        requires geometry { (F.device flash.old).geometry ≡ self.old.layout.geometry }
+        requires agreed { AllAgree any_holding (F.device flash.old) self.old.buckets }
+        requires whole { IsDevice (F.device flash.old) }
+        ensures images { LoadImages (form_in self.old) (kinds_in self.old)
+            (F.device flash.old) (F.device flash.new) }
+        ensures gives { IfOk result (LoadGives (form_in self.old) (kinds_in self.old) self.new.kept
+            (F.device flash.old) (F.device flash.new)) }
+        ensures defaults { IfOk result (IsDefault self.old.layout self.new.kept) }
+        ensures fails { IfErr result (IsRefused self.old.layout
+            (F.device flash.old) (F.device flash.new)) }
+        ensures exact { IfOk result (LoadsExactly (form_in self.old) (kinds_in self.old) self.new.kept
+            (F.device flash.old) (F.device flash.new)) }
+        ensures outside { KeepsOutside (kinds_in self.old) (F.device flash.old) (F.device flash.new) }
+        ensures later { IsLater (F.device flash.old) (F.device flash.new) }
+        ensures starts { LeavesStarts (F.device flash.old) (F.device flash.new) }
+        ensures whole { IsDevice (F.device flash.new) }
+        ensures layout { self.new.layout ≡ self.old.layout }
+        ensures agrees { AllAgree any_holding (F.device flash.new) self.new.buckets }
+        ensures used { IfOk result (λ loaded. self.new.used ≡ used_after loaded) }
+        ensures sure { self.new.sure ≡ is_ok result }
+    {
+        let loaded = self.copies.load(flash, &mut self.kept)?;
+        if loaded == Loaded::NoCopy {
+            self.layout.defaults(&mut self.kept);
+        }
+        Ok(loaded)
+    }
+
+    /// Saves a table, which is then at hand.
+    pub(crate) fn save<F: Flash>(&mut self, flash: &mut F, table: &[u8]) -> Result<(), CopyFault>
+        requires geometry { (F.device flash.old).geometry ≡ self.old.layout.geometry }
+        requires agreed { AllAgree any_holding (F.device flash.old) self.old.buckets }
+        requires whole { IsDevice (F.device flash.old) }
+        requires sized { length table.now ≡ self.old.layout.area_len }
+        requires fits { IsTrue ((form_in self.old).fits table.now) }
+        ensures unsure { IsErrOf result Unsure ↔ (self.old.sure ≡ false) }
+        ensures runs { SaveRuns (form_in self.old) (kinds_in self.old) self.old.used table.now
+            (F.device flash.old) (F.device flash.new) }
+        ensures saved { OnOk result (IsStored self.old.layout table.now self.new.used
+            (F.device flash.old) (F.device flash.new)) }
+        ensures fails { IfErr result (SaveFails (form_in self.old) (kinds_in self.old) self.old.used
+            table.now (F.device flash.old) (F.device flash.new)) }
+        ensures exact { IsUndisturbed (F.device flash.old) (F.device flash.new)
+            → OnOk result (EachWritten (kinds_in self.old) ((form_in self.old).text table.now)
+            (F.device flash.old) (F.device flash.new)) }
+        ensures layout { self.new.layout ≡ self.old.layout }
+        ensures agrees { AllAgree any_holding (F.device flash.new) self.new.buckets }
+        ensures kept { OnOk result (self.new.kept ≡ table.now) }
+        ensures sure { self.new.sure ≡ is_ok result }
+    {
+        self.copies.save(flash, table)?;
+        self.kept.copy_from_slice(table);
+        Ok(())
+    }
+
+    /// Whether a copy passes, and then the area of the first. Nothing changes.
+    pub(crate) fn look<F: Flash>(
+        &mut self,
+        flash: &mut F,
+        area: &mut [u8],
+    ) -> Result<bool, CopyFault>
+        requires geometry { (F.device flash.old).geometry ≡ self.old.layout.geometry }
+        requires agreed { AllAgree any_holding (F.device flash.old) self.old.buckets }
+        requires whole { IsDevice (F.device flash.old) }
+        requires sized { length area.old ≡ self.old.layout.area_len }
+        ensures gives { IfOk result (LookGives (form_in self.old) (kinds_in self.old) area.new
+            (F.device flash.old)) }
+        ensures fails { IfErr result (λ fault. fault ≡ ReadFault) }
+        ensures keeps { ReadKeeps (F.device flash.old) (F.device flash.new) }
+        ensures told { told_but_reads (F.device flash.new) ≡ told_but_reads (F.device flash.old) }
+        ensures later { IsLater (F.device flash.old) (F.device flash.new) }
+        ensures whole { IsDevice (F.device flash.new) }
+        ensures faults { HasCause (F.device flash.old).faults (F.device flash.new).faults
+            (IsErr result) }
+        ensures read_faults { HasCause (F.device flash.old).read_faults
+            (F.device flash.new).read_faults (IsErr result) }
+        ensures layout { self.new.layout ≡ self.old.layout }
+        ensures agrees { AllAgree any_holding (F.device flash.new) self.new.buckets }
+        ensures used { self.new.used ≡ self.old.used }
+        ensures sure { self.new.sure ≡ self.old.sure }
+        ensures kept { self.new.kept ≡ self.old.kept }
+    {
+        self.copies.look(flash, area)
+    }
+
+    /// Whether that is known to be this table.
+    pub(crate) fn holds(&self, table: &[u8]) -> bool
+        ensures { result ≡ (self.now.sure && bytes_eq table.now self.now.kept) }
+    {
+        self.copies.is_sure() && *table == *self.kept
+    }
+}
+
+#[tactic(auto, using(crate::proofs::Mounting::buckets_more))]
+fn buckets_of(alloc: Global, layout: &Layout) -> Result<BucketList<AnyBucket>, NoMemory>
+    ensures { IfOk result (λ buckets. buckets ≡ laid_buckets (laid layout.now)) }
+{
+    let mut buckets = BucketList::none(alloc);
+    for copy in 0..layout.copies {
+        buckets.push(bucket_at(alloc, layout, copy)?)?;
+    }
+    Ok(buckets)
+}
+
+fn bucket_at(alloc: Global, layout: &Layout, copy: u32) -> Result<AnyBucket, NoMemory>
+    requires { copy < layout.now.copies }
+    ensures { IfOk result (λ bucket. bucket ≡ bucket_at layout.now.storage layout.now.region copy) }
+{
+    match layout.storage {
+        Storage::Stride(_) => Ok(AnyBucket::Stride(Stride::of(alloc, layout.region(copy))?)),
+    }
+}
+
+fn format_of(layout: &Layout) -> AnyFormat
+    ensures { result ≡ format_of layout.now.format layout.now.magic layout.now.area_len }
+{
+    match layout.format {
+        FormatKind::Raw => AnyFormat::Raw(Raw::of(layout.magic, layout.area_len)),
+    }
+}

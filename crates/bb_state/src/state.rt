@@ -1,0 +1,216 @@
+ghost use Rattle.std.specs.Prelude.{◌≡◌, ◌≢◌, ◌↔◌, ◌++◌, Err, IfErr, IfOk, IsErr, IsErrOf, IsOk, None, Ok, OnErr, OnOk, Some, false, is_ok, length, true};
+ghost use Rattle.std.specs.Result.{result_map_both};
+ghost use Rattle.bb_base.specs.Faults.{HasCause};
+ghost use Rattle.bb_flash.specs.Cuts.{IsLater};
+ghost use Rattle.bb_flash.specs.Device.{LeavesStarts, ReadKeeps};
+ghost use Rattle.bb_bucket.specs.Calls.{told_but_reads};
+ghost use Rattle.bb_copies.specs.Loading.{KeepsOutside, LoadGives, LoadImages, LoadsExactly, LookGives};
+ghost use Rattle.bb_copies.specs.Saving.{EachWritten, SaveFails, SaveRuns};
+ghost use Rattle.bb_copies.specs.Settling.{IsUndisturbed};
+ghost use Rattle.bb_copies.specs.Store.{used_after};
+ghost use Rattle.bb_copies.specs.declared.answers.CopyFault.TheVariants.{ReadFault, Unsure};
+ghost use Rattle.bb_layout.specs.Defaults.{defaults_of};
+ghost use Rattle.bb_layout.specs.Layout.{laid};
+ghost use Rattle.bb_state.specs.Named.{after_set, refusal_for, text_for};
+ghost use Rattle.bb_state.specs.State.{FitsForm, form_of, kinds_of, IsDefault, IsFresh, IsOn, IsRefused, IsSized, IsStored, has_changed, is_kept, is_sure, kept_of, laid_of, used_of};
+ghost use Rattle.bb_state.specs.declared.error.StateError.TheVariants as states;
+
+use crate::backing::Backing;
+use crate::{StateError, get_value, set_value};
+use bb_base::{Bytes, NoMemory};
+use bb_copies::{CopyFault, Loaded};
+use bb_flash::Flash;
+use bb_layout::Layout;
+use bb_vars::Table;
+use std::alloc::Global;
+
+/// The variables of a layout, over the copies of their area.
+#[derive(Drop)]
+pub struct State {
+    /// The bytes of all variables.
+    pub table: Table,
+    pub(crate) backing: Backing,
+}
+
+impl State {
+    /// The state of a layout, of which no copy was looked at yet. The table has the defaults.
+    #[tactic(auto, using(crate::proofs::Mounting::sized_fits))]
+    pub fn mount(alloc: Global, layout: Layout) -> Result<State, NoMemory>
+        ensures layout { IfOk result (λ state. laid_of state ≡ laid layout) }
+        ensures table { IfOk result (λ state.
+            state.table ≡ defaults_of layout.area_len layout.vars) }
+        ensures sure { IfOk result (λ state. is_sure state ≡ false) }
+        ensures sized { IfOk result IsSized }
+        ensures fits { IfOk result FitsForm }
+        ensures fresh { IfOk result IsFresh }
+    {
+        let table = defaults(alloc, &layout)?;
+        let backing = Backing::mount(alloc, layout)?;
+        Ok(State { table, backing })
+    }
+
+    /// The layout.
+    pub fn layout(&self) -> &Layout
+        ensures { laid result.now ≡ laid_of self.now }
+    {
+        self.backing.layout()
+    }
+
+    /// Reads all copies. The table is then the area of the first that passes, and all copies pass it or nothing: those
+    /// that don't are written. Where no copy passes the table has the defaults. After a refusal it is as before.
+    #[tactic(auto, using(crate::proofs::Mounting::sized_fits))]
+    pub fn load<F: Flash>(&mut self, flash: &mut F) -> Result<Loaded, CopyFault>
+        requires sized { IsSized self.old }
+        requires on { IsOn self.old (F.device flash.old) }
+        ensures images { LoadImages (form_of self.old) (kinds_of self.old)
+            (F.device flash.old) (F.device flash.new) }
+        ensures gives { IfOk result (LoadGives (form_of self.old) (kinds_of self.old) self.new.table
+            (F.device flash.old) (F.device flash.new)) }
+        ensures defaults { IfOk result (IsDefault (laid_of self.old) self.new.table) }
+        ensures fails { IfErr result (IsRefused (laid_of self.old)
+            (F.device flash.old) (F.device flash.new)) }
+        ensures exact { IfOk result (LoadsExactly (form_of self.old) (kinds_of self.old)
+            self.new.table (F.device flash.old) (F.device flash.new)) }
+        ensures outside { KeepsOutside (kinds_of self.old)
+            (F.device flash.old) (F.device flash.new) }
+        ensures later { IsLater (F.device flash.old) (F.device flash.new) }
+        ensures starts { LeavesStarts (F.device flash.old) (F.device flash.new) }
+        ensures unchanged { OnErr result (self.new.table ≡ self.old.table) }
+        ensures layout { laid_of self.new ≡ laid_of self.old }
+        ensures kept { OnOk result (kept_of self.new ≡ self.new.table) }
+        ensures used { IfOk result (λ loaded. used_of self.new ≡ used_after loaded) }
+        ensures sure { is_sure self.new ≡ is_ok result }
+        ensures sized { IsSized self.new }
+        ensures fits { FitsForm self.old → FitsForm self.new }
+        ensures on { IsOn self.new (F.device flash.new) }
+    {
+        let loaded = self.backing.load(flash)?;
+        self.table.put(0, self.backing.kept());
+        Ok(loaded)
+    }
+
+    /// Saves the table to all copies, where it differs from the one last loaded or saved; after a load that found no copy
+    /// that is the defaults. Otherwise it makes no call of the device. Unsure, with no call, where no load answered Ok
+    /// yet or the last load or save was refused.
+    pub fn save<F: Flash>(&mut self, flash: &mut F) -> Result<(), CopyFault>
+        requires sized { IsSized self.old }
+        requires fits { FitsForm self.old }
+        requires on { IsOn self.old (F.device flash.old) }
+        ensures unsure { IsErrOf result Unsure ↔ (is_sure self.old ≡ false) }
+        ensures same { is_kept self.old ≡ true → IsOk result }
+        ensures idle { has_changed self.old ≡ false → F.device flash.new ≡ F.device flash.old }
+        ensures runs { has_changed self.old ≡ true
+            → SaveRuns (form_of self.old) (kinds_of self.old) (used_of self.old) self.old.table
+            (F.device flash.old) (F.device flash.new) }
+        ensures saved { OnOk result (has_changed self.old ≡ true
+            → IsStored (laid_of self.old) self.old.table (used_of self.new)
+            (F.device flash.old) (F.device flash.new)) }
+        ensures fails { IfErr result (SaveFails (form_of self.old) (kinds_of self.old)
+            (used_of self.old) self.old.table (F.device flash.old) (F.device flash.new)) }
+        ensures exact { has_changed self.old ≡ true
+            → IsUndisturbed (F.device flash.old) (F.device flash.new)
+            → OnOk result (EachWritten (kinds_of self.old) ((form_of self.old).text self.old.table)
+            (F.device flash.old) (F.device flash.new)) }
+        ensures table { self.new.table ≡ self.old.table }
+        ensures layout { laid_of self.new ≡ laid_of self.old }
+        ensures kept { OnOk result (kept_of self.new ≡ self.new.table) }
+        ensures used { is_kept self.old ≡ true → used_of self.new ≡ used_of self.old }
+        ensures sure { is_sure self.new ≡ is_ok result }
+        ensures on { IsOn self.new (F.device flash.new) }
+    {
+        if self.backing.holds(self.table.bytes()) {
+            return Ok(());
+        }
+        self.save_always(flash)
+    }
+
+    /// Saves the table to all copies, whatever was last loaded or saved. Unsure as in `save`.
+    pub fn save_always<F: Flash>(&mut self, flash: &mut F) -> Result<(), CopyFault>
+        requires sized { IsSized self.old }
+        requires fits { FitsForm self.old }
+        requires on { IsOn self.old (F.device flash.old) }
+        ensures unsure { IsErrOf result Unsure ↔ (is_sure self.old ≡ false) }
+        ensures runs { SaveRuns (form_of self.old) (kinds_of self.old) (used_of self.old)
+            self.old.table (F.device flash.old) (F.device flash.new) }
+        ensures saved { OnOk result
+            (IsStored (laid_of self.old) self.old.table (used_of self.new)
+            (F.device flash.old) (F.device flash.new)) }
+        ensures fails { IfErr result (SaveFails (form_of self.old) (kinds_of self.old)
+            (used_of self.old) self.old.table (F.device flash.old) (F.device flash.new)) }
+        ensures exact { IsUndisturbed (F.device flash.old) (F.device flash.new)
+            → OnOk result (EachWritten (kinds_of self.old) ((form_of self.old).text self.old.table)
+            (F.device flash.old) (F.device flash.new)) }
+        ensures table { self.new.table ≡ self.old.table }
+        ensures layout { laid_of self.new ≡ laid_of self.old }
+        ensures kept { OnOk result (kept_of self.new ≡ self.new.table) }
+        ensures sure { is_sure self.new ≡ is_ok result }
+        ensures on { IsOn self.new (F.device flash.new) }
+    {
+        self.backing.save(flash, self.table.bytes())
+    }
+
+    /// Whether a copy passes, and then the area of the first in `area`, which has the layout's
+    /// length. It changes nothing on the device, nor the table, nor what is known of the copies.
+    pub fn look<F: Flash>(&mut self, flash: &mut F, area: &mut [u8]) -> Result<bool, CopyFault>
+        requires sized { length area.old ≡ (laid_of self.old).area_len }
+        requires on { IsOn self.old (F.device flash.old) }
+        ensures gives { IfOk result (LookGives (form_of self.old) (kinds_of self.old) area.new
+            (F.device flash.old)) }
+        ensures fails { IfErr result (λ fault. fault ≡ ReadFault) }
+        ensures keeps { ReadKeeps (F.device flash.old) (F.device flash.new) }
+        ensures told { told_but_reads (F.device flash.new) ≡ told_but_reads (F.device flash.old) }
+        ensures later { IsLater (F.device flash.old) (F.device flash.new) }
+        ensures faults { HasCause (F.device flash.old).faults (F.device flash.new).faults
+            (IsErr result) }
+        ensures read_faults { HasCause (F.device flash.old).read_faults
+            (F.device flash.new).read_faults (IsErr result) }
+        ensures table { self.new.table ≡ self.old.table }
+        ensures layout { laid_of self.new ≡ laid_of self.old }
+        ensures kept { kept_of self.new ≡ kept_of self.old }
+        ensures used { used_of self.new ≡ used_of self.old }
+        ensures sure { is_sure self.new ≡ is_sure self.old }
+        ensures on { IsOn self.new (F.device flash.new) }
+    {
+        self.backing.look(flash, area)
+    }
+
+    /// Appends the text of the value of the variable of that name. NoSuchVariable where there is none, and NoMemory.
+    pub fn get(&self, name: &str, out: &mut Bytes) -> Result<(), StateError>
+        requires { IsSized self.now }
+        ensures got { OnOk result (result_map_both (λ text. out.old ++ text) (λ e. e)
+            (text_for (laid_of self.now).vars name.now self.now.table) ≡ Ok out.new) }
+        ensures refused { IfErr result (λ e. e ≢ states.NoMemory
+            → text_for (laid_of self.now).vars name.now self.now.table ≡ Err e) }
+    {
+        get_value(self.layout(), self.table.bytes(), name, out)
+    }
+
+    /// Gives the variable of that name the value that a text stands for. NoSuchVariable where there is none, and Value
+    /// where the text is no value of it; the table is then as before.
+    #[tactic(auto, using(crate::proofs::Mounting::sized_fits))]
+    pub fn set(&mut self, name: &str, text: &[u8]) -> Result<(), StateError>
+        requires { IsSized self.old }
+        ensures table { self.new.table
+            ≡ after_set (laid_of self.old).vars name.now text.now self.old.table }
+        ensures value { OnOk result
+            (refusal_for (laid_of self.old).vars name.now text.now ≡ None) }
+        ensures refused { IfErr result (λ e.
+            refusal_for (laid_of self.old).vars name.now text.now ≡ Some e) }
+        ensures unchanged { OnErr result (self.new.table ≡ self.old.table) }
+        ensures backing { self.new ≡ record self.old { table = self.new.table } }
+        ensures sized { IsSized self.new }
+        ensures fits { FitsForm self.old → FitsForm self.new }
+    {
+        set_value(self.backing.layout(), &mut self.table, name, text)
+    }
+}
+
+fn defaults(alloc: Global, layout: &Layout) -> Result<Table, NoMemory>
+    ensures defaults { IfOk result (λ table.
+        table ≡ defaults_of layout.now.area_len layout.now.vars) }
+    ensures sized { IfOk result (λ table. length table ≡ layout.now.area_len) }
+{
+    let mut area = vec![in alloc; 0u8; layout.area_len as usize]?;
+    layout.defaults(&mut area);
+    Table::of(alloc, &area)
+}
