@@ -3,8 +3,8 @@ use Rattle.std.proofs.Common.{◌≡◌, ℕ, List, [], ◌∷◌, Option, Some,
 use Rattle.hex.specs.Hex.{decode_pairs}
 use Rattle.bb_words.specs.declared.command.Command.{Command}
 use Rattle.bb_words.specs.declared.command.Command.TheVariants.{State}
-use Rattle.bb_words.specs.declared.command.Output.{Output}
-use Rattle.bb_words.specs.declared.command.Output.TheVariants.{Value, Dump, DumpShell}
+use Rattle.bb_words.specs.declared.command.Action.{Action}
+use Rattle.bb_words.specs.declared.command.Action.TheVariants.{Set, Get, Dump, DumpShell}
 use Rattle.bb_words.specs.declared.command.RawAction.TheVariants.{Look, Write}
 use Rattle.bb_words.specs.Words.{raw_of, words_from, words_of}
 
@@ -66,11 +66,11 @@ no_long_form = refl
 
 -- ---- `state`
 
-abbrev state : List ℕ → Option (List ℕ) → List Output → Command
-state file name outputs = State (record { file = file; name = name; outputs = outputs })
+abbrev state : List ℕ → Option (List ℕ) → List Action → Command
+state file name actions = State (record { file = file; name = name; actions = actions })
 
 all_options : words_of (codes "state" ∷ codes "-d" ∷ codes "-n" ∷ codes "boot" ∷ codes "--get=a" ∷ codes "--input" ∷ codes "x.dts" ∷ codes "--dump-shell" ∷ codes "-g" ∷ codes "-d" ∷ codes "--dump" ∷ [])
-    ≡ Ok (state (codes "x.dts") (Some (codes "boot")) (Dump ∷ Value (codes "a") ∷ DumpShell ∷ Value (codes "-d") ∷ Dump ∷ []))
+    ≡ Ok (state (codes "x.dts") (Some (codes "boot")) (Dump ∷ Get (codes "a") ∷ DumpShell ∷ Get (codes "-d") ∷ Dump ∷ []))
 unfolding words_from
 all_options = refl
 
@@ -78,7 +78,7 @@ file_alone : words_of (codes "state" ∷ codes "--input=a=b" ∷ []) ≡ Ok (sta
 unfolding words_from
 file_alone = refl
 
-empty_value : words_of (codes "state" ∷ codes "-i" ∷ codes "f" ∷ codes "--get=" ∷ []) ≡ Ok (state (codes "f") None (Value [] ∷ []))
+empty_value : words_of (codes "state" ∷ codes "-i" ∷ codes "f" ∷ codes "--get=" ∷ []) ≡ Ok (state (codes "f") None (Get [] ∷ []))
 unfolding words_from
 empty_value = refl
 
@@ -114,9 +114,18 @@ shell_with_value : words_of (codes "state" ∷ codes "--dump-shell=x" ∷ []) �
 unfolding words_from
 shell_with_value = refl
 
-no_set : words_of (codes "state" ∷ codes "-i" ∷ codes "f" ∷ codes "-s" ∷ codes "a=1" ∷ []) ≡ Err 3
+sets : words_of (codes "state" ∷ codes "-s" ∷ codes "n=1" ∷ codes "-i" ∷ codes "f" ∷ codes "--set=a=b=" ∷ codes "-g" ∷ codes "n" ∷ codes "--set" ∷ codes "=" ∷ [])
+    ≡ Ok (state (codes "f") None (Set (codes "n") (codes "1") ∷ Set (codes "a") (codes "b=") ∷ Get (codes "n") ∷ Set [] [] ∷ []))
 unfolding words_from
-no_set = refl
+sets = refl
+
+set_without_sign : words_of (codes "state" ∷ codes "-i" ∷ codes "f" ∷ codes "-s" ∷ codes "abc" ∷ []) ≡ Err 4
+unfolding words_from
+set_without_sign = refl
+
+long_set_without_sign : words_of (codes "state" ∷ codes "-i" ∷ codes "f" ∷ codes "--set=abc" ∷ []) ≡ Err 3
+unfolding words_from
+long_set_without_sign = refl
 
 no_key : words_of (codes "state" ∷ codes "-k" ∷ codes "key" ∷ []) ≡ Err 1
 unfolding words_from

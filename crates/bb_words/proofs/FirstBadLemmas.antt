@@ -5,13 +5,19 @@ use Rattle.std.specs.Option.{ok_or, option_map, option_map_or}
 use Rattle.std.specs.Result.{result_ok}
 use Rattle.hex.specs.Hex.{IsBytes, encode_lower}
 use Rattle.hex.proofs.HexLemmas.{decode_sized-encode_lower}
+use Rattle.bb_words.specs.declared.command.Action.{Action}
+use Rattle.bb_words.specs.declared.command.Action.TheVariants.{Set, Get}
 use Rattle.bb_words.specs.declared.command.Command.{Command}
 use Rattle.bb_words.specs.declared.command.Command.TheVariants.{State}
-use Rattle.bb_words.specs.declared.command.Output.{Output}
 use Rattle.bb_words.specs.declared.command.RawAction.TheVariants.{Look, Write}
+use Rattle.bb_words.specs.declared.given.Given.{Given}
+use Rattle.bb_words.specs.declared.option.Valued.{Valued}
+use Rattle.bb_words.specs.declared.option.Valued.TheVariants.{Input, Name, Get as GetOption, Set as SetOption}
+use Rattle.bb_words.specs.declared.row.Row.{Row}
+use Rattle.bb_words.specs.declared.row.Row.TheVariants.{State as StateRow}
 use Rattle.bb_words.specs.FirstBad.{Begins}
-use Rattle.bb_words.specs.Options.{with_value}
-use Rattle.bb_words.specs.Words.{Stage, Start, Magic, Length, Action, Area, Options, Whole, raw_of, next, command_at, words_from, words_of}
+use Rattle.bb_words.specs.Options.{with_action}
+use Rattle.bb_words.specs.Words.{Stage, Start, Magic, Length, Mode, Area, Options, Whole, raw_of, next, command_at, words_from, words_of}
 
 -- some words behind these make a command, from a stage on
 abbrev pub Continues : ℕ → Stage → List (List ℕ) → Type 0
@@ -42,23 +48,41 @@ area_completed start magic len =
       ap (λ r. option_map_or (λ behind. words_from (start + 1) behind []) (option_map (λ a. Whole (raw_of magic len (Write a))) (result_ok r)) (Err start)) read,
     )
 
-options_completed : (start : ℕ) (file name : Option (List ℕ)) (outputs : List Output) → Continues start (Options None (record { file = file; name = name; outputs = outputs })) []
+-- a row of the table: what must be there can come
+state_completed : (start : ℕ) (file name : Option (List ℕ)) (actions : List Action) →
+    Continues start (Options StateRow None (record { file = file; name = name; actions = actions })) []
 unfolding words_from
-options_completed start None name outputs = (codes "-i" ∷ [] ∷ [], State (record { file = []; name = name; outputs = outputs }), refl)
-options_completed start (Some file) name outputs = ([], State (record { file = file; name = name; outputs = outputs }), refl)
+state_completed start None name actions = (codes "-i" ∷ [] ∷ [], State (record { file = []; name = name; actions = actions }), refl)
+state_completed start (Some file) name actions = ([], State (record { file = file; name = name; actions = actions }), refl)
+
+options_completed : (start : ℕ) (row : Row) (given : Given) → Continues start (Options row None given) []
+options_completed start StateRow given = state_completed start given.file given.name given.actions
+
+-- an option has a value that it takes
+value_completed : (start : ℕ) (row : Row) (valued : Valued) (given : Given) → Continues start (Options row (Some valued) given) []
+unfolding words_from
+value_completed start row Input given =
+    let rest = options_completed (start + 1) row (record given { file = Some [] }) in
+    ([] ∷ rest.0, rest.1, rest.2)
+value_completed start row Name given =
+    let rest = options_completed (start + 1) row (record given { name = Some [] }) in
+    ([] ∷ rest.0, rest.1, rest.2)
+value_completed start row GetOption given =
+    let rest = options_completed (start + 1) row (with_action (Get []) given) in
+    ([] ∷ rest.0, rest.1, rest.2)
+value_completed start row SetOption given =
+    let rest = options_completed (start + 1) row (with_action (Set [] []) given) in
+    (codes "=" ∷ rest.0, rest.1, rest.2)
 
 completed : (start : ℕ) (stage : Stage) → Continues start stage []
 unfolding words_from
 completed start Start = (codes "raw" ∷ codes "0" ∷ codes "0" ∷ codes "-g" ∷ [], raw_of 0 0 Look, refl)
 completed start Magic = (codes "0" ∷ codes "0" ∷ codes "-g" ∷ [], raw_of 0 0 Look, refl)
 completed start (Length magic) = (codes "0" ∷ codes "-g" ∷ [], raw_of magic 0 Look, refl)
-completed start (Action magic len) = (codes "-g" ∷ [], raw_of magic len Look, refl)
+completed start (Mode magic len) = (codes "-g" ∷ [], raw_of magic len Look, refl)
 completed start (Area magic len) = area_completed start magic len
-completed start (Options None given) = options_completed start given.file given.name given.outputs
-completed start (Options (Some valued) given) =
-    let after = with_value valued [] given in
-    let rest = options_completed (start + 1) after.file after.name after.outputs in
-    ([] ∷ rest.0, rest.1, rest.2)
+completed start (Options row None given) = options_completed start row given
+completed start (Options row (Some valued) given) = value_completed start row valued given
 completed start (Whole command) = ([], command, refl)
 
 -- ---- the first bad word from a stage on

@@ -1,71 +1,155 @@
 -- What spells a command is accepted as it, and nothing else is.
-use Rattle.std.proofs.Common.{◌≡◌, ℕ, suc, ◌+◌, ◌==◌, List, [], ◌∷◌, ◌++◌, Bool, true, false, Option, Some, None, Result, Ok, Err, if◌then◌else◌, codes, take, drop, refl, ap, sym, subst, ◌∙◌, ◌||◌, cond, not, ◌⊎◌, inl, inr, arith, append_assoc}
+use Rattle.std.proofs.Common.{◌≡◌, ℕ, suc, ◌+◌, ◌==◌, List, [], ◌∷◌, ◌++◌, Bool, true, false, Option, Some, None, Result, Ok, Err, if◌then◌else◌, codes, take, drop, refl, ap, sym, subst, ◌∙◌, ◌||◌, ◌&&◌, cond, not, ◌⊎◌, inl, inr, arith, append_assoc}
 use Rattle.std.proofs.lemmas.List.{append-nil}
 use Rattle.std.proofs.lemmas.Slice.Eq.{bytes_eq-Decides}
-use Rattle.std.specs.List.{filter_map, flat_map, cons_option, list_any, before_first, after_first, position_or_len}
+use Rattle.std.specs.List.{filter_map, flat_map, cons_option, list_all, list_any, before_first, after_first, position_or_len}
 use Rattle.std.specs.Option.{ok_or, option_map, option_map_or, option_or, option_to_list}
 use Rattle.std.specs.Prelude.{option_and_then}
 use Rattle.std.specs.Str.{bytes_eq}
+use Rattle.bb_words.specs.declared.command.Action.{Action}
+use Rattle.bb_words.specs.declared.command.Action.TheVariants.{Set, Get, Dump, DumpShell}
 use Rattle.bb_words.specs.declared.command.Command.{Command}
 use Rattle.bb_words.specs.declared.command.Command.TheVariants.{Raw, State}
-use Rattle.bb_words.specs.declared.command.Output.{Output}
-use Rattle.bb_words.specs.declared.command.Output.TheVariants.{Value, Dump, DumpShell}
 use Rattle.bb_words.specs.declared.command.RawAction.{RawAction}
 use Rattle.bb_words.specs.declared.command.RawAction.TheVariants.{Look, Write}
 use Rattle.bb_words.specs.declared.command.RawCommand.{RawCommand}
-use Rattle.bb_words.specs.declared.command.StateCommand.{StateCommand}
 use Rattle.bb_words.specs.declared.given.Given.{Given}
 use Rattle.bb_words.specs.declared.option.Valued.{Valued}
-use Rattle.bb_words.specs.declared.option.Valued.TheVariants.{Input, Name, Get}
-use Rattle.bb_words.specs.Grammar.{IsAction, IsRaw, IsState, Spells, Form, Short, Long, Joined, Item, Takes, ShortDump, LongDump, ShellDump, short_form, long_form, spelling_of, file_in, name_in, output_in}
-use Rattle.bb_words.specs.Options.{dump_of, long_of, valued_of, value_in, may_come, with_value, with_output, none_given}
-use Rattle.bb_words.specs.Words.{Stage, Magic, Length, Action, Area, Options, Whole, raw_of, number_up_to, area_of, opened, closed, behind_option, state_of, next, words_from, words_of}
+use Rattle.bb_words.specs.declared.option.Valued.TheVariants.{Input, Name, Get as GetOption, Set as SetOption}
+use Rattle.bb_words.specs.declared.row.Row.{Row}
+use Rattle.bb_words.specs.declared.row.Row.TheVariants.{State as StateRow}
+use Rattle.bb_words.specs.Grammar.{IsAction, IsRaw, IsSpelt, Spells, Form, Short, Long, Joined, Item, Takes, ShortDump, LongDump, ShellDump, short_form, long_form, spelling_of, is_value, has_item, file_in, name_in, action_in}
+use Rattle.bb_words.specs.Options.{dump_of, long_of, valued_of, value_in, has_sign, set_in, with_value, with_action, none_given}
+use Rattle.bb_words.specs.Table.{name_of, row_of, has, has_dumps, may_come, command_of}
+use Rattle.bb_words.specs.Words.{Stage, Magic, Length, Mode, Area, Options, Whole, raw_of, number_up_to, area_of, dumped, opened, taken, closed, behind_option, next, words_from, words_of}
 
 -- ---- what is spelt is accepted
 
-one_item : {X : Type 0} (a b c : X) (rest : List X) → a ∷ b ∷ rest ≡ c ∷ [] → ⊥
-one_item a b c rest h = cc
+one_item : {X : Type 0} (a b : X) (rest : List X) (o : Option X) → a ∷ b ∷ rest ≡ option_to_list o → ⊥
+one_item a b rest None h = cc
+one_item a b rest (Some c) h = cc
 
-one_name : {X : Type 0} (a b : X) (rest : List X) (n : Option X) → a ∷ b ∷ rest ≡ option_to_list n → ⊥
-one_name a b rest None h = cc
-one_name a b rest (Some c) h = cc
+same_item : {X : Type 0} (m n : Option X) → option_to_list m ++ [] ≡ option_to_list n → m ≡ n
+same_item None None h = refl
+same_item None (Some y) h = absurd (cc)
+same_item (Some x) None h = absurd (cc)
+same_item (Some x) (Some y) h = cc
 
-same_name : {X : Type 0} (m n : Option X) → option_to_list m ++ [] ≡ option_to_list n → m ≡ n
-same_name None None h = refl
-same_name None (Some y) h = absurd (cc)
-same_name (Some x) None h = absurd (cc)
-same_name (Some x) (Some y) h = cc
+both : (a b : Bool) → (a && b) ≡ true → (a ≡ true) × (b ≡ true)
+both true b h = (refl, h)
+both false b h = absurd (cc)
 
-same_file : {X : Type 0} (m : Option X) (x : X) → option_to_list m ++ [] ≡ x ∷ [] → m ≡ Some x
-same_file None x h = absurd (cc)
-same_file (Some y) x h = cc
+-- what items give, behind what was given
+record Gives (given : Given) (items : List Item) (all : Given) : Type 0 where
+  files : option_to_list given.file ++ filter_map file_in items ≡ option_to_list all.file
+  names : option_to_list given.name ++ filter_map name_in items ≡ option_to_list all.name
+  actions : given.actions ++ filter_map action_in items ≡ all.actions
 
-abbrev pub given_of : Option (List ℕ) → Option (List ℕ) → List Output → Given
-given_of file name outputs = record { file = file; name = name; outputs = outputs }
+gives_none : (given all : Given) → Gives given [] all → given ≡ all
+gives_none given all g =
+    let file = same_item given.file all.file g.files in
+    let name = same_item given.name all.name g.names in
+    let actions = sym (append-nil given.actions) ∙ g.actions in
+    ap (λ file. record { file = file; name = given.name; actions = given.actions }) file
+    ∙ ap (λ name. record { file = all.file; name = name; actions = given.actions }) name
+    ∙ ap (λ actions. record { file = all.file; name = all.name; actions = actions }) actions
 
-abbrev pub made_of : List ℕ → Option (List ℕ) → List Output → Command
-made_of file name outputs = State (record { file = file; name = name; outputs = outputs })
+-- an action is put behind those before
+action_behind : (given all : Given) (items : List Item) (item : Item) (action : Action) → file_in item ≡ None → name_in item ≡ None → action_in item ≡ Some action →
+    Gives given (item ∷ items) all → Gives (with_action action given) items all
+action_behind given all items item action no_file no_name does g = record {
+  files = ap (λ o. option_to_list given.file ++ cons_option o (filter_map file_in items)) (sym no_file) ∙ g.files;
+  names = ap (λ o. option_to_list given.name ++ cons_option o (filter_map name_in items)) (sym no_name) ∙ g.names;
+  actions =
+      append_assoc given.actions (action ∷ []) (filter_map action_in items)
+      ∙ ap (λ o. given.actions ++ cons_option o (filter_map action_in items)) (sym does)
+      ∙ g.actions;
+}
 
--- the words of items make this command, behind what was given
-Makes : ℕ → Option (List ℕ) → Option (List ℕ) → List Output → List Item → Type 0
-Makes start file name outputs items = (f : List ℕ) (n : Option (List ℕ)) →
-    option_to_list file ++ filter_map file_in items ≡ f ∷ [] → option_to_list name ++ filter_map name_in items ≡ option_to_list n →
-    words_from start (Options None (given_of file name outputs)) (flat_map spelling_of items) ≡ Ok (made_of f n (outputs ++ filter_map output_in items))
+-- and the other way round
+action_before : (given all : Given) (items : List Item) (item : Item) (action : Action) → file_in item ≡ None → name_in item ≡ None → action_in item ≡ Some action →
+    Gives (with_action action given) items all → Gives given (item ∷ items) all
+action_before given all items item action no_file no_name does g = record {
+  files = ap (λ o. option_to_list given.file ++ cons_option o (filter_map file_in items)) no_file ∙ g.files;
+  names = ap (λ o. option_to_list given.name ++ cons_option o (filter_map name_in items)) no_name ∙ g.names;
+  actions =
+      ap (λ o. given.actions ++ cons_option o (filter_map action_in items)) does
+      ∙ sym (append_assoc given.actions (action ∷ []) (filter_map action_in items))
+      ∙ g.actions;
+}
 
-none_made : (start : ℕ) (file name : Option (List ℕ)) (outputs : List Output) → Makes start file name outputs []
-unfolding Makes words_from
-none_made start file name outputs f n files names =
-    ap (λ file. ok_or (option_map (λ state. State state) (state_of None (given_of file name outputs))) start) (same_file file f files)
-    ∙ ap (λ name. Ok (made_of f name outputs)) (same_name name n names)
-    ∙ ap (λ outputs. Ok (made_of f n outputs)) (sym (append-nil outputs))
+-- the set that a value with a sign asks for
+abbrev is_sign : ℕ → Bool
+is_sign c = c == 61
 
+abbrev set_cut : List ℕ × List ℕ → Action
+set_cut cut = Set cut.0 cut.1
+
+set_made : (value : List ℕ) → has_sign value ≡ true → set_in value ≡ Some (Set (before_first is_sign value) (after_first is_sign value))
+set_made value h = ap (λ b. option_map set_cut (if b then Some (before_first is_sign value, after_first is_sign value) else None)) h
+
+-- an option that may come, with a value that it takes, leaves items that give the rest
+record Leaves (row : Row) (valued : Valued) (value : List ℕ) (items : List Item) (given all : Given) : Type 0 where
+  behind : Given
+  may : may_come row valued given ≡ true
+  with : with_value valued value given ≡ Some behind
+  gives : Gives behind items all
+
+may_still : (row : Row) (valued : Valued) → has row valued ≡ true → (has row valued && true) ≡ true
+may_still row valued h = ap (λ b. b && true) h
+
+takes_leaves : (row : Row) (form : Form) (valued : Valued) (value : List ℕ) (items : List Item) (file name : Option (List ℕ)) (actions : List Action) (all : Given) →
+    has row valued ≡ true → is_value valued value ≡ true → Gives (record { file = file; name = name; actions = actions }) (Takes form valued value ∷ items) all →
+    Leaves row valued value items (record { file = file; name = name; actions = actions }) all
+takes_leaves row form Input value items None name actions all had is g = record {
+  behind = record { file = Some value; name = name; actions = actions };
+  may = may_still row Input had;
+  with = refl;
+  gives = record { files = g.files; names = g.names; actions = g.actions };
+}
+takes_leaves row form Input value items (Some x) name actions all had is g = absurd (one_item x value _ all.file g.files)
+takes_leaves row form Name value items file None actions all had is g = record {
+  behind = record { file = file; name = Some value; actions = actions };
+  may = may_still row Name had;
+  with = refl;
+  gives = record { files = g.files; names = g.names; actions = g.actions };
+}
+takes_leaves row form Name value items file (Some x) actions all had is g = absurd (one_item x value _ all.name g.names)
+takes_leaves row form GetOption value items file name actions all had is g =
+    let given : Given = record { file = file; name = name; actions = actions } in
+    record {
+      behind = with_action (Get value) given;
+      may = may_still row GetOption had;
+      with = refl;
+      gives = action_behind given all items (Takes form GetOption value) (Get value) refl refl refl g;
+    }
+takes_leaves row form SetOption value items file name actions all had is g =
+    let given : Given = record { file = file; name = name; actions = actions } in
+    let set = Set (before_first is_sign value) (after_first is_sign value) in
+    record {
+      behind = with_action set given;
+      may = may_still row SetOption had;
+      with = ap (option_map (λ action. with_action action given)) (set_made value is);
+      gives = action_behind given all items (Takes form SetOption value) set refl refl (set_made value is) g;
+    }
+
+-- a word that may come
 open_step : (place : ℕ) (b : Bool) (s : Stage) (other : Option Stage) (rest : List (List ℕ)) → b ≡ true →
     option_map_or (λ behind. words_from (place + 1) behind rest) (option_or (if b then Some s else None) other) (Err place) ≡ words_from (place + 1) s rest
 open_step place b s other rest h = ap (λ b. option_map_or (λ behind. words_from (place + 1) behind rest) (option_or (if b then Some s else None) other) (Err place)) h
 
-close_step : (place : ℕ) (b : Bool) (s : Stage) (rest : List (List ℕ)) → b ≡ true →
-    option_map_or (λ behind. words_from (place + 1) behind rest) (if b then Some s else None) (Err place) ≡ words_from (place + 1) s rest
-close_step place b s rest h = ap (λ b. option_map_or (λ behind. words_from (place + 1) behind rest) (if b then Some s else None) (Err place)) h
+close_step : (place : ℕ) (row : Row) (b : Bool) (o : Option Given) (given : Given) (rest : List (List ℕ)) → b ≡ true → o ≡ Some given →
+    option_map_or (λ behind. words_from (place + 1) behind rest) (if b then option_map (Options row None) o else None) (Err place)
+    ≡ words_from (place + 1) (Options row None given) rest
+close_step place row b o given rest h with =
+    ap (λ b. option_map_or (λ behind. words_from (place + 1) behind rest) (if b then option_map (Options row None) o else None) (Err place)) h
+    ∙ ap (λ o. option_map_or (λ behind. words_from (place + 1) behind rest) (option_map (Options row None) o) (Err place)) with
+
+value_step : (place : ℕ) (row : Row) (valued : Valued) (value : List ℕ) (given behind : Given) (rest : List (List ℕ)) → with_value valued value given ≡ Some behind →
+    words_from place (Options row (Some valued) given) (value ∷ rest) ≡ words_from (place + 1) (Options row None behind) rest
+unfolding words_from
+value_step place row valued value given behind rest with =
+    ap (λ o. option_map_or (λ behind. words_from (place + 1) behind rest) (option_map (Options row None) o) (Err place)) with
 
 -- the place behind an option
 abbrev pub behind_form : ℕ → Form → ℕ
@@ -73,65 +157,98 @@ behind_form start Short = start + 1 + 1
 behind_form start Long = start + 1 + 1
 behind_form start Joined = start + 1
 
-takes_words : (start : ℕ) (form : Form) (valued : Valued) (value : List ℕ) (given : Given) (rest : List (List ℕ)) → may_come valued given ≡ true →
-    words_from start (Options None given) (spelling_of (Takes form valued value) ++ rest) ≡ words_from (behind_form start form) (Options None (with_value valued value given)) rest
+opened_words : (start : ℕ) (row : Row) (valued : Valued) (value : List ℕ) (given behind : Given) (rest : List (List ℕ)) (w : List ℕ) →
+    words_from start (Options row None given) (w ∷ value ∷ rest) ≡ words_from (start + 1) (Options row (Some valued) given) (value ∷ rest) →
+    with_value valued value given ≡ Some behind →
+    words_from start (Options row None given) (w ∷ value ∷ rest) ≡ words_from (start + 1 + 1) (Options row None behind) rest
+opened_words start row valued value given behind rest w opens with = opens ∙ value_step (start + 1) row valued value given behind rest with
+
+short_opens : (start : ℕ) (row : Row) (valued : Valued) (given : Given) (rest : List (List ℕ)) → may_come row valued given ≡ true →
+    words_from start (Options row None given) (short_form valued ∷ rest) ≡ words_from (start + 1) (Options row (Some valued) given) rest
 unfolding words_from
-takes_words start Short Input value given rest h = open_step start _ (Options (Some Input) given) None (value ∷ rest) h
-takes_words start Short Name value given rest h = open_step start _ (Options (Some Name) given) None (value ∷ rest) h
-takes_words start Short Get value given rest h = refl
-takes_words start Long Input value given rest h = open_step start _ (Options (Some Input) given) None (value ∷ rest) h
-takes_words start Long Name value given rest h = open_step start _ (Options (Some Name) given) None (value ∷ rest) h
-takes_words start Long Get value given rest h = refl
-takes_words start Joined Input value given rest h = close_step start _ (Options None (with_value Input value given)) rest h
-takes_words start Joined Name value given rest h = close_step start _ (Options None (with_value Name value given)) rest h
-takes_words start Joined Get value given rest h = refl
+short_opens start row Input given rest h = open_step start _ (Options row (Some Input) given) None rest h
+short_opens start row Name given rest h = open_step start _ (Options row (Some Name) given) None rest h
+short_opens start row GetOption given rest h = open_step start _ (Options row (Some GetOption) given) None rest h
+short_opens start row SetOption given rest h = open_step start _ (Options row (Some SetOption) given) None rest h
 
--- an output is put behind those before
-output_behind : (f : List ℕ) (n : Option (List ℕ)) (outputs : List Output) (output : Output) (rest : List Output) →
-    ◌≡◌ {A = Result Command ℕ} (Ok (made_of f n ((outputs ++ output ∷ []) ++ rest))) (Ok (made_of f n (outputs ++ output ∷ rest)))
-output_behind f n outputs output rest = ap (λ all. Ok (made_of f n all)) (append_assoc outputs (output ∷ []) rest)
+long_opens : (start : ℕ) (row : Row) (valued : Valued) (given : Given) (rest : List (List ℕ)) → may_come row valued given ≡ true →
+    words_from start (Options row None given) (long_form valued ∷ rest) ≡ words_from (start + 1) (Options row (Some valued) given) rest
+unfolding words_from
+long_opens start row Input given rest h = open_step start _ (Options row (Some Input) given) None rest h
+long_opens start row Name given rest h = open_step start _ (Options row (Some Name) given) None rest h
+long_opens start row GetOption given rest h = open_step start _ (Options row (Some GetOption) given) None rest h
+long_opens start row SetOption given rest h = open_step start _ (Options row (Some SetOption) given) None rest h
 
-takes_made : (form : Form) (valued : Valued) (value : List ℕ) (items : List Item) → ((start : ℕ) (file name : Option (List ℕ)) (outputs : List Output) → Makes start file name outputs items) →
-    (start : ℕ) (file name : Option (List ℕ)) (outputs : List Output) → Makes start file name outputs (Takes form valued value ∷ items)
-unfolding Makes
-takes_made form Input value items ih start None name outputs f n files names =
-    takes_words start form Input value (given_of None name outputs) (flat_map spelling_of items) refl ∙ ih (behind_form start form) (Some value) name outputs f n files names
-takes_made form Input value items ih start (Some x) name outputs f n files names = absurd (one_item x value f _ files)
-takes_made form Name value items ih start file None outputs f n files names =
-    takes_words start form Name value (given_of file None outputs) (flat_map spelling_of items) refl ∙ ih (behind_form start form) file (Some value) outputs f n files names
-takes_made form Name value items ih start file (Some x) outputs f n files names = absurd (one_name x value _ n names)
-takes_made form Get value items ih start file name outputs f n files names =
-    takes_words start form Get value (given_of file name outputs) (flat_map spelling_of items) refl
-    ∙ ih (behind_form start form) file name (outputs ++ Value value ∷ []) f n files names
-    ∙ output_behind f n outputs (Value value) (filter_map output_in items)
+takes_words : (start : ℕ) (row : Row) (form : Form) (valued : Valued) (value : List ℕ) (given behind : Given) (rest : List (List ℕ)) → may_come row valued given ≡ true →
+    with_value valued value given ≡ Some behind →
+    words_from start (Options row None given) (spelling_of (Takes form valued value) ++ rest) ≡ words_from (behind_form start form) (Options row None behind) rest
+unfolding words_from
+takes_words start row Short valued value given behind rest h with =
+    opened_words start row valued value given behind rest (short_form valued) (short_opens start row valued given (value ∷ rest) h) with
+takes_words start row Long valued value given behind rest h with =
+    opened_words start row valued value given behind rest (long_form valued) (long_opens start row valued given (value ∷ rest) h) with
+takes_words start row Joined Input value given behind rest h with = close_step start row _ _ behind rest h with
+takes_words start row Joined Name value given behind rest h with = close_step start row _ _ behind rest h with
+takes_words start row Joined GetOption value given behind rest h with = close_step start row _ _ behind rest h with
+takes_words start row Joined SetOption value given behind rest h with = close_step start row _ _ behind rest h with
 
-item_made : (item : Item) (items : List Item) → ((start : ℕ) (file name : Option (List ℕ)) (outputs : List Output) → Makes start file name outputs items) →
-    (start : ℕ) (file name : Option (List ℕ)) (outputs : List Output) → Makes start file name outputs (item ∷ items)
+-- the words of items make this command, behind what was given
+Makes : Row → List Item → Type 0
+Makes row items = (start : ℕ) (given all : Given) (command : Command) → list_all (has_item row) items ≡ true → Gives given items all →
+    command_of row all ≡ Some command → words_from start (Options row None given) (flat_map spelling_of items) ≡ Ok command
+
+none_made : (row : Row) → Makes row []
 unfolding Makes words_from
-item_made (Takes form valued value) items ih start file name outputs f n files names = takes_made form valued value items ih start file name outputs f n files names
-item_made ShortDump items ih start file name outputs f n files names =
-    ih (start + 1) file name (outputs ++ Dump ∷ []) f n files names ∙ output_behind f n outputs Dump (filter_map output_in items)
-item_made LongDump items ih start file name outputs f n files names =
-    ih (start + 1) file name (outputs ++ Dump ∷ []) f n files names ∙ output_behind f n outputs Dump (filter_map output_in items)
-item_made ShellDump items ih start file name outputs f n files names =
-    ih (start + 1) file name (outputs ++ DumpShell ∷ []) f n files names ∙ output_behind f n outputs DumpShell (filter_map output_in items)
+none_made row start given all command had g made =
+    ap (λ given. ok_or (command_of row given) start) (gives_none given all g) ∙ ap (λ o. ok_or o start) made
 
-items_made : (items : List Item) (start : ℕ) (file name : Option (List ℕ)) (outputs : List Output) → Makes start file name outputs items
-items_made [] start file name outputs = none_made start file name outputs
-items_made (item ∷ items) start file name outputs = item_made item items (items_made items) start file name outputs
+takes_made : (row : Row) (form : Form) (valued : Valued) (value : List ℕ) (items : List Item) → Makes row items → Makes row (Takes form valued value ∷ items)
+unfolding Makes
+takes_made row form valued value items ih start given all command had g made =
+    let here = both _ _ had in
+    let item = both _ _ here.0 in
+    let l = takes_leaves row form valued value items given.file given.name given.actions all item.0 item.1 g in
+    takes_words start row form valued value given l.behind (flat_map spelling_of items) l.may l.with
+    ∙ ih (behind_form start form) l.behind all command here.1 l.gives made
 
-state_accepted : (rest : List (List ℕ)) (state : StateCommand) → IsState rest state → words_of (codes "state" ∷ rest) ≡ Ok (State state)
-unfolding words_from Makes
-state_accepted rest state is =
-    ap (words_from 1 (Options None none_given)) is.spelt
-    ∙ items_made is.items 1 None None [] state.file state.name is.file_is is.name_is
-    ∙ ap (λ outputs. Ok (made_of state.file state.name outputs)) is.outputs_are
+dump_made : (row : Row) (item : Item) (action : Action) (items : List Item) → file_in item ≡ None → name_in item ≡ None → action_in item ≡ Some action →
+    has_item row item ≡ has_dumps row →
+    ((start : ℕ) (given : Given) (rest : List (List ℕ)) → has_dumps row ≡ true →
+    words_from start (Options row None given) (spelling_of item ++ rest) ≡ words_from (start + 1) (Options row None (with_action action given)) rest) →
+    Makes row items → Makes row (item ∷ items)
+unfolding Makes
+dump_made row item action items no_file no_name does is step ih start given all command had g made =
+    let here = both _ _ had in
+    step start given (flat_map spelling_of items) (sym is ∙ here.0)
+    ∙ ih (start + 1) (with_action action given) all command here.1 (action_behind given all items item action no_file no_name does g) made
 
-action_accepted : (magic len : ℕ) (action : RawAction) (words : List (List ℕ)) → IsAction len action words → words_from 3 (Action magic len) words ≡ Ok (raw_of magic len action)
+item_made : (row : Row) (item : Item) (items : List Item) → Makes row items → Makes row (item ∷ items)
 unfolding words_from
-action_accepted magic len Look words is = ap (words_from 3 (Action magic len)) is
+item_made row (Takes form valued value) items ih = takes_made row form valued value items ih
+item_made row ShortDump items ih = dump_made row ShortDump Dump items refl refl refl refl (λ start given rest h. open_step start _ (Options row None (with_action Dump given)) None rest h) ih
+item_made row LongDump items ih = dump_made row LongDump Dump items refl refl refl refl (λ start given rest h. open_step start _ (Options row None (with_action Dump given)) None rest h) ih
+item_made row ShellDump items ih = dump_made row ShellDump DumpShell items refl refl refl refl (λ start given rest h. open_step start _ (Options row None (with_action DumpShell given)) None rest h) ih
+
+items_made : (row : Row) (items : List Item) → Makes row items
+items_made row [] = none_made row
+items_made row (item ∷ items) = item_made row item items (items_made row items)
+
+row_begins : (row : Row) (rest : List (List ℕ)) → words_of (name_of row ∷ rest) ≡ words_from 1 (Options row None none_given) rest
+unfolding words_from
+row_begins StateRow rest = refl
+
+options_accepted : (row : Row) (words : List (List ℕ)) (command : Command) → IsSpelt row words command → words_of words ≡ Ok command
+unfolding Makes
+options_accepted row words command is =
+    ap words_of is.spelt
+    ∙ row_begins row (flat_map spelling_of is.items)
+    ∙ items_made row is.items 1 none_given is.given command is.has_all (record { files = is.file_is; names = is.name_is; actions = is.actions_are }) is.made
+
+action_accepted : (magic len : ℕ) (action : RawAction) (words : List (List ℕ)) → IsAction len action words → words_from 3 (Mode magic len) words ≡ Ok (raw_of magic len action)
+unfolding words_from
+action_accepted magic len Look words is = ap (words_from 3 (Mode magic len)) is
 action_accepted magic len (Write area) words is =
-    ap (words_from 3 (Action magic len)) is.1
+    ap (words_from 3 (Mode magic len)) is.1
     ∙ ap (λ o. option_map_or (λ behind. words_from 5 behind []) (option_map (λ a. Whole (raw_of magic len (Write a))) o) (Err 4)) is.2
 
 raw_accepted : (rest : List (List ℕ)) (raw : RawCommand) → IsRaw rest raw → words_of (codes "raw" ∷ rest) ≡ Ok (Raw raw)
@@ -139,12 +256,12 @@ unfolding words_from
 raw_accepted rest raw is =
     ap (words_from 1 Magic) is.spelt
     ∙ ap (λ o. option_map_or (λ behind. words_from 2 behind (is.len ∷ is.action)) (option_map (λ n. Length n) o) (Err 1)) is.magic_is
-    ∙ ap (λ o. option_map_or (λ behind. words_from 3 behind is.action) (option_map (λ n. Action raw.magic n) o) (Err 2)) is.len_is
+    ∙ ap (λ o. option_map_or (λ behind. words_from 3 behind is.action) (option_map (λ n. Mode raw.magic n) o) (Err 2)) is.len_is
     ∙ action_accepted raw.magic raw.area_len raw.action is.action is.action_is
 
 pub accepted : (words : List (List ℕ)) (command : Command) → Spells words command → words_of words ≡ Ok command
 accepted words (Raw raw) is = ap words_of is.1 ∙ raw_accepted is.0 raw is.2
-accepted words (State state) is = ap words_of is.1 ∙ state_accepted is.0 state is.2
+accepted words (State state) is = options_accepted StateRow words (State state) is
 
 -- ---- what is accepted was spelt so
 
@@ -212,7 +329,7 @@ action_spelt magic len w ws command false true get_is set_is h =
     (Write area.0, area.4, (area.1, ap (λ w. w ∷ ws) (same_bytes w (codes "-s") set_is) ∙ ap (λ ws. codes "-s" ∷ ws) area.2, area.3))
 action_spelt magic len w ws command false false get_is set_is h = absurd (cc)
 
-from_action : (magic len : ℕ) (words : List (List ℕ)) (command : Command) → words_from 3 (Action magic len) words ≡ Ok command → IsRawWith magic len words command
+from_action : (magic len : ℕ) (words : List (List ℕ)) (command : Command) → words_from 3 (Mode magic len) words ≡ Ok command → IsRawWith magic len words command
 unfolding words_from
 from_action magic len [] command h = absurd (cc)
 from_action magic len (w ∷ ws) command h = action_spelt magic len w ws command (bytes_eq w (codes "-g")) (bytes_eq w (codes "-s")) refl refl h
@@ -223,7 +340,7 @@ unfolding words_from
 from_length magic [] command h = absurd (cc)
 from_length magic (len ∷ ws) command h =
     let word = on_word (next (Length magic) len) 2 ws command h in
-    let n = on_map (λ n. Action magic n) (number_up_to 65535 len) word.0 word.1 in
+    let n = on_map (λ n. Mode magic n) (number_up_to 65535 len) word.0 word.1 in
     (n.0, len, ws, refl, n.1, from_action magic n.0 ws command (subst (λ s. words_from 3 s ws ≡ Ok command) (sym n.2) word.2))
 
 raw_spelt : (words : List (List ℕ)) (command : Command) → words_from 1 Magic words ≡ Ok command → (raw : RawCommand) × (command ≡ Raw raw) × IsRaw words raw
@@ -241,30 +358,31 @@ raw_spelt (magic ∷ ws) command h =
 
 -- what words of options say
 
-long_cases : (w : List ℕ) (v : Valued) (a b c : Bool) → bytes_eq w (codes "--input") ≡ a → bytes_eq w (codes "--name") ≡ b → bytes_eq w (codes "--get") ≡ c →
-    (if a then Some Input else if b then Some Name else if c then Some Get else None) ≡ Some v → w ≡ long_form v
-long_cases w v true b c ea eb ec h = same_bytes w (codes "--input") ea ∙ ap long_form (some_same Input v h)
-long_cases w v false true c ea eb ec h = same_bytes w (codes "--name") eb ∙ ap long_form (some_same Name v h)
-long_cases w v false false true ea eb ec h = same_bytes w (codes "--get") ec ∙ ap long_form (some_same Get v h)
-long_cases w v false false false ea eb ec h = absurd (cc)
+long_cases : (w : List ℕ) (v : Valued) (a b c d : Bool) → bytes_eq w (codes "--input") ≡ a → bytes_eq w (codes "--name") ≡ b → bytes_eq w (codes "--get") ≡ c → bytes_eq w (codes "--set") ≡ d →
+    (if a then Some Input else if b then Some Name else if c then Some GetOption else if d then Some SetOption else None) ≡ Some v → w ≡ long_form v
+long_cases w v true b c d ea eb ec ed h = same_bytes w (codes "--input") ea ∙ ap long_form (some_same Input v h)
+long_cases w v false true c d ea eb ec ed h = same_bytes w (codes "--name") eb ∙ ap long_form (some_same Name v h)
+long_cases w v false false true d ea eb ec ed h = same_bytes w (codes "--get") ec ∙ ap long_form (some_same GetOption v h)
+long_cases w v false false false true ea eb ec ed h = same_bytes w (codes "--set") ed ∙ ap long_form (some_same SetOption v h)
+long_cases w v false false false false ea eb ec ed h = absurd (cc)
 
 long_words : (w : List ℕ) (v : Valued) → long_of w ≡ Some v → w ≡ long_form v
-long_words w v h = long_cases w v (bytes_eq w (codes "--input")) (bytes_eq w (codes "--name")) (bytes_eq w (codes "--get")) refl refl refl h
+long_words w v h =
+    long_cases w v (bytes_eq w (codes "--input")) (bytes_eq w (codes "--name")) (bytes_eq w (codes "--get")) (bytes_eq w (codes "--set")) refl refl refl refl h
 
-valued_cases : (w : List ℕ) (v : Valued) (a b c : Bool) → bytes_eq w (codes "-i") ≡ a → bytes_eq w (codes "-n") ≡ b → bytes_eq w (codes "-g") ≡ c →
-    (if a then Some Input else if b then Some Name else if c then Some Get else long_of w) ≡ Some v → (w ≡ short_form v) ⊎ (w ≡ long_form v)
-valued_cases w v true b c ea eb ec h = inl (same_bytes w (codes "-i") ea ∙ ap short_form (some_same Input v h))
-valued_cases w v false true c ea eb ec h = inl (same_bytes w (codes "-n") eb ∙ ap short_form (some_same Name v h))
-valued_cases w v false false true ea eb ec h = inl (same_bytes w (codes "-g") ec ∙ ap short_form (some_same Get v h))
-valued_cases w v false false false ea eb ec h = inr (long_words w v h)
+valued_cases : (w : List ℕ) (v : Valued) (a b c d : Bool) → bytes_eq w (codes "-i") ≡ a → bytes_eq w (codes "-n") ≡ b → bytes_eq w (codes "-g") ≡ c → bytes_eq w (codes "-s") ≡ d →
+    (if a then Some Input else if b then Some Name else if c then Some GetOption else if d then Some SetOption else long_of w) ≡ Some v → (w ≡ short_form v) ⊎ (w ≡ long_form v)
+valued_cases w v true b c d ea eb ec ed h = inl (same_bytes w (codes "-i") ea ∙ ap short_form (some_same Input v h))
+valued_cases w v false true c d ea eb ec ed h = inl (same_bytes w (codes "-n") eb ∙ ap short_form (some_same Name v h))
+valued_cases w v false false true d ea eb ec ed h = inl (same_bytes w (codes "-g") ec ∙ ap short_form (some_same GetOption v h))
+valued_cases w v false false false true ea eb ec ed h = inl (same_bytes w (codes "-s") ed ∙ ap short_form (some_same SetOption v h))
+valued_cases w v false false false false ea eb ec ed h = inr (long_words w v h)
 
 valued_words : (w : List ℕ) (v : Valued) → valued_of w ≡ Some v → (w ≡ short_form v) ⊎ (w ≡ long_form v)
-valued_words w v h = valued_cases w v (bytes_eq w (codes "-i")) (bytes_eq w (codes "-n")) (bytes_eq w (codes "-g")) refl refl refl h
+valued_words w v h =
+    valued_cases w v (bytes_eq w (codes "-i")) (bytes_eq w (codes "-n")) (bytes_eq w (codes "-g")) (bytes_eq w (codes "-s")) refl refl refl refl h
 
 -- a word is what stands before its first `=`, that sign, and what stands behind it
-abbrev pub is_sign : ℕ → Bool
-is_sign c = c == 61
-
 cut_behind : (c : ℕ) (cs : List ℕ) (n m k : ℕ) → m ≡ suc n → k ≡ suc (n + 1) → cs ≡ take n cs ++ 61 ∷ drop (n + 1) cs → c ∷ cs ≡ take m (c ∷ cs) ++ 61 ∷ drop k (c ∷ cs)
 cut_behind c cs n m k em ek h = rw (em, ek) (ap (λ cs. c ∷ cs) h)
 
@@ -281,7 +399,7 @@ cut [] h = absurd (cc)
 cut (c ∷ cs) h = cut_at c cs (is_sign c) refl h (cut cs)
 
 value_cases : (w : List ℕ) (given : Valued × List ℕ) (b : Bool) → list_any is_sign w ≡ b →
-    (if b then option_map (λ valued. (valued, after_first is_sign w)) (long_of (before_first is_sign w)) else None) ≡ Some given →
+    option_and_then (λ (cut : List ℕ × List ℕ). option_map (λ valued. (valued, cut.1)) (long_of cut.0)) (if b then Some (before_first is_sign w, after_first is_sign w) else None) ≡ Some given →
     w ≡ long_form given.0 ++ 61 ∷ given.1
 value_cases w given true e h =
     let long = on_map (λ valued. (valued, after_first is_sign w)) (long_of (before_first is_sign w)) given h in
@@ -296,151 +414,190 @@ value_words w given h = value_cases w given (list_any is_sign w) refl h
 -- the options, item by item
 
 -- these words spell items that make this command, behind what was given
-record IsRead (given : Given) (words : List (List ℕ)) (command : Command) : Type 0 where
-  state : StateCommand
+record IsRead (row : Row) (given : Given) (words : List (List ℕ)) (command : Command) : Type 0 where
   items : List Item
-  command_is : command ≡ State state
+  all : Given
   spelt_so : words ≡ flat_map spelling_of items
-  files : option_to_list given.file ++ filter_map file_in items ≡ state.file ∷ []
-  names : option_to_list given.name ++ filter_map name_in items ≡ option_to_list state.name
-  outputs : given.outputs ++ filter_map output_in items ≡ state.outputs
+  has_all : list_all (has_item row) items ≡ true
+  gives : Gives given items all
+  made : command_of row all ≡ Some command
 
 -- the same, where the value of an option comes first
-abbrev IsReadWith : Option Valued → Given → List (List ℕ) → Command → Type 0
-IsReadWith None given words command = IsRead given words command
-IsReadWith (Some valued) given words command = (value : List ℕ) × (rest : List (List ℕ)) × (words ≡ value ∷ rest) × IsRead (with_value valued value given) rest command
+abbrev IsReadWith : Row → Option Valued → Given → List (List ℕ) → Command → Type 0
+IsReadWith row None given words command = IsRead row given words command
+IsReadWith row (Some valued) given words command =
+    (value : List ℕ) × (rest : List (List ℕ)) × (behind : Given) × (words ≡ value ∷ rest) × (with_value valued value given ≡ Some behind) × IsRead row behind rest command
 
-end_read : (start : ℕ) (file name : Option (List ℕ)) (outputs : List Output) (command : Command) →
-    ok_or (option_map (λ state. State state) (state_of None (given_of file name outputs))) start ≡ Ok command → IsRead (given_of file name outputs) [] command
-end_read start None name outputs command h = absurd (cc)
-end_read start (Some file) name outputs command h = record {
-  state = record { file = file; name = name; outputs = outputs };
+end_read : (start : ℕ) (row : Row) (given : Given) (o : Option Command) (command : Command) → command_of row given ≡ o → ok_or o start ≡ Ok command → IsRead row given [] command
+end_read start row given None command e h = absurd (cc)
+end_read start row given (Some made) command e h = record {
   items = [];
-  command_is = sym (ok_same (made_of file name outputs) command h);
+  all = given;
   spelt_so = refl;
-  files = refl;
-  names = append-nil (option_to_list name);
-  outputs = append-nil outputs;
+  has_all = refl;
+  gives = record { files = append-nil (option_to_list given.file); names = append-nil (option_to_list given.name); actions = append-nil given.actions };
+  made = e ∙ ap (λ c. Some c) (ok_same made command h);
 }
 
-takes_read : (form : Form) (valued : Valued) (value : List ℕ) (file name : Option (List ℕ)) (outputs : List Output) (rest : List (List ℕ)) (command : Command) →
-    may_come valued (given_of file name outputs) ≡ true → IsRead (with_value valued value (given_of file name outputs)) rest command →
-    IsRead (given_of file name outputs) (spelling_of (Takes form valued value) ++ rest) command
-takes_read form Input value None name outputs rest command may r = record {
-  state = r.state;
-  items = Takes form Input value ∷ r.items;
-  command_is = r.command_is;
-  spelt_so = ap (λ rest. spelling_of (Takes form Input value) ++ rest) r.spelt_so;
-  files = r.files;
-  names = r.names;
-  outputs = r.outputs;
-}
-takes_read form Input value (Some file) name outputs rest command may r = absurd (cc)
-takes_read form Name value file None outputs rest command may r = record {
-  state = r.state;
-  items = Takes form Name value ∷ r.items;
-  command_is = r.command_is;
-  spelt_so = ap (λ rest. spelling_of (Takes form Name value) ++ rest) r.spelt_so;
-  files = r.files;
-  names = r.names;
-  outputs = r.outputs;
-}
-takes_read form Name value file (Some name) outputs rest command may r = absurd (cc)
-takes_read form Get value file name outputs rest command may r = record {
-  state = r.state;
-  items = Takes form Get value ∷ r.items;
-  command_is = r.command_is;
-  spelt_so = ap (λ rest. spelling_of (Takes form Get value) ++ rest) r.spelt_so;
-  files = r.files;
-  names = r.names;
-  outputs = sym (append_assoc outputs (Value value ∷ []) (filter_map output_in r.items)) ∙ r.outputs;
-}
+-- a set's value has a sign
+set_value : (value : List ℕ) (action : Action) (b : Bool) → has_sign value ≡ b →
+    option_map set_cut (if b then Some (before_first is_sign value, after_first is_sign value) else None) ≡ Some action → has_sign value ≡ true
+set_value value action true e h = e
+set_value value action false e h = absurd (cc)
 
-dump_read : (item : Item) (w : List ℕ) (output : Output) (given : Given) (rest : List (List ℕ)) (command : Command) →
-    w ∷ [] ≡ spelling_of item → file_in item ≡ None → name_in item ≡ None → output_in item ≡ Some output →
-    IsRead (with_output output given) rest command → IsRead given (w ∷ rest) command
-dump_read item w output given rest command spelling no_file no_name sends r = record {
-  state = r.state;
+-- what an option with its value and the items behind it give
+record Begun (row : Row) (form : Form) (valued : Valued) (value : List ℕ) (items : List Item) (given all : Given) : Type 0 where
+  had : has_item row (Takes form valued value) ≡ true
+  gives : Gives given (Takes form valued value ∷ items) all
+
+item_had : (row : Row) (form : Form) (valued : Valued) (value : List ℕ) → has row valued ≡ true → is_value valued value ≡ true → has_item row (Takes form valued value) ≡ true
+item_had row form valued value had is = ap (λ b. b && is_value valued value) had ∙ is
+
+takes_begun : (row : Row) (form : Form) (valued : Valued) (value : List ℕ) (items : List Item) (file name : Option (List ℕ)) (actions : List Action) (behind all : Given) →
+    may_come row valued (record { file = file; name = name; actions = actions }) ≡ true →
+    with_value valued value (record { file = file; name = name; actions = actions }) ≡ Some behind → Gives behind items all →
+    Begun row form valued value items (record { file = file; name = name; actions = actions }) all
+takes_begun row form Input value items None name actions behind all may with g =
+    let given = subst (λ behind. Gives behind items all) (sym (some_same _ behind with)) g in
+    record {
+      had = item_had row form Input value (both _ _ may).0 refl;
+      gives = record { files = given.files; names = given.names; actions = given.actions };
+    }
+takes_begun row form Input value items (Some x) name actions behind all may with g = absurd (cc ((both (has row Input) false may).1))
+takes_begun row form Name value items file None actions behind all may with g =
+    let given = subst (λ behind. Gives behind items all) (sym (some_same _ behind with)) g in
+    record {
+      had = item_had row form Name value (both _ _ may).0 refl;
+      gives = record { files = given.files; names = given.names; actions = given.actions };
+    }
+takes_begun row form Name value items file (Some x) actions behind all may with g = absurd (cc ((both (has row Name) false may).1))
+takes_begun row form GetOption value items file name actions behind all may with g =
+    let before : Given = record { file = file; name = name; actions = actions } in
+    let given = subst (λ behind. Gives behind items all) (sym (some_same _ behind with)) g in
+    record {
+      had = item_had row form GetOption value (both _ _ may).0 refl;
+      gives = action_before before all items (Takes form GetOption value) (Get value) refl refl refl given;
+    }
+takes_begun row form SetOption value items file name actions behind all may with g =
+    let before : Given = record { file = file; name = name; actions = actions } in
+    let set = on_map (λ action. with_action action before) (set_in value) behind with in
+    let given = subst (λ behind. Gives behind items all) (sym set.2) g in
+    record {
+      had = item_had row form SetOption value (both _ _ may).0 (set_value value set.0 (has_sign value) refl set.1);
+      gives = action_before before all items (Takes form SetOption value) set.0 refl refl set.1 given;
+    }
+
+takes_read : (row : Row) (form : Form) (valued : Valued) (value : List ℕ) (given behind : Given) (rest : List (List ℕ)) (command : Command) →
+    may_come row valued given ≡ true → with_value valued value given ≡ Some behind → IsRead row behind rest command →
+    IsRead row given (spelling_of (Takes form valued value) ++ rest) command
+takes_read row form valued value given behind rest command may with r =
+    let begun = takes_begun row form valued value r.items given.file given.name given.actions behind r.all may with r.gives in
+    record {
+      items = Takes form valued value ∷ r.items;
+      all = r.all;
+      spelt_so = ap (λ rest. spelling_of (Takes form valued value) ++ rest) r.spelt_so;
+      has_all = ap (λ b. b && list_all (has_item row) r.items) begun.had ∙ r.has_all;
+      gives = begun.gives;
+      made = r.made;
+    }
+
+dump_read : (row : Row) (item : Item) (w : List ℕ) (action : Action) (given : Given) (rest : List (List ℕ)) (command : Command) →
+    w ∷ [] ≡ spelling_of item → has_item row item ≡ true → file_in item ≡ None → name_in item ≡ None → action_in item ≡ Some action →
+    IsRead row (with_action action given) rest command → IsRead row given (w ∷ rest) command
+dump_read row item w action given rest command spelling had no_file no_name does r = record {
   items = item ∷ r.items;
-  command_is = r.command_is;
+  all = r.all;
   spelt_so = ap (λ ws. ws ++ rest) spelling ∙ ap (λ rest. spelling_of item ++ rest) r.spelt_so;
-  files = ap (λ o. option_to_list given.file ++ cons_option o (filter_map file_in r.items)) no_file ∙ r.files;
-  names = ap (λ o. option_to_list given.name ++ cons_option o (filter_map name_in r.items)) no_name ∙ r.names;
-  outputs = ap (λ o. given.outputs ++ cons_option o (filter_map output_in r.items)) sends ∙ sym (append_assoc given.outputs (output ∷ []) (filter_map output_in r.items)) ∙ r.outputs;
+  has_all = ap (λ b. b && list_all (has_item row) r.items) had ∙ r.has_all;
+  gives = action_before given r.all r.items item action no_file no_name does r.gives;
+  made = r.made;
 }
 
 one_word : (a b : List ℕ) → a ≡ b → ◌≡◌ {A = List (List ℕ)} (a ∷ []) (b ∷ [])
 one_word a b h = ap (λ w. w ∷ []) h
 
-dump_cases : (w : List ℕ) (output : Output) (given : Given) (rest : List (List ℕ)) (command : Command) (a b c : Bool) →
+dump_cases : (row : Row) (w : List ℕ) (action : Action) (given : Given) (rest : List (List ℕ)) (command : Command) (a b c : Bool) → has_dumps row ≡ true →
     bytes_eq w (codes "-d") ≡ a → bytes_eq w (codes "--dump") ≡ b → bytes_eq w (codes "--dump-shell") ≡ c →
-    (if a || b then Some Dump else if c then Some DumpShell else None) ≡ Some output →
-    IsRead (with_output output given) rest command → IsRead given (w ∷ rest) command
-dump_cases w output given rest command true b c ea eb ec h r =
-    dump_read ShortDump w output given rest command (one_word _ _ (same_bytes w (codes "-d") ea)) refl refl h r
-dump_cases w output given rest command false true c ea eb ec h r =
-    dump_read LongDump w output given rest command (one_word _ _ (same_bytes w (codes "--dump") eb)) refl refl h r
-dump_cases w output given rest command false false true ea eb ec h r =
-    dump_read ShellDump w output given rest command (one_word _ _ (same_bytes w (codes "--dump-shell") ec)) refl refl h r
-dump_cases w output given rest command false false false ea eb ec h r = absurd (cc)
+    (if a || b then Some Dump else if c then Some DumpShell else None) ≡ Some action →
+    IsRead row (with_action action given) rest command → IsRead row given (w ∷ rest) command
+dump_cases row w action given rest command true b c had ea eb ec h r =
+    dump_read row ShortDump w action given rest command (one_word _ _ (same_bytes w (codes "-d") ea)) had refl refl h r
+dump_cases row w action given rest command false true c had ea eb ec h r =
+    dump_read row LongDump w action given rest command (one_word _ _ (same_bytes w (codes "--dump") eb)) had refl refl h r
+dump_cases row w action given rest command false false true had ea eb ec h r =
+    dump_read row ShellDump w action given rest command (one_word _ _ (same_bytes w (codes "--dump-shell") ec)) had refl refl h r
+dump_cases row w action given rest command false false false had ea eb ec h r = absurd (cc)
 
 -- the words behind a stage spell the rest of a command
-Onward : List (List ℕ) → Type 0
-Onward rest = (start : ℕ) (due : Option Valued) (given : Given) (command : Command) → words_from start (Options due given) rest ≡ Ok command → IsReadWith due given rest command
+Onward : Row → List (List ℕ) → Type 0
+Onward row rest = (start : ℕ) (due : Option Valued) (given : Given) (command : Command) → words_from start (Options row due given) rest ≡ Ok command → IsReadWith row due given rest command
 
-dump_onward : (start : ℕ) (w : List ℕ) (rest : List (List ℕ)) (given : Given) (command : Command) (s : Stage) → Onward rest →
-    option_map (λ output. Options None (with_output output given)) (dump_of w) ≡ Some s → words_from (start + 1) s rest ≡ Ok command → IsRead given (w ∷ rest) command
+from_stage : (start : ℕ) (a b : Stage) (rest : List (List ℕ)) (command : Command) → a ≡ b → words_from start b rest ≡ Ok command → words_from start a rest ≡ Ok command
+from_stage start a b rest command e h = subst (λ s. words_from start s rest ≡ Ok command) (sym e) h
+
+dump_onward : (start : ℕ) (row : Row) (w : List ℕ) (rest : List (List ℕ)) (given : Given) (command : Command) (s : Stage) → Onward row rest →
+    option_and_then (dumped row given) (dump_of w) ≡ Some s → words_from (start + 1) s rest ≡ Ok command → IsRead row given (w ∷ rest) command
 unfolding Onward
-dump_onward start w rest given command s ih stage h =
-    let dump = on_map (λ output. Options None (with_output output given)) (dump_of w) s stage in
-    let r = ih (start + 1) None (with_output dump.0 given) command (subst (λ s. words_from (start + 1) s rest ≡ Ok command) (sym dump.2) h) in
-    dump_cases w dump.0 given rest command (bytes_eq w (codes "-d")) (bytes_eq w (codes "--dump")) (bytes_eq w (codes "--dump-shell")) refl refl refl dump.1 r
+dump_onward start row w rest given command s ih stage h =
+    let dump = on_then (dumped row given) (dump_of w) s stage in
+    let had = on_if (has_dumps row) (Options row None (with_action dump.0 given)) s dump.2 in
+    let r = ih (start + 1) None (with_action dump.0 given) command (from_stage (start + 1) _ s rest command had.1 h) in
+    dump_cases row w dump.0 given rest command (bytes_eq w (codes "-d")) (bytes_eq w (codes "--dump")) (bytes_eq w (codes "--dump-shell")) had.0 refl refl refl dump.1 r
 
-opened_form : (w value : List ℕ) (v : Valued) (given : Given) (rest : List (List ℕ)) (command : Command) → (w ≡ short_form v) ⊎ (w ≡ long_form v) →
-    may_come v given ≡ true → IsRead (with_value v value given) rest command → IsRead given (w ∷ value ∷ rest) command
-opened_form w value v given rest command (inl short) may r =
-    subst (λ w. IsRead given (w ∷ value ∷ rest) command) (sym short) (takes_read Short v value given.file given.name given.outputs rest command may r)
-opened_form w value v given rest command (inr long) may r =
-    subst (λ w. IsRead given (w ∷ value ∷ rest) command) (sym long) (takes_read Long v value given.file given.name given.outputs rest command may r)
+opened_form : (row : Row) (w value : List ℕ) (v : Valued) (given behind : Given) (rest : List (List ℕ)) (command : Command) → (w ≡ short_form v) ⊎ (w ≡ long_form v) →
+    may_come row v given ≡ true → with_value v value given ≡ Some behind → IsRead row behind rest command → IsRead row given (w ∷ value ∷ rest) command
+opened_form row w value v given behind rest command (inl short) may with r =
+    subst (λ w. IsRead row given (w ∷ value ∷ rest) command) (sym short) (takes_read row Short v value given behind rest command may with r)
+opened_form row w value v given behind rest command (inr long) may with r =
+    subst (λ w. IsRead row given (w ∷ value ∷ rest) command) (sym long) (takes_read row Long v value given behind rest command may with r)
 
-opened_onward : (start : ℕ) (w : List ℕ) (rest : List (List ℕ)) (given : Given) (command : Command) (s : Stage) → Onward rest →
-    option_and_then (opened given) (valued_of w) ≡ Some s → words_from (start + 1) s rest ≡ Ok command → IsRead given (w ∷ rest) command
+opened_onward : (start : ℕ) (row : Row) (w : List ℕ) (rest : List (List ℕ)) (given : Given) (command : Command) (s : Stage) → Onward row rest →
+    option_and_then (opened row given) (valued_of w) ≡ Some s → words_from (start + 1) s rest ≡ Ok command → IsRead row given (w ∷ rest) command
 unfolding Onward
-opened_onward start w rest given command s ih stage h =
-    let v = on_then (opened given) (valued_of w) s stage in
-    let may = on_if (may_come v.0 given) (Options (Some v.0) given) s v.2 in
-    let r = ih (start + 1) (Some v.0) given command (subst (λ s. words_from (start + 1) s rest ≡ Ok command) (sym may.1) h) in
-    subst (λ rest. IsRead given (w ∷ rest) command) (sym r.2) (opened_form w r.0 v.0 given r.1 command (valued_words w v.0 v.1) may.0 r.3)
+opened_onward start row w rest given command s ih stage h =
+    let v = on_then (opened row given) (valued_of w) s stage in
+    let may = on_if (may_come row v.0 given) (Options row (Some v.0) given) s v.2 in
+    let r = ih (start + 1) (Some v.0) given command (from_stage (start + 1) _ s rest command may.1 h) in
+    subst (λ rest. IsRead row given (w ∷ rest) command) (sym r.3) (opened_form row w r.0 v.0 given r.2 r.1 command (valued_words w v.0 v.1) may.0 r.4 r.5)
 
-closed_onward : (start : ℕ) (w : List ℕ) (rest : List (List ℕ)) (given : Given) (command : Command) (s : Stage) → Onward rest →
-    option_and_then (closed given) (value_in w) ≡ Some s → words_from (start + 1) s rest ≡ Ok command → IsRead given (w ∷ rest) command
+on_test : {A : Type 0} (t : Bool) (o : Option A) (b : A) → (if t then o else None) ≡ Some b → (t ≡ true) × (o ≡ Some b)
+on_test true o b h = (refl, h)
+on_test false o b h = absurd (cc)
+
+closed_onward : (start : ℕ) (row : Row) (w : List ℕ) (rest : List (List ℕ)) (given : Given) (command : Command) (s : Stage) → Onward row rest →
+    option_and_then (closed row given) (value_in w) ≡ Some s → words_from (start + 1) s rest ≡ Ok command → IsRead row given (w ∷ rest) command
 unfolding Onward
-closed_onward start w rest given command s ih stage h =
-    let v = on_then (closed given) (value_in w) s stage in
-    let may = on_if (may_come v.0.0 given) (Options None (with_value v.0.0 v.0.1 given)) s v.2 in
-    let r = ih (start + 1) None (with_value v.0.0 v.0.1 given) command (subst (λ s. words_from (start + 1) s rest ≡ Ok command) (sym may.1) h) in
-    subst (λ w. IsRead given (w ∷ rest) command) (sym (value_words w v.0 v.1)) (takes_read Joined v.0.0 v.0.1 given.file given.name given.outputs rest command may.0 r)
+closed_onward start row w rest given command s ih stage h =
+    let v = on_then (closed row given) (value_in w) s stage in
+    let may = on_test (may_come row v.0.0 given) (taken row given v.0.0 v.0.1) s v.2 in
+    let behind = on_map (Options row None) (with_value v.0.0 v.0.1 given) s may.1 in
+    let r = ih (start + 1) None behind.0 command (from_stage (start + 1) _ s rest command behind.2 h) in
+    subst (λ w. IsRead row given (w ∷ rest) command) (sym (value_words w v.0 v.1)) (takes_read row Joined v.0.0 v.0.1 given behind.0 rest command may.0 behind.1 r)
 
-option_onward : (start : ℕ) (w : List ℕ) (rest : List (List ℕ)) (given : Given) (command : Command) (s : Stage) → Onward rest →
-    behind_option given w ≡ Some s → words_from (start + 1) s rest ≡ Ok command → IsRead given (w ∷ rest) command
-option_onward start w rest given command s ih stage h =
-    elim (on_or (option_map (λ output. Options None (with_output output given)) (dump_of w)) (option_or (option_and_then (opened given) (valued_of w)) (option_and_then (closed given) (value_in w))) s stage) [
-      | inl dump ↦ dump_onward start w rest given command s ih dump h
+option_onward : (start : ℕ) (row : Row) (w : List ℕ) (rest : List (List ℕ)) (given : Given) (command : Command) (s : Stage) → Onward row rest →
+    behind_option row given w ≡ Some s → words_from (start + 1) s rest ≡ Ok command → IsRead row given (w ∷ rest) command
+option_onward start row w rest given command s ih stage h =
+    elim (on_or (option_and_then (dumped row given) (dump_of w))
+    (option_or (option_and_then (opened row given) (valued_of w)) (option_and_then (closed row given) (value_in w))) s stage) [
+      | inl dump ↦ dump_onward start row w rest given command s ih dump h
       | inr other ↦
-          elim (on_or (option_and_then (opened given) (valued_of w)) (option_and_then (closed given) (value_in w)) s other) [
-            | inl open_stage ↦ opened_onward start w rest given command s ih open_stage h
-            | inr close_stage ↦ closed_onward start w rest given command s ih close_stage h
+          elim (on_or (option_and_then (opened row given) (valued_of w)) (option_and_then (closed row given) (value_in w)) s other) [
+            | inl open_stage ↦ opened_onward start row w rest given command s ih open_stage h
+            | inr close_stage ↦ closed_onward start row w rest given command s ih close_stage h
           ]
     ]
 
-onward : (rest : List (List ℕ)) → Onward rest
+onward : (row : Row) (rest : List (List ℕ)) → Onward row rest
 unfolding Onward words_from
-onward [] start None given command h = end_read start given.file given.name given.outputs command h
-onward [] start (Some valued) given command h = absurd (cc)
-onward (w ∷ ws) start None given command h =
-    let word = on_word (behind_option given w) start ws command h in
-    option_onward start w ws given command word.0 (onward ws) word.1 word.2
-onward (w ∷ ws) start (Some valued) given command h = (w, ws, refl, onward ws (start + 1) None (with_value valued w given) command h)
+onward row [] start None given command h = end_read start row given (command_of row given) command refl h
+onward row [] start (Some valued) given command h = absurd (cc)
+onward row (w ∷ ws) start None given command h =
+    let word = on_word (behind_option row given w) start ws command h in
+    option_onward start row w ws given command word.0 (onward row ws) word.1 word.2
+onward row (w ∷ ws) start (Some valued) given command h =
+    let word = on_word (taken row given valued w) start ws command h in
+    let behind = on_map (Options row None) (with_value valued w given) word.0 word.1 in
+    (w, ws, behind.0, refl, behind.1, onward row ws (start + 1) None behind.0 command (from_stage (start + 1) _ word.0 ws command behind.2 word.2))
 
 -- commands
 
@@ -449,25 +606,40 @@ raw_of_words w rest command is h =
     let raw = raw_spelt rest command h in
     subst (Spells (w ∷ rest)) (sym raw.1) (rest, ap (λ w. w ∷ rest) (same_bytes w (codes "raw") is), raw.2)
 
-state_of_words : (w : List ℕ) (rest : List (List ℕ)) (command : Command) → bytes_eq w (codes "state") ≡ true → words_from 1 (Options None none_given) rest ≡ Ok command →
+-- the command that a row makes
+row_made : (row : Row) (given : Given) (words : List (List ℕ)) (command : Command) → command_of row given ≡ Some command → IsSpelt row words command → Spells words command
+row_made StateRow given words command made is =
+    let state = on_map (λ file. State (record { file = file; name = given.name; actions = given.actions })) given.file command made in
+    subst (λ command. IsSpelt StateRow words command → Spells words command) state.2 (λ is. is) is
+
+row_named : (w : List ℕ) (row : Row) (b : Bool) → bytes_eq w (name_of StateRow) ≡ b → (if b then Some StateRow else None) ≡ Some row → w ≡ name_of row
+row_named w row true e h = same_bytes w (name_of StateRow) e ∙ ap name_of (some_same StateRow row h)
+row_named w row false e h = absurd (cc)
+
+options_of_words : (row : Row) (w : List ℕ) (rest : List (List ℕ)) (command : Command) → row_of w ≡ Some row → words_from 1 (Options row None none_given) rest ≡ Ok command →
     Spells (w ∷ rest) command
 unfolding Onward
-state_of_words w rest command is h =
-    let read = onward rest 1 None none_given command h in
-    subst (Spells (w ∷ rest)) (sym read.command_is) (
-      rest,
-      ap (λ w. w ∷ rest) (same_bytes w (codes "state") is),
-      record { items = read.items; spelt = read.spelt_so; file_is = read.files; name_is = read.names; outputs_are = read.outputs },
-    )
+options_of_words row w rest command named h =
+    let r = onward row rest 1 None none_given command h in
+    row_made row r.all (w ∷ rest) command r.made (record {
+      items = r.items;
+      given = r.all;
+      spelt = ap (λ w. w ∷ rest) (row_named w row (bytes_eq w (name_of StateRow)) refl named) ∙ ap (λ rest. name_of row ∷ rest) r.spelt_so;
+      has_all = r.has_all;
+      file_is = r.gives.files;
+      name_is = r.gives.names;
+      actions_are = r.gives.actions;
+      made = r.made;
+    })
 
-command_spelt : (w : List ℕ) (rest : List (List ℕ)) (command : Command) (a b : Bool) → bytes_eq w (codes "raw") ≡ a → bytes_eq w (codes "state") ≡ b →
-    option_map_or (λ behind. words_from 1 behind rest) (if a then Some Magic else if b then Some (Options None none_given) else None) (Err 0) ≡ Ok command →
+command_spelt : (w : List ℕ) (rest : List (List ℕ)) (command : Command) (a : Bool) (o : Option Row) → bytes_eq w (codes "raw") ≡ a → row_of w ≡ o →
+    option_map_or (λ behind. words_from 1 behind rest) (if a then Some Magic else option_map (λ row. Options row None none_given) o) (Err 0) ≡ Ok command →
     Spells (w ∷ rest) command
-command_spelt w rest command true b ea eb h = raw_of_words w rest command ea h
-command_spelt w rest command false true ea eb h = state_of_words w rest command eb h
-command_spelt w rest command false false ea eb h = absurd (cc)
+command_spelt w rest command true o ea eo h = raw_of_words w rest command ea h
+command_spelt w rest command false (Some row) ea eo h = options_of_words row w rest command eo h
+command_spelt w rest command false None ea eo h = absurd (cc)
 
 pub spelt : (words : List (List ℕ)) (command : Command) → words_of words ≡ Ok command → Spells words command
 unfolding words_from
 spelt [] command h = absurd (cc)
-spelt (w ∷ ws) command h = command_spelt w ws command (bytes_eq w (codes "raw")) (bytes_eq w (codes "state")) refl refl h
+spelt (w ∷ ws) command h = command_spelt w ws command (bytes_eq w (codes "raw")) (row_of w) refl refl h

@@ -3,4 +3,5 @@ pub mod Areas
 pub mod Examples
 pub mod FirstBadLemmas
 pub mod GrammarLemmas
+pub mod Signs
 pub mod Steps

@@ -7,15 +7,15 @@ use Rattle.std.specs.Result.{IsErrAnd}
 use Rattle.std.specs.Str.{bytes_eq}
 use Rattle.bb_words.specs.Answer.{Refuses}
 use Rattle.bb_words.specs.declared.command.Command.{Command}
-use Rattle.bb_words.specs.declared.command.Command.TheVariants.{State}
 use Rattle.bb_words.specs.declared.command.RawAction.TheVariants.{Look, Write}
-use Rattle.bb_words.specs.declared.command.StateCommand.{StateCommand}
 use Rattle.bb_words.specs.declared.given.Given.{Given}
 use Rattle.bb_words.specs.declared.option.Valued.{Valued}
 use Rattle.bb_words.specs.declared.error.WordsError.{WordsError}
 use Rattle.bb_words.specs.declared.error.WordsError.TheVariants.{BadWord, NoMemory}
+use Rattle.bb_words.specs.declared.row.Row.{Row}
 use Rattle.bb_words.specs.Options.{none_given}
-use Rattle.bb_words.specs.Words.{Stage, Start, Magic, Length, Action, Area, Options, Whole, raw_of, number_up_to, area_of, state_of, next, command_at, words_from, words_of}
+use Rattle.bb_words.specs.Table.{row_of}
+use Rattle.bb_words.specs.Words.{Stage, Start, Magic, Length, Mode, Area, Options, Whole, raw_of, number_up_to, area_of, next, command_at, words_from, words_of}
 
 -- ---- answers
 
@@ -26,6 +26,12 @@ raised P (Err y) e h p = subst P (sym h) p
 
 pub moved : {X : Type 0} (x y : Result X ℕ) (cause : WordsError) → x ≡ y → Refuses y cause → Refuses x cause
 moved x y cause e h = subst (λ x. Refuses x cause) (sym e) h
+
+pub ok_moved : (r : Result Command WordsError) (x y : Result Command ℕ) → x ≡ y → IfOk r (λ command. y ≡ Ok command) → IfOk r (λ command. x ≡ Ok command)
+ok_moved r x y e h = subst (λ x. IfOk r (λ command. x ≡ Ok command)) (sym e) h
+
+pub err_moved : (r : Result Command WordsError) (x y : Result Command ℕ) → x ≡ y → IfErr r (Refuses y) → IfErr r (Refuses x)
+err_moved r x y e h = subst (λ x. IfErr r (Refuses x)) (sym e) h
 
 -- where a value is read, and where none is
 pub read_on : {A X : Type 0} (x d : X) (f : A → X) (o : Option A) (a : A) → x ≡ option_map_or f o d → o ≡ Some a → x ≡ f a
@@ -118,8 +124,8 @@ at_magic place words = step place Magic words ∙ mapped _ (λ n. Length n) (num
 
 pub at_length : (place magic : ℕ) (words : List (List ℕ)) →
     words_from place (Length magic) (drop place words) ≡
-    option_map_or (λ n. words_from (place + 1) (Action magic n) (drop (place + 1) words)) (option_and_then (number_up_to 65535) (slice_get words place)) (Err place)
-at_length place magic words = step place (Length magic) words ∙ mapped _ (λ n. Action magic n) (number_up_to 65535) _ (slice_get words place)
+    option_map_or (λ n. words_from (place + 1) (Mode magic n) (drop (place + 1) words)) (option_and_then (number_up_to 65535) (slice_get words place)) (Err place)
+at_length place magic words = step place (Length magic) words ∙ mapped _ (λ n. Mode magic n) (number_up_to 65535) _ (slice_get words place)
 
 pub at_area : (place magic len : ℕ) (words : List (List ℕ)) →
     words_from place (Area magic len) (drop place words) ≡
@@ -135,41 +141,43 @@ not_test : {X : Type 0} (b : Bool) (x y : X) → b ≡ false → (if b then x el
 not_test b x y h = ap (λ b. if b then x else y) h
 
 pub look_word : (magic len : ℕ) (words : List (List ℕ)) (word : List ℕ) → slice_get words 3 ≡ Some word → bytes_eq word (codes "-g") ≡ true →
-    words_from 3 (Action magic len) (drop 3 words) ≡ words_from 4 (Whole (raw_of magic len Look)) (drop 4 words)
-look_word magic len words word found get = step_on 3 (Action magic len) _ words word found (is_test _ _ _ get)
+    words_from 3 (Mode magic len) (drop 3 words) ≡ words_from 4 (Whole (raw_of magic len Look)) (drop 4 words)
+look_word magic len words word found get = step_on 3 (Mode magic len) _ words word found (is_test _ _ _ get)
 
 pub write_word : (magic len : ℕ) (words : List (List ℕ)) (word : List ℕ) → slice_get words 3 ≡ Some word → bytes_eq word (codes "-g") ≡ false → bytes_eq word (codes "-s") ≡ true →
-    words_from 3 (Action magic len) (drop 3 words) ≡ words_from 4 (Area magic len) (drop 4 words)
-write_word magic len words word found get set = step_on 3 (Action magic len) _ words word found (not_test _ _ _ get ∙ is_test _ _ _ set)
+    words_from 3 (Mode magic len) (drop 3 words) ≡ words_from 4 (Area magic len) (drop 4 words)
+write_word magic len words word found get set = step_on 3 (Mode magic len) _ words word found (not_test _ _ _ get ∙ is_test _ _ _ set)
 
 pub other_word : (magic len : ℕ) (words : List (List ℕ)) (word : List ℕ) → slice_get words 3 ≡ Some word → bytes_eq word (codes "-g") ≡ false → bytes_eq word (codes "-s") ≡ false →
-    words_from 3 (Action magic len) (drop 3 words) ≡ Err 3
-other_word magic len words word found get set = step_bad 3 (Action magic len) words word found (not_test _ _ _ get ∙ not_test _ _ _ set)
+    words_from 3 (Mode magic len) (drop 3 words) ≡ Err 3
+other_word magic len words word found get set = step_bad 3 (Mode magic len) words word found (not_test _ _ _ get ∙ not_test _ _ _ set)
 
 pub raw_command : (words : List (List ℕ)) (word : List ℕ) → slice_get words 0 ≡ Some word → bytes_eq word (codes "raw") ≡ true →
     words_of words ≡ words_from 1 Magic (drop 1 words)
 raw_command words word found raw = step_on 0 Start _ words word found (is_test _ _ _ raw)
 
-pub state_command : (words : List (List ℕ)) (word : List ℕ) → slice_get words 0 ≡ Some word → bytes_eq word (codes "raw") ≡ false → bytes_eq word (codes "state") ≡ true →
-    words_of words ≡ words_from 1 (Options None none_given) (drop 1 words)
-state_command words word found raw state = step_on 0 Start _ words word found (not_test _ _ _ raw ∙ is_test _ _ _ state)
+pub option_command : (row : Row) (words : List (List ℕ)) (word : List ℕ) → slice_get words 0 ≡ Some word → bytes_eq word (codes "raw") ≡ false → row_of word ≡ Some row →
+    words_of words ≡ words_from 1 (Options row None none_given) (drop 1 words)
+option_command row words word found raw is =
+    step_on 0 Start _ words word found (not_test _ _ _ raw ∙ ap (option_map (λ row. Options row None none_given)) is)
 
-pub no_command : (words : List (List ℕ)) (word : List ℕ) → slice_get words 0 ≡ Some word → bytes_eq word (codes "raw") ≡ false → bytes_eq word (codes "state") ≡ false →
+pub no_command : (words : List (List ℕ)) (word : List ℕ) → slice_get words 0 ≡ Some word → bytes_eq word (codes "raw") ≡ false → row_of word ≡ None →
     words_of words ≡ Err 0
-no_command words word found raw state = step_bad 0 Start words word found (not_test _ _ _ raw ∙ not_test _ _ _ state)
+no_command words word found raw is =
+    step_bad 0 Start words word found (not_test _ _ _ raw ∙ ap (option_map (λ row. Options row None none_given)) is)
 
 -- ---- the end of the options
 
-pub state_made : (x : Result Command ℕ) (words : List (List ℕ)) (due : Option Valued) (given : Given) (place : ℕ) (r : Result StateCommand WordsError) →
-    length words ≤ place → x ≡ words_from place (Options due given) (drop place words) →
-    IfOk r (λ state. state_of due given ≡ Some state) → IfOk r (λ state. x ≡ Ok (State state))
-state_made x words due given place (Ok state) past e made =
-    e ∙ step_none place (Options due given) words (slice_get_past words place past) ∙ ap (λ o. ok_or (option_map (λ state. State state) o) place) made
-state_made x words due given place (Err cause) past e made = tt
+pub options_made : (x : Result Command ℕ) (words : List (List ℕ)) (row : Row) (due : Option Valued) (given : Given) (place : ℕ) (r : Result Command WordsError) →
+    length words ≤ place → x ≡ words_from place (Options row due given) (drop place words) →
+    IfOk r (λ command. command_at (Options row due given) ≡ Some command) → IfOk r (λ command. x ≡ Ok command)
+options_made x words row due given place (Ok command) past e made =
+    e ∙ step_none place (Options row due given) words (slice_get_past words place past) ∙ ap (λ o. ok_or o place) made
+options_made x words row due given place (Err cause) past e made = tt
 
-pub state_lost : (x : Result Command ℕ) (words : List (List ℕ)) (due : Option Valued) (given : Given) (place : ℕ) (r : Result StateCommand WordsError) →
-    length words ≤ place → x ≡ words_from place (Options due given) (drop place words) →
-    IfErr r (λ cause. (cause ≡ BadWord place) × (state_of due given ≡ None)) → IfErr r (Refuses x)
-state_lost x words due given place (Ok state) past e bad = tt
-state_lost x words due given place (Err cause) past e bad =
-    moved x _ cause e (missing place (Options due given) words cause (ap (option_map (λ state. State state)) bad.1) (bad.0, slice_get_past words place past))
+pub options_lost : (x : Result Command ℕ) (words : List (List ℕ)) (row : Row) (due : Option Valued) (given : Given) (place : ℕ) (r : Result Command WordsError) →
+    length words ≤ place → x ≡ words_from place (Options row due given) (drop place words) →
+    IfErr r (λ cause. (cause ≡ BadWord place) × (command_at (Options row due given) ≡ None)) → IfErr r (Refuses x)
+options_lost x words row due given place (Ok command) past e bad = tt
+options_lost x words row due given place (Err cause) past e bad =
+    moved x _ cause e (missing place (Options row due given) words cause bad.1 (bad.0, slice_get_past words place past))

@@ -1,17 +1,21 @@
 -- The accepted lists of words, by how a command is spelt.
-use Rattle.std.specs.Prelude.{◌≡◌, ℕ, List, [], ◌∷◌, ◌++◌, codes, Option, Some, None}
-use Rattle.std.specs.List.{filter_map, flat_map}
+use Rattle.std.specs.Prelude.{◌≡◌, ℕ, Bool, true, ◌&&◌, List, [], ◌∷◌, ◌++◌, codes, Option, Some, None}
+use Rattle.std.specs.List.{filter_map, flat_map, list_all}
 use Rattle.std.specs.Option.{option_to_list}
+use Rattle.bb_words.specs.declared.command.Action.{Action}
+use Rattle.bb_words.specs.declared.command.Action.TheVariants.{Get, Dump, DumpShell}
 use Rattle.bb_words.specs.declared.command.Command.{Command}
 use Rattle.bb_words.specs.declared.command.Command.TheVariants.{Raw, State}
-use Rattle.bb_words.specs.declared.command.Output.{Output}
-use Rattle.bb_words.specs.declared.command.Output.TheVariants.{Value, Dump, DumpShell}
 use Rattle.bb_words.specs.declared.command.RawAction.{RawAction}
 use Rattle.bb_words.specs.declared.command.RawAction.TheVariants.{Look, Write}
 use Rattle.bb_words.specs.declared.command.RawCommand.{RawCommand}
-use Rattle.bb_words.specs.declared.command.StateCommand.{StateCommand}
+use Rattle.bb_words.specs.declared.given.Given.{Given}
 use Rattle.bb_words.specs.declared.option.Valued.{Valued}
-use Rattle.bb_words.specs.declared.option.Valued.TheVariants.{Input, Name, Get}
+use Rattle.bb_words.specs.declared.option.Valued.TheVariants.{Input, Name, Get as GetOption, Set as SetOption}
+use Rattle.bb_words.specs.declared.row.Row.{Row}
+use Rattle.bb_words.specs.declared.row.Row.TheVariants.{State as StateRow}
+use Rattle.bb_words.specs.Options.{has_sign, set_in}
+use Rattle.bb_words.specs.Table.{name_of, has, has_dumps, command_of}
 use Rattle.bb_words.specs.Words.{number_up_to, area_of}
 
 -- ---- `raw`
@@ -31,7 +35,7 @@ pub record IsRaw (words : List (List ℕ)) (raw : RawCommand) : Type 0 where
   pub len_is : number_up_to 65535 len ≡ Some raw.area_len
   pub action_is : IsAction raw.area_len raw.action action
 
--- ---- `state`
+-- ---- commands with options
 
 -- how an option is spelt: `-i FILE`, `--input FILE` or `--input=FILE`
 pub data Form : Type 0 where
@@ -46,12 +50,14 @@ pub data Item : Type 0 where
 abbrev pub short_form : Valued → List ℕ
 short_form Input = codes "-i"
 short_form Name = codes "-n"
-short_form Get = codes "-g"
+short_form GetOption = codes "-g"
+short_form SetOption = codes "-s"
 
 abbrev pub long_form : Valued → List ℕ
 long_form Input = codes "--input"
 long_form Name = codes "--name"
-long_form Get = codes "--get"
+long_form GetOption = codes "--get"
+long_form SetOption = codes "--set"
 
 abbrev pub spelling_of : Item → List (List ℕ)
 spelling_of (Takes Short valued value) = short_form valued ∷ value ∷ []
@@ -61,7 +67,17 @@ spelling_of ShortDump = codes "-d" ∷ []
 spelling_of LongDump = codes "--dump" ∷ []
 spelling_of ShellDump = codes "--dump-shell" ∷ []
 
--- the file, the state's name and the output that an item gives
+-- whether a text is a value of the option: that of `-s` is VAR=VALUE
+abbrev pub is_value : Valued → List ℕ → Bool
+is_value SetOption value = has_sign value
+is_value _ value = true
+
+-- whether a command has the item
+abbrev pub has_item : Row → Item → Bool
+has_item row (Takes form valued value) = has row valued && is_value valued value
+has_item row _ = has_dumps row
+
+-- the file, the state's name and the action that an item gives
 abbrev pub file_in : Item → Option (List ℕ)
 file_in (Takes form Input value) = Some value
 file_in _ = None
@@ -70,25 +86,30 @@ abbrev pub name_in : Item → Option (List ℕ)
 name_in (Takes form Name value) = Some value
 name_in _ = None
 
-abbrev pub output_in : Item → Option Output
-output_in (Takes form Input value) = None
-output_in (Takes form Name value) = None
-output_in (Takes form Get value) = Some (Value value)
-output_in ShortDump = Some Dump
-output_in LongDump = Some Dump
-output_in ShellDump = Some DumpShell
+abbrev pub action_in : Item → Option Action
+action_in (Takes form Input value) = None
+action_in (Takes form Name value) = None
+action_in (Takes form GetOption value) = Some (Get value)
+action_in (Takes form SetOption value) = set_in value
+action_in ShortDump = Some Dump
+action_in LongDump = Some Dump
+action_in ShellDump = Some DumpShell
 
--- items in any order: one file, at most one name, and the outputs in their order
-pub record IsState (words : List (List ℕ)) (state : StateCommand) : Type 0 where
+-- the command's name, and items that it has in any order: at most one file and one name, and the actions in their
+-- order; they make the command where those are there that must be
+pub record IsSpelt (row : Row) (words : List (List ℕ)) (command : Command) : Type 0 where
   pub items : List Item
-  pub spelt : words ≡ flat_map spelling_of items
-  pub file_is : filter_map file_in items ≡ state.file ∷ []
-  pub name_is : filter_map name_in items ≡ option_to_list state.name
-  pub outputs_are : filter_map output_in items ≡ state.outputs
+  pub given : Given
+  pub spelt : words ≡ name_of row ∷ flat_map spelling_of items
+  pub has_all : list_all (has_item row) items ≡ true
+  pub file_is : filter_map file_in items ≡ option_to_list given.file
+  pub name_is : filter_map name_in items ≡ option_to_list given.name
+  pub actions_are : filter_map action_in items ≡ given.actions
+  pub made : command_of row given ≡ Some command
 
 -- ---- commands
 
 -- these words, and no others, spell this command
 abbrev pub Spells : List (List ℕ) → Command → Type 0
 Spells words (Raw raw) = (rest : List (List ℕ)) × (words ≡ codes "raw" ∷ rest) × IsRaw rest raw
-Spells words (State state) = (rest : List (List ℕ)) × (words ≡ codes "state" ∷ rest) × IsState rest state
+Spells words (State state) = IsSpelt StateRow words (State state)

@@ -1,13 +1,13 @@
--- The options of `state`.
-use Rattle.std.specs.Prelude.{ℕ, ◌==◌, Bool, true, ◌||◌, List, [], ◌∷◌, ◌++◌, codes, Option, Some, None, is_none, if◌then◌else◌}
+-- The options of commands whose options come in any order.
+use Rattle.std.specs.Prelude.{ℕ, ◌==◌, Bool, ◌||◌, List, [], ◌∷◌, ◌++◌, codes, Option, Some, None, option_and_then, if◌then◌else◌}
 use Rattle.std.specs.List.{list_any, before_first, after_first}
 use Rattle.std.specs.Option.{option_map}
 use Rattle.std.specs.Str.{bytes_eq}
-use Rattle.bb_words.specs.declared.command.Output.{Output}
-use Rattle.bb_words.specs.declared.command.Output.TheVariants.{Value, Dump, DumpShell}
+use Rattle.bb_words.specs.declared.command.Action.{Action}
+use Rattle.bb_words.specs.declared.command.Action.TheVariants.{Set, Get, Dump, DumpShell}
 use Rattle.bb_words.specs.declared.given.Given.{Given}
 use Rattle.bb_words.specs.declared.option.Valued.{Valued}
-use Rattle.bb_words.specs.declared.option.Valued.TheVariants.{Input, Name, Get}
+use Rattle.bb_words.specs.declared.option.Valued.TheVariants.{Input, Name, Get as GetOption, Set as SetOption}
 
 -- ---- what a word is
 
@@ -16,7 +16,8 @@ abbrev pub long_of : List ℕ → Option Valued
 long_of word =
     if bytes_eq word (codes "--input") then Some Input
     else if bytes_eq word (codes "--name") then Some Name
-    else if bytes_eq word (codes "--get") then Some Get
+    else if bytes_eq word (codes "--get") then Some GetOption
+    else if bytes_eq word (codes "--set") then Some SetOption
     else None
 
 -- the option whose value is the next word
@@ -24,18 +25,24 @@ abbrev pub valued_of : List ℕ → Option Valued
 valued_of word =
     if bytes_eq word (codes "-i") then Some Input
     else if bytes_eq word (codes "-n") then Some Name
-    else if bytes_eq word (codes "-g") then Some Get
+    else if bytes_eq word (codes "-g") then Some GetOption
+    else if bytes_eq word (codes "-s") then Some SetOption
     else long_of word
+
+-- what stands before the first `=` of a text, and what behind it
+abbrev pub has_sign : List ℕ → Bool
+has_sign text = list_any (λ c. c == 61) text
+
+abbrev pub cut_at_sign : List ℕ → Option (List ℕ × List ℕ)
+cut_at_sign text =
+    if has_sign text then Some (before_first (λ c. c == 61) text, after_first (λ c. c == 61) text) else None
 
 -- a long form with its value, which stands behind the first `=`
 abbrev pub value_in : List ℕ → Option (Valued × List ℕ)
-value_in word =
-    if list_any (λ c. c == 61) word
-    then option_map (λ valued. (valued, after_first (λ c. c == 61) word)) (long_of (before_first (λ c. c == 61) word))
-    else None
+value_in word = option_and_then (λ cut. option_map (λ valued. (valued, cut.1)) (long_of cut.0)) (cut_at_sign word)
 
 -- an option that takes no value
-abbrev pub dump_of : List ℕ → Option Output
+abbrev pub dump_of : List ℕ → Option Action
 dump_of word =
     if bytes_eq word (codes "-d") || bytes_eq word (codes "--dump") then Some Dump
     else if bytes_eq word (codes "--dump-shell") then Some DumpShell
@@ -44,18 +51,25 @@ dump_of word =
 -- ---- what options give
 
 abbrev pub none_given : Given
-none_given = record { file = None; name = None; outputs = [] }
+none_given = record { file = None; name = None; actions = [] }
 
-abbrev pub with_output : Output → Given → Given
-with_output output given = record given { outputs = given.outputs ++ output ∷ [] }
+abbrev pub with_action : Action → Given → Given
+with_action action given = record given { actions = given.actions ++ action ∷ [] }
 
-abbrev pub with_value : Valued → List ℕ → Given → Given
-with_value Input value given = record given { file = Some value }
-with_value Name value given = record given { name = Some value }
-with_value Get value given = with_output (Value value) given
+-- the set that VAR=VALUE asks for, cut at the first `=`
+abbrev pub set_in : List ℕ → Option Action
+set_in text = option_map (λ cut. Set cut.0 cut.1) (cut_at_sign text)
 
--- whether the option may come: the file and the name are given at most once
-abbrev pub may_come : Valued → Given → Bool
-may_come Input given = is_none given.file
-may_come Name given = is_none given.name
-may_come Get given = true
+-- with an option's value, where it is one
+abbrev pub with_value : Valued → List ℕ → Given → Option Given
+with_value Input value given = Some (record given { file = Some value })
+with_value Name value given = Some (record given { name = Some value })
+with_value GetOption value given = Some (with_action (Get value) given)
+with_value SetOption value given = option_map (λ action. with_action action given) (set_in value)
+
+-- what an option that comes once has given; the others may come again
+abbrev pub given_once : Valued → Given → Option (List ℕ)
+given_once Input given = given.file
+given_once Name given = given.name
+given_once GetOption given = None
+given_once SetOption given = None

@@ -6,13 +6,15 @@ use Rattle.std.specs.Str.{bytes_eq}
 use Rattle.hex.specs.Hex.{decode_sized}
 use Rattle.bb_base.specs.Number.{number_of}
 use Rattle.bb_words.specs.declared.command.Command.{Command}
-use Rattle.bb_words.specs.declared.command.Command.TheVariants.{Raw, State}
-use Rattle.bb_words.specs.declared.command.StateCommand.{StateCommand}
-use Rattle.bb_words.specs.declared.given.Given.{Given}
-use Rattle.bb_words.specs.declared.option.Valued.{Valued}
-use Rattle.bb_words.specs.Options.{none_given, dump_of, valued_of, value_in, may_come, with_output, with_value}
+use Rattle.bb_words.specs.declared.command.Action.{Action}
+use Rattle.bb_words.specs.declared.command.Command.TheVariants.{Raw}
 use Rattle.bb_words.specs.declared.command.RawAction.{RawAction}
 use Rattle.bb_words.specs.declared.command.RawAction.TheVariants.{Look, Write}
+use Rattle.bb_words.specs.declared.given.Given.{Given}
+use Rattle.bb_words.specs.declared.option.Valued.{Valued}
+use Rattle.bb_words.specs.declared.row.Row.{Row}
+use Rattle.bb_words.specs.Options.{none_given, dump_of, valued_of, value_in, with_action, with_value}
+use Rattle.bb_words.specs.Table.{row_of, has_dumps, may_come, command_of}
 
 -- the number that a text spells, up to a greatest one
 abbrev pub number_up_to : ℕ → List ℕ → Option ℕ
@@ -29,53 +31,54 @@ pub data Stage : Type 0 where
   -- `raw`, then the magic, then the area's length, then `-s`
   Magic : Stage
   Length : ℕ → Stage
-  Action : ℕ → ℕ → Stage
+  Mode : ℕ → ℕ → Stage
   Area : ℕ → ℕ → Stage
-  -- `state` and options, with the option whose value comes next, if one does
-  Options : Option Valued → Given → Stage
+  -- a command with options and some of them, with the option whose value comes next, if one does
+  Options : Row → Option Valued → Given → Stage
   -- a command to which no word can be added
   Whole : Command → Stage
 
 abbrev pub raw_of : ℕ → ℕ → RawAction → Command
 raw_of magic len action = Raw (record { magic = magic; area_len = len; action = action })
 
--- the stage behind an option's word
-abbrev pub opened : Given → Valued → Option Stage
-opened given valued = if may_come valued given then Some (Options (Some valued) given) else None
+-- the stage behind an option without a value, one whose value comes next, and one with its value
+abbrev pub dumped : Row → Given → Action → Option Stage
+dumped row given action = if has_dumps row then Some (Options row None (with_action action given)) else None
 
-abbrev pub closed : Given → Valued × List ℕ → Option Stage
-closed given (valued, value) = if may_come valued given then Some (Options None (with_value valued value given)) else None
+abbrev pub opened : Row → Given → Valued → Option Stage
+opened row given valued = if may_come row valued given then Some (Options row (Some valued) given) else None
 
-abbrev pub behind_option : Given → List ℕ → Option Stage
-behind_option given word =
-    option_or (option_map (λ output. Options None (with_output output given)) (dump_of word))
-    (option_or (option_and_then (opened given) (valued_of word)) (option_and_then (closed given) (value_in word)))
+abbrev pub taken : Row → Given → Valued → List ℕ → Option Stage
+taken row given valued value = option_map (Options row None) (with_value valued value given)
 
--- the command of options, where nothing is missing behind them
-abbrev pub state_of : Option Valued → Given → Option StateCommand
-state_of None given = option_map (λ file. record { file = file; name = given.name; outputs = given.outputs }) given.file
-state_of (Some valued) given = None
+abbrev pub closed : Row → Given → Valued × List ℕ → Option Stage
+closed row given (valued, value) = if may_come row valued given then taken row given valued value else None
+
+abbrev pub behind_option : Row → Given → List ℕ → Option Stage
+behind_option row given word =
+    option_or (option_and_then (dumped row given) (dump_of word))
+    (option_or (option_and_then (opened row given) (valued_of word))
+    (option_and_then (closed row given) (value_in word)))
 
 -- the stage behind a word, where the word may come
 abbrev pub next : Stage → List ℕ → Option Stage
 next Start word =
     if bytes_eq word (codes "raw") then Some Magic
-    else if bytes_eq word (codes "state") then Some (Options None none_given)
-    else None
+    else option_map (λ row. Options row None none_given) (row_of word)
 next Magic word = option_map (λ n. Length n) (number_up_to 4294967295 word)
-next (Length magic) word = option_map (λ n. Action magic n) (number_up_to 65535 word)
-next (Action magic len) word =
+next (Length magic) word = option_map (λ n. Mode magic n) (number_up_to 65535 word)
+next (Mode magic len) word =
     if bytes_eq word (codes "-g") then Some (Whole (raw_of magic len Look))
     else if bytes_eq word (codes "-s") then Some (Area magic len)
     else None
 next (Area magic len) word = option_map (λ area. Whole (raw_of magic len (Write area))) (area_of len word)
-next (Options None given) word = behind_option given word
-next (Options (Some valued) given) word = Some (Options None (with_value valued word given))
+next (Options row None given) word = behind_option row given word
+next (Options row (Some valued) given) word = taken row given valued word
 next (Whole command) word = None
 
 -- the command that the words so far are
 abbrev pub command_at : Stage → Option Command
-command_at (Options due given) = option_map (λ state. State state) (state_of due given)
+command_at (Options row None given) = command_of row given
 command_at (Whole command) = Some command
 command_at _ = None
 

@@ -1,4 +1,4 @@
-use crate::OutputList;
+use crate::ActionList;
 use bb_base::{Bytes, Text};
 
 /// A command of the program.
@@ -34,16 +34,18 @@ pub struct StateCommand {
     pub file: Text,
     /// `-n`: which state of the file, if that is said.
     pub name: Option<Text>,
-    /// What is sent, in the order of the words.
-    pub outputs: OutputList,
+    /// What is done, in the order of the words.
+    pub actions: ActionList,
 }
 
-/// What is sent of a state.
+/// What is done with a state.
 #[derive(Debug, Drop)]
-pub enum Output {
-    /// `-g`: the value of this variable.
-    Value(Text),
-    /// `-d`: each variable with its value.
+pub enum Action {
+    /// `-s`: the variable of this name gets the value that a text stands for.
+    Set { name: Text, value: Text },
+    /// `-g`: the value of this variable is sent.
+    Get(Text),
+    /// `-d`: each variable is sent with its value.
     Dump,
     /// `--dump-shell`: the same for a shell.
     DumpShell,

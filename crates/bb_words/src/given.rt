@@ -1,20 +1,22 @@
 ghost use Rattle.std.specs.Prelude.{◌≡◌, None, Some, IfOk, IfErr, OnOk, option_and_then};
-ghost use Rattle.std.specs.Option.{ok_or, option_map};
-ghost use Rattle.bb_words.specs.Answer.{Refuses};
-ghost use Rattle.bb_words.specs.Options.{none_given, may_come, with_value, value_in, valued_of};
-ghost use Rattle.bb_words.specs.Words.{Options, next, opened, closed, behind_option, state_of};
+ghost use Rattle.std.specs.Option.{ok_or, option_copied, option_map};
+ghost use Rattle.bb_words.specs.Answer.{IsSized, Refuses};
+ghost use Rattle.bb_words.specs.Options.{given_once, none_given, set_in, value_in, valued_of, with_value};
+ghost use Rattle.bb_words.specs.Table.{command_of, may_come};
+ghost use Rattle.bb_words.specs.Words.{Options, next, opened, closed, behind_option, command_at};
 
-use crate::option::{Valued, dump_of, value_in, valued_of};
-use crate::{Output, OutputList, StateCommand, WordsError};
+use crate::option::{Valued, cut_at_sign, dump_of, value_in, valued_of};
+use crate::row::Row;
+use crate::{Action, ActionList, Command, StateCommand, WordsError};
 use bb_base::{NoMemory, Text};
 use std::alloc::Global;
 
-/// What the options of `state` have given so far.
+/// What the options of a command have given so far.
 #[derive(Debug, Drop)]
 pub(crate) struct Given {
     pub file: Option<Text>,
     pub name: Option<Text>,
-    pub outputs: OutputList,
+    pub actions: ActionList,
 }
 
 impl Given {
@@ -25,7 +27,7 @@ impl Given {
         Given {
             file: None,
             name: None,
-            outputs: OutputList::none(alloc),
+            actions: ActionList::none(alloc),
         }
     }
 
@@ -34,17 +36,18 @@ impl Given {
     pub(crate) fn take(
         &mut self,
         alloc: Global,
+        row: Row,
         due: Option<Valued>,
         word: &str,
         place: usize,
     ) -> Result<Option<Valued>, WordsError>
-        ensures ok { IfOk result (λ then. next (Options due self.old) word.now ≡ Some (Options then self.new)) }
-        ensures refused { IfErr result (Refuses (ok_or (next (Options due self.old) word.now) place)) }
+        ensures ok { IfOk result (λ then. next (Options row due self.old) word.now ≡ Some (Options row then self.new)) }
+        ensures refused { IfErr result (Refuses (ok_or (next (Options row due self.old) word.now) place)) }
     {
         let Some(valued) = due else {
-            return self.take_option(alloc, word, place);
+            return self.take_option(alloc, row, word, place);
         };
-        self.set(alloc, valued, word)?;
+        self.set(alloc, valued, word, place)?;
         Ok(None)
     }
 
@@ -52,59 +55,79 @@ impl Given {
     fn take_option(
         &mut self,
         alloc: Global,
+        row: Row,
         word: &str,
         place: usize,
     ) -> Result<Option<Valued>, WordsError>
-        ensures ok { IfOk result (λ then. behind_option self.old word.now ≡ Some (Options then self.new)) }
-        ensures refused { IfErr result (Refuses (ok_or (behind_option self.old word.now) place)) }
+        ensures ok { IfOk result (λ then. behind_option row self.old word.now ≡ Some (Options row then self.new)) }
+        ensures refused { IfErr result (Refuses (ok_or (behind_option row self.old word.now) place)) }
     {
-        if let Some(output) = dump_of(word) {
-            self.outputs.push(output)?;
+        if let Some(action) = dump_of(word).filter(|_| row.has_dumps()) {
+            self.actions.push(action)?;
             return Ok(None);
         }
-        if let Some(valued) = self.opened(word) {
+        if let Some(valued) = self.opened(row, word) {
             return Ok(Some(valued));
         }
-        if let Some((valued, value)) = self.closed(word) {
-            self.set(alloc, valued, value)?;
+        if let Some((valued, value)) = self.closed(row, word) {
+            self.set(alloc, valued, value, place)?;
             return Ok(None);
         }
         Err(WordsError::BadWord(place))
     }
 
     // The option whose value is the next word, if it may come.
-    fn opened(&self, word: &str) -> Option<Valued>
-        ensures { option_map (λ valued. Options (Some valued) self.now) result ≡ option_and_then (opened self.now) (valued_of word.now) }
+    fn opened(&self, row: Row, word: &str) -> Option<Valued>
+        ensures { option_map (λ valued. Options row (Some valued) self.now) result ≡ option_and_then (opened row self.now) (valued_of word.now) }
     {
-        valued_of(word).filter(|valued| self.may_come(*valued))
+        valued_of(word).filter(|valued| self.may_come(row, *valued))
     }
 
     // The option with its value in this word, if it may come.
-    fn closed<'a>(&self, word: &'a str) -> Option<(Valued, &'a str)>
-        ensures { option_map (λ given. Options None (with_value given.0 given.1.now self.now)) result ≡ option_and_then (closed self.now) (value_in word.now) }
+    fn closed<'a>(&self, row: Row, word: &'a str) -> Option<(Valued, &'a str)>
+        ensures { option_and_then (λ given. option_map (Options row None) (with_value given.0 given.1.now self.now)) result ≡ option_and_then (closed row self.now) (value_in word.now) }
     {
-        value_in(word).filter(|given| self.may_come(given.0))
+        value_in(word).filter(|given| self.may_come(row, given.0))
     }
 
-    // The file and the name are given at most once.
-    fn may_come(&self, valued: Valued) -> bool
-        ensures { result ≡ may_come valued self.now }
+    fn may_come(&self, row: Row, valued: Valued) -> bool
+        ensures { result ≡ may_come row valued self.now }
+    {
+        row.has(valued) && self.given_once(valued).is_none()
+    }
+
+    // What an option that comes at most once has given.
+    fn given_once(&self, valued: Valued) -> Option<&Text>
+        ensures { option_copied result ≡ given_once valued self.now }
     {
         match valued {
-            Valued::Input => self.file.is_none(),
-            Valued::Name => self.name.is_none(),
-            Valued::Get => true,
+            Valued::Input => self.file.as_ref(),
+            Valued::Name => self.name.as_ref(),
+            Valued::Get | Valued::Set => None,
         }
     }
 
-    fn set(&mut self, alloc: Global, valued: Valued, value: &str) -> Result<(), NoMemory>
-        ensures ok { OnOk result (self.new ≡ with_value valued value.now self.old) }
+    // Takes an option's value, which stands in the word at that place.
+    fn set(
+        &mut self,
+        alloc: Global,
+        valued: Valued,
+        value: &str,
+        place: usize,
+    ) -> Result<(), WordsError>
+        ensures ok { OnOk result (with_value valued value.now self.old ≡ Some self.new) }
+        ensures refused { IfErr result (Refuses (ok_or (with_value valued value.now self.old) place)) }
     {
-        let value = Text::of(alloc, value)?;
         match valued {
-            Valued::Input => self.file = Some(value),
-            Valued::Name => self.name = Some(value),
-            Valued::Get => self.outputs.push(Output::Value(value))?,
+            Valued::Input => self.file = Some(Text::of(alloc, value)?),
+            Valued::Name => self.name = Some(Text::of(alloc, value)?),
+            Valued::Get => self.actions.push(Action::Get(Text::of(alloc, value)?))?,
+            Valued::Set => {
+                let Some(set) = set_in(alloc, value)? else {
+                    return Err(WordsError::BadWord(place));
+                };
+                self.actions.push(set)?;
+            }
         }
         Ok(())
     }
@@ -112,19 +135,34 @@ impl Given {
     /// The command, where nothing is missing at the end of its words, which is this place.
     pub(crate) fn command(
         self,
+        row: Row,
         due: Option<Valued>,
         place: usize,
-    ) -> Result<StateCommand, WordsError>
-        ensures ok { IfOk result (λ state. state_of due self ≡ Some state) }
-        ensures refused { IfErr result (λ cause. (cause ≡ WordsError.BadWord place) × (state_of due self ≡ None)) }
+    ) -> Result<Command, WordsError>
+        ensures ok { IfOk result (λ command. command_at (Options row due self) ≡ Some command) }
+        ensures sized { IfOk result IsSized }
+        ensures refused { IfErr result (λ cause. (cause ≡ WordsError.BadWord place) × (command_at (Options row due self) ≡ None)) }
     {
-        match (due, self.file) {
-            (None, Some(file)) => Ok(StateCommand {
+        match (row, due, self.file) {
+            (Row::State, None, Some(file)) => Ok(Command::State(StateCommand {
                 file,
                 name: self.name,
-                outputs: self.outputs,
-            }),
+                actions: self.actions,
+            })),
             _ => Err(WordsError::BadWord(place)),
         }
     }
+}
+
+// The set that VAR=VALUE asks for, `None` where the text has no `=`.
+fn set_in(alloc: Global, text: &str) -> Result<Option<Action>, NoMemory>
+    ensures { IfOk result (λ set. set ≡ set_in text.now) }
+{
+    let Some((name, value)) = cut_at_sign(text) else {
+        return Ok(None);
+    };
+    Ok(Some(Action::Set {
+        name: Text::of(alloc, name)?,
+        value: Text::of(alloc, value)?,
+    }))
 }

@@ -2,21 +2,22 @@
 //! The program's top crate stands on it; it knows neither devices nor files.
 #![tactic(auto)]
 
+mod action_list;
 mod command;
 mod error;
 mod given;
 mod law;
 mod option;
-mod output_list;
+mod options;
 mod raw;
 mod read;
-mod state;
+mod row;
 mod word;
 
-pub use command::{Command, Output, RawAction, RawCommand, StateCommand};
+pub use action_list::ActionList;
+pub use command::{Action, Command, RawAction, RawCommand, StateCommand};
 pub use error::WordsError;
 pub use law::{law_accepted_words, law_first_bad_word};
-pub use output_list::OutputList;
 pub use read::read_words;
 
 #[cfg(test)]

@@ -1,10 +1,10 @@
 ghost use Rattle.std.specs.Prelude.{◌≡◌};
 ghost use Rattle.std.specs.Option.{option_map};
-ghost use Rattle.bb_words.specs.Options.{dump_of, long_of, valued_of, value_in};
+ghost use Rattle.bb_words.specs.Options.{cut_at_sign, dump_of, long_of, valued_of, value_in};
 
-use crate::Output;
+use crate::Action;
 
-/// An option of `state` that takes a value.
+/// An option that takes a value.
 #[derive(Clone, Copy, Debug, PartialEq, Eq)]
 pub(crate) enum Valued {
     /// `-i`, `--input`
@@ -13,15 +13,17 @@ pub(crate) enum Valued {
     Name,
     /// `-g`, `--get`
     Get,
+    /// `-s`, `--set`
+    Set,
 }
 
-/// The output that an option without a value asks for.
-pub(crate) fn dump_of(word: &str) -> Option<Output>
+/// The action that an option without a value asks for.
+pub(crate) fn dump_of(word: &str) -> Option<Action>
     ensures { result ≡ dump_of word.now }
 {
     match word {
-        "-d" | "--dump" => Some(Output::Dump),
-        "--dump-shell" => Some(Output::DumpShell),
+        "-d" | "--dump" => Some(Action::Dump),
+        "--dump-shell" => Some(Action::DumpShell),
         _ => None,
     }
 }
@@ -34,6 +36,7 @@ pub(crate) fn valued_of(word: &str) -> Option<Valued>
         "-i" => Some(Valued::Input),
         "-n" => Some(Valued::Name),
         "-g" => Some(Valued::Get),
+        "-s" => Some(Valued::Set),
         _ => long_of(word),
     }
 }
@@ -42,8 +45,16 @@ pub(crate) fn valued_of(word: &str) -> Option<Valued>
 pub(crate) fn value_in(word: &str) -> Option<(Valued, &str)>
     ensures { option_map (λ given. (given.0, given.1.now)) result ≡ value_in word.now }
 {
-    let (name, value) = word.split_once('=')?;
+    let (name, value) = cut_at_sign(word)?;
     Some((long_of(name)?, value))
+}
+
+/// What stands before the first `=` of a text, and what behind it.
+pub(crate) fn cut_at_sign(text: &str) -> Option<(&str, &str)>
+    ensures { option_map (λ cut. (cut.0.now, cut.1.now)) result ≡ cut_at_sign text.now }
+{
+    let (before, behind) = text.split_once('=')?;
+    Some((before, behind))
 }
 
 fn long_of(name: &str) -> Option<Valued>
@@ -53,6 +64,7 @@ fn long_of(name: &str) -> Option<Valued>
         "--input" => Some(Valued::Input),
         "--name" => Some(Valued::Name),
         "--get" => Some(Valued::Get),
+        "--set" => Some(Valued::Set),
         _ => None,
     }
 }

@@ -3,7 +3,7 @@ ghost use Rattle.std.specs.Option.{ok_or};
 ghost use Rattle.bb_words.specs.Answer.{IsSizedFor, IsSizedRaw, Refuses};
 ghost use Rattle.bb_words.specs.declared.command.Command.{Command};
 ghost use Rattle.bb_words.specs.declared.command.Command.TheVariants.{Raw};
-ghost use Rattle.bb_words.specs.Words.{Magic, Action, Whole, raw_of, number_up_to, area_of, words_from};
+ghost use Rattle.bb_words.specs.Words.{Magic, Mode, Whole, raw_of, number_up_to, area_of, words_from};
 
 use crate::word::word_at;
 use crate::{RawAction, RawCommand, WordsError};
@@ -32,9 +32,9 @@ pub(crate) fn read_raw(alloc: Global, words: &TextList) -> Result<RawCommand, Wo
 
 // Reads the words behind the area's length.
 fn read_action(alloc: Global, words: &TextList, len: u32) -> Result<RawAction, WordsError>
-    ensures ok { IfOk result (λ action. (magic : ℕ) → words_from 3 (Action magic len) (drop 3 words.now) ≡ Ok (raw_of magic len action)) }
+    ensures ok { IfOk result (λ action. (magic : ℕ) → words_from 3 (Mode magic len) (drop 3 words.now) ≡ Ok (raw_of magic len action)) }
     ensures sized { IfOk result (IsSizedFor len) }
-    ensures refused { IfErr result (λ cause. (magic : ℕ) → Refuses (words_from 3 (Action magic len) (drop 3 words.now)) cause) }
+    ensures refused { IfErr result (λ cause. (magic : ℕ) → Refuses (words_from 3 (Mode magic len) (drop 3 words.now)) cause) }
 {
     let word = word_at(words, 3)?;
     if word == "-g" {

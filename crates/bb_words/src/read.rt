@@ -2,8 +2,9 @@ ghost use Rattle.std.specs.Prelude.{◌≡◌, IfOk, IfErr};
 ghost use Rattle.bb_words.specs.Answer.{IsSized, Refuses};
 ghost use Rattle.bb_words.specs.Words.{words_of};
 
+use crate::options::read_options;
 use crate::raw::read_raw;
-use crate::state::read_state;
+use crate::row::Row;
 use crate::word::word_at;
 use crate::{Command, WordsError};
 use bb_base::TextList;
@@ -16,12 +17,12 @@ pub fn read_words(alloc: Global, words: &TextList) -> Result<Command, WordsError
     ensures sized { IfOk result IsSized }
     ensures refused { IfErr result (Refuses (words_of words.now)) }
 {
-    let command = word_at(words, 0)?;
-    if command == "raw" {
+    let name = word_at(words, 0)?;
+    if name == "raw" {
         return Ok(Command::Raw(read_raw(alloc, words)?));
     }
-    if command == "state" {
-        return Ok(Command::State(read_state(alloc, words)?));
+    match Row::of(name) {
+        Some(row) => read_options(alloc, row, words),
+        None => Err(WordsError::BadWord(0)),
     }
-    Err(WordsError::BadWord(0))
 }

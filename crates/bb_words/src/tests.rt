@@ -57,6 +57,7 @@ fn options_come_in_any_order(rt: HostRuntime) -> Result<(), Fail> {
             "--get=a",
             "-i",
             "x.dts",
+            "--set=a=b=1",
             "--dump-shell",
             "-n",
             "-n",
@@ -68,12 +69,15 @@ fn options_come_in_any_order(rt: HostRuntime) -> Result<(), Fail> {
     };
     assert_eq!(rt; state.file.as_str(), "x.dts");
     assert_eq!(rt; state.name.as_ref().map(|name| name.as_str()), Some("-n"));
-    assert_eq!(rt; state.outputs.len(), 3);
-    assert!(rt; !state.outputs.is_empty());
-    assert!(rt; matches!(state.outputs.get(0), Some(Output::Dump)));
-    assert!(rt; matches!(state.outputs.get(1), Some(Output::Value(name)) if name.as_str() == "a"));
-    assert!(rt; matches!(state.outputs.get(2), Some(Output::DumpShell)));
-    assert!(rt; state.outputs.get(3).is_none());
+    assert_eq!(rt; state.actions.len(), 4);
+    assert!(rt; !state.actions.is_empty());
+    assert!(rt; matches!(state.actions.get(0), Some(Action::Dump)));
+    assert!(rt; matches!(state.actions.get(1), Some(Action::Get(name)) if name.as_str() == "a"));
+    assert!(rt;
+        matches!(state.actions.get(2), Some(Action::Set { name, value }) if name.as_str() == "a" && value.as_str() == "b=1")
+    );
+    assert!(rt; matches!(state.actions.get(3), Some(Action::DumpShell)));
+    assert!(rt; state.actions.get(4).is_none());
     Ok(())
 }
 
@@ -105,6 +109,10 @@ fn a_bad_word_has_its_place(rt: HostRuntime) -> Result<(), Fail> {
     assert_eq!(rt;
         bad_place(rt.alloc(), &["state", "-i", "a", "--input", "a"])?,
         Some(3)
+    );
+    assert_eq!(rt;
+        bad_place(rt.alloc(), &["state", "-i", "a", "-s", "abc"])?,
+        Some(4)
     );
     Ok(())
 }

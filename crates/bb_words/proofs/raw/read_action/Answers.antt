@@ -1,13 +1,13 @@
 use Rattle.std.proofs.Common.{◌≡◌, ◌∙◌, refl, true, false, codes}
 use Rattle.std.specs.Str.{bytes_eq}
-use Rattle.bb_words.specs.Words.{Action}
+use Rattle.bb_words.specs.Words.{Mode}
 use Rattle.bb_words.proofs.Steps.{raised, read_on, lost_on, moved, missing, at_area, look_word, write_word, other_word}
 use Rattle.bb_words.proofs.raw.read_action.Goals as goal
 
 pub returns-in_err-word-clause-refused : goal.returns-in_err-word-clause-refused
 returns-in_err-word-clause-refused c =
     raised _ c.from_residual.result c.in_err-word.field-0.0 c.from_residual.ensures.1
-    (λ magic. missing 3 (Action magic c.args.len) c.args.words.now _ refl c.in_err-word.ensures.refused)
+    (λ magic. missing 3 (Mode magic c.args.len) c.args.words.now _ refl c.in_err-word.ensures.refused)
 
 pub returns-in_err-ends_at-clause-refused : goal.returns-in_err-ends_at-clause-refused
 returns-in_err-ends_at-clause-refused c =

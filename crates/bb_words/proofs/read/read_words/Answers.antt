@@ -1,44 +1,44 @@
-use Rattle.std.proofs.Common.{◌≡◌, ◌∙◌, refl, true, false, codes}
+use Rattle.std.proofs.Common.{◌≡◌, ◌∙◌, refl, true, false, codes, Some, None}
 use Rattle.std.proofs.lemmas.Option.{slice_get_within}
 use Rattle.std.specs.Str.{bytes_eq}
+use Rattle.bb_words.specs.Table.{row_of}
 use Rattle.bb_words.specs.Words.{Start}
-use Rattle.bb_words.proofs.Steps.{raised, moved, missing, raw_command, state_command, no_command}
+use Rattle.bb_words.proofs.Steps.{raised, moved, ok_moved, err_moved, missing, raw_command, option_command, no_command}
 use Rattle.bb_words.proofs.read.read_words.Goals as goal
 
-pub returns-in_err-command-clause-refused : goal.returns-in_err-command-clause-refused
-returns-in_err-command-clause-refused c =
-    raised _ c.from_residual.result c.in_err-command.field-0.0 c.from_residual.ensures.1
-    (missing 0 Start c.args.words.now _ refl c.in_err-command.ensures.refused)
+pub returns-in_err-name-clause-refused : goal.returns-in_err-name-clause-refused
+returns-in_err-name-clause-refused c =
+    raised _ c.from_residual.result c.in_err-name.field-0.0 c.from_residual.ensures.1
+    (missing 0 Start c.args.words.now _ refl c.in_err-name.ensures.refused)
 
 pub returns-in_err-read_raw-clause-refused : goal.returns-in_err-read_raw-clause-refused
 returns-in_err-read_raw-clause-refused c =
-    let raw : bytes_eq c.in_ok-command.command.now (codes "raw") ≡ true = cc in
+    let raw : bytes_eq c.in_ok-name.name.now (codes "raw") ≡ true = cc in
     raised _ c.from_residual-in_err-read_raw.result c.in_err-read_raw.field-0.0 c.from_residual-in_err-read_raw.ensures.1
-    (moved _ _ _ (raw_command c.args.words.now _ c.in_ok-command.ensures.ok raw) c.in_err-read_raw.ensures.refused)
+    (moved _ _ _ (raw_command c.args.words.now _ c.in_ok-name.ensures.ok raw) c.in_err-read_raw.ensures.refused)
 
 pub returns-then-eq-clause-ok : goal.returns-then-eq-clause-ok
 returns-then-eq-clause-ok c =
-    let raw : bytes_eq c.in_ok-command.command.now (codes "raw") ≡ true = cc in
-    raw_command c.args.words.now _ c.in_ok-command.ensures.ok raw ∙ c.in_ok-read_raw.ensures.ok
+    let raw : bytes_eq c.in_ok-name.name.now (codes "raw") ≡ true = cc in
+    raw_command c.args.words.now _ c.in_ok-name.ensures.ok raw ∙ c.in_ok-read_raw.ensures.ok
 
-pub read_state-requires : goal.read_state-requires
-read_state-requires c = slice_get_within c.args.words.now 0 _ c.in_ok-command.ensures.ok
+pub returns-in-Some-clause-ok : goal.returns-in-Some-clause-ok
+returns-in-Some-clause-ok c =
+    let raw : bytes_eq c.in_ok-name.name.now (codes "raw") ≡ false = cc in
+    let named : row_of c.in_ok-name.name.now ≡ Some c.in-Some.row = cc (c.of.ensures, c.in-Some.is) in
+    ok_moved _ _ _ (option_command c.in-Some.row c.args.words.now _ c.in_ok-name.ensures.ok raw named) c.read_options.ensures.ok
 
-pub returns-in_err-read_state-clause-refused : goal.returns-in_err-read_state-clause-refused
-returns-in_err-read_state-clause-refused c =
-    let raw : bytes_eq c.in_ok-command.command.now (codes "raw") ≡ false = cc in
-    let state : bytes_eq c.in_ok-command.command.now (codes "state") ≡ true = cc in
-    raised _ c.from_residual-in_err-read_state.result c.in_err-read_state.field-0.0 c.from_residual-in_err-read_state.ensures.1
-    (moved _ _ _ (state_command c.args.words.now _ c.in_ok-command.ensures.ok raw state) c.in_err-read_state.ensures.refused)
+pub returns-in-Some-clause-refused : goal.returns-in-Some-clause-refused
+returns-in-Some-clause-refused c =
+    let raw : bytes_eq c.in_ok-name.name.now (codes "raw") ≡ false = cc in
+    let named : row_of c.in_ok-name.name.now ≡ Some c.in-Some.row = cc (c.of.ensures, c.in-Some.is) in
+    err_moved _ _ _ (option_command c.in-Some.row c.args.words.now _ c.in_ok-name.ensures.ok raw named) c.read_options.ensures.refused
 
-pub returns-then-eq-2-clause-ok : goal.returns-then-eq-2-clause-ok
-returns-then-eq-2-clause-ok c =
-    let raw : bytes_eq c.in_ok-command.command.now (codes "raw") ≡ false = cc in
-    let state : bytes_eq c.in_ok-command.command.now (codes "state") ≡ true = cc in
-    state_command c.args.words.now _ c.in_ok-command.ensures.ok raw state ∙ c.in_ok-read_state.ensures.ok
+pub returns-in-None-clause-refused : goal.returns-in-None-clause-refused
+returns-in-None-clause-refused c =
+    let raw : bytes_eq c.in_ok-name.name.now (codes "raw") ≡ false = cc in
+    let named : row_of c.in_ok-name.name.now ≡ None = cc (c.of.ensures, c.in-None.is) in
+    no_command c.args.words.now _ c.in_ok-name.ensures.ok raw named
 
-pub returns-clause-refused : goal.returns-clause-refused
-returns-clause-refused c =
-    let raw : bytes_eq c.in_ok-command.command.now (codes "raw") ≡ false = cc in
-    let state : bytes_eq c.in_ok-command.command.now (codes "state") ≡ false = cc in
-    no_command c.args.words.now _ c.in_ok-command.ensures.ok raw state
+pub read_options-requires : goal.read_options-requires
+read_options-requires c = slice_get_within c.args.words.now 0 _ c.in_ok-name.ensures.ok

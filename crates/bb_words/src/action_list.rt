@@ -1,42 +1,42 @@
 ghost use Rattle.std.specs.Prelude.{◌≡◌, ◌==◌, ◌++◌, ◌∷◌, [], length, OnOk, OnErr, slice_get};
 ghost use Rattle.std.specs.Option.{option_copied};
 
-use crate::Output;
+use crate::Action;
 use bb_base::NoMemory;
 use std::alloc::Global;
 use std::marker::Model;
 
-/// A list of outputs that grows at its end. Clauses see the list.
+/// A list of actions that grows at its end. Clauses see the list.
 #[derive(Debug, Drop)]
-pub struct OutputList {
-    inner: Vec<Output>,
+pub struct ActionList {
+    inner: Vec<Action>,
 }
 
-impl Model for OutputList {
+impl Model for ActionList {
     ghost use Rattle.std.specs.Prelude.{List};
-    ghost use Rattle.bb_words.specs.declared.command.Output.{Output};
+    ghost use Rattle.bb_words.specs.declared.command.Action.{Action};
 
-    ghost Value = { List Output };
+    ghost Value = { List Action };
 
     ghost view = { λ t. t.inner.items };
 }
 
-impl OutputList {
-    /// No outputs.
-    pub fn none(alloc: Global) -> OutputList
+impl ActionList {
+    /// No actions.
+    pub fn none(alloc: Global) -> ActionList
         ensures { result ≡ [] }
     {
-        OutputList {
+        ActionList {
             inner: Vec::new(alloc),
         }
     }
 
-    /// Appends the output. It is dropped where memory is refused.
-    pub fn push(&mut self, output: Output) -> Result<(), NoMemory>
-        ensures ok { OnOk result (self.new ≡ self.old ++ output ∷ []) }
+    /// Appends the action. It is dropped where memory is refused.
+    pub fn push(&mut self, action: Action) -> Result<(), NoMemory>
+        ensures ok { OnOk result (self.new ≡ self.old ++ action ∷ []) }
         ensures err { OnErr result (self.new ≡ self.old) }
     {
-        self.inner.push(output)?;
+        self.inner.push(action)?;
         Ok(())
     }
 
@@ -52,8 +52,8 @@ impl OutputList {
         self.inner.is_empty()
     }
 
-    /// The output at a place, `None` exactly from the length on.
-    pub fn get(&self, place: usize) -> Option<&Output>
+    /// The action at a place, `None` exactly from the length on.
+    pub fn get(&self, place: usize) -> Option<&Action>
         ensures { option_copied result ≡ slice_get self.now place }
     {
         self.inner.get(place)

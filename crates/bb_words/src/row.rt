@@ -1,0 +1,41 @@
+ghost use Rattle.std.specs.Prelude.{◌≡◌};
+ghost use Rattle.bb_words.specs.Table.{has, has_dumps, row_of};
+
+use crate::option::Valued;
+
+/// A command whose options come in any order: a row of the table of options. `Given` says which of them come once,
+/// and makes the command where those are there that must be.
+#[derive(Clone, Copy, Debug, PartialEq, Eq)]
+pub(crate) enum Row {
+    State,
+}
+
+impl Row {
+    /// The command that is called so.
+    pub(crate) fn of(name: &str) -> Option<Row>
+        ensures { result ≡ row_of name.now }
+    {
+        match name {
+            "state" => Some(Row::State),
+            _ => None,
+        }
+    }
+
+    /// Whether it has this option.
+    pub(crate) fn has(self, valued: Valued) -> bool
+        ensures { result ≡ has self valued }
+    {
+        match (self, valued) {
+            (Row::State, Valued::Input | Valued::Name | Valued::Get | Valued::Set) => true,
+        }
+    }
+
+    /// Whether it has `-d` and `--dump-shell`.
+    pub(crate) fn has_dumps(self) -> bool
+        ensures { result ≡ has_dumps self }
+    {
+        match self {
+            Row::State => true,
+        }
+    }
+}
