@@ -1,0 +1,4 @@
+pub mod Blanks
+mod Examples
+pub mod TextAnswers
+pub mod ValueSteps

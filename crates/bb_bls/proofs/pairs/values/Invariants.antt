@@ -1,0 +1,6 @@
+use Rattle.std.proofs.Common.{◌≡◌, map, take}
+use Rattle.bb_bls.specs.Entry.{seen, values_of}
+use Rattle.bb_bls.proofs.pairs.values.Given as goal
+
+abbrev pub invariant-loop-i : goal.invariant-loop-i
+invariant-loop-i l = map (λ v. v.now) l.values.items ≡ values_of l.key (map seen (take l.i l.pairs))
