@@ -1,0 +1,3 @@
+-- Lemmas.
+pub mod Examples
+pub mod Steps

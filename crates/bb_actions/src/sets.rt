@@ -1,0 +1,34 @@
+ghost use Rattle.std.specs.Prelude.{◌≡◌};
+ghost use Rattle.bb_actions.specs.Actions.{after, after_all};
+ghost use Rattle.bb_state.specs.State.{IsSized, laid_of};
+
+use bb_state::State;
+use bb_words::{Action, ActionList};
+
+/// Makes all sets in their order, in the table of a state. One that doesn't fit leaves the table as it
+/// is; `first_misfit` gives the first.
+pub fn make_sets(state: &mut State, actions: &ActionList)
+    requires { IsSized state.old }
+    ensures table { state.new.table
+        ≡ after_all (laid_of state.old).vars state.old.table actions.now }
+    ensures backing { state.new ≡ record state.old { table = state.new.table } }
+    ensures sized { IsSized state.new }
+{
+    for place in 0..actions.len() {
+        let Some(action) = actions.get(place) else {
+            unreachable!()
+        };
+        make_set(state, action);
+    }
+}
+
+fn make_set(state: &mut State, action: &Action)
+    requires { IsSized state.old }
+    ensures table { state.new.table ≡ after (laid_of state.old).vars state.old.table action.now }
+    ensures backing { state.new ≡ record state.old { table = state.new.table } }
+    ensures sized { IsSized state.new }
+{
+    if let Action::Set { name, value } = action {
+        let _set = state.set(name.as_str(), value.as_str().as_bytes());
+    }
+}

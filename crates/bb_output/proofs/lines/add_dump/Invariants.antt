@@ -1,8 +1,0 @@
-use Rattle.std.proofs.Common.{◌≡◌, ◌++◌, take}
-use Rattle.std.specs.List.{flat_map}
-use Rattle.bb_output.specs.Output.{dump_line}
-use Rattle.bb_output.proofs.lines.add_dump.Given as goal
-
--- the lines so far are added
-abbrev pub invariant-loop-place : goal.invariant-loop-place
-invariant-loop-place l = l.out ≡ l.fn.out ++ flat_map (dump_line l.area) (take l.place l.layout.vars)
