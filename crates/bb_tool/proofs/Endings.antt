@@ -1,83 +1,64 @@
 -- What each answer of a session says, from the session as a whole.
-use Rattle.std.proofs.Common.{◌≡◌, ◌≢◌, ◌⊎◌, ℕ, ◌*◌, ◌≤◌, Bool, true, false, List, Option, Some, Result, Ok, Err, IfOk, IsErr, is_err, refl, sym, ap, subst, ◌∙◌, inl, inr}
-use Rattle.bb_base.specs.Faults.{HasCause, Rose}
-use Rattle.bb_base.specs.Folder.{FileMap, Folder}
-use Rattle.bb_base.specs.Outlet.{Outlet}
-use Rattle.bb_base.specs.declared.failed.Failed.{Failed}
-use Rattle.bb_flash.specs.Cuts.{EachImage, EachTorn}
-use Rattle.bb_flash.specs.Device.{Device, content}
-use Rattle.bb_flash.specs.Image.{Image}
+use Rattle.std.proofs.Common.{◌≡◌, ◌≢◌, ◌⊎◌, ℕ, zero, suc, ◌-◌, ◌<◌, ◌≤◌, Bool, true, false, List, [], ◌∷◌, ◌++◌, length, Option, Some, None, Result, Ok, Err, IsErr, refl, sym, ap, subst, ◌∙◌, inl, inr, arith}
+use Rattle.std.specs.Prelude.{slice_get}
+use Rattle.std.specs.List.{range_with_len}
+use Rattle.std.specs.Option.{option_map_or}
+use Rattle.std.proofs.lemmas.List.{length-map}
+use Rattle.std.proofs.lemmas.List.FromFn.{length-range_with_len}
+use Rattle.std.proofs.lemmas.Option.{same_Some}
+use Rattle.bb_base.specs.Faults.{Rose}
+use Rattle.bb_base.specs.Folder.{FileMap}
+use Rattle.bb_copies.specs.Loading.{LoadFails}
+use Rattle.bb_copies.specs.Refreshing.{IsStuckAt}
+use Rattle.bb_copies.specs.Saving.{SaveFails}
+use Rattle.bb_copies.specs.Settling.{RoseBy}
+use Rattle.bb_copies.specs.Store.{used_after}
+use Rattle.bb_copies.specs.declared.answers.CopyFault.{CopyFault}
+use Rattle.bb_copies.specs.declared.answers.CopyFault.TheVariants as faults
+use Rattle.bb_copies.specs.declared.answers.Loaded.{Loaded}
+use Rattle.bb_copies.specs.declared.answers.Loaded.TheVariants as loads
+use Rattle.bb_flash.specs.Device.{Device}
 use Rattle.bb_flash.specs.declared.geometry.Geometry.{Geometry}
 use Rattle.bb_layout.specs.Layout.{Laid}
+use Rattle.bb_state.specs.Kinds.{any_holding, bucket_at, laid_buckets, laid_form, laid_kinds}
 use Rattle.bb_words.specs.Words.{words_of}
 use Rattle.bb_words.specs.declared.command.Command.{Command}
-use Rattle.bb_words.specs.declared.command.Command.TheVariants.{Raw}
-use Rattle.bb_words.specs.declared.command.Output.{Output}
-use Rattle.bb_words.specs.declared.command.RawCommand.{RawCommand}
-use Rattle.bb_tool.specs.Ending.{AreAnswers, ComesExactly, ComesPlanned, IsAnswered, IsCutOff, IsGiven, IsRefusedWith, IsSaving, IsSent, IsSession, IsTold, IsToldLine, IsToldRefusal, IsWithoutMemory, IsWriteFault, MayHaveFailed, SendsSessionFront, ended_status, ended_text, is_planning, overruled, record_of}
-use Rattle.bb_tool.specs.Layout.{stride_of}
-use Rattle.bb_tool.specs.Looking.{IsQuiet}
-use Rattle.bb_tool.specs.Plan.{FileAnswer, Plan, RawLook, RawSave, StateLook, file_for, names_file, plan_of, planned, raw_laid}
-use Rattle.bb_tool.specs.Refusal.{line_of, status_of}
-use Rattle.bb_tool.specs.Saving.{Between, IsCutSave, IsSaved}
-use Rattle.bb_tool.specs.Session.{Answers, Writes, NotBegun, AllDone, FailedAt, answers_of, followed, look_for, looked, saved, session_of, shown, worked}
-use Rattle.bb_tool.specs.Work.{IsRefusedMemory, Leaves}
-use Rattle.bb_tool.specs.declared.layout.LayoutError.{LayoutError}
+use Rattle.bb_tool.specs.Calls.{ComesByDevice, ComesByFiles, ComesByOutlet, ComesByPlan, ComesByPlanAlone, ComesByReads, ComesByWords, IsAnswered, IsRefusedWith, IsSession, IsWithoutMemory, KeepsATrail, KeepsAtExit, KeepsOthers, NamesACopy, SendsSessionFront, Tells, geometry_of, is_planning, plan_over, session_for}
+use Rattle.bb_tool.specs.Ending.{IsFollowed, IsGiven}
+use Rattle.bb_tool.specs.Plan.{Act, FileAnswer, Plan, Show, Work, Write, copies_in, file_for, plan_of, planned}
+use Rattle.bb_tool.specs.Ran.{Ran}
+use Rattle.bb_tool.specs.Refusal.{copy_refusal, line_of, status_of}
+use Rattle.bb_tool.specs.Session.{Answers, LoadAnswer, SaveAnswer, Session, ended_status, followed, loaded_area, refused_for, saved, saves_behind, saves_of, sent_of, session_of, text_of, worked}
+use Rattle.bb_tool.specs.Telling.{IsCutOff, IsToldRefusal, takes_memory}
+use Rattle.bb_tool.specs.Work.{AreSaved, IsFound, IsLookWork, IsStoreWork, IsWorkOf}
 use Rattle.bb_tool.specs.declared.refusal.Refusal.{Refusal}
 use Rattle.bb_tool.specs.declared.refusal.Refusal.TheVariants as refusals
 use Rattle.bb_tool.specs.declared.status.Status.{Status}
 use Rattle.bb_tool.specs.declared.status.Status.TheVariants as statuses
-use Rattle.bb_tool.proofs.Plans.{alone_plan, faulty_words, plan_refusal, same_plan, saving_plan, saving_words, words_refused}
-use Rattle.bb_tool.proofs.Quiet.{quiet_cuts, quiet_same, quiet_torn}
+use Rattle.bb_tool.proofs.Plans.{alone_plan, faulty_words, plan_refusal, same_plan, words_refused}
+use Rattle.bb_tool.proofs.Told.{memory_sink, told_cases, told_front, told_memory, told_other, told_own}
+use Rattle.bb_tool.proofs.Works.{has_trails, keeps_outside, leads_on}
 
--- a session's own status is that of its refusal, and isn't that of a failing output
-overrule_cases : (ended : Status) → (overruled ended ≡ statuses.SinkFault) ⊎ (overruled ended ≡ statuses.NoMemory)
-overrule_cases statuses.Done = inl refl
-overrule_cases statuses.BadWords = inl refl
-overrule_cases statuses.BadTree = inl refl
-overrule_cases statuses.BadVariable = inl refl
-overrule_cases statuses.FileMissing = inl refl
-overrule_cases statuses.FileFault = inl refl
-overrule_cases statuses.FileTooLong = inl refl
-overrule_cases statuses.BadLayout = inl refl
-overrule_cases statuses.ReadFault = inl refl
-overrule_cases statuses.WriteFault = inl refl
-overrule_cases statuses.SinkFault = inl refl
-overrule_cases statuses.NoMemory = inr refl
+-- ---- an answer that is the session's own
 
-told_cases : (text : List ℕ) (ended : Status) (before after : Outlet) (status : Status) → IsTold text ended before after status → (status ≡ ended) ⊎ ((status ≡ statuses.SinkFault) ⊎ (status ≡ statuses.NoMemory))
-told_cases text ended before after status (inl sent) = inl sent.status_is
-told_cases text ended before after status (inr cut) = elim (overrule_cases ended) [ inl e ↦ inr (inl (cut.status_is ∙ e)) | inr e ↦ inr (inr (cut.status_is ∙ e)) ]
+pub record IsOwn (ran : Ran) (answer : Status) : Type 0 where
+  pub ending : IsAnswered ran
+  pub own : ended_status (session_for ran ending.answers) ≡ answer
 
--- an answer that isn't one of the two that come first is the session's own
-told_own : (text : List ℕ) (ended answer : Status) (before after : Outlet) (status : Status) → IsTold text ended before after status → answer ≢ statuses.SinkFault → answer ≢ statuses.NoMemory → status ≡ answer → ended ≡ answer
-told_own text ended answer before after status told first second e =
-    elim (told_cases text ended before after status told) [
-      | inl own ↦ sym own ∙ e
-      | inr other ↦ elim other [ inl sink ↦ absurd (first (sym e ∙ sink)) | inr memory ↦ absurd (second (sym e ∙ memory)) ]
-    ]
-
--- what was told of want of memory isn't another answer
-told_other : (answer : Status) (before after : Outlet) (status : Status) → IsTold (line_of refusals.NoMemory) statuses.NoMemory before after status → answer ≢ statuses.SinkFault → answer ≢ statuses.NoMemory → status ≡ answer → ⊥
-told_other answer before after status told first second e = second (sym (told_own (line_of refusals.NoMemory) statuses.NoMemory answer before after status told first second e))
-
-record IsOwn (words : List (List ℕ)) (folder folder' : Folder) (before after : Device) (outlet outlet' : Outlet) (status answer : Status) : Type 0 where
-  ending : IsAnswered words folder folder' before after outlet outlet' status
-  own : ended_status (session_of words before.geometry ending.answers) ≡ answer
-
-own_answer : (words : List (List ℕ)) (folder folder' : Folder) (before after : Device) (outlet outlet' : Outlet) (status answer : Status) → IsSession words folder folder' before after outlet outlet' status → answer ≢ statuses.SinkFault → answer ≢ statuses.NoMemory → status ≡ answer → IsOwn words folder folder' before after outlet outlet' status answer
-own_answer words folder folder' before after outlet outlet' status answer (inl ending) first second e = record {
+own_answer : (ran : Ran) (answer : Status) → IsSession ran → answer ≢ statuses.SinkFault → answer ≢ statuses.NoMemory → ran.status ≡ answer → IsOwn ran answer
+own_answer ran answer (inl ending) first second e = record {
   ending = ending;
-  own = told_own _ _ answer outlet outlet' status ending.told first second e;
+  own = told_own _ _ answer ran.before.outlet ran.after.outlet ran.status ending.told first second e;
 }
-own_answer words folder folder' before after outlet outlet' status answer (inr memory) first second e = absurd (told_other answer outlet outlet' status memory.told first second e)
+own_answer ran answer (inr memory) first second e = absurd (told_other answer ran.before.outlet ran.after.outlet ran.status memory.told first second e)
 
 -- an answer that a fact about the words and the layout brings comes, but for the two that come first
-comes_always : (words : List (List ℕ)) (folder folder' : Folder) (before after : Device) (outlet outlet' : Outlet) (status answer : Status) → IsSession words folder folder' before after outlet outlet' status → ((answers : Answers) → ended_status (session_of words before.geometry answers) ≡ answer) → (status ≡ answer) ⊎ ((status ≡ statuses.SinkFault) ⊎ (status ≡ statuses.NoMemory))
-comes_always words folder folder' before after outlet outlet' status answer (inl ending) always = elim (told_cases _ _ outlet outlet' status ending.told) [ inl own ↦ inl (own ∙ always ending.answers) | inr other ↦ inr other ]
-comes_always words folder folder' before after outlet outlet' status answer (inr memory) always = elim (told_cases _ statuses.NoMemory outlet outlet' status memory.told) [ inl e ↦ inr (inr e) | inr other ↦ inr other ]
+comes_always : (ran : Ran) (answer : Status) → IsSession ran → ((answers : Answers) → ended_status (session_for ran answers) ≡ answer) → (ran.status ≡ answer) ⊎ ((ran.status ≡ statuses.SinkFault) ⊎ (ran.status ≡ statuses.NoMemory))
+comes_always ran answer (inl ending) always = elim (told_cases _ _ ran.before.outlet ran.after.outlet ran.status ending.told) [ inl own ↦ inl (own ∙ always ending.answers) | inr other ↦ inr other ]
+comes_always ran answer (inr memory) always = elim (told_cases _ statuses.NoMemory ran.before.outlet ran.after.outlet ran.status memory.told) [ inl e ↦ inr (inr e) | inr other ↦ inr other ]
 
--- the statuses that the work on the device has
+-- ---- the statuses that the work on the device has
+
 abbrev is_work : Status → Bool
 is_work statuses.Done = true
 is_work statuses.BadWords = false
@@ -90,32 +71,29 @@ is_work statuses.FileTooLong = false
 is_work statuses.ReadFault = true
 is_work statuses.WriteFault = true
 is_work statuses.SinkFault = false
-is_work statuses.NoMemory = true
+is_work statuses.NoMemory = false
 
-looked_work : (found : Result (Option (List ℕ)) Failed) → is_work (ended_status (looked found)) ≡ true
-looked_work (Ok area) = refl
-looked_work (Err e) = refl
+fault_work : (fault : CopyFault) → is_work (status_of (copy_refusal fault)) ≡ true
+fault_work faults.ReadFault = refl
+fault_work (faults.WriteFault copy) = refl
+fault_work faults.Unsure = refl
 
-shown_work : (laid : Laid) (outputs : List Output) (found : Result (Option (List ℕ)) Failed) → is_work (ended_status (shown laid outputs found)) ≡ true
-shown_work laid outputs (Ok area) = refl
-shown_work laid outputs (Err e) = refl
+saved_work : (text : List ℕ) (areas : List (List ℕ)) (saves : List SaveAnswer) → is_work (ended_status (saved text areas saves)) ≡ true
+saved_work text [] saves = refl
+saved_work text (area ∷ areas) [] = refl
+saved_work text (area ∷ areas) (Err fault ∷ saves) = fault_work fault
+saved_work text (area ∷ areas) (Ok made ∷ saves) = saved_work text areas saves
 
-saved_work : (writes : Writes) → is_work (ended_status (saved writes)) ≡ true
-saved_work NotBegun = refl
-saved_work AllDone = refl
-saved_work (FailedAt copy) = refl
-
-worked_work : (plan : Plan) (answers : Answers) → is_work (ended_status (worked plan answers)) ≡ true
-worked_work (RawLook kind stride) answers = looked_work answers.look
-worked_work (RawSave stride rec) answers = saved_work answers.writes
-worked_work (StateLook laid outputs) answers = shown_work laid outputs answers.look
+worked_work : (plan : Plan) (load : LoadAnswer) (saves : List SaveAnswer) → is_work (ended_status (worked plan load saves)) ≡ true
+worked_work plan (Ok found) saves = saved_work (text_of plan.layout plan.work found) (saves_behind plan (Ok found)) saves
+worked_work plan (Err fault) saves = fault_work fault
 
 not_work : (status other : Status) → is_work status ≡ true → is_work other ≡ false → status ≢ other
 not_work status other first second = λ e. (let h : true ≡ false = sym first ∙ ap is_work e ∙ second in cc)
 
 -- an answer that the work doesn't have is the refusal of the plan
 plan_only : (plan : Result Plan Refusal) (answers : Answers) (answer : Status) → is_work answer ≡ false → ended_status (followed plan answers) ≡ answer → IsRefusedWith answer plan
-plan_only (Ok plan) answers answer other e = absurd (not_work (ended_status (worked plan answers)) answer (worked_work plan answers) other e)
+plan_only (Ok plan) answers answer other e = absurd (not_work (ended_status (worked plan answers.load answers.saves)) answer (worked_work plan answers.load answers.saves) other e)
 plan_only (Err refusal) answers answer other e = e
 
 plan_ends : (plan : Result Plan Refusal) (answers : Answers) (answer : Status) → IsRefusedWith answer plan → ended_status (followed plan answers) ≡ answer
@@ -129,108 +107,74 @@ refused_one a b (Err refusal) one two = sym one ∙ two
 refused_memory : (a : Status) (plan : Result Plan Refusal) → plan ≡ Err refusals.NoMemory → IsRefusedWith a plan → a ≡ statuses.NoMemory
 refused_memory a plan is refused = sym (subst (IsRefusedWith a) is refused)
 
-always_planned : (words : List (List ℕ)) (folder folder' : Folder) (before after : Device) (outlet outlet' : Outlet) (status : Status) → IsSession words folder folder' before after outlet outlet' status → (answer : Status) → (files : FileMap) → folder.told ≡ Some files → IsRefusedWith answer (planned words before.geometry (file_for words files)) → (status ≡ answer) ⊎ ((status ≡ statuses.SinkFault) ⊎ ((status ≡ statuses.NoMemory) ⊎ (status ≡ statuses.FileFault)))
-always_planned words folder folder' before after outlet outlet' status (inr memory) answer files told refused = elim (told_cases _ statuses.NoMemory outlet outlet' status memory.told) [ inl e ↦ inr (inr (inl e)) | inr other ↦ elim other [ inl sink ↦ inr (inl sink) | inr e ↦ inr (inr (inl e)) ] ]
-always_planned words folder folder' before after outlet outlet' status (inl ending) answer files told refused =
-    elim (told_cases _ _ outlet outlet' status ending.told) [
-      | inr other ↦ elim other [ inl sink ↦ inr (inl sink) | inr e ↦ inr (inr (inl e)) ]
-      | inl own ↦ elim (same_plan words before.geometry folder folder' ending.answers.file ending.answered.filed files told) [
-        | inl same ↦ inl (own ∙ plan_ends (planned words before.geometry ending.answers.file) ending.answers answer (subst (IsRefusedWith answer) (sym same) refused))
-        | inr odd ↦ elim odd [
-          | inl fault ↦ inr (inr (inr (own ∙ plan_ends (planned words before.geometry ending.answers.file) ending.answers statuses.FileFault fault.refused)))
-          | inr memory ↦ inr (inr (inl (own ∙ ap (λ (p : Result Plan Refusal). ended_status (followed p ending.answers)) memory)))
-        ]
-      ]
-    ]
+-- ---- words and plans
 
 words_always : (command : Result Command ℕ) (geometry : Geometry) → IsErr command → (answers : Answers) → ended_status (followed (plan_of command geometry answers.file) answers) ≡ statuses.BadWords
 words_always (Err place) geometry refused answers = refl
 words_always (Ok command) geometry refused answers = absurd cc
 
-pub bad_words_of : (words : List (List ℕ)) (folder folder' : Folder) (before after : Device) (outlet outlet' : Outlet) (status : Status) → IsSession words folder folder' before after outlet outlet' status → ComesExactly status statuses.BadWords (IsErr (words_of words))
-bad_words_of words folder folder' before after outlet outlet' status s = record {
+pub bad_words_of : (ran : Ran) → IsSession ran → ComesByWords statuses.BadWords ran
+bad_words_of ran s = record {
   only = λ e.
-      let own = own_answer words folder folder' before after outlet outlet' status statuses.BadWords s (λ h. cc) (λ h. cc) e in
-      words_refused (words_of words) before.geometry own.ending.answers.file (plan_only (planned words before.geometry own.ending.answers.file) own.ending.answers statuses.BadWords refl own.own);
-  always = λ refused. comes_always words folder folder' before after outlet outlet' status statuses.BadWords s (words_always (words_of words) before.geometry refused);
+      let own = own_answer ran statuses.BadWords s (λ h. cc) (λ h. cc) e in
+      words_refused (words_of ran.words) (geometry_of ran) own.ending.answers.file (plan_only (planned ran.words (geometry_of ran) own.ending.answers.file) own.ending.answers statuses.BadWords refl own.own);
+  always = λ refused. comes_always ran statuses.BadWords s (words_always (words_of ran.words) (geometry_of ran) refused);
 }
 
-raw_layout_only : (command : RawCommand) (laid : Result ℕ LayoutError) → IsRefusedWith statuses.BadLayout (raw_laid command laid) → IsErr laid
-raw_layout_only command (Ok stride) refused = absurd refused
-raw_layout_only command (Err e) refused = refl
-
-raw_layout_always : (command : RawCommand) (laid : Result ℕ LayoutError) → IsErr laid → IsRefusedWith statuses.BadLayout (raw_laid command laid)
-raw_layout_always command (Ok stride) refused = absurd cc
-raw_layout_always command (Err e) refused = refl
-
-pub bad_raw_layout_of : (words : List (List ℕ)) (folder folder' : Folder) (before after : Device) (outlet outlet' : Outlet) (status : Status) → IsSession words folder folder' before after outlet outlet' status → (command : RawCommand) → words_of words ≡ Ok (Raw command) → ComesExactly status statuses.BadLayout (IsErr (stride_of before.geometry command.area_len))
-bad_raw_layout_of words folder folder' before after outlet outlet' status s command is = record {
-  only = λ e.
-      let own = own_answer words folder folder' before after outlet outlet' status statuses.BadLayout s (λ h. cc) (λ h. cc) e in
-      let refused = plan_only (planned words before.geometry own.ending.answers.file) own.ending.answers statuses.BadLayout refl own.own in
-      raw_layout_only command (stride_of before.geometry command.area_len) (subst (λ (w : Result Command ℕ). IsRefusedWith statuses.BadLayout (plan_of w before.geometry own.ending.answers.file)) is refused);
-  always = λ err. comes_always words folder folder' before after outlet outlet' status statuses.BadLayout s
-      (λ answers. plan_ends (planned words before.geometry answers.file) answers statuses.BadLayout
-      (subst (λ (w : Result Command ℕ). IsRefusedWith statuses.BadLayout (plan_of w before.geometry answers.file)) (sym is) (raw_layout_always command (stride_of before.geometry command.area_len) err)));
-}
+always_planned : (ran : Ran) → IsSession ran → (answer : Status) → (files : FileMap) → ran.before.folder.told ≡ Some files → IsRefusedWith answer (plan_over ran files) → (ran.status ≡ answer) ⊎ ((ran.status ≡ statuses.SinkFault) ⊎ ((ran.status ≡ statuses.NoMemory) ⊎ (ran.status ≡ statuses.FileFault)))
+always_planned ran (inr memory) answer files told refused = elim (told_cases _ statuses.NoMemory ran.before.outlet ran.after.outlet ran.status memory.told) [ inl e ↦ inr (inr (inl e)) | inr other ↦ elim other [ inl sink ↦ inr (inl sink) | inr e ↦ inr (inr (inl e)) ] ]
+always_planned ran (inl ending) answer files told refused =
+    let plan = planned ran.words (geometry_of ran) ending.answers.file in
+    elim (told_cases _ _ ran.before.outlet ran.after.outlet ran.status ending.told) [
+      | inr other ↦ elim other [ inl sink ↦ inr (inl sink) | inr e ↦ inr (inr (inl e)) ]
+      | inl own ↦ elim (same_plan ran.words (geometry_of ran) ran.before.folder ran.after.folder ending.answers.file ending.answered.filed files told) [
+        | inl same ↦ inl (own ∙ plan_ends plan ending.answers answer (subst (IsRefusedWith answer) (sym same) refused))
+        | inr odd ↦ elim odd [
+          | inl fault ↦ inr (inr (inr (own ∙ plan_ends plan ending.answers statuses.FileFault fault.refused)))
+          | inr memory ↦ inr (inr (inl (own ∙ ap (λ (p : Result Plan Refusal). ended_status (followed p ending.answers)) memory)))
+        ]
+      ]
+    ]
 
 -- an answer that only a plan brings, over files that are told
-pub comes_planned : (words : List (List ℕ)) (folder folder' : Folder) (before after : Device) (outlet outlet' : Outlet) (status : Status) → IsSession words folder folder' before after outlet outlet' status → (answer : Status) → is_work answer ≡ false → answer ≢ statuses.SinkFault → answer ≢ statuses.NoMemory → answer ≢ statuses.FileFault → (files : FileMap) → folder.told ≡ Some files → ComesPlanned status answer (planned words before.geometry (file_for words files))
-comes_planned words folder folder' before after outlet outlet' status s answer other first second third files told = record {
+pub comes_planned : (ran : Ran) → IsSession ran → (answer : Status) → is_work answer ≡ false → answer ≢ statuses.SinkFault → answer ≢ statuses.NoMemory → answer ≢ statuses.FileFault → ComesByPlan answer ran
+comes_planned ran s answer other first second third = λ files told. record {
   only = λ e.
-      let own = own_answer words folder folder' before after outlet outlet' status answer s first second e in
+      let own = own_answer ran answer s first second e in
       let answers = own.ending.answers in
-      let refused = plan_only (planned words before.geometry answers.file) answers answer other own.own in
-      elim (same_plan words before.geometry folder folder' answers.file own.ending.answered.filed files told) [
+      let plan = planned ran.words (geometry_of ran) answers.file in
+      let refused = plan_only plan answers answer other own.own in
+      elim (same_plan ran.words (geometry_of ran) ran.before.folder ran.after.folder answers.file own.ending.answered.filed files told) [
         | inl same ↦ subst (IsRefusedWith answer) same refused
         | inr odd ↦ elim odd [
-          | inl fault ↦ absurd (third (refused_one answer statuses.FileFault (planned words before.geometry answers.file) refused fault.refused))
-          | inr memory ↦ absurd (second (refused_memory answer (planned words before.geometry answers.file) memory refused))
+          | inl fault ↦ absurd (third (refused_one answer statuses.FileFault plan refused fault.refused))
+          | inr memory ↦ absurd (second (refused_memory answer plan memory refused))
         ]
       ];
-  always = λ refused. always_planned words folder folder' before after outlet outlet' status s answer files told refused;
+  always = λ refused. always_planned ran s answer files told refused;
 }
 
--- which plans end with a failed read
-looked_read : (found : Result (Option (List ℕ)) Failed) → ended_status (looked found) ≡ statuses.ReadFault → IsErr found
-looked_read (Ok area) h = absurd cc
-looked_read (Err e) h = refl
+-- and where the words name no file, over any
+pub comes_alone : (ran : Ran) → IsSession ran → (answer : Status) → is_work answer ≡ false → answer ≢ statuses.SinkFault → answer ≢ statuses.NoMemory → ComesByPlanAlone answer ran
+comes_alone ran s answer other first second = λ none files.
+    let same : (file : FileAnswer) → planned ran.words (geometry_of ran) file ≡ plan_over ran files = λ file. alone_plan (words_of ran.words) (geometry_of ran) file (file_for ran.words files) none in
+    record {
+      only = λ e.
+          let own = own_answer ran answer s first second e in
+          let answers = own.ending.answers in
+          subst (IsRefusedWith answer) (same answers.file) (plan_only (planned ran.words (geometry_of ran) answers.file) answers answer other own.own);
+      always = λ refused. comes_always ran answer s
+          (λ answers. plan_ends (planned ran.words (geometry_of ran) answers.file) answers answer (subst (IsRefusedWith answer) (sym (same answers.file)) refused));
+    }
 
-shown_read : (laid : Laid) (outputs : List Output) (found : Result (Option (List ℕ)) Failed) → ended_status (shown laid outputs found) ≡ statuses.ReadFault → IsErr found
-shown_read laid outputs (Ok area) h = absurd cc
-shown_read laid outputs (Err e) h = refl
-
-saved_read : (writes : Writes) → ended_status (saved writes) ≢ statuses.ReadFault
-saved_read NotBegun = λ h. cc
-saved_read AllDone = λ h. cc
-saved_read (FailedAt copy) = λ h. cc
-
-worked_read : (plan : Plan) (answers : Answers) → ended_status (worked plan answers) ≡ statuses.ReadFault → IsErr answers.look
-worked_read (RawLook kind stride) answers h = looked_read answers.look h
-worked_read (RawSave stride rec) answers h = absurd (saved_read answers.writes h)
-worked_read (StateLook laid outputs) answers h = shown_read laid outputs answers.look h
-
-read_only : (plan : Result Plan Refusal) (answers : Answers) → (IsRefusedWith statuses.ReadFault plan → ⊥) → ended_status (followed plan answers) ≡ statuses.ReadFault → IsErr answers.look
-read_only (Ok plan) answers none h = worked_read plan answers h
-read_only (Err refusal) answers none h = absurd (none h)
-
-pub read_fault_of : (words : List (List ℕ)) (folder folder' : Folder) (before after : Device) (outlet outlet' : Outlet) (status : Status) → IsSession words folder folder' before after outlet outlet' status → before.read_faults ≤ after.read_faults → HasCause before.read_faults after.read_faults (status ≡ statuses.ReadFault)
-read_fault_of words folder folder' before after outlet outlet' status s later = record {
+pub file_fault_of : (ran : Ran) → IsSession ran → ran.before.folder.faults ≤ ran.after.folder.faults → ComesByFiles statuses.FileFault ran
+file_fault_of ran s later = record {
   later = later;
   rose = λ e.
-      let own = own_answer words folder folder' before after outlet outlet' status statuses.ReadFault s (λ h. cc) (λ h. cc) e in
+      let own = own_answer ran statuses.FileFault s (λ h. cc) (λ h. cc) e in
       let file = own.ending.answers.file in
-      own.ending.answered.looked.cause (read_only (planned words before.geometry file) own.ending.answers (plan_refusal statuses.ReadFault refl (words_of words) before.geometry file) own.own);
-}
-
-pub file_fault_of : (words : List (List ℕ)) (folder folder' : Folder) (before after : Device) (outlet outlet' : Outlet) (status : Status) → IsSession words folder folder' before after outlet outlet' status → folder.faults ≤ folder'.faults → HasCause folder.faults folder'.faults (status ≡ statuses.FileFault)
-file_fault_of words folder folder' before after outlet outlet' status s later = record {
-  later = later;
-  rose = λ e.
-      let own = own_answer words folder folder' before after outlet outlet' status statuses.FileFault s (λ h. cc) (λ h. cc) e in
-      let file = own.ending.answers.file in
-      let refused = plan_only (planned words before.geometry file) own.ending.answers statuses.FileFault refl own.own in
-      let named = faulty_words words before.geometry file (words_of words) refl refused in
+      let refused = plan_only (planned ran.words (geometry_of ran) file) own.ending.answers statuses.FileFault refl own.own in
+      let named = faulty_words ran.words (geometry_of ran) file (words_of ran.words) refl refused in
       (own.ending.answered.filed.read named.command named.words_are).cause named.fault;
 }
 
@@ -248,136 +192,260 @@ planning_work statuses.WriteFault first second = cc
 planning_work statuses.SinkFault first second = cc
 planning_work statuses.NoMemory first second = cc
 
+unasked_by : (plan : Result Plan Refusal) (before after : Device) (answers : Answers) → IsFollowed plan before after answers → IsErr plan → after ≡ before
+unasked_by (Ok plan) before after answers followed_so refused = absurd cc
+unasked_by (Err refusal) before after answers followed_so refused = followed_so
+
 -- a refusal of the plan comes without any call of the device
 planning_refused : (plan : Result Plan Refusal) (answers : Answers) → is_planning (ended_status (followed plan answers)) ≡ true → IsErr plan
-planning_refused (Ok plan) answers h = absurd (planning_work (ended_status (worked plan answers)) (worked_work plan answers) h)
+planning_refused (Ok plan) answers h = absurd (planning_work (ended_status (worked plan answers.load answers.saves)) (worked_work plan answers.load answers.saves) h)
 planning_refused (Err refusal) answers h = refl
 
-pub unasked_of : (words : List (List ℕ)) (folder folder' : Folder) (before after : Device) (outlet outlet' : Outlet) (status : Status) → IsSession words folder folder' before after outlet outlet' status → is_planning status ≡ true → after ≡ before
-unasked_of words folder folder' before after outlet outlet' status s h =
-    let own = own_answer words folder folder' before after outlet outlet' status status s (λ e. (let n : true ≡ false = sym h ∙ ap is_planning e in cc)) (λ e. (let n : true ≡ false = sym h ∙ ap is_planning e in cc)) refl in
-    own.ending.answered.unasked (planning_refused (planned words before.geometry own.ending.answers.file) own.ending.answers (ap is_planning own.own ∙ h))
+pub unasked_of : (ran : Ran) → IsSession ran → is_planning ran.status ≡ true → ran.after.device ≡ ran.before.device
+unasked_of ran s h =
+    let own = own_answer ran ran.status s (λ e. (let n : true ≡ false = sym h ∙ ap is_planning e in cc)) (λ e. (let n : true ≡ false = sym h ∙ ap is_planning e in cc)) refl in
+    unasked_by (planned ran.words (geometry_of ran) own.ending.answers.file) ran.before.device ran.after.device own.ending.answers own.ending.answered.followed (planning_refused (planned ran.words (geometry_of ran) own.ending.answers.file) own.ending.answers (ap is_planning own.own ∙ h))
 
--- a session that is a save gives what its writes give
-session_saving : (words : List (List ℕ)) (geometry : Geometry) (answers : Answers) (saving : IsSaving words geometry) → session_of words geometry answers ≡ saved answers.writes
-session_saving words geometry answers saving = ap (λ (p : Result Plan Refusal). followed p answers) (saving_plan words geometry answers.file saving)
+-- ---- a fault of the device
 
-looked_write : (found : Result (Option (List ℕ)) Failed) → ended_status (looked found) ≢ statuses.WriteFault
-looked_write (Ok area) = λ h. cc
-looked_write (Err e) = λ h. cc
+-- a fault rose between two moments of which the second is not the last
+rose_on : (first middle last : ℕ) → Rose first middle → middle ≤ last → Rose first last
+rose_on first middle last rose more = omega arith
 
-shown_write : (laid : Laid) (outputs : List Output) (found : Result (Option (List ℕ)) Failed) → ended_status (shown laid outputs found) ≢ statuses.WriteFault
-shown_write laid outputs (Ok area) = λ h. cc
-shown_write laid outputs (Err e) = λ h. cc
+rose_from : (first middle last : ℕ) → first ≤ middle → Rose middle last → Rose first last
+rose_from first middle last more rose = omega arith
 
--- a write failed only where the session is a save
-work_write : (words : List (List ℕ)) (geometry : Geometry) (answers : Answers) (plan : Plan) → planned words geometry answers.file ≡ Ok plan → ended_status (worked plan answers) ≡ statuses.WriteFault → IsSaving words geometry
-work_write words geometry answers (RawLook kind stride) is h = absurd (looked_write answers.look h)
-work_write words geometry answers (RawSave stride rec) is h = saving_words words geometry answers.file stride rec is
-work_write words geometry answers (StateLook laid outputs) is h = absurd (shown_write laid outputs answers.look h)
+rose_by : (rise before now : ℕ) → 1 ≤ rise → RoseBy rise before now → Rose before now
+rose_by rise before now some rose = omega arith
 
-plan_write : (words : List (List ℕ)) (geometry : Geometry) (answers : Answers) (plan : Result Plan Refusal) → planned words geometry answers.file ≡ plan → (IsRefusedWith statuses.WriteFault plan → ⊥) → ended_status (followed plan answers) ≡ statuses.WriteFault → IsSaving words geometry
-plan_write words geometry answers (Ok plan) is none h = work_write words geometry answers plan is h
-plan_write words geometry answers (Err refusal) is none h = absurd (none h)
+copies_are : (layout : Laid) → length (laid_kinds layout) ≡ layout.copies
+copies_are layout =
+    length-map (laid_buckets layout) (λ bucket. (any_holding bucket).kind)
+    ∙ length-map (range_with_len 0 layout.copies) (bucket_at layout.storage layout.region)
+    ∙ length-range_with_len 0 layout.copies
 
-write_saving : (words : List (List ℕ)) (geometry : Geometry) (answers : Answers) → ended_status (session_of words geometry answers) ≡ statuses.WriteFault → IsSaving words geometry
-write_saving words geometry answers h = plan_write words geometry answers (planned words geometry answers.file) refl (plan_refusal statuses.WriteFault refl (words_of words) geometry answers.file) h
+-- what each fault of a load or a save tells: a count rose, and a copy that is named is there
+abbrev pub FaultTells : Laid → Device → Device → CopyFault → Type 0
+FaultTells layout from to faults.ReadFault =
+    Rose from.faults to.faults × Rose from.read_faults to.read_faults
+FaultTells layout from to (faults.WriteFault copy) =
+    Rose from.faults to.faults × (copy < layout.copies)
+FaultTells layout from to faults.Unsure = ⊥
 
-record IsFailed (writes : Writes) : Type 0 where
-  copy : ℕ
-  at : writes ≡ FailedAt copy
+tells_on : (layout : Laid) (from mid to : Device) (fault : CopyFault) → FaultTells layout from mid fault → mid.faults ≤ to.faults → mid.read_faults ≤ to.read_faults → FaultTells layout from to fault
+tells_on layout from mid to faults.ReadFault tells more reads = (rose_on from.faults mid.faults to.faults tells.0 more, rose_on from.read_faults mid.read_faults to.read_faults tells.1 reads)
+tells_on layout from mid to (faults.WriteFault copy) tells more reads = (rose_on from.faults mid.faults to.faults tells.0 more, tells.1)
+tells_on layout from mid to faults.Unsure tells more reads = tells
 
-saved_failed : (writes : Writes) → ended_status (saved writes) ≡ statuses.WriteFault → IsFailed writes
-saved_failed NotBegun h = absurd cc
-saved_failed AllDone h = absurd cc
-saved_failed (FailedAt copy) h = record { copy = copy; at = refl }
+tells_from : (layout : Laid) (from mid to : Device) (fault : CopyFault) → FaultTells layout mid to fault → from.faults ≤ mid.faults → from.read_faults ≤ mid.read_faults → FaultTells layout from to fault
+tells_from layout from mid to faults.ReadFault tells more reads = (rose_from from.faults mid.faults to.faults more tells.0, rose_from from.read_faults mid.read_faults to.read_faults reads tells.1)
+tells_from layout from mid to (faults.WriteFault copy) tells more reads = (rose_from from.faults mid.faults to.faults more tells.0, tells.1)
+tells_from layout from mid to faults.Unsure tells more reads = tells
 
-saved_done : (writes : Writes) → ended_status (saved writes) ≡ statuses.Done → writes ≡ AllDone
-saved_done NotBegun h = absurd cc
-saved_done AllDone h = refl
-saved_done (FailedAt copy) h = absurd cc
+get_inside : {X : Type 0} → (xs : List X) (k : ℕ) → k < length xs → (x : X) × (slice_get xs k ≡ Some x)
+get_inside [] k h = absurd (omega arith)
+get_inside (x ∷ xs) zero h = (x, refl)
+get_inside (x ∷ xs) (suc k) h = get_inside xs k (omega arith)
 
-saved_memory : (writes : Writes) → ended_status (saved writes) ≡ statuses.NoMemory → writes ≡ NotBegun
-saved_memory NotBegun h = refl
-saved_memory AllDone h = absurd cc
-saved_memory (FailedAt copy) h = absurd cc
+stuck_tells : (layout : Laid) (area : List ℕ) (copy : ℕ) (from to : Device) → IsStuckAt (laid_form layout) (laid_kinds layout) area copy from to → FaultTells layout from to (faults.WriteFault copy)
+stuck_tells layout area copy from to stuck =
+    let there = get_inside (laid_kinds layout) copy stuck.inside in
+    let inside = stuck.inside in
+    let many = copies_are layout in
+    elim (stuck.cause copy there.0 there.1 refl) [
+      | inl stale ↦ (rose_by 2 from.faults to.faults (omega arith) stale.cause, omega (arith, inside, many))
+      | inr unread ↦ (rose_by 3 from.faults to.faults (omega arith) unread.cause, omega (arith, inside, many))
+    ]
 
--- the status of a save, from its writes
-status_saving : (words : List (List ℕ)) (geometry : Geometry) (answers : Answers) (saving : IsSaving words geometry) (status : Status) → ended_status (session_of words geometry answers) ≡ status → ended_status (saved answers.writes) ≡ status
-status_saving words geometry answers saving status e = ap ended_status (sym (session_saving words geometry answers saving)) ∙ e
+load_tells : (layout : Laid) (area : List ℕ) (from to : Device) (fault : CopyFault) → LoadFails (laid_form layout) (laid_kinds layout) area from to fault → FaultTells layout from to fault
+load_tells layout area from to faults.ReadFault fails = (fails.cause, fails.read)
+load_tells layout area from to (faults.WriteFault copy) fails = stuck_tells layout area copy from to fails.stuck
+load_tells layout area from to faults.Unsure fails = fails
 
-pub write_fault_of : (words : List (List ℕ)) (folder folder' : Folder) (before after : Device) (outlet outlet' : Outlet) (status : Status) → IsSession words folder folder' before after outlet outlet' status → before.faults ≤ after.faults → HasCause before.faults after.faults (status ≡ statuses.WriteFault)
-write_fault_of words folder folder' before after outlet outlet' status s later = record {
-  later = later;
-  rose = λ e.
-      let own = own_answer words folder folder' before after outlet outlet' status statuses.WriteFault s (λ h. cc) (λ h. cc) e in
-      let saving = write_saving words before.geometry own.ending.answers own.own in
-      let failed = saved_failed own.ending.answers.writes (status_saving words before.geometry own.ending.answers saving statuses.WriteFault own.own) in
-      (subst (λ (w : Writes). Leaves saving.stride (record_of saving) before after w) failed.at (own.ending.answered.saved saving).left).cause;
+look_tells : (layout : Laid) (from to : Device) (fault : CopyFault) → fault ≡ faults.ReadFault → Rose from.faults to.faults → Rose from.read_faults to.read_faults → FaultTells layout from to fault
+look_tells layout from to fault is rose read = subst (FaultTells layout from to) (sym is) (rose, read)
+
+used_inside : (layout : Laid) (used : Option ℕ) (copy : ℕ) (from to : Device) (found : Option (List ℕ)) → (area : List ℕ) (loaded : Loaded) → IsFound layout area loaded from to → used_after loaded ≡ Some copy → copy < length (laid_kinds layout)
+used_inside layout used copy from to found area (loads.Copy taken live) gave is =
+    let same : taken ≡ copy = cc in
+    subst (λ k. k < length (laid_kinds layout)) same gave.gives.exit.inside
+used_inside layout used copy from to found area loads.NoCopy gave is = absurd cc
+
+save_tells : (layout : Laid) (used : Option ℕ) (area : List ℕ) (from to : Device) (fault : CopyFault) → 2 ≤ layout.copies → ((copy : ℕ) → used ≡ Some copy → copy < length (laid_kinds layout)) → fault ≢ faults.Unsure → SaveFails (laid_form layout) (laid_kinds layout) used area from to fault → FaultTells layout from to fault
+save_tells layout used area from to faults.ReadFault many inside sure fails = absurd fails
+save_tells layout used area from to faults.Unsure many inside sure fails = absurd (sure refl)
+save_tells layout used area from to (faults.WriteFault copy) many inside sure (inl stuck) = stuck_tells layout area copy from to stuck
+save_tells layout used area from to (faults.WriteFault copy) many inside sure (inr (inl alone)) =
+    let len = copies_are layout in
+    let here = inside copy alone.is in
+    (rose_by (length (laid_kinds layout) - 1) from.faults to.faults (omega (arith, len, many)) alone.cause, omega (arith, here, len))
+save_tells layout used area from to (faults.WriteFault copy) many inside sure (inr (inr hopeless)) =
+    let len = copies_are layout in
+    let last = hopeless.last in
+    (rose_by (length (laid_kinds layout)) from.faults to.faults (omega (arith, len, many)) hopeless.cause, omega (arith, last, len))
+
+-- a refusal of the work is that of a fault, which tells this
+pub record IsFault (layout : Laid) (from to : Device) (refusal : Refusal) : Type 0 where
+  pub fault : CopyFault
+  pub is : refusal ≡ copy_refusal fault
+  pub tells : FaultTells layout from to fault
+
+none_some : {X : Type 0} → (x : X) → ◌≡◌ {A = Option X} None (Some x) → ⊥
+none_some x h = cc
+
+saves_fault : (layout : Laid) (used : Option ℕ) (text : List ℕ) (areas : List (List ℕ)) (saves : List SaveAnswer) (from to : Device) (refusal : Refusal) → 2 ≤ layout.copies → ((copy : ℕ) → used ≡ Some copy → copy < length (laid_kinds layout)) → AreSaved layout used areas from to saves → (saved text areas saves).refusal ≡ Some refusal → IsFault layout from to refusal
+saves_fault layout used text [] saves from to refusal many inside saved_so h = absurd (none_some refusal h)
+saves_fault layout used text (area ∷ areas) [] from to refusal many inside saved_so h = absurd saved_so
+saves_fault layout used text (area ∷ areas) (Err fault ∷ saves) from to refusal many inside saved_so h = record {
+  fault = fault;
+  is = same_Some refusal (copy_refusal fault) (sym h);
+  tells = save_tells layout used area from to fault many inside saved_so.0.sure saved_so.0.fails;
 }
+saves_fault layout used text (area ∷ []) (Ok made ∷ saves) from to refusal many inside saved_so h = absurd (none_some refusal h)
+saves_fault layout used text (area ∷ (other ∷ areas)) (Ok made ∷ saves) from to refusal many inside saved_so h = absurd (let e = saved_so.1.0 in cc)
 
-pub saved_of : (words : List (List ℕ)) (folder folder' : Folder) (before after : Device) (outlet outlet' : Outlet) (status : Status) → IsSession words folder folder' before after outlet outlet' status → (saving : IsSaving words before.geometry) → status ≡ statuses.Done → Between (IsSaved saving.stride (record_of saving)) before after
-saved_of words folder folder' before after outlet outlet' status s saving e =
-    let own = own_answer words folder folder' before after outlet outlet' status statuses.Done s (λ h. cc) (λ h. cc) e in
-    let done = saved_done own.ending.answers.writes (status_saving words before.geometry own.ending.answers saving statuses.Done own.own) in
-    subst (λ (w : Writes). Leaves saving.stride (record_of saving) before after w) done (own.ending.answered.saved saving).left
+saved_later : (layout : Laid) (used : Option ℕ) (areas : List (List ℕ)) (saves : List SaveAnswer) (from to : Device) → AreSaved layout used areas from to saves → (from.faults ≤ to.faults) × (from.read_faults ≤ to.read_faults)
+saved_later layout used [] saves from to saved_so = subst (λ (d : Device). (from.faults ≤ d.faults) × (from.read_faults ≤ d.read_faults)) (sym saved_so.1) (omega arith, omega arith)
+saved_later layout used (area ∷ areas) [] from to saved_so = absurd saved_so
+saved_later layout used (area ∷ areas) (answer ∷ saves) from to saved_so = (saved_so.0.runs.later.faults, saved_so.0.runs.later.read_faults)
 
-pub stopped_of : (words : List (List ℕ)) (folder folder' : Folder) (before after : Device) (outlet outlet' : Outlet) (status : Status) → IsSession words folder folder' before after outlet outlet' status → (saving : IsSaving words before.geometry) → status ≡ statuses.WriteFault → IsWriteFault saving.stride (record_of saving) before after outlet outlet' status
-stopped_of words folder folder' before after outlet outlet' status s saving e =
-    let own = own_answer words folder folder' before after outlet outlet' status statuses.WriteFault s (λ h. cc) (λ h. cc) e in
-    let answers = own.ending.answers in
-    let failed = saved_failed answers.writes (status_saving words before.geometry answers saving statuses.WriteFault own.own) in
-    let is : session_of words before.geometry answers ≡ Err (refusals.WriteFault failed.copy) = session_saving words before.geometry answers saving ∙ ap saved failed.at in
+store_fault : (plan : Plan) (from to : Device) (load : LoadAnswer) (saves : List SaveAnswer) (refusal : Refusal) → IsStoreWork plan from to load saves → (worked plan load saves).refusal ≡ Some refusal → IsFault plan.layout from to refusal
+store_fault plan from to (Err fault) saves refusal work h =
+    let later = saved_later plan.layout work.used [] saves work.middle to work.saved in
     record {
-      copy = failed.copy;
-      told = subst (λ (r : Result (List ℕ) Refusal). IsTold (ended_text r) (ended_status r) outlet outlet' status) is own.ending.told;
-      saved = (subst (λ (w : Writes). Leaves saving.stride (record_of saving) before after w) failed.at (own.ending.answered.saved saving).left).saved;
+      fault = fault;
+      is = same_Some refusal (copy_refusal fault) (sym h);
+      tells = tells_on plan.layout from work.middle to fault (load_tells plan.layout work.loaded.fails.area from work.middle fault work.loaded.fails.fails) later.0 later.1;
+    }
+store_fault plan from to (Ok found) saves refusal work h =
+    let gave = work.loaded.gives in
+    let fault = saves_fault plan.layout work.used (text_of plan.layout plan.work found) (saves_behind plan (Ok found)) saves work.middle to refusal work.many
+    (λ copy is. used_inside plan.layout work.used copy from work.middle found gave.area gave.loaded gave.gave (sym gave.used_is ∙ is)) work.saved h in
+    record {
+      fault = fault.fault;
+      is = fault.is;
+      tells = tells_from plan.layout from work.middle to fault.fault fault.tells work.loaded.later.faults work.loaded.later.read_faults;
     }
 
-pub images_of : (words : List (List ℕ)) (folder folder' : Folder) (before after : Device) (outlet outlet' : Outlet) (status : Status) → IsSession words folder folder' before after outlet outlet' status → (saving : IsSaving words before.geometry) → EachImage (IsCutSave saving.stride (record_of saving)) before after
-images_of words folder folder' before after outlet outlet' status (inl ending) saving = (ending.answered.saved saving).images
-images_of words folder folder' before after outlet outlet' status (inr memory) saving = quiet_cuts saving.stride (record_of saving) before after memory.quiet
+look_fault : (layout : Laid) (text : Option (List ℕ) → List ℕ) (from to : Device) (load : LoadAnswer) (refusal : Refusal) (plan : Plan) (saves : List SaveAnswer) → plan.work ≡ Show → IsLookWork plan from to load saves → (worked plan load saves).refusal ≡ Some refusal → IsFault plan.layout from to refusal
+look_fault layout text from to (Err fault) refusal plan saves shows work h = record {
+  fault = fault;
+  is = same_Some refusal (copy_refusal fault) (sym h);
+  tells = look_tells plan.layout from to fault work.looked.fails (work.looked.faults.rose refl) (work.looked.read_faults.rose refl);
+}
+look_fault layout text from to (Ok found) refusal plan saves shows work h =
+    absurd (none_some refusal (sym (ap (λ (w : Work). (saved (text_of plan.layout plan.work found) (saves_of plan.layout w (loaded_area plan.layout found)) saves).refusal) shows) ∙ h))
 
-pub outside_of : (words : List (List ℕ)) (folder folder' : Folder) (before after : Device) (outlet outlet' : Outlet) (status : Status) → IsSession words folder folder' before after outlet outlet' status → (saving : IsSaving words before.geometry) → EachTorn 0 (3 * saving.stride) before after
-outside_of words folder folder' before after outlet outlet' status (inl ending) saving = (ending.answered.saved saving).outside
-outside_of words folder folder' before after outlet outlet' status (inr memory) saving = quiet_torn 0 (3 * saving.stride) before after memory.quiet
+pub work_fault : (work : Work) (plan : Plan) (from to : Device) (load : LoadAnswer) (saves : List SaveAnswer) (refusal : Refusal) → plan.work ≡ work → IsWorkOf work plan from to load saves → (worked plan load saves).refusal ≡ Some refusal → IsFault plan.layout from to refusal
+work_fault Show plan from to load saves refusal is work h = look_fault plan.layout (text_of plan.layout Show) from to load refusal plan saves is work h
+work_fault (Write area) plan from to load saves refusal is work h = store_fault plan from to load saves refusal work h
+work_fault (Act actions) plan from to load saves refusal is work h = store_fault plan from to load saves refusal work h
 
-pub quiet_of : (words : List (List ℕ)) (folder folder' : Folder) (before after : Device) (outlet outlet' : Outlet) (status : Status) → IsSession words folder folder' before after outlet outlet' status → (IsSaving words before.geometry → ⊥) → IsQuiet before after
-quiet_of words folder folder' before after outlet outlet' status (inl ending) other = ending.answered.other other
-quiet_of words folder folder' before after outlet outlet' status (inr memory) other = memory.quiet
+-- a session that ends so was refused by its plan, or by a fault of its device
+record IsFaulted (plan : Result Plan Refusal) (from to : Device) (session : Session) (answer : Status) : Type 0 where
+  planned_as : Plan
+  plan_is : plan ≡ Ok planned_as
+  refusal : Refusal
+  refusal_is : session.refusal ≡ Some refusal
+  status_is : status_of refusal ≡ answer
+  fault : IsFault planned_as.layout from to refusal
 
-overruled_memory : (ended : Status) → overruled ended ≡ statuses.NoMemory → ended ≡ statuses.NoMemory
-overruled_memory statuses.Done e = absurd cc
-overruled_memory statuses.BadWords e = absurd cc
-overruled_memory statuses.BadTree e = absurd cc
-overruled_memory statuses.BadVariable e = absurd cc
-overruled_memory statuses.FileMissing e = absurd cc
-overruled_memory statuses.FileFault e = absurd cc
-overruled_memory statuses.FileTooLong e = absurd cc
-overruled_memory statuses.BadLayout e = absurd cc
-overruled_memory statuses.ReadFault e = absurd cc
-overruled_memory statuses.WriteFault e = absurd cc
-overruled_memory statuses.SinkFault e = absurd cc
-overruled_memory statuses.NoMemory e = refl
+some_refusal : (refused : Option Refusal) (answer : Status) → answer ≢ statuses.Done → option_map_or status_of refused statuses.Done ≡ answer → (refusal : Refusal) × ((refused ≡ Some refusal) × (status_of refusal ≡ answer))
+some_refusal None answer other e = absurd (other (sym e))
+some_refusal (Some refusal) answer other e = (refusal, (refl, e))
 
-told_memory : (text : List ℕ) (ended : Status) (before after : Outlet) (status : Status) → IsTold text ended before after status → status ≡ statuses.NoMemory → ended ≡ statuses.NoMemory
-told_memory text ended before after status (inl sent) e = sym sent.status_is ∙ e
-told_memory text ended before after status (inr cut) e = overruled_memory ended (sym cut.status_is ∙ e)
+plan_fault : (plan : Result Plan Refusal) (from to : Device) (answers : Answers) (answer : Status) → answer ≢ statuses.Done → (IsRefusedWith answer plan → ⊥) → IsFollowed plan from to answers → ended_status (followed plan answers) ≡ answer → IsFaulted plan from to (followed plan answers) answer
+plan_fault (Ok plan) from to answers answer other none work h =
+    let some = some_refusal (worked plan answers.load answers.saves).refusal answer other h in
+    record {
+      planned_as = plan;
+      plan_is = refl;
+      refusal = some.0;
+      refusal_is = some.1.0;
+      status_is = some.1.1;
+      fault = work_fault plan.work plan from to answers.load answers.saves some.0 refl work some.1.0;
+    }
+plan_fault (Err refusal) from to answers answer other none work h = absurd (none h)
 
-looked_memory : (found : Result (Option (List ℕ)) Failed) → ended_status (looked found) ≢ statuses.NoMemory
-looked_memory (Ok area) = λ h. cc
-looked_memory (Err e) = λ h. cc
+faulted : (ran : Ran) (answer : Status) → answer ≢ statuses.Done → ((plan : Result Plan Refusal) → Unit {0}) → (own : IsOwn ran answer) → (IsRefusedWith answer (planned ran.words (geometry_of ran) own.ending.answers.file) → ⊥) → IsFaulted (planned ran.words (geometry_of ran) own.ending.answers.file) ran.before.device ran.after.device (session_for ran own.ending.answers) answer
+faulted ran answer other u own none =
+    plan_fault (planned ran.words (geometry_of ran) own.ending.answers.file) ran.before.device ran.after.device own.ending.answers answer other none own.ending.answered.followed own.own
 
-shown_memory : (laid : Laid) (outputs : List Output) (found : Result (Option (List ℕ)) Failed) → ended_status (shown laid outputs found) ≢ statuses.NoMemory
-shown_memory laid outputs (Ok area) = λ h. cc
-shown_memory laid outputs (Err e) = λ h. cc
+read_told : (layout : Laid) (from to : Device) (fault : CopyFault) → status_of (copy_refusal fault) ≡ statuses.ReadFault → FaultTells layout from to fault → Rose from.read_faults to.read_faults
+read_told layout from to faults.ReadFault h tells = tells.1
+read_told layout from to (faults.WriteFault copy) h tells = absurd cc
+read_told layout from to faults.Unsure h tells = absurd tells
+
+pub read_fault_of : (ran : Ran) → IsSession ran → ran.before.device.read_faults ≤ ran.after.device.read_faults → ComesByReads statuses.ReadFault ran
+read_fault_of ran s later = record {
+  later = later;
+  rose = λ e.
+      let own = own_answer ran statuses.ReadFault s (λ h. cc) (λ h. cc) e in
+      let fault = faulted ran statuses.ReadFault (λ h. cc) (λ p. tt) own (plan_refusal statuses.ReadFault refl (words_of ran.words) (geometry_of ran) own.ending.answers.file) in
+      read_told fault.planned_as.layout ran.before.device ran.after.device fault.fault.fault (ap status_of (sym fault.fault.is) ∙ fault.status_is) fault.fault.tells;
+}
+
+-- the copy that a write fault names
+record IsNamed (layout : Laid) (from to : Device) (refusal : Refusal) : Type 0 where
+  copy : ℕ
+  is : refusal ≡ refusals.WriteFault copy
+  inside : copy < layout.copies
+  rose : Rose from.faults to.faults
+
+named_copy : (layout : Laid) (from to : Device) (refusal : Refusal) (fault : CopyFault) → refusal ≡ copy_refusal fault → FaultTells layout from to fault → status_of refusal ≡ statuses.WriteFault → IsNamed layout from to refusal
+named_copy layout from to refusal faults.ReadFault is tells h = absurd (let n : statuses.ReadFault ≡ statuses.WriteFault = ap status_of (sym is) ∙ h in cc)
+named_copy layout from to refusal (faults.WriteFault copy) is tells h = record { copy = copy; is = is; inside = tells.1; rose = tells.0 }
+named_copy layout from to refusal faults.Unsure is tells h = absurd tells
+
+write_named : (ran : Ran) (own : IsOwn ran statuses.WriteFault) → (fault : IsFaulted (planned ran.words (geometry_of ran) own.ending.answers.file) ran.before.device ran.after.device (session_for ran own.ending.answers) statuses.WriteFault) × IsNamed fault.planned_as.layout ran.before.device ran.after.device fault.refusal
+write_named ran own =
+    let fault = faulted ran statuses.WriteFault (λ h. cc) (λ p. tt) own (plan_refusal statuses.WriteFault refl (words_of ran.words) (geometry_of ran) own.ending.answers.file) in
+    (fault, named_copy fault.planned_as.layout ran.before.device ran.after.device fault.refusal fault.fault.fault fault.fault.is fault.fault.tells fault.status_is)
+
+pub write_fault_of : (ran : Ran) → IsSession ran → ran.before.device.faults ≤ ran.after.device.faults → ComesByDevice statuses.WriteFault ran
+write_fault_of ran s later = record {
+  later = later;
+  rose = λ e. (write_named ran (own_answer ran statuses.WriteFault s (λ h. cc) (λ h. cc) e)).1.rose;
+}
+
+pub copy_of_fault : (ran : Ran) → IsSession ran → ran.status ≡ statuses.WriteFault → NamesACopy ran
+copy_of_fault ran s e =
+    let own = own_answer ran statuses.WriteFault s (λ h. cc) (λ h. cc) e in
+    let answers = own.ending.answers in
+    let named = write_named ran own in
+    record {
+      answers = answers;
+      answered = own.ending.answered;
+      copy = named.1.copy;
+      inside = subst (λ (p : Result Plan Refusal). named.1.copy < copies_in p) (sym named.0.plan_is) named.1.inside;
+      refusal = named.0.refusal_is ∙ ap (λ r. Some r) named.1.is;
+      told = subst (λ (status : Status). Tells ran (sent_of (session_for ran answers)) status) own.own own.ending.told;
+    }
+
+-- ---- the copies
+
+pub at_exit : (ran : Ran) → IsSession ran → KeepsAtExit ran
+at_exit ran session answers plan answered is =
+    leads_on plan ran.before.device ran.after.device answers.load answers.saves
+    (subst (λ (p : Result Plan Refusal). IsFollowed p ran.before.device ran.after.device answers) is answered.followed)
+
+pub on_a_trail : (ran : Ran) → IsSession ran → KeepsATrail ran
+on_a_trail ran session answers plan answered is =
+    has_trails plan ran.before.device ran.after.device answers.load answers.saves
+    (subst (λ (p : Result Plan Refusal). IsFollowed p ran.before.device ran.after.device answers) is answered.followed)
+
+pub beside : (ran : Ran) → IsSession ran → KeepsOthers ran
+beside ran session answers plan answered is =
+    keeps_outside plan ran.before.device ran.after.device answers.load answers.saves
+    (subst (λ (p : Result Plan Refusal). IsFollowed p ran.before.device ran.after.device answers) is answered.followed)
+
+-- ---- want of memory
 
 refusal_memory : (refusal : Refusal) → status_of refusal ≡ statuses.NoMemory → refusal ≡ refusals.NoMemory
 refusal_memory (refusals.BadWords place) h = absurd cc
 refusal_memory (refusals.BadTree e) h = absurd cc
 refusal_memory (refusals.BadLayout e) h = absurd cc
-refusal_memory (refusals.BadStateLayout e) h = absurd cc
-refusal_memory (refusals.BadVariable name) h = absurd cc
+refusal_memory (refusals.BadVariable name cause) h = absurd cc
 refusal_memory (refusals.FileMissing file) h = absurd cc
 refusal_memory (refusals.FileFault file) h = absurd cc
 refusal_memory (refusals.FileTooLong file) h = absurd cc
@@ -385,38 +453,29 @@ refusal_memory refusals.ReadFault h = absurd cc
 refusal_memory (refusals.WriteFault copy) h = absurd cc
 refusal_memory refusals.NoMemory h = refl
 
--- memory was refused before anything was written: the session's text is that line, and the device is as before
-record IsMemoryPlan (words : List (List ℕ)) (before after : Device) (answers : Answers) (given : Result (List ℕ) Refusal) : Type 0 where
-  is : given ≡ Err refusals.NoMemory
-  quiet : IsQuiet before after
+-- the plan was refused for want of memory
+record IsMemoryPlan (from to : Device) (session : Session) : Type 0 where
+  is : session ≡ refused_for refusals.NoMemory
+  unasked : to ≡ from
 
-work_memory : (words : List (List ℕ)) (folder folder' : Folder) (before after : Device) (answers : Answers) → AreAnswers words folder folder' before after answers → (plan : Plan) → planned words before.geometry answers.file ≡ Ok plan → ended_status (worked plan answers) ≡ statuses.NoMemory → IsMemoryPlan words before after answers (worked plan answers)
-work_memory words folder folder' before after answers answered (RawLook kind stride) is h = absurd (looked_memory answers.look h)
-work_memory words folder folder' before after answers answered (StateLook laid outputs) is h = absurd (shown_memory laid outputs answers.look h)
-work_memory words folder folder' before after answers answered (RawSave stride rec) is h =
-    let saving = saving_words words before.geometry answers.file stride rec is in
-    let none = saved_memory answers.writes h in
-    record {
-      is = ap saved none;
-      quiet = subst (λ (w : Writes). Leaves saving.stride (record_of saving) before after w) none (answered.saved saving).left;
-    }
-
-plan_memory : (words : List (List ℕ)) (folder folder' : Folder) (before after : Device) (answers : Answers) → AreAnswers words folder folder' before after answers → (plan : Result Plan Refusal) → planned words before.geometry answers.file ≡ plan → ended_status (followed plan answers) ≡ statuses.NoMemory → IsMemoryPlan words before after answers (followed plan answers)
-plan_memory words folder folder' before after answers answered (Ok plan) is h = work_memory words folder folder' before after answers answered plan is h
-plan_memory words folder folder' before after answers answered (Err refusal) is h = record {
-  is = ap (λ (r : Refusal). Err r) (refusal_memory refusal h);
-  quiet = subst (λ (d : Device). IsQuiet before d) (sym (answered.unasked (ap is_err is))) (quiet_same before);
+plan_memory : (plan : Result Plan Refusal) (from to : Device) (answers : Answers) → IsFollowed plan from to answers → ended_status (followed plan answers) ≡ statuses.NoMemory → IsMemoryPlan from to (followed plan answers)
+plan_memory (Ok plan) from to answers work h = absurd (not_work (ended_status (worked plan answers.load answers.saves)) statuses.NoMemory (worked_work plan answers.load answers.saves) refl h)
+plan_memory (Err refusal) from to answers work h = record {
+  is = ap refused_for (refusal_memory refusal h);
+  unasked = work;
 }
 
-pub no_memory_of : (words : List (List ℕ)) (folder folder' : Folder) (before after : Device) (outlet outlet' : Outlet) (status : Status) → IsSession words folder folder' before after outlet outlet' status → status ≡ statuses.NoMemory → IsWithoutMemory before after outlet outlet' status
-no_memory_of words folder folder' before after outlet outlet' status (inr memory) e = memory
-no_memory_of words folder folder' before after outlet outlet' status (inl ending) e =
-    let own = told_memory _ _ outlet outlet' status ending.told e in
-    let memory = plan_memory words folder folder' before after ending.answers ending.answered (planned words before.geometry ending.answers.file) refl own in
+pub no_memory_of : (ran : Ran) → IsSession ran → ran.status ≡ statuses.NoMemory → IsWithoutMemory ran
+no_memory_of ran (inr memory) e = memory
+no_memory_of ran (inl ending) e =
+    let own = told_memory _ _ ran.before.outlet ran.after.outlet ran.status ending.told e in
+    let memory = plan_memory (planned ran.words (geometry_of ran) ending.answers.file) ran.before.device ran.after.device ending.answers ending.answered.followed own in
     record {
-      told = subst (λ (r : Result (List ℕ) Refusal). IsTold (ended_text r) (ended_status r) outlet outlet' status) memory.is ending.told;
-      quiet = memory.quiet;
+      told = subst (λ (session : Session). Tells ran (sent_of session) (ended_status session)) memory.is ending.told;
+      work = inl memory.unasked;
     }
+
+-- ---- an output that failed
 
 plan_sink : (plan : Result Plan Refusal) (answers : Answers) → (IsRefusedWith statuses.SinkFault plan → ⊥) → ended_status (followed plan answers) ≢ statuses.SinkFault
 plan_sink plan answers none = λ e. none (plan_only plan answers statuses.SinkFault refl e)
@@ -424,165 +483,88 @@ plan_sink plan answers none = λ e. none (plan_only plan answers statuses.SinkFa
 session_sink : (words : List (List ℕ)) (geometry : Geometry) (answers : Answers) → ended_status (session_of words geometry answers) ≢ statuses.SinkFault
 session_sink words geometry answers = plan_sink (planned words geometry answers.file) answers (plan_refusal statuses.SinkFault refl (words_of words) geometry answers.file)
 
-told_front : (text : List ℕ) (ended : Status) (before after : Outlet) (status : Status) → IsTold text ended before after status → ended ≢ statuses.SinkFault → status ≡ statuses.SinkFault → IsCutOff text ended before after status
-told_front text ended before after status (inl sent) own e = absurd (own (sym sent.status_is ∙ e))
-told_front text ended before after status (inr cut) own e = cut
+cut_off : (ran : Ran) (ending : IsAnswered ran) → ran.status ≡ statuses.SinkFault → IsCutOff (sent_of (session_for ran ending.answers)) (ended_status (session_for ran ending.answers)) ran.before.outlet ran.after.outlet ran.status
+cut_off ran ending e = told_front _ _ ran.before.outlet ran.after.outlet ran.status ending.told (session_sink ran.words (geometry_of ran) ending.answers) e
 
-memory_sink : (before after : Outlet) (status : Status) → IsTold (line_of refusals.NoMemory) statuses.NoMemory before after status → status ≢ statuses.SinkFault
-memory_sink before after status (inl sent) = λ e. (let h : statuses.NoMemory ≡ statuses.SinkFault = sym sent.status_is ∙ e in cc)
-memory_sink before after status (inr cut) = λ e. (let h : statuses.NoMemory ≡ statuses.SinkFault = sym cut.status_is ∙ e in cc)
-
-pub front_of : (words : List (List ℕ)) (folder folder' : Folder) (before after : Device) (outlet outlet' : Outlet) (status : Status) → IsSession words folder folder' before after outlet outlet' status → status ≡ statuses.SinkFault → SendsSessionFront words folder folder' before after outlet outlet'
-front_of words folder folder' before after outlet outlet' status (inl ending) e = record {
+pub front_of : (ran : Ran) → IsSession ran → ran.status ≡ statuses.SinkFault → SendsSessionFront ran
+front_of ran (inl ending) e = record {
   answers = ending.answers;
   answered = ending.answered;
-  front = (told_front _ _ outlet outlet' status ending.told (session_sink words before.geometry ending.answers) e).front;
+  front = (cut_off ran ending e).front;
 }
-front_of words folder folder' before after outlet outlet' status (inr memory) e = absurd (memory_sink outlet outlet' status memory.told e)
+front_of ran (inr memory) e = absurd (memory_sink ran.before.outlet ran.after.outlet ran.status memory.told e)
 
-told_cause : (text : List ℕ) (ended : Status) (before after : Outlet) (status : Status) → IsTold text ended before after status → ended ≢ statuses.SinkFault → status ≡ statuses.SinkFault → Rose before.faults after.faults
-told_cause text ended before after status told own e = (told_front text ended before after status told own e).cause
-
-pub sink_fault_of : (words : List (List ℕ)) (folder folder' : Folder) (before after : Device) (outlet outlet' : Outlet) (status : Status) → IsSession words folder folder' before after outlet outlet' status → outlet.faults ≤ outlet'.faults → HasCause outlet.faults outlet'.faults (status ≡ statuses.SinkFault)
-sink_fault_of words folder folder' before after outlet outlet' status (inl ending) later = record {
+pub sink_fault_of : (ran : Ran) → IsSession ran → ran.before.outlet.faults ≤ ran.after.outlet.faults → ComesByOutlet statuses.SinkFault ran
+sink_fault_of ran (inl ending) later = record {
   later = later;
-  rose = λ e. told_cause _ _ outlet outlet' status ending.told (session_sink words before.geometry ending.answers) e;
+  rose = λ e. (cut_off ran ending e).cause;
 }
-sink_fault_of words folder folder' before after outlet outlet' status (inr memory) later = record {
+sink_fault_of ran (inr memory) later = record {
   later = later;
-  rose = λ e. absurd (memory_sink outlet outlet' status memory.told e);
+  rose = λ e. absurd (memory_sink ran.before.outlet ran.after.outlet ran.status memory.told e);
 }
 
--- where nothing failed, what was answered is what the files and the device hold
-looked_same : (shows : Result (Option (List ℕ)) Failed → Result (List ℕ) Refusal) (found : Result (Option (List ℕ)) Failed) (area : Option (List ℕ)) → (IsErr found → ⊥) → IfOk found (λ a. a ≡ area) → shows found ≡ shows (Ok area)
-looked_same shows (Ok found) area whole same = ap (λ a. shows (Ok a)) same
-looked_same shows (Err e) area whole same = absurd (whole refl)
+-- ---- what the work gave, and how it was told
 
-saved_same : (stride : ℕ) (rec : List ℕ) (before after : Device) (writes : Writes) → Leaves stride rec before after writes → (Rose before.faults after.faults → ⊥) → (saved writes ≡ saved AllDone) ⊎ (saved writes ≡ Err refusals.NoMemory)
-saved_same stride rec before after NotBegun left whole = inr refl
-saved_same stride rec before after AllDone left whole = inl refl
-saved_same stride rec before after (FailedAt copy) left whole = absurd (whole left.cause)
+fault_memory : (fault : CopyFault) → takes_memory (copy_refusal fault) ≡ false
+fault_memory faults.ReadFault = refl
+fault_memory (faults.WriteFault copy) = refl
+fault_memory faults.Unsure = refl
 
-look_fault : (words : List (List ℕ)) (folder folder' : Folder) (before after : Device) (answers : Answers) → AreAnswers words folder folder' before after answers → IsErr answers.look → MayHaveFailed words before after
-look_fault words folder folder' before after answers answered err = record { fault = answered.looked.fault err; read = λ none. answered.looked.cause err }
+-- a refusal whose line takes memory is that of a plan
+lined_plan : (plan : Result Plan Refusal) (from to : Device) (answers : Answers) (refusal : Refusal) → takes_memory refusal ≡ true → IsFollowed plan from to answers → (followed plan answers).refusal ≡ Some refusal → to ≡ from
+lined_plan (Ok plan) from to answers refusal takes work h =
+    let fault = work_fault plan.work plan from to answers.load answers.saves refusal refl work h in
+    absurd (let e : false ≡ true = sym (fault_memory fault.fault) ∙ ap takes_memory (sym fault.is) ∙ takes in cc)
+lined_plan (Err other) from to answers refusal takes work h = work
 
--- these answers, of a plan, are those of nothing but what is held
-held_answers : FileAnswer → Result Plan Refusal → Image → Answers
-held_answers file plan image = record { file = file; look = Ok (look_for plan image); writes = AllDone }
+ok_err : {X Y : Type 0} → (x : X) (y : Y) → ◌≡◌ {A = Result X Y} (Ok x) (Err y) → ⊥
+ok_err x y h = cc
 
-work_same : (words : List (List ℕ)) (folder folder' : Folder) (before after : Device) (answers : Answers) → AreAnswers words folder folder' before after answers → (MayHaveFailed words before after → ⊥) → (image : Image) → content before ≡ Some image → (plan : Plan) → planned words before.geometry answers.file ≡ Ok plan → (file : FileAnswer) → (worked plan answers ≡ worked plan (held_answers file (Ok plan) image)) ⊎ (worked plan answers ≡ Err refusals.NoMemory)
-unfolding held_answers
-work_same words folder folder' before after answers answered whole image told (RawLook kind stride) is file =
-    inl (looked_same looked answers.look (look_for (Ok (RawLook kind stride)) image) (λ err. whole (look_fault words folder folder' before after answers answered err)) (subst (λ (p : Result Plan Refusal). IfOk answers.look (λ area. area ≡ look_for p image)) is (answered.looked.told image told)))
-work_same words folder folder' before after answers answered whole image told (StateLook laid outputs) is file =
-    inl (looked_same (shown laid outputs) answers.look (look_for (Ok (StateLook laid outputs)) image) (λ err. whole (look_fault words folder folder' before after answers answered err)) (subst (λ (p : Result Plan Refusal). IfOk answers.look (λ area. area ≡ look_for p image)) is (answered.looked.told image told)))
-work_same words folder folder' before after answers answered whole image told (RawSave stride rec) is file =
-    let saving = saving_words words before.geometry answers.file stride rec is in
-    saved_same saving.stride (record_of saving) before after answers.writes (answered.saved saving).left (λ rose. whole (record { fault = rose; read = λ none. absurd (none saving) }))
+err_same : (one two : Refusal) → ◌≡◌ {A = Result (List ℕ) Refusal} (Err one) (Err two) → one ≡ two
+err_same one two h = cc
 
-plan_same : (words : List (List ℕ)) (folder folder' : Folder) (before after : Device) (answers : Answers) → AreAnswers words folder folder' before after answers → (MayHaveFailed words before after → ⊥) → (image : Image) → content before ≡ Some image → (plan : Result Plan Refusal) → planned words before.geometry answers.file ≡ plan → (file : FileAnswer) → (followed plan answers ≡ followed plan (held_answers file plan image)) ⊎ (followed plan answers ≡ Err refusals.NoMemory)
-plan_same words folder folder' before after answers answered whole image told (Ok plan) is file = work_same words folder folder' before after answers answered whole image told plan is file
-plan_same words folder folder' before after answers answered whole image told (Err refusal) is file = inl refl
+-- the line of want of memory was told
+memory_told : (ran : Ran) (refusal : Refusal) → refusal ≡ refusals.NoMemory → IsToldRefusal refusal ran.before.outlet ran.after.outlet ran.status → Tells ran (line_of refusals.NoMemory) statuses.NoMemory
+memory_told ran refusal same (inl told) = subst (λ (r : Refusal). Tells ran (line_of r) (status_of r)) same told
+memory_told ran refusal same (inr memory) = memory.1
 
--- the session is that of what is held, where the plan is
-session_same : (words : List (List ℕ)) (folder folder' : Folder) (before after : Device) (answers : Answers) → AreAnswers words folder folder' before after answers → (MayHaveFailed words before after → ⊥) → (files : FileMap) → planned words before.geometry answers.file ≡ planned words before.geometry (file_for words files) → (image : Image) → content before ≡ Some image → (session_of words before.geometry answers ≡ session_of words before.geometry (answers_of words before.geometry files image)) ⊎ (session_of words before.geometry answers ≡ Err refusals.NoMemory)
-unfolding held_answers
-session_same words folder folder' before after answers answered whole files same image told =
-    elim (plan_same words folder folder' before after answers answered whole image told (planned words before.geometry answers.file) refl (file_for words files)) [
-      | inl worked_so ↦ inl (worked_so ∙ ap (λ (p : Result Plan Refusal). followed p (held_answers (file_for words files) p image)) same)
-      | inr memory ↦ inr memory
-    ]
-
-session_told : (words : List (List ℕ)) (folder folder' : Folder) (before after : Device) (answers : Answers) → AreAnswers words folder folder' before after answers → (Rose folder.faults folder'.faults → ⊥) → (MayHaveFailed words before after → ⊥) → (files : FileMap) → folder.told ≡ Some files → (image : Image) → content before ≡ Some image → (session_of words before.geometry answers ≡ session_of words before.geometry (answers_of words before.geometry files image)) ⊎ (session_of words before.geometry answers ≡ Err refusals.NoMemory)
-session_told words folder folder' before after answers answered calm whole files known image told =
-    elim (same_plan words before.geometry folder folder' answers.file answered.filed files known) [
-      | inl same ↦ session_same words folder folder' before after answers answered whole files same image told
-      | inr odd ↦ elim odd [
-        | inl faulty ↦ absurd (
-            let named = faulty_words words before.geometry answers.file (words_of words) refl faulty.refused in
-            calm ((answered.filed.read named.command named.words_are).cause named.fault))
-        | inr memory ↦ inr (ap (λ (p : Result Plan Refusal). followed p answers) memory)
-      ]
-    ]
-
-told_whole : (text : List ℕ) (ended : Status) (before after : Outlet) (status : Status) → IsTold text ended before after status → (Rose before.faults after.faults → ⊥) → IsSent text ended before after status
-told_whole text ended before after status (inl sent) whole = sent
-told_whole text ended before after status (inr cut) whole = absurd (whole cut.cause)
-
--- what was sent whole of a session is sent of each that is the same
-told_same : (given other : Result (List ℕ) Refusal) (outlet outlet' : Outlet) (status : Status) → IsTold (ended_text given) (ended_status given) outlet outlet' status → (Rose outlet.faults outlet'.faults → ⊥) → (given ≡ other) ⊎ (given ≡ Err refusals.NoMemory) → IsSent (ended_text other) (ended_status other) outlet outlet' status ⊎ (status ≡ statuses.NoMemory)
-told_same given other outlet outlet' status told sent (inl same) =
-    inl (subst (λ (r : Result (List ℕ) Refusal). IsSent (ended_text r) (ended_status r) outlet outlet' status) same (told_whole _ _ outlet outlet' status told sent))
-told_same given other outlet outlet' status told sent (inr memory) = inr ((told_whole _ _ outlet outlet' status told sent).status_is ∙ ap ended_status memory)
-
-pub undisturbed_of : (words : List (List ℕ)) (folder folder' : Folder) (before after : Device) (outlet outlet' : Outlet) (status : Status) → IsSession words folder folder' before after outlet outlet' status → (Rose folder.faults folder'.faults → ⊥) → (MayHaveFailed words before after → ⊥) → (Rose outlet.faults outlet'.faults → ⊥) → (files : FileMap) → folder.told ≡ Some files → (image : Image) → content before ≡ Some image → IsSent (ended_text (session_of words before.geometry (answers_of words before.geometry files image))) (ended_status (session_of words before.geometry (answers_of words before.geometry files image))) outlet outlet' status ⊎ (status ≡ statuses.NoMemory)
-undisturbed_of words folder folder' before after outlet outlet' status (inr memory) calm whole sent files known image told = inr (told_whole _ _ outlet outlet' status memory.told sent).status_is
-undisturbed_of words folder folder' before after outlet outlet' status (inl ending) calm whole sent files known image told =
-    told_same (session_of words before.geometry ending.answers) (session_of words before.geometry (answers_of words before.geometry files image)) outlet outlet' status ending.told sent
-    (session_told words folder folder' before after ending.answers ending.answered calm whole files known image told)
-
-pub undisturbed_alone_of : (words : List (List ℕ)) (folder folder' : Folder) (before after : Device) (outlet outlet' : Outlet) (status : Status) → IsSession words folder folder' before after outlet outlet' status → names_file words ≡ false → (MayHaveFailed words before after → ⊥) → (Rose outlet.faults outlet'.faults → ⊥) → (files : FileMap) → (image : Image) → content before ≡ Some image → IsSent (ended_text (session_of words before.geometry (answers_of words before.geometry files image))) (ended_status (session_of words before.geometry (answers_of words before.geometry files image))) outlet outlet' status ⊎ (status ≡ statuses.NoMemory)
-undisturbed_alone_of words folder folder' before after outlet outlet' status (inr memory) none whole sent files image told = inr (told_whole _ _ outlet outlet' status memory.told sent).status_is
-undisturbed_alone_of words folder folder' before after outlet outlet' status (inl ending) none whole sent files image told =
-    told_same (session_of words before.geometry ending.answers) (session_of words before.geometry (answers_of words before.geometry files image)) outlet outlet' status ending.told sent
-    (session_same words folder folder' before after ending.answers ending.answered whole files (alone_plan (words_of words) before.geometry ending.answers.file (file_for words files) none) image told)
-
--- a session that ends with a line that takes memory is no save
-abbrev is_written : Refusal → Bool
-is_written (refusals.BadWords place) = false
-is_written (refusals.BadTree e) = false
-is_written (refusals.BadLayout e) = false
-is_written (refusals.BadStateLayout e) = false
-is_written (refusals.BadVariable name) = false
-is_written (refusals.FileMissing file) = false
-is_written (refusals.FileFault file) = false
-is_written (refusals.FileTooLong file) = false
-is_written refusals.ReadFault = false
-is_written (refusals.WriteFault copy) = true
-is_written refusals.NoMemory = true
-
-saved_other : (writes : Writes) (refusal : Refusal) → is_written refusal ≡ false → saved writes ≢ Err refusal
-saved_other NotBegun refusal other = λ h. (let same : refusals.NoMemory ≡ refusal = cc in let e : true ≡ false = ap is_written same ∙ other in cc)
-saved_other AllDone refusal other = λ h. cc
-saved_other (FailedAt copy) refusal other = λ h. (let same : refusals.WriteFault copy ≡ refusal = cc in let e : true ≡ false = ap is_written same ∙ other in cc)
-
-no_save : (words : List (List ℕ)) (geometry : Geometry) (answers : Answers) (refusal : Refusal) → is_written refusal ≡ false → Err refusal ≡ session_of words geometry answers → IsSaving words geometry → ⊥
-no_save words geometry answers refusal other is saving = saved_other answers.writes refusal other (sym (session_saving words geometry answers saving) ∙ sym is)
-
-answered : (words : List (List ℕ)) (folder folder' : Folder) (before after : Device) (outlet outlet' : Outlet) (status : Status) (given : Result (List ℕ) Refusal) → IsGiven words folder folder' before after given → IsTold (ended_text given) (ended_status given) outlet outlet' status → IsSession words folder folder' before after outlet outlet' status
-answered words folder folder' before after outlet outlet' status given gives told = inl (record {
-  answers = gives.answers;
-  answered = gives.answered;
-  told = subst (λ (r : Result (List ℕ) Refusal). IsTold (ended_text r) (ended_status r) outlet outlet' status) gives.is told;
+-- the line of a refusal was told, before which no text was gathered
+pub refused : (ran : Ran) (refusal : Refusal) → IsGiven ran.words ran.before.folder ran.after.folder ran.before.device ran.after.device (Err refusal) → IsToldRefusal refusal ran.before.outlet ran.after.outlet ran.status → IsSession ran
+refused ran refusal (inl given) (inl told) =
+    let session = session_for ran given.answers in
+    let ended : ended_status session ≡ status_of refusal = ap (λ (r : Option Refusal). option_map_or status_of r statuses.Done) given.gives.1 in
+    let line : sent_of session ≡ line_of refusal =
+    ap (λ (r : Option Refusal). option_map_or (λ e. session.text ++ line_of e) r session.text) given.gives.1
+    ∙ ap (λ (text : List ℕ). text ++ line_of refusal) given.gives.0 in
+    inl (record {
+      answers = given.answers;
+      answered = given.answered;
+      told = subst (λ (text : List ℕ). Tells ran text (ended_status session)) (sym line) (subst (λ (status : Status). Tells ran (line_of refusal) status) (sym ended) told);
+    })
+refused ran refusal (inl given) (inr memory) = inr (record {
+  told = memory.1;
+  work = inl (lined_plan (planned ran.words (geometry_of ran) given.answers.file) ran.before.device ran.after.device given.answers refusal memory.0 given.answered.followed given.gives.1);
+})
+refused ran refusal (inr (inl given)) told = inr (record {
+  told = memory_told ran refusal (err_same refusal refusals.NoMemory given.is) told;
+  work = inr (record { answers = given.answers; answered = given.answered; whole = given.whole });
+})
+refused ran refusal (inr (inr given)) told = inr (record {
+  told = memory_told ran refusal (err_same refusal refusals.NoMemory given.is) told;
+  work = inl given.unasked;
 })
 
--- a line that takes memory was told
-told_line : (words : List (List ℕ)) (folder folder' : Folder) (before after : Device) (outlet outlet' : Outlet) (status : Status) (refusal : Refusal) → is_written refusal ≡ false → IsGiven words folder folder' before after (Err refusal) ⊎ IsRefusedMemory before after (Err refusal) → IsToldLine refusal outlet outlet' status → IsSession words folder folder' before after outlet outlet' status
-told_line words folder folder' before after outlet outlet' status refusal other (inl gives) (inl told) = answered words folder folder' before after outlet outlet' status _ gives told
-told_line words folder folder' before after outlet outlet' status refusal other (inl gives) (inr told) = inr (record {
-  told = told;
-  quiet = gives.answered.other (no_save words before.geometry gives.answers refusal other gives.is);
-})
-told_line words folder folder' before after outlet outlet' status refusal other (inr memory) told = absurd (
-    let h = memory.is in
-    let same : refusal ≡ refusals.NoMemory = cc in
-    let e : false ≡ true = sym other ∙ ap is_written same in
-    cc)
-
--- the line of a refusal was told
-pub refused : (words : List (List ℕ)) (folder folder' : Folder) (before after : Device) (outlet outlet' : Outlet) (status : Status) (refusal : Refusal) → IsGiven words folder folder' before after (Err refusal) ⊎ IsRefusedMemory before after (Err refusal) → IsToldRefusal refusal outlet outlet' status → IsSession words folder folder' before after outlet outlet' status
-refused words folder folder' before after outlet outlet' status (refusals.BadWords place) gives told = told_line words folder folder' before after outlet outlet' status (refusals.BadWords place) refl gives told
-refused words folder folder' before after outlet outlet' status (refusals.BadTree e) gives told = told_line words folder folder' before after outlet outlet' status (refusals.BadTree e) refl gives told
-refused words folder folder' before after outlet outlet' status (refusals.BadStateLayout e) gives told = told_line words folder folder' before after outlet outlet' status (refusals.BadStateLayout e) refl gives told
-refused words folder folder' before after outlet outlet' status (refusals.BadVariable name) gives told = told_line words folder folder' before after outlet outlet' status (refusals.BadVariable name) refl gives told
-refused words folder folder' before after outlet outlet' status (refusals.FileMissing file) gives told = told_line words folder folder' before after outlet outlet' status (refusals.FileMissing file) refl gives told
-refused words folder folder' before after outlet outlet' status (refusals.FileFault file) gives told = told_line words folder folder' before after outlet outlet' status (refusals.FileFault file) refl gives told
-refused words folder folder' before after outlet outlet' status (refusals.FileTooLong file) gives told = told_line words folder folder' before after outlet outlet' status (refusals.FileTooLong file) refl gives told
-refused words folder folder' before after outlet outlet' status (refusals.BadLayout e) (inl gives) told = answered words folder folder' before after outlet outlet' status _ gives told
-refused words folder folder' before after outlet outlet' status (refusals.BadLayout e) (inr memory) told = absurd (let h = memory.is in cc)
-refused words folder folder' before after outlet outlet' status refusals.ReadFault (inl gives) told = answered words folder folder' before after outlet outlet' status _ gives told
-refused words folder folder' before after outlet outlet' status refusals.ReadFault (inr memory) told = absurd (let h = memory.is in cc)
-refused words folder folder' before after outlet outlet' status (refusals.WriteFault copy) (inl gives) told = answered words folder folder' before after outlet outlet' status _ gives told
-refused words folder folder' before after outlet outlet' status (refusals.WriteFault copy) (inr memory) told = absurd (let h = memory.is in cc)
-refused words folder folder' before after outlet outlet' status refusals.NoMemory (inl gives) told = answered words folder folder' before after outlet outlet' status _ gives told
-refused words folder folder' before after outlet outlet' status refusals.NoMemory (inr memory) told = inr (record { told = told; quiet = memory.quiet })
+-- the text of a session was told that wasn't refused
+pub done : (ran : Ran) (text : List ℕ) → IsGiven ran.words ran.before.folder ran.after.folder ran.before.device ran.after.device (Ok text) → Tells ran text statuses.Done → IsSession ran
+done ran text (inr (inl given)) told = absurd (ok_err text refusals.NoMemory given.is)
+done ran text (inr (inr given)) told = absurd (ok_err text refusals.NoMemory given.is)
+done ran text (inl given) told =
+    let session = session_for ran given.answers in
+    let ended : ended_status session ≡ statuses.Done = ap (λ (r : Option Refusal). option_map_or status_of r statuses.Done) given.gives.1 in
+    let whole : sent_of session ≡ text = ap (λ (r : Option Refusal). option_map_or (λ e. session.text ++ line_of e) r session.text) given.gives.1 ∙ given.gives.0 in
+    inl (record {
+      answers = given.answers;
+      answered = given.answered;
+      told = subst (λ (t : List ℕ). Tells ran t (ended_status session)) (sym whole) (subst (λ (status : Status). Tells ran text status) (sym ended) told);
+    })

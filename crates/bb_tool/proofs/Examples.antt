@@ -1,20 +1,17 @@
--- Worked sessions and strides, by computation alone.
-use Rattle.std.proofs.Common.{◌≡◌, ℕ, List, [], ◌∷◌, ◌++◌, refl, codes, replicate, Some, None, Ok, Err}
-use Rattle.bb_base.specs.Crc.{divided, divided_8, after_byte}
-use Rattle.bb_base.specs.declared.failed.Failed.{Failed}
+-- Worked sessions, by computation alone.
+use Rattle.std.proofs.Common.{◌≡◌, ℕ, List, [], ◌∷◌, refl, codes, Some, None, Ok, Err}
+use Rattle.bb_copies.specs.declared.answers.CopyFault.TheVariants as faults
 use Rattle.bb_flash.specs.declared.geometry.Geometry.{Geometry}
-use Rattle.bb_flash.specs.declared.health.Health.TheVariants.{Fine}
-use Rattle.bb_flash.specs.Image.{Image}
 use Rattle.bb_words.specs.Words.{words_from}
 use Rattle.hex.specs.Hex.{decode_pairs, encode_with}
 use Rattle.std.specs.Fmt.{digits}
-use Rattle.bb_tool.specs.AfterSave.{but_first}
-use Rattle.bb_tool.specs.Layout.{stride_of}
-use Rattle.bb_tool.specs.Looking.{first_of, first_passing, look_text, passing_of, region_in, thirds}
+use Rattle.bb_layout.specs.declared.layout_error.LayoutError.TheVariants.{BadProp}
+use Rattle.bb_state.specs.declared.error.StateError.TheVariants as state_errors
+use Rattle.bb_vars.specs.declared.value_error.ValueError.TheVariants as value_errors
+use Rattle.bb_tool.specs.Looking.{first_found, look_text}
 use Rattle.bb_tool.specs.Refusal.{line_of}
-use Rattle.bb_tool.specs.Session.{NotBegun, AllDone, FailedAt, session_of}
-use Rattle.bb_tool.specs.declared.layout.LayoutError.TheVariants.{StorageType, TooSmall}
-use Rattle.bb_tool.specs.declared.refusal.Refusal.TheVariants.{BadWords, BadLayout, ReadFault, WriteFault, NoMemory}
+use Rattle.bb_tool.specs.Session.{done_with, refused_for, sent_of, session_of}
+use Rattle.bb_tool.specs.declared.refusal.Refusal.TheVariants.{BadWords, BadLayout, BadVariable, ReadFault, WriteFault}
 
 in_place : Geometry
 in_place = record { page = 1; block = 0; size = 192 }
@@ -22,61 +19,8 @@ in_place = record { page = 1; block = 0; size = 192 }
 with_blocks : Geometry
 with_blocks = record { page = 256; block = 65536; size = 1048576 }
 
--- three strides of 64 bytes hold an area of 40 bytes, and none of 41
-strides_of_64_bytes : stride_of in_place 40 ≡ Ok 64
-unfolding in_place
-strides_of_64_bytes = refl
-
-one_byte_more : stride_of in_place 41 ≡ Err TooSmall
-unfolding in_place
-one_byte_more = refl
-
-device_with_blocks : stride_of with_blocks 9 ≡ Err StorageType
-unfolding with_blocks
-device_with_blocks = refl
-
--- the front and the record of `123456789` under the magic 0x12345678, up to the area
-entry_front : List ℕ
-entry_front =
-    0xf3 ∷ 0xfd ∷ 0x54 ∷ 0x23 ∷ 25 ∷ 0 ∷ 0 ∷ 0
-    ∷ 0x78 ∷ 0x56 ∷ 0x34 ∷ 0x12 ∷ 0 ∷ 0 ∷ 9 ∷ 0 ∷ 0x26 ∷ 0x39 ∷ 0xf4 ∷ 0xcb ∷ 0x03 ∷ 0x2e ∷ 0x3c ∷ 0xdf ∷ []
-
--- a stride of 64 bytes with that front and these 9 bytes
-stride_with : List ℕ → List ℕ
-stride_with area = entry_front ++ area ++ replicate 31 0xff
-
--- a device of three such strides
-device_with : List ℕ → List ℕ → List ℕ → Image
-device_with first second third = record {
-  bytes = stride_with first ++ stride_with second ++ stride_with third;
-  health = replicate 192 Fine;
-}
-
-written : Image
-unfolding device_with stride_with entry_front
-written = device_with (codes "123456789") (codes "123456789") (codes "123456789")
-
-first_copy_passes : passing_of (record { magic = 0x12345678; area_len = 9 }) (region_in (thirds 64) 0) written ≡ Some (codes "123456789")
-unfolding written device_with stride_with entry_front after_byte divided_8 divided
-first_copy_passes = refl
-
--- the first byte of the area is another one in copies 0 and 1
-third_copy_passes : first_passing (record { magic = 0x12345678; area_len = 9 }) (thirds 64) (device_with (codes "023456789") (codes "023456789") (codes "123456789")) ≡ Some (codes "123456789")
-unfolding first_of device_with stride_with entry_front after_byte divided_8 divided
-third_copy_passes = refl
-
-no_copy_passes : first_passing (record { magic = 0x12345678; area_len = 9 }) (thirds 64) (record { bytes = replicate 192 0xff; health = replicate 192 Fine }) ≡ None
-unfolding first_of
-no_copy_passes = refl
-
--- the copies but the first are the second and the third
-only_the_first_passes : first_passing (record { magic = 0x12345678; area_len = 9 }) (but_first 64) (device_with (codes "123456789") (codes "023456789") (codes "023456789")) ≡ None
-unfolding first_of device_with stride_with entry_front after_byte divided_8 divided
-only_the_first_passes = refl
-
-second_copy_passes : first_passing (record { magic = 0x12345678; area_len = 9 }) (but_first 64) (device_with (codes "023456789") (codes "123456789") (codes "023456789")) ≡ Some (codes "123456789")
-unfolding first_of device_with stride_with entry_front after_byte divided_8 divided
-second_copy_passes = refl
+the_first_that_passes : first_found (None ∷ Some (codes "b") ∷ Some (codes "a") ∷ []) ≡ Some (codes "b")
+the_first_that_passes = refl
 
 text_of_an_area : look_text (Some (codes "123456789")) ≡ codes "313233343536373839\n"
 unfolding encode_with
@@ -92,32 +36,34 @@ save : List (List ℕ)
 save = codes "raw" ∷ codes "0x12345678" ∷ codes "9" ∷ codes "-s" ∷ codes "313233343536373839" ∷ []
 
 -- a session for what the device answered
-found : session_of look in_place (record { file = Ok None; look = Ok (Some (codes "123456789")); writes = NotBegun }) ≡ Ok (codes "313233343536373839\n")
+found : session_of look in_place (record { file = Ok None; load = Ok (Some (codes "123456789")); saves = [] }) ≡ done_with (codes "313233343536373839\n")
 unfolding look in_place words_from encode_with
 found = refl
 
-unread : (failed : Failed) → session_of look in_place (record { file = Ok None; look = Err failed; writes = NotBegun }) ≡ Err ReadFault
+unread : session_of look in_place (record { file = Ok None; load = Err faults.ReadFault; saves = [] }) ≡ refused_for ReadFault
 unfolding look in_place words_from
-unread failed = refl
+unread = refl
 
-saved_without_a_text : session_of save in_place (record { file = Ok None; look = Ok None; writes = AllDone }) ≡ Ok []
+-- a save is begun of the area that was loaded too, and sends nothing
+saved_anew : session_of save in_place (record { file = Ok None; load = Ok (Some (codes "123456789")); saves = Ok tt ∷ [] }) ≡ record { text = []; refusal = None; saves = codes "123456789" ∷ [] }
 unfolding save in_place words_from decode_pairs
-saved_without_a_text = refl
+saved_anew = refl
 
-second_write_failed : session_of save in_place (record { file = Ok None; look = Ok None; writes = FailedAt 1 }) ≡ Err (WriteFault 1)
+second_copy_not_written : session_of save in_place (record { file = Ok None; load = Ok None; saves = Err (faults.WriteFault 1) ∷ [] }) ≡ record { text = []; refusal = Some (WriteFault 1); saves = codes "123456789" ∷ [] }
 unfolding save in_place words_from decode_pairs
-second_write_failed = refl
+second_copy_not_written = refl
 
-save_without_memory : session_of save in_place (record { file = Ok None; look = Ok None; writes = NotBegun }) ≡ Err NoMemory
+-- where the load is refused no save is begun
+load_not_settled : session_of save in_place (record { file = Ok None; load = Err (faults.WriteFault 2); saves = [] }) ≡ refused_for (WriteFault 2)
 unfolding save in_place words_from decode_pairs
-save_without_memory = refl
+load_not_settled = refl
 
-save_on_blocks : session_of save with_blocks (record { file = Ok None; look = Ok None; writes = AllDone }) ≡ Err (BadLayout StorageType)
+save_on_blocks : session_of save with_blocks (record { file = Ok None; load = Ok None; saves = Ok tt ∷ [] }) ≡ refused_for (BadLayout (BadProp (codes "backend-storage-type")))
 unfolding save with_blocks words_from decode_pairs
 save_on_blocks = refl
 
 -- the third word is missing
-missing_word : session_of (codes "raw" ∷ codes "1" ∷ []) in_place (record { file = Ok None; look = Ok None; writes = AllDone }) ≡ Err (BadWords 2)
+missing_word : session_of (codes "raw" ∷ codes "1" ∷ []) in_place (record { file = Ok None; load = Ok None; saves = Ok tt ∷ [] }) ≡ refused_for (BadWords 2)
 unfolding in_place words_from
 missing_word = refl
 
@@ -125,10 +71,19 @@ line_of_the_third_word : line_of (BadWords 2) ≡ codes "fault 1 BadWords 3\n"
 unfolding digits
 line_of_the_third_word = refl
 
-line_of_copy_0 : line_of (WriteFault 0) ≡ codes "fault 9 WriteFault 0\n"
+line_of_a_number : line_of (BadVariable (codes "n") (state_errors.Value value_errors.TooLarge)) ≡ codes "fault 4 BadVariable n TooLarge\n"
 unfolding digits
-line_of_copy_0 = refl
+line_of_a_number = refl
+
+line_of_a_name : line_of (BadVariable (codes "nope") state_errors.NoSuchVariable) ≡ codes "fault 4 BadVariable nope NoSuchVariable\n"
+unfolding digits
+line_of_a_name = refl
 
 line_of_copy_2 : line_of (WriteFault 2) ≡ codes "fault 9 WriteFault 2\n"
 unfolding digits
 line_of_copy_2 = refl
+
+-- the line of a refusal stands behind the text
+line_behind_the_text : sent_of (record { text = codes "a\n"; refusal = Some ReadFault; saves = [] }) ≡ codes "a\nfault 8 ReadFault\n"
+unfolding digits
+line_behind_the_text = refl

@@ -1,12 +1,14 @@
-pub mod AfterSave
+pub mod Copies
 pub mod Endings
-pub mod Examples
+mod Examples
 pub mod Given
-pub mod Holds
+pub mod Kept
 pub mod Lines
-pub mod Looked
-pub mod Passing
 pub mod Plans
 pub mod Quiet
-pub mod Saves
 pub mod Sources
+pub mod Told
+pub mod Turns
+pub mod Wholes
+pub mod Worked
+pub mod Works

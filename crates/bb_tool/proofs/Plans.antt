@@ -6,21 +6,19 @@ use Rattle.bb_dts.specs.Source.{Read, source_of}
 use Rattle.bb_dts.specs.declared.error.DtsError.{DtsError}
 use Rattle.bb_flash.specs.declared.geometry.Geometry.{Geometry}
 use Rattle.bb_layout.specs.Layout.{Laid, layout_from}
-use Rattle.bb_layout.specs.declared.layout_error.LayoutError.{LayoutError as TreeLayoutError}
-use Rattle.bb_output.specs.Output.{unknown_of}
+use Rattle.bb_layout.specs.Thirds.{raw_layout}
+use Rattle.bb_layout.specs.declared.layout_error.LayoutError.{LayoutError}
+use Rattle.bb_actions.specs.Actions.{misfit_of}
+use Rattle.bb_state.specs.declared.error.StateError.{StateError}
 use Rattle.bb_words.specs.Words.{words_of}
 use Rattle.bb_words.specs.declared.command.Command.{Command}
 use Rattle.bb_words.specs.declared.command.Command.TheVariants.{Raw, State}
-use Rattle.bb_words.specs.declared.command.Output.{Output}
-use Rattle.bb_words.specs.declared.command.RawAction.{RawAction}
-use Rattle.bb_words.specs.declared.command.RawAction.TheVariants.{Look, Write}
+use Rattle.bb_words.specs.declared.command.Action.{Action}
 use Rattle.bb_words.specs.declared.command.RawCommand.{RawCommand}
 use Rattle.bb_words.specs.declared.command.StateCommand.{StateCommand}
-use Rattle.bb_tool.specs.Ending.{IsRefusedWith, IsSaving, record_of}
+use Rattle.bb_tool.specs.Calls.{IsRefusedWith}
 use Rattle.bb_tool.specs.Filing.{IsFiled}
-use Rattle.bb_tool.specs.Layout.{stride_of}
-use Rattle.bb_tool.specs.Plan.{FileAnswer, Plan, RawLook, RawSave, StateLook, file_for, file_named, has_file, plan_of, planned, raw_laid, raw_work, state_laid, state_named, state_plan, state_read}
-use Rattle.bb_tool.specs.declared.layout.LayoutError.{LayoutError}
+use Rattle.bb_tool.specs.Plan.{FileAnswer, Plan, file_for, file_named, has_file, plan_of, planned, raw_laid, state_laid, state_named, state_plan, state_read}
 use Rattle.bb_tool.specs.declared.refusal.Refusal.{Refusal}
 use Rattle.bb_tool.specs.declared.refusal.Refusal.TheVariants as refusals
 use Rattle.bb_tool.specs.declared.status.Status.{Status}
@@ -28,21 +26,21 @@ use Rattle.bb_tool.specs.declared.status.Status.TheVariants as statuses
 
 -- P holds of whatever the command `state` may plan
 pub record HoldsForState (P : Result Plan Refusal → Type 0) : Type 0 where
-  shows : (laid : Laid) (outputs : List Output) → P (Ok (StateLook laid outputs))
+  shows : (plan : Plan) → P (Ok plan)
   tree : (e : DtsError) → P (Err (refusals.BadTree e))
-  layout : (e : TreeLayoutError) → P (Err (refusals.BadStateLayout e))
-  variable : (name : List ℕ) → P (Err (refusals.BadVariable name))
+  layout : (e : LayoutError) → P (Err (refusals.BadLayout e))
+  variable : (name : List ℕ) (cause : StateError) → P (Err (refusals.BadVariable name cause))
   missing : (file : List ℕ) → P (Err (refusals.FileMissing file))
   fault : (file : List ℕ) → P (Err (refusals.FileFault file))
   long : (file : List ℕ) → P (Err (refusals.FileTooLong file))
   memory : P (Err refusals.NoMemory)
 
-named_all : (P : Result Plan Refusal → Type 0) → HoldsForState P → (laid : Laid) (outputs : List Output) (unknown : Option (List ℕ)) → P (state_named laid outputs unknown)
-named_all P holds laid outputs None = holds.shows laid outputs
-named_all P holds laid outputs (Some name) = holds.variable name
+named_all : (P : Result Plan Refusal → Type 0) → HoldsForState P → (laid : Laid) (actions : List Action) (misfit : Option (List ℕ × StateError)) → P (state_named laid actions misfit)
+named_all P holds laid actions None = holds.shows _
+named_all P holds laid actions (Some misfit) = holds.variable misfit.0 misfit.1
 
-laid_all : (P : Result Plan Refusal → Type 0) → HoldsForState P → (command : StateCommand) (laid : Result Laid TreeLayoutError) → P (state_laid command laid)
-laid_all P holds command (Ok laid) = named_all P holds laid command.outputs (unknown_of laid.vars command.outputs)
+laid_all : (P : Result Plan Refusal → Type 0) → HoldsForState P → (command : StateCommand) (laid : Result Laid LayoutError) → P (state_laid command laid)
+laid_all P holds command (Ok laid) = named_all P holds laid command.actions (misfit_of laid.vars command.actions)
 laid_all P holds command (Err e) = holds.layout e
 
 read_all : (P : Result Plan Refusal → Type 0) → HoldsForState P → (command : StateCommand) (geometry : Geometry) (read : Result Read DtsError) → P (state_read command geometry read)
@@ -78,90 +76,46 @@ not_refusal a b e first second = let h : true ≡ false = sym first ∙ ap is_re
 
 state_refusal : (answer : Status) → is_refusal answer ≡ false → HoldsForState (λ plan. IsRefusedWith answer plan → ⊥)
 state_refusal answer never = record {
-  shows = λ laid outputs refused. refused;
+  shows = λ plan refused. refused;
   tree = λ e refused. not_refusal statuses.BadTree answer refused refl never;
   layout = λ e refused. not_refusal statuses.BadLayout answer refused refl never;
-  variable = λ name refused. not_refusal statuses.BadVariable answer refused refl never;
+  variable = λ name cause refused. not_refusal statuses.BadVariable answer refused refl never;
   missing = λ file refused. not_refusal statuses.FileMissing answer refused refl never;
   fault = λ file refused. not_refusal statuses.FileFault answer refused refl never;
   long = λ file refused. not_refusal statuses.FileTooLong answer refused refl never;
   memory = λ refused. not_refusal statuses.NoMemory answer refused refl never;
 }
 
-raw_refusal : (answer : Status) → is_refusal answer ≡ false → (command : RawCommand) (laid : Result ℕ LayoutError) → IsRefusedWith answer (raw_laid command laid) → ⊥
-raw_refusal answer never command (Ok stride) refused = refused
+raw_refusal : (answer : Status) → is_refusal answer ≡ false → (command : RawCommand) (laid : Result Laid LayoutError) → IsRefusedWith answer (raw_laid command laid) → ⊥
+raw_refusal answer never command (Ok layout) refused = refused
 raw_refusal answer never command (Err e) refused = not_refusal statuses.BadLayout answer refused refl never
 
 pub plan_refusal : (answer : Status) → is_refusal answer ≡ false → (command : Result Command ℕ) (geometry : Geometry) (file : FileAnswer) → IsRefusedWith answer (plan_of command geometry file) → ⊥
-plan_refusal answer never (Ok (Raw command)) geometry file refused = raw_refusal answer never command (stride_of geometry command.area_len) refused
+plan_refusal answer never (Ok (Raw command)) geometry file refused = raw_refusal answer never command (raw_layout command.magic command.area_len geometry) refused
 plan_refusal answer never (Ok (State command)) geometry file refused = state_all (λ plan. IsRefusedWith answer plan → ⊥) (state_refusal answer never) command geometry file refused
 plan_refusal answer never (Err place) geometry file refused = not_refusal statuses.BadWords answer refused refl never
 
 -- only words that are none are refused as such
 state_words : HoldsForState (λ plan. IsRefusedWith statuses.BadWords plan → ⊥)
 state_words = record {
-  shows = λ laid outputs refused. refused;
+  shows = λ plan refused. refused;
   tree = λ e refused. cc;
   layout = λ e refused. cc;
-  variable = λ name refused. cc;
+  variable = λ name cause refused. cc;
   missing = λ file refused. cc;
   fault = λ file refused. cc;
   long = λ file refused. cc;
   memory = λ refused. cc;
 }
 
-raw_words : (command : RawCommand) (laid : Result ℕ LayoutError) → IsRefusedWith statuses.BadWords (raw_laid command laid) → ⊥
-raw_words command (Ok stride) refused = refused
+raw_words : (command : RawCommand) (laid : Result Laid LayoutError) → IsRefusedWith statuses.BadWords (raw_laid command laid) → ⊥
+raw_words command (Ok layout) refused = refused
 raw_words command (Err e) refused = cc
 
 pub words_refused : (command : Result Command ℕ) (geometry : Geometry) (file : FileAnswer) → IsRefusedWith statuses.BadWords (plan_of command geometry file) → IsErr command
 words_refused (Err place) geometry file refused = refl
-words_refused (Ok (Raw command)) geometry file refused = absurd (raw_words command (stride_of geometry command.area_len) refused)
+words_refused (Ok (Raw command)) geometry file refused = absurd (raw_words command (raw_layout command.magic command.area_len geometry) refused)
 words_refused (Ok (State command)) geometry file refused = absurd (state_all (λ plan. IsRefusedWith statuses.BadWords plan → ⊥) state_words command geometry file refused)
-
--- ---- saves
-
-abbrev is_save_plan : Result Plan Refusal → Bool
-is_save_plan (Ok (RawLook kind stride)) = false
-is_save_plan (Ok (RawSave stride rec)) = true
-is_save_plan (Ok (StateLook laid outputs)) = false
-is_save_plan (Err refusal) = false
-
-state_saves : HoldsForState (λ plan. is_save_plan plan ≡ false)
-state_saves = record {
-  shows = λ laid outputs. refl;
-  tree = λ e. refl;
-  layout = λ e. refl;
-  variable = λ name. refl;
-  missing = λ file. refl;
-  fault = λ file. refl;
-  long = λ file. refl;
-  memory = refl;
-}
-
-action_saves : (words : List (List ℕ)) (geometry : Geometry) (command : RawCommand) → words_of words ≡ Ok (Raw command) → (stride : ℕ) → stride_of geometry command.area_len ≡ Ok stride → (action : RawAction) → command.action ≡ action → is_save_plan (Ok (raw_work command stride action)) ≡ true → IsSaving words geometry
-action_saves words geometry command is stride laid Look acts saves = absurd cc
-action_saves words geometry command is stride laid (Write area) acts saves = record { command = command; area = area; stride = stride; words_are = is; action_is = acts; stride_is = laid }
-
-laid_saves : (words : List (List ℕ)) (geometry : Geometry) (command : RawCommand) → words_of words ≡ Ok (Raw command) → (laid : Result ℕ LayoutError) → stride_of geometry command.area_len ≡ laid → is_save_plan (raw_laid command laid) ≡ true → IsSaving words geometry
-laid_saves words geometry command is (Ok stride) laid saves = action_saves words geometry command is stride laid command.action refl saves
-laid_saves words geometry command is (Err e) laid saves = absurd cc
-
-command_saves : (words : List (List ℕ)) (geometry : Geometry) (file : FileAnswer) (command : Result Command ℕ) → words_of words ≡ command → is_save_plan (plan_of command geometry file) ≡ true → IsSaving words geometry
-command_saves words geometry file (Err place) is saves = absurd cc
-command_saves words geometry file (Ok (Raw command)) is saves = laid_saves words geometry command is (stride_of geometry command.area_len) refl saves
-command_saves words geometry file (Ok (State command)) is saves = absurd (let e : true ≡ false = sym saves ∙ state_all (λ plan. is_save_plan plan ≡ false) state_saves command geometry file in cc)
-
--- words whose plan is a save are one
-pub saving_words : (words : List (List ℕ)) (geometry : Geometry) (file : FileAnswer) (stride : ℕ) (rec : List ℕ) → planned words geometry file ≡ Ok (RawSave stride rec) → IsSaving words geometry
-saving_words words geometry file stride rec is = command_saves words geometry file (words_of words) refl (ap is_save_plan is)
-
--- and the plan of a save is this
-pub saving_plan : (words : List (List ℕ)) (geometry : Geometry) (file : FileAnswer) (saving : IsSaving words geometry) → planned words geometry file ≡ Ok (RawSave saving.stride (record_of saving))
-saving_plan words geometry file saving =
-    ap (λ (w : Result Command ℕ). plan_of w geometry file) saving.words_are
-    ∙ ap (raw_laid saving.command) saving.stride_is
-    ∙ ap (λ (a : RawAction). Ok (raw_work saving.command saving.stride a)) saving.action_is
 
 -- where no file is named, the plan is the same whatever is answered of one
 pub alone_plan : (command : Result Command ℕ) (geometry : Geometry) (one two : FileAnswer) → has_file command ≡ false → plan_of command geometry one ≡ plan_of command geometry two
@@ -190,12 +144,12 @@ named_file (Ok (State command)) words is geometry folder folder' (Err file_fails
 pub same_plan : (words : List (List ℕ)) (geometry : Geometry) (folder folder' : Folder) (file : FileAnswer) → IsFiled words folder folder' file → (files : FileMap) → folder.told ≡ Some files → (planned words geometry file ≡ planned words geometry (file_for words files)) ⊎ (IsFaulty file (planned words geometry file) ⊎ (planned words geometry file ≡ Err refusals.NoMemory))
 same_plan words geometry folder folder' file filed files told = named_file (words_of words) words refl geometry folder folder' file filed files told
 
-no_named_fault : (laid : Laid) (outputs : List Output) (unknown : Option (List ℕ)) → IsRefusedWith statuses.FileFault (state_named laid outputs unknown) → ⊥
-no_named_fault laid outputs None refused = refused
-no_named_fault laid outputs (Some name) refused = cc
+no_named_fault : (laid : Laid) (actions : List Action) (misfit : Option (List ℕ × StateError)) → IsRefusedWith statuses.FileFault (state_named laid actions misfit) → ⊥
+no_named_fault laid actions None refused = refused
+no_named_fault laid actions (Some misfit) refused = cc
 
-no_laid_fault : (command : StateCommand) (laid : Result Laid TreeLayoutError) → IsRefusedWith statuses.FileFault (state_laid command laid) → ⊥
-no_laid_fault command (Ok laid) refused = no_named_fault laid command.outputs (unknown_of laid.vars command.outputs) refused
+no_laid_fault : (command : StateCommand) (laid : Result Laid LayoutError) → IsRefusedWith statuses.FileFault (state_laid command laid) → ⊥
+no_laid_fault command (Ok laid) refused = no_named_fault laid command.actions (misfit_of laid.vars command.actions) refused
 no_laid_fault command (Err e) refused = cc
 
 no_read_fault : (command : StateCommand) (geometry : Geometry) (read : Result Read DtsError) → IsRefusedWith statuses.FileFault (state_read command geometry read) → ⊥
@@ -210,8 +164,8 @@ state_faults command geometry (Err file_fails.Fault) refused = refl
 state_faults command geometry (Err file_fails.TooLong) refused = absurd cc
 state_faults command geometry (Err file_fails.NoMemory) refused = absurd cc
 
-raw_faults : (command : RawCommand) (laid : Result ℕ LayoutError) → IsRefusedWith statuses.FileFault (raw_laid command laid) → ⊥
-raw_faults command (Ok stride) refused = refused
+raw_faults : (command : RawCommand) (laid : Result Laid LayoutError) → IsRefusedWith statuses.FileFault (raw_laid command laid) → ⊥
+raw_faults command (Ok layout) refused = refused
 raw_faults command (Err e) refused = cc
 
 -- the file that the words name met a fault
@@ -222,5 +176,5 @@ pub record IsNamedFault (words : List (List ℕ)) (file : FileAnswer) : Type 0 w
 
 pub faulty_words : (words : List (List ℕ)) (geometry : Geometry) (file : FileAnswer) (command : Result Command ℕ) → words_of words ≡ command → IsRefusedWith statuses.FileFault (plan_of command geometry file) → IsNamedFault words file
 faulty_words words geometry file (Err place) is refused = absurd cc
-faulty_words words geometry file (Ok (Raw command)) is refused = absurd (raw_faults command (stride_of geometry command.area_len) refused)
+faulty_words words geometry file (Ok (Raw command)) is refused = absurd (raw_faults command (raw_layout command.magic command.area_len geometry) refused)
 faulty_words words geometry file (Ok (State command)) is refused = record { command = command; words_are = is; fault = state_faults command geometry file refused }

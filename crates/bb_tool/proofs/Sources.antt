@@ -21,7 +21,7 @@ use Rattle.bb_layout.specs.declared.layout_error.LayoutError.TheVariants as layo
 use Rattle.bb_words.specs.declared.command.StateCommand.{StateCommand}
 use Rattle.bb_tool.specs.Filing.{IsFileRead, IsPlanned, IsSourceRead}
 use Rattle.bb_tool.specs.Plan.{FileAnswer, state_laid, state_plan}
-use Rattle.bb_tool.specs.Refusal.{state_layout_refusal}
+use Rattle.bb_tool.specs.Refusal.{layout_refusal}
 use Rattle.bb_tool.specs.declared.refusal.Refusal.{Refusal}
 use Rattle.bb_tool.specs.declared.refusal.Refusal.TheVariants as refusals
 
@@ -55,7 +55,7 @@ source_memory name before after given is = subst (λ (r : Result (List ℕ) Refu
   source = λ some. absurd (some refl);
 })
 
-refused_layout : (command : StateCommand) (given : Result Laid LayoutError) (e : LayoutError) → (e ≢ layout_errors.NoMemory → given ≡ Err e) → state_layout_refusal e ≢ refusals.NoMemory → state_laid command given ≡ Err (state_layout_refusal e)
+refused_layout : (command : StateCommand) (given : Result Laid LayoutError) (e : LayoutError) → (e ≢ layout_errors.NoMemory → given ≡ Err e) → layout_refusal e ≢ refusals.NoMemory → state_laid command given ≡ Err (layout_refusal e)
 refused_layout command given layout_errors.NoState refused some = ap (state_laid command) (refused (λ h. cc))
 refused_layout command given (layout_errors.Missing prop) refused some = ap (state_laid command) (refused (λ h. cc))
 refused_layout command given (layout_errors.BadProp prop) refused some = ap (state_laid command) (refused (λ h. cc))
@@ -71,7 +71,7 @@ refused_layout command given layout_errors.NameTwice refused some = ap (state_la
 refused_layout command given layout_errors.NoMemory refused some = absurd (some refl)
 
 -- the layout that was refused, of a file that was read
-pub layout_planned : (command : StateCommand) (geometry : Geometry) (before after : Folder) (file : FileAnswer) (source : List ℕ) (tree : Read) (e : LayoutError) → IsFileRead command.file before after file → file ≡ Ok (Some source) → state_plan command geometry (Ok (Some source)) ≡ state_laid command (layout_from tree.root command.name geometry) → (e ≢ layout_errors.NoMemory → layout_from tree.root command.name geometry ≡ Err e) → IsPlanned command geometry before after (Err (state_layout_refusal e))
+pub layout_planned : (command : StateCommand) (geometry : Geometry) (before after : Folder) (file : FileAnswer) (source : List ℕ) (tree : Read) (e : LayoutError) → IsFileRead command.file before after file → file ≡ Ok (Some source) → state_plan command geometry (Ok (Some source)) ≡ state_laid command (layout_from tree.root command.name geometry) → (e ≢ layout_errors.NoMemory → layout_from tree.root command.name geometry ≡ Err e) → IsPlanned command geometry before after (Err (layout_refusal e))
 layout_planned command geometry before after file source tree e read is plans refused = record {
   file = file;
   read = read;
@@ -90,8 +90,7 @@ pub memory_or_not : (e : Refusal) → (e ≡ refusals.NoMemory) ⊎ (e ≢ refus
 memory_or_not (refusals.BadWords place) = inr (λ h. cc)
 memory_or_not (refusals.BadTree e) = inr (λ h. cc)
 memory_or_not (refusals.BadLayout e) = inr (λ h. cc)
-memory_or_not (refusals.BadStateLayout e) = inr (λ h. cc)
-memory_or_not (refusals.BadVariable name) = inr (λ h. cc)
+memory_or_not (refusals.BadVariable name cause) = inr (λ h. cc)
 memory_or_not (refusals.FileMissing file) = inr (λ h. cc)
 memory_or_not (refusals.FileFault file) = inr (λ h. cc)
 memory_or_not (refusals.FileTooLong file) = inr (λ h. cc)

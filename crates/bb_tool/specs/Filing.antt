@@ -9,9 +9,9 @@ use Rattle.bb_layout.specs.Layout.{laid}
 use Rattle.bb_layout.specs.declared.layout.Layout.{Layout}
 use Rattle.bb_words.specs.Words.{words_of}
 use Rattle.bb_words.specs.declared.command.Command.TheVariants.{State}
-use Rattle.bb_words.specs.declared.command.Output.{Output}
+use Rattle.bb_words.specs.declared.command.Action.{Action}
 use Rattle.bb_words.specs.declared.command.StateCommand.{StateCommand}
-use Rattle.bb_tool.specs.Plan.{FileAnswer, Plan, StateLook, state_plan}
+use Rattle.bb_tool.specs.Plan.{Act, FileAnswer, Plan, state_plan}
 use Rattle.bb_tool.specs.declared.refusal.Refusal.{Refusal}
 use Rattle.bb_tool.specs.declared.refusal.Refusal.TheVariants as refusals
 
@@ -60,12 +60,13 @@ pub record IsSourceRead (name : List ℕ) (before after : Folder) (given : Resul
   pub read : IsFileRead name before after file
   pub source : IsSource name file given
 
--- the layout to look at, or the refusal
-abbrev pub Plans : Result Plan Refusal → List Output → Result Layout Refusal → Type 0
-Plans plan outputs (Ok layout) = plan ≡ Ok (StateLook (laid layout) outputs)
-Plans plan outputs (Err e) = e ≢ refusals.NoMemory → plan ≡ Err e
+-- the layout whose copies are worked on, or the refusal
+abbrev pub Plans : Result Plan Refusal → List Action → Result Layout Refusal → Type 0
+Plans plan actions (Ok layout) = plan ≡ Ok (record { layout = laid layout; work = Act actions })
+Plans plan actions (Err e) = e ≢ refusals.NoMemory → plan ≡ Err e
 
-pub record IsPlanned (command : StateCommand) (geometry : Geometry) (before after : Folder) (given : Result Layout Refusal) : Type 0 where
+pub record IsPlanned (command : StateCommand) (geometry : Geometry) (before after : Folder)
+    (given : Result Layout Refusal) : Type 0 where
   pub file : FileAnswer
   pub read : IsFileRead command.file before after file
-  pub plans : Plans (state_plan command geometry file) command.outputs given
+  pub plans : Plans (state_plan command geometry file) command.actions given

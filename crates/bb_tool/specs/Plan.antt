@@ -8,19 +8,18 @@ use Rattle.bb_dts.specs.Source.{Read, source_of}
 use Rattle.bb_dts.specs.declared.error.DtsError.{DtsError}
 use Rattle.bb_flash.specs.declared.geometry.Geometry.{Geometry}
 use Rattle.bb_layout.specs.Layout.{Laid, layout_from}
-use Rattle.bb_layout.specs.declared.layout_error.LayoutError.{LayoutError as TreeLayoutError}
-use Rattle.bb_output.specs.Output.{unknown_of}
-use Rattle.bb_raw.specs.Raw.{Kind, raw_text}
+use Rattle.bb_layout.specs.Thirds.{raw_layout}
+use Rattle.bb_layout.specs.declared.layout_error.LayoutError.{LayoutError}
+use Rattle.bb_actions.specs.Actions.{misfit_of}
+use Rattle.bb_state.specs.declared.error.StateError.{StateError}
 use Rattle.bb_words.specs.Words.{words_of}
+use Rattle.bb_words.specs.declared.command.Action.{Action}
 use Rattle.bb_words.specs.declared.command.Command.{Command}
 use Rattle.bb_words.specs.declared.command.Command.TheVariants.{Raw, State}
-use Rattle.bb_words.specs.declared.command.Output.{Output}
 use Rattle.bb_words.specs.declared.command.RawAction.{RawAction}
-use Rattle.bb_words.specs.declared.command.RawAction.TheVariants.{Look, Write}
+use Rattle.bb_words.specs.declared.command.RawAction.TheVariants as raw_actions
 use Rattle.bb_words.specs.declared.command.RawCommand.{RawCommand}
 use Rattle.bb_words.specs.declared.command.StateCommand.{StateCommand}
-use Rattle.bb_tool.specs.Layout.{stride_of}
-use Rattle.bb_tool.specs.declared.layout.LayoutError.{LayoutError}
 use Rattle.bb_tool.specs.declared.refusal.Refusal.{Refusal}
 use Rattle.bb_tool.specs.declared.refusal.Refusal.TheVariants as refusals
 
@@ -28,39 +27,43 @@ use Rattle.bb_tool.specs.declared.refusal.Refusal.TheVariants as refusals
 abbrev pub FileAnswer : Type 0
 FileAnswer = Result (Option (List ℕ)) FileFail
 
-pub data Plan : Type 0 where
-  -- to look at raw records of this kind in strides of this length
-  RawLook : Kind → ℕ → Plan
-  -- to write a record into strides of this length
-  RawSave : ℕ → List ℕ → Plan
-  -- to look at the state of a layout, and to send this of it
-  StateLook : Laid → List Output → Plan
+-- what is done with the copies of a layout
+pub data Work : Type 0 where
+  -- to look at them, and to send the area of the first that passes in hexadecimal
+  Show : Work
+  -- to load them, and to save this area
+  Write : List ℕ → Work
+  -- to load them, to make the sets among these actions, to save the table that this makes where it
+  -- is another, and to send what is got of it
+  Act : List Action → Work
+
+pub record Plan : Type 0 where
+  pub layout : Laid
+  pub work : Work
 
 -- ---- the command `raw`
 
-abbrev pub kind_of : RawCommand → Kind
-kind_of command = record { magic = command.magic; area_len = command.area_len }
+abbrev pub raw_work : RawAction → Work
+raw_work raw_actions.Look = Show
+raw_work (raw_actions.Write area) = Write area
 
-abbrev pub raw_work : RawCommand → ℕ → RawAction → Plan
-raw_work command stride Look = RawLook (kind_of command) stride
-raw_work command stride (Write area) = RawSave stride (raw_text command.magic area)
-
-abbrev pub raw_laid : RawCommand → Result ℕ LayoutError → Result Plan Refusal
-raw_laid command (Ok stride) = Ok (raw_work command stride command.action)
+abbrev pub raw_laid : RawCommand → Result Laid LayoutError → Result Plan Refusal
+raw_laid command (Ok layout) = Ok (record { layout = layout; work = raw_work command.action })
 raw_laid command (Err e) = Err (refusals.BadLayout e)
 
 abbrev pub raw_plan : RawCommand → Geometry → Result Plan Refusal
-raw_plan command geometry = raw_laid command (stride_of geometry command.area_len)
+raw_plan command geometry = raw_laid command (raw_layout command.magic command.area_len geometry)
 
 -- ---- the command `state`: its file, the tree in it, the layout of that, the variables that are named
 
-abbrev pub state_named : Laid → List Output → Option (List ℕ) → Result Plan Refusal
-state_named laid outputs None = Ok (StateLook laid outputs)
-state_named laid outputs (Some unknown) = Err (refusals.BadVariable unknown)
+abbrev pub state_named : Laid → List Action → Option (List ℕ × StateError) → Result Plan Refusal
+state_named laid actions None = Ok (record { layout = laid; work = Act actions })
+state_named laid actions (Some misfit) = Err (refusals.BadVariable misfit.0 misfit.1)
 
-abbrev pub state_laid : StateCommand → Result Laid TreeLayoutError → Result Plan Refusal
-state_laid command (Ok laid) = state_named laid command.outputs (unknown_of laid.vars command.outputs)
-state_laid command (Err e) = Err (refusals.BadStateLayout e)
+abbrev pub state_laid : StateCommand → Result Laid LayoutError → Result Plan Refusal
+state_laid command (Ok laid) =
+    state_named laid command.actions (misfit_of laid.vars command.actions)
+state_laid command (Err e) = Err (refusals.BadLayout e)
 
 abbrev pub state_read : StateCommand → Geometry → Result Read DtsError → Result Plan Refusal
 state_read command geometry (Ok tree) = state_laid command (layout_from tree.root command.name geometry)
@@ -101,3 +104,8 @@ file_named (Err place) files = Ok None
 
 abbrev pub file_for : List (List ℕ) → FileMap → FileAnswer
 file_for words files = file_named (words_of words) files
+
+-- how many copies the layout of a plan has
+abbrev pub copies_in : Result Plan Refusal → ℕ
+copies_in (Ok plan) = plan.layout.copies
+copies_in (Err refusal) = 0

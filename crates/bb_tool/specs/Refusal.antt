@@ -2,14 +2,17 @@
 use Rattle.std.specs.Prelude.{List, ℕ, ◌+◌, ◌++◌, ◌<◌, ⊤, codes, decimal}
 use Rattle.bb_dts.specs.declared.error.DtsError.{DtsError}
 use Rattle.bb_dts.specs.declared.error.DtsError.TheVariants as tree_errors
-use Rattle.bb_layout.specs.declared.layout_error.LayoutError.{LayoutError as TreeLayoutError}
+use Rattle.bb_layout.specs.declared.layout_error.LayoutError.{LayoutError}
 use Rattle.bb_layout.specs.declared.layout_error.LayoutError.TheVariants as layout_errors
+use Rattle.bb_vars.specs.declared.value_error.ValueError.{ValueError}
+use Rattle.bb_vars.specs.declared.value_error.ValueError.TheVariants as value_errors
+use Rattle.bb_copies.specs.declared.answers.CopyFault.{CopyFault}
+use Rattle.bb_copies.specs.declared.answers.CopyFault.TheVariants as copy_faults
+use Rattle.bb_state.specs.declared.error.StateError.{StateError}
+use Rattle.bb_state.specs.declared.error.StateError.TheVariants as state_errors
 use Rattle.bb_words.specs.declared.error.WordsError.{WordsError}
 use Rattle.bb_words.specs.declared.error.WordsError.TheVariants as word_errors
-use Rattle.bb_tool.specs.declared.copy_error.CopyError.{CopyError}
-use Rattle.bb_tool.specs.declared.copy_error.CopyError.TheVariants as copy_errors
-use Rattle.bb_tool.specs.declared.layout.LayoutError.{LayoutError}
-use Rattle.bb_tool.specs.declared.layout.LayoutError.TheVariants.{StorageType, TooSmall}
+use Rattle.bb_tool.specs.Status.{code_of}
 use Rattle.bb_tool.specs.declared.refusal.Refusal.{Refusal}
 use Rattle.bb_tool.specs.declared.refusal.Refusal.TheVariants as refusals
 use Rattle.bb_tool.specs.declared.status.Status.{Status}
@@ -19,8 +22,7 @@ abbrev pub status_of : Refusal → Status
 status_of (refusals.BadWords place) = statuses.BadWords
 status_of (refusals.BadTree e) = statuses.BadTree
 status_of (refusals.BadLayout e) = statuses.BadLayout
-status_of (refusals.BadStateLayout e) = statuses.BadLayout
-status_of (refusals.BadVariable name) = statuses.BadVariable
+status_of (refusals.BadVariable name cause) = statuses.BadVariable
 status_of (refusals.FileMissing file) = statuses.FileMissing
 status_of (refusals.FileFault file) = statuses.FileFault
 status_of (refusals.FileTooLong file) = statuses.FileTooLong
@@ -42,7 +44,7 @@ tree_words (tree_errors.NoSuchLabel at) = codes "NoSuchLabel " ++ decimal at
 tree_words tree_errors.NoMemory = codes "NoMemory"
 
 -- the words for a tree that gives no layout: the refusal's name, and a property where it is one's
-abbrev pub layout_words : TreeLayoutError → List ℕ
+abbrev pub layout_words : LayoutError → List ℕ
 layout_words layout_errors.NoState = codes "NoState"
 layout_words (layout_errors.Missing prop) = codes "Missing " ++ prop
 layout_words (layout_errors.BadProp prop) = codes "BadProp " ++ prop
@@ -57,23 +59,39 @@ layout_words layout_errors.AreaTooLong = codes "AreaTooLong"
 layout_words layout_errors.NameTwice = codes "NameTwice"
 layout_words layout_errors.NoMemory = codes "NoMemory"
 
-abbrev pub layout_line : LayoutError → List ℕ
-layout_line StorageType = codes "fault 3 BadLayout BadProp backend-storage-type\n"
-layout_line TooSmall = codes "fault 3 BadLayout TooSmall\n"
+-- the words for a variable that doesn't fit: why a text is no value of its kind, or that there is none
+abbrev pub value_words : ValueError → List ℕ
+value_words value_errors.NotNumber = codes "NotNumber"
+value_words value_errors.TooLarge = codes "TooLarge"
+value_words value_errors.NoSuchName = codes "NoSuchName"
+value_words value_errors.NotMac = codes "NotMac"
+value_words value_errors.TooLong = codes "TooLong"
+value_words value_errors.HasZeroByte = codes "HasZeroByte"
 
--- words are counted from 1, copies from 0
+abbrev pub variable_words : StateError → List ℕ
+variable_words state_errors.NoSuchVariable = codes "NoSuchVariable"
+variable_words (state_errors.Value cause) = value_words cause
+variable_words state_errors.NoMemory = codes "NoMemory"
+
+-- what the line says behind the number of the status: words are counted from 1, copies from 0
+abbrev pub refusal_words : Refusal → List ℕ
+refusal_words (refusals.BadWords place) = codes "BadWords " ++ decimal (place + 1)
+refusal_words (refusals.BadTree e) = codes "BadTree " ++ tree_words e
+refusal_words (refusals.BadLayout e) = codes "BadLayout " ++ layout_words e
+refusal_words (refusals.BadVariable name cause) =
+    codes "BadVariable " ++ name ++ codes " " ++ variable_words cause
+refusal_words (refusals.FileMissing file) = codes "FileMissing " ++ file
+refusal_words (refusals.FileFault file) = codes "FileFault " ++ file
+refusal_words (refusals.FileTooLong file) = codes "FileTooLong " ++ file
+refusal_words refusals.ReadFault = codes "ReadFault"
+refusal_words (refusals.WriteFault copy) = codes "WriteFault " ++ decimal copy
+refusal_words refusals.NoMemory = codes "NoMemory"
+
+-- the line of a refusal
 abbrev pub line_of : Refusal → List ℕ
-line_of (refusals.BadWords place) = codes "fault 1 BadWords " ++ decimal (place + 1) ++ codes "\n"
-line_of (refusals.BadTree e) = codes "fault 2 BadTree " ++ tree_words e ++ codes "\n"
-line_of (refusals.BadLayout e) = layout_line e
-line_of (refusals.BadStateLayout e) = codes "fault 3 BadLayout " ++ layout_words e ++ codes "\n"
-line_of (refusals.BadVariable name) = codes "fault 4 BadVariable " ++ name ++ codes " NoSuchVariable\n"
-line_of (refusals.FileMissing file) = codes "fault 5 FileMissing " ++ file ++ codes "\n"
-line_of (refusals.FileFault file) = codes "fault 6 FileFault " ++ file ++ codes "\n"
-line_of (refusals.FileTooLong file) = codes "fault 7 FileTooLong " ++ file ++ codes "\n"
-line_of refusals.ReadFault = codes "fault 8 ReadFault\n"
-line_of (refusals.WriteFault copy) = codes "fault 9 WriteFault " ++ decimal copy ++ codes "\n"
-line_of refusals.NoMemory = codes "fault 20 NoMemory\n"
+line_of refusal =
+    codes "fault " ++ decimal (code_of (status_of refusal)) ++ codes " "
+    ++ refusal_words refusal ++ codes "\n"
 
 -- a copy that is named is one of the three
 abbrev pub IsTellable : Refusal → Type 0
@@ -81,8 +99,7 @@ IsTellable (refusals.WriteFault copy) = copy < 3
 IsTellable (refusals.BadWords place) = ⊤
 IsTellable (refusals.BadTree e) = ⊤
 IsTellable (refusals.BadLayout e) = ⊤
-IsTellable (refusals.BadStateLayout e) = ⊤
-IsTellable (refusals.BadVariable name) = ⊤
+IsTellable (refusals.BadVariable name cause) = ⊤
 IsTellable (refusals.FileMissing file) = ⊤
 IsTellable (refusals.FileFault file) = ⊤
 IsTellable (refusals.FileTooLong file) = ⊤
@@ -94,9 +111,11 @@ abbrev pub words_refusal : WordsError → Refusal
 words_refusal (word_errors.BadWord place) = refusals.BadWords place
 words_refusal word_errors.NoMemory = refusals.NoMemory
 
-abbrev pub copy_refusal : CopyError → Refusal
-copy_refusal copy_errors.Unread = refusals.ReadFault
-copy_refusal copy_errors.NoMemory = refusals.NoMemory
+-- a session loads before it saves, so that no save is refused as Unsure
+abbrev pub copy_refusal : CopyFault → Refusal
+copy_refusal copy_faults.ReadFault = refusals.ReadFault
+copy_refusal (copy_faults.WriteFault copy) = refusals.WriteFault copy
+copy_refusal copy_faults.Unsure = refusals.ReadFault
 
 -- want of memory while a text is read is the session's, and says nothing of the text
 abbrev pub tree_refusal : DtsError → Refusal
@@ -111,17 +130,17 @@ tree_refusal (tree_errors.DuplicatePhandle at) = refusals.BadTree (tree_errors.D
 tree_refusal (tree_errors.NoSuchLabel at) = refusals.BadTree (tree_errors.NoSuchLabel at)
 tree_refusal tree_errors.NoMemory = refusals.NoMemory
 
-abbrev pub state_layout_refusal : TreeLayoutError → Refusal
-state_layout_refusal layout_errors.NoState = refusals.BadStateLayout layout_errors.NoState
-state_layout_refusal (layout_errors.Missing prop) = refusals.BadStateLayout (layout_errors.Missing prop)
-state_layout_refusal (layout_errors.BadProp prop) = refusals.BadStateLayout (layout_errors.BadProp prop)
-state_layout_refusal layout_errors.BadType = refusals.BadStateLayout layout_errors.BadType
-state_layout_refusal layout_errors.BadReg = refusals.BadStateLayout layout_errors.BadReg
-state_layout_refusal layout_errors.Overlap = refusals.BadStateLayout layout_errors.Overlap
-state_layout_refusal layout_errors.NoBackend = refusals.BadStateLayout layout_errors.NoBackend
-state_layout_refusal layout_errors.TooSmall = refusals.BadStateLayout layout_errors.TooSmall
-state_layout_refusal layout_errors.Unaligned = refusals.BadStateLayout layout_errors.Unaligned
-state_layout_refusal layout_errors.OutOfDevice = refusals.BadStateLayout layout_errors.OutOfDevice
-state_layout_refusal layout_errors.AreaTooLong = refusals.BadStateLayout layout_errors.AreaTooLong
-state_layout_refusal layout_errors.NameTwice = refusals.BadStateLayout layout_errors.NameTwice
-state_layout_refusal layout_errors.NoMemory = refusals.NoMemory
+abbrev pub layout_refusal : LayoutError → Refusal
+layout_refusal layout_errors.NoState = refusals.BadLayout layout_errors.NoState
+layout_refusal (layout_errors.Missing prop) = refusals.BadLayout (layout_errors.Missing prop)
+layout_refusal (layout_errors.BadProp prop) = refusals.BadLayout (layout_errors.BadProp prop)
+layout_refusal layout_errors.BadType = refusals.BadLayout layout_errors.BadType
+layout_refusal layout_errors.BadReg = refusals.BadLayout layout_errors.BadReg
+layout_refusal layout_errors.Overlap = refusals.BadLayout layout_errors.Overlap
+layout_refusal layout_errors.NoBackend = refusals.BadLayout layout_errors.NoBackend
+layout_refusal layout_errors.TooSmall = refusals.BadLayout layout_errors.TooSmall
+layout_refusal layout_errors.Unaligned = refusals.BadLayout layout_errors.Unaligned
+layout_refusal layout_errors.OutOfDevice = refusals.BadLayout layout_errors.OutOfDevice
+layout_refusal layout_errors.AreaTooLong = refusals.BadLayout layout_errors.AreaTooLong
+layout_refusal layout_errors.NameTwice = refusals.BadLayout layout_errors.NameTwice
+layout_refusal layout_errors.NoMemory = refusals.NoMemory

@@ -1,71 +1,138 @@
--- What a session answers: the text that it sends, or why it is refused. It is a function of the words, the
--- device's geometry, and what the file and the device answered.
-use Rattle.std.specs.Prelude.{ℕ, List, [], Option, None, Result, Ok, Err, unwrap_or}
+-- What a session answers: the text that its work gathered, the refusal that ended it, if one did, and
+-- the areas of the saves that it began. It is a function of the words, the device's geometry, and what
+-- the file and the device answered.
+use Rattle.std.specs.Prelude.{ℕ, Bool, true, false, List, [], ◌∷◌, ◌++◌, map, Option, Some, None, Result, Ok, Err, unwrap_or}
+use Rattle.std.specs.Option.{option_map_or}
+use Rattle.std.specs.Str.{bytes_eq}
+use Rattle.bb_actions.specs.Actions.{actions_text, after_all}
 use Rattle.bb_base.specs.Folder.{FileMap}
-use Rattle.bb_base.specs.declared.failed.Failed.{Failed}
+use Rattle.bb_copies.specs.declared.answers.CopyFault.{CopyFault}
 use Rattle.bb_flash.specs.declared.geometry.Geometry.{Geometry}
 use Rattle.bb_flash.specs.Image.{Image}
 use Rattle.bb_layout.specs.Defaults.{defaults_of}
 use Rattle.bb_layout.specs.Layout.{Laid}
-use Rattle.bb_output.specs.Output.{outputs_text}
-use Rattle.bb_words.specs.declared.command.Output.{Output}
-use Rattle.bb_tool.specs.Looking.{first_passing, look_text, laid_copies, laid_kind, thirds}
-use Rattle.bb_tool.specs.Plan.{FileAnswer, Plan, RawLook, RawSave, StateLook, file_for, planned}
+use Rattle.bb_tool.specs.Looking.{first_found, look_text, passed_in}
+use Rattle.bb_tool.specs.Plan.{Act, FileAnswer, Plan, Show, Work, Write, file_for, planned}
+use Rattle.bb_tool.specs.Refusal.{copy_refusal, line_of, status_of}
 use Rattle.bb_tool.specs.declared.refusal.Refusal.{Refusal}
-use Rattle.bb_tool.specs.declared.refusal.Refusal.TheVariants.{ReadFault, WriteFault, NoMemory}
+use Rattle.bb_tool.specs.declared.status.Status.{Status}
+use Rattle.bb_tool.specs.declared.status.Status.TheVariants.{Done}
 
--- what became of the writes of a save. They aren't begun where the session doesn't save, or lacks the memory for it
-pub data Writes : Type 0 where
-  NotBegun : Writes
-  AllDone : Writes
-  FailedAt : ℕ → Writes
+-- ---- what is answered to a session
 
--- what was answered: by the file that was read, by the look at the device, and by the writes
+-- of the load, or of the look: the area of the first copy that passes, if one does
+abbrev pub LoadAnswer : Type 0
+LoadAnswer = Result (Option (List ℕ)) CopyFault
+
+-- of a save that was begun
+abbrev pub SaveAnswer : Type 0
+SaveAnswer = Result (Unit {0}) CopyFault
+
+-- what was answered: by the file that was read, by the load or the look, and by each save that was
+-- begun, in their order
 pub record Answers : Type 0 where
   pub file : FileAnswer
-  pub look : Result (Option (List ℕ)) Failed
-  pub writes : Writes
+  pub load : LoadAnswer
+  pub saves : List SaveAnswer
 
--- the look was made: it gave an area, or no copy passed, or a read failed
-abbrev pub looked : Result (Option (List ℕ)) Failed → Result (List ℕ) Refusal
-looked (Ok found) = Ok (look_text found)
-looked (Err e) = Err ReadFault
+-- ---- what a session answers
 
--- a save sends nothing
-abbrev pub saved : Writes → Result (List ℕ) Refusal
-saved NotBegun = Err NoMemory
-saved AllDone = Ok []
-saved (FailedAt copy) = Err (WriteFault copy)
+pub record Session : Type 0 where
+  pub text : List ℕ
+  pub refusal : Option Refusal
+  pub saves : List (List ℕ)
 
--- of a state that no copy holds the defaults are shown
-abbrev pub shown : Laid → List Output → Result (Option (List ℕ)) Failed → Result (List ℕ) Refusal
-shown laid outputs (Ok found) = Ok (outputs_text laid (unwrap_or found (defaults_of laid.area_len laid.vars)) outputs)
-shown laid outputs (Err e) = Err ReadFault
+-- a session that saves nothing, and is done with this text, or refused before it gathered any
+abbrev pub done_with : List ℕ → Session
+done_with text = record { text = text; refusal = None; saves = [] }
 
-abbrev pub worked : Plan → Answers → Result (List ℕ) Refusal
-worked (RawLook kind stride) answers = looked answers.look
-worked (RawSave stride rec) answers = saved answers.writes
-worked (StateLook laid outputs) answers = shown laid outputs answers.look
+abbrev pub refused_for : Refusal → Session
+refused_for refusal = record { text = []; refusal = Some refusal; saves = [] }
 
-abbrev pub followed : Result Plan Refusal → Answers → Result (List ℕ) Refusal
-followed (Ok plan) answers = worked plan answers
-followed (Err refusal) answers = Err refusal
+-- all that is sent: the text, and the line of the refusal behind it
+abbrev pub sent_of : Session → List ℕ
+sent_of session =
+    option_map_or (λ refusal. session.text ++ line_of refusal) session.refusal session.text
+
+abbrev pub ended_status : Session → Status
+ended_status session = option_map_or status_of session.refusal Done
+
+-- ---- the work of a plan
+
+-- the area that a load gives: where no copy passed it is the layout's defaults
+abbrev pub loaded_area : Laid → Option (List ℕ) → List ℕ
+loaded_area layout found = unwrap_or found (defaults_of layout.area_len layout.vars)
+
+-- an area is saved where it is another than the one that was loaded
+abbrev pub saved_where : Bool → List ℕ → List (List ℕ)
+saved_where true area = []
+saved_where false area = area ∷ []
+
+-- the areas that are saved behind a load, in their order
+abbrev pub saves_of : Laid → Work → List ℕ → List (List ℕ)
+saves_of layout Show area = []
+saves_of layout (Write new) area = new ∷ []
+saves_of layout (Act actions) area =
+    let new = after_all layout.vars area actions in saved_where (bytes_eq new area) new
+
+-- the text that is sent where no save was refused
+abbrev pub text_of : Laid → Work → Option (List ℕ) → List ℕ
+text_of layout Show found = look_text found
+text_of layout (Write new) found = []
+text_of layout (Act actions) found =
+    actions_text layout (after_all layout.vars (loaded_area layout found) actions) actions
+
+-- the saves are begun one after another, and the first that is refused ends them, before any text
+-- is gathered
+abbrev pub saved : List ℕ → List (List ℕ) → List SaveAnswer → Session
+saved text [] answers = done_with text
+saved text (area ∷ areas) [] = done_with text
+saved text (area ∷ areas) (Err fault ∷ answers) =
+    record { text = []; refusal = Some (copy_refusal fault); saves = area ∷ [] }
+saved text (area ∷ areas) (Ok made ∷ answers) =
+    let rest = saved text areas answers in record rest { saves = area ∷ rest.saves }
+
+-- the areas that are saved behind the answer of the load
+abbrev pub saves_behind : Plan → LoadAnswer → List (List ℕ)
+saves_behind plan (Ok found) = saves_of plan.layout plan.work (loaded_area plan.layout found)
+saves_behind plan (Err fault) = []
+
+abbrev pub worked : Plan → LoadAnswer → List SaveAnswer → Session
+worked plan (Ok found) saves =
+    saved (text_of plan.layout plan.work found) (saves_behind plan (Ok found)) saves
+worked plan (Err fault) saves = refused_for (copy_refusal fault)
+
+abbrev pub followed : Result Plan Refusal → Answers → Session
+followed (Ok plan) answers = worked plan answers.load answers.saves
+followed (Err refusal) answers = refused_for refusal
 
 -- the plan, and then the work
-abbrev pub session_of : List (List ℕ) → Geometry → Answers → Result (List ℕ) Refusal
+abbrev pub session_of : List (List ℕ) → Geometry → Answers → Session
 session_of words geometry answers = followed (planned words geometry answers.file) answers
 
--- what the look of a plan gives at a device with this content
-abbrev pub look_for : Result Plan Refusal → Image → Option (List ℕ)
-look_for (Ok (RawLook kind stride)) image = first_passing kind (thirds stride) image
-look_for (Ok (RawSave stride rec)) image = None
-look_for (Ok (StateLook laid outputs)) image = first_passing (laid_kind laid) (laid_copies laid) image
-look_for (Err refusal) image = None
+-- ---- where nothing fails
 
--- what these files and a device with this content answer where nothing fails
+-- what the load or the look of a plan gives at a device with this content
+abbrev pub load_for : Result Plan Refusal → Geometry → Image → LoadAnswer
+load_for (Ok plan) geometry image = Ok (first_found (passed_in plan.layout geometry.page image))
+load_for (Err refusal) geometry image = Ok None
+
+-- each save of a plan is made
+abbrev pub all_made : List (List ℕ) → List SaveAnswer
+all_made areas = map (λ area. Ok tt) areas
+
+abbrev pub saves_for : Result Plan Refusal → LoadAnswer → List SaveAnswer
+saves_for (Ok plan) load = all_made (saves_behind plan load)
+saves_for (Err refusal) load = []
+
+-- what is answered to a plan at a device with this content
+abbrev pub answers_to : FileAnswer → Result Plan Refusal → Geometry → Image → Answers
+answers_to file plan geometry image =
+    let load = load_for plan geometry image in
+    record { file = file; load = load; saves = saves_for plan load }
+
+-- what these files and a device with this content answer
 abbrev pub answers_of : List (List ℕ) → Geometry → FileMap → Image → Answers
-answers_of words geometry files image = record {
-  file = file_for words files;
-  look = Ok (look_for (planned words geometry (file_for words files)) image);
-  writes = AllDone;
-}
+answers_of words geometry files image =
+    let file = file_for words files in
+    answers_to file (planned words geometry file) geometry image

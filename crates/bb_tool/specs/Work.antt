@@ -1,52 +1,148 @@
--- The work of a session on the device, before anything is sent.
-use Rattle.std.specs.Prelude.{◌≡◌, ℕ, ◌*◌, List, Option, Result, Err, IfOk, IsErr}
+-- The work of a session on the copies of a layout: what was answered, and what became of the device.
+use Rattle.std.specs.Prelude.{◌≡◌, ◌≢◌, ◌⊎◌, ℕ, ◌≤◌, List, [], ◌∷◌, Option, Some, None, Result, Ok, Err, IfOk, IfErr, IsErr}
 use Rattle.std.specs.Option.{ForSome}
-use Rattle.bb_base.specs.declared.failed.Failed.{Failed}
-use Rattle.bb_base.specs.Faults.{Rose}
-use Rattle.bb_flash.specs.Cuts.{EachImage, EachTorn}
-use Rattle.bb_flash.specs.Device.{Device, content}
-use Rattle.bb_raw.specs.Raw.{Kind}
-use Rattle.bb_tool.specs.Looking.{IsQuiet, first_passing}
-use Rattle.bb_tool.specs.Saving.{Between, IsCutSave, IsSaved, IsSavedUpTo}
-use Rattle.bb_tool.specs.Session.{Writes, NotBegun, AllDone, FailedAt, saved}
-use Rattle.bb_tool.specs.declared.copies.Copies.{Copies}
+use Rattle.bb_base.specs.Faults.{HasCause}
+use Rattle.bb_copies.specs.Loading.{KeepsOutside, LoadGives, LoadImages, LoadsExactly}
+use Rattle.bb_copies.specs.Saving.{EachWritten, SaveFails, SaveRuns}
+use Rattle.bb_copies.specs.Settling.{IsUndisturbed}
+use Rattle.bb_copies.specs.Store.{used_after}
+use Rattle.bb_copies.specs.declared.answers.CopyFault.TheVariants.{ReadFault, Unsure}
+use Rattle.bb_copies.specs.declared.answers.Loaded.{Loaded}
+use Rattle.bb_copies.specs.declared.answers.Loaded.TheVariants.{Copy, NoCopy}
+use Rattle.bb_flash.specs.Cuts.{IsLater}
+use Rattle.bb_flash.specs.Device.{Device, LeavesStarts, content}
+use Rattle.bb_layout.specs.Layout.{Laid}
+use Rattle.bb_state.specs.Kinds.{laid_form, laid_kinds}
+use Rattle.bb_state.specs.State.{IsDefault, IsRefused, IsStored}
+use Rattle.bb_tool.specs.Looking.{IsQuiet, first_found, passed_in}
+use Rattle.bb_tool.specs.Plan.{Act, Plan, Show, Work, Write}
+use Rattle.bb_tool.specs.Session.{LoadAnswer, SaveAnswer, Session, saves_behind, worked}
 use Rattle.bb_tool.specs.declared.refusal.Refusal.{Refusal}
 use Rattle.bb_tool.specs.declared.refusal.Refusal.TheVariants as refusals
 
--- the write of a copy failed, and ended the save
-pub record IsFailedSave (stride : ℕ) (rec : List ℕ) (copy : ℕ) (before after : Device) : Type 0 where
-  pub saved : Between (IsSavedUpTo stride rec copy) before after
-  pub cause : Rose before.faults after.faults
+-- ---- a look
 
--- what became of the device by the writes of a save
-abbrev pub Leaves : ℕ → List ℕ → Device → Device → Writes → Type 0
-Leaves stride rec before after NotBegun = IsQuiet before after
-Leaves stride rec before after AllDone = Between (IsSaved stride rec) before after
-Leaves stride rec before after (FailedAt copy) = IsFailedSave stride rec copy before after
+-- the copies were looked at, and nothing changed
+pub record IsLooked (layout : Laid) (from to : Device) (answer : LoadAnswer) : Type 0 where
+  pub told :
+      ForSome (content from)
+      (λ image. IfOk answer (λ found. found ≡ first_found (passed_in layout from.geometry.page image)))
+  pub fails : IfErr answer (λ fault. fault ≡ ReadFault)
+  pub faults : HasCause from.faults to.faults (IsErr answer)
+  pub read_faults : HasCause from.read_faults to.read_faults (IsErr answer)
+  pub quiet : IsQuiet from to
 
--- the writes of a save: what they leave, and what a cut on the way may leave
-pub record IsSave (stride : ℕ) (rec : List ℕ) (before after : Device) (writes : Writes) : Type 0 where
-  pub left : Leaves stride rec before after writes
-  pub images : EachImage (IsCutSave stride rec) before after
-  -- nothing outside the three strides changes, in any image
-  pub outside : EachTorn 0 (3 * stride) before after
+-- ---- a load
 
--- a look at copies, of which `shows` makes the text, gave this
-pub record IsLooked (kind : Kind) (copies : Copies) (shows : Result (Option (List ℕ)) Failed → Result (List ℕ) Refusal) (before after : Device) (given : Result (List ℕ) Refusal) : Type 0 where
-  pub found : Result (Option (List ℕ)) Failed
-  pub is : given ≡ shows found
-  pub told : ForSome (content before) (λ image. IfOk found (λ area. area ≡ first_passing kind copies image))
-  pub cause : IsErr found → Rose before.read_faults after.read_faults
-  pub fault : IsErr found → Rose before.faults after.faults
-  pub quiet : IsQuiet before after
+-- the area that was taken, if one was
+abbrev pub taken : List ℕ → Loaded → Option (List ℕ)
+taken area (Copy used live) = Some area
+taken area NoCopy = None
 
--- a save of a record into strides of this length gave this
-pub record IsSavedBy (stride : ℕ) (rec : List ℕ) (before after : Device) (given : Result (List ℕ) Refusal) : Type 0 where
-  pub writes : Writes
-  pub is : given ≡ saved writes
-  pub save : IsSave stride rec before after writes
+-- a load found a copy of this area, or no copy and this area's defaults
+pub record IsFound (layout : Laid) (area : List ℕ) (loaded : Loaded) (from to : Device)
+    : Type 0 where
+  pub gives : LoadGives (laid_form layout) (laid_kinds layout) area from to loaded
+  pub defaults : IsDefault layout area loaded
+  pub exact : LoadsExactly (laid_form layout) (laid_kinds layout) area from to loaded
 
--- memory was refused before anything was written
-pub record IsRefusedMemory (before after : Device) (given : Result (List ℕ) Refusal) : Type 0 where
+-- it answered Ok, and `used` is the copy that it took, if it took one
+pub record IsLoadedAs (layout : Laid) (used : Option ℕ) (from to : Device)
+    (found : Option (List ℕ)) : Type 0 where
+  pub area : List ℕ
+  pub loaded : Loaded
+  pub gave : IsFound layout area loaded from to
+  pub taken : found ≡ taken area loaded
+  pub used_is : used ≡ used_after loaded
+
+-- what a load made of the device, and what it answered
+pub record IsLoaded (layout : Laid) (used : Option ℕ) (from to : Device) (answer : LoadAnswer)
+    : Type 0 where
+  pub images : LoadImages (laid_form layout) (laid_kinds layout) from to
+  pub outside : KeepsOutside (laid_kinds layout) from to
+  pub later : IsLater from to
+  pub starts : LeavesStarts from to
+  pub gives : IfOk answer (IsLoadedAs layout used from to)
+  pub fails : IfErr answer (IsRefused layout from to)
+
+-- ---- saves
+
+-- what a save made of the device, and what it answered
+pub record IsSaved (layout : Laid) (used : Option ℕ) (area : List ℕ) (from to : Device)
+    (answer : SaveAnswer) : Type 0 where
+  pub now : Option ℕ
+  pub runs : SaveRuns (laid_form layout) (laid_kinds layout) used area from to
+  pub stored : IfOk answer (λ made. IsStored layout area now from to)
+  pub fails :
+      IfErr answer (λ fault. SaveFails (laid_form layout) (laid_kinds layout) used area from to fault)
+  pub sure : IfErr answer (λ fault. fault ≢ Unsure)
+  pub exact :
+      IsUndisturbed from to →
+      IfOk answer
+      (λ made. EachWritten (laid_kinds layout) ((laid_form layout).text area) from to)
+
+-- these saves were begun behind a load, one at most so far
+abbrev pub AreSaved : Laid → Option ℕ → List (List ℕ) → Device → Device → List SaveAnswer → Type 0
+AreSaved layout used [] from to answers = (answers ≡ []) × (to ≡ from)
+AreSaved layout used (area ∷ areas) from to [] = ⊥
+AreSaved layout used (area ∷ areas) from to (answer ∷ answers) =
+    IsSaved layout used area from to answer × ((areas ≡ []) × (answers ≡ []))
+
+-- ---- the work of a plan
+
+-- the copies were loaded, and the saves that the plan makes behind the answer were begun
+pub record IsStoreWork (plan : Plan) (from to : Device) (load : LoadAnswer)
+    (saves : List SaveAnswer) : Type 0 where
+  -- between the load and the saves
+  pub middle : Device
+  pub used : Option ℕ
+  pub many : 2 ≤ plan.layout.copies
+  pub loaded : IsLoaded plan.layout used from middle load
+  pub saved : AreSaved plan.layout used (saves_behind plan load) middle to saves
+
+pub record IsLookWork (plan : Plan) (from to : Device) (load : LoadAnswer)
+    (saves : List SaveAnswer) : Type 0 where
+  pub looked : IsLooked plan.layout from to load
+  pub none : saves ≡ []
+
+abbrev pub IsWorkOf : Work → Plan → Device → Device → LoadAnswer → List SaveAnswer → Type 0
+IsWorkOf Show plan from to load saves = IsLookWork plan from to load saves
+IsWorkOf (Write area) plan from to load saves = IsStoreWork plan from to load saves
+IsWorkOf (Act actions) plan from to load saves = IsStoreWork plan from to load saves
+
+abbrev pub IsWork : Plan → Device → Device → LoadAnswer → List SaveAnswer → Type 0
+IsWork plan from to load saves = IsWorkOf plan.work plan from to load saves
+
+-- before anything is sent the work gave what the session answers: its text, or its refusal, before
+-- which it had gathered none
+abbrev pub Gives : Session → Result (List ℕ) Refusal → Type 0
+Gives session (Ok text) = (session.text ≡ text) × (session.refusal ≡ None)
+Gives session (Err refusal) = (session.text ≡ []) × (session.refusal ≡ Some refusal)
+
+-- the work was done
+pub record IsWorkDone (plan : Plan) (from to : Device) (given : Result (List ℕ) Refusal)
+    : Type 0 where
+  pub load : LoadAnswer
+  pub saves : List SaveAnswer
+  pub work : IsWork plan from to load saves
+  pub gives : Gives (worked plan load saves) given
+
+-- it was done, no part of it was refused, and then memory was refused for its text
+pub record IsTextRefused (plan : Plan) (from to : Device) (given : Result (List ℕ) Refusal)
+    : Type 0 where
+  pub load : LoadAnswer
+  pub saves : List SaveAnswer
+  pub work : IsWork plan from to load saves
+  pub whole : (worked plan load saves).refusal ≡ None
   pub is : given ≡ Err refusals.NoMemory
-  pub quiet : IsQuiet before after
+
+-- memory was refused before any call of the device
+pub record IsRefusedMemory (from to : Device) (given : Result (List ℕ) Refusal) : Type 0 where
+  pub is : given ≡ Err refusals.NoMemory
+  pub unasked : to ≡ from
+
+abbrev pub IsWorkedOut : Laid → Work → Device → Device → Result (List ℕ) Refusal → Type 0
+IsWorkedOut layout work from to given =
+    let plan : Plan = record { layout = layout; work = work } in
+    IsWorkDone plan from to given
+    ⊎ (IsTextRefused plan from to given ⊎ IsRefusedMemory from to given)

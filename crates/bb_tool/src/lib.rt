@@ -2,17 +2,15 @@
 //! stands on it.
 #![tactic(auto)]
 
-mod copies;
-mod copy_error;
-mod layout;
+mod law;
 mod line;
-mod look;
+mod raw;
 mod refusal;
-mod save;
 mod session;
 mod state;
 mod status;
 mod tell;
 
+pub use law::law_chronicle;
 pub use session::run;
 pub use status::Status;

@@ -1,109 +1,47 @@
-ghost use Rattle.std.specs.Prelude.{◌≡◌, ◌+◌, ◌<◌, IfOk, string_bytes};
-ghost use Rattle.bb_tool.specs.Refusal.{layout_line, line_of};
+ghost use Rattle.std.specs.Prelude.{◌≡◌, ◌<◌, ◌++◌, true, IfOk, IfSome, None, codes, string_bytes};
+ghost use Rattle.bb_tool.specs.Refusal.{IsTellable, layout_words, line_of, refusal_words, tree_words, value_words, variable_words};
+ghost use Rattle.bb_tool.specs.Telling.{takes_memory};
 ghost use Rattle.bb_tool.specs.declared.refusal.Refusal.TheVariants as refusals;
 
-use crate::layout::LayoutError;
+use crate::refusal::Refusal;
 use bb_dts::DtsError;
+use bb_layout::LayoutError;
+use bb_state::StateError;
+use bb_vars::ValueError;
 use std::alloc::{AllocError, Global};
 
-/// The line that is sent where a word doesn't fit.
-pub(crate) fn words_line(alloc: Global, place: usize) -> Result<String, AllocError>
-    ensures { IfOk result (λ line. string_bytes line ≡ line_of (refusals.BadWords place)) }
+/// The line that is sent of a refusal: the number of its status, and what the refusal is.
+pub(crate) fn line(alloc: Global, refusal: &Refusal) -> Result<String, AllocError>
+    ensures { IfOk result (λ line. string_bytes line ≡ line_of refusal.now) }
 {
-    format!(in alloc; "fault 1 BadWords {}\n", place as u128 + 1)
+    let words = words(alloc, refusal)?;
+    format!(in alloc; "fault {} {words}\n", refusal.status().code())
 }
 
-/// The line that is sent where a file is no source.
-pub(crate) fn tree_line(alloc: Global, error: DtsError) -> Result<String, AllocError>
-    ensures { IfOk result (λ line. string_bytes line ≡ line_of (refusals.BadTree error)) }
+/// The line of a refusal that takes no memory, where it is one.
+pub(crate) fn fixed_line(refusal: &Refusal) -> Option<&'static str>
+    requires { IsTellable refusal.now }
+    ensures line { IfSome result (λ line. line.now ≡ line_of refusal.now) }
+    ensures made { result ≡ None → takes_memory refusal.now ≡ true }
 {
-    match error {
-        DtsError::NotText(at) => format!(in alloc; "fault 2 BadTree NotText {at}\n"),
-        DtsError::BadToken(at) => format!(in alloc; "fault 2 BadTree BadToken {at}\n"),
-        DtsError::Unexpected(at) => format!(in alloc; "fault 2 BadTree Unexpected {at}\n"),
-        DtsError::NumberTooLarge(at) => format!(in alloc; "fault 2 BadTree NumberTooLarge {at}\n"),
-        DtsError::LeftOut(at) => format!(in alloc; "fault 2 BadTree LeftOut {at}\n"),
-        DtsError::TooDeep(at) => format!(in alloc; "fault 2 BadTree TooDeep {at}\n"),
-        DtsError::DuplicateLabel(at) => format!(in alloc; "fault 2 BadTree DuplicateLabel {at}\n"),
-        DtsError::DuplicatePhandle(at) => format!(in alloc;
-            "fault 2 BadTree DuplicatePhandle {at}\n"
-        ),
-        DtsError::NoSuchLabel(at) => format!(in alloc; "fault 2 BadTree NoSuchLabel {at}\n"),
-        DtsError::NoMemory => String::from_str(alloc, "fault 2 BadTree NoMemory\n"),
+    match refusal {
+        Refusal::ReadFault => Some(read_line()),
+        Refusal::WriteFault(copy) => Some(write_line(*copy)),
+        Refusal::NoMemory => Some(no_memory_line()),
+        Refusal::BadWords(_) | Refusal::BadTree(_) | Refusal::BadLayout(_) => None,
+        Refusal::BadVariable(_, _) => None,
+        Refusal::FileMissing(_) | Refusal::FileFault(_) | Refusal::FileTooLong(_) => None,
     }
 }
 
-/// The line that is sent where a devicetree gives no layout.
-pub(crate) fn state_layout_line(
-    alloc: Global,
-    error: &bb_layout::LayoutError,
-) -> Result<String, AllocError>
-    ensures { IfOk result (λ line. string_bytes line ≡ line_of (refusals.BadStateLayout error.now)) }
+fn read_line() -> &'static str
+    ensures { result.now ≡ line_of refusals.ReadFault }
 {
-    use bb_layout::LayoutError;
-    match error {
-        LayoutError::NoState => String::from_str(alloc, "fault 3 BadLayout NoState\n"),
-        LayoutError::Missing(prop) => format!(in alloc;
-            "fault 3 BadLayout Missing {}\n",
-            prop.as_str()
-        ),
-        LayoutError::BadProp(prop) => format!(in alloc;
-            "fault 3 BadLayout BadProp {}\n",
-            prop.as_str()
-        ),
-        LayoutError::BadType => String::from_str(alloc, "fault 3 BadLayout BadType\n"),
-        LayoutError::BadReg => String::from_str(alloc, "fault 3 BadLayout BadReg\n"),
-        LayoutError::Overlap => String::from_str(alloc, "fault 3 BadLayout Overlap\n"),
-        LayoutError::NoBackend => String::from_str(alloc, "fault 3 BadLayout NoBackend\n"),
-        LayoutError::TooSmall => String::from_str(alloc, "fault 3 BadLayout TooSmall\n"),
-        LayoutError::Unaligned => String::from_str(alloc, "fault 3 BadLayout Unaligned\n"),
-        LayoutError::OutOfDevice => String::from_str(alloc, "fault 3 BadLayout OutOfDevice\n"),
-        LayoutError::AreaTooLong => String::from_str(alloc, "fault 3 BadLayout AreaTooLong\n"),
-        LayoutError::NameTwice => String::from_str(alloc, "fault 3 BadLayout NameTwice\n"),
-        LayoutError::NoMemory => String::from_str(alloc, "fault 3 BadLayout NoMemory\n"),
-    }
+    "fault 8 ReadFault\n"
 }
 
-/// The line that is sent where the layout has no such variable.
-pub(crate) fn variable_line(alloc: Global, name: &str) -> Result<String, AllocError>
-    ensures { IfOk result (λ line. string_bytes line ≡ line_of (refusals.BadVariable name.now)) }
-{
-    format!(in alloc; "fault 4 BadVariable {name} NoSuchVariable\n")
-}
-
-/// The line that is sent where there is no file of a name.
-pub(crate) fn missing_line(alloc: Global, file: &str) -> Result<String, AllocError>
-    ensures { IfOk result (λ line. string_bytes line ≡ line_of (refusals.FileMissing file.now)) }
-{
-    format!(in alloc; "fault 5 FileMissing {file}\n")
-}
-
-/// The line that is sent where a file couldn't be read.
-pub(crate) fn fault_line(alloc: Global, file: &str) -> Result<String, AllocError>
-    ensures { IfOk result (λ line. string_bytes line ≡ line_of (refusals.FileFault file.now)) }
-{
-    format!(in alloc; "fault 6 FileFault {file}\n")
-}
-
-/// The line that is sent where a file is too long.
-pub(crate) fn long_line(alloc: Global, file: &str) -> Result<String, AllocError>
-    ensures { IfOk result (λ line. string_bytes line ≡ line_of (refusals.FileTooLong file.now)) }
-{
-    format!(in alloc; "fault 7 FileTooLong {file}\n")
-}
-
-/// The line that is sent where the copies of a raw record can't stand on the device.
-pub(crate) fn layout_line(error: LayoutError) -> &'static str
-    ensures { result.now ≡ layout_line error }
-{
-    match error {
-        LayoutError::StorageType => "fault 3 BadLayout BadProp backend-storage-type\n",
-        LayoutError::TooSmall => "fault 3 BadLayout TooSmall\n",
-    }
-}
-
-/// The line that is sent where one of the three copies couldn't be written.
-pub(crate) fn write_line(copy: u32) -> &'static str
+// The line where one of the three copies couldn't be written.
+fn write_line(copy: u32) -> &'static str
     requires { copy < 3 }
     ensures { result.now ≡ line_of (refusals.WriteFault copy) }
 {
@@ -111,5 +49,96 @@ pub(crate) fn write_line(copy: u32) -> &'static str
         0 => "fault 9 WriteFault 0\n",
         1 => "fault 9 WriteFault 1\n",
         _ => "fault 9 WriteFault 2\n",
+    }
+}
+
+/// The line that is sent where memory was refused.
+pub(crate) fn no_memory_line() -> &'static str
+    ensures { result.now ≡ line_of refusals.NoMemory }
+{
+    "fault 20 NoMemory\n"
+}
+
+// What a refusal is, as its line says it.
+fn words(alloc: Global, refusal: &Refusal) -> Result<String, AllocError>
+    ensures { IfOk result (λ words. string_bytes words ≡ refusal_words refusal.now) }
+{
+    match refusal {
+        Refusal::BadWords(place) => format!(in alloc; "BadWords {}", *place as u128 + 1),
+        Refusal::BadTree(error) => tree_words(alloc, *error),
+        Refusal::BadLayout(error) => layout_words(alloc, error),
+        Refusal::BadVariable(name, cause) => format!(in alloc;
+            "BadVariable {} {}",
+            name.as_str(),
+            variable_words(*cause)
+        ),
+        Refusal::FileMissing(file) => format!(in alloc; "FileMissing {}", file.as_str()),
+        Refusal::FileFault(file) => format!(in alloc; "FileFault {}", file.as_str()),
+        Refusal::FileTooLong(file) => format!(in alloc; "FileTooLong {}", file.as_str()),
+        Refusal::ReadFault => String::from_str(alloc, "ReadFault"),
+        Refusal::WriteFault(copy) => format!(in alloc; "WriteFault {copy}"),
+        Refusal::NoMemory => String::from_str(alloc, "NoMemory"),
+    }
+}
+
+// Why a variable doesn't fit.
+fn variable_words(cause: StateError) -> &'static str
+    ensures { result.now ≡ variable_words cause }
+{
+    match cause {
+        StateError::NoSuchVariable => "NoSuchVariable",
+        StateError::Value(cause) => value_words(cause),
+        StateError::NoMemory => "NoMemory",
+    }
+}
+
+fn value_words(cause: ValueError) -> &'static str
+    ensures { result.now ≡ value_words cause }
+{
+    match cause {
+        ValueError::NotNumber => "NotNumber",
+        ValueError::TooLarge => "TooLarge",
+        ValueError::NoSuchName => "NoSuchName",
+        ValueError::NotMac => "NotMac",
+        ValueError::TooLong => "TooLong",
+        ValueError::HasZeroByte => "HasZeroByte",
+    }
+}
+
+fn tree_words(alloc: Global, error: DtsError) -> Result<String, AllocError>
+    ensures { IfOk result (λ words. string_bytes words ≡ codes "BadTree " ++ tree_words error) }
+{
+    match error {
+        DtsError::NotText(at) => format!(in alloc; "BadTree NotText {at}"),
+        DtsError::BadToken(at) => format!(in alloc; "BadTree BadToken {at}"),
+        DtsError::Unexpected(at) => format!(in alloc; "BadTree Unexpected {at}"),
+        DtsError::NumberTooLarge(at) => format!(in alloc; "BadTree NumberTooLarge {at}"),
+        DtsError::LeftOut(at) => format!(in alloc; "BadTree LeftOut {at}"),
+        DtsError::TooDeep(at) => format!(in alloc; "BadTree TooDeep {at}"),
+        DtsError::DuplicateLabel(at) => format!(in alloc; "BadTree DuplicateLabel {at}"),
+        DtsError::DuplicatePhandle(at) => format!(in alloc; "BadTree DuplicatePhandle {at}"),
+        DtsError::NoSuchLabel(at) => format!(in alloc; "BadTree NoSuchLabel {at}"),
+        DtsError::NoMemory => String::from_str(alloc, "BadTree NoMemory"),
+    }
+}
+
+fn layout_words(alloc: Global, error: &LayoutError) -> Result<String, AllocError>
+    ensures { IfOk result (λ words.
+        string_bytes words ≡ codes "BadLayout " ++ layout_words error.now) }
+{
+    match error {
+        LayoutError::NoState => String::from_str(alloc, "BadLayout NoState"),
+        LayoutError::Missing(prop) => format!(in alloc; "BadLayout Missing {}", prop.as_str()),
+        LayoutError::BadProp(prop) => format!(in alloc; "BadLayout BadProp {}", prop.as_str()),
+        LayoutError::BadType => String::from_str(alloc, "BadLayout BadType"),
+        LayoutError::BadReg => String::from_str(alloc, "BadLayout BadReg"),
+        LayoutError::Overlap => String::from_str(alloc, "BadLayout Overlap"),
+        LayoutError::NoBackend => String::from_str(alloc, "BadLayout NoBackend"),
+        LayoutError::TooSmall => String::from_str(alloc, "BadLayout TooSmall"),
+        LayoutError::Unaligned => String::from_str(alloc, "BadLayout Unaligned"),
+        LayoutError::OutOfDevice => String::from_str(alloc, "BadLayout OutOfDevice"),
+        LayoutError::AreaTooLong => String::from_str(alloc, "BadLayout AreaTooLong"),
+        LayoutError::NameTwice => String::from_str(alloc, "BadLayout NameTwice"),
+        LayoutError::NoMemory => String::from_str(alloc, "BadLayout NoMemory"),
     }
 }

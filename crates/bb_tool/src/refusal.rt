@@ -1,9 +1,10 @@
 ghost use Rattle.std.specs.Prelude.{◌≡◌};
 
-use crate::copy_error::CopyError;
-use crate::layout::LayoutError;
+use crate::Status;
 use bb_base::{NoMemory, Text};
 use bb_dts::DtsError;
+use bb_layout::LayoutError;
+use bb_state::{CopyFault, StateError};
 use bb_words::WordsError;
 use std::alloc::AllocError;
 
@@ -13,12 +14,10 @@ pub enum Refusal {
     /// The word at this place, counted from 0, doesn't fit.
     BadWords(usize),
     BadTree(DtsError),
-    /// The copies of a raw record can't stand on the device.
+    /// The copies can't stand on the device, or the devicetree gives no layout for it.
     BadLayout(LayoutError),
-    /// The devicetree gives no layout for the device.
-    BadStateLayout(bb_layout::LayoutError),
-    /// The layout has no variable of this name.
-    BadVariable(Text),
+    /// The layout has no variable of this name, or a text is no value of it.
+    BadVariable(Text, StateError),
     FileMissing(Text),
     FileFault(Text),
     FileTooLong(Text),
@@ -64,27 +63,17 @@ impl From<WordsError> for Refusal {
     }
 }
 
-impl From<LayoutError> for Refusal {
-    ghost use Rattle.std.specs.Prelude.{◌≡◌};
-    ghost use Rattle.bb_tool.specs.declared.refusal.Refusal.TheVariants as refusals;
-
-    ghost from_gives = { λ error e. e ≡ refusals.BadLayout error };
-
-    fn from(error: LayoutError) -> Self {
-        Refusal::BadLayout(error)
-    }
-}
-
-impl From<CopyError> for Refusal {
+// A session loads before it saves, so that no save is refused as Unsure.
+impl From<CopyFault> for Refusal {
     ghost use Rattle.std.specs.Prelude.{◌≡◌};
     ghost use Rattle.bb_tool.specs.Refusal.{copy_refusal};
 
-    ghost from_gives = { λ error e. e ≡ copy_refusal error };
+    ghost from_gives = { λ fault e. e ≡ copy_refusal fault };
 
-    fn from(error: CopyError) -> Self {
-        match error {
-            CopyError::Unread => Refusal::ReadFault,
-            CopyError::NoMemory => Refusal::NoMemory,
+    fn from(fault: CopyFault) -> Self {
+        match fault {
+            CopyFault::ReadFault | CopyFault::Unsure => Refusal::ReadFault,
+            CopyFault::WriteFault { copy } => Refusal::WriteFault(copy),
         }
     }
 }
@@ -103,16 +92,38 @@ impl From<DtsError> for Refusal {
     }
 }
 
-impl From<bb_layout::LayoutError> for Refusal {
+impl From<LayoutError> for Refusal {
     ghost use Rattle.std.specs.Prelude.{◌≡◌};
-    ghost use Rattle.bb_tool.specs.Refusal.{state_layout_refusal};
+    ghost use Rattle.bb_tool.specs.Refusal.{layout_refusal};
 
-    ghost from_gives = { λ error e. e ≡ state_layout_refusal error };
+    ghost from_gives = { λ error e. e ≡ layout_refusal error };
 
-    fn from(error: bb_layout::LayoutError) -> Self {
+    fn from(error: LayoutError) -> Self {
         match error {
-            bb_layout::LayoutError::NoMemory => Refusal::NoMemory,
-            other => Refusal::BadStateLayout(other),
+            LayoutError::NoMemory => Refusal::NoMemory,
+            other => Refusal::BadLayout(other),
+        }
+    }
+}
+
+impl Refusal {
+    ghost use Rattle.bb_tool.specs.Refusal.{status_of};
+
+    /// The status with which a session ends that is so refused.
+    pub(crate) fn status(&self) -> Status
+        ensures { result ≡ status_of self.now }
+    {
+        match self {
+            Refusal::BadWords(_) => Status::BadWords,
+            Refusal::BadTree(_) => Status::BadTree,
+            Refusal::BadLayout(_) => Status::BadLayout,
+            Refusal::BadVariable(_, _) => Status::BadVariable,
+            Refusal::FileMissing(_) => Status::FileMissing,
+            Refusal::FileFault(_) => Status::FileFault,
+            Refusal::FileTooLong(_) => Status::FileTooLong,
+            Refusal::ReadFault => Status::ReadFault,
+            Refusal::WriteFault(_) => Status::WriteFault,
+            Refusal::NoMemory => Status::NoMemory,
         }
     }
 }

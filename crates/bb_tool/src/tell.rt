@@ -1,13 +1,9 @@
 ghost use Rattle.std.specs.Prelude.{◌≡◌, ◌≤◌};
-ghost use Rattle.bb_tool.specs.Ending.{IsTold, IsToldMade, IsToldRefusal, overruled};
-ghost use Rattle.bb_tool.specs.Refusal.{IsTellable, line_of};
-ghost use Rattle.bb_tool.specs.declared.refusal.Refusal.TheVariants as refusals;
+ghost use Rattle.bb_tool.specs.Refusal.{IsTellable};
+ghost use Rattle.bb_tool.specs.Telling.{IsTold, IsToldMade, IsToldMemory, IsToldRefusal, overruled};
 
 use crate::Status;
-use crate::line::{
-    fault_line, layout_line, long_line, missing_line, state_layout_line, tree_line, variable_line,
-    words_line, write_line,
-};
+use crate::line::{fixed_line, line, no_memory_line};
 use crate::refusal::Refusal;
 use bb_base::Sink;
 use std::alloc::{AllocError, Global};
@@ -32,57 +28,33 @@ fn overruled(ended: Status) -> Status
     }
 }
 
-/// Sends the one line of a refusal, and gives the status with which the session ends. A line that names something
-/// takes memory; where that is refused, so is the session. The lines of faults of the device take none.
-pub(crate) fn tell_refusal<K: Sink>(alloc: Global, refusal: Refusal, out: &mut K) -> Status
-    requires { IsTellable refusal }
-    ensures told { IsToldRefusal refusal (K.outlet out.old) (K.outlet out.new) result }
+/// Sends the one line of a refusal before which no text was gathered, and gives the status with which
+/// the session ends. A line that names something takes memory; where that is refused, so is the
+/// session. The lines of faults of the device take none.
+pub(crate) fn tell_refusal<K: Sink>(alloc: Global, refusal: &Refusal, out: &mut K) -> Status
+    requires { IsTellable refusal.now }
+    ensures told { IsToldRefusal refusal.now (K.outlet out.old) (K.outlet out.new) result }
     ensures later { (K.outlet out.old).faults ≤ (K.outlet out.new).faults }
 {
-    match refusal {
-        Refusal::BadWords(place) => tell_line(words_line(alloc, place), Status::BadWords, out),
-        Refusal::BadTree(error) => tell_line(tree_line(alloc, error), Status::BadTree, out),
-        Refusal::BadLayout(error) => tell(layout_line(error).as_bytes(), Status::BadLayout, out),
-        Refusal::BadStateLayout(error) => {
-            tell_line(state_layout_line(alloc, &error), Status::BadLayout, out)
-        }
-        Refusal::BadVariable(name) => {
-            tell_line(
-                variable_line(alloc, name.as_str()),
-                Status::BadVariable,
-                out,
-            )
-        }
-        Refusal::FileMissing(file) => {
-            tell_line(missing_line(alloc, file.as_str()), Status::FileMissing, out)
-        }
-        Refusal::FileFault(file) => tell_line(
-            fault_line(alloc, file.as_str()),
-            Status::FileFault,
-            out,
-        ),
-        Refusal::FileTooLong(file) => {
-            tell_line(long_line(alloc, file.as_str()), Status::FileTooLong, out)
-        }
-        Refusal::ReadFault => tell(b"fault 8 ReadFault\n", Status::ReadFault, out),
-        Refusal::WriteFault(copy) => tell(write_line(copy).as_bytes(), Status::WriteFault, out),
-        Refusal::NoMemory => tell_no_memory(out),
+    match fixed_line(refusal) {
+        Some(line) => tell(line.as_bytes(), refusal.status(), out),
+        None => tell_made(line(alloc, refusal), refusal.status(), out),
     }
 }
 
-fn tell_line<K: Sink>(line: Result<String, AllocError>, ended: Status, out: &mut K) -> Status
-    ensures told { IsToldMade line ended (K.outlet out.old) (K.outlet out.new) result }
+fn tell_made<K: Sink>(made: Result<String, AllocError>, ended: Status, out: &mut K) -> Status
+    ensures told { IsToldMade made ended (K.outlet out.old) (K.outlet out.new) result }
     ensures later { (K.outlet out.old).faults ≤ (K.outlet out.new).faults }
 {
-    match line {
+    match made {
         Ok(line) => tell(line.as_bytes(), ended, out),
         Err(_) => tell_no_memory(out),
     }
 }
 
 fn tell_no_memory<K: Sink>(out: &mut K) -> Status
-    ensures told { IsTold (line_of refusals.NoMemory) Status.NoMemory (K.outlet out.old) (K.outlet out.new) result }
+    ensures told { IsToldMemory (K.outlet out.old) (K.outlet out.new) result }
     ensures later { (K.outlet out.old).faults ≤ (K.outlet out.new).faults }
 {
-    tell(b"fault 20 NoMemory\n", Status::NoMemory, out)
+    tell(no_memory_line().as_bytes(), Status::NoMemory, out)
 }

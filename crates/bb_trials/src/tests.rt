@@ -7,7 +7,6 @@ use std::alloc::Global;
 use std::process::Abort;
 use std::test::Fail;
 
-mod faults;
 mod states;
 
 const LOOK: [&str; 4] = ["raw", "0x12345678", "9", "-g"];
@@ -18,13 +17,16 @@ const FOUND: &str = "313233343536373839\n";
 
 const NONE: &str = "none\n";
 
-const STRIDE_LEN: usize = 64;
-
 const ENTRY_LEN: usize = 33;
 
 // The front of a stride, and the record of `123456789` under the magic 0x12345678.
 fn entry() -> [u8; ENTRY_LEN] {
     *b"\xf3\xfd\x54\x23\x19\x00\x00\x00\x78\x56\x34\x12\x00\x00\x09\x00\x26\x39\xf4\xcb\x03\x2e\x3c\xdf123456789"
+}
+
+// What a write that failed left, behind a front that was voided.
+fn voided() -> [u8; ENTRY_LEN] {
+    *b"\x00\x00\x00\x00\x00\x00\x00\x00\xa5\xa5\xa5\xa5\xa5\xa5\xa5\xa5\xa5\xa5\xa5\xa5\xa5\xa5\xa5\xa5\xa5\xa5\xa5\xa5\xa5\xa5\xa5\xa5\xa5"
 }
 
 // Bytes over which nothing was written.
@@ -154,14 +156,17 @@ fn an_area_of_no_byte_is_saved(rt: HostRuntime) -> Result<(), Fail> {
 }
 
 #[test]
-fn a_failed_write_ends_the_save(rt: HostRuntime) -> Result<(), Fail> {
+fn a_copy_whose_write_fails_is_voided(rt: HostRuntime) -> Result<(), Fail> {
     let alloc = rt.alloc();
     let mut device = board(&rt, alloc, "ov:192", &fresh())?;
-    device.plan_fault(0, Fault::Fail(Fill::Junk))?;
-    let line = "fault 9 WriteFault 0\n";
-    says(&rt, alloc, &SAVE, &mut device, Status::WriteFault, line)?;
-    assert_eq!(rt; Status::WriteFault.code(), 9);
-    assert_eq!(rt; device.programs(), 0);
+    // A read of each copy's front, and then the write of copy 0.
+    device.plan_fault(3, Fault::Fail(Fill::Junk))?;
+    says(&rt, alloc, &SAVE, &mut device, Status::Done, "")?;
+    assert_eq!(rt;
+        device.bytes(),
+        strides([voided(), entry(), entry()]).as_slice()
+    );
+    assert_eq!(rt; device.programs(), 3);
     Ok(())
 }
 

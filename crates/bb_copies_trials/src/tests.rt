@@ -1,0 +1,55 @@
+use bb_base::{MemFiles, MemSink, Text, TextList};
+use bb_flash::MemBoard;
+use bb_tool::{Status, run};
+use std::alloc::Global;
+use std::process::Abort;
+use std::test::Fail;
+
+mod each_fault;
+mod large;
+mod mended;
+mod old_record;
+mod sets;
+mod strides;
+
+fn words(alloc: Global, all: &[&str]) -> Result<TextList, Fail> {
+    let mut list = TextList::none(alloc);
+    for word in all {
+        list.push(Text::of(alloc, word)?)?;
+    }
+    Ok(list)
+}
+
+// A session of these words, where the file `a.dts` has this text.
+fn session(
+    alloc: Global,
+    text: &str,
+    all: &[&str],
+    device: &mut MemBoard,
+    out: &mut MemSink,
+) -> Result<Status, Fail> {
+    let mut files = MemFiles::none(alloc);
+    files.add("a.dts", text.as_bytes())?;
+    let list = words(alloc, all)?;
+    Ok(run(alloc, &list, &mut files, device, out))
+}
+
+// What such a session answers and sends.
+fn says(
+    rt: &impl Abort,
+    alloc: Global,
+    text: &str,
+    all: &[&str],
+    device: &mut MemBoard,
+    status: Status,
+    sends: &str,
+) -> Result<(), Fail> {
+    let mut out = MemSink::with_room(alloc, 100)?;
+    assert_eq!(rt;
+        session(alloc, text, all, device, &mut out)?,
+        status,
+        "{sends}"
+    );
+    assert_eq!(rt; out.sent(), sends.as_bytes());
+    Ok(())
+}

@@ -1,0 +1,70 @@
+-- What a status says of how a text was told.
+use Rattle.std.proofs.Common.{◌≡◌, ◌≢◌, ◌⊎◌, ℕ, List, refl, sym, ◌∙◌, inl, inr}
+use Rattle.bb_base.specs.Faults.{Rose}
+use Rattle.bb_base.specs.Outlet.{Outlet}
+use Rattle.bb_tool.specs.Refusal.{line_of}
+use Rattle.bb_tool.specs.Telling.{IsCutOff, IsSent, IsTold, IsToldMemory, overruled}
+use Rattle.bb_tool.specs.declared.refusal.Refusal.TheVariants as refusals
+use Rattle.bb_tool.specs.declared.status.Status.{Status}
+use Rattle.bb_tool.specs.declared.status.Status.TheVariants as statuses
+
+-- a session's own status is that of its refusal, and isn't that of a failing output
+overrule_cases : (ended : Status) → (overruled ended ≡ statuses.SinkFault) ⊎ (overruled ended ≡ statuses.NoMemory)
+overrule_cases statuses.Done = inl refl
+overrule_cases statuses.BadWords = inl refl
+overrule_cases statuses.BadTree = inl refl
+overrule_cases statuses.BadVariable = inl refl
+overrule_cases statuses.FileMissing = inl refl
+overrule_cases statuses.FileFault = inl refl
+overrule_cases statuses.FileTooLong = inl refl
+overrule_cases statuses.BadLayout = inl refl
+overrule_cases statuses.ReadFault = inl refl
+overrule_cases statuses.WriteFault = inl refl
+overrule_cases statuses.SinkFault = inl refl
+overrule_cases statuses.NoMemory = inr refl
+
+pub told_cases : (text : List ℕ) (ended : Status) (before after : Outlet) (status : Status) → IsTold text ended before after status → (status ≡ ended) ⊎ ((status ≡ statuses.SinkFault) ⊎ (status ≡ statuses.NoMemory))
+told_cases text ended before after status (inl sent) = inl sent.status_is
+told_cases text ended before after status (inr cut) = elim (overrule_cases ended) [ inl e ↦ inr (inl (cut.status_is ∙ e)) | inr e ↦ inr (inr (cut.status_is ∙ e)) ]
+
+-- an answer that isn't one of the two that come first is the session's own
+pub told_own : (text : List ℕ) (ended answer : Status) (before after : Outlet) (status : Status) → IsTold text ended before after status → answer ≢ statuses.SinkFault → answer ≢ statuses.NoMemory → status ≡ answer → ended ≡ answer
+told_own text ended answer before after status told first second e =
+    elim (told_cases text ended before after status told) [
+      | inl own ↦ sym own ∙ e
+      | inr other ↦ elim other [ inl sink ↦ absurd (first (sym e ∙ sink)) | inr memory ↦ absurd (second (sym e ∙ memory)) ]
+    ]
+
+-- what was told of want of memory isn't another answer
+pub told_other : (answer : Status) (before after : Outlet) (status : Status) → IsTold (line_of refusals.NoMemory) statuses.NoMemory before after status → answer ≢ statuses.SinkFault → answer ≢ statuses.NoMemory → status ≡ answer → ⊥
+told_other answer before after status told first second e = second (sym (told_own (line_of refusals.NoMemory) statuses.NoMemory answer before after status told first second e))
+
+overruled_memory : (ended : Status) → overruled ended ≡ statuses.NoMemory → ended ≡ statuses.NoMemory
+overruled_memory statuses.Done e = absurd cc
+overruled_memory statuses.BadWords e = absurd cc
+overruled_memory statuses.BadTree e = absurd cc
+overruled_memory statuses.BadVariable e = absurd cc
+overruled_memory statuses.FileMissing e = absurd cc
+overruled_memory statuses.FileFault e = absurd cc
+overruled_memory statuses.FileTooLong e = absurd cc
+overruled_memory statuses.BadLayout e = absurd cc
+overruled_memory statuses.ReadFault e = absurd cc
+overruled_memory statuses.WriteFault e = absurd cc
+overruled_memory statuses.SinkFault e = absurd cc
+overruled_memory statuses.NoMemory e = refl
+
+pub told_memory : (text : List ℕ) (ended : Status) (before after : Outlet) (status : Status) → IsTold text ended before after status → status ≡ statuses.NoMemory → ended ≡ statuses.NoMemory
+told_memory text ended before after status (inl sent) e = sym sent.status_is ∙ e
+told_memory text ended before after status (inr cut) e = overruled_memory ended (sym cut.status_is ∙ e)
+
+pub told_front : (text : List ℕ) (ended : Status) (before after : Outlet) (status : Status) → IsTold text ended before after status → ended ≢ statuses.SinkFault → status ≡ statuses.SinkFault → IsCutOff text ended before after status
+told_front text ended before after status (inl sent) own e = absurd (own (sym sent.status_is ∙ e))
+told_front text ended before after status (inr cut) own e = cut
+
+pub memory_sink : (before after : Outlet) (status : Status) → IsToldMemory before after status → status ≢ statuses.SinkFault
+memory_sink before after status (inl sent) = λ e. (let h : statuses.NoMemory ≡ statuses.SinkFault = sym sent.status_is ∙ e in cc)
+memory_sink before after status (inr cut) = λ e. (let h : statuses.NoMemory ≡ statuses.SinkFault = sym cut.status_is ∙ e in cc)
+
+pub told_whole : (text : List ℕ) (ended : Status) (before after : Outlet) (status : Status) → IsTold text ended before after status → (Rose before.faults after.faults → ⊥) → IsSent text ended before after status
+told_whole text ended before after status (inl sent) whole = sent
+told_whole text ended before after status (inr cut) whole = absurd (whole cut.cause)

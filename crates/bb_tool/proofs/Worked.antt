@@ -1,0 +1,394 @@
+-- The ways in which the work of a plan ends.
+use Rattle.std.proofs.Common.{◌≡◌, ◌≢◌, ◌&&◌, ℕ, ◌≤◌, Bool, true, false, not, List, [], ◌∷◌, ◌++◌, length, take, Vec, Global, Option, Some, None, Result, Ok, Err, IfOk, IfErr, option_map, arith, refl, sym, ap, subst, ◌∙◌, inl, inr}
+use Rattle.std.specs.Bool.{then_some}
+use Rattle.std.specs.Option.{ForSome}
+use Rattle.std.proofs.lemmas.Grind.{common_steps}
+use Rattle.std.specs.Str.{bytes_eq}
+use Rattle.bb_copies.specs.Loading.{KeepsOutside, LoadGives, LoadImages, LoadsExactly, LookGives}
+use Rattle.bb_copies.specs.Saving.{EachWritten, SaveFails, SaveRuns}
+use Rattle.bb_copies.specs.Settling.{IsUndisturbed}
+use Rattle.bb_copies.specs.Store.{used_after}
+use Rattle.bb_copies.specs.declared.answers.CopyFault.{CopyFault}
+use Rattle.bb_copies.specs.declared.answers.CopyFault.TheVariants.{Unsure}
+use Rattle.bb_copies.specs.declared.answers.Loaded.{Loaded}
+use Rattle.bb_flash.specs.Cuts.{IsLater}
+use Rattle.bb_flash.specs.Device.{Device, LeavesStarts, content}
+use Rattle.bb_flash.proofs.Moments.{later_joined}
+use Rattle.bb_actions.specs.Actions.{after_all}
+use Rattle.bb_words.specs.declared.command.Action.{Action}
+use Rattle.bb_tool.proofs.Quiet.{starts_joined}
+use Rattle.bb_layout.specs.Layout.{Laid}
+use Rattle.bb_vars.specs.Table.{table_with}
+use Rattle.bb_state.specs.Kinds.{laid_form, laid_kinds}
+use Rattle.bb_state.specs.State.{IsDefault, IsRefused, has_changed, is_kept, is_sure, kept_of, laid_of, used_of}
+use Rattle.bb_state.specs.State.{IsStored}
+use Rattle.bb_state.specs.declared.state.State.{State}
+use Rattle.bb_tool.specs.Looking.{first_found, look_text, passed_in}
+use Rattle.bb_tool.specs.Plan.{Act, Plan, Show, Work, Write}
+use Rattle.bb_tool.specs.Refusal.{copy_refusal}
+use Rattle.bb_tool.specs.Session.{LoadAnswer, SaveAnswer, loaded_area, saved, saved_where, saves_behind, saves_of, text_of}
+use Rattle.bb_tool.specs.Work.{AreSaved, Gives, IsLoaded, IsLooked, IsSaved, IsStoreWork, IsWorkOf, IsWorkedOut, taken}
+use Rattle.bb_tool.specs.declared.refusal.Refusal.{Refusal}
+use Rattle.bb_tool.specs.declared.refusal.Refusal.TheVariants as refusals
+use Rattle.bb_tool.proofs.Kept.{found_first, found_none, load_area}
+
+-- ---- memory was refused before the device was asked
+
+pub unasked_out : (layout : Laid) (work : Work) (device : Device) (given : Result (List ℕ) Refusal) →
+    given ≡ Err refusals.NoMemory → IsWorkedOut layout work device device given
+unasked_out layout work device given is = inr (inr (record { is = is; unasked = refl }))
+
+-- ---- a look
+
+pub look_told : (layout : Laid) (area : List ℕ) (found : Bool) (from : Device) →
+    LookGives (laid_form layout) (laid_kinds layout) area from found →
+    ForSome (content from)
+    (λ image. then_some found area ≡ first_found (passed_in layout from.geometry.page image))
+look_told layout area true from gives = λ image told.
+    let first = gives image told in
+    found_first [] area (passed_in layout from.geometry.page image) first.some (first.first [])
+look_told layout area false from gives = λ image told.
+    found_none (passed_in layout from.geometry.page image) (gives image told)
+
+pub look_done : (layout : Laid) (from to : Device) (found : Option (List ℕ)) (text : List ℕ) →
+    IsLooked layout from to (Ok found) → text ≡ look_text found →
+    IsWorkedOut layout Show from to (Ok text)
+look_done layout from to found text looked is = inl (record {
+  load = Ok found;
+  saves = [];
+  work = record { looked = looked; none = refl };
+  gives = (sym is, refl);
+})
+
+pub look_textless : (layout : Laid) (from to : Device) (found : Option (List ℕ))
+    (given : Result (List ℕ) Refusal) → IsLooked layout from to (Ok found) →
+    given ≡ Err refusals.NoMemory → IsWorkedOut layout Show from to given
+look_textless layout from to found given looked is = inr (inl (record {
+  load = Ok found;
+  saves = [];
+  work = record { looked = looked; none = refl };
+  whole = refl;
+  is = is;
+}))
+
+pub look_refused : (layout : Laid) (from to : Device) (fault : CopyFault)
+    (given : Result (List ℕ) Refusal) → IsLooked layout from to (Err fault) →
+    given ≡ Err (copy_refusal fault) → IsWorkedOut layout Show from to given
+look_refused layout from to fault given looked is =
+    subst (IsWorkedOut layout Show from to) (sym is)
+    (inl (record {
+      load = Err fault;
+      saves = [];
+      work = record { looked = looked; none = refl };
+      gives = (refl, refl);
+    }))
+
+-- ---- a load
+
+-- what the clauses of a load say, over the area that it leaves
+pub record LoadClauses (layout : Laid) (area : List ℕ) (from to : Device)
+    (answer : Result Loaded CopyFault) : Type 0 where
+  pub images : LoadImages (laid_form layout) (laid_kinds layout) from to
+  pub outside : KeepsOutside (laid_kinds layout) from to
+  pub later : IsLater from to
+  pub starts : LeavesStarts from to
+  pub gives : IfOk answer (LoadGives (laid_form layout) (laid_kinds layout) area from to)
+  pub defaults : IfOk answer (IsDefault layout area)
+  pub exact : IfOk answer (LoadsExactly (laid_form layout) (laid_kinds layout) area from to)
+  pub fails : IfErr answer (IsRefused layout from to)
+
+pub load_ok : (layout : Laid) (area : List ℕ) (from to : Device) (loaded : Loaded) →
+    LoadClauses layout area from to (Ok loaded) →
+    IsLoaded layout (used_after loaded) from to (Ok (taken area loaded))
+load_ok layout area from to loaded clauses = record {
+  images = clauses.images;
+  outside = clauses.outside;
+  later = clauses.later;
+  starts = clauses.starts;
+  gives = record {
+    area = area;
+    loaded = loaded;
+    gave = record { gives = clauses.gives; defaults = clauses.defaults; exact = clauses.exact };
+    taken = refl;
+    used_is = refl;
+  };
+  fails = tt;
+}
+
+load_err : (layout : Laid) (area : List ℕ) (from to : Device) (fault : CopyFault) →
+    LoadClauses layout area from to (Err fault) → IsLoaded layout None from to (Err fault)
+load_err layout area from to fault clauses = record {
+  images = clauses.images;
+  outside = clauses.outside;
+  later = clauses.later;
+  starts = clauses.starts;
+  gives = tt;
+  fails = clauses.fails;
+}
+
+-- work that isn't a look
+abbrev pub is_store : Work → Bool
+is_store Show = false
+is_store (Write area) = true
+is_store (Act actions) = true
+
+store_work : (work : Work) (plan : Plan) (from to : Device) (load : LoadAnswer)
+    (saves : List SaveAnswer) → is_store work ≡ true → IsStoreWork plan from to load saves →
+    IsWorkOf work plan from to load saves
+store_work Show plan from to load saves stored done = absurd cc
+store_work (Write area) plan from to load saves stored done = done
+store_work (Act actions) plan from to load saves stored done = done
+
+pub load_refused : (layout : Laid) (work : Work) (area : List ℕ) (from to : Device)
+    (fault : CopyFault) (given : Result (List ℕ) Refusal) → is_store work ≡ true →
+    2 ≤ layout.copies → LoadClauses layout area from to (Err fault) →
+    given ≡ Err (copy_refusal fault) → IsWorkedOut layout work from to given
+load_refused layout work area from to fault given stored many clauses is =
+    let plan : Plan = record { layout = layout; work = work } in
+    subst (IsWorkedOut layout work from to) (sym is)
+    (inl (record {
+      load = Err fault;
+      saves = [];
+      work = store_work work plan from to (Err fault) [] stored (record {
+        middle = to;
+        used = None;
+        many = many;
+        loaded = load_err layout area from to fault clauses;
+        saved = (refl, refl);
+      });
+      gives = (refl, refl);
+    }))
+
+-- ---- saves
+
+-- the saves that were begun of these areas, and what they make of the session that has this text
+pub record IsBegun (layout : Laid) (used : Option ℕ) (areas : List (List ℕ)) (mid to : Device)
+    (given : List ℕ → Result (List ℕ) Refusal) : Type 0 where
+  pub saves : List SaveAnswer
+  pub are : AreSaved layout used areas mid to saves
+  pub gives : (text : List ℕ) → Gives (saved text areas saves) (given text)
+
+pub saved_ok : (layout : Laid) (used : Option ℕ) (area : List ℕ) (mid to : Device) →
+    IsSaved layout used area mid to (Ok tt) →
+    IsBegun layout used (area ∷ []) mid to (λ text. Ok text)
+saved_ok layout used area mid to done = record {
+  saves = Ok tt ∷ [];
+  are = (done, (refl, refl));
+  gives = λ text. (refl, refl);
+}
+
+pub saved_err : (layout : Laid) (used : Option ℕ) (area : List ℕ) (mid to : Device)
+    (fault : CopyFault) → IsSaved layout used area mid to (Err fault) →
+    IsBegun layout used (area ∷ []) mid to (λ text. Err (copy_refusal fault))
+saved_err layout used area mid to fault done = record {
+  saves = Err fault ∷ [];
+  are = (done, (refl, refl));
+  gives = λ text. (refl, refl);
+}
+
+-- an area that is the one that was loaded isn't saved
+pub where_ok : (layout : Laid) (used : Option ℕ) (area : List ℕ) (mid to : Device) (same : Bool) →
+    (same ≡ true → to ≡ mid) → (same ≡ false → IsSaved layout used area mid to (Ok tt)) →
+    IsBegun layout used (saved_where same area) mid to (λ text. Ok text)
+where_ok layout used area mid to true idle saves = record {
+  saves = [];
+  are = (refl, idle refl);
+  gives = λ text. (refl, refl);
+}
+where_ok layout used area mid to false idle saves = saved_ok layout used area mid to (saves refl)
+
+pub where_err : (layout : Laid) (used : Option ℕ) (area : List ℕ) (mid to : Device) (same : Bool)
+    (fault : CopyFault) → (same ≡ true → ⊥) →
+    (same ≡ false → IsSaved layout used area mid to (Err fault)) →
+    IsBegun layout used (saved_where same area) mid to (λ text. Err (copy_refusal fault))
+where_err layout used area mid to true fault idle saves = absurd (idle refl)
+where_err layout used area mid to false fault idle saves =
+    saved_err layout used area mid to fault (saves refl)
+
+-- ---- the work behind a load that answered Ok
+
+module _ (layout : Laid) (work : Work) (from mid to : Device) (area : List ℕ) (loaded : Loaded)
+    (stored : is_store work ≡ true) (many : 2 ≤ layout.copies)
+    (clauses : LoadClauses layout area from mid (Ok loaded))
+    (given : List ℕ → Result (List ℕ) Refusal)
+    (begun : IsBegun layout (used_after loaded) (saves_of layout work area) mid to given) where
+  abbrev Whole : Plan
+  Whole = record { layout = layout; work = work }
+
+  same_area : loaded_area layout (taken area loaded) ≡ area
+  same_area =
+      load_area layout area loaded from mid
+      (record { gives = clauses.gives; defaults = clauses.defaults; exact = clauses.exact })
+
+  begun_behind : IsBegun layout (used_after loaded) (saves_behind Whole (Ok (taken area loaded)))
+      mid to given
+  begun_behind =
+      subst (λ a. IsBegun layout (used_after loaded) (saves_of layout work a) mid to given)
+      (sym same_area) begun
+
+  store_done : IsWorkOf work Whole from to (Ok (taken area loaded)) begun_behind.saves
+  store_done =
+      store_work work Whole from to (Ok (taken area loaded)) begun_behind.saves stored (record {
+        middle = mid;
+        used = used_after loaded;
+        many = many;
+        loaded = load_ok layout area from mid loaded clauses;
+        saved = begun_behind.are;
+      })
+
+  -- the session answers this
+  pub stored_out : (answer : Result (List ℕ) Refusal) →
+      answer ≡ given (text_of layout work (taken area loaded)) →
+      IsWorkedOut layout work from to answer
+  stored_out answer is =
+      subst (IsWorkedOut layout work from to) (sym is)
+      (inl (record {
+        load = Ok (taken area loaded);
+        saves = begun_behind.saves;
+        work = store_done;
+        gives = begun_behind.gives (text_of layout work (taken area loaded));
+      }))
+
+  -- or memory was refused for its text
+  pub stored_textless : ((text : List ℕ) → given text ≡ Ok text) →
+      (answer : Result (List ℕ) Refusal) → answer ≡ Err refusals.NoMemory →
+      IsWorkedOut layout work from to answer
+  stored_textless whole answer is =
+      let text = text_of layout work (taken area loaded) in
+      let gives = subst
+      (Gives (saved text (saves_behind Whole (Ok (taken area loaded))) begun_behind.saves))
+      (whole text) (begun_behind.gives text) in
+      inr (inl (record {
+        load = Ok (taken area loaded);
+        saves = begun_behind.saves;
+        work = store_done;
+        whole = gives.1;
+        is = is;
+      }))
+
+-- ---- a vector that was filled anew
+
+-- it holds what it was filled with
+pub take-refill : (n : ℕ) (bytes others : List ℕ) → length bytes ≡ n →
+    take n (bytes ++ others) ≡ bytes
+take-refill n bytes others whole = grind (arith, common_steps)
+
+pub refilled : (found : Bool) (kept : Vec ℕ Global) (bytes : List ℕ) → kept.items ≡ bytes →
+    option_map (λ v. v.items) (then_some found kept) ≡ then_some found bytes
+refilled true kept bytes same = ap (λ b. Some b) same
+refilled false kept bytes same = refl
+
+-- a table is another of its length
+pub put_whole : (table area : List ℕ) → length area ≡ length table → table_with table 0 area ≡ area
+put_whole table area whole = grind (arith, common_steps)
+
+-- ---- a table that may have changed
+
+changed_is : (sure same : Bool) → sure ≡ true → (sure && not same) ≡ not same
+changed_is true same is = refl
+changed_is false same is = absurd cc
+
+kept_is : (sure same : Bool) → sure ≡ true → (sure && same) ≡ same
+kept_is true same is = refl
+kept_is false same is = absurd cc
+
+pub has_changed_is : (state : State) (area new : List ℕ) → is_sure state ≡ true →
+    state.table ≡ new → kept_of state ≡ area → has_changed state ≡ not (bytes_eq new area)
+has_changed_is state area new sure table kept =
+    changed_is (is_sure state) (bytes_eq state.table (kept_of state)) sure
+    ∙ ap (λ t. not (bytes_eq t (kept_of state))) table ∙ ap (λ k. not (bytes_eq new k)) kept
+
+pub is_kept_is : (state : State) (area new : List ℕ) → is_sure state ≡ true →
+    state.table ≡ new → kept_of state ≡ area → is_kept state ≡ bytes_eq new area
+is_kept_is state area new sure table kept =
+    kept_is (is_sure state) (bytes_eq state.table (kept_of state)) sure
+    ∙ ap (λ t. bytes_eq t (kept_of state)) table ∙ ap (λ k. bytes_eq new k) kept
+
+-- ---- the save behind all sets
+
+module _ (first state : State) (layout : Laid) (actions : List Action) (loaded : Loaded)
+    (mid to : Device) (now : Option ℕ)
+    (backing : state ≡ record first { table = state.table })
+    (table : state.table ≡ after_all (laid_of first).vars first.table actions)
+    (layout_is : laid_of first ≡ layout) (used : used_of first ≡ used_after loaded)
+    (sure : is_sure first ≡ true) (kept : kept_of first ≡ first.table)
+    (runs : has_changed state ≡ true →
+    SaveRuns (laid_form (laid_of state)) (laid_kinds (laid_of state)) (used_of state) state.table mid
+    to)
+    (idle : has_changed state ≡ false → to ≡ mid) where
+  abbrev New : List ℕ
+  New = after_all layout.vars first.table actions
+
+  new_is : state.table ≡ New
+  new_is = table ∙ ap (λ (l : Laid). after_all l.vars first.table actions) layout_is
+
+  sure_is : is_sure state ≡ true
+  sure_is = ap is_sure backing ∙ sure
+
+  kept_so : kept_of state ≡ first.table
+  kept_so = ap kept_of backing ∙ kept
+
+  changed_so : has_changed state ≡ not (bytes_eq New first.table)
+  changed_so = has_changed_is state first.table New sure_is new_is kept_so
+
+  moved : (answer : SaveAnswer) → IsSaved (laid_of state) (used_of state) state.table mid to answer →
+      IsSaved layout (used_after loaded) New mid to answer
+  moved answer done =
+      subst (λ (l : Laid). IsSaved l (used_after loaded) New mid to answer)
+      (ap laid_of backing ∙ layout_is)
+      (subst (λ (u : Option ℕ). IsSaved (laid_of state) u New mid to answer)
+      (ap used_of backing ∙ used)
+      (subst (λ (a : List ℕ). IsSaved (laid_of state) (used_of state) a mid to answer) new_is done))
+
+  pub acted_ok :
+      (has_changed state ≡ true → IsStored (laid_of state) state.table now mid to) →
+      (has_changed state ≡ true → IsUndisturbed mid to →
+      EachWritten (laid_kinds (laid_of state)) ((laid_form (laid_of state)).text state.table) mid to) →
+      IsBegun layout (used_after loaded) (saves_of layout (Act actions) first.table) mid to
+      (λ text. Ok text)
+  acted_ok stored exact =
+      where_ok layout (used_after loaded) New mid to (bytes_eq New first.table)
+      (λ e. idle (changed_so ∙ ap not e))
+      (λ e. let changed = changed_so ∙ ap not e in
+      moved (Ok tt) (record {
+        now = now;
+        runs = runs changed;
+        stored = stored changed;
+        fails = tt;
+        sure = tt;
+        exact = exact changed;
+      }))
+
+  pub acted_err : (fault : CopyFault) → (is_kept state ≡ true → ⊥) → fault ≢ Unsure →
+      SaveFails (laid_form (laid_of state)) (laid_kinds (laid_of state)) (used_of state) state.table
+      mid to fault →
+      IsBegun layout (used_after loaded) (saves_of layout (Act actions) first.table) mid to
+      (λ text. Err (copy_refusal fault))
+  acted_err fault same other fails =
+      where_err layout (used_after loaded) New mid to (bytes_eq New first.table) fault
+      (λ e. same (is_kept_is state first.table New sure_is new_is kept_so ∙ e))
+      (λ e. moved (Err fault) (record {
+        now = now;
+        runs = runs (changed_so ∙ ap not e);
+        stored = tt;
+        fails = fails;
+        sure = other;
+        exact = λ calm. tt;
+      }))
+
+pub begun_later : (layout : Laid) (used : Option ℕ) (areas : List (List ℕ)) (saves : List SaveAnswer)
+    (from mid to : Device) → AreSaved layout used areas mid to saves → IsLater from mid →
+    IsLater from to
+begun_later layout used [] saves from mid to are later = subst (IsLater from) (sym are.1) later
+begun_later layout used (area ∷ areas) [] from mid to are later = absurd are
+begun_later layout used (area ∷ areas) (answer ∷ saves) from mid to are later =
+    later_joined from mid to later are.0.runs.later
+
+pub begun_starts : (layout : Laid) (used : Option ℕ) (areas : List (List ℕ))
+    (saves : List SaveAnswer) (from mid to : Device) → AreSaved layout used areas mid to saves →
+    LeavesStarts from mid → LeavesStarts from to
+begun_starts layout used [] saves from mid to are starts =
+    subst (LeavesStarts from) (sym are.1) starts
+begun_starts layout used (area ∷ areas) [] from mid to are starts = absurd are
+begun_starts layout used (area ∷ areas) (answer ∷ saves) from mid to are starts =
+    starts_joined from mid to starts are.0.runs.starts

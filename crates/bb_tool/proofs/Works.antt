@@ -1,0 +1,265 @@
+-- The turn of a session and its trail, from what its work made of the device.
+use Rattle.std.proofs.Common.{◌≡◌, ℕ, List, [], ◌∷◌, length, Option, Some, None, Ok, Err, is_some, refl, sym, ap, subst, ◌∙◌, inl, inr, arith}
+use Rattle.std.specs.Option.{option_map}
+use Rattle.std.proofs.lemmas.Option.{slice_get_within}
+use Rattle.bb_copies.specs.Chronicle.{Content, Loaded, Looked, Turn, Unloaded}
+use Rattle.bb_copies.specs.Loading.{KeepsOutside}
+use Rattle.bb_copies.specs.Luck.{IsLucky}
+use Rattle.bb_copies.specs.StandsFor.{Stands, picked}
+use Rattle.bb_copies.specs.declared.answers.CopyFault.{CopyFault}
+use Rattle.bb_flash.specs.Counted.{Counts}
+use Rattle.bb_flash.specs.Cuts.{EachImage, IsLater, IsSameRegion}
+use Rattle.bb_flash.specs.Device.{Device, Told, moment}
+use Rattle.bb_flash.specs.Image.{Image}
+use Rattle.bb_flash.proofs.Moments.{images_joined}
+use Rattle.bb_layout.specs.Layout.{Laid}
+use Rattle.bb_state.specs.Kinds.{laid_kinds}
+use Rattle.bb_tool.specs.Looking.{IsQuiet, passed_in}
+use Rattle.bb_tool.specs.Plan.{Act, Plan, Show, Work, Write}
+use Rattle.bb_tool.specs.Session.{LoadAnswer, SaveAnswer, saved, saves_behind, text_of}
+use Rattle.bb_tool.specs.Turns.{EachStanding, HasTrail, HasTrails, IsFairRun, LeadsOn, LeadsTo, first_area, load_turn, made_of, work_turn}
+use Rattle.bb_tool.specs.Work.{AreSaved, IsLoaded, IsSaved, IsStoreWork, IsWork, IsWorkOf}
+use Rattle.bb_tool.proofs.Copies.{given, load_stays, loads_in_order, saves_in_order, since_entry, since_load, stored_stands}
+use Rattle.bb_tool.proofs.Turns.{counts_now, fair_from, leads, loaded_leads, loaded_trail, made_leads, made_trail, refused_leads, refused_trail, some_of, standing_at, stays_trail}
+
+-- the turn leads on, in a fair run, and has a trail
+record IsTurned (layout : Laid) (page : ℕ) (turn : List (Option ℕ) → Turn) (first last : Told)
+    (before : Content) : Type 0 where
+  leads : IsFairRun layout page first last →
+      LeadsTo (first_area layout) before (turn before.marks) (passed_in layout page last.image)
+  trail : HasTrail layout page first last before (turn before.marks)
+
+abbrev Turned : Laid → Device → Device → (List (Option ℕ) → Turn) → Type 0
+Turned layout from to turn =
+    EachStanding layout from to (IsTurned layout from.geometry.page turn)
+
+-- ---- a load that was refused
+
+unloaded : (layout : Laid) (used : Option ℕ) (from mid : Device) (fault : CopyFault) →
+    IsLoaded layout used from mid (Err fault) → Turned layout from mid (λ marks. Unloaded)
+unloaded layout used from mid fault load = λ first e last f before is stands.
+    let page = from.geometry.page in
+    let stays = load_stays layout from mid first last e f before is stands load.images load.later in
+    let order = loads_in_order layout from mid first last e f before is stands load.images
+    load.later in
+    record {
+      leads = λ fair.
+          leads layout page before Unloaded before.areas before.acked
+          (passed_in layout page last.image) (record { areas = refl; acked = refl })
+          (stays last.image (inl (record { held = refl; fair = fair })));
+      trail = stays_trail layout page first last before Unloaded order refl stays;
+    }
+
+-- ---- a load that answered Ok
+
+abbrev behind : List ℕ → List (List ℕ) → List SaveAnswer → List (Option ℕ) → Turn
+behind text areas saves marks =
+    Loaded (picked marks) (saved text areas saves).saves (made_of saves) None
+
+unsaved : (layout : Laid) (used : Option ℕ) (from mid : Device) (found : Option (List ℕ)) →
+    IsLoaded layout used from mid (Ok found) →
+    Turned layout from mid (λ marks. Loaded (picked marks) [] 0 None)
+unsaved layout used from mid found load = λ first e last f before is stands.
+    let page = from.geometry.page in
+    let stays = load_stays layout from mid first last e f before is stands load.images load.later in
+    let order = loads_in_order layout from mid first last e f before is stands load.images
+    load.later in
+    let here = given layout from mid first last e f before is stands load.images load.later used
+    found load.gives in
+    record {
+      leads = λ fair. loaded_leads layout page first last before order stays here;
+      trail = loaded_trail layout page first last before order stays here;
+    }
+
+once_saved : (layout : Laid) (used : Option ℕ) (from mid to : Device) (found : Option (List ℕ))
+    (area : List ℕ) → IsLoaded layout used from mid (Ok found) → (answer : SaveAnswer) →
+    IsSaved layout used area mid to answer →
+    Turned layout from to
+    (λ marks. Loaded (picked marks) (area ∷ []) (made_of (answer ∷ [])) None)
+once_saved layout used from mid to found area load (Ok made) save = λ first e last f before is stands.
+    let page = from.geometry.page in
+    let there = some_of mid.told (load.later.told ∙ ap is_some e) in
+    let middle = there.0 in
+    let g = there.1 in
+    let early = loads_in_order layout from mid first middle e g before is stands load.images
+    load.later in
+    let late = saves_in_order layout from mid first middle e g before is stands load.images
+    load.later used found load.gives to last f save.runs.later area save.runs.images in
+    let entry = since_entry layout from mid first middle e g before is stands load.images
+    load.later used found load.gives to last f save.runs.later area save.runs.images in
+    let loaded = since_load layout from mid first middle e g before is stands load.images
+    load.later used found load.gives to last f save.runs.later area save.runs.images in
+    let here = stored_stands layout from mid first middle e g before is stands load.images
+    load.later used found load.gives to last f save.runs.later area save.runs.images save.now
+    save.stored in
+    record {
+      leads = λ fair. made_leads layout page first middle last before area early late here;
+      trail = made_trail layout page first middle last before area early late entry loaded here;
+    }
+once_saved layout used from mid to found area load (Err fault) save = λ first e last f before is stands.
+    let page = from.geometry.page in
+    let there = some_of mid.told (load.later.told ∙ ap is_some e) in
+    let middle = there.0 in
+    let g = there.1 in
+    let early = loads_in_order layout from mid first middle e g before is stands load.images
+    load.later in
+    let late = saves_in_order layout from mid first middle e g before is stands load.images
+    load.later used found load.gives to last f save.runs.later area save.runs.images in
+    let entry = since_entry layout from mid first middle e g before is stands load.images
+    load.later used found load.gives to last f save.runs.later area save.runs.images in
+    let loaded = since_load layout from mid first middle e g before is stands load.images
+    load.later used found load.gives to last f save.runs.later area save.runs.images in
+    record {
+      leads = λ fair.
+          refused_leads layout page first middle last before area early late
+          (loaded last.image (inl (record {
+            held = refl;
+            fair = fair_from (IsLucky (passed_in layout page)) last (moment first) (moment middle)
+                early fair;
+          })));
+      trail = refused_trail layout page first middle last before area early late entry loaded;
+    }
+
+saves_turned : (layout : Laid) (used : Option ℕ) (from mid to : Device) (found : Option (List ℕ))
+    (text : List ℕ) (areas : List (List ℕ)) (saves : List SaveAnswer) →
+    IsLoaded layout used from mid (Ok found) → AreSaved layout used areas mid to saves →
+    Turned layout from to (behind text areas saves)
+saves_turned layout used from mid to found text [] saves load saved_so =
+    subst (λ d. Turned layout from d (behind text [] saves)) (sym saved_so.1)
+    (subst (λ s. Turned layout from mid (behind text [] s)) (sym saved_so.0)
+    (unsaved layout used from mid found load))
+saves_turned layout used from mid to found text (area ∷ areas) [] load saved_so = absurd saved_so
+saves_turned layout used from mid to found text (area ∷ []) (Ok made ∷ []) load saved_so =
+    once_saved layout used from mid to found area load (Ok made) saved_so.0
+saves_turned layout used from mid to found text (area ∷ []) (Err fault ∷ []) load saved_so =
+    once_saved layout used from mid to found area load (Err fault) saved_so.0
+saves_turned layout used from mid to found text (area ∷ (other ∷ areas)) (answer ∷ answers) load saved_so =
+    absurd (let e = saved_so.1.0 in cc)
+saves_turned layout used from mid to found text (area ∷ []) (answer ∷ (other ∷ answers)) load saved_so =
+    absurd (let e = saved_so.1.1 in cc)
+
+-- ---- the work of a plan
+
+store_turned : (plan : Plan) (from to : Device) (load : LoadAnswer) (saves : List SaveAnswer) →
+    IsStoreWork plan from to load saves → Turned plan.layout from to (load_turn plan load saves)
+store_turned plan from to (Ok found) saves work =
+    saves_turned plan.layout work.used from work.middle to found
+    (text_of plan.layout plan.work found) (saves_behind plan (Ok found)) saves work.loaded work.saved
+store_turned plan from to (Err fault) saves work =
+    subst (λ d. Turned plan.layout from d (λ marks. Unloaded)) (sym work.saved.1)
+    (unloaded plan.layout work.used from work.middle fault work.loaded)
+
+but_reads_told : (a b : Option Told) (first last : Told) → a ≡ Some first → b ≡ Some last →
+    option_map (λ (t : Told). record t { reads = 0 }) b
+    ≡ option_map (λ (t : Told). record t { reads = 0 }) a →
+    (last.changes ≡ first.changes) × (last.image ≡ first.image)
+but_reads_told a b first last e f same =
+    let zeroed = option_map (λ (t : Told). record t { reads = 0 }) in
+    let one : Some (record last { reads = 0 }) ≡ Some (record first { reads = 0 }) =
+    sym (ap zeroed f) ∙ same ∙ ap zeroed e in
+    let two : record last { reads = 0 } ≡ record first { reads = 0 } = cc in
+    (ap (λ (t : Told). t.changes) two, ap (λ (t : Told). t.image) two)
+
+look_turned : (layout : Laid) (from to : Device) → IsQuiet from to →
+    Turned layout from to (λ marks. Looked)
+look_turned layout from to quiet = λ first e last f before is stands.
+    let page = from.geometry.page in
+    let kept = but_reads_told from.told to.told first last e f quiet.told in
+    let same : moment first ≡ moment last = sym (ap length kept.0) in
+    let here : Stands (first_area layout) (passed_in layout page last.image) before.areas
+    before.acked =
+    subst (λ p. Stands (first_area layout) p before.areas before.acked)
+    (ap (passed_in layout page) (sym kept.1))
+    (record { marks = before.marks; stands = standing_at layout page before first.image is stands })
+    in
+    let stays : (image : Image) →
+    Counts (IsLucky (passed_in layout page)) page last (moment first) image →
+    Stands (first_area layout) (passed_in layout page image) before.areas before.acked =
+    λ image counts.
+    let now = counts_now (IsLucky (passed_in layout page)) page last image
+    (subst (λ m. Counts (IsLucky (passed_in layout page)) page last m image) same counts) in
+    subst (λ p. Stands (first_area layout) p before.areas before.acked)
+    (ap (passed_in layout page) (sym now)) here in
+    record {
+      leads = λ fair.
+          leads layout page before Looked before.areas before.acked
+          (passed_in layout page last.image) (record { areas = refl; acked = refl }) here;
+      trail = stays_trail layout page first last before Looked (omega (arith, same)) refl stays;
+    }
+
+work_turned : (work : Work) (plan : Plan) (from to : Device) (load : LoadAnswer)
+    (saves : List SaveAnswer) → IsWorkOf work plan from to load saves →
+    Turned plan.layout from to (work_turn work plan load saves)
+work_turned Show plan from to load saves work = look_turned plan.layout from to work.looked.quiet
+work_turned (Write area) plan from to load saves work = store_turned plan from to load saves work
+work_turned (Act actions) plan from to load saves work = store_turned plan from to load saves work
+
+pub leads_on : (plan : Plan) (from to : Device) (load : LoadAnswer) (saves : List SaveAnswer) →
+    IsWork plan from to load saves → LeadsOn plan from to load saves
+leads_on plan from to load saves work = λ first e last f before is stands.
+    (work_turned plan.work plan from to load saves work first e last f before is stands).leads
+
+pub has_trails : (plan : Plan) (from to : Device) (load : LoadAnswer) (saves : List SaveAnswer) →
+    IsWork plan from to load saves → HasTrails plan from to load saves
+has_trails plan from to load saves work = λ first e last f before is stands.
+    (work_turned plan.work plan from to load saves work first e last f before is stands).trail
+
+-- ---- outside of the copies
+
+outside_joined : (layout : Laid) (one two three : Device) → IsLater one two → IsLater two three →
+    KeepsOutside (laid_kinds layout) one two → KeepsOutside (laid_kinds layout) two three →
+    KeepsOutside (laid_kinds layout) one three
+outside_joined layout one two three early late first second = λ region out.
+    images_joined (IsSameRegion one.geometry.page region.at region.size)
+    (IsSameRegion one.geometry.page region.at region.size)
+    (IsSameRegion one.geometry.page region.at region.size) one two three
+    (λ x y same. same)
+    (λ x y z before after. record {
+      bytes = after.bytes ∙ before.bytes;
+      health = after.health ∙ before.health;
+    })
+    early late (first region out)
+    (subst (λ p. EachImage (IsSameRegion p region.at region.size) two three)
+    (ap (λ geometry. geometry.page) early.geometry) (second region out))
+
+outside_saved : (layout : Laid) (used : Option ℕ) (from mid to : Device) (load : LoadAnswer)
+    (areas : List (List ℕ)) (saves : List SaveAnswer) → IsLoaded layout used from mid load →
+    AreSaved layout used areas mid to saves → KeepsOutside (laid_kinds layout) from to
+outside_saved layout used from mid to load [] saves loaded saved_so =
+    subst (λ d. KeepsOutside (laid_kinds layout) from d) (sym saved_so.1) loaded.outside
+outside_saved layout used from mid to load (area ∷ areas) [] loaded saved_so = absurd saved_so
+outside_saved layout used from mid to load (area ∷ areas) (answer ∷ saves) loaded saved_so =
+    outside_joined layout from mid to loaded.later saved_so.0.runs.later loaded.outside
+    saved_so.0.runs.outside
+
+outside_looked : (layout : Laid) (from to : Device) → IsQuiet from to →
+    KeepsOutside (laid_kinds layout) from to
+outside_looked layout from to quiet = λ region out. record {
+  each = λ first e last f image cut.
+      let kept = but_reads_told from.told to.told first last e f quiet.told in
+      let since : moment first ≡ moment last = sym (ap length kept.0) in
+      elim cut [
+        | inl now ↦
+            subst (IsSameRegion from.geometry.page region.at region.size first.image)
+            (sym (now ∙ kept.1)) (record { bytes = refl; health = refl })
+        | inr torn ↦
+            let within = slice_get_within last.changes torn.call torn.change torn.made in
+            absurd (omega (arith, torn.later, since))
+      ];
+}
+
+work_outside : (work : Work) (plan : Plan) (from to : Device) (load : LoadAnswer)
+    (saves : List SaveAnswer) → IsWorkOf work plan from to load saves →
+    KeepsOutside (laid_kinds plan.layout) from to
+work_outside Show plan from to load saves work = outside_looked plan.layout from to work.looked.quiet
+work_outside (Write area) plan from to load saves work =
+    outside_saved plan.layout work.used from work.middle to load (saves_behind plan load) saves
+    work.loaded work.saved
+work_outside (Act actions) plan from to load saves work =
+    outside_saved plan.layout work.used from work.middle to load (saves_behind plan load) saves
+    work.loaded work.saved
+
+pub keeps_outside : (plan : Plan) (from to : Device) (load : LoadAnswer) (saves : List SaveAnswer) →
+    IsWork plan from to load saves → KeepsOutside (laid_kinds plan.layout) from to
+keeps_outside plan from to load saves work =
+    work_outside plan.work plan from to load saves work

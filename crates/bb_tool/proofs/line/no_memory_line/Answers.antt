@@ -1,0 +1,7 @@
+use Rattle.std.proofs.Common.{refl}
+use Rattle.std.specs.Fmt.{digits}
+use Rattle.bb_tool.proofs.line.no_memory_line.Goals as goal
+
+pub returns : goal.returns
+unfolding digits
+returns c = refl

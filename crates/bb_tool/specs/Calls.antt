@@ -1,0 +1,250 @@
+-- What `run` says of each call: every clause of its contract is one of these facts, and none of them
+-- names a command.
+use Rattle.std.specs.Prelude.{◌≡◌, ◌⊎◌, ◌<◌, ℕ, Bool, true, false, List, Some, None, Result, Ok, Err, IsErr}
+use Rattle.std.specs.Option.{ForSome}
+use Rattle.bb_base.specs.Faults.{HasCause, Rose}
+use Rattle.bb_base.specs.Folder.{FileMap}
+use Rattle.bb_base.specs.Outlet.{SendsFront}
+use Rattle.bb_copies.specs.Loading.{KeepsOutside}
+use Rattle.bb_flash.specs.Cuts.{IsLater}
+use Rattle.bb_flash.specs.Device.{LeavesStarts, content}
+use Rattle.bb_flash.specs.declared.geometry.Geometry.{Geometry}
+use Rattle.bb_state.specs.Kinds.{laid_kinds}
+use Rattle.bb_words.specs.Words.{words_of}
+use Rattle.bb_tool.specs.Ending.{AreAnswers}
+use Rattle.bb_tool.specs.Filing.{IsFolderLater}
+use Rattle.bb_tool.specs.Plan.{Plan, copies_in, file_for, names_file, planned}
+use Rattle.bb_tool.specs.Ran.{Ran}
+use Rattle.bb_tool.specs.Refusal.{line_of, status_of}
+use Rattle.bb_tool.specs.Session.{Answers, Session, answers_of, ended_status, sent_of, session_of}
+use Rattle.bb_tool.specs.Telling.{IsSent, IsTold}
+use Rattle.bb_tool.specs.Turns.{HasTrails, LeadsOn}
+use Rattle.bb_tool.specs.declared.refusal.Refusal.{Refusal}
+use Rattle.bb_tool.specs.declared.refusal.Refusal.TheVariants as refusals
+use Rattle.bb_tool.specs.declared.status.Status.{Status}
+use Rattle.bb_tool.specs.declared.status.Status.TheVariants as statuses
+
+-- ---- a call and its session
+
+abbrev pub geometry_of : Ran → Geometry
+geometry_of ran = ran.before.device.geometry
+
+-- files and device may have answered this
+abbrev pub MayAnswer : Ran → Answers → Type 0
+MayAnswer ran answers =
+    AreAnswers ran.words ran.before.folder ran.after.folder
+    ran.before.device ran.after.device answers
+
+-- the session for these answers
+abbrev pub session_for : Ran → Answers → Session
+session_for ran answers = session_of ran.words (geometry_of ran) answers
+
+-- the plan, where reading the file that the words name gave what these files hold
+abbrev pub plan_over : Ran → FileMap → Result Plan Refusal
+plan_over ran files = planned ran.words (geometry_of ran) (file_for ran.words files)
+
+-- the plan for what reading the file answered
+abbrev pub plan_for : Ran → Answers → Result Plan Refusal
+plan_for ran answers = planned ran.words (geometry_of ran) answers.file
+
+-- the words name no file
+abbrev pub NamesNoFile : Ran → Type 0
+NamesNoFile ran = names_file ran.words ≡ false
+
+-- a text was told, and the call ended so
+abbrev pub Tells : Ran → List ℕ → Status → Type 0
+Tells ran text ended = IsTold text ended ran.before.outlet ran.after.outlet ran.status
+
+-- ---- the whole of a call
+
+-- the call ends with the text and the status of a session
+pub record IsAnswered (ran : Ran) : Type 0 where
+  pub answers : Answers
+  pub answered : MayAnswer ran answers
+  pub told : Tells ran (sent_of (session_for ran answers)) (ended_status (session_for ran answers))
+
+-- memory was refused behind all work on the device, of which no part was refused
+pub record IsWithoutText (ran : Ran) : Type 0 where
+  pub answers : Answers
+  pub answered : MayAnswer ran answers
+  pub whole : (session_for ran answers).refusal ≡ None
+
+-- memory was refused, before any call of the device or behind all work on it, and only that one line
+-- was told
+pub record IsWithoutMemory (ran : Ran) : Type 0 where
+  pub told : Tells ran (line_of refusals.NoMemory) statuses.NoMemory
+  pub work : (ran.after.device ≡ ran.before.device) ⊎ IsWithoutText ran
+
+abbrev pub IsSession : Ran → Type 0
+IsSession ran = IsAnswered ran ⊎ IsWithoutMemory ran
+
+-- ---- where nothing failed
+
+-- unless the device or the output failed, this session was sent whole, or memory was refused
+abbrev pub IsWhole : Ran → Session → Type 0
+IsWhole ran session =
+    (Rose ran.before.device.faults ran.after.device.faults → ⊥)
+    → (Rose ran.before.outlet.faults ran.after.outlet.faults → ⊥)
+    → IsSent (sent_of session) (ended_status session) ran.before.outlet ran.after.outlet ran.status
+    ⊎ (ran.status ≡ statuses.NoMemory)
+
+-- over these files it is the session of what they and the device hold
+abbrev pub IsWholeOver : Ran → FileMap → Type 0
+IsWholeOver ran files =
+    ForSome (content ran.before.device) (λ image.
+    IsWhole ran (session_for ran (answers_of ran.words (geometry_of ran) files image)))
+
+-- so it is where files that are told didn't fail
+abbrev pub IsUndisturbed : Ran → Type 0
+IsUndisturbed ran =
+    (Rose ran.before.folder.faults ran.after.folder.faults → ⊥)
+    → ForSome ran.before.folder.told (IsWholeOver ran)
+
+-- and where the words name no file, over any files
+abbrev pub IsUndisturbedAlone : Ran → Type 0
+IsUndisturbedAlone ran = NamesNoFile ran → (files : FileMap) → IsWholeOver ran files
+
+-- ---- what stays
+
+-- words that name no file read none
+abbrev pub LeavesUnnamedFiles : Ran → Type 0
+LeavesUnnamedFiles ran = NamesNoFile ran → ran.after.folder ≡ ran.before.folder
+
+abbrev pub KeepsFiles : Ran → Type 0
+KeepsFiles ran = IsFolderLater ran.before.folder ran.after.folder
+
+abbrev pub KeepsHistory : Ran → Type 0
+KeepsHistory ran = IsLater ran.before.device ran.after.device
+
+-- no command starts a system so far
+abbrev pub StartsNothing : Ran → Type 0
+StartsNothing ran = LeavesStarts ran.before.device ran.after.device
+
+-- the statuses of refusals that come before the work on the device
+abbrev pub is_planning : Status → Bool
+is_planning statuses.Done = false
+is_planning statuses.BadWords = true
+is_planning statuses.BadTree = true
+is_planning statuses.BadLayout = true
+is_planning statuses.BadVariable = true
+is_planning statuses.FileMissing = true
+is_planning statuses.FileFault = true
+is_planning statuses.FileTooLong = true
+is_planning statuses.ReadFault = false
+is_planning statuses.WriteFault = false
+is_planning statuses.SinkFault = false
+is_planning statuses.NoMemory = false
+
+-- such a refusal comes without any call of the device
+abbrev pub AsksNothing : Ran → Type 0
+AsksNothing ran = is_planning ran.status ≡ true → ran.after.device ≡ ran.before.device
+
+-- ---- each answer and its cause
+
+-- an answer comes exactly where a fact holds; a failing output and want of memory come before it
+pub record ComesExactly (ran : Ran) (answer : Status) (fact : Type 0) : Type 0 where
+  pub only : ran.status ≡ answer → fact
+  pub always : fact
+      → (ran.status ≡ answer)
+      ⊎ ((ran.status ≡ statuses.SinkFault) ⊎ (ran.status ≡ statuses.NoMemory))
+
+-- so does the answer to words that are no command
+abbrev pub ComesByWords : Status → Ran → Type 0
+ComesByWords answer ran = ComesExactly ran answer (IsErr (words_of ran.words))
+
+-- a plan is refused with this status
+abbrev pub IsRefusedWith : Status → Result Plan Refusal → Type 0
+IsRefusedWith answer (Ok plan) = ⊥
+IsRefusedWith answer (Err refusal) = status_of refusal ≡ answer
+
+-- an answer comes exactly where the plan is so refused; a fault of the files comes before it too
+pub record ComesPlanned (ran : Ran) (answer : Status) (plan : Result Plan Refusal) : Type 0 where
+  pub only : ran.status ≡ answer → IsRefusedWith answer plan
+  pub always : IsRefusedWith answer plan
+      → (ran.status ≡ answer)
+      ⊎ ((ran.status ≡ statuses.SinkFault)
+      ⊎ ((ran.status ≡ statuses.NoMemory) ⊎ (ran.status ≡ statuses.FileFault)))
+
+-- so it does over the files that are told
+abbrev pub ComesByPlan : Status → Ran → Type 0
+ComesByPlan answer ran =
+    ForSome ran.before.folder.told (λ files. ComesPlanned ran answer (plan_over ran files))
+
+-- and where the words name no file, over any files, whose faults then play no part
+abbrev pub ComesByPlanAlone : Status → Ran → Type 0
+ComesByPlanAlone answer ran =
+    NamesNoFile ran → (files : FileMap)
+    → ComesExactly ran answer (IsRefusedWith answer (plan_over ran files))
+
+-- an answer comes only where a count rose: that of the files, the device, its reads, or the output
+abbrev pub ComesByFiles : Status → Ran → Type 0
+ComesByFiles answer ran =
+    HasCause ran.before.folder.faults ran.after.folder.faults (ran.status ≡ answer)
+
+abbrev pub ComesByDevice : Status → Ran → Type 0
+ComesByDevice answer ran =
+    HasCause ran.before.device.faults ran.after.device.faults (ran.status ≡ answer)
+
+abbrev pub ComesByReads : Status → Ran → Type 0
+ComesByReads answer ran =
+    HasCause ran.before.device.read_faults ran.after.device.read_faults (ran.status ≡ answer)
+
+abbrev pub ComesByOutlet : Status → Ran → Type 0
+ComesByOutlet answer ran =
+    HasCause ran.before.outlet.faults ran.after.outlet.faults (ran.status ≡ answer)
+
+-- the copy that couldn't be written is one of the layout's
+pub record NamesACopy (ran : Ran) : Type 0 where
+  pub answers : Answers
+  pub answered : MayAnswer ran answers
+  pub copy : ℕ
+  pub inside : copy < copies_in (plan_for ran answers)
+  pub refusal : (session_for ran answers).refusal ≡ Some (refusals.WriteFault copy)
+  pub told : Tells ran (sent_of (session_for ran answers)) statuses.WriteFault
+
+abbrev pub NamesTheCopy : Ran → Type 0
+NamesTheCopy ran = ran.status ≡ statuses.WriteFault → NamesACopy ran
+
+-- some front of the text of a session was sent
+pub record SendsSessionFront (ran : Ran) : Type 0 where
+  pub answers : Answers
+  pub answered : MayAnswer ran answers
+  pub front : SendsFront (sent_of (session_for ran answers)) ran.before.outlet ran.after.outlet
+
+-- where the output failed, that is what was sent
+abbrev pub CutsTheText : Ran → Type 0
+CutsTheText ran = ran.status ≡ statuses.SinkFault → SendsSessionFront ran
+
+-- where memory was refused, nothing else is told and nothing was written
+abbrev pub WantsMemory : Ran → Type 0
+WantsMemory ran = ran.status ≡ statuses.NoMemory → IsWithoutMemory ran
+
+-- ---- the copies
+
+-- the work of a plan was done, for these answers
+abbrev pub EachWork : Ran → (Plan → Answers → Type 0) → Type 0
+EachWork ran P =
+    (answers : Answers) (plan : Plan) → MayAnswer ran answers →
+    plan_for ran answers ≡ Ok plan → P plan answers
+
+-- For whatever answers the session is told: at exit, where no call that failed left a copy that
+-- passes by luck, the copies stand for what the session's turn makes of the list.
+abbrev pub KeepsAtExit : Ran → Type 0
+KeepsAtExit ran =
+    EachWork ran
+    (λ plan answers.
+    LeadsOn plan ran.before.device ran.after.device answers.load answers.saves)
+
+-- each image on the way that counts stands for a stage that it reached, or for a later one
+abbrev pub KeepsATrail : Ran → Type 0
+KeepsATrail ran =
+    EachWork ran
+    (λ plan answers.
+    HasTrails plan ran.before.device ran.after.device answers.load answers.saves)
+
+-- nothing outside the copies changes, in any image
+abbrev pub KeepsOthers : Ran → Type 0
+KeepsOthers ran =
+    EachWork ran
+    (λ plan answers.
+    KeepsOutside (laid_kinds plan.layout) ran.before.device ran.after.device)

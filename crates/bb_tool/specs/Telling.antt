@@ -1,0 +1,60 @@
+-- How a text was told: what an output was sent of it, and with which status the session ends.
+use Rattle.std.specs.Prelude.{◌≡◌, ◌⊎◌, ℕ, Bool, true, false, List, Result, Ok, Err, String, string_bytes}
+use Rattle.std.specs.declared.alloc.AllocError.{AllocError}
+use Rattle.std.specs.declared.alloc.Global.{Global}
+use Rattle.bb_base.specs.Faults.{Rose}
+use Rattle.bb_base.specs.Outlet.{Outlet, Sends, SendsFront}
+use Rattle.bb_tool.specs.Refusal.{status_of, line_of}
+use Rattle.bb_tool.specs.declared.refusal.Refusal.{Refusal}
+use Rattle.bb_tool.specs.declared.refusal.Refusal.TheVariants as refusals
+use Rattle.bb_tool.specs.declared.status.Status.{Status}
+use Rattle.bb_tool.specs.declared.status.Status.TheVariants as statuses
+
+-- the status where the output failed: no other takes the place of want of memory
+abbrev pub overruled : Status → Status
+overruled statuses.NoMemory = statuses.NoMemory
+overruled other = statuses.SinkFault
+
+-- this text was sent whole, and the status is this
+pub record IsSent (text : List ℕ) (ended : Status) (before after : Outlet) (status : Status) : Type 0 where
+  pub status_is : status ≡ ended
+  pub sent : Sends text before after
+
+-- the output failed, after some front of the text
+pub record IsCutOff (text : List ℕ) (ended : Status) (before after : Outlet) (status : Status) : Type 0 where
+  pub status_is : status ≡ overruled ended
+  pub cause : Rose before.faults after.faults
+  pub front : SendsFront text before after
+
+abbrev pub IsTold : List ℕ → Status → Outlet → Outlet → Status → Type 0
+IsTold text ended before after status =
+    IsSent text ended before after status ⊎ IsCutOff text ended before after status
+
+-- the line of a refusal takes memory, unless it is that of a fault of the device or of want of memory
+abbrev pub takes_memory : Refusal → Bool
+takes_memory (refusals.BadWords place) = true
+takes_memory (refusals.BadTree e) = true
+takes_memory (refusals.BadLayout e) = true
+takes_memory (refusals.BadVariable name cause) = true
+takes_memory (refusals.FileMissing file) = true
+takes_memory (refusals.FileFault file) = true
+takes_memory (refusals.FileTooLong file) = true
+takes_memory refusals.ReadFault = false
+takes_memory (refusals.WriteFault copy) = false
+takes_memory refusals.NoMemory = false
+
+abbrev pub IsToldMemory : Outlet → Outlet → Status → Type 0
+IsToldMemory before after status =
+    IsTold (line_of refusals.NoMemory) statuses.NoMemory before after status
+
+-- a line that was made was told, or the memory for it was refused
+abbrev pub IsToldMade : Result (String Global) AllocError → Status → Outlet → Outlet → Status → Type 0
+IsToldMade (Ok line) ended before after status =
+    IsTold (string_bytes line) ended before after status
+IsToldMade (Err e) ended before after status = IsToldMemory before after status
+
+-- the line of a refusal was told, or the memory for it was refused
+abbrev pub IsToldRefusal : Refusal → Outlet → Outlet → Status → Type 0
+IsToldRefusal refusal before after status =
+    IsTold (line_of refusal) (status_of refusal) before after status
+    ⊎ ((takes_memory refusal ≡ true) × IsToldMemory before after status)

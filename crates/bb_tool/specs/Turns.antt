@@ -1,0 +1,111 @@
+-- What a session did with the copies, as a turn of a chronicle, and what its images stand for.
+use Rattle.std.specs.Prelude.{◌≡◌, ℕ, ◌+◌, List, [], ◌∷◌, length, take, Option, Some, None, Ok, Err, is_ok, count_by}
+use Rattle.std.specs.Option.{ForSome}
+use Rattle.bb_copies.specs.Chronicle.{Content, Finished, Follows, IsStanding, Loaded, Looked, Turn, Unloaded, Untouched}
+use Rattle.bb_copies.specs.Luck.{IsLucky}
+use Rattle.bb_copies.specs.StandsFor.{picked}
+use Rattle.bb_copies.specs.Trail.{IsTrail, Milestone, Stage, session_stages, stages_in}
+use Rattle.bb_flash.specs.Counted.{Counts, IsFair}
+use Rattle.bb_flash.specs.Device.{Device, Told, moment}
+use Rattle.bb_flash.specs.Image.{Image}
+use Rattle.bb_layout.specs.Defaults.{defaults_of}
+use Rattle.bb_layout.specs.Layout.{Laid}
+use Rattle.bb_tool.specs.Looking.{passed_in}
+use Rattle.bb_tool.specs.Plan.{Act, Plan, Show, Work, Write}
+use Rattle.bb_tool.specs.Session.{LoadAnswer, SaveAnswer, worked}
+
+-- the area that an empty device stands for
+abbrev pub first_area : Laid → List ℕ
+first_area layout = defaults_of layout.area_len layout.vars
+
+-- ---- the turn of a session
+
+-- how many of the saves answered Ok
+abbrev pub made_of : List SaveAnswer → ℕ
+made_of saves = count_by is_ok saves
+
+abbrev pub load_turn : Plan → LoadAnswer → List SaveAnswer → List (Option ℕ) → Turn
+load_turn plan (Ok found) saves marks =
+    Loaded (picked marks) (worked plan (Ok found) saves).saves (made_of saves) None
+load_turn plan (Err fault) saves marks = Unloaded
+
+abbrev pub work_turn : Work → Plan → LoadAnswer → List SaveAnswer → List (Option ℕ) → Turn
+work_turn Show plan load saves marks = Looked
+work_turn (Write area) plan load saves marks = load_turn plan load saves marks
+work_turn (Act actions) plan load saves marks = load_turn plan load saves marks
+
+-- of a plan, at copies with these marks
+abbrev pub turn_of : Plan → LoadAnswer → List SaveAnswer → List (Option ℕ) → Turn
+turn_of plan load saves marks = work_turn plan.work plan load saves marks
+
+-- the stages that a turn reached: a save that wasn't acknowledged is the last
+abbrev pub turn_stages : Content → Turn → List Stage
+turn_stages before Untouched = record { areas = before.areas; acked = before.acked } ∷ []
+turn_stages before Looked = record { areas = before.areas; acked = before.acked } ∷ []
+turn_stages before Unloaded = record { areas = before.areas; acked = before.acked } ∷ []
+turn_stages before (Loaded place saves ok started) =
+    take (2 + length saves + ok) (session_stages before.areas before.acked place saves)
+
+-- ---- what it leaves
+
+-- of an image that the copies have at the end, or that a cut left since a moment: what they pass as
+pub record IsCounted (layout : Laid) (page : ℕ) (told : Told) (since : ℕ)
+    (passed : List (Option (List ℕ))) : Type 0 where
+  pub image : Image
+  pub counts : Counts (IsLucky (passed_in layout page)) page told since image
+  pub passes : passed ≡ passed_in layout page image
+
+-- the turn leads from a content to the one at the end
+pub record LeadsTo (first : List ℕ) (before : Content) (turn : Turn)
+    (passed : List (Option (List ℕ))) : Type 0 where
+  pub after : Content
+  pub passed_is : after.passed ≡ passed
+  pub follows : Follows first before (Finished turn) after
+
+-- The trail of the turn's stages, from the moment of entry on: each image that counts since a
+-- milestone's moment stands for its stage, or for a later one.
+pub record HasTrail (layout : Laid) (page : ℕ) (first last : Told) (before : Content) (turn : Turn)
+    : Type 0 where
+  pub entry : Stage
+  pub later : List Milestone
+  pub stages :
+      stages_in (record { stage = entry; since = Some (moment first) } ∷ later)
+      ≡ turn_stages before turn
+  pub trail :
+      IsTrail (IsCounted layout page last) (moment last) (first_area layout)
+      (record { stage = entry; since = Some (moment first) } ∷ later)
+
+-- P holds of what a device told and tells, and of each content of its copies at entry that stands
+-- for a list of areas
+abbrev pub EachStanding : Laid → Device → Device → (Told → Told → Content → Type 0) → Type 0
+EachStanding layout from to P =
+    ForSome from.told
+    (λ first.
+    ForSome to.told
+    (λ last.
+    (before : Content) →
+    before.passed ≡ passed_in layout from.geometry.page first.image →
+    IsStanding (first_area layout) before →
+    P first last before))
+
+-- no call that failed left a copy that passes by luck
+abbrev pub IsFairRun : Laid → ℕ → Told → Told → Type 0
+IsFairRun layout page first last =
+    IsFair (IsLucky (passed_in layout page)) last (moment first) (moment last)
+
+-- at exit, in a fair run, the copies stand for what the session's turn makes of the list
+abbrev pub LeadsOn : Plan → Device → Device → LoadAnswer → List SaveAnswer → Type 0
+LeadsOn plan from to load saves =
+    EachStanding plan.layout from to
+    (λ first last before.
+    IsFairRun plan.layout from.geometry.page first last →
+    LeadsTo (first_area plan.layout) before (turn_of plan load saves before.marks)
+    (passed_in plan.layout from.geometry.page last.image))
+
+-- each image on the way that counts stands for the stage that it reached, or for a later one
+abbrev pub HasTrails : Plan → Device → Device → LoadAnswer → List SaveAnswer → Type 0
+HasTrails plan from to load saves =
+    EachStanding plan.layout from to
+    (λ first last before.
+    HasTrail plan.layout from.geometry.page first last before
+    (turn_of plan load saves before.marks))

@@ -1,0 +1,96 @@
+ghost use Rattle.std.specs.Prelude.{◌≡◌, ◌⊎◌, List, ℕ, Ok, IfErr, IfOk, length, option_map};
+ghost use Rattle.bb_base.specs.Folder.{Folder};
+ghost use Rattle.bb_flash.specs.Cuts.{IsLater};
+ghost use Rattle.bb_flash.specs.Device.{IsDevice, LeavesStarts};
+ghost use Rattle.bb_layout.specs.Layout.{laid};
+ghost use Rattle.bb_words.specs.Answer.{IsSizedRaw};
+ghost use Rattle.bb_words.specs.Words.{words_of};
+ghost use Rattle.bb_words.specs.declared.command.Command.TheVariants as commands;
+ghost use Rattle.bb_tool.specs.Ending.{IsGiven};
+ghost use Rattle.bb_tool.specs.Looking.{look_text};
+ghost use Rattle.bb_tool.specs.Plan.{Show, Write};
+ghost use Rattle.bb_tool.specs.Refusal.{IsTellable};
+ghost use Rattle.bb_tool.specs.Work.{IsRefusedMemory, IsWorkedOut};
+
+use crate::refusal::Refusal;
+use bb_base::{Bytes, NoMemory};
+use bb_flash::Flash;
+use bb_layout::{Layout, raw_layout};
+use bb_state::State;
+use bb_words::{RawAction, RawCommand};
+use std::alloc::Global;
+
+/// The command `raw`: its layout, and then a look or a save.
+pub(crate) fn raw<F: Flash>(
+    alloc: Global,
+    flash: &mut F,
+    command: RawCommand,
+) -> Result<Bytes, Refusal>
+    requires sized { IsSizedRaw command }
+    ensures gives { (words : List (List ℕ)) (folder : Folder)
+        → words_of words ≡ Ok (commands.Raw command)
+        → IsGiven words folder folder (F.device flash.old) (F.device flash.new) result }
+    ensures tellable { IfErr result IsTellable }
+    ensures later { IsLater (F.device flash.old) (F.device flash.new) }
+    ensures starts { LeavesStarts (F.device flash.old) (F.device flash.new) }
+{
+    let layout = raw_layout(alloc, command.magic, command.area_len, flash.geometry())?;
+    match command.action {
+        RawAction::Look => look(alloc, flash, layout),
+        RawAction::Write(area) => save(alloc, flash, layout, area.as_slice()),
+    }
+}
+
+// Looks at the copies of a layout, and gives the text of the first that passes.
+fn look<F: Flash>(alloc: Global, flash: &mut F, layout: Layout) -> Result<Bytes, Refusal>
+    requires geometry { layout.geometry ≡ (F.device flash.old).geometry }
+    requires whole { IsDevice (F.device flash.old) }
+    ensures gives { IsWorkedOut (laid layout) Show (F.device flash.old) (F.device flash.new) result }
+    ensures tellable { IfErr result IsTellable }
+    ensures later { IsLater (F.device flash.old) (F.device flash.new) }
+    ensures starts { LeavesStarts (F.device flash.old) (F.device flash.new) }
+{
+    let mut area = vec![in alloc; 0u8; layout.area_len as usize]?;
+    let mut state = State::mount(alloc, layout)?;
+    let found = state.look(flash, &mut area)?;
+    Ok(look_text(alloc, found.then_some(area))?)
+}
+
+// The text of a look: the area in hexadecimal, or `none`.
+fn look_text(alloc: Global, found: Option<Vec<u8>>) -> Result<Bytes, NoMemory>
+    ensures { IfOk result (λ text. text ≡ look_text (option_map (λ area. area.items) found)) }
+{
+    let mut text = Bytes::none(alloc);
+    match found {
+        Some(area) => {
+            let digits = hex::encode(alloc, area.as_slice())?;
+            text.add(digits.as_bytes())?;
+            text.add(b"\n")?;
+        }
+        None => text.add(b"none\n")?,
+    }
+    Ok(text)
+}
+
+// Loads the copies of a layout, and saves this area, which has the layout's length.
+fn save<F: Flash>(
+    alloc: Global,
+    flash: &mut F,
+    layout: Layout,
+    area: &[u8],
+) -> Result<Bytes, Refusal>
+    requires sized { length area.now ≡ layout.area_len }
+    requires geometry { layout.geometry ≡ (F.device flash.old).geometry }
+    requires whole { IsDevice (F.device flash.old) }
+    ensures gives { IsWorkedOut (laid layout) (Write area.now)
+        (F.device flash.old) (F.device flash.new) result }
+    ensures tellable { IfErr result IsTellable }
+    ensures later { IsLater (F.device flash.old) (F.device flash.new) }
+    ensures starts { LeavesStarts (F.device flash.old) (F.device flash.new) }
+{
+    let mut state = State::mount(alloc, layout)?;
+    state.load(flash)?;
+    state.table.put(0, area);
+    state.save_always(flash)?;
+    Ok(Bytes::none(alloc))
+}
