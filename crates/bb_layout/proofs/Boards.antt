@@ -1,5 +1,5 @@
 -- Devicetrees and their layouts, worked through by computation.
-use Rattle.std.specs.Prelude.{◌≡◌, ℕ, ◌-◌, Bool, List, [], ◌∷◌, ◌++◌, Option, Some, None, Result, Ok, Err, codes, find, flat_map, if◌then◌else◌, map, ok_or, option_and_then, refl}
+use Rattle.std.specs.Prelude.{◌≡◌, ℕ, ◌-◌, ◌*◌, Bool, List, [], ◌∷◌, ◌++◌, Option, Some, None, Result, Ok, Err, codes, find, flat_map, if◌then◌else◌, map, ok_or, option_and_then, refl}
 use Rattle.std.proofs.Common.{ap}
 use Rattle.std.specs.Int.{to_be_bytes, w32}
 use Rattle.std.specs.Result.{result_ok}
@@ -7,6 +7,7 @@ use Rattle.std.specs.Option.{option_map, option_or}
 use Rattle.bb_flash.specs.Geometry.{in_place_of}
 use Rattle.bb_flash.specs.declared.geometry.Geometry.{Geometry}
 use Rattle.bb_flash.specs.declared.region.Region.{Region}
+use Rattle.bb_tree.specs.Blob.{blob_text, double_word, word}
 use Rattle.bb_tree.specs.Node.{Branch, forest, preorder}
 use Rattle.bb_tree.specs.Paths.{found}
 use Rattle.bb_vars.specs.declared.kind.Kind.TheVariants.{Uint32}
@@ -16,9 +17,11 @@ use Rattle.bb_layout.specs.Copies.{region_of}
 use Rattle.bb_layout.specs.Defaults.{defaults_of}
 use Rattle.bb_layout.specs.Fields.{base_name}
 use Rattle.bb_layout.specs.Layout.{Laid, layout_at, layout_from}
+use Rattle.bb_layout.specs.Record.{record_len}
 use Rattle.bb_layout.specs.StateNode.{counting, is_wanted}
 use Rattle.bb_layout.specs.Steps.{result_then}
-use Rattle.bb_layout.specs.declared.format_kind.FormatKind.TheVariants.{Raw}
+use Rattle.bb_layout.specs.declared.format_kind.FormatKind.{FormatKind}
+use Rattle.bb_layout.specs.declared.format_kind.FormatKind.TheVariants.{Raw, RawHmac, Dtb}
 use Rattle.bb_layout.specs.declared.layout_error.LayoutError.{LayoutError}
 use Rattle.bb_layout.specs.declared.layout_error.LayoutError.TheVariants.{NoState, Missing, BadProp, BadType, BadReg, Overlap, NoBackend, TooSmall, Unaligned, OutOfDevice, AreaTooLong, NameTwice}
 use Rattle.bb_layout.specs.declared.storage.Storage.TheVariants.{Stride, OneBlock, Circular}
@@ -59,6 +62,12 @@ magic = (codes "magic", cells (0x4d433230 ∷ []))
 
 abbrev raw : Value
 raw = (codes "backend-type", text (codes "raw"))
+
+abbrev dtb : Value
+dtb = (codes "backend-type", text (codes "dtb"))
+
+abbrev algo : List ℕ → Value
+algo name = (codes "algo", text name)
 
 abbrev backend : Value
 backend = (codes "backend", cells (1 ∷ []))
@@ -165,11 +174,15 @@ no_backend_property = refl
 no_reg : refused (tree good (at (codes "a") ((codes "type", text (codes "mac")) ∷ []) [] ∷ []) (partition 0 96)) small ≡ Err (Missing (codes "reg"))
 no_reg = refl
 
-dtb_records : refused (tree (compatible ∷ magic ∷ (codes "backend-type", text (codes "dtb")) ∷ backend ∷ []) [] (partition 0 96)) small ≡ Err (BadProp (codes "backend-type"))
-dtb_records = refl
+other_record : refused (tree (compatible ∷ magic ∷ (codes "backend-type", text (codes "blob")) ∷ backend ∷ []) [] (partition 0 96)) small ≡ Err (BadProp (codes "backend-type"))
+other_record = refl
 
-a_key : refused (tree (compatible ∷ (codes "algo", text (codes "hmac(sha256)")) ∷ magic ∷ raw ∷ backend ∷ []) [] (partition 0 96)) small ≡ Err (BadProp (codes "algo"))
-a_key = refl
+other_key : refused (tree (compatible ∷ algo (codes "hmac(sha1)") ∷ magic ∷ raw ∷ backend ∷ []) [] (partition 0 96)) small ≡ Err (BadProp (codes "algo"))
+other_key = refl
+
+-- a record that is a blob has no key
+key_of_a_blob : refused (tree (compatible ∷ algo (codes "hmac(sha256)") ∷ magic ∷ dtb ∷ backend ∷ []) [] (partition 0 4096)) small ≡ Err (BadProp (codes "algo"))
+key_of_a_blob = refl
 
 stride_of_zero : refused (tree (stride 0 ∷ good) [] (partition 0 96)) small ≡ Err (BadProp (codes "backend-stridesize"))
 stride_of_zero = refl
@@ -272,6 +285,37 @@ entry_of_two_pages = refl
 
 entry_of_three_pages : refused (area_to 105) blocks ≡ Err TooSmall
 entry_of_three_pages = refl
+
+-- ---- records with a key, and blobs
+
+abbrev kept_in : Node → Option (FormatKind × Storage)
+kept_in t = option_map (λ l. (l.format, l.storage)) (result_ok (layout_from t None small))
+
+abbrev keyed : ℕ → Node
+keyed size = tree (algo (codes "hmac(sha256)") ∷ good) [] (partition 0 size)
+
+-- three strides of 55 bytes hold no front, record and HMAC of an empty area, three of 56 do
+strides_of_55 : refused (keyed 167) small ≡ Err TooSmall
+strides_of_55 = refl
+
+strides_of_56 : kept_in (keyed 168) ≡ Some (RawHmac, Stride 56)
+strides_of_56 = refl
+
+abbrev blob : ℕ → Node
+blob n = tree (compatible ∷ magic ∷ dtb ∷ backend ∷ stride n ∷ []) [] (partition 0 (2 * n))
+
+-- the blob of a state node `state@1` without variables has 174 bytes
+strides_of_181 : refused (blob 181) small ≡ Err TooSmall
+unfolding blob_text word double_word
+strides_of_181 = refl
+
+strides_of_182 : kept_in (blob 182) ≡ Some (Dtb, Stride 182)
+unfolding blob_text word double_word
+strides_of_182 = refl
+
+board_record : record_len Dtb (codes "state") 0x4d433230 board_vars 20 ≡ 440
+unfolding blob_text word double_word
+board_record = refl
 
 -- a region in cells of 64 bits
 abbrev far : List ℕ → Node

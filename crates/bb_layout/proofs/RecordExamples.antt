@@ -4,8 +4,8 @@ use Rattle.bb_flash.specs.Geometry.{in_place_of}
 use Rattle.bb_tree.specs.Blob.{blob_text, double_word, word}
 use Rattle.bb_tree.specs.Node.{Branch, forest}
 use Rattle.bb_vars.specs.declared.kind.Kind.TheVariants.{Uint8, Uint32, Enum32, Mac, Chars}
-use Rattle.bb_layout.specs.Layout.{Laid}
-use Rattle.bb_layout.specs.Record.{grown_of, record_tree_of, value_in}
+use Rattle.bb_layout.specs.Layout.{Laid, record_tree_of}
+use Rattle.bb_layout.specs.Record.{grown_of, value_in}
 use Rattle.bb_layout.specs.declared.format_kind.FormatKind.TheVariants.{Raw}
 use Rattle.bb_layout.specs.declared.storage.Storage.TheVariants.{Stride}
 use Rattle.bb_layout.specs.declared.var.Var.{Var}

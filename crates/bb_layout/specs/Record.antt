@@ -1,13 +1,15 @@
--- The tree of a record that is a blob of its own (barebox User Manual, State Framework, the backend
+-- How long a record is, and the tree of one that is a blob (barebox User Manual, State Framework, the backend
 -- type `dtb`).
-use Rattle.std.specs.Prelude.{ℕ, zero, suc, List, [], ◌∷◌, ◌++◌, codes, drop, fold, take}
+use Rattle.std.specs.Prelude.{ℕ, zero, suc, ◌+◌, List, [], ◌∷◌, ◌++◌, codes, drop, fold, length, replicate, take}
 use Rattle.std.specs.Int.{w8, w32, from_le_bytes, to_be_bytes}
 use Rattle.std.specs.List.{common_prefix_len}
 use Rattle.std.specs.Str.{bytes_eq}
+use Rattle.bb_tree.specs.Blob.{blob_text, capped}
 use Rattle.bb_tree.specs.Node.{Branch, empty, grow, branches, forest}
 use Rattle.bb_vars.specs.declared.kind.Kind.{Kind}
 use Rattle.bb_vars.specs.declared.kind.Kind.TheVariants.{Uint8, Uint32, Enum32, Mac, Chars}
-use Rattle.bb_layout.specs.Layout.{Laid}
+use Rattle.bb_layout.specs.declared.format_kind.FormatKind.{FormatKind}
+use Rattle.bb_layout.specs.declared.format_kind.FormatKind.TheVariants.{Raw, RawHmac, Dtb}
 use Rattle.bb_layout.specs.declared.var.Var.{Var}
 
 -- ---- values
@@ -76,17 +78,32 @@ grown_of area vars = fold (with_var area) (record { path = []; nodes = [] }) var
 
 -- ---- the tree
 
-abbrev pub state_of : Laid → List ℕ → Branch (List ℕ)
-state_of layout area = record {
-  name = layout.node;
-  props = (codes "compatible", codes "barebox,state" ++ 0 ∷ []) ∷ (codes "magic", cell layout.magic) ∷ [];
-  nodes = forest (grown_of area layout.vars).nodes;
+-- the state node of that name
+abbrev pub state_for : List ℕ → ℕ → List Var → List ℕ → Branch (List ℕ)
+state_for name magic vars area = record {
+  name = name;
+  props = (codes "compatible", codes "barebox,state" ++ 0 ∷ []) ∷ (codes "magic", cell magic) ∷ [];
+  nodes = forest (grown_of area vars).nodes;
 }
 
 -- the root, where 4 zero bytes stand for the CRC
-abbrev pub record_tree_of : Laid → List ℕ → Branch (List ℕ)
-record_tree_of layout area = record {
+abbrev pub tree_for : List ℕ → ℕ → List Var → List ℕ → Branch (List ℕ)
+tree_for name magic vars area = record {
   name = [];
   props = (codes "bb,crc32", 0 ∷ 0 ∷ 0 ∷ 0 ∷ []) ∷ [];
-  nodes = grow (state_of layout area) empty;
+  nodes = grow (state_for name magic vars area) empty;
 }
+
+-- ---- lengths
+
+-- a raw record is 16 bytes and the area
+abbrev pub raw_len : ℕ → ℕ
+raw_len area_len = 16 + area_len
+
+-- how many bytes a record has. With a key an HMAC of 32 bytes ends it; a blob has as many as that of
+-- a zero area, as 64 bits hold it
+abbrev pub record_len : FormatKind → List ℕ → ℕ → List Var → ℕ → ℕ
+record_len Raw name magic vars area_len = raw_len area_len
+record_len RawHmac name magic vars area_len = raw_len area_len + 32
+record_len Dtb name magic vars area_len =
+    capped (length (blob_text (record { root = tree_for name magic vars (replicate area_len 0); reserved = [] })))

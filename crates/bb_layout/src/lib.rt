@@ -11,6 +11,7 @@ mod layout;
 mod layout_error;
 mod placing;
 mod ranges;
+mod record_len;
 mod record_nodes;
 mod record_tree;
 mod record_value;

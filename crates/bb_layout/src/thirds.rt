@@ -1,11 +1,12 @@
 ghost use Rattle.std.specs.Prelude.{◌≡◌, ◌≢◌, ◌≤◌, ◌<◌, ◌+◌, ◌/◌, Ok, Err, IfOk, IfErr, codes};
 ghost use Rattle.bb_flash.specs.Geometry.{IsGeometry};
-ghost use Rattle.bb_layout.specs.Copies.{raw_len};
 ghost use Rattle.bb_layout.specs.Layout.{laid};
+ghost use Rattle.bb_layout.specs.Record.{raw_len};
 ghost use Rattle.bb_layout.specs.Refusals.{ComesExactly};
 ghost use Rattle.bb_layout.specs.Thirds.{raw_layout};
 
-use crate::placing::{check_room, copies, raw_len};
+use crate::placing::{check_room, copies};
+use crate::record_len::raw_len;
 use crate::{FormatKind, Layout, LayoutError, Storage, VarList};
 use bb_base::Text;
 use bb_flash::{Geometry, Region};

@@ -1,6 +1,7 @@
-use Rattle.std.proofs.Common.{subst}
+use Rattle.std.proofs.Common.{ℕ, List, ap, subst, sym, ◌∙◌}
 use Rattle.bb_layout.specs.Copies.{copies_of}
 use Rattle.bb_layout.specs.Facts.{HasCopies}
+use Rattle.bb_layout.specs.Record.{record_len}
 use Rattle.bb_layout.proofs.Apart.{share_no_byte}
 use Rattle.bb_layout.proofs.from_tree.layout_at.Goals as goal
 
@@ -8,11 +9,14 @@ pub invariant_of-result : goal.invariant_of-result
 invariant_of-result c =
     let region = c.in_ok-region.region in
     let storage = c.in_ok-storage.storage in
+    let props = c.in_ok-props.props in
+    let named = λ (name : List ℕ). record_len props.format name props.magic c.in_ok-vars.vars c.in_ok-area_len.area_len in
+    let len = c.in_ok-len.ensures ∙ ap named (sym c.in_ok-copy.ensures) in
     let copies = copies_of c.args.geometry storage region in
     record {
       facts = record {
         geometry_is = c.requires;
-        copied = rw c.copies.ensures (subst (HasCopies c.args.geometry region storage copies) c.raw_len.ensures c.in_ok-storage.ensures.copies);
+        copied = rw c.copies.ensures (subst (HasCopies c.args.geometry region storage copies) len c.in_ok-storage.ensures.copies);
         area_most = c.in_ok-area_len.ensures.short;
         vars_are = record {
           each = c.in_ok-vars.ensures.well_formed;
