@@ -1,0 +1,4 @@
+pub mod Examples
+pub mod OpenTrees
+pub mod Passing
+pub mod Templates

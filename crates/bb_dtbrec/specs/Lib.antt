@@ -1,0 +1,4 @@
+-- Definitions that contracts cite.
+pub mod Dtb
+pub mod OpenTree
+pub mod Template
