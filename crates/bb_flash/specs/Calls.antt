@@ -3,6 +3,7 @@ use Rattle.std.specs.Prelude.{◌≡◌, ℕ, ◌+◌, ◌*◌, ◌/◌, ◌<◌
 use Rattle.std.specs.Option.{ForSome}
 use Rattle.bb_flash.specs.declared.geometry.Geometry.{Geometry}
 use Rattle.bb_flash.specs.declared.health.Health.TheVariants.{Fine}
+use Rattle.bb_flash.specs.declared.plan.Plan.{Plan}
 use Rattle.bb_flash.specs.Image.{Image, IsBlank, Torn, with_bytes}
 use Rattle.bb_flash.specs.Device.{Told, Device, change_of, content}
 
@@ -34,6 +35,11 @@ abbrev pub erased : Geometry → ℕ → Told → Told
 erased geometry block told =
     erase_counted block
     (programmed geometry.page (block * geometry.block) (blank_block geometry) told)
+
+-- after a start that answered Ok: it is the last one, with what the device holds
+abbrev pub started : Plan → Told → Told
+started plan told =
+    record told { starts = told.starts ++ (record { plan = plan; image = told.image }) ∷ [] }
 
 -- what a program or an erase may do to the image, whatever it answers: nothing at all, or one change
 -- that is torn from what was before

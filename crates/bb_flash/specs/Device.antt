@@ -4,16 +4,9 @@ use Rattle.std.specs.Option.{ForSome}
 use Rattle.bb_flash.specs.declared.geometry.Geometry.{Geometry}
 use Rattle.bb_flash.specs.declared.health.Health.{Health}
 use Rattle.bb_flash.specs.declared.health.Health.TheVariants.{Fine, Lost}
+use Rattle.bb_flash.specs.declared.plan.Plan.{Plan}
 use Rattle.bb_flash.specs.Geometry.{IsGeometry}
 use Rattle.bb_flash.specs.Image.{Image, IsImageOf, health_of, with_bytes}
-
--- what is handed to a board that starts a system: texts as their bytes
-pub record Plan : Type 0 where
-  pub place : ℕ
-  pub linux : List ℕ
-  pub initrds : List (List ℕ)
-  pub options : List ℕ
-  pub devicetree : List ℕ
 
 -- a start that a board made: its plan, and what the device held at that moment
 pub record Start : Type 0 where
@@ -72,6 +65,9 @@ erases device = option_map (λ told. told.erases) device.told
 abbrev pub reads : Device → Option ℕ
 reads device = option_map (λ told. told.reads) device.told
 
+abbrev pub changes : Device → Option (List Change)
+changes device = option_map (λ told. told.changes) device.told
+
 -- the clock of a device: how many changes it has seen
 abbrev pub moment : Told → ℕ
 moment told = length told.changes
@@ -98,6 +94,16 @@ pub record ReadKeeps (before after : Device) : Type 0 where
   pub content : content after ≡ content before
   pub starts : starts after ≡ starts before
   pub start_faults : after.start_faults ≡ before.start_faults
+
+-- what no start changes, whatever it answers
+pub record StartKeeps (before after : Device) : Type 0 where
+  pub geometry : after.geometry ≡ before.geometry
+  pub content : content after ≡ content before
+  pub changes : changes after ≡ changes before
+  pub erases : erases after ≡ erases before
+  pub reads : reads after ≡ reads before
+  pub faults : after.faults ≡ before.faults
+  pub read_faults : after.read_faults ≡ before.read_faults
 
 -- what a read gave that answered Ok: the worst health of the pages that it touched, and their bytes; of bytes
 -- in a Lost page nothing is said

@@ -1,11 +1,13 @@
 -- A board in memory as contracts see it.
 use Rattle.std.specs.Prelude.{ℕ, ◌+◌, ◌-◌, ◌*◌, ◌/◌, ◌^◌, ◌<◌, ◌≤◌, ◌==◌, ◌&&◌, ◌||◌, Bool, true, false, nat_le, nat_lt, List, [], length, find, replicate, Option, Some, None, option_map, is_some, is_none, slice_index, slice_set, if◌then◌else◌}
+use Rattle.std.specs.List.{list_any}
 use Rattle.bb_flash.specs.declared.geometry.Geometry.{Geometry}
 use Rattle.bb_flash.specs.declared.health.Health.{Health}
 use Rattle.bb_flash.specs.declared.health.Health.TheVariants.{Fine}
 use Rattle.bb_flash.specs.declared.fault.Fault.{Fault}
+use Rattle.bb_flash.specs.declared.plan.Plan.{Plan}
 use Rattle.bb_flash.specs.Device.{Device, Told}
-use Rattle.bb_flash.specs.Calls.{blank_block, changed, counted, erase_counted}
+use Rattle.bb_flash.specs.Calls.{blank_block, changed, counted, erase_counted, started}
 use Rattle.bb_flash.specs.Filled.{is_cut, left_by}
 
 pub record Memory : Type 0 where
@@ -13,6 +15,7 @@ pub record Memory : Type 0 where
   pub told : Told
   pub faults : ℕ
   pub read_faults : ℕ
+  pub start_faults : ℕ
   -- how many calls it records, and how many bytes
   pub most_calls : ℕ
   pub most_bytes : ℕ
@@ -21,6 +24,9 @@ pub record Memory : Type 0 where
   pub used : ℕ
   -- the planned faults by the number of their call, the newest first
   pub plan : List (ℕ × Fault)
+  -- the starts that were tried since the last restart, and the numbers of those that are to fail
+  pub tried : ℕ
+  pub failing : List ℕ
   -- a planned cut was met since the last restart
   pub was_cut : Bool
   -- the programs and the erases that answered Ok
@@ -34,7 +40,7 @@ device_of memory = record {
   told = Some memory.told;
   faults = memory.faults;
   read_faults = memory.read_faults;
-  start_faults = 0;
+  start_faults = memory.start_faults;
 }
 
 -- a fresh board: its pages are Fine, and nothing has happened
@@ -50,11 +56,14 @@ fresh_memory geometry bytes most_calls most_bytes = record {
   };
   faults = 0;
   read_faults = 0;
+  start_faults = 0;
   most_calls = most_calls;
   most_bytes = most_bytes;
   calls = 0;
   used = 0;
   plan = [];
+  tried = 0;
+  failing = [];
   was_cut = false;
   programs = 0;
   erased = 0;
@@ -158,6 +167,34 @@ abbrev pub after_erase : ℕ → Memory → Memory
 after_erase block memory =
     if is_erase_refused memory block then failed memory else erase_by (fault_of memory) block memory
 
+-- a start is refused: a cut came before it, there is no room for a copy of what the board holds, or
+-- the number of starts that were tried can rise no more
+abbrev pub is_start_refused : Memory → Bool
+is_start_refused memory =
+    memory.was_cut || (nat_lt memory.most_bytes (memory.used + memory.geometry.size) || is_full memory.tried)
+
+-- the answer is Failed, whatever memory there is
+abbrev pub fails_to_start : Memory → Bool
+fails_to_start memory =
+    is_start_refused memory || list_any (λ start. start == memory.tried) memory.failing
+
+-- a start failed; one that was refused isn't counted among those that were tried
+abbrev pub start_failed : Memory → Memory
+start_failed memory =
+    record memory {
+      tried = (if is_start_refused memory then memory.tried else memory.tried + 1);
+      start_faults = count_up memory.start_faults;
+    }
+
+-- a start was made; the copy of what the board holds takes room for good
+abbrev pub start_made : Plan → Memory → Memory
+start_made plan memory =
+    record memory {
+      told = started plan memory.told;
+      most_bytes = memory.most_bytes - memory.geometry.size;
+      tried = memory.tried + 1;
+    }
+
 -- one page has another health; what calls changed before is forgotten, and takes no room any more
 abbrev pub with_health : Memory → ℕ → Health → Memory
 with_health memory page health =
@@ -169,7 +206,8 @@ with_health memory page health =
       used = 0;
     }
 
--- the record and the planned faults are gone; what the device holds stays, and so do the counts
+-- the record and the planned faults are gone; what the device holds stays, and so do the starts and
+-- the counts
 abbrev pub restarted : Memory → Memory
 restarted memory =
     record memory {
@@ -177,5 +215,7 @@ restarted memory =
       calls = 0;
       used = 0;
       plan = [];
+      tried = 0;
+      failing = [];
       was_cut = false;
     }

@@ -1,12 +1,12 @@
 -- The record that a board in memory keeps of the calls that changed it: for each what stood in its
 -- range before, and what it was to write there.
-use Rattle.std.specs.Prelude.{◌≡◌, ℕ, ◌-◌, ◌/◌, ◌≤◌, List, [], ◌∷◌, ◌++◌, length, take, drop}
+use Rattle.std.specs.Prelude.{◌≡◌, ℕ, ◌+◌, ◌-◌, ◌/◌, ◌^◌, ◌<◌, ◌≤◌, List, [], ◌∷◌, ◌++◌, length, take, drop}
 use Rattle.bb_flash.specs.declared.health.Health.{Health}
 use Rattle.bb_flash.specs.declared.log.Span.{Span}
 use Rattle.bb_flash.specs.declared.geometry.Geometry.{Geometry}
 use Rattle.bb_flash.specs.Geometry.{IsGeometry}
 use Rattle.bb_flash.specs.Image.{Image, IsImageOf, overwritten}
-use Rattle.bb_flash.specs.Device.{Change, change_of}
+use Rattle.bb_flash.specs.Device.{Change, Start, change_of}
 use Rattle.bb_flash.specs.Calls.{blank_block}
 
 -- what stood in the range of a call before it, and the bytes that it was to write there
@@ -55,9 +55,13 @@ history page (saved ∷ older) image =
     ++ change_of page saved.at saved.bytes (restored page saved image) ∷ []
 
 -- what holds of the fields of every board in memory
-pub record IsMemory (geometry : Geometry) (image : Image) (log : Record) (blank : List ℕ) (numbers : List ℕ) (calls : ℕ) : Type 0 where
+pub record IsMemory
+    (geometry : Geometry) (image : Image) (log : Record) (blank : List ℕ) (numbers : List ℕ)
+    (calls : ℕ) (starts : List Start) : Type 0 where
   pub geometry_within : IsGeometry geometry
   pub image_whole : IsImageOf geometry image
   pub block_blank : blank ≡ blank_block geometry
   pub each_block : length numbers ≡ geometry.size / geometry.block
   pub all_calls : length log.saved ≤ calls
+  -- each start gave up a byte of the room at least
+  pub few_starts : length starts + log.most_bytes < 2 ^ 32

@@ -1,8 +1,10 @@
-ghost use Rattle.std.specs.Prelude.{◌≡◌, ◌+◌, ◌≤◌, ◌<◌, length, replicate};
+ghost use Rattle.std.specs.Prelude.{◌≡◌, ◌+◌, ◌≤◌, ◌<◌, length, replicate, IfOk};
 ghost use Rattle.bb_flash.specs.Filled.{filled, left_by};
 ghost use Rattle.bb_flash.specs.Image.{IsInside, overwritten, in_health};
 
 use crate::{Fault, Fill, Health};
+use bb_base::NoMemory;
+use std::alloc::Global;
 use std::marker::Model;
 
 /// What a board in memory holds: its bytes, and one health a page.
@@ -21,6 +23,16 @@ impl Model for Cells {
 }
 
 impl Cells {
+    /// A copy in memory of its own.
+    pub fn copy(&self, alloc: Global) -> Result<Cells, NoMemory>
+        ensures { IfOk result (λ copy. copy ≡ self.now) }
+    {
+        Ok(Cells {
+            bytes: self.bytes.to_vec(alloc)?,
+            health: self.health.to_vec(alloc)?,
+        })
+    }
+
     // Writes bytes over those at a place.
     fn put(&mut self, at: u32, bytes: &[u8])
         requires { at + length bytes.now ≤ length self.old.bytes }

@@ -1,4 +1,5 @@
-//! Flash devices: their geometries, what they hold, and what each call leaves of it.
+//! Flash devices: their geometries, what they hold, what each call leaves of it, and the plans by which a board
+//! starts a system.
 //! Any crate above bb_base may know it.
 #![tactic(auto)]
 
@@ -11,6 +12,8 @@ mod health;
 mod log;
 mod mem_board;
 mod pages;
+mod plan;
+mod plan_list;
 mod region;
 #[cfg(test)]
 mod tests;
@@ -21,4 +24,6 @@ pub use flash::Flash;
 pub use geometry::{Geometry, geometry_of};
 pub use health::Health;
 pub use mem_board::MemBoard;
+pub use plan::Plan;
+pub use plan_list::PlanList;
 pub use region::Region;

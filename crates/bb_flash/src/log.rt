@@ -1,4 +1,4 @@
-ghost use Rattle.std.specs.Prelude.{◌≡◌, ◌+◌, ◌≤◌, ◌<◌, ◌∷◌, [], length, nat_lt, IfOk};
+ghost use Rattle.std.specs.Prelude.{◌≡◌, ◌+◌, ◌-◌, ◌≤◌, ◌<◌, ◌∷◌, [], length, nat_lt, IfOk};
 
 use crate::Health;
 use bb_base::NoMemory;
@@ -100,6 +100,14 @@ impl Log {
         let _ = self.before.extend_from_slice(before);
         let _ = self.health.extend_from_slice(health);
         let _ = self.bytes.extend_from_slice(bytes);
+    }
+
+    /// Gives up room for so many bytes.
+    pub fn give_up(&mut self, bytes: u32)
+        requires { self.old.used + bytes ≤ self.old.most_bytes }
+        ensures { self.new ≡ record self.old { most_bytes = self.old.most_bytes - bytes } }
+    {
+        self.most_bytes -= bytes;
     }
 
     #[tactic(auto, unfolding(crate::specs::Saved::saved_of))]

@@ -9,20 +9,24 @@ ghost use Rattle.bb_flash.specs.Memory as memory;
 ghost use Rattle.bb_flash.specs.Memory.{device_of};
 
 mod calls;
+mod counts;
+mod starts;
 
 use crate::cells::Cells;
 use crate::log::Log;
-use crate::pages::copy_out;
-use crate::{Board, Fault, Flash, Geometry, Health};
+use crate::{Fault, Flash, Geometry, Health};
 use bb_base::{Failed, NoMemory};
+use starts::StartMade;
 use std::alloc::Global;
 use std::marker::Model;
 
 /// A board in memory, which tells all that it holds. It records each call that changes it, for as many calls and
-/// bytes as it took memory for. A call fails where a fault is planned for it, where there is no room to record it,
-/// after a planned cut until a restart, and where a count but that of faults would pass 2^64 - 1.
+/// bytes as it took memory for, and each start, which takes room for as many bytes as the device has, for good. A call
+/// or a start fails where a fault is planned for it, where there is no room to record it, after a planned cut until a
+/// restart, and where a count but those of faults would pass 2^64 - 1; a start also where memory is refused.
 #[derive(Debug, Drop)]
 pub struct MemBoard {
+    alloc: Global,
     geometry: Geometry,
     cells: Cells,
     log: Log,
@@ -36,10 +40,13 @@ pub struct MemBoard {
     was_cut: bool,
     programs: u64,
     erased: u64,
+    starts: Vec<StartMade>,
+    start_faults: u64,
+    tried: u64,
+    failing: Vec<u32>,
 }
 
 impl Model for MemBoard {
-    ghost use Rattle.std.specs.Prelude.{[]};
     ghost use Rattle.bb_flash.specs.Memory.{Memory};
     ghost use Rattle.bb_flash.specs.Saved.{history, IsMemory};
 
@@ -50,25 +57,29 @@ impl Model for MemBoard {
           geometry = board.geometry;
           told = record {
             image = board.cells;
-            starts = [];
+            starts = board.starts.items;
             erases = board.erases.items;
             reads = board.reads;
             changes = history board.geometry.page board.log.saved board.cells;
           };
           faults = board.faults;
           read_faults = board.read_faults;
+          start_faults = board.start_faults;
           most_calls = board.log.most_calls;
           most_bytes = board.log.most_bytes;
           calls = board.calls;
           used = board.log.used;
           plan = board.plan.items;
+          tried = board.tried;
+          failing = board.failing.items;
           was_cut = board.was_cut;
           programs = board.programs;
           erased = board.erased;
         } };
 
     ghost invariant = { λ board.
-        IsMemory board.geometry board.cells board.log board.blank.items board.erases.items board.calls };
+        IsMemory board.geometry board.cells board.log board.blank.items board.erases.items board.calls
+        board.starts.items };
 }
 
 impl MemBoard {
@@ -88,6 +99,7 @@ impl MemBoard {
     {
         let pages = geometry.size / geometry.page;
         Ok(MemBoard {
+            alloc,
             geometry,
             cells: Cells {
                 bytes: bytes.to_vec(alloc)?,
@@ -104,6 +116,10 @@ impl MemBoard {
             was_cut: false,
             programs: 0,
             erased: 0,
+            starts: Vec::new(alloc),
+            start_faults: 0,
+            tried: 0,
+            failing: Vec::new(alloc),
         })
     }
 
@@ -118,14 +134,16 @@ impl MemBoard {
     }
 
     #[tactic(auto, unfolding(crate::specs::Saved::history))]
-    /// Starts the board anew after a cut, or without one: what it holds stays, and so do the counts of faults, reads,
-    /// programs and erases. The record of calls and the planned faults go.
+    /// Starts the board anew after a cut, or without one: what it holds stays, and so do the starts and the counts of
+    /// faults, reads, programs and erases. The record of calls and the planned faults go.
     pub fn restart(&mut self)
         ensures { self.new ≡ memory.restarted self.old }
     {
         self.log.clear();
         self.plan.clear();
+        self.failing.clear();
         self.calls = 0;
+        self.tried = 0;
         self.was_cut = false;
     }
 
@@ -137,41 +155,6 @@ impl MemBoard {
     {
         self.cells.health[page as usize] = health;
         self.log.clear();
-    }
-
-    /// The device's bytes, those of Lost pages too.
-    pub fn bytes(&self) -> &[u8]
-        ensures { result.now ≡ self.now.told.image.bytes }
-    {
-        &self.cells.bytes
-    }
-
-    /// How many reads answered Ok.
-    pub fn reads(&self) -> u64
-        ensures { result ≡ self.now.told.reads }
-    {
-        self.reads
-    }
-
-    /// How many programs answered Ok.
-    pub fn programs(&self) -> u64
-        ensures { result ≡ self.now.programs }
-    {
-        self.programs
-    }
-
-    /// How many erases answered Ok.
-    pub fn erased(&self) -> u64
-        ensures { result ≡ self.now.erased }
-    {
-        self.erased
-    }
-
-    /// A planned cut was met since the last restart.
-    pub fn was_cut(&self) -> bool
-        ensures { result ≡ self.now.was_cut }
-    {
-        self.was_cut
     }
 }
 
@@ -242,5 +225,3 @@ impl Flash for MemBoard {
         self.erase_call(block)
     }
 }
-
-impl Board for MemBoard {}

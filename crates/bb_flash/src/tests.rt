@@ -1,7 +1,7 @@
 ghost use Rattle.std.specs.Prelude.{◌≡◌, ◌<◌, IfOk};
 
-use crate::{Fault, Fill, Flash, Geometry, Health, MemBoard, geometry_of};
-use bb_base::{Failed, NoMemory};
+use crate::{Board, Fault, Fill, Flash, Geometry, Health, MemBoard, Plan, geometry_of};
+use bb_base::{Failed, NoMemory, Text, TextList};
 use std::test::Fail;
 
 #[test]
@@ -132,5 +132,52 @@ fn an_erase_blanks_its_block(rt: HostRuntime) -> Result<(), Fail> {
     expected[32..].fill(255);
     assert_eq!(rt; board.erase(1), Ok(()));
     assert_eq!(rt; board.bytes(), expected.as_slice());
+    Ok(())
+}
+
+fn plan(rt: &HostRuntime) -> Result<Plan, NoMemory> {
+    let mut initrds = TextList::none(rt.alloc());
+    initrds.push(Text::of(rt.alloc(), "/initrd")?)?;
+    Ok(Plan {
+        place: 2,
+        linux: Text::of(rt.alloc(), "/zImage")?,
+        initrds,
+        options: Text::of(rt.alloc(), "rw")?,
+        devicetree: Text::of(rt.alloc(), "")?,
+    })
+}
+
+#[test]
+fn a_start_outlives_a_restart(rt: HostRuntime) -> Result<(), Fail> {
+    let mut board = small(&rt)?;
+    let plan = plan(&rt)?;
+    assert_eq!(rt; board.start(&plan), Ok(()));
+    board.restart();
+    assert_eq!(rt; board.started(), 1);
+    assert_eq!(rt; board.plan_at(0).map(|plan| plan.place), Some(2));
+    assert_eq!(rt; board.plan_at(1).is_none(), true);
+    Ok(())
+}
+
+#[test]
+fn a_planned_start_fails(rt: HostRuntime) -> Result<(), Fail> {
+    let mut board = small(&rt)?;
+    let plan = plan(&rt)?;
+    board.fail_start(1)?;
+    assert_eq!(rt; board.start(&plan), Ok(()));
+    assert_eq!(rt; board.start(&plan), Err(Failed));
+    assert_eq!(rt; board.started(), 1);
+    Ok(())
+}
+
+// Nine bytes have room for what a board of four bytes holds twice.
+#[test]
+fn a_start_takes_room_for_what_the_board_holds(rt: HostRuntime) -> Result<(), Fail> {
+    let mut board = small(&rt)?;
+    let plan = plan(&rt)?;
+    assert_eq!(rt; board.start(&plan), Ok(()));
+    assert_eq!(rt; board.start(&plan), Ok(()));
+    board.restart();
+    assert_eq!(rt; board.start(&plan), Err(Failed));
     Ok(())
 }

@@ -4,7 +4,7 @@ ghost use Rattle.bb_flash.specs.Geometry.{IsGeometry};
 use crate::device_file::{OpenError, open_device};
 use crate::disk::{blank_through, write_through};
 use bb_base::Failed;
-use bb_flash::{Board, Flash, Geometry, Health};
+use bb_flash::{Board, Flash, Geometry, Health, Plan};
 use std::alloc::Global;
 use std::fs::File;
 use std::os::unix::fs::FileExt;
@@ -17,6 +17,7 @@ pub struct FileBoard {
     geometry: Geometry,
     faults: u64,
     read_faults: u64,
+    start_faults: u64,
     ghost bounds: { IsGeometry geometry },
 }
 
@@ -34,13 +35,19 @@ impl FileBoard {
             geometry,
             faults: 0,
             read_faults: 0,
+            start_faults: 0,
         })
     }
 }
 
 impl Flash for FileBoard {
-    ghost device = { λ b.
-        record { geometry = b.geometry; told = None; faults = b.faults; read_faults = b.read_faults; start_faults = 0 } };
+    ghost device = { λ b. record {
+      geometry = b.geometry;
+      told = None;
+      faults = b.faults;
+      read_faults = b.read_faults;
+      start_faults = b.start_faults;
+    } };
 
     fn geometry(&self) -> Geometry {
         self.geometry
@@ -73,4 +80,10 @@ impl Flash for FileBoard {
     }
 }
 
-impl Board for FileBoard {}
+impl Board for FileBoard {
+    /// No start is made yet: each one fails.
+    fn start(&mut self, _plan: &Plan) -> Result<(), Failed> {
+        self.start_faults = self.start_faults.saturating_add(1);
+        Err(Failed)
+    }
+}
