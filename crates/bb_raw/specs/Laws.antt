@@ -1,15 +1,18 @@
 -- The raw record is a format.
-use Rattle.std.proofs.Common.{◌≡◌, ℕ, ◌+◌, ◌-◌, ◌%◌, ◌^◌, ◌==◌, ◌<◌, ◌≤◌, Bool, true, false, ◌&&◌, List, ◌++◌, length, take, drop, Some, None, refl, sym, ap, ◌∙◌, arith, cond, nat_le, length-append, take_all, length-drop, inl, inr}
+use Rattle.std.proofs.Common.{◌≡◌, ℕ, ◌+◌, ◌-◌, ◌%◌, ◌^◌, ◌==◌, ◌<◌, ◌≤◌, Bool, true, false, ◌&&◌, List, ◌++◌, length, take, drop, Option, Some, None, refl, sym, ap, ◌∙◌, append_assoc, arith, cond, nat_le, length-append, take_all, length-drop, inl, inr}
 use Rattle.std.proofs.Math.Nat.{div-one}
 use Rattle.std.proofs.lemmas.Bool.{and_from, and_parts, cases_lt, eq-eqb, eqb-true, le-leb, leb-true}
 use Rattle.std.proofs.lemmas.Bool.Decides.{leb_tells}
-use Rattle.std.proofs.lemmas.List.{drop-take, length-take-le, take-take}
+use Rattle.std.proofs.lemmas.List.{drop-take, drop_at, length-take-le, take-take, take_at}
 use Rattle.std.proofs.lemmas.Grind.{common_steps}
+use Rattle.std.proofs.lemmas.Slice.Eq.{bytes_eq-Decides}
+use Rattle.std.specs.Str.{bytes_eq}
 use Rattle.byteorder.specs.Endian.{little_bytes, little_number}
 use Rattle.byteorder.specs.Numbers.{little_from-bytes, little_from-take}
 use Rattle.bb_base.specs.Crc.{crc_of}
 use Rattle.bb_base.specs.Form.{IsForm}
-use Rattle.bb_raw.specs.Raw.{Kind, area_of, has_field, header_agrees, header_text, raw_agrees, raw_form, raw_passes, raw_text}
+use Rattle.bb_hmac.proofs.Lengths.{length_hmac_of}
+use Rattle.bb_raw.specs.Raw.{Kind, area_agrees, area_of, code_len, code_of, coded_text, has_code, has_field, header_agrees, header_text, raw_agrees, raw_form, raw_length, raw_passes, raw_text}
 
 -- what was written as a number's low bytes is a field of that number
 field_written : (len number : ℕ) (rest : List ℕ) → (little_number len (little_bytes len number ++ rest) == number % 256 ^ len) ≡ true
@@ -20,48 +23,103 @@ abbrev headed : ℕ → ℕ → ℕ → ℕ → List ℕ → List ℕ
 headed magic len data_crc header_crc rest =
     little_bytes 4 magic ++ (little_bytes 2 0 ++ (little_bytes 2 len ++ (little_bytes 4 data_crc ++ (little_bytes 4 header_crc ++ rest))))
 
-headed_agrees : (magic len data_crc header_crc : ℕ) (rest : List ℕ) → len ≤ length rest → data_crc ≡ crc_of (take len rest) → header_crc ≡ crc_of (take 12 (headed magic len data_crc header_crc rest)) → raw_agrees magic len (headed magic len data_crc header_crc rest) ≡ true
-headed_agrees magic len data_crc header_crc rest enough e h =
-    let after_data : List ℕ = little_bytes 4 header_crc ++ rest in
-    let after_len : List ℕ = little_bytes 4 data_crc ++ after_data in
+headed_agrees : (magic len data_crc header_crc : ℕ) (rest : List ℕ) → header_crc ≡ crc_of (take 12 (headed magic len data_crc header_crc rest)) → header_agrees magic len (headed magic len data_crc header_crc rest) ≡ true
+headed_agrees magic len data_crc header_crc rest h =
+    let after_len : List ℕ = little_bytes 4 data_crc ++ (little_bytes 4 header_crc ++ rest) in
     let after_magic : List ℕ = little_bytes 2 0 ++ (little_bytes 2 len ++ after_len) in
     let bytes : List ℕ = headed magic len data_crc header_crc rest in
     and_from _ _
-    (and_from _ _
-    (le-leb (16 + len) (length bytes) (omega arith))
-    (and_from _ _
     (and_from _ _ (field_written 4 magic after_magic) (field_written 2 len after_len))
-    (ap (λ n. has_field 4 12 n bytes) (sym h) ∙ field_written 4 header_crc rest)))
-    (ap (λ n. has_field 4 8 n bytes) (sym e) ∙ field_written 4 data_crc after_data)
+    (ap (λ n. has_field 4 12 n bytes) (sym h) ∙ field_written 4 header_crc rest)
+
+headed_area : (magic len data_crc header_crc : ℕ) (rest : List ℕ) → data_crc ≡ crc_of (take len rest) → area_agrees len (headed magic len data_crc header_crc rest) ≡ true
+headed_area magic len data_crc header_crc rest e =
+    let after_data : List ℕ = little_bytes 4 header_crc ++ rest in
+    let bytes : List ℕ = headed magic len data_crc header_crc rest in
+    ap (λ n. has_field 4 8 n bytes) (sym e) ∙ field_written 4 data_crc after_data
+
+coded_whole : (magic : ℕ) (area : List ℕ) → length (coded_text magic area) ≡ 16 + length area
+coded_whole magic area = omega arith
+
+code_whole : (key : Option (List ℕ)) (text : List ℕ) → length (code_of key text) ≡ code_len key
+code_whole None text = refl
+code_whole (Some key) text = length_hmac_of key text
+
+same_bytes : (bytes : List ℕ) → bytes_eq bytes bytes ≡ true
+same_bytes bytes = (bytes_eq-Decides bytes bytes).1 refl
+
+-- behind a text stands its code, whatever follows
+code_written : (key : Option (List ℕ)) (text rest : List ℕ) (count : ℕ) → length text ≡ count → has_code key count (text ++ (code_of key text ++ rest)) ≡ true
+code_written key text rest count whole =
+    let code : List ℕ = code_of key text in
+    ap (λ l. bytes_eq (code_of key l) (take (code_len key) (drop count (text ++ (code ++ rest))))) (take_at text (code ++ rest) count whole)
+    ∙ ap (λ l. bytes_eq code (take (code_len key) l)) (drop_at text (code ++ rest) count whole)
+    ∙ ap (bytes_eq code) (take_at code rest (code_len key) (code_whole key text))
+    ∙ same_bytes code
 
 taken_back : (area rest : List ℕ) → take (length area) (area ++ rest) ≡ area
 taken_back area rest = grind (arith, common_steps)
 
-text_agrees : (magic : ℕ) (area rest : List ℕ) → raw_agrees magic (length area) (raw_text magic area ++ rest) ≡ true
-text_agrees magic area rest =
-    headed_agrees magic (length area) (crc_of area) (crc_of (header_text magic area)) (area ++ rest)
-    (omega (arith, length-append area rest))
-    (ap crc_of (sym (taken_back area rest))) refl
+-- the record of an area and what follows, as the fields of the header and the rest
+abbrev behind_header : Kind → List ℕ → List ℕ → List ℕ
+behind_header kind area rest = area ++ (code_of kind.key (coded_text kind.magic area) ++ rest)
 
-text_passes : (magic area_len : ℕ) (area rest : List ℕ) → length area ≡ area_len → raw_passes magic area_len (raw_text magic area ++ rest) ≡ Some area
-text_passes magic area_len area rest e =
-    ap (λ n. raw_passes magic n (raw_text magic area ++ rest)) (sym e)
-    ∙ ap (λ b. cond b (Some (take (length area) (area ++ rest))) None) (text_agrees magic area rest)
-    ∙ ap (λ a. Some a) (taken_back area rest)
+abbrev as_headed : Kind → List ℕ → List ℕ → List ℕ
+as_headed kind area rest = headed kind.magic (length area) (crc_of area) (crc_of (header_text kind.magic area)) (behind_header kind area rest)
 
-text_whole : (magic area_len : ℕ) (area : List ℕ) → length area ≡ area_len → length (raw_text magic area) ≡ 16 + area_len
-text_whole magic area_len area e = omega arith
+text_headed : (kind : Kind) (area rest : List ℕ) → raw_text kind area ++ rest ≡ as_headed kind area rest
+text_headed kind area rest = append_assoc (coded_text kind.magic area) (code_of kind.key (coded_text kind.magic area)) rest
+
+text_whole : (kind : Kind) (area : List ℕ) → length area ≡ kind.area_len → length (raw_text kind area) ≡ raw_length kind
+text_whole kind area e =
+    let text : List ℕ = coded_text kind.magic area in
+    let whole = coded_whole kind.magic area in
+    let code = code_whole kind.key text in
+    omega (arith, length-append text (code_of kind.key text))
+
+text_agrees : (kind : Kind) (area rest : List ℕ) → length area ≡ kind.area_len → raw_agrees kind (raw_text kind area ++ rest) ≡ true
+text_agrees kind area rest e =
+    let text : List ℕ = coded_text kind.magic area in
+    let code : List ℕ = code_of kind.key text in
+    let all : List ℕ = raw_text kind area ++ rest in
+    let taken : List ℕ = behind_header kind area rest in
+    let whole = text_whole kind area e in
+    let coded = coded_whole kind.magic area in
+    let is = text_headed kind area rest in
+    and_from _ _
+    (and_from _ _
+    (and_from _ _
+    (le-leb (raw_length kind) (length all) (omega (arith, length-append (raw_text kind area) rest)))
+    (ap (λ l. header_agrees kind.magic kind.area_len l) is
+    ∙ ap (λ n. header_agrees kind.magic n (as_headed kind area rest)) (sym e)
+    ∙ headed_agrees kind.magic (length area) (crc_of area) (crc_of (header_text kind.magic area)) taken refl))
+    (ap (area_agrees kind.area_len) is
+    ∙ ap (λ n. area_agrees n (as_headed kind area rest)) (sym e)
+    ∙ headed_area kind.magic (length area) (crc_of area) (crc_of (header_text kind.magic area)) taken
+    (ap crc_of (sym (taken_back area (code ++ rest))))))
+    (ap (has_code kind.key (16 + kind.area_len)) (append_assoc text code rest)
+    ∙ code_written kind.key text rest (16 + kind.area_len) (omega arith))
+
+text_area : (kind : Kind) (area rest : List ℕ) → length area ≡ kind.area_len → area_of kind.area_len (raw_text kind area ++ rest) ≡ area
+text_area kind area rest e =
+    ap (area_of kind.area_len) (text_headed kind area rest)
+    ∙ take_at area (code_of kind.key (coded_text kind.magic area) ++ rest) kind.area_len e
+
+text_passes : (kind : Kind) (area rest : List ℕ) → length area ≡ kind.area_len → raw_passes kind (raw_text kind area ++ rest) ≡ Some area
+text_passes kind area rest e =
+    ap (λ b. cond b (Some (area_of kind.area_len (raw_text kind area ++ rest))) None) (text_agrees kind area rest e)
+    ∙ ap (λ a. Some a) (text_area kind area rest e)
 
 -- a choice that gave something was made so
 chosen : (b : Bool) (x y : List ℕ) → cond b (Some x) None ≡ Some y → (b ≡ true) × (x ≡ y)
 chosen true x y e = (refl, cc)
 chosen false x y e = absurd cc
 
-passed_whole : (magic area_len : ℕ) (bytes area : List ℕ) → raw_passes magic area_len bytes ≡ Some area → length area ≡ area_len
-passed_whole magic area_len bytes area e =
-    let choice = chosen (raw_agrees magic area_len bytes) (area_of area_len bytes) area e in
-    let enough : 16 + area_len ≤ length bytes = leb-true _ _ (and_parts _ _ (and_parts _ _ choice.0).0).0 in
-    ap length (sym choice.1) ∙ length-take-le area_len (drop 16 bytes) (omega (arith, length-drop 16 bytes))
+passed_whole : (kind : Kind) (bytes area : List ℕ) → raw_passes kind bytes ≡ Some area → length area ≡ kind.area_len
+passed_whole kind bytes area e =
+    let choice = chosen (raw_agrees kind bytes) (area_of kind.area_len bytes) area e in
+    let enough : raw_length kind ≤ length bytes = leb-true _ _ (and_parts _ _ (and_parts _ _ (and_parts _ _ choice.0).0).0).0 in
+    ap length (sym choice.1) ∙ length-take-le kind.area_len (drop 16 bytes) (omega (arith, length-drop 16 bytes))
 
 -- a field that lies within some first bytes is one of them
 field_within : (len at number m : ℕ) (bytes : List ℕ) → at + len ≤ m → has_field len at number (take m bytes) ≡ has_field len at number bytes
@@ -80,51 +138,71 @@ enough_within m bytes = elim (cases_lt (length bytes) m) [
       ∙ sym (le-leb m (length bytes) long)
 ]
 
-first_12_within : (area_len : ℕ) (bytes : List ℕ) → take 12 (take (16 + area_len) bytes) ≡ take 12 bytes
-first_12_within area_len bytes = take-take 12 (16 + area_len) bytes (omega arith)
-
-area_within : (area_len : ℕ) (bytes : List ℕ) → area_of area_len (take (16 + area_len) bytes) ≡ area_of area_len bytes
-area_within area_len bytes =
-    ap (take area_len) (drop-take 16 area_len bytes) ∙ take-take area_len area_len (drop 16 bytes) (omega arith)
+-- the same of a part that lies within
+part_within : (at len m : ℕ) (bytes : List ℕ) → at + len ≤ m → take len (drop at (take m bytes)) ≡ take len (drop at bytes)
+part_within at len m bytes inside =
+    let split : m ≡ at + (m - at) = omega arith in
+    ap (λ k. take len (drop at (take k bytes))) split
+    ∙ ap (take len) (drop-take at (m - at) bytes)
+    ∙ take-take len (m - at) (drop at bytes) (omega arith)
 
 joined : {a b c d : Bool} → a ≡ c → b ≡ d → (a && b) ≡ (c && d)
 joined {a} {b} {c} {d} p q = ap (λ x. x && b) p ∙ ap (λ y. c && y) q
 
-agrees_within : (magic area_len : ℕ) (bytes : List ℕ) → raw_agrees magic area_len (take (16 + area_len) bytes) ≡ raw_agrees magic area_len bytes
-agrees_within magic area_len bytes =
-    let m : ℕ = 16 + area_len in
+header_within : (magic area_len m : ℕ) (bytes : List ℕ) → 16 ≤ m → header_agrees magic area_len (take m bytes) ≡ header_agrees magic area_len bytes
+header_within magic area_len m bytes inside =
     let kept : List ℕ = take m bytes in
     joined
+    (joined (field_within 4 0 magic m bytes (omega arith)) (field_within 2 6 area_len m bytes (omega arith)))
+    (ap (λ l. has_field 4 12 (crc_of l) kept) (take-take 12 m bytes (omega arith))
+    ∙ field_within 4 12 (crc_of (take 12 bytes)) m bytes (omega arith))
+
+area_within : (area_len m : ℕ) (bytes : List ℕ) → 16 + area_len ≤ m → area_of area_len (take m bytes) ≡ area_of area_len bytes
+area_within area_len m bytes inside = part_within 16 area_len m bytes inside
+
+area_check_within : (area_len m : ℕ) (bytes : List ℕ) → 16 + area_len ≤ m → area_agrees area_len (take m bytes) ≡ area_agrees area_len bytes
+area_check_within area_len m bytes inside =
+    ap (λ l. has_field 4 8 (crc_of l) (take m bytes)) (area_within area_len m bytes inside)
+    ∙ field_within 4 8 (crc_of (area_of area_len bytes)) m bytes (omega arith)
+
+code_within : (key : Option (List ℕ)) (count m : ℕ) (bytes : List ℕ) → count + code_len key ≤ m → has_code key count (take m bytes) ≡ has_code key count bytes
+code_within key count m bytes inside =
+    ap (λ l. bytes_eq (code_of key l) (take (code_len key) (drop count (take m bytes)))) (take-take count m bytes (omega arith))
+    ∙ ap (bytes_eq (code_of key (take count bytes))) (part_within count (code_len key) m bytes inside)
+
+agrees_within : (kind : Kind) (bytes : List ℕ) → raw_agrees kind (take (raw_length kind) bytes) ≡ raw_agrees kind bytes
+agrees_within kind bytes =
+    let m : ℕ = raw_length kind in
+    joined
+    (joined
     (joined
     (enough_within m bytes)
-    (joined
-    (joined (field_within 4 0 magic m bytes (omega arith)) (field_within 2 6 area_len m bytes (omega arith)))
-    (ap (λ l. has_field 4 12 (crc_of l) kept) (first_12_within area_len bytes)
-    ∙ field_within 4 12 (crc_of (take 12 bytes)) m bytes (omega arith))))
-    (ap (λ l. has_field 4 8 (crc_of l) kept) (area_within area_len bytes)
-    ∙ field_within 4 8 (crc_of (area_of area_len bytes)) m bytes (omega arith))
+    (header_within kind.magic kind.area_len m bytes (omega arith)))
+    (area_check_within kind.area_len m bytes (omega arith)))
+    (code_within kind.key (16 + kind.area_len) m bytes (omega arith))
 
-first_count : (magic area_len : ℕ) (bytes : List ℕ) → raw_passes magic area_len (take (16 + area_len) bytes) ≡ raw_passes magic area_len bytes
-first_count magic area_len bytes =
-    ap (λ b. cond b (Some (area_of area_len (take (16 + area_len) bytes))) None) (agrees_within magic area_len bytes)
-    ∙ ap (λ area. cond (raw_agrees magic area_len bytes) (Some area) None) (area_within area_len bytes)
+first_count : (kind : Kind) (bytes : List ℕ) → raw_passes kind (take (raw_length kind) bytes) ≡ raw_passes kind bytes
+first_count kind bytes =
+    ap (λ b. cond b (Some (area_of kind.area_len (take (raw_length kind) bytes))) None) (agrees_within kind bytes)
+    ∙ ap (λ area. cond (raw_agrees kind bytes) (Some area) None) (area_within kind.area_len (raw_length kind) bytes (omega arith))
 
 too_few : (m n : ℕ) → n < m → nat_le m n ≡ false
 too_few m n h = elim (leb_tells m n) [ inl enough ↦ absurd (omega (arith, enough.1)) | inr few ↦ few.0 ]
 
-fails_first : (a b c : Bool) (x : List ℕ) → a ≡ false → cond ((a && b) && c) (Some x) None ≡ None
-fails_first false b c x e = refl
-fails_first true b c x e = absurd cc
+fails_first : (a b c d : Bool) (x : List ℕ) → a ≡ false → cond (((a && b) && c) && d) (Some x) None ≡ None
+fails_first false b c d x e = refl
+fails_first true b c d x e = absurd cc
 
-fewer_fail : (magic area_len : ℕ) (bytes : List ℕ) → length bytes < 16 + area_len → raw_passes magic area_len bytes ≡ None
-fewer_fail magic area_len bytes few =
-    fails_first _ (header_agrees magic area_len bytes) _ (area_of area_len bytes) (too_few (16 + area_len) (length bytes) few)
+fewer_fail : (kind : Kind) (bytes : List ℕ) → length bytes < raw_length kind → raw_passes kind bytes ≡ None
+fewer_fail kind bytes few =
+    fails_first _ (header_agrees kind.magic kind.area_len bytes) (area_agrees kind.area_len bytes) _ (area_of kind.area_len bytes)
+    (too_few (raw_length kind) (length bytes) few)
 
 pub raw_laws : (kind : Kind) → IsForm (raw_form kind)
 raw_laws kind = record {
-  whole = λ area fits. text_whole kind.magic kind.area_len area (eqb-true _ _ fits);
-  text_passes = λ area rest fits. text_passes kind.magic kind.area_len area rest (eqb-true _ _ fits);
-  passed_fits = λ bytes area passed. eq-eqb _ _ (passed_whole kind.magic kind.area_len bytes area passed);
-  first_count = first_count kind.magic kind.area_len;
-  fewer_fail = fewer_fail kind.magic kind.area_len;
+  whole = λ area fits. text_whole kind area (eqb-true _ _ fits);
+  text_passes = λ area rest fits. text_passes kind area rest (eqb-true _ _ fits);
+  passed_fits = λ bytes area passed. eq-eqb _ _ (passed_whole kind bytes area passed);
+  first_count = first_count kind;
+  fewer_fail = fewer_fail kind;
 }

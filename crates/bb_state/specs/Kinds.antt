@@ -1,5 +1,5 @@
 -- The kinds of buckets and of formats, and which of them the copies of a layout have.
-use Rattle.std.specs.Prelude.{ℕ, List, Option, map}
+use Rattle.std.specs.Prelude.{ℕ, List, Option, None, map}
 use Rattle.std.specs.List.{range_with_len}
 use Rattle.bb_base.specs.Form.{Form, IsForm}
 use Rattle.bb_flash.specs.Image.{Image}
@@ -52,7 +52,7 @@ laid_kinds layout = kinds_of any_holding (laid_buckets layout)
 
 -- the format of their records
 abbrev pub format_of : FormatKind → ℕ → ℕ → AnyFormat
-format_of formats.Raw magic area_len = Raw (record { magic = magic; area_len = area_len })
+format_of formats.Raw magic area_len = Raw (record { magic = magic; area_len = area_len; key = None })
 
 abbrev pub laid_form : Laid → Form
 laid_form layout = any_form (format_of layout.format layout.magic layout.area_len)

@@ -4,7 +4,7 @@ use bb_base::Format;
 use bb_raw::Raw;
 
 /// A format of any kind: each call is that of the format inside.
-#[derive(Clone, Copy, Debug)]
+#[derive(Drop)]
 pub enum AnyFormat {
     /// The raw record.
     Raw(Raw),

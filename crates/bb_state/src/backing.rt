@@ -204,6 +204,6 @@ fn format_of(layout: &Layout) -> AnyFormat
     ensures { result ≡ format_of layout.now.format layout.now.magic layout.now.area_len }
 {
     match layout.format {
-        FormatKind::Raw => AnyFormat::Raw(Raw::of(layout.magic, layout.area_len)),
+        FormatKind::Raw => AnyFormat::Raw(Raw::of(layout.magic, layout.area_len, None)),
     }
 }
