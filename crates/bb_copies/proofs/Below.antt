@@ -1,5 +1,5 @@
 -- The copies below one are settled, those from it on aren't yet.
-use Rattle.std.proofs.Common.{◌≡◌, ◌≢◌, ◌⊎◌, ◌∙◌, ℕ, zero, suc, ◌+◌, ◌<◌, ◌≤◌, Bool, true, false, not, List, [], ◌∷◌, length, set, take, Option, Some, count_by, ap, sym, subst, arith, refl, inl, inr}
+use Rattle.std.proofs.Common.{◌≡◌, ◌≢◌, ◌⊎◌, ◌∙◌, ℕ, zero, suc, ◌+◌, ◌<◌, ◌≤◌, Bool, true, false, not, List, [], ◌∷◌, ◌++◌, length, set, take, Option, Some, count_by, ap, sym, subst, arith, refl, inl, inr}
 use Rattle.std.specs.Prelude.{slice_get}
 use Rattle.std.specs.Option.{ForSome}
 use Rattle.std.proofs.lemmas.List.{get_or-set_other, get_or-set_same, take-set}
@@ -14,10 +14,12 @@ use Rattle.bb_flash.specs.Image.{Image}
 use Rattle.bb_bucket.specs.Calls.{Leaves}
 use Rattle.bb_bucket.specs.Kind.{Kind, part_of}
 use Rattle.bb_copies.specs.Buckets.{EachCopy}
+use Rattle.bb_copies.specs.Erasing.{ErasesBy, unmarked}
 use Rattle.bb_copies.specs.Passing.{passing_of}
 use Rattle.bb_copies.specs.Refreshing.{AllSettled, AllWritten, IsSettledAt, IsStuckAt, IsUntouched, IsWrittenAt, KeepsMarked, LeavesOthers, Refreshes, held, is_marked}
 use Rattle.bb_copies.specs.Settling.{IsStale, IsUndisturbed, IsUnread, PassesAnother, RoseBy}
 use Rattle.bb_copies.proofs.Ends.{content_before}
+use Rattle.bb_copies.proofs.Erased.{count_append, erases_joined, none_erased, unmarked_enough, unmarked_more, unmarked_skip, written_erases}
 use Rattle.bb_copies.proofs.Many.{images_now, same_or_not, same_part, same_passing}
 use Rattle.bb_copies.proofs.Runs.{none_refreshes, none_untouched, refreshes_joined, undisturbed_first, undisturbed_second, untouched_joined}
 
@@ -36,6 +38,7 @@ pub record RefreshedBelow (form : Form) (kinds : List Kind) (area rec : List ℕ
       copy < bound → is_marked marked copy ≡ false → ForSome (content to) (λ image. passing_of form from.geometry.page kind image ≡ held area (is_marked good copy)))
   pub dead : RoseBy (count_by not (take bound good)) from.faults to.faults
   pub exact : IsUndisturbed from to → EachCopy kinds (λ copy kind. copy < bound → is_marked marked copy ≡ false → Leaves kind.region (kind.after_write rec) from to)
+  pub erased : IsUndisturbed from to → ErasesBy (unmarked (take bound marked) (take bound kinds)) rec from to
 
 pub none_refreshed : (form : Form) (kinds : List Kind) (area rec : List ℕ) (marked : List Bool) (device : Device) → IsDevice device → RefreshedBelow form kinds area rec marked marked 0 device device
 none_refreshed form kinds area rec marked device whole = record {
@@ -45,7 +48,13 @@ none_refreshed form kinds area rec marked device whole = record {
   each = λ copy kind e low. absurd (omega arith);
   dead = omega arith;
   exact = λ quiet copy kind e low. absurd (omega arith);
+  erased = λ quiet. none_erased rec device;
 }
+
+pub kind_inside : (kinds : List Kind) (copy : ℕ) → copy < length kinds → (kind : Kind) × (slice_get kinds copy ≡ Some kind)
+kind_inside [] copy inside = absurd (omega arith)
+kind_inside (kind ∷ kinds) zero inside = (kind, refl)
+kind_inside (kind ∷ kinds) (suc copy) inside = kind_inside kinds copy (omega arith)
 
 -- ---- over a copy that is marked
 
@@ -59,6 +68,13 @@ below_or_at copy bound low = elim (same_or_not copy bound) [ inl same ↦ inr sa
 left_before : (marked : List Bool) (bound copy : ℕ) → IsLeft marked (bound + 1) copy → IsLeft marked bound copy
 left_before marked bound copy (inl m) = inl m
 left_before marked bound copy (inr high) = inr (omega arith)
+
+-- one more copy, said of the list of those that were written
+erased_next : (kinds : List Kind) (rec : List ℕ) (marked : List Bool) (bound : ℕ) (written : List Kind) (from to : Device) → unmarked (take (suc bound) marked) (take (suc bound) kinds) ≡ written → ErasesBy written rec from to → ErasesBy (unmarked (take (bound + 1) marked) (take (bound + 1) kinds)) rec from to
+erased_next kinds rec marked bound written from to is erased =
+    let next : bound + 1 ≡ suc bound = omega arith in
+    subst (λ (n : ℕ). ErasesBy (unmarked (take n marked) (take n kinds)) rec from to) (sym next)
+    (subst (λ (ks : List Kind). ErasesBy ks rec from to) (sym is) erased)
 
 pub skipped : (form : Form) (kinds : List Kind) (area rec : List ℕ) (marked good : List Bool) (bound : ℕ) (from to : Device) → bound < length good → is_marked good bound ≡ true → RefreshedBelow form kinds area rec marked good bound from to → RefreshedBelow form kinds area rec marked good (bound + 1) from to
 skipped form kinds area rec marked good bound from to inside mark below =
@@ -77,6 +93,7 @@ skipped form kinds area rec marked good bound from to inside mark below =
         | inl lower ↦ below.exact quiet copy kind e lower new
         | inr at ↦ let clash : is_marked marked bound ≡ false = ap (is_marked marked) (sym at) ∙ new in absurd cc
       ];
+      erased = λ quiet. erased_next kinds rec marked bound _ from to (unmarked_skip marked kinds bound here) (below.erased quiet);
     }
 
 -- ---- over a copy that was settled
@@ -125,10 +142,10 @@ dead_more good bound false one two three inside here k cause rose =
     let more : count_by not (take (bound + 1) (set good bound false)) ≡ count_by not (take bound good) + 1 = count_by_more_yes not (set good bound false) bound false inside (ap not here) ∙ ap (λ xs. count_by not xs + 1) (take-set good bound false) in
     subst (λ (n : ℕ). RoseBy n one.faults three.faults) (sym more) (rose_again (count_by not (take bound good)) one two three rose (cause refl))
 
-pub settled_more : (form : Form) (kinds : List Kind) (area rec : List ℕ) (marked good : List Bool) (bound : ℕ) (g : Bool) (from mid to : Device) → bound < length good → bound < length (set good bound g) → is_marked good bound ≡ false → RefreshedBelow form kinds area rec marked good bound from mid → Refreshes form kinds area mid to → LeavesOthers kinds bound mid to → IsSettledAt form kinds area bound mid to g → (IsUndisturbed mid to → IsWrittenAt kinds bound rec mid to) → RefreshedBelow form kinds area rec marked (set good bound g) (bound + 1) from to
-settled_more form kinds area rec marked good bound g from mid to inside within unmarked below run others settled exact =
+pub settled_more : (form : Form) (kinds : List Kind) (area rec : List ℕ) (marked good : List Bool) (bound : ℕ) (g : Bool) (from mid to : Device) → bound < length good → bound < length (set good bound g) → bound < length marked → bound < length kinds → is_marked good bound ≡ false → RefreshedBelow form kinds area rec marked good bound from mid → Refreshes form kinds area mid to → LeavesOthers kinds bound mid to → IsSettledAt form kinds area bound mid to g → (IsUndisturbed mid to → IsWrittenAt kinds bound rec mid to) → RefreshedBelow form kinds area rec marked (set good bound g) (bound + 1) from to
+settled_more form kinds area rec marked good bound g from mid to inside within among there fresh_here below run others settled exact =
     let page : mid.geometry.page ≡ from.geometry.page = ap (λ geo. geo.page) below.refreshes.later.geometry in
-    let new : is_marked marked bound ≡ false = sym (below.same bound (inr (omega arith))) ∙ unmarked in
+    let new : is_marked marked bound ≡ false = sym (below.same bound (inr (omega arith))) ∙ fresh_here in
     let here : is_marked (set good bound g) bound ≡ g = get_or-set_same good bound g false inside in
     let else_same : (copy : ℕ) → copy ≢ bound → is_marked (set good bound g) copy ≡ is_marked good copy = λ copy other. get_or-set_other good bound copy g false other in
     let left_other : (copy : ℕ) → IsLeft marked (bound + 1) copy → copy ≢ bound = λ copy left same. elim left [
@@ -158,6 +175,14 @@ settled_more form kinds area rec marked good bound g from mid to inside within u
             still_leaves kind (kind.after_write rec) from mid to below.refreshes.later run.later (below.kept copy kind e (inr (omega arith)))
             (exact (undisturbed_second from mid to below.refreshes.later quiet) copy kind e at).leaves
       ];
+      erased = λ quiet.
+          let kind = kind_inside kinds bound there in
+          let before : ErasesBy (unmarked (take bound marked) (take bound kinds)) rec from mid = below.erased (undisturbed_first from mid to run.later quiet) in
+          let last = written_erases kind.0 rec mid to (exact (undisturbed_second from mid to below.refreshes.later quiet) bound kind.0 kind.1 refl).erases in
+          let whole : List Kind = unmarked (take bound marked) (take bound kinds) ++ kind.0 ∷ [] in
+          erased_next kinds rec marked bound whole from to (unmarked_more marked kinds bound kind.0 kind.1 among new)
+          (erases_joined (unmarked (take bound marked) (take bound kinds)) whole kind.0 rec from mid to below.refreshes.later run.later
+          (below.kept bound kind.0 kind.1 (inr (omega arith))) before last (λ p. count_append p (unmarked (take bound marked) (take bound kinds)) (kind.0 ∷ [])));
     }
 
 -- ---- at the end
@@ -171,7 +196,13 @@ all_settled form kinds area rec marked good from to many below = record {
 
 pub all_written : (form : Form) (kinds : List Kind) (area rec : List ℕ) (marked good : List Bool) (from to : Device) → length good ≡ length kinds → RefreshedBelow form kinds area rec marked good (length good) from to → IsUndisturbed from to → AllWritten kinds rec marked from to
 all_written form kinds area rec marked good from to many below quiet =
-    record { each = λ copy kind e fresh. below.exact quiet copy kind e (omega (arith, slice_get_within kinds copy kind e, many)) fresh }
+    let some : unmarked (take (length good) marked) (take (length good) kinds) ≡ unmarked marked kinds =
+    ap (λ n. unmarked (take (length good) marked) (take n kinds)) many ∙ ap (unmarked (take (length good) marked)) (take-length kinds)
+    ∙ unmarked_enough marked kinds (length good) (omega (arith, many)) in
+    record {
+      each = λ copy kind e fresh. below.exact quiet copy kind e (omega (arith, slice_get_within kinds copy kind e, many)) fresh;
+      erases = subst (λ (ks : List Kind). ErasesBy ks rec from to) some (below.erased quiet);
+    }
 
 pub keeps_marked : (form : Form) (kinds : List Kind) (area rec : List ℕ) (marked good : List Bool) (bound : ℕ) (from to : Device) → RefreshedBelow form kinds area rec marked good bound from to → KeepsMarked kinds marked from to
 keeps_marked form kinds area rec marked good bound from to below = λ copy kind e mark. below.kept copy kind e (inl mark)
@@ -202,11 +233,6 @@ stuck_earlier form kinds area copy from mid to h k stuck = record {
 cause_rose : (form : Form) (kind : Kind) (area : List ℕ) (from to : Device) → IsStale form kind area from to ⊎ IsUnread from to → Rose from.faults to.faults
 cause_rose form kind area from to (inl stale) = let cause = stale.cause in omega (arith, cause)
 cause_rose form kind area from to (inr unread) = let cause = unread.cause in omega (arith, cause)
-
-pub kind_inside : (kinds : List Kind) (copy : ℕ) → copy < length kinds → (kind : Kind) × (slice_get kinds copy ≡ Some kind)
-kind_inside [] copy inside = absurd (omega arith)
-kind_inside (kind ∷ kinds) zero inside = (kind, refl)
-kind_inside (kind ∷ kinds) (suc copy) inside = kind_inside kinds copy (omega arith)
 
 -- where a copy is stuck a call failed
 pub stuck_rose : (form : Form) (kinds : List Kind) (area : List ℕ) (copy : ℕ) (from to : Device) → IsStuckAt form kinds area copy from to → Rose from.faults to.faults

@@ -15,11 +15,11 @@ use Rattle.bb_copies.specs.Passing.{passing_of}
 use Rattle.bb_copies.specs.Settling.{EndsAs, IsCompared, IsDead, IsGood, PassesAnother, ReadsAs, RoseBy}
 use Rattle.bb_copies.proofs.OneCopy.{begun_passes}
 
-some_of : {T : Type 0} → (o : Option T) → is_some o ≡ true → (x : T) × (o ≡ Some x)
+pub some_of : {T : Type 0} → (o : Option T) → is_some o ≡ true → (x : T) × (o ≡ Some x)
 some_of None e = absurd cc
 some_of (Some x) e = (x, refl)
 
-is_some_map : {A B : Type 0} (f : A → B) (o : Option A) → is_some (option_map f o) ≡ is_some o
+pub is_some_map : {A B : Type 0} (f : A → B) (o : Option A) → is_some (option_map f o) ≡ is_some o
 is_some_map f None = refl
 is_some_map f (Some x) = refl
 

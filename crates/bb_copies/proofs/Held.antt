@@ -13,12 +13,14 @@ use Rattle.bb_flash.specs.Image.{Image}
 use Rattle.bb_flash.proofs.Moments.{images_joined}
 use Rattle.bb_bucket.specs.Kind.{Kind}
 use Rattle.bb_copies.specs.Buckets.{EachCopy}
+use Rattle.bb_copies.specs.Erasing.{unmarked}
 use Rattle.bb_copies.specs.Looking.{IsFirst}
 use Rattle.bb_copies.specs.Passing.{passing_of, passings}
 use Rattle.bb_copies.specs.Refreshing.{AllHeld, AllSettled, AllWritten, IsFirstMarked, IsSettledAt, IsUntouched, IsWrittenAt, KeepsMarked, LeavesOthers, NeverEmpty, NoOther, held, is_marked}
 use Rattle.bb_copies.specs.Settling.{IsUndisturbed, RoseBy}
 use Rattle.bb_copies.specs.StandsFor.{SomePasses}
 use Rattle.bb_copies.proofs.Below.{kind_inside, leaves_still, passes_still, still_leaves}
+use Rattle.bb_copies.proofs.Erased.{erases_joined, one_more, written_erases}
 use Rattle.bb_copies.proofs.Many.{same_or_not, same_passing}
 use Rattle.bb_copies.proofs.Passed.{some_passes}
 use Rattle.bb_copies.proofs.Runs.{untouched_joined}
@@ -169,8 +171,8 @@ quiet_other form kinds area good used from to many none all quiet =
     let dead = all.dead in
     quiet (omega (arith, some, dead))
 
-pub written_others : (kinds : List Kind) (rec : List ℕ) (good : List Bool) (used : ℕ) (from mid to : Device) → IsLater from mid → IsLater mid to → KeepsMarked kinds (set good used true) from mid → AllWritten kinds rec (set good used true) from mid → LeavesOthers kinds used mid to → IsWrittenAt kinds used rec mid to → used < length good → AllWritten kinds rec good from to
-written_others kinds rec good used from mid to h k kept written others last inside = record {
+pub written_others : (kinds : List Kind) (rec : List ℕ) (good : List Bool) (used : ℕ) (from mid to : Device) → IsLater from mid → IsLater mid to → KeepsMarked kinds (set good used true) from mid → AllWritten kinds rec (set good used true) from mid → LeavesOthers kinds used mid to → IsWrittenAt kinds used rec mid to → used < length good → used < length kinds → is_marked good used ≡ false → AllWritten kinds rec good from to
+written_others kinds rec good used from mid to h k kept written others last inside there stale = record {
   each = λ copy kind e fresh. elim (same_or_not copy used) [
     | inl same ↦
         let mark : is_marked (set good used true) copy ≡ true = ap (is_marked (set good used true)) same ∙ get_or-set_same good used true false inside in
@@ -179,6 +181,11 @@ written_others kinds rec good used from mid to h k kept written others last insi
         let new : is_marked (set good used true) copy ≡ false = get_or-set_other good used copy true false other ∙ fresh in
         leaves_still kind (kind.after_write rec) from mid to h k (others copy kind e other) (written.each copy kind e new)
   ];
+  erases =
+      let kind = kind_inside kinds used there in
+      erases_joined (unmarked (set good used true) kinds) (unmarked good kinds) kind.0 rec from mid to h k
+      (kept used kind.0 kind.1 (get_or-set_same good used true false inside)) written.erases
+      (written_erases kind.0 rec mid to (last used kind.0 kind.1 refl).erases) (one_more good kinds used kind.0 kind.1 inside stale);
 }
 
 pub kept_others : (kinds : List Kind) (good : List Bool) (used : ℕ) (from mid to : Device) → IsLater from mid → IsLater mid to → is_marked good used ≡ false → KeepsMarked kinds (set good used true) from mid → LeavesOthers kinds used mid to → KeepsMarked kinds good from to
@@ -194,11 +201,8 @@ kept_marked kinds good used from to inside kept = λ copy kind e mark. kept copy
 ])
 
 pub written_fresh : (kinds : List Kind) (rec : List ℕ) (good : List Bool) (used : ℕ) (from to : Device) → is_marked good used ≡ true → AllWritten kinds rec (set good used true) from to → AllWritten kinds rec good from to
-written_fresh kinds rec good used from to mark written = record {
-  each = λ copy kind e fresh.
-      let other : copy ≢ used = λ same. let clash : is_marked good used ≡ false = ap (is_marked good) (sym same) ∙ fresh in absurd cc in
-      written.each copy kind e (get_or-set_other good used copy true false other ∙ fresh);
-}
+written_fresh kinds rec good used from to mark written =
+    subst (λ (xs : List Bool). AllWritten kinds rec xs from to) (set_again good used mark) written
 
 -- ---- a save over a used copy
 

@@ -1,6 +1,7 @@
 mod Examples
 pub mod Calls
 pub mod Ends
+pub mod Erased
 pub mod Finding
 pub mod Held
 pub mod History
@@ -10,6 +11,7 @@ pub mod Marks
 pub mod OneCopy
 pub mod Below
 pub mod Passed
+pub mod Placed
 pub mod Places
 pub mod Runs
 pub mod Saves

@@ -1,5 +1,5 @@
 -- A load, from its two parts: all copies were read, and then settled.
-use Rattle.std.proofs.Common.{◌≡◌, ◌∙◌, ℕ, suc, ◌+◌, ◌-◌, ◌<◌, ◌≤◌, Bool, true, false, not, cond, List, [], ◌∷◌, length, get_or, Option, Some, None, IfSome, is_some, count_by, option_map, ap, sym, subst, arith, refl, inl, inr}
+use Rattle.std.proofs.Common.{◌≡◌, ◌∙◌, ℕ, suc, ◌+◌, ◌-◌, ◌<◌, ◌≤◌, Bool, true, false, not, cond, List, [], ◌∷◌, length, get_or, Option, Some, None, is_some, count_by, option_map, ap, sym, subst, arith, refl, inl, inr}
 use Rattle.std.specs.Option.{ForSome}
 use Rattle.std.proofs.lemmas.List.Sums.{get_or-le-sum_by, sum_by-cons}
 use Rattle.std.proofs.lemmas.Option.{slice_get_within}
@@ -13,18 +13,21 @@ use Rattle.bb_bucket.specs.Calls.{told_but_reads}
 use Rattle.bb_bucket.specs.Kind.{Kind, part_of}
 use Rattle.bb_copies.specs.declared.answers.Loaded.{Loaded}
 use Rattle.bb_copies.specs.declared.answers.Loaded.TheVariants.{Copy, NoCopy}
+use Rattle.bb_copies.specs.declared.read.Passed.{Passed}
 use Rattle.bb_copies.specs.Buckets.{EachCopy}
-use Rattle.bb_copies.specs.Loading.{IsAllKept, IsEmpty, IsExact, IsFirstArea, IsLoadStuck, IsTally, LoadGives, LoadImages, LoadRuns, LoadsExactly, LookGives, StandsStill}
-use Rattle.bb_copies.specs.Looking.{FindsBelow, IsFirst, PassNothing}
+use Rattle.bb_copies.specs.Loading.{IsAllKept, IsEmpty, IsExact, IsFirstArea, IsLoadStuck, LoadErases, LoadGives, LoadImages, LoadRuns, LoadsExactly, StandsStill}
+use Rattle.bb_copies.specs.Erasing.{ErasesBy, unmarked}
+use Rattle.bb_copies.specs.Looking.{IsFirst, IsReadAt, PassNothing}
 use Rattle.bb_copies.specs.Luck.{IsLucky}
 use Rattle.bb_copies.specs.Passing.{passing_of, passings}
 use Rattle.bb_copies.specs.Refreshing.{AllHeld, AllWritten, IsFirstMarked, IsStuckAt, KeepsMarked, NeverEmpty, Refreshes, held, is_marked}
 use Rattle.bb_copies.specs.Settling.{IsUndisturbed, RoseBy}
 use Rattle.bb_copies.specs.StandsFor.{IsAreaOrNone, KeepsOrTakes, SomePasses, Stands, first_passed}
 use Rattle.bb_copies.proofs.Below.{kind_inside, stuck_earlier}
+use Rattle.bb_copies.proofs.Erased.{erases_behind}
 use Rattle.bb_copies.proofs.Held.{never_joined, true_or_false}
 use Rattle.bb_copies.proofs.History.{load_during}
-use Rattle.bb_copies.proofs.Many.{images_now, passes_kind, same_part}
+use Rattle.bb_copies.proofs.Many.{images_now, passes_kind, same_or_not, same_part}
 use Rattle.bb_copies.proofs.Passed.{each_passes, first_found, none_passes, some_passes}
 use Rattle.bb_copies.proofs.Runs.{read_images, refreshes_joined, unchanged_refreshes, undisturbed_second}
 
@@ -178,9 +181,8 @@ all_kept form kinds area good used live from mid to many h first is_live all =
           subst (λ (k : ℕ). RoseBy k from.faults to.faults) (sym n) (omega (arith, dead, before));
     }
 
-pub load_gives : (form : Form) (kinds : List Kind) (area : List ℕ) (good : List Bool) (from mid to : Device) (loaded : Loaded) → length good ≡ length kinds → IsLater from mid → ForSome (content from) (λ image. IsFirstArea area (passings form from.geometry.page kinds image)) → AllHeld form kinds area good mid to → IsTally good loaded → LoadGives form kinds area from to loaded
-load_gives form kinds area good from mid to (Copy used live) many h entry all tally = record { entry = entry; exit = all_kept form kinds area good used live from mid to many h tally.0 tally.1 all }
-load_gives form kinds area good from mid to NoCopy many h entry all tally = absurd tally
+pub load_gives : (form : Form) (kinds : List Kind) (area : List ℕ) (good : List Bool) (used live : ℕ) (from mid to : Device) → length good ≡ length kinds → IsLater from mid → ForSome (content from) (λ image. IsFirstArea area (passings form from.geometry.page kinds image)) → AllHeld form kinds area good mid to → IsFirstMarked good (length good) used → live ≡ count_by (λ marked. marked) good → LoadGives form kinds area from to (Copy used live)
+load_gives form kinds area good used live from mid to many h entry all first counted = record { entry = entry; exit = all_kept form kinds area good used live from mid to many h first counted all }
 
 pub load_stuck : (form : Form) (kinds : List Kind) (area : List ℕ) (copy : ℕ) (from mid to : Device) → IsLater from mid → IsLater mid to → ForSome (content from) (λ image. IsFirstArea area (passings form from.geometry.page kinds image)) → IsStuckAt form kinds area copy mid to → IsLoadStuck form kinds area copy from to
 load_stuck form kinds area copy from mid to h k entry stuck = record { entry = entry; stuck = stuck_earlier form kinds area copy from mid to h k stuck }
@@ -208,8 +210,38 @@ loads_exactly form kinds area rec good bound used from mid to (Copy taken live) 
     let here = undisturbed_second from mid to h quiet in
     exact_copies form kinds area good bound used from mid to many keeps first (kept here) (subst (λ (r : List ℕ). AllWritten kinds r good mid to) packed (written here))
 
+-- what was erased, from the marks that reading all copies left
+pub loads_erasing : (form : Form) (kinds : List Kind) (area rec : List ℕ) (good : List Bool) (bound used : ℕ) (from mid to : Device) → bound ≡ length kinds → rec ≡ form.text area → told_but_reads mid ≡ told_but_reads from → IsLater from mid → ReadKeeps from mid → ForSome (content from) (λ image. IsFirst form from.geometry.page kinds bound area good image used) → (IsUndisturbed mid to → AllWritten kinds rec good mid to) → IsUndisturbed from to → LoadErases form kinds area from to
+loads_erasing form kinds area rec good bound used from mid to many packed told h keeps first written quiet = record {
+  fresh = good;
+  marks = λ image e copy kind there. (first image e).fresh copy kind there (omega (arith, slice_get_within kinds copy kind there, many));
+  erases =
+      let by : ErasesBy (unmarked good kinds) rec mid to = (written (undisturbed_second from mid to h quiet)).erases in
+      erases_behind (unmarked good kinds) (form.text area) from mid to told keeps (subst (λ (r : List ℕ). ErasesBy (unmarked good kinds) r mid to) packed by);
+}
+
 -- ---- a look
 
-pub look_gives : (form : Form) (kinds : List Kind) (area : List ℕ) (good : List Bool) (bound : ℕ) (found : Option ℕ) (from : Device) → bound ≡ length kinds → IfSome found (λ copy. copy < bound) → ForSome (content from) (λ image. FindsBelow form from.geometry.page kinds bound area good image found) → LookGives form kinds area from (is_some found)
-look_gives form kinds area good bound (Some used) from many inside h = first_area form kinds area good bound used from many inside h
-look_gives form kinds area good bound None from many inside h = (none_found form kinds bound good from from many refl h).none
+-- the copies below one pass nothing, and it passes the area
+pub look_found : (form : Form) (kinds : List Kind) (area : List ℕ) (copy : ℕ) (passed : Option Passed) (from : Device) → copy < length kinds → is_some passed ≡ true → ForSome (content from) (λ image. EachCopy kinds (λ place kind. place < copy → passing_of form from.geometry.page kind image ≡ None)) → ForSome (content from) (λ image. IsReadAt form from.geometry.page kinds copy image area passed) → ForSome (content from) (λ image. IsFirstArea area (passings form from.geometry.page kinds image))
+look_found form kinds area copy None from inside some none reading = absurd cc
+look_found form kinds area copy (Some passed) from inside some none reading = λ image e.
+    let there = kind_inside kinds copy inside in
+    let passing : Kind → Option (List ℕ) = λ kind. passing_of form from.geometry.page kind image in
+    let here : passing there.0 ≡ Some area = sym (reading image e copy there.0 there.1 refl).area in
+    record {
+      some = some_passes passing kinds copy there.0 area there.1 here;
+      first = λ blank. first_found passing blank kinds copy there.0 area there.1 here (λ k other low f. none image e k other f low);
+    }
+
+-- so does this one
+pub none_more : (form : Form) (page : ℕ) (kinds : List Kind) (area : List ℕ) (copy : ℕ) (passed : Option Passed) (image : Image) → is_some passed ≡ false → EachCopy kinds (λ place kind. place < copy → passing_of form page kind image ≡ None) → IsReadAt form page kinds copy image area passed → EachCopy kinds (λ place kind. place < copy + 1 → passing_of form page kind image ≡ None)
+none_more form page kinds area copy (Some passed) image some none reading = absurd cc
+none_more form page kinds area copy None image some none reading = λ place kind e low. elim (same_or_not place copy) [
+  | inl same ↦ sym (reading place kind e same).area
+  | inr other ↦ none place kind e (omega arith)
+]
+
+pub look_none : (form : Form) (kinds : List Kind) (bound : ℕ) (from : Device) → bound ≡ length kinds → ForSome (content from) (λ image. EachCopy kinds (λ place kind. place < bound → passing_of form from.geometry.page kind image ≡ None)) → ForSome (content from) (λ image. SomePasses (passings form from.geometry.page kinds image) → ⊥)
+look_none form kinds bound from many none = λ image e.
+    none_passes (λ kind. passing_of form from.geometry.page kind image) kinds (λ copy kind f. none image e copy kind f (omega (arith, slice_get_within kinds copy kind f, many)))

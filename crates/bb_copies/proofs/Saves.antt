@@ -1,5 +1,5 @@
 -- A save, from the settling of the other copies and of the used one.
-use Rattle.std.proofs.Common.{◌≡◌, ◌≢◌, ◌∙◌, ℕ, ◌+◌, ◌<◌, Bool, true, false, List, length, set, Option, Some, None, is_some, ap, sym, subst, arith, refl, inl, inr, get_or-set_other, get_or-set_same}
+use Rattle.std.proofs.Common.{◌≡◌, ◌≢◌, ◌∙◌, ℕ, ◌+◌, ◌<◌, Bool, true, false, List, length, set, count_by, Option, Some, None, is_some, ap, sym, subst, arith, refl, inl, inr, get_or-set_other, get_or-set_same}
 use Rattle.std.specs.Option.{ForSome}
 use Rattle.std.proofs.lemmas.Option.{slice_get_within}
 use Rattle.bb_base.specs.Form.{Form}
@@ -10,12 +10,14 @@ use Rattle.bb_flash.proofs.Counting.{counted_both}
 use Rattle.bb_flash.proofs.Moments.{images_joined, images_weaker}
 use Rattle.bb_bucket.specs.Kind.{Kind}
 use Rattle.bb_copies.specs.Buckets.{EachCopy}
+use Rattle.bb_copies.specs.Erasing.{ErasesBy, unmarked}
 use Rattle.bb_copies.specs.Luck.{IsLucky}
 use Rattle.bb_copies.specs.Passing.{passing_of, passings}
 use Rattle.bb_copies.specs.Refreshing.{AllHeld, AllSettled, AllWritten, IsFirstMarked, IsSettledAt, IsWrittenAt, KeepsMarked, LeavesOthers, NeverEmpty, NoOther, Refreshes, held, is_marked}
 use Rattle.bb_copies.specs.Saving.{EachWritten, IsAlone, IsHopeless, KeepsUsed, SaveImages, SaveRuns, SparesUsed, StandsLonger}
 use Rattle.bb_copies.specs.StandsFor.{KeepsOrTakes, SomeIsSpared, SomePasses}
 use Rattle.bb_copies.proofs.Below.{kind_inside, leaves_still, passes_still, still_leaves}
+use Rattle.bb_copies.proofs.Erased.{erases_joined, none_marked, one_more, written_erases}
 use Rattle.bb_copies.proofs.Held.{dead_set, few_live, none_live, spares_by}
 use Rattle.bb_copies.proofs.History.{save_during}
 use Rattle.bb_copies.proofs.Many.{passes_kind, same_or_not, same_passing}
@@ -108,6 +110,20 @@ over_written kinds rec marked used from mid to unmarked within h k kept written 
   | inr other ↦
       leaves_still kind (kind.after_write rec) from mid to h k (others copy kind e other) (written.each copy kind e (get_or-set_other marked used copy true false other ∙ unmarked copy))
 ]
+
+-- the used copy was written behind the others, and each block was erased by all these writes
+pub over_erases : (kinds : List Kind) (rec : List ℕ) (marked : List Bool) (used : ℕ) (from mid to : Device) → ((copy : ℕ) → is_marked marked copy ≡ false) → used < length marked → used < length kinds → IsLater from mid → IsLater mid to → KeepsMarked kinds (set marked used true) from mid → AllWritten kinds rec (set marked used true) from mid → IsWrittenAt kinds used rec mid to → ErasesBy kinds rec from to
+over_erases kinds rec marked used from mid to none within there h k kept written last =
+    let kind = kind_inside kinds used there in
+    erases_joined (unmarked (set marked used true) kinds) kinds kind.0 rec from mid to h k
+    (kept used kind.0 kind.1 (get_or-set_same marked used true false within)) written.erases
+    (written_erases kind.0 rec mid to (last used kind.0 kind.1 refl).erases)
+    (λ p. ap (count_by p) (sym (none_marked marked kinds none)) ∙ one_more marked kinds used kind.0 kind.1 within (none used) p)
+
+-- where no copy is used all are written at once
+pub first_erases : (kinds : List Kind) (rec : List ℕ) (marked : List Bool) (from to : Device) → ((copy : ℕ) → is_marked marked copy ≡ false) → AllWritten kinds rec marked from to → ErasesBy kinds rec from to
+first_erases kinds rec marked from to none written =
+    subst (λ (ks : List Kind). ErasesBy ks rec from to) (none_marked marked kinds none) written.erases
 
 -- ---- what cuts leave
 

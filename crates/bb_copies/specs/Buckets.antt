@@ -30,7 +30,8 @@ IsOutside kinds region = EachCopy kinds (λ copy kind. IsApart kind.region regio
 -- no two copies share a byte
 abbrev pub AreApart : List Kind → Type 0
 AreApart kinds =
-    EachCopy kinds (λ copy kind. EachCopy kinds (λ other beside. other ≢ copy → IsApart kind.region beside.region))
+    EachCopy kinds
+    (λ copy kind. EachCopy kinds (λ other beside. other ≢ copy → IsApart kind.region beside.region))
 
 -- the copies have room for the form's records, and stand apart
 pub record HaveRoom (form : Form) (kinds : List Kind) : Type 0 where

@@ -1,7 +1,9 @@
 -- What sessions, power cuts and decays make of the copies, one after another, and the law that
 -- nothing acknowledged is lost. Areas are listed from the oldest on.
-use Rattle.std.specs.Prelude.{◌≡◌, ℕ, ◌+◌, ◌≤◌, ⊤, List, [], ◌∷◌, ◌++◌, length, take, map, All, AllPairs, slice_get, Option, Some, None, IsSome}
-use Rattle.bb_copies.specs.StandsFor.{Decay, SomePasses, Stands, StandsFor, first_passed, marks_left, picked}
+use Rattle.std.specs.Prelude.{◌≡◌, ℕ, ◌+◌, ◌≤◌, ⊤, List, [], ◌∷◌, ◌++◌, length, take, map, All}
+use Rattle.std.specs.Prelude.{AllPairs, slice_get, Option, Some, None, IsSome}
+use Rattle.bb_copies.specs.StandsFor.{Decay, SomePasses, Stands, StandsFor, first_passed}
+use Rattle.bb_copies.specs.StandsFor.{marks_left, picked}
 
 -- a content of the copies: what each passes, and what it stands for, which are the areas, the place
 -- of the acknowledged one, and a mark a copy

@@ -8,10 +8,12 @@ pub use Rattle.bb_flash.specs.Image
 pub use Rattle.bb_bucket.specs.Kind
 pub mod Buckets
 pub mod Chronicle
+pub mod Erasing
 pub mod Loading
 pub mod Looking
 pub mod Luck
 pub mod Passing
+pub mod Placing
 pub mod Refreshing
 pub mod Saving
 pub mod Settling

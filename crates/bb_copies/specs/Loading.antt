@@ -1,12 +1,14 @@
 -- What a load makes of a device, and what it answers.
-use Rattle.std.specs.Prelude.{◌≡◌, ℕ, ◌-◌, ◌<◌, ◌≤◌, Bool, List, length, Option, Some, None, is_some, count_by, true, false}
+use Rattle.std.specs.Prelude.{◌≡◌, ℕ, ◌-◌, ◌<◌, ◌≤◌, Bool, List, length, Option, Some, None}
+use Rattle.std.specs.Prelude.{is_some, count_by, true, false}
+use Rattle.std.specs.Bool.{Decides}
 use Rattle.std.specs.Option.{ForSome}
 use Rattle.bb_base.specs.Faults.{Rose}
 use Rattle.bb_base.specs.Form.{Form}
 use Rattle.bb_flash.specs.declared.region.Region.{Region}
 use Rattle.bb_flash.specs.Counted.{EachCounted}
 use Rattle.bb_flash.specs.Cuts.{EachImage, IsLater, IsSameRegion}
-use Rattle.bb_flash.specs.Device.{Device, IsDevice, LeavesStarts, content}
+use Rattle.bb_flash.specs.Device.{Device, IsDevice, LeavesStarts, content, erases}
 use Rattle.bb_flash.specs.Image.{Image}
 use Rattle.bb_bucket.specs.Kind.{Kind, part_of}
 use Rattle.bb_copies.specs.declared.answers.CopyFault.{CopyFault}
@@ -14,28 +16,33 @@ use Rattle.bb_copies.specs.declared.answers.CopyFault.TheVariants.{ReadFault, Wr
 use Rattle.bb_copies.specs.declared.answers.Loaded.{Loaded}
 use Rattle.bb_copies.specs.declared.answers.Loaded.TheVariants.{Copy, NoCopy}
 use Rattle.bb_copies.specs.Buckets.{EachCopy, IsOutside}
+use Rattle.bb_copies.specs.Erasing.{ErasesBy, unmarked}
 use Rattle.bb_copies.specs.Looking.{IsFresh}
 use Rattle.bb_copies.specs.Luck.{IsLucky}
 use Rattle.bb_copies.specs.Passing.{passes_at, passings}
-use Rattle.bb_copies.specs.Refreshing.{IsFirstMarked, IsStuckAt}
+use Rattle.bb_copies.specs.Refreshing.{IsStuckAt, is_marked}
 use Rattle.bb_copies.specs.Settling.{IsUndisturbed, RoseBy}
-use Rattle.bb_copies.specs.StandsFor.{EachPassesOrNothing, SomePasses, Stands, StandsFor, first_passed}
+use Rattle.bb_copies.specs.StandsFor.{EachPassesOrNothing, SomePasses, Stands, StandsFor}
+use Rattle.bb_copies.specs.StandsFor.{first_passed}
 
 -- whatever list of areas a content stood for, and whichever of them was acknowledged, it still does
 abbrev pub StandsStill : List (Option (List ℕ)) → List (Option (List ℕ)) → Type 0
 StandsStill before image =
-    (first : List ℕ) (h : List (List ℕ)) (a : ℕ) (marks : List (Option ℕ)) → StandsFor first before h a marks → Stands first image h a
+    (first : List ℕ) (h : List (List ℕ)) (a : ℕ) (marks : List (Option ℕ)) →
+    StandsFor first before h a marks → Stands first image h a
 
 -- so it is in each image of a load that counts
 abbrev pub LoadImages : Form → List Kind → Device → Device → Type 0
 LoadImages form kinds from to =
     let passing = passings form from.geometry.page kinds in
-    EachCounted (IsLucky passing) (λ before image. StandsStill (passing before) (passing image)) from to
+    EachCounted (IsLucky passing)
+    (λ before image. StandsStill (passing before) (passing image)) from to
 
 -- in every image what lies outside the copies is as before, and so are the pages in which it stands
 abbrev pub KeepsOutside : List Kind → Device → Device → Type 0
 KeepsOutside kinds from to =
-    (region : Region) → IsOutside kinds region → EachImage (IsSameRegion from.geometry.page region.at region.size) from to
+    (region : Region) → IsOutside kinds region →
+    EachImage (IsSameRegion from.geometry.page region.at region.size) from to
 
 -- the area is that of the first copy that passes
 pub record IsFirstArea (area : List ℕ) (passing : List (Option (List ℕ))) : Type 0 where
@@ -51,20 +58,28 @@ pub record IsKept (area : List ℕ) (used live : ℕ) (passing : List (Option (L
   pub counted : live ≡ count_by is_some passing
 
 -- after a load or a save that answered Ok: a call failed for each copy that passes nothing
-pub record IsAllKept (form : Form) (kinds : List Kind) (area : List ℕ) (used live : ℕ) (from to : Device) : Type 0 where
-  pub kept : ForSome (content to) (λ image. IsKept area used live (passings form from.geometry.page kinds image))
+pub record IsAllKept (form : Form) (kinds : List Kind) (area : List ℕ) (used live : ℕ)
+    (from to : Device) : Type 0 where
+  pub kept :
+      ForSome (content to)
+      (λ image. IsKept area used live (passings form from.geometry.page kinds image))
   pub inside : used < length kinds
   pub some : 1 ≤ live
   pub dead : RoseBy (length kinds - live) from.faults to.faults
 
 -- the first copy that passed at entry was taken
-pub record IsTaken (form : Form) (kinds : List Kind) (area : List ℕ) (used live : ℕ) (from to : Device) : Type 0 where
-  pub entry : ForSome (content from) (λ image. IsFirstArea area (passings form from.geometry.page kinds image))
+pub record IsTaken (form : Form) (kinds : List Kind) (area : List ℕ) (used live : ℕ)
+    (from to : Device) : Type 0 where
+  pub entry :
+      ForSome (content from)
+      (λ image. IsFirstArea area (passings form from.geometry.page kinds image))
   pub exit : IsAllKept form kinds area used live from to
 
 -- no copy passed, and nothing changed
 pub record IsEmpty (form : Form) (kinds : List Kind) (from to : Device) : Type 0 where
-  pub none : ForSome (content from) (λ image. SomePasses (passings form from.geometry.page kinds image) → ⊥)
+  pub none :
+      ForSome (content from)
+      (λ image. SomePasses (passings form from.geometry.page kinds image) → ⊥)
   pub content : content to ≡ content from
 
 -- what a load answers
@@ -79,8 +94,11 @@ pub record IsReadFault (from to : Device) : Type 0 where
   pub content : content to ≡ content from
 
 -- the copy of this number couldn't be settled with the area of the first that passed
-pub record IsLoadStuck (form : Form) (kinds : List Kind) (area : List ℕ) (copy : ℕ) (from to : Device) : Type 0 where
-  pub entry : ForSome (content from) (λ image. IsFirstArea area (passings form from.geometry.page kinds image))
+pub record IsLoadStuck (form : Form) (kinds : List Kind) (area : List ℕ) (copy : ℕ)
+    (from to : Device) : Type 0 where
+  pub entry :
+      ForSome (content from)
+      (λ image. IsFirstArea area (passings form from.geometry.page kinds image))
   pub stuck : IsStuckAt form kinds area copy from to
 
 -- how a load is refused
@@ -91,18 +109,43 @@ LoadFails form kinds area from to Unsure = ⊥
 
 -- a region is as before where its copy passed the area from a record without a Worn page, else as
 -- after a write
-pub record IsExact (form : Form) (page : ℕ) (kind : Kind) (area : List ℕ) (before after : Image) : Type 0 where
-  pub fresh : IsFresh form page kind area before → part_of page kind.region after ≡ part_of page kind.region before
+pub record IsExact (form : Form) (page : ℕ) (kind : Kind) (area : List ℕ)
+    (before after : Image) : Type 0 where
+  pub fresh :
+      IsFresh form page kind area before →
+      part_of page kind.region after ≡ part_of page kind.region before
   pub stale :
       (IsFresh form page kind area before → ⊥) →
-      part_of page kind.region after ≡ kind.after_write (form.text area) (part_of page kind.region before)
+      part_of page kind.region after
+      ≡ kind.after_write (form.text area) (part_of page kind.region before)
 
 -- without a fault a load that took a copy wrote exactly the copies that had to be written
 abbrev pub LoadsExactly : Form → List Kind → List ℕ → Device → Device → Loaded → Type 0
 LoadsExactly form kinds area from to (Copy used live) =
     IsUndisturbed from to →
-    ForSome (content from) (λ before. ForSome (content to) (λ after. EachCopy kinds (λ copy kind. IsExact form from.geometry.page kind area before after)))
+    ForSome (content from)
+    (λ before. ForSome (content to)
+    (λ after. EachCopy kinds (λ copy kind. IsExact form from.geometry.page kind area before after)))
 LoadsExactly form kinds area from to NoCopy = Unit {0}
+
+-- each block was erased by the writes of the area's record to the copies that had to be written
+pub record LoadErases (form : Form) (kinds : List Kind) (area : List ℕ)
+    (from to : Device) : Type 0 where
+  -- one mark a copy, which says whether it is fresh
+  pub fresh : List Bool
+  pub marks :
+      ForSome (content from)
+      (λ image.
+      EachCopy kinds
+      (λ copy kind.
+      Decides (is_marked fresh copy) (IsFresh form from.geometry.page kind area image)))
+  pub erases : ErasesBy (unmarked fresh kinds) (form.text area) from to
+
+-- without a fault a load erased as those writes do, and nothing where no copy passes
+abbrev pub LoadsErasing : Form → List Kind → List ℕ → Device → Device → Loaded → Type 0
+LoadsErasing form kinds area from to (Copy used live) =
+    IsUndisturbed from to → LoadErases form kinds area from to
+LoadsErasing form kinds area from to NoCopy = erases to ≡ erases from
 
 -- what holds of every load, whatever it answers
 pub record LoadRuns (form : Form) (kinds : List Kind) (from to : Device) : Type 0 where
@@ -111,11 +154,6 @@ pub record LoadRuns (form : Form) (kinds : List Kind) (from to : Device) : Type 
   pub later : IsLater from to
   pub starts : LeavesStarts from to
   pub whole : IsDevice to
-
--- what the marks say: the first that is marked, and their number
-abbrev pub IsTally : List Bool → Loaded → Type 0
-IsTally good (Copy used live) = IsFirstMarked good (length good) used × (live ≡ count_by (λ marked. marked) good)
-IsTally good NoCopy = ⊥
 
 -- what a look answers: whether a copy passes, and the area of the first
 abbrev pub LookGives : Form → List Kind → List ℕ → Device → Bool → Type 0

@@ -11,27 +11,34 @@ use Rattle.bb_copies.specs.Passing.{IsReading, passing_of}
 use Rattle.bb_copies.specs.Refreshing.{is_marked}
 
 -- a copy passes the area, and no page of its record is Worn
-pub record IsFresh (form : Form) (page : ℕ) (kind : Kind) (area : List ℕ) (image : Image) : Type 0 where
+pub record IsFresh (form : Form) (page : ℕ) (kind : Kind) (area : List ℕ)
+    (image : Image) : Type 0 where
   pub passes : passing_of form page kind image ≡ Some area
   pub sound : kind.is_worn (part_of page kind.region image) ≡ false
 
 -- the copy of this number is the first of those below `bound` that passes, as this area, and the
 -- fresh ones are marked
-pub record IsFirst (form : Form) (page : ℕ) (kinds : List Kind) (bound : ℕ) (area : List ℕ) (good : List Bool) (image : Image) (used : ℕ) : Type 0 where
-  pub passes : EachCopy kinds (λ copy kind. copy ≡ used → passing_of form page kind image ≡ Some area)
+pub record IsFirst (form : Form) (page : ℕ) (kinds : List Kind) (bound : ℕ) (area : List ℕ)
+    (good : List Bool) (image : Image) (used : ℕ) : Type 0 where
+  pub passes :
+      EachCopy kinds (λ copy kind. copy ≡ used → passing_of form page kind image ≡ Some area)
   pub before : EachCopy kinds (λ copy kind. copy < used → passing_of form page kind image ≡ None)
   pub fresh :
-      EachCopy kinds (λ copy kind. copy < bound → Decides (is_marked good copy) (IsFresh form page kind area image))
+      EachCopy kinds
+      (λ copy kind. copy < bound →
+      Decides (is_marked good copy) (IsFresh form page kind area image))
 
 -- none of the copies below `bound` passes
-pub record PassNothing (form : Form) (page : ℕ) (kinds : List Kind) (bound : ℕ) (good : List Bool) (image : Image) : Type 0 where
+pub record PassNothing (form : Form) (page : ℕ) (kinds : List Kind) (bound : ℕ) (good : List Bool)
+    (image : Image) : Type 0 where
   pub each : EachCopy kinds (λ copy kind. copy < bound → passing_of form page kind image ≡ None)
   pub unmarked : (copy : ℕ) → copy < bound → is_marked good copy ≡ false
 
 -- what was found in the copies below `bound`
 abbrev pub FindsBelow : Form → ℕ → List Kind → ℕ → List ℕ → List Bool → Image → Option ℕ → Type 0
 FindsBelow form page kinds bound area good image None = PassNothing form page kinds bound good image
-FindsBelow form page kinds bound area good image (Some used) = IsFirst form page kinds bound area good image used
+FindsBelow form page kinds bound area good image (Some used) =
+    IsFirst form page kinds bound area good image used
 
 -- the first copy that passes, once the copy of a number was read too
 abbrev pub used_by : ℕ → Option Passed → Option ℕ → Option ℕ

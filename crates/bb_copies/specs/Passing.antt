@@ -1,6 +1,7 @@
 -- What the copies pass as in an image. Nothing is known here of how a record stands in its region,
 -- or what is in it.
-use Rattle.std.specs.Prelude.{◌≡◌, ℕ, List, map, slice_get, Option, IfSome, option_and_then, option_map}
+use Rattle.std.specs.Prelude.{◌≡◌, ℕ, List, map, slice_get, Option, IfSome, option_and_then}
+use Rattle.std.specs.Prelude.{option_map}
 use Rattle.bb_base.specs.Form.{Form}
 use Rattle.bb_flash.specs.Image.{Image}
 use Rattle.bb_bucket.specs.Kind.{Kind, part_of}
@@ -8,7 +9,8 @@ use Rattle.bb_copies.specs.declared.read.Passed.{Passed}
 
 -- the area that a copy of this kind passes as: what stands in its region as its record passes
 abbrev pub passing_of : Form → ℕ → Kind → Image → Option (List ℕ)
-passing_of form page kind image = option_and_then form.passes (kind.candidate_of (part_of page kind.region image))
+passing_of form page kind image =
+    option_and_then form.passes (kind.candidate_of (part_of page kind.region image))
 
 -- what each copy passes as, in their order
 abbrev pub passings : Form → ℕ → List Kind → Image → List (Option (List ℕ))
@@ -20,6 +22,7 @@ passes_at passing copy = option_and_then (λ area. area) (slice_get passing copy
 
 -- what reading a copy gave: the area that it passes as, in `out`, and whether a page of its record
 -- is Worn
-pub record IsReading (form : Form) (page : ℕ) (kind : Kind) (image : Image) (out : List ℕ) (passed : Option Passed) : Type 0 where
+pub record IsReading (form : Form) (page : ℕ) (kind : Kind) (image : Image) (out : List ℕ)
+    (passed : Option Passed) : Type 0 where
   pub area : option_map (λ _. out) passed ≡ passing_of form page kind image
   pub worn : IfSome passed (λ found. found.worn ≡ kind.is_worn (part_of page kind.region image))

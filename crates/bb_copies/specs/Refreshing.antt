@@ -1,5 +1,6 @@
 -- What it makes of a device to settle the copies one after another.
-use Rattle.std.specs.Prelude.{◌≡◌, ◌≢◌, ◌⊎◌, ℕ, ◌<◌, Bool, true, false, not, List, length, count_by, slice_index_or, Option, Some, None, Result, Ok, Err, if◌then◌else◌}
+use Rattle.std.specs.Prelude.{◌≡◌, ◌≢◌, ◌⊎◌, ℕ, ◌<◌, Bool, true, false, not, List, length, count_by}
+use Rattle.std.specs.Prelude.{slice_index_or, Option, Some, None, Result, Ok, Err, if◌then◌else◌}
 use Rattle.std.specs.Option.{ForSome}
 use Rattle.bb_base.specs.Faults.{Rose}
 use Rattle.bb_base.specs.Form.{Form}
@@ -12,6 +13,7 @@ use Rattle.bb_bucket.specs.Kind.{Kind}
 use Rattle.bb_copies.specs.declared.settle.Settled.{Settled}
 use Rattle.bb_copies.specs.declared.settle.Settled.TheVariants.{Good, Dead, Stuck}
 use Rattle.bb_copies.specs.Buckets.{EachCopy, IsOutside}
+use Rattle.bb_copies.specs.Erasing.{ErasesBy, unmarked}
 use Rattle.bb_copies.specs.Luck.{IsLucky}
 use Rattle.bb_copies.specs.Passing.{passing_of, passings}
 use Rattle.bb_copies.specs.Settling.{IsStale, IsWritten, IsUnread, RoseBy}
@@ -19,15 +21,19 @@ use Rattle.bb_copies.specs.StandsFor.{KeepsOrTakes, SomePasses}
 
 -- In every image what lies outside the copies is as before. In each that counts each copy passes
 -- what it passed before, nothing, or the area.
-pub record Refreshes (form : Form) (kinds : List Kind) (area : List ℕ) (from to : Device) : Type 0 where
+pub record Refreshes (form : Form) (kinds : List Kind) (area : List ℕ)
+    (from to : Device) : Type 0 where
   pub counted :
       EachCounted
       (IsLucky (passings form from.geometry.page kinds))
-      (λ before image. KeepsOrTakes area (passings form from.geometry.page kinds before) (passings form from.geometry.page kinds image))
+      (λ before image.
+      KeepsOrTakes area (passings form from.geometry.page kinds before)
+      (passings form from.geometry.page kinds image))
       from
       to
   pub outside :
-      (region : Region) → IsOutside kinds region → EachImage (IsSameRegion from.geometry.page region.at region.size) from to
+      (region : Region) → IsOutside kinds region →
+      EachImage (IsSameRegion from.geometry.page region.at region.size) from to
   pub later : IsLater from to
   pub starts : LeavesStarts from to
   pub whole : IsDevice to
@@ -38,7 +44,8 @@ is_marked marked copy = slice_index_or marked copy false
 
 -- a copy's region is the same in every image
 abbrev pub IsUntouched : Kind → Device → Device → Type 0
-IsUntouched kind from to = EachImage (IsSameRegion from.geometry.page kind.region.at kind.region.size) from to
+IsUntouched kind from to =
+    EachImage (IsSameRegion from.geometry.page kind.region.at kind.region.size) from to
 
 -- the marked copies weren't touched
 abbrev pub KeepsMarked : List Kind → List Bool → Device → Device → Type 0
@@ -51,40 +58,54 @@ held area good = if good then Some area else None
 
 -- Each copy that wasn't marked is settled: it passes the area where it is marked now, and nothing
 -- where it isn't. A call failed for each that passes nothing.
-pub record AllSettled (form : Form) (kinds : List Kind) (area : List ℕ) (marked good : List Bool) (from to : Device) : Type 0 where
+pub record AllSettled (form : Form) (kinds : List Kind) (area : List ℕ) (marked good : List Bool)
+    (from to : Device) : Type 0 where
   pub each :
       EachCopy
       kinds
       (λ copy kind.
-      is_marked marked copy ≡ false → ForSome (content to) (λ image. passing_of form from.geometry.page kind image ≡ held area (is_marked good copy)))
+      is_marked marked copy ≡ false → ForSome (content to)
+      (λ image. passing_of form from.geometry.page kind image ≡ held area (is_marked good copy)))
   pub stays : (copy : ℕ) → is_marked marked copy ≡ true → is_marked good copy ≡ true
   pub dead : RoseBy (count_by not good) from.faults to.faults
 
 -- the copy of this number couldn't be settled
-pub record IsStuckAt (form : Form) (kinds : List Kind) (area : List ℕ) (copy : ℕ) (from to : Device) : Type 0 where
+pub record IsStuckAt (form : Form) (kinds : List Kind) (area : List ℕ) (copy : ℕ)
+    (from to : Device) : Type 0 where
   pub inside : copy < length kinds
-  pub cause : EachCopy kinds (λ place kind. place ≡ copy → IsStale form kind area from to ⊎ IsUnread from to)
+  pub cause :
+      EachCopy kinds
+      (λ place kind. place ≡ copy → IsStale form kind area from to ⊎ IsUnread from to)
 
--- each copy that wasn't marked holds the record, and is good
-pub record AllWritten (kinds : List Kind) (rec : List ℕ) (marked : List Bool) (from to : Device) : Type 0 where
-  pub each : EachCopy kinds (λ copy kind. is_marked marked copy ≡ false → Leaves kind.region (kind.after_write rec) from to)
+-- the record was written once to each copy that wasn't marked, and nothing else was done
+pub record AllWritten (kinds : List Kind) (rec : List ℕ) (marked : List Bool)
+    (from to : Device) : Type 0 where
+  pub each :
+      EachCopy kinds
+      (λ copy kind.
+      is_marked marked copy ≡ false → Leaves kind.region (kind.after_write rec) from to)
+  pub erases : ErasesBy (unmarked marked kinds) rec from to
 
 -- no other copy was touched
 abbrev pub LeavesOthers : List Kind → ℕ → Device → Device → Type 0
-LeavesOthers kinds copy from to = EachCopy kinds (λ place kind. place ≢ copy → IsUntouched kind from to)
+LeavesOthers kinds copy from to =
+    EachCopy kinds (λ place kind. place ≢ copy → IsUntouched kind from to)
 
 -- The copy of this number is settled: it passes the area where it is good, else nothing, and then a
 -- call failed.
-pub record IsSettledAt (form : Form) (kinds : List Kind) (area : List ℕ) (copy : ℕ) (from to : Device) (good : Bool) : Type 0 where
+pub record IsSettledAt (form : Form) (kinds : List Kind) (area : List ℕ) (copy : ℕ)
+    (from to : Device) (good : Bool) : Type 0 where
   pub passes :
       EachCopy kinds
       (λ place kind.
-      place ≡ copy → ForSome (content to) (λ image. passing_of form from.geometry.page kind image ≡ held area good))
+      place ≡ copy → ForSome (content to)
+      (λ image. passing_of form from.geometry.page kind image ≡ held area good))
   pub cause : good ≡ false → Rose from.faults to.faults
 
 -- the record was written to the copy of this number, and nothing else was done
 abbrev pub IsWrittenAt : List Kind → ℕ → List ℕ → Device → Device → Type 0
-IsWrittenAt kinds copy rec from to = EachCopy kinds (λ place kind. place ≡ copy → IsWritten kind rec from to)
+IsWrittenAt kinds copy rec from to =
+    EachCopy kinds (λ place kind. place ≡ copy → IsWritten kind rec from to)
 
 -- what settling the copy of a number answers
 abbrev pub answer_of : ℕ → Settled → Result Bool ℕ
@@ -94,12 +115,14 @@ answer_of copy Stuck = Err copy
 
 -- every copy is settled: it passes the area where it is marked, else nothing, and a call failed for
 -- each of those
-pub record AllHeld (form : Form) (kinds : List Kind) (area : List ℕ) (good : List Bool) (from to : Device) : Type 0 where
+pub record AllHeld (form : Form) (kinds : List Kind) (area : List ℕ) (good : List Bool)
+    (from to : Device) : Type 0 where
   pub each :
       EachCopy
       kinds
       (λ copy kind.
-      ForSome (content to) (λ image. passing_of form from.geometry.page kind image ≡ held area (is_marked good copy)))
+      ForSome (content to)
+      (λ image. passing_of form from.geometry.page kind image ≡ held area (is_marked good copy)))
   pub dead : RoseBy (count_by not good) from.faults to.faults
 
 -- some copy passes, in every image

@@ -1,5 +1,6 @@
 -- What a save makes of a device, and what it answers.
-use Rattle.std.specs.Prelude.{◌≡◌, ◌≢◌, ◌⊎◌, ℕ, ◌+◌, ◌-◌, ◌++◌, true, List, [], ◌∷◌, length, Option, Some, None, is_some}
+use Rattle.std.specs.Prelude.{◌≡◌, ◌≢◌, ◌⊎◌, ℕ, ◌+◌, ◌-◌, ◌++◌, true, List, [], ◌∷◌, length, Option}
+use Rattle.std.specs.Prelude.{Some, None, is_some}
 use Rattle.std.specs.Option.{ForSome}
 use Rattle.bb_base.specs.Form.{Form}
 use Rattle.bb_flash.specs.Counted.{EachCounted}
@@ -24,39 +25,49 @@ KeepsUsed None passing = SomePasses passing → ⊥
 
 -- whatever list of areas a content stood for, it stands for that list with the new area behind it,
 -- and nothing more is acknowledged
-abbrev pub StandsLonger : Option ℕ → List ℕ → List (Option (List ℕ)) → List (Option (List ℕ)) → Type 0
+abbrev pub StandsLonger :
+    Option ℕ → List ℕ → List (Option (List ℕ)) → List (Option (List ℕ)) → Type 0
 StandsLonger used area before image =
     KeepsUsed used before →
-    (first : List ℕ) (h : List (List ℕ)) (a : ℕ) (marks : List (Option ℕ)) → StandsFor first before h a marks → Stands first image (h ++ area ∷ []) a
+    (first : List ℕ) (h : List (List ℕ)) (a : ℕ) (marks : List (Option ℕ)) →
+    StandsFor first before h a marks → Stands first image (h ++ area ∷ []) a
 
 -- so it is in each image of a save that counts
 abbrev pub SaveImages : Form → List Kind → Option ℕ → List ℕ → Device → Device → Type 0
 SaveImages form kinds used area from to =
     let passing = passings form from.geometry.page kinds in
-    EachCounted (IsLucky passing) (λ before image. StandsLonger used area (passing before) (passing image)) from to
+    EachCounted (IsLucky passing)
+    (λ before image. StandsLonger used area (passing before) (passing image)) from to
 
 -- where the used copy passes, some copy passes in every image
 abbrev pub SparesUsed : Form → List Kind → Option ℕ → Device → Device → Type 0
 SparesUsed form kinds used from to =
     let passing = passings form from.geometry.page kinds in
-    EachImage (λ before image. KeepsUsed used (passing before) → SomeIsSpared (passing before) (passing image)) from to
+    EachImage
+    (λ before image. KeepsUsed used (passing before) →
+    SomeIsSpared (passing before) (passing image)) from to
 
 -- no other copy took the area, so that the used one wasn't touched
-pub record IsAlone (form : Form) (kinds : List Kind) (used : Option ℕ) (copy : ℕ) (from to : Device) : Type 0 where
+pub record IsAlone (form : Form) (kinds : List Kind) (used : Option ℕ) (copy : ℕ)
+    (from to : Device) : Type 0 where
   pub is : used ≡ Some copy
   pub untouched : EachCopy kinds (λ place kind. place ≡ copy → IsUntouched kind from to)
   pub others :
       EachCopy
       kinds
-      (λ place kind. place ≢ copy → ForSome (content to) (λ image. passing_of form from.geometry.page kind image ≡ None))
+      (λ place kind. place ≢ copy → ForSome (content to)
+      (λ image. passing_of form from.geometry.page kind image ≡ None))
   pub cause : RoseBy (length kinds - 1) from.faults to.faults
 
 -- no copy was used, and none took the area: the answer names the last
-pub record IsHopeless (form : Form) (kinds : List Kind) (used : Option ℕ) (copy : ℕ) (from to : Device) : Type 0 where
+pub record IsHopeless (form : Form) (kinds : List Kind) (used : Option ℕ) (copy : ℕ)
+    (from to : Device) : Type 0 where
   pub is : used ≡ None
   pub last : copy + 1 ≡ length kinds
   pub none :
-      EachCopy kinds (λ place kind. ForSome (content to) (λ image. passing_of form from.geometry.page kind image ≡ None))
+      EachCopy kinds
+      (λ place kind. ForSome (content to)
+      (λ image. passing_of form from.geometry.page kind image ≡ None))
   pub cause : RoseBy (length kinds) from.faults to.faults
 
 -- why a save names a copy that it couldn't write
@@ -67,10 +78,12 @@ IsWriteFault form kinds used area from to copy =
 
 -- every copy's region is as after a write of the record
 abbrev pub EachWritten : List Kind → List ℕ → Device → Device → Type 0
-EachWritten kinds rec from to = EachCopy kinds (λ copy kind. Leaves kind.region (kind.after_write rec) from to)
+EachWritten kinds rec from to =
+    EachCopy kinds (λ copy kind. Leaves kind.region (kind.after_write rec) from to)
 
 -- what holds of every save, whatever it answers
-pub record SaveRuns (form : Form) (kinds : List Kind) (used : Option ℕ) (area : List ℕ) (from to : Device) : Type 0 where
+pub record SaveRuns (form : Form) (kinds : List Kind) (used : Option ℕ) (area : List ℕ)
+    (from to : Device) : Type 0 where
   pub images : SaveImages form kinds used area from to
   pub outside : KeepsOutside kinds from to
   pub later : IsLater from to
@@ -81,11 +94,13 @@ pub record SaveRuns (form : Form) (kinds : List Kind) (used : Option ℕ) (area 
 -- nor void
 abbrev pub SaveFails : Form → List Kind → Option ℕ → List ℕ → Device → Device → CopyFault → Type 0
 SaveFails form kinds used area from to ReadFault = ⊥
-SaveFails form kinds used area from to (WriteFault copy) = IsWriteFault form kinds used area from to copy
+SaveFails form kinds used area from to (WriteFault copy) =
+    IsWriteFault form kinds used area from to copy
 SaveFails form kinds used area from to Unsure = from ≡ to
 
 -- every copy passes the new area or nothing, and the copies keep the first that passes it
-pub record IsSaved (form : Form) (kinds : List Kind) (area : List ℕ) (now : Option ℕ) (live : ℕ) (from to : Device) : Type 0 where
+pub record IsSaved (form : Form) (kinds : List Kind) (area : List ℕ) (now : Option ℕ) (live : ℕ)
+    (from to : Device) : Type 0 where
   pub used : ℕ
   pub is : now ≡ Some used
   pub exit : IsAllKept form kinds area used live from to

@@ -1,5 +1,6 @@
 -- What settling one copy makes of a device: calls that are to make it pass an area, or nothing.
-use Rattle.std.specs.Prelude.{◌≡◌, ◌≢◌, ◌⊎◌, ℕ, ◌+◌, ◌-◌, ◌^◌, ◌≤◌, min, List, [], ◌∷◌, Option, Some, None}
+use Rattle.std.specs.Prelude.{◌≡◌, ◌≢◌, ◌⊎◌, ℕ, ◌+◌, ◌-◌, ◌^◌, ◌≤◌, min, List, [], ◌∷◌, Option}
+use Rattle.std.specs.Prelude.{Some, None}
 use Rattle.std.specs.Option.{ForSome}
 use Rattle.bb_base.specs.Faults.{Rose}
 use Rattle.bb_base.specs.Form.{Form}
@@ -29,7 +30,8 @@ pub record SettlesCopy (form : Form) (kind : Kind) (area : List ℕ) (from to : 
       EachCounted
       (IsLucky (passings form from.geometry.page (kind ∷ [])))
       (λ before image.
-      IsKeptOrTaken area (passing_of form from.geometry.page kind before) (passing_of form from.geometry.page kind image))
+      IsKeptOrTaken area (passing_of form from.geometry.page kind before)
+      (passing_of form from.geometry.page kind image))
       from
       to
   pub torn : EachTorn kind.region.at kind.region.size from to
@@ -45,7 +47,8 @@ pub record PassesAnother (area : List ℕ) (passes : Option (List ℕ)) : Type 0
 
 -- it passes the area
 pub record IsGood (form : Form) (kind : Kind) (area : List ℕ) (from to : Device) : Type 0 where
-  pub passes : ForSome (content to) (λ image. passing_of form from.geometry.page kind image ≡ Some area)
+  pub passes :
+      ForSome (content to) (λ image. passing_of form from.geometry.page kind image ≡ Some area)
 
 -- it passes nothing, and a call failed
 pub record IsDead (form : Form) (kind : Kind) (from to : Device) : Type 0 where
@@ -54,7 +57,9 @@ pub record IsDead (form : Form) (kind : Kind) (from to : Device) : Type 0 where
 
 -- it passes another area, and two calls failed
 pub record IsStale (form : Form) (kind : Kind) (area : List ℕ) (from to : Device) : Type 0 where
-  pub passes : ForSome (content to) (λ image. PassesAnother area (passing_of form from.geometry.page kind image))
+  pub passes :
+      ForSome (content to)
+      (λ image. PassesAnother area (passing_of form from.geometry.page kind image))
   pub cause : RoseBy 2 from.faults to.faults
 
 -- it couldn't be read back, and three calls failed, of which one is a read
@@ -79,7 +84,8 @@ ReadsAs form kind area from to Good = IsGood form kind area from to
 ReadsAs form kind area from to Dead =
     ForSome (content to) (λ image. passing_of form from.geometry.page kind image ≡ None)
 ReadsAs form kind area from to Stuck =
-    ForSome (content to) (λ image. PassesAnother area (passing_of form from.geometry.page kind image))
+    ForSome (content to)
+    (λ image. PassesAnother area (passing_of form from.geometry.page kind image))
     ⊎ (Rose from.faults to.faults × Rose from.read_faults to.read_faults)
 
 -- two areas are one, or they are two

@@ -1,7 +1,8 @@
 -- What the content of the copies stands for: a list of areas, oldest first, of which one is
 -- acknowledged. A content is seen as the list of what its copies pass, in their order: an area, or
 -- none. No device, bucket or format is named here.
-use Rattle.std.specs.Prelude.{◌≡◌, ◌⊎◌, ℕ, ◌<◌, ◌≤◌, List, [], ◌∷◌, length, All, slice_get, Option, Some, None, is_some, IsTrue}
+use Rattle.std.specs.Prelude.{◌≡◌, ◌⊎◌, ℕ, ◌<◌, ◌≤◌, List, [], ◌∷◌, length, All, slice_get, Option}
+use Rattle.std.specs.Prelude.{Some, None, is_some, IsTrue}
 use Rattle.std.specs.List.{AllZip, list_any}
 
 -- ---- what the copies pass

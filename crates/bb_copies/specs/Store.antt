@@ -17,7 +17,8 @@ pub record Store (B M : Type 0) : Type 0 where
 
 -- what always holds of copies that are mounted: `marks` of them may be marked, `found`, `rec` and
 -- `area` bytes are at hand to read a copy, for its record and for its area
-pub record IsMounted (form : Form) (kinds : List Kind) (used : Option ℕ) (marks found rec area : ℕ) : Type 0 where
+pub record IsMounted (form : Form) (kinds : List Kind) (used : Option ℕ)
+    (marks found rec area : ℕ) : Type 0 where
   pub room : HaveRoom form kinds
   pub many : 2 ≤ length kinds
   pub few : length kinds ≤ 3

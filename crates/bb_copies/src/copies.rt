@@ -1,19 +1,23 @@
-ghost use Rattle.std.specs.Prelude.{◌≡◌, ◌≢◌, ◌≤◌, ◌↔◌, IfErr, IfOk, IsErr, IsErrOf, IsTrue, None, OnOk, false, is_ok, length};
+ghost use Rattle.std.specs.Prelude.{◌≡◌, ◌≢◌, ◌≤◌, ◌↔◌, IfErr, IfOk, IsErr, IsErrOf, IsTrue};
+ghost use Rattle.std.specs.Prelude.{None, OnOk, false, is_ok, length};
 ghost use Rattle.bb_flash.specs.Cuts.{IsLater};
 ghost use Rattle.bb_base.specs.Faults.{HasCause};
 ghost use Rattle.bb_flash.specs.Device.{IsDevice, LeavesStarts, ReadKeeps};
 ghost use Rattle.bb_bucket.specs.Calls.{told_but_reads};
 ghost use Rattle.bb_copies.specs.declared.answers.Loaded.TheVariants.{NoCopy};
 ghost use Rattle.bb_copies.specs.Buckets.{AllAgree, AllFit, AllServe, HaveRoom, kinds_of};
-ghost use Rattle.bb_copies.specs.Loading.{KeepsOutside, LoadFails, LoadGives, LoadImages, LoadsExactly, LookGives};
+ghost use Rattle.bb_copies.specs.Erasing.{ErasesBy};
+ghost use Rattle.bb_copies.specs.Loading.{KeepsOutside, LoadFails, LoadGives, LoadImages};
+ghost use Rattle.bb_copies.specs.Loading.{LoadsErasing, LoadsExactly, LookGives};
+ghost use Rattle.bb_copies.specs.Placing.{AllPlaced, ReadsNothing};
 ghost use Rattle.bb_copies.specs.Saving.{EachWritten, IsSaved, SaveFails, SaveImages};
 ghost use Rattle.bb_copies.specs.Settling.{IsUndisturbed};
 ghost use Rattle.bb_copies.specs.declared.answers.CopyFault.TheVariants.{ReadFault, Unsure};
 ghost use Rattle.bb_copies.specs.Store.{used_after};
 
-use crate::load::load_copies;
-use crate::look::look_over;
-use crate::room::Room;
+use crate::load::{load_copies, used_copy};
+use crate::look::find_first;
+use crate::room::{Room, most_room};
 use crate::save::save_copies;
 use crate::{BucketList, CopyFault, Loaded, Saved};
 use bb_base::{Format, NoMemory};
@@ -109,6 +113,9 @@ impl<B: Bucket + Drop, M: Format + Drop> Copies<B, M> {
         ensures exact { IfOk result (LoadsExactly (M.form self.old.format)
             (kinds_of B.holding self.old.buckets) area.new
             (F.device flash.old) (F.device flash.new)) }
+        ensures erases { IfOk result (LoadsErasing (M.form self.old.format)
+            (kinds_of B.holding self.old.buckets) area.new
+            (F.device flash.old) (F.device flash.new)) }
         ensures outside { KeepsOutside (kinds_of B.holding self.old.buckets) (F.device flash.old)
             (F.device flash.new) }
         ensures later { IsLater (F.device flash.old) (F.device flash.new) }
@@ -117,6 +124,7 @@ impl<B: Bucket + Drop, M: Format + Drop> Copies<B, M> {
         ensures kinds { kinds_of B.holding self.new.buckets ≡ kinds_of B.holding self.old.buckets }
         ensures format { self.new.format ≡ self.old.format }
         ensures agrees { AllAgree B.holding (F.device flash.new) self.new.buckets }
+        ensures placed { OnOk result (AllPlaced B.holding self.new.buckets) }
         ensures used { IfOk result (λ loaded. self.new.used ≡ used_after loaded) }
         ensures sure { self.new.sure ≡ is_ok result }
     {
@@ -129,14 +137,16 @@ impl<B: Bucket + Drop, M: Format + Drop> Copies<B, M> {
             area,
             &mut self.room,
         )?;
-        self.used = used(loaded);
+        self.used = used_copy(loaded);
         self.sure = true;
         Ok(loaded)
     }
 
     /// Writes an area, which fits the format, to every copy, to the used one last. A copy that
     /// can't be written is voided. Where no other copy took the area the used one isn't touched,
-    /// and the answer is a WriteFault with its number.
+    /// and the answer is a WriteFault with its number. Unsure, with no call and nothing changed,
+    /// where no load answered Ok yet, or the last load or save was refused. Once a load or a save
+    /// answered Ok, a save in which no call fails reads nothing.
     pub fn save<F: Flash>(&mut self, flash: &mut F, area: &[u8]) -> Result<Saved, CopyFault>
         requires serves { AllServe (kinds_of B.holding self.old.buckets)
             (F.device flash.old).geometry }
@@ -144,6 +154,9 @@ impl<B: Bucket + Drop, M: Format + Drop> Copies<B, M> {
         requires whole { IsDevice (F.device flash.old) }
         requires fits { IsTrue ((M.form self.old.format).fits area.now) }
         ensures unsure { IsErrOf result Unsure ↔ (self.old.sure ≡ false) }
+        ensures unsure_store { IsErrOf result Unsure → self.new ≡ self.old }
+        ensures unsure_device { IsErrOf result Unsure
+            → F.device flash.new ≡ F.device flash.old }
         ensures images { SaveImages (M.form self.old.format) (kinds_of B.holding self.old.buckets)
             self.old.used area.now (F.device flash.old) (F.device flash.new) }
         ensures outside { KeepsOutside (kinds_of B.holding self.old.buckets) (F.device flash.old)
@@ -161,9 +174,16 @@ impl<B: Bucket + Drop, M: Format + Drop> Copies<B, M> {
             → OnOk result (EachWritten (kinds_of B.holding self.old.buckets)
             ((M.form self.old.format).text area.now)
             (F.device flash.old) (F.device flash.new)) }
+        ensures erases { IsUndisturbed (F.device flash.old) (F.device flash.new)
+            → OnOk result (ErasesBy (kinds_of B.holding self.old.buckets)
+            ((M.form self.old.format).text area.now)
+            (F.device flash.old) (F.device flash.new)) }
         ensures kinds { kinds_of B.holding self.new.buckets ≡ kinds_of B.holding self.old.buckets }
         ensures format { self.new.format ≡ self.old.format }
         ensures agrees { AllAgree B.holding (F.device flash.new) self.new.buckets }
+        ensures placed { OnOk result (AllPlaced B.holding self.new.buckets) }
+        ensures reads { AllPlaced B.holding self.old.buckets
+            → ReadsNothing (F.device flash.old) (F.device flash.new) }
         ensures sure { self.new.sure ≡ is_ok result }
     {
         if !self.sure {
@@ -191,8 +211,9 @@ impl<B: Bucket + Drop, M: Format + Drop> Copies<B, M> {
         self.sure
     }
 
-    /// Whether a copy passes, and then the area of the first in `area`. It reads all copies. Nothing
-    /// changes on the device, nor what is known of the copies.
+    /// Whether a copy passes, and then the area of the first in `area`. The copies behind it aren't
+    /// read. Nothing changes on the device, nor what is known of the copies. ReadFault where a copy
+    /// that was read couldn't be; a later save may then have to read.
     pub fn look<F: Flash>(&mut self, flash: &mut F, area: &mut [u8]) -> Result<bool, CopyFault>
         requires serves { AllServe (kinds_of B.holding self.old.buckets)
             (F.device flash.old).geometry }
@@ -213,48 +234,15 @@ impl<B: Bucket + Drop, M: Format + Drop> Copies<B, M> {
         ensures kinds { kinds_of B.holding self.new.buckets ≡ kinds_of B.holding self.old.buckets }
         ensures format { self.new.format ≡ self.old.format }
         ensures agrees { AllAgree B.holding (F.device flash.new) self.new.buckets }
+        ensures placed { OnOk result
+            (AllPlaced B.holding self.old.buckets → AllPlaced B.holding self.new.buckets) }
         ensures used { self.new.used ≡ self.old.used }
         ensures sure { self.new.sure ≡ self.old.sure }
     {
-        let looked = look_over(
-            &mut self.buckets,
-            &mut self.good,
-            &self.format,
-            flash,
-            area,
-            &mut self.room,
-        );
-        let Ok(found) = looked else {
+        let looked = find_first(&mut self.buckets, &self.format, flash, area, &mut self.room);
+        let Ok(passes) = looked else {
             return Err(CopyFault::ReadFault);
         };
-        Ok(found.is_some())
+        Ok(passes)
     }
-}
-
-// The copy that a load took.
-fn used(loaded: Loaded) -> Option<usize>
-    ensures { result ≡ used_after loaded }
-{
-    match loaded {
-        Loaded::Copy { used, .. } => Some(used as usize),
-        Loaded::NoCopy => None,
-    }
-}
-
-// What a copy may hold at most.
-fn most_room<B: Bucket>(buckets: &Vec<B>) -> usize
-    ensures { AllFit (kinds_of B.holding buckets.now.items) result }
-{
-    let mut most = 0;
-    for copy in 0..buckets.len() {
-        most = larger(most, buckets[copy].room() as usize);
-    }
-    most
-}
-
-fn larger(one: usize, other: usize) -> usize
-    ensures first { one ≤ result }
-    ensures second { other ≤ result }
-{
-    one.max(other)
 }

@@ -3,7 +3,9 @@ ghost use Rattle.std.specs.Option.{ForSome};
 ghost use Rattle.bb_flash.specs.Device.{IsDevice, content};
 ghost use Rattle.bb_copies.specs.Buckets.{AllAgree, AllFit, AllServe, HaveRoom, kinds_of};
 ghost use Rattle.bb_copies.specs.Looking.{IsFirst};
-ghost use Rattle.bb_copies.specs.Refreshing.{AllHeld, AllWritten, IsStuckAt, KeepsMarked, NeverEmpty, Refreshes, SomeMarked};
+ghost use Rattle.bb_copies.specs.Placing.{AllPlaced};
+ghost use Rattle.bb_copies.specs.Refreshing.{AllHeld, AllWritten, IsStuckAt, KeepsMarked};
+ghost use Rattle.bb_copies.specs.Refreshing.{NeverEmpty, Refreshes, SomeMarked};
 ghost use Rattle.bb_copies.specs.Settling.{IsUndisturbed};
 
 use crate::refresh::{refresh, settle_copy};
@@ -26,7 +28,8 @@ pub(crate) fn freshen<B: Bucket, M: Format, F: Flash>(
     room: &mut Room,
 ) -> Result<(), usize>
     requires room { HaveRoom (M.form format.now) (kinds_of B.holding buckets.old.items) }
-    requires serves { AllServe (kinds_of B.holding buckets.old.items) (F.device flash.old).geometry }
+    requires serves { AllServe (kinds_of B.holding buckets.old.items)
+        (F.device flash.old).geometry }
     requires found { AllFit (kinds_of B.holding buckets.old.items) (length room.old.found.items) }
     requires agreed { AllAgree B.holding (F.device flash.old) buckets.old.items }
     requires whole { IsDevice (F.device flash.old) }
@@ -60,6 +63,8 @@ pub(crate) fn freshen<B: Bucket, M: Format, F: Flash>(
         (F.device flash.old) (F.device flash.new) }
     ensures kinds { kinds_of B.holding buckets.new.items ≡ kinds_of B.holding buckets.old.items }
     ensures agrees { AllAgree B.holding (F.device flash.new) buckets.new.items }
+    ensures placed { OnOk result
+        (AllPlaced B.holding buckets.old.items → AllPlaced B.holding buckets.new.items) }
     ensures marks { length good.new.items ≡ length good.old.items }
     ensures found { length room.new.found.items ≡ length room.old.found.items }
     ensures scratch { length room.new.area.items ≡ length room.old.area.items }

@@ -8,6 +8,7 @@ mod copies;
 mod fresh;
 mod load;
 mod look;
+mod overwrite;
 mod read;
 mod refresh;
 mod room;

@@ -1,14 +1,16 @@
-ghost use Rattle.std.specs.Prelude.{◌≡◌, ◌≢◌, ◌≤◌, IfErr, IfOk, IsTrue, length};
+ghost use Rattle.std.specs.Prelude.{◌≡◌, ◌≢◌, ◌≤◌, IfErr, IfOk, IsTrue, OnOk, length};
 ghost use Rattle.bb_flash.specs.Device.{IsDevice};
 ghost use Rattle.bb_copies.specs.declared.answers.Loaded.TheVariants.{NoCopy};
 ghost use Rattle.bb_copies.specs.Buckets.{AllAgree, AllFit, AllServe, HaveRoom, kinds_of};
-ghost use Rattle.bb_copies.specs.Loading.{IsTally, LoadFails, LoadGives, LoadRuns, LoadsExactly};
-ghost use Rattle.bb_copies.specs.Refreshing.{SomeMarked};
+ghost use Rattle.bb_copies.specs.Loading.{LoadFails, LoadGives, LoadRuns};
+ghost use Rattle.bb_copies.specs.Loading.{LoadsErasing, LoadsExactly};
+ghost use Rattle.bb_copies.specs.Placing.{AllPlaced};
+ghost use Rattle.bb_copies.specs.Store.{used_after};
 
 use crate::fresh::freshen;
 use crate::look::look_over;
 use crate::room::Room;
-use crate::tally::{first_of, live};
+use crate::tally::tell;
 use crate::{CopyFault, Loaded};
 use bb_base::Format;
 use bb_bucket::Bucket;
@@ -24,7 +26,8 @@ pub(crate) fn load_copies<B: Bucket, M: Format, F: Flash>(
     room: &mut Room,
 ) -> Result<Loaded, CopyFault>
     requires room { HaveRoom (M.form format.now) (kinds_of B.holding buckets.old.items) }
-    requires serves { AllServe (kinds_of B.holding buckets.old.items) (F.device flash.old).geometry }
+    requires serves { AllServe (kinds_of B.holding buckets.old.items)
+        (F.device flash.old).geometry }
     requires found { AllFit (kinds_of B.holding buckets.old.items) (length room.old.found.items) }
     requires agreed { AllAgree B.holding (F.device flash.old) buckets.old.items }
     requires whole { IsDevice (F.device flash.old) }
@@ -47,8 +50,12 @@ pub(crate) fn load_copies<B: Bucket, M: Format, F: Flash>(
     ensures exact { IfOk result (LoadsExactly (M.form format.now)
         (kinds_of B.holding buckets.old.items) area.new
         (F.device flash.old) (F.device flash.new)) }
+    ensures erases { IfOk result (LoadsErasing (M.form format.now)
+        (kinds_of B.holding buckets.old.items) area.new
+        (F.device flash.old) (F.device flash.new)) }
     ensures kinds { kinds_of B.holding buckets.new.items ≡ kinds_of B.holding buckets.old.items }
     ensures agrees { AllAgree B.holding (F.device flash.new) buckets.new.items }
+    ensures placed { OnOk result (AllPlaced B.holding buckets.new.items) }
     ensures marks { length good.new.items ≡ length good.old.items }
     ensures found { length room.new.found.items ≡ length room.old.found.items }
     ensures scratch { length room.new.area.items ≡ length room.old.area.items }
@@ -62,7 +69,13 @@ pub(crate) fn load_copies<B: Bucket, M: Format, F: Flash>(
     };
     pack(format, area, room);
     match freshen(buckets, good, used, format, flash, area, room) {
-        Ok(()) => Ok(tally(good)),
+        Ok(()) => {
+            let taken = tell(good);
+            Ok(Loaded::Copy {
+                used: taken.used,
+                live: taken.live,
+            })
+        }
         Err(copy) => Err(CopyFault::WriteFault { copy: copy as u32 }),
     }
 }
@@ -79,14 +92,12 @@ pub(crate) fn pack<M: Format>(format: &M, area: &[u8], room: &mut Room)
     format.pack(area, &mut room.record);
 }
 
-// What the marks say of the copies.
-fn tally(good: &[bool]) -> Loaded
-    requires some { SomeMarked good.now }
-    requires few { length good.now ≤ 3 }
-    ensures { IsTally good.now result }
+/// The copy that a load took.
+pub(crate) fn used_copy(loaded: Loaded) -> Option<usize>
+    ensures { result ≡ used_after loaded }
 {
-    Loaded::Copy {
-        used: first_of(good) as u32,
-        live: live(good) as u32,
+    match loaded {
+        Loaded::Copy { used, .. } => Some(used as usize),
+        Loaded::NoCopy => None,
     }
 }

@@ -1,11 +1,13 @@
-ghost use Rattle.std.specs.Prelude.{◌≡◌, ◌<◌, ◌≤◌, IfOk, IfSome, IsErr, IsTrue, length};
+ghost use Rattle.std.specs.Prelude.{◌≡◌, ◌<◌, ◌≤◌, IfOk, IfSome, IsErr, IsTrue, OnOk, length};
 ghost use Rattle.std.specs.Option.{ForSome};
 ghost use Rattle.bb_base.specs.Faults.{HasCause};
 ghost use Rattle.bb_flash.specs.Cuts.{IsLater};
 ghost use Rattle.bb_flash.specs.Device.{IsDevice, ReadKeeps, content};
 ghost use Rattle.bb_bucket.specs.Calls.{told_but_reads};
 ghost use Rattle.bb_copies.specs.Buckets.{AllAgree, AllFit, AllServe, kinds_of};
+ghost use Rattle.bb_copies.specs.Loading.{LookGives};
 ghost use Rattle.bb_copies.specs.Looking.{FindsBelow, IsReadAt, area_by, good_by, used_by};
+ghost use Rattle.bb_copies.specs.Placing.{AllPlaced, PlacesCopy};
 
 use crate::read::{Passed, read_copy};
 use crate::room::Room;
@@ -24,7 +26,8 @@ pub(crate) fn look_over<B: Bucket, M: Format, F: Flash>(
     area: &mut [u8],
     room: &mut Room,
 ) -> Result<Option<usize>, Failed>
-    requires serves { AllServe (kinds_of B.holding buckets.old.items) (F.device flash.old).geometry }
+    requires serves { AllServe (kinds_of B.holding buckets.old.items)
+        (F.device flash.old).geometry }
     requires found { AllFit (kinds_of B.holding buckets.old.items) (length room.old.found.items) }
     requires agreed { AllAgree B.holding (F.device flash.old) buckets.old.items }
     requires whole { IsDevice (F.device flash.old) }
@@ -42,11 +45,13 @@ pub(crate) fn look_over<B: Bucket, M: Format, F: Flash>(
     ensures told { told_but_reads (F.device flash.new) ≡ told_but_reads (F.device flash.old) }
     ensures later { IsLater (F.device flash.old) (F.device flash.new) }
     ensures whole { IsDevice (F.device flash.new) }
-    ensures faults { HasCause (F.device flash.old).faults (F.device flash.new).faults (IsErr result) }
+    ensures faults { HasCause (F.device flash.old).faults (F.device flash.new).faults
+        (IsErr result) }
     ensures read_faults { HasCause (F.device flash.old).read_faults (F.device flash.new).read_faults
         (IsErr result) }
     ensures kinds { kinds_of B.holding buckets.new.items ≡ kinds_of B.holding buckets.old.items }
     ensures agrees { AllAgree B.holding (F.device flash.new) buckets.new.items }
+    ensures placed { OnOk result (AllPlaced B.holding buckets.new.items) }
     ensures marks { length good.new.items ≡ length good.old.items }
     ensures found { length room.new.found.items ≡ length room.old.found.items }
     ensures scratch { length room.new.area.items ≡ length room.old.area.items }
@@ -69,6 +74,48 @@ pub(crate) fn look_over<B: Bucket, M: Format, F: Flash>(
     Ok(used)
 }
 
+/// Reads the copies in their order up to the first that passes, and leaves its area in `area`. The
+/// answer is whether there is one. Nothing changes on the device.
+pub(crate) fn find_first<B: Bucket, M: Format, F: Flash>(
+    buckets: &mut Vec<B>,
+    format: &M,
+    flash: &mut F,
+    area: &mut [u8],
+    room: &mut Room,
+) -> Result<bool, Failed>
+    requires serves { AllServe (kinds_of B.holding buckets.old.items)
+        (F.device flash.old).geometry }
+    requires found { AllFit (kinds_of B.holding buckets.old.items) (length room.old.found.items) }
+    requires agreed { AllAgree B.holding (F.device flash.old) buckets.old.items }
+    requires whole { IsDevice (F.device flash.old) }
+    requires area { length area.old ≡ (M.form format.now).area_len }
+    ensures gives { IfOk result (LookGives (M.form format.now)
+        (kinds_of B.holding buckets.old.items) area.new (F.device flash.old)) }
+    ensures keeps { ReadKeeps (F.device flash.old) (F.device flash.new) }
+    ensures told { told_but_reads (F.device flash.new) ≡ told_but_reads (F.device flash.old) }
+    ensures later { IsLater (F.device flash.old) (F.device flash.new) }
+    ensures whole { IsDevice (F.device flash.new) }
+    ensures faults { HasCause (F.device flash.old).faults (F.device flash.new).faults
+        (IsErr result) }
+    ensures read_faults { HasCause (F.device flash.old).read_faults (F.device flash.new).read_faults
+        (IsErr result) }
+    ensures kinds { kinds_of B.holding buckets.new.items ≡ kinds_of B.holding buckets.old.items }
+    ensures agrees { AllAgree B.holding (F.device flash.new) buckets.new.items }
+    ensures placed { OnOk result
+        (AllPlaced B.holding buckets.old.items → AllPlaced B.holding buckets.new.items) }
+    ensures found { length room.new.found.items ≡ length room.old.found.items }
+    ensures scratch { room.new.area ≡ room.old.area }
+    ensures record { room.new.record ≡ room.old.record }
+{
+    for copy in 0..buckets.len() {
+        let passed = read_at(buckets, copy, format, flash, &mut room.found, area)?;
+        if passed.is_some() {
+            return Ok(true);
+        }
+    }
+    Ok(false)
+}
+
 // Reads the copy of a number, and leaves the area that it passes as in `area`, if it does.
 fn read_at<B: Bucket, M: Format, F: Flash>(
     buckets: &mut Vec<B>,
@@ -79,7 +126,8 @@ fn read_at<B: Bucket, M: Format, F: Flash>(
     area: &mut [u8],
 ) -> Result<Option<Passed>, Failed>
     requires inside { copy < length buckets.old.items }
-    requires serves { AllServe (kinds_of B.holding buckets.old.items) (F.device flash.old).geometry }
+    requires serves { AllServe (kinds_of B.holding buckets.old.items)
+        (F.device flash.old).geometry }
     requires found { AllFit (kinds_of B.holding buckets.old.items) (length found.old) }
     requires agreed { AllAgree B.holding (F.device flash.old) buckets.old.items }
     requires area { length area.old ≡ (M.form format.now).area_len }
@@ -93,11 +141,14 @@ fn read_at<B: Bucket, M: Format, F: Flash>(
     ensures told { told_but_reads (F.device flash.new) ≡ told_but_reads (F.device flash.old) }
     ensures later { IsLater (F.device flash.old) (F.device flash.new) }
     ensures whole { IsDevice (F.device flash.new) }
-    ensures faults { HasCause (F.device flash.old).faults (F.device flash.new).faults (IsErr result) }
+    ensures faults { HasCause (F.device flash.old).faults (F.device flash.new).faults
+        (IsErr result) }
     ensures read_faults { HasCause (F.device flash.old).read_faults (F.device flash.new).read_faults
         (IsErr result) }
     ensures kinds { kinds_of B.holding buckets.new.items ≡ kinds_of B.holding buckets.old.items }
     ensures agrees { AllAgree B.holding (F.device flash.new) buckets.new.items }
+    ensures placed { OnOk result
+        (PlacesCopy B.holding copy buckets.old.items buckets.new.items) }
 {
     read_copy(&mut buckets[copy], format, flash, found, area)
 }

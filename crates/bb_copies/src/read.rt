@@ -1,4 +1,5 @@
-ghost use Rattle.std.specs.Prelude.{◌≡◌, ◌≤◌, IfOk, IfSome, IsErr, IsTrue, length, option_map};
+ghost use Rattle.std.specs.Prelude.{◌≡◌, ◌≤◌, IfOk, IfSome, IsErr, IsTrue, OnOk, length};
+ghost use Rattle.std.specs.Prelude.{option_map};
 ghost use Rattle.std.specs.Option.{ForSome};
 ghost use Rattle.bb_base.specs.Faults.{HasCause};
 ghost use Rattle.bb_flash.specs.Cuts.{IsLater};
@@ -39,11 +40,13 @@ pub(crate) fn read_copy<B: Bucket, M: Format, F: Flash>(
     ensures told { told_but_reads (F.device flash.new) ≡ told_but_reads (F.device flash.old) }
     ensures later { IsLater (F.device flash.old) (F.device flash.new) }
     ensures whole { IsDevice (F.device flash.new) }
-    ensures faults { HasCause (F.device flash.old).faults (F.device flash.new).faults (IsErr result) }
+    ensures faults { HasCause (F.device flash.old).faults (F.device flash.new).faults
+        (IsErr result) }
     ensures read_faults { HasCause (F.device flash.old).read_faults (F.device flash.new).read_faults
         (IsErr result) }
     ensures kind { (B.holding bucket.new).kind ≡ (B.holding bucket.old).kind }
     ensures agrees { Agrees (B.holding bucket.new) (F.device flash.new) }
+    ensures placed { OnOk result (IsTrue (B.holding bucket.new).placed) }
 {
     let room = bucket.room() as usize;
     let found = &mut found[..room];

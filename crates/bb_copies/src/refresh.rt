@@ -1,7 +1,11 @@
 ghost use Rattle.std.specs.Prelude.{◌≡◌, ◌≤◌, ◌<◌, IfErr, IfOk, IsTrue, OnOk, length};
 ghost use Rattle.bb_flash.specs.Device.{IsDevice};
 ghost use Rattle.bb_copies.specs.Buckets.{AllAgree, AllFit, AllServe, HaveRoom, kinds_of};
-ghost use Rattle.bb_copies.specs.Refreshing.{AllSettled, AllWritten, IsSettledAt, IsStuckAt, IsWrittenAt, KeepsMarked, LeavesOthers, Refreshes, answer_of};
+ghost use Rattle.bb_copies.specs.Placing.{AllPlaced, IsPlacedAt, PlacesCopy};
+ghost use Rattle.bb_copies.specs.Placing.{PlacesUnmarked, ReadsNothing};
+ghost use Rattle.bb_copies.specs.Refreshing.{AllSettled, AllWritten, IsSettledAt, IsStuckAt};
+ghost use Rattle.bb_copies.specs.Refreshing.{IsWrittenAt, KeepsMarked, LeavesOthers, Refreshes};
+ghost use Rattle.bb_copies.specs.Refreshing.{answer_of};
 ghost use Rattle.bb_copies.specs.Settling.{IsUndisturbed};
 
 use crate::room::Room;
@@ -22,7 +26,8 @@ pub(crate) fn settle_copy<B: Bucket, M: Format, F: Flash>(
 ) -> Result<bool, usize>
     requires inside { copy < length buckets.old.items }
     requires room { HaveRoom (M.form format.now) (kinds_of B.holding buckets.old.items) }
-    requires serves { AllServe (kinds_of B.holding buckets.old.items) (F.device flash.old).geometry }
+    requires serves { AllServe (kinds_of B.holding buckets.old.items)
+        (F.device flash.old).geometry }
     requires found { AllFit (kinds_of B.holding buckets.old.items) (length room.old.found.items) }
     requires agreed { AllAgree B.holding (F.device flash.old) buckets.old.items }
     requires whole { IsDevice (F.device flash.old) }
@@ -45,6 +50,10 @@ pub(crate) fn settle_copy<B: Bucket, M: Format, F: Flash>(
         (F.device flash.old) (F.device flash.new) }
     ensures kinds { kinds_of B.holding buckets.new.items ≡ kinds_of B.holding buckets.old.items }
     ensures agrees { AllAgree B.holding (F.device flash.new) buckets.new.items }
+    ensures placed { OnOk result
+        (PlacesCopy B.holding copy buckets.old.items buckets.new.items) }
+    ensures reads { IsPlacedAt B.holding buckets.old.items copy
+        → ReadsNothing (F.device flash.old) (F.device flash.new) }
     ensures found { length room.new.found.items ≡ length room.old.found.items }
     ensures scratch { length room.new.area.items ≡ length room.old.area.items }
     ensures record { room.new.record.items ≡ room.old.record.items }
@@ -75,7 +84,8 @@ pub(crate) fn refresh<B: Bucket, M: Format, F: Flash>(
     room: &mut Room,
 ) -> Result<(), usize>
     requires room { HaveRoom (M.form format.now) (kinds_of B.holding buckets.old.items) }
-    requires serves { AllServe (kinds_of B.holding buckets.old.items) (F.device flash.old).geometry }
+    requires serves { AllServe (kinds_of B.holding buckets.old.items)
+        (F.device flash.old).geometry }
     requires found { AllFit (kinds_of B.holding buckets.old.items) (length room.old.found.items) }
     requires agreed { AllAgree B.holding (F.device flash.old) buckets.old.items }
     requires whole { IsDevice (F.device flash.old) }
@@ -99,6 +109,10 @@ pub(crate) fn refresh<B: Bucket, M: Format, F: Flash>(
         (F.device flash.old) (F.device flash.new) }
     ensures kinds { kinds_of B.holding buckets.new.items ≡ kinds_of B.holding buckets.old.items }
     ensures agrees { AllAgree B.holding (F.device flash.new) buckets.new.items }
+    ensures placed { OnOk result
+        (PlacesUnmarked B.holding good.old.items buckets.old.items buckets.new.items) }
+    ensures reads { AllPlaced B.holding buckets.old.items
+        → ReadsNothing (F.device flash.old) (F.device flash.new) }
     ensures marks { length good.new.items ≡ length good.old.items }
     ensures found { length room.new.found.items ≡ length room.old.found.items }
     ensures scratch { length room.new.area.items ≡ length room.old.area.items }

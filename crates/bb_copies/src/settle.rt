@@ -1,7 +1,10 @@
-ghost use Rattle.std.specs.Prelude.{◌≡◌, ◌≤◌, IsTrue, length};
+ghost use Rattle.std.specs.Prelude.{◌≡◌, ◌≢◌, ◌≤◌, IsTrue, length};
 ghost use Rattle.bb_flash.specs.Device.{IsDevice};
 ghost use Rattle.bb_bucket.specs.Calls.{Agrees};
-ghost use Rattle.bb_copies.specs.Settling.{EndsAs, IsUndisturbed, IsCompared, IsWritten, ReadsAs, SettlesCopy};
+ghost use Rattle.bb_copies.specs.Placing.{ReadsNothing};
+ghost use Rattle.bb_copies.specs.Settling.{EndsAs, IsCompared, IsUndisturbed, IsWritten};
+ghost use Rattle.bb_copies.specs.Settling.{ReadsAs, SettlesCopy};
+ghost use Rattle.bb_copies.specs.declared.settle.Settled.TheVariants.{Stuck};
 
 use crate::read::read_copy;
 use crate::room::Room;
@@ -46,6 +49,9 @@ pub(crate) fn settle<B: Bucket, M: Format, F: Flash>(
         (F.device flash.new) }
     ensures kind { (B.holding bucket.new).kind ≡ (B.holding bucket.old).kind }
     ensures agrees { Agrees (B.holding bucket.new) (F.device flash.new) }
+    ensures placed { result ≢ Stuck → IsTrue (B.holding bucket.new).placed }
+    ensures reads { IsTrue (B.holding bucket.old).placed
+        → ReadsNothing (F.device flash.old) (F.device flash.new) }
     ensures record { room.new.record.items ≡ room.old.record.items }
     ensures found { length room.new.found.items ≡ length room.old.found.items }
     ensures scratch { length room.new.area.items ≡ length room.old.area.items }
@@ -77,19 +83,20 @@ fn read_back<B: Bucket, M: Format, F: Flash>(
         (F.device flash.old) (F.device flash.new) }
     ensures kind { (B.holding bucket.new).kind ≡ (B.holding bucket.old).kind }
     ensures agrees { Agrees (B.holding bucket.new) (F.device flash.new) }
+    ensures placed { result ≢ Stuck → IsTrue (B.holding bucket.new).placed }
     ensures record { room.new.record.items ≡ room.old.record.items }
     ensures found { length room.new.found.items ≡ length room.old.found.items }
     ensures scratch { length room.new.area.items ≡ length room.old.area.items }
 {
     match read_copy(bucket, format, flash, &mut room.found, &mut room.area) {
         Ok(None) => Settled::Dead,
-        Ok(Some(_)) => compared(&room.area, area),
+        Ok(Some(_)) => compare_areas(&room.area, area),
         Err(Failed) => Settled::Stuck,
     }
 }
 
 // A copy passes one area, and another or the same is wanted.
-fn compared(passed: &[u8], wanted: &[u8]) -> Settled
+fn compare_areas(passed: &[u8], wanted: &[u8]) -> Settled
     ensures { IsCompared passed.now wanted.now result }
 {
     if passed == wanted {

@@ -5,7 +5,7 @@ use Rattle.bb_base.specs.Form.{Form}
 use Rattle.bb_flash.specs.Cuts.{IsLater}
 use Rattle.bb_flash.specs.Device.{Device, IsDevice, LeavesStarts}
 use Rattle.bb_bucket.specs.Kind.{Kind}
-use Rattle.bb_copies.specs.Loading.{KeepsOutside, LoadFails, LoadsExactly}
+use Rattle.bb_copies.specs.Loading.{KeepsOutside, LoadFails, LoadsErasing, LoadsExactly}
 use Rattle.bb_copies.specs.Saving.{IsSaved, SaveImages, SaveRuns}
 use Rattle.bb_copies.specs.declared.answers.CopyFault.{CopyFault}
 use Rattle.bb_copies.specs.declared.answers.Loaded.{Loaded}
@@ -47,6 +47,14 @@ exact_of form kinds layout area table from to loaded ef ek et h =
     subst (λ table. LoadsExactly (laid_form layout) (laid_kinds layout) table from to loaded) (sym et)
     (subst (λ form. LoadsExactly form (laid_kinds layout) area from to loaded) ef
     (subst (λ kinds. LoadsExactly form kinds area from to loaded) ek h))
+
+pub erasing_of : (form : Form) (kinds : List Kind) (layout : Laid) (area table : List ℕ) (from to : Device) (loaded : Loaded) →
+    form ≡ laid_form layout → kinds ≡ laid_kinds layout → table ≡ area → LoadsErasing form kinds area from to loaded →
+    LoadsErasing (laid_form layout) (laid_kinds layout) table from to loaded
+erasing_of form kinds layout area table from to loaded ef ek et h =
+    subst (λ table. LoadsErasing (laid_form layout) (laid_kinds layout) table from to loaded) (sym et)
+    (subst (λ form. LoadsErasing form (laid_kinds layout) area from to loaded) ef
+    (subst (λ kinds. LoadsErasing form kinds area from to loaded) ek h))
 
 pub runs_of : (form : Form) (kinds : List Kind) (used : Option ℕ) (seen : Backed) (table : List ℕ) (from to : Device) →
     form ≡ form_in seen → kinds ≡ kinds_in seen → used ≡ seen.used →

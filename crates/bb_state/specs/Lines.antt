@@ -1,5 +1,7 @@
--- What is sent of a state: lines with the values of its variables, each ended by LF (barebox User Manual, State Framework).
-use Rattle.std.specs.Prelude.{ℕ, ◌==◌, List, [], ◌∷◌, ◌++◌, Option, if◌then◌else◌, codes, map, slice_range}
+-- What is sent of a state: lines with the values of its variables, each ended by LF (barebox User
+-- Manual, State Framework).
+use Rattle.std.specs.Prelude.{ℕ, ◌==◌, List, [], ◌∷◌, ◌++◌, Option, if◌then◌else◌, codes, map}
+use Rattle.std.specs.Prelude.{slice_range}
 use Rattle.std.specs.List.{flat_map, list_any}
 use Rattle.std.specs.Option.{option_map_or}
 use Rattle.bb_vars.specs.Value.{text_of}

@@ -6,6 +6,7 @@ use Rattle.bb_flash.specs.Device.{Device, IsDevice}
 use Rattle.bb_bucket.specs.Kind.{Kind}
 use Rattle.bb_copies.specs.Buckets.{AllAgree}
 use Rattle.bb_copies.specs.Loading.{LoadFails}
+use Rattle.bb_copies.specs.Placing.{AllPlaced}
 use Rattle.bb_copies.specs.Saving.{IsSaved}
 use Rattle.bb_copies.specs.declared.answers.CopyFault.{CopyFault}
 use Rattle.bb_copies.specs.declared.answers.Loaded.{Loaded}
@@ -65,6 +66,10 @@ abbrev pub IsFresh : State → Type 0
 IsFresh state =
     (device : Device) →
     device.geometry ≡ (laid_of state).geometry → IsDevice device → IsOn state device
+
+-- its buckets know where a record goes without a look at the device
+abbrev pub IsPlaced : State → Type 0
+IsPlaced state = AllPlaced any_holding state.backing.buckets
 
 -- where no copy passed a load gives the defaults
 abbrev pub IsDefault : Laid → List ℕ → Loaded → Type 0

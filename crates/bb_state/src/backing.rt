@@ -1,11 +1,15 @@
-ghost use Rattle.std.specs.Prelude.{◌≡◌, ◌<◌, ◌&&◌, ◌↔◌, IfErr, IfOk, IsErr, IsErrOf, IsTrue, OnOk, false, is_ok, length};
+ghost use Rattle.std.specs.Prelude.{◌≡◌, ◌<◌, ◌&&◌, ◌↔◌, IfErr, IfOk, IsErr, IsErrOf, IsTrue, OnOk};
+ghost use Rattle.std.specs.Prelude.{false, is_ok, length};
 ghost use Rattle.std.specs.Str.{bytes_eq};
 ghost use Rattle.bb_base.specs.Faults.{HasCause};
 ghost use Rattle.bb_flash.specs.Cuts.{IsLater};
 ghost use Rattle.bb_flash.specs.Device.{Device, IsDevice, LeavesStarts, ReadKeeps};
 ghost use Rattle.bb_bucket.specs.Calls.{told_but_reads};
 ghost use Rattle.bb_copies.specs.Buckets.{AllAgree};
-ghost use Rattle.bb_copies.specs.Loading.{KeepsOutside, LoadGives, LoadImages, LoadsExactly, LookGives};
+ghost use Rattle.bb_copies.specs.Erasing.{ErasesBy};
+ghost use Rattle.bb_copies.specs.Loading.{KeepsOutside, LoadGives, LoadImages, LoadsErasing};
+ghost use Rattle.bb_copies.specs.Loading.{LoadsExactly, LookGives};
+ghost use Rattle.bb_copies.specs.Placing.{AllPlaced, ReadsNothing};
 ghost use Rattle.bb_copies.specs.Saving.{EachWritten, SaveFails, SaveRuns};
 ghost use Rattle.bb_copies.specs.Settling.{IsUndisturbed};
 ghost use Rattle.bb_copies.specs.Store.{used_after};
@@ -78,14 +82,15 @@ impl Backing {
     }
 
     /// The table that was last loaded or saved.
-    pub(crate) fn kept(&self) -> &[u8]
+    pub(crate) fn kept_table(&self) -> &[u8]
         ensures kept { result.now ≡ self.now.kept }
         ensures sized { length result.now ≡ self.now.layout.area_len }
     {
         self.kept.as_slice()
     }
 
-    /// Loads the copies. The table that they have, or the defaults where no copy passes, is then at hand.
+    /// Loads the copies. The table that they have, or the defaults where no copy passes, is then at
+    /// hand.
     pub(crate) fn load<F: Flash>(&mut self, flash: &mut F) -> Result<Loaded, CopyFault>
         requires geometry { (F.device flash.old).geometry ≡ self.old.layout.geometry }
         requires agreed { AllAgree any_holding (F.device flash.old) self.old.buckets }
@@ -97,14 +102,18 @@ impl Backing {
         ensures defaults { IfOk result (IsDefault self.old.layout self.new.kept) }
         ensures fails { IfErr result (IsRefused self.old.layout
             (F.device flash.old) (F.device flash.new)) }
-        ensures exact { IfOk result (LoadsExactly (form_in self.old) (kinds_in self.old) self.new.kept
-            (F.device flash.old) (F.device flash.new)) }
-        ensures outside { KeepsOutside (kinds_in self.old) (F.device flash.old) (F.device flash.new) }
+        ensures exact { IfOk result (LoadsExactly (form_in self.old) (kinds_in self.old)
+            self.new.kept (F.device flash.old) (F.device flash.new)) }
+        ensures erases { IfOk result (LoadsErasing (form_in self.old) (kinds_in self.old)
+            self.new.kept (F.device flash.old) (F.device flash.new)) }
+        ensures outside { KeepsOutside (kinds_in self.old) (F.device flash.old)
+            (F.device flash.new) }
         ensures later { IsLater (F.device flash.old) (F.device flash.new) }
         ensures starts { LeavesStarts (F.device flash.old) (F.device flash.new) }
         ensures whole { IsDevice (F.device flash.new) }
         ensures layout { self.new.layout ≡ self.old.layout }
         ensures agrees { AllAgree any_holding (F.device flash.new) self.new.buckets }
+        ensures placed { OnOk result (AllPlaced any_holding self.new.buckets) }
         ensures used { IfOk result (λ loaded. self.new.used ≡ used_after loaded) }
         ensures sure { self.new.sure ≡ is_ok result }
     {
@@ -123,6 +132,8 @@ impl Backing {
         requires sized { length table.now ≡ self.old.layout.area_len }
         requires fits { IsTrue ((form_in self.old).fits table.now) }
         ensures unsure { IsErrOf result Unsure ↔ (self.old.sure ≡ false) }
+        ensures idle { self.old.sure ≡ false → F.device flash.new ≡ F.device flash.old }
+        ensures unchanged { self.old.sure ≡ false → self.new ≡ self.old }
         ensures runs { SaveRuns (form_in self.old) (kinds_in self.old) self.old.used table.now
             (F.device flash.old) (F.device flash.new) }
         ensures saved { OnOk result (IsStored self.old.layout table.now self.new.used
@@ -132,8 +143,14 @@ impl Backing {
         ensures exact { IsUndisturbed (F.device flash.old) (F.device flash.new)
             → OnOk result (EachWritten (kinds_in self.old) ((form_in self.old).text table.now)
             (F.device flash.old) (F.device flash.new)) }
+        ensures erases { IsUndisturbed (F.device flash.old) (F.device flash.new)
+            → OnOk result (ErasesBy (kinds_in self.old) ((form_in self.old).text table.now)
+            (F.device flash.old) (F.device flash.new)) }
         ensures layout { self.new.layout ≡ self.old.layout }
         ensures agrees { AllAgree any_holding (F.device flash.new) self.new.buckets }
+        ensures placed { OnOk result (AllPlaced any_holding self.new.buckets) }
+        ensures reads { AllPlaced any_holding self.old.buckets
+            → ReadsNothing (F.device flash.old) (F.device flash.new) }
         ensures kept { OnOk result (self.new.kept ≡ table.now) }
         ensures sure { self.new.sure ≡ is_ok result }
     {
@@ -165,6 +182,8 @@ impl Backing {
             (F.device flash.new).read_faults (IsErr result) }
         ensures layout { self.new.layout ≡ self.old.layout }
         ensures agrees { AllAgree any_holding (F.device flash.new) self.new.buckets }
+        ensures placed { OnOk result
+            (AllPlaced any_holding self.old.buckets → AllPlaced any_holding self.new.buckets) }
         ensures used { self.new.used ≡ self.old.used }
         ensures sure { self.new.sure ≡ self.old.sure }
         ensures kept { self.new.kept ≡ self.old.kept }

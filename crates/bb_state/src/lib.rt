@@ -1,5 +1,6 @@
-//! The variables of a state: what they hold, what it makes to set them, and the lines that are sent of them (barebox
-//! User Manual, State Framework). It knows names and values, and no words of a command.
+//! The variables of a state: what they hold, what it makes to set them, and the lines that are sent
+//! of them (barebox User Manual, State Framework). It knows names and values, and no words of a
+//! command.
 #![tactic(auto)]
 
 mod any_bucket;

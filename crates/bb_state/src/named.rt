@@ -1,4 +1,5 @@
-ghost use Rattle.std.specs.Prelude.{◌≡◌, ◌≢◌, ◌++◌, None, Some, Ok, Err, IfErr, OnErr, OnOk, length};
+ghost use Rattle.std.specs.Prelude.{◌≡◌, ◌≢◌, ◌++◌, None, Some, Ok, Err, IfErr, OnErr, OnOk};
+ghost use Rattle.std.specs.Prelude.{length};
 ghost use Rattle.std.specs.Result.{result_map_both};
 ghost use Rattle.bb_state.specs.Named.{after_set, refusal_for, text_for};
 ghost use Rattle.bb_state.specs.declared.error.StateError.TheVariants as states;
@@ -9,8 +10,8 @@ use bb_base::Bytes;
 use bb_layout::Layout;
 use bb_vars::Table;
 
-/// Appends the text of the value that the variable of that name has in an area of the layout. NoSuchVariable where
-/// there is none, and NoMemory.
+/// Appends the text of the value that the variable of that name has in an area of the layout.
+/// NoSuchVariable where there is none, and NoMemory.
 pub fn get_value(
     layout: &Layout,
     area: &[u8],
@@ -38,8 +39,9 @@ pub fn check_value(layout: &Layout, name: &str, text: &[u8]) -> Result<(), State
     Ok(())
 }
 
-/// Gives the variable of that name the value that a text stands for, in a table of the layout. NoSuchVariable where
-/// there is none, and Value where the text is no value of it; the table is then as before.
+/// Gives the variable of that name the value that a text stands for, in a table of the layout.
+/// NoSuchVariable where there is none, and Value where the text is no value of it; the table is
+/// then as before.
 pub fn set_value(
     layout: &Layout,
     table: &mut Table,

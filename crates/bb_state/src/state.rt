@@ -1,10 +1,14 @@
-ghost use Rattle.std.specs.Prelude.{◌≡◌, ◌≢◌, ◌↔◌, ◌++◌, Err, IfErr, IfOk, IsErr, IsErrOf, IsOk, None, Ok, OnErr, OnOk, Some, false, is_ok, length, true};
+ghost use Rattle.std.specs.Prelude.{◌≡◌, ◌≢◌, ◌↔◌, ◌++◌, Err, IfErr, IfOk, IsErr, IsErrOf, IsOk};
+ghost use Rattle.std.specs.Prelude.{None, Ok, OnErr, OnOk, Some, false, is_ok, length, true};
 ghost use Rattle.std.specs.Result.{result_map_both};
 ghost use Rattle.bb_base.specs.Faults.{HasCause};
 ghost use Rattle.bb_flash.specs.Cuts.{IsLater};
 ghost use Rattle.bb_flash.specs.Device.{LeavesStarts, ReadKeeps};
 ghost use Rattle.bb_bucket.specs.Calls.{told_but_reads};
-ghost use Rattle.bb_copies.specs.Loading.{KeepsOutside, LoadGives, LoadImages, LoadsExactly, LookGives};
+ghost use Rattle.bb_copies.specs.Erasing.{ErasesBy};
+ghost use Rattle.bb_copies.specs.Loading.{KeepsOutside, LoadGives, LoadImages, LoadsErasing};
+ghost use Rattle.bb_copies.specs.Loading.{LoadsExactly, LookGives};
+ghost use Rattle.bb_copies.specs.Placing.{ReadsNothing};
 ghost use Rattle.bb_copies.specs.Saving.{EachWritten, SaveFails, SaveRuns};
 ghost use Rattle.bb_copies.specs.Settling.{IsUndisturbed};
 ghost use Rattle.bb_copies.specs.Store.{used_after};
@@ -12,7 +16,10 @@ ghost use Rattle.bb_copies.specs.declared.answers.CopyFault.TheVariants.{ReadFau
 ghost use Rattle.bb_layout.specs.Defaults.{defaults_of};
 ghost use Rattle.bb_layout.specs.Layout.{laid};
 ghost use Rattle.bb_state.specs.Named.{after_set, refusal_for, text_for};
-ghost use Rattle.bb_state.specs.State.{FitsForm, form_of, kinds_of, IsDefault, IsFresh, IsOn, IsRefused, IsSized, IsStored, has_changed, is_kept, is_sure, kept_of, laid_of, used_of};
+ghost use Rattle.bb_state.specs.State.{FitsForm, form_of, kinds_of, IsDefault, IsFresh, IsOn};
+ghost use Rattle.bb_state.specs.State.{IsPlaced};
+ghost use Rattle.bb_state.specs.State.{IsRefused, IsSized, IsStored, has_changed, is_kept, is_sure};
+ghost use Rattle.bb_state.specs.State.{kept_of, laid_of, used_of};
 ghost use Rattle.bb_state.specs.declared.error.StateError.TheVariants as states;
 
 use crate::backing::Backing;
@@ -56,8 +63,9 @@ impl State {
         self.backing.layout()
     }
 
-    /// Reads all copies. The table is then the area of the first that passes, and all copies pass it or nothing: those
-    /// that don't are written. Where no copy passes the table has the defaults. After a refusal it is as before.
+    /// Reads all copies. The table is then the area of the first that passes, and all copies pass
+    /// it or nothing: those that don't are written. Where no copy passes the table has the
+    /// defaults. After a refusal it is as before.
     #[tactic(auto, using(crate::proofs::Mounting::sized_fits))]
     pub fn load<F: Flash>(&mut self, flash: &mut F) -> Result<Loaded, CopyFault>
         requires sized { IsSized self.old }
@@ -71,6 +79,8 @@ impl State {
             (F.device flash.old) (F.device flash.new)) }
         ensures exact { IfOk result (LoadsExactly (form_of self.old) (kinds_of self.old)
             self.new.table (F.device flash.old) (F.device flash.new)) }
+        ensures erases { IfOk result (LoadsErasing (form_of self.old) (kinds_of self.old)
+            self.new.table (F.device flash.old) (F.device flash.new)) }
         ensures outside { KeepsOutside (kinds_of self.old)
             (F.device flash.old) (F.device flash.new) }
         ensures later { IsLater (F.device flash.old) (F.device flash.new) }
@@ -83,15 +93,17 @@ impl State {
         ensures sized { IsSized self.new }
         ensures fits { FitsForm self.old → FitsForm self.new }
         ensures on { IsOn self.new (F.device flash.new) }
+        ensures placed { OnOk result (IsPlaced self.new) }
     {
         let loaded = self.backing.load(flash)?;
-        self.table.put(0, self.backing.kept());
+        self.table.put(0, self.backing.kept_table());
         Ok(loaded)
     }
 
-    /// Saves the table to all copies, where it differs from the one last loaded or saved; after a load that found no copy
-    /// that is the defaults. Otherwise it makes no call of the device. Unsure, with no call, where no load answered Ok
-    /// yet or the last load or save was refused.
+    /// Saves the table to all copies, where it differs from the one last loaded or saved; after a
+    /// load that found no copy that is the defaults. Otherwise it makes no call of the device.
+    /// Unsure, with no call and nothing changed, where no load answered Ok yet or the last load or
+    /// save was refused. Once a load or a save answered Ok, one in which no call fails reads nothing.
     pub fn save<F: Flash>(&mut self, flash: &mut F) -> Result<(), CopyFault>
         requires sized { IsSized self.old }
         requires fits { FitsForm self.old }
@@ -99,6 +111,7 @@ impl State {
         ensures unsure { IsErrOf result Unsure ↔ (is_sure self.old ≡ false) }
         ensures same { is_kept self.old ≡ true → IsOk result }
         ensures idle { has_changed self.old ≡ false → F.device flash.new ≡ F.device flash.old }
+        ensures unchanged { has_changed self.old ≡ false → self.new ≡ self.old }
         ensures runs { has_changed self.old ≡ true
             → SaveRuns (form_of self.old) (kinds_of self.old) (used_of self.old) self.old.table
             (F.device flash.old) (F.device flash.new) }
@@ -111,12 +124,19 @@ impl State {
             → IsUndisturbed (F.device flash.old) (F.device flash.new)
             → OnOk result (EachWritten (kinds_of self.old) ((form_of self.old).text self.old.table)
             (F.device flash.old) (F.device flash.new)) }
+        ensures erases { has_changed self.old ≡ true
+            → IsUndisturbed (F.device flash.old) (F.device flash.new)
+            → OnOk result (ErasesBy (kinds_of self.old) ((form_of self.old).text self.old.table)
+            (F.device flash.old) (F.device flash.new)) }
         ensures table { self.new.table ≡ self.old.table }
         ensures layout { laid_of self.new ≡ laid_of self.old }
         ensures kept { OnOk result (kept_of self.new ≡ self.new.table) }
         ensures used { is_kept self.old ≡ true → used_of self.new ≡ used_of self.old }
         ensures sure { is_sure self.new ≡ is_ok result }
         ensures on { IsOn self.new (F.device flash.new) }
+        ensures placed { OnOk result (has_changed self.old ≡ true → IsPlaced self.new) }
+        ensures reads { IsPlaced self.old
+            → ReadsNothing (F.device flash.old) (F.device flash.new) }
     {
         if self.backing.holds(self.table.bytes()) {
             return Ok(());
@@ -130,6 +150,8 @@ impl State {
         requires fits { FitsForm self.old }
         requires on { IsOn self.old (F.device flash.old) }
         ensures unsure { IsErrOf result Unsure ↔ (is_sure self.old ≡ false) }
+        ensures idle { is_sure self.old ≡ false → F.device flash.new ≡ F.device flash.old }
+        ensures unchanged { is_sure self.old ≡ false → self.new ≡ self.old }
         ensures runs { SaveRuns (form_of self.old) (kinds_of self.old) (used_of self.old)
             self.old.table (F.device flash.old) (F.device flash.new) }
         ensures saved { OnOk result
@@ -140,11 +162,17 @@ impl State {
         ensures exact { IsUndisturbed (F.device flash.old) (F.device flash.new)
             → OnOk result (EachWritten (kinds_of self.old) ((form_of self.old).text self.old.table)
             (F.device flash.old) (F.device flash.new)) }
+        ensures erases { IsUndisturbed (F.device flash.old) (F.device flash.new)
+            → OnOk result (ErasesBy (kinds_of self.old) ((form_of self.old).text self.old.table)
+            (F.device flash.old) (F.device flash.new)) }
         ensures table { self.new.table ≡ self.old.table }
         ensures layout { laid_of self.new ≡ laid_of self.old }
         ensures kept { OnOk result (kept_of self.new ≡ self.new.table) }
         ensures sure { is_sure self.new ≡ is_ok result }
         ensures on { IsOn self.new (F.device flash.new) }
+        ensures placed { OnOk result (IsPlaced self.new) }
+        ensures reads { IsPlaced self.old
+            → ReadsNothing (F.device flash.old) (F.device flash.new) }
     {
         self.backing.save(flash, self.table.bytes())
     }
@@ -170,11 +198,13 @@ impl State {
         ensures used { used_of self.new ≡ used_of self.old }
         ensures sure { is_sure self.new ≡ is_sure self.old }
         ensures on { IsOn self.new (F.device flash.new) }
+        ensures placed { OnOk result (IsPlaced self.old → IsPlaced self.new) }
     {
         self.backing.look(flash, area)
     }
 
-    /// Appends the text of the value of the variable of that name. NoSuchVariable where there is none, and NoMemory.
+    /// Appends the text of the value of the variable of that name. NoSuchVariable where there is
+    /// none, and NoMemory.
     pub fn get(&self, name: &str, out: &mut Bytes) -> Result<(), StateError>
         requires { IsSized self.now }
         ensures got { OnOk result (result_map_both (λ text. out.old ++ text) (λ e. e)
@@ -185,8 +215,8 @@ impl State {
         get_value(self.layout(), self.table.bytes(), name, out)
     }
 
-    /// Gives the variable of that name the value that a text stands for. NoSuchVariable where there is none, and Value
-    /// where the text is no value of it; the table is then as before.
+    /// Gives the variable of that name the value that a text stands for. NoSuchVariable where there
+    /// is none, and Value where the text is no value of it; the table is then as before.
     #[tactic(auto, using(crate::proofs::Mounting::sized_fits))]
     pub fn set(&mut self, name: &str, text: &[u8]) -> Result<(), StateError>
         requires { IsSized self.old }

@@ -1,4 +1,5 @@
-ghost use Rattle.std.specs.Prelude.{◌≡◌, ◌<◌, ◌++◌, OnOk, IfOk, IfErr, Some, None, length, slice_get};
+ghost use Rattle.std.specs.Prelude.{◌≡◌, ◌<◌, ◌++◌, OnOk, IfOk, IfErr, Some, None, length};
+ghost use Rattle.std.specs.Prelude.{slice_get};
 ghost use Rattle.bb_state.specs.Lines.{value_of};
 ghost use Rattle.bb_state.specs.Named.{var_of};
 ghost use Rattle.bb_state.specs.Room.{HasRoom};

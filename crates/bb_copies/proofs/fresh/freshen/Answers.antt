@@ -4,7 +4,7 @@ use Rattle.std.proofs.lemmas.Result.{err_from_is_err_and}
 use Rattle.bb_base.specs.Form.{Form}
 use Rattle.bb_flash.specs.Device.{Device}
 use Rattle.bb_bucket.specs.Kind.{Kind}
-use Rattle.bb_copies.specs.Buckets.{kinds_of}
+use Rattle.bb_copies.specs.Buckets.{AllFit, kinds_of}
 use Rattle.bb_copies.specs.Refreshing.{AllHeld, IsFirstMarked, IsSettledAt, IsStuckAt, IsWrittenAt, LeavesOthers, NoOther, Refreshes}
 use Rattle.bb_copies.proofs.Below.{stuck_earlier, stuck_rose}
 use Rattle.bb_copies.proofs.Held.{first_marked, held_all, held_more, kept_marked, kept_others, never_joined, none_of_match, quiet_other, some_of_match, spares_other, used_spares, written_fresh, written_others}
@@ -384,11 +384,12 @@ returns-clause-exact g c =
     let to : Device = g.F.Flash.device c.settle_copy.new.flash in
     let s = c.settle_copy.ensures in
     let others : LeavesOthers kinds used mid to = subst (λ (ks : List Kind). LeavesOthers ks used mid to) r.kinds s.others in
+    let stale = sym (get_or_read good used _ inside c.index-fresh.ensures false) ∙ c.if-fresh.false in
     λ quiet.
     written_others kinds rec good used from mid to r.refreshes.later s.refreshes.later r.kept (r.exact (undisturbed_first from mid to s.refreshes.later quiet)) others
     (subst (λ (ks : List Kind). IsWrittenAt ks used rec mid to) r.kinds
     (subst (λ (xs : List ℕ). IsWrittenAt (kinds_of g.B.Bucket.holding c.refresh.new.buckets.items) used xs mid to) r.«record» (s.exact (undisturbed_second from mid to r.refreshes.later quiet))))
-    inside
+    inside (omega (arith, c.requires.inside, many)) stale
 
 pub returns-then-fresh-clause-some : goal.returns-then-fresh-clause-some
 returns-then-fresh-clause-some g c =
@@ -448,3 +449,18 @@ returns-clause-some g c =
       inside = omega (arith, other.1.inside, set_size);
       marked = get_or-set_other c.refresh.new.good.items used other.0 c.in_ok-good.field-0 false other.1.other ∙ other.1.marked;
     }
+
+pub returns-then-fresh-clause-placed : goal.returns-then-fresh-clause-placed
+returns-then-fresh-clause-placed g c = λ all copy. c.in_ok-refresh.ensures.placed copy (λ mark. all copy)
+
+pub returns-then-is_none-clause-placed : goal.returns-then-is_none-clause-placed
+returns-then-is_none-clause-placed g c = λ all copy. c.in_ok-refresh.ensures.placed copy (λ mark. all copy)
+
+pub returns-clause-placed : goal.returns-clause-placed
+returns-clause-placed g c = λ all place. c.in_ok-good.ensures.placed place (λ other. c.in_ok-refresh.ensures.placed place (λ mark. all place))
+
+pub settle_copy-requires-clause-found : goal.settle_copy-requires-clause-found
+settle_copy-requires-clause-found g c =
+    let r = c.refresh.ensures in
+    subst (λ (ks : List Kind). AllFit ks (length c.refresh.new.room.found.items)) (sym r.kinds)
+    (subst (λ (n : ℕ). AllFit (kinds_of g.B.Bucket.holding c.args.buckets.now.items) n) (sym r.found) c.requires.found)

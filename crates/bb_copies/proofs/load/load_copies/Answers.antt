@@ -1,14 +1,15 @@
-use Rattle.std.proofs.Common.{◌≡◌, ◌∙◌, ℕ, ◌<◌, Bool, List, Option, IfSome, IsTrue, length, ap, sym, subst}
+use Rattle.std.proofs.Common.{◌≡◌, ◌∙◌, ℕ, ◌<◌, Bool, List, Option, IfSome, IsTrue, count_by, length, ap, sym, subst}
 use Rattle.std.specs.Option.{ForSome}
 use Rattle.std.proofs.lemmas.List.{length-map}
 use Rattle.bb_base.specs.Form.{Form}
 use Rattle.bb_flash.specs.Device.{Device, content}
 use Rattle.bb_bucket.specs.Kind.{Kind}
 use Rattle.bb_copies.specs.Buckets.{kinds_of}
-use Rattle.bb_copies.specs.Loading.{IsTally}
+use Rattle.bb_copies.specs.declared.answers.Loaded.TheVariants.{Copy}
 use Rattle.bb_copies.specs.Looking.{FindsBelow, IsFirst}
-use Rattle.bb_copies.specs.Refreshing.{AllHeld, AllWritten, IsStuckAt, KeepsMarked, NeverEmpty, Refreshes}
-use Rattle.bb_copies.proofs.Loads.{first_again, first_area, fresh_runs, load_gives, load_stuck, loads_exactly, none_found, unchanged_runs}
+use Rattle.bb_copies.specs.Refreshing.{AllHeld, AllWritten, IsFirstMarked, IsStuckAt, KeepsMarked, NeverEmpty, Refreshes}
+use Rattle.bb_copies.proofs.Erased.{read_erases}
+use Rattle.bb_copies.proofs.Loads.{first_again, first_area, fresh_runs, load_gives, load_stuck, loads_erasing, loads_exactly, none_found, unchanged_runs}
 use Rattle.bb_copies.proofs.load.load_copies.Goals as goal
 
 pub returns-in_default-clause-runs : goal.returns-in_default-clause-runs
@@ -142,8 +143,9 @@ returns-in-Ok-freshen-clause-gives g c =
     let again : length c.look_over.new.buckets.items ≡ bound = sym (length-map c.look_over.new.buckets.items _) ∙ ap length k.kinds ∙ sym many in
     let now : List Bool = c.freshen.new.good.items in
     let all : AllHeld form kinds area now mid to = subst (λ (ks : List Kind). AllHeld form ks area now mid to) k.kinds c.in-Ok-freshen.ensures.held in
-    load_gives form kinds area now from mid to c.tally.result (f.marks ∙ k.marks ∙ c.requires.marks ∙ many) k.later entry all
-    (subst (λ (xs : List Bool). IsTally xs c.tally.result) c.deref.ensures.value c.tally.ensures)
+    load_gives form kinds area now c.tell-taken.result.used c.tell-taken.result.live from mid to (f.marks ∙ k.marks ∙ c.requires.marks ∙ many) k.later entry all
+    (subst (λ (xs : List Bool). IsFirstMarked xs (length xs) c.tell-taken.result.used) c.deref.ensures.value c.tell-taken.ensures.used)
+    (c.tell-taken.ensures.live ∙ ap (count_by (λ marked. marked)) c.deref.ensures.value)
 
 pub returns-in-Ok-freshen-clause-exact : goal.returns-in-Ok-freshen-clause-exact
 returns-in-Ok-freshen-clause-exact g c =
@@ -165,9 +167,38 @@ returns-in-Ok-freshen-clause-exact g c =
     let f = c.freshen.ensures in
     let entry = first_area form kinds area good bound used from many inside first in
     let run : Refreshes form kinds area mid to = subst (λ (ks : List Kind). Refreshes form ks area mid to) k.kinds f.refreshes in
-    loads_exactly form kinds area c.pack.new.room.record.items good bound used from mid to c.tally.result many c.pack.ensures.packed k.later k.keeps first
+    loads_exactly form kinds area c.pack.new.room.record.items good bound used from mid to (Copy c.tell-taken.result.used c.tell-taken.result.live) many c.pack.ensures.packed k.later k.keeps first
     (λ quiet. subst (λ (ks : List Kind). KeepsMarked ks good mid to) k.kinds (f.kept quiet))
     (λ quiet. subst (λ (ks : List Kind). AllWritten ks c.pack.new.room.record.items good mid to) k.kinds (f.exact quiet))
+
+pub returns-in-Ok-freshen-clause-erases : goal.returns-in-Ok-freshen-clause-erases
+returns-in-Ok-freshen-clause-erases g c =
+    let form : Form = g.M.Format.form c.args.format.now in
+    let kinds : List Kind = kinds_of g.B.Bucket.holding c.args.buckets.now.items in
+    let here : List Kind = kinds_of g.B.Bucket.holding c.look_over.new.buckets.items in
+    let from : Device = g.F.Flash.device c.args.flash.now in
+    let mid : Device = g.F.Flash.device c.look_over.new.flash in
+    let area : List ℕ = c.look_over.new.area in
+    let good : List Bool = c.look_over.new.good.items in
+    let bound : ℕ = length c.args.buckets.now.items in
+    let many : bound ≡ length kinds = sym (length-map c.args.buckets.now.items _) in
+    let k = c.look_over.ensures in
+    let used : ℕ = c.in-Some.used in
+    let first : ForSome (content from) (λ image. IsFirst form from.geometry.page kinds bound area good image used) =
+    λ image e. subst (λ (o : Option ℕ). FindsBelow form from.geometry.page kinds bound area good image o) c.in-Some.is (c.in-Ok.ensures.done image e) in
+    let inside : used < bound = subst (λ (o : Option ℕ). IfSome o (λ copy. copy < bound)) c.in-Some.is c.in-Ok.ensures.inside in
+    let to : Device = g.F.Flash.device c.freshen.new.flash in
+    let f = c.freshen.ensures in
+    let entry = first_area form kinds area good bound used from many inside first in
+    let run : Refreshes form kinds area mid to = subst (λ (ks : List Kind). Refreshes form ks area mid to) k.kinds f.refreshes in
+    loads_erasing form kinds area c.pack.new.room.record.items good bound used from mid to many c.pack.ensures.packed k.told k.later k.keeps first
+    (λ quiet. subst (λ (ks : List Kind). AllWritten ks c.pack.new.room.record.items good mid to) k.kinds (f.exact quiet))
+
+pub returns-in_default-found-clause-erases : goal.returns-in_default-found-clause-erases
+returns-in_default-found-clause-erases g c = read_erases (g.F.Flash.device c.args.flash.now) (g.F.Flash.device c.look_over.new.flash) c.look_over.ensures.told
+
+pub returns-in-Ok-freshen-clause-placed : goal.returns-in-Ok-freshen-clause-placed
+returns-in-Ok-freshen-clause-placed g c = c.in-Ok-freshen.ensures.placed c.in-Ok.ensures.placed
 
 pub returns-in-Err-clause-fails : goal.returns-in-Err-clause-fails
 returns-in-Err-clause-fails g c =

@@ -1,4 +1,5 @@
-use Rattle.std.proofs.Common.{◌≡◌, ◌∙◌, ℕ, ◌<◌, Bool, List, length, set, length-set, ap, subst, arith}
+use Rattle.std.proofs.Common.{◌≡◌, ◌∙◌, ℕ, ◌<◌, Bool, List, length, set, length-set, ap, sym, subst, arith}
+use Rattle.std.proofs.lemmas.List.{length-map}
 use Rattle.bb_base.specs.Form.{Form}
 use Rattle.bb_flash.proofs.Moments.{later_joined}
 use Rattle.bb_flash.specs.Device.{Device}
@@ -7,6 +8,7 @@ use Rattle.bb_copies.specs.Buckets.{kinds_of}
 use Rattle.bb_copies.specs.Looking.{FindsBelow, area_by, good_by}
 use Rattle.bb_copies.proofs.Ends.{whole_slice}
 use Rattle.bb_copies.proofs.Finding.{finds_step, fits_step, inside_step, keeps_joined, reading_from}
+use Rattle.bb_copies.proofs.Placed.{placed_all}
 use Rattle.bb_copies.proofs.look.look_over.Goals as goal
 
 pub loop-copy-preserved : goal.loop-copy-preserved
@@ -39,6 +41,7 @@ loop-copy-preserved g c =
       whole = r.whole;
       kinds = r.kinds ∙ i.kinds;
       agrees = r.agrees;
+      placed = λ place low. r.placed place (λ other. i.placed place (omega arith));
       marks = size ∙ i.marks;
       found = ap length (whole_slice c.read_at.new.found c.loop-copy.room.found.items _ (c.read_at.auto.found ∙ c.deref_mut.ensures.len)) ∙ c.read_at.auto.found ∙ ap length c.deref_mut.ensures.value ∙ i.found;
       scratch = ap length (whole_slice out c.loop-copy.room.area.items _ (c.read_at.auto.area ∙ c.deref_mut-in-loop-copy.ensures.len)) ∙ c.read_at.auto.area ∙ ap length c.deref_mut-in-loop-copy.ensures.value ∙ i.scratch;
@@ -54,3 +57,10 @@ returns-clause-done g c =
     let kinds : List Kind = kinds_of g.B.Bucket.holding c.args.buckets.now.items in
     let all : c.loop-copy.copy ≡ length c.args.buckets.now.items = omega (arith, c.len-copy-end.ensures, c.args.buckets.now.ok) in
     λ image e. subst (λ (n : ℕ). FindsBelow form from.geometry.page kinds n c.loop-copy.area c.loop-copy.good.items image c.loop-copy.used) all (i.finds image e)
+
+pub returns-clause-placed : goal.returns-clause-placed
+returns-clause-placed g c =
+    let i = c.loop-copy.invariant in
+    let now = c.loop-copy.buckets.items in
+    let size : length now ≡ length c.args.buckets.now.items = sym (length-map now _) ∙ ap length i.kinds ∙ length-map c.args.buckets.now.items _ in
+    placed_all g.B.Bucket.holding now c.loop-copy.copy (omega (arith, size, c.len-copy-end.ensures, c.args.buckets.now.ok)) i.placed

@@ -1,10 +1,11 @@
-use Rattle.std.proofs.Common.{◌≡◌, ◌<◌, length, IfSome, IsTrue}
+use Rattle.std.proofs.Common.{◌≡◌, ℕ, ◌<◌, length, IfSome, IsTrue}
 use Rattle.std.specs.Option.{ForSome}
 use Rattle.bb_flash.specs.Cuts.{IsLater}
 use Rattle.bb_flash.specs.Device.{IsDevice, ReadKeeps, content}
 use Rattle.bb_bucket.specs.Calls.{told_but_reads}
 use Rattle.bb_copies.specs.Buckets.{AllAgree, kinds_of}
 use Rattle.bb_copies.specs.Looking.{FindsBelow}
+use Rattle.bb_copies.specs.Placing.{IsPlacedAt}
 use Rattle.bb_copies.proofs.look.look_over.Given as goal
 
 abbrev pub invariant-loop-copy : goal.invariant-loop-copy
@@ -23,6 +24,7 @@ invariant-loop-copy g l =
       whole : IsDevice now;
       kinds : kinds_of g.B.Bucket.holding l.buckets.items ≡ kinds_of g.B.Bucket.holding l.fn.buckets.items;
       agrees : AllAgree g.B.Bucket.holding now l.buckets.items;
+      placed : (copy : ℕ) → copy < l.copy → IsPlacedAt g.B.Bucket.holding l.buckets.items copy;
       marks : length l.good.items ≡ length l.fn.good.items;
       found : length l.room.found.items ≡ length l.fn.room.found.items;
       scratch : length l.room.area.items ≡ length l.fn.room.area.items;

@@ -1,4 +1,4 @@
-use Rattle.std.proofs.Common.{ℕ, List, Option, length, refl}
+use Rattle.std.proofs.Common.{ℕ, List, Option, IsTrue, length, set, refl}
 use Rattle.std.specs.Option.{ForSome}
 use Rattle.std.proofs.lemmas.Option.{slice_get_read}
 use Rattle.bb_base.specs.Form.{Form}
@@ -8,8 +8,10 @@ use Rattle.bb_copies.specs.declared.read.Passed.{Passed}
 use Rattle.bb_copies.specs.Buckets.{kinds_of}
 use Rattle.bb_copies.specs.Looking.{IsReadAt}
 use Rattle.bb_copies.specs.Passing.{IsReading}
+use Rattle.bb_copies.specs.Placing.{PlacesCopy}
 use Rattle.bb_copies.proofs.Finding.{ok_weaker, read_agrees}
 use Rattle.bb_copies.proofs.Many.{kind_at, set_kinds}
+use Rattle.bb_copies.proofs.Placed.{on_ok, set_places}
 use Rattle.bb_copies.proofs.Settled.{at_copy}
 use Rattle.bb_copies.proofs.look.read_at.Goals as goal
 
@@ -52,3 +54,9 @@ returns-clause-agrees g c =
     let from : Device = g.F.Flash.device c.args.flash.now in
     let to : Device = g.F.Flash.device c.read_copy.new.flash in
     read_agrees g.B.Bucket.holding c.args.buckets.now.items c.args.copy _ from to c.read_copy.ensures.keeps c.requires.agreed c.read_copy.ensures.agrees
+
+pub returns-clause-placed : goal.returns-clause-placed
+returns-clause-placed g c =
+    let new : g.row.B.Denot = c.read_copy.new.bucket in
+    on_ok c.read_copy.result (IsTrue (g.B.Bucket.holding new).placed) (PlacesCopy g.B.Bucket.holding c.args.copy c.args.buckets.now.items (set c.args.buckets.now.items c.args.copy new))
+    (set_places g.B.Bucket.holding c.args.buckets.now.items c.args.copy new) c.read_copy.ensures.placed

@@ -1,4 +1,4 @@
-use Rattle.std.proofs.Common.{◌≡◌, ◌∙◌, ℕ, ◌<◌, Bool, false, List, length, set, length-set, Err, IfErr, ap, sym, subst, refl, arith}
+use Rattle.std.proofs.Common.{◌≡◌, ◌∙◌, ℕ, ◌<◌, Bool, false, List, length, set, length-set, Err, IfErr, ap, sym, subst, refl, arith, inr}
 use Rattle.std.proofs.lemmas.List.{get_or_read, length-map}
 use Rattle.std.proofs.lemmas.Result.{err_from_is_err_and}
 use Rattle.bb_base.specs.Form.{Form}
@@ -7,13 +7,16 @@ use Rattle.bb_bucket.specs.Kind.{Kind}
 use Rattle.bb_copies.specs.Buckets.{kinds_of}
 use Rattle.bb_copies.specs.Refreshing.{IsSettledAt, IsStuckAt, IsWrittenAt, LeavesOthers, Refreshes}
 use Rattle.bb_copies.proofs.Below.{RefreshedBelow, all_settled, all_written, keeps_marked, none_refreshed, settled_more, skipped, stuck_earlier, stuck_keeps, stuck_rose}
-use Rattle.bb_copies.proofs.Runs.{refreshes_joined}
+use Rattle.bb_copies.proofs.Placed.{none_placed, settled_placed, skipped_placed, unmarked_placed}
+use Rattle.bb_copies.proofs.Runs.{refreshes_joined, undisturbed_first, undisturbed_second}
 use Rattle.bb_copies.proofs.refresh.refresh.Goals as goal
 
 pub loop-copy-init : goal.loop-copy-init
 loop-copy-init g c = record {
   below = none_refreshed (g.M.Format.form c.args.format.now) (kinds_of g.B.Bucket.holding c.args.buckets.now.items) c.args.area.now c.args.room.now.record.items c.args.good.now.items (g.F.Flash.device c.args.flash.now) c.requires.whole;
   kinds = refl;
+  placed = none_placed g.B.Bucket.holding c.args.good.now.items c.args.buckets.now.items;
+  reads = λ all quiet. refl;
   agrees = c.requires.agreed;
   marks = refl;
   found = refl;
@@ -26,9 +29,12 @@ loop-copy-preserved-then-index g c =
     let i = c.loop-copy.invariant in
     let inside : c.loop-copy.copy < length c.loop-copy.good.items = omega (arith, i.marks, c.requires.marks, c.len-copy-end.ensures, c.args.buckets.now.ok) in
     let mark = sym (get_or_read c.loop-copy.good.items c.loop-copy.copy _ inside c.index.ensures false) ∙ c.if-index.true in
+    let first = sym (i.below.same c.loop-copy.copy (inr (omega arith))) ∙ mark in
     record {
       below = skipped (g.M.Format.form c.args.format.now) (kinds_of g.B.Bucket.holding c.args.buckets.now.items) c.args.area.now c.args.room.now.record.items c.args.good.now.items c.loop-copy.good.items c.loop-copy.copy (g.F.Flash.device c.args.flash.now) (g.F.Flash.device c.loop-copy.flash) inside mark i.below;
       kinds = i.kinds;
+      placed = skipped_placed g.B.Bucket.holding c.args.good.now.items c.loop-copy.copy c.args.buckets.now.items c.loop-copy.buckets.items first i.placed;
+      reads = i.reads;
       agrees = i.agrees;
       marks = i.marks;
       found = i.found;
@@ -79,6 +85,17 @@ returns-in_err-good-clause-exact g c = λ quiet.
     let stuck : IsStuckAt form kinds c.args.area.now c.in_err-good.field-0.0 mid to = subst (λ (ks : List Kind). IsStuckAt form ks c.args.area.now c.in_err-good.field-0.0 mid to) i.kinds c.in_err-good.ensures.stuck in
     absurd (quiet (stuck_rose form kinds c.args.area.now c.in_err-good.field-0.0 from to (stuck_earlier form kinds c.args.area.now c.in_err-good.field-0.0 from mid to i.below.refreshes.later c.settle_copy.ensures.refreshes.later stuck)))
 
+pub returns-in_err-good-clause-reads : goal.returns-in_err-good-clause-reads
+returns-in_err-good-clause-reads g c = λ all quiet.
+    let i = c.loop-copy.invariant in
+    let form : Form = g.M.Format.form c.args.format.now in
+    let kinds : List Kind = kinds_of g.B.Bucket.holding c.args.buckets.now.items in
+    let mid : Device = g.F.Flash.device c.loop-copy.flash in
+    let to : Device = g.F.Flash.device c.settle_copy.new.flash in
+    let from : Device = g.F.Flash.device c.args.flash.now in
+    let stuck : IsStuckAt form kinds c.args.area.now c.in_err-good.field-0.0 mid to = subst (λ (ks : List Kind). IsStuckAt form ks c.args.area.now c.in_err-good.field-0.0 mid to) i.kinds c.in_err-good.ensures.stuck in
+    absurd (quiet (stuck_rose form kinds c.args.area.now c.in_err-good.field-0.0 from to (stuck_earlier form kinds c.args.area.now c.in_err-good.field-0.0 from mid to i.below.refreshes.later c.settle_copy.ensures.refreshes.later stuck)))
+
 pub loop-copy-preserved : goal.loop-copy-preserved
 loop-copy-preserved g c =
     let i = c.loop-copy.invariant in
@@ -95,14 +112,17 @@ loop-copy-preserved g c =
     let inside : copy < length good = omega (arith, i.marks, c.requires.marks, c.len-copy-end.ensures, c.args.buckets.now.ok) in
     let unmarked = sym (get_or_read good copy _ inside c.index.ensures false) ∙ c.if-index.false in
     let size : length (set good copy c.in_ok-good.field-0) ≡ length good = length-set good copy c.in_ok-good.field-0 in
+    let many : length kinds ≡ length c.args.buckets.now.items = length-map c.args.buckets.now.items _ in
     record {
       below =
-          settled_more form kinds area rec c.args.good.now.items good copy c.in_ok-good.field-0 from mid to inside (omega (arith, size)) unmarked i.below
+          settled_more form kinds area rec c.args.good.now.items good copy c.in_ok-good.field-0 from mid to inside (omega (arith, size)) (omega (arith, inside, i.marks)) (omega (arith, inside, i.marks, c.requires.marks, many)) unmarked i.below
           (subst (λ (ks : List Kind). Refreshes form ks area mid to) i.kinds s.refreshes)
           (subst (λ (ks : List Kind). LeavesOthers ks copy mid to) i.kinds s.others)
           (subst (λ (ks : List Kind). IsSettledAt form ks area copy mid to c.in_ok-good.field-0) i.kinds c.in_ok-good.ensures.settled)
           (λ quiet. subst (λ (ks : List Kind). IsWrittenAt ks copy rec mid to) i.kinds (subst (λ (r : List ℕ). IsWrittenAt (kinds_of g.B.Bucket.holding c.loop-copy.buckets.items) copy r mid to) i.packed (s.exact quiet)));
       kinds = s.kinds ∙ i.kinds;
+      placed = settled_placed g.B.Bucket.holding c.args.good.now.items copy c.args.buckets.now.items c.loop-copy.buckets.items c.settle_copy.new.buckets.items i.placed c.in_ok-good.ensures.placed;
+      reads = λ all quiet. s.reads (i.placed copy (λ left. all copy)) (undisturbed_second from mid to i.below.refreshes.later quiet) ∙ i.reads all (undisturbed_first from mid to s.refreshes.later quiet);
       agrees = s.agrees;
       marks = size ∙ i.marks;
       found = s.found ∙ i.found;
@@ -138,3 +158,8 @@ returns-clause-exact g c =
     let many : length c.loop-copy.good.items ≡ length kinds = i.marks ∙ c.requires.marks ∙ sym (length-map c.args.buckets.now.items _) in
     all_written form kinds c.args.area.now c.args.room.now.record.items c.args.good.now.items c.loop-copy.good.items from to many
     (subst (λ (n : ℕ). RefreshedBelow form kinds c.args.area.now c.args.room.now.record.items c.args.good.now.items c.loop-copy.good.items n from to) all i.below)
+
+pub returns-clause-placed : goal.returns-clause-placed
+returns-clause-placed g c =
+    let i = c.loop-copy.invariant in
+    unmarked_placed g.B.Bucket.holding c.args.good.now.items c.loop-copy.copy c.args.buckets.now.items c.loop-copy.buckets.items (omega (arith, c.len-copy-end.ensures, c.args.buckets.now.ok)) i.placed

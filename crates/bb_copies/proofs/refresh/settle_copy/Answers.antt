@@ -1,12 +1,14 @@
-use Rattle.std.proofs.Common.{List, length, IfErr, IfOk, sym, subst, refl}
+use Rattle.std.proofs.Common.{List, length, set, IfErr, IfOk, OnOk, sym, subst, refl}
 use Rattle.std.proofs.lemmas.Option.{slice_get_read}
 use Rattle.bb_base.specs.Form.{Form}
 use Rattle.bb_flash.specs.Device.{Device}
 use Rattle.bb_bucket.specs.Kind.{Kind}
 use Rattle.bb_copies.specs.Buckets.{kinds_of}
+use Rattle.bb_copies.specs.Placing.{PlacesCopy}
 use Rattle.bb_copies.specs.Refreshing.{IsSettledAt, IsStuckAt}
 use Rattle.bb_copies.specs.Settling.{IsWritten}
 use Rattle.bb_copies.proofs.Many.{all_kinds, kind_at, set_agrees, set_kinds, settled_others, settled_refreshes}
+use Rattle.bb_copies.proofs.Placed.{answer_ok, set_places}
 use Rattle.bb_copies.proofs.Settled.{at_copy, settled_at, stuck_at}
 use Rattle.bb_copies.proofs.refresh.settle_copy.Goals as goal
 
@@ -87,3 +89,15 @@ returns-clause-agrees g c =
     let settles = c.settle-settled.ensures.settles in
     let others = settled_others kinds c.args.copy (g.B.Bucket.holding c.index_mut.result.now).kind from to (all_kinds g.B.Bucket.holding c.args.buckets.now.items g.met.B.Bucket.laws) c.requires.room.apart c.requires.serves c.requires.whole here settles.torn in
     set_agrees g.B.Bucket.holding c.args.buckets.now.items c.args.copy _ from to settles.later others c.requires.agreed c.settle-settled.ensures.agrees
+
+pub returns-clause-placed : goal.returns-clause-placed
+returns-clause-placed g c =
+    let new : g.row.B.Denot = c.settle-settled.new.bucket in
+    let places : Type 0 = PlacesCopy g.B.Bucket.holding c.args.copy c.args.buckets.now.items (set c.args.buckets.now.items c.args.copy new) in
+    subst (λ r. OnOk r places) (sym c.answer.ensures)
+    (answer_ok c.args.copy c.settle-settled.result places (λ other. set_places g.B.Bucket.holding c.args.buckets.now.items c.args.copy new (c.settle-settled.ensures.placed other)))
+
+pub returns-clause-reads : goal.returns-clause-reads
+returns-clause-reads g c = λ placed.
+    let there = slice_get_read c.args.buckets.now.items (length c.args.buckets.now.items) c.args.copy _ refl c.requires.inside c.index_mut.ensures.value in
+    c.settle-settled.ensures.reads (placed _ there)

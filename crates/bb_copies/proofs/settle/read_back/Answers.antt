@@ -1,4 +1,4 @@
-use Rattle.std.proofs.Common.{◌∙◌, ℕ, List, ap, sym, subst, option_map}
+use Rattle.std.proofs.Common.{◌∙◌, ℕ, List, ap, sym, subst, refl, option_map}
 use Rattle.bb_copies.specs.Settling.{IsCompared}
 use Rattle.bb_copies.proofs.Ends.{read_as, whole_slice}
 use Rattle.bb_copies.proofs.OneCopy.{read_copy_settles}
@@ -8,8 +8,8 @@ pub returns-in-Ok-Some-clause-ends : goal.returns-in-Ok-Some-clause-ends
 returns-in-Ok-Some-clause-ends g c =
     let out : List ℕ = c.read_copy.new.area in
     let here = c.deref.ensures.value ∙ whole_slice out c.args.room.now.area.items _ (c.read_copy.auto.area ∙ c.deref_mut-2.ensures.len) in
-    read_as (g.M.Format.form c.args.format.now) (g.B.Bucket.holding c.args.bucket.now).kind c.args.area.now out (g.F.Flash.device c.args.flash.now) (g.F.Flash.device c.read_copy.new.flash) c.compared.result
-    (subst (λ (xs : List ℕ). IsCompared xs c.args.area.now c.compared.result) here c.compared.ensures)
+    read_as (g.M.Format.form c.args.format.now) (g.B.Bucket.holding c.args.bucket.now).kind c.args.area.now out (g.F.Flash.device c.args.flash.now) (g.F.Flash.device c.read_copy.new.flash) c.compare_areas.result
+    (subst (λ (xs : List ℕ). IsCompared xs c.args.area.now c.compare_areas.result) here c.compare_areas.ensures)
     c.in-Ok-Some.ensures.keeps.content
     (λ image e. ap (option_map (λ _. out)) (sym c.in-Ok-Some.field-0-is) ∙ (c.in-Ok-Some.ensures.done image e).area)
 
@@ -22,3 +22,6 @@ pub returns-in-Err-clause-settles : goal.returns-in-Err-clause-settles
 returns-in-Err-clause-settles g c =
     let known = c.in-Err.ensures in
     read_copy_settles (g.M.Format.form c.args.format.now) (g.B.Bucket.holding c.args.bucket.now).kind c.args.area.now (g.F.Flash.device c.args.flash.now) (g.F.Flash.device c.read_copy.new.flash) known.told known.keeps known.later known.whole
+
+pub returns-in-Err-clause-placed : goal.returns-in-Err-clause-placed
+returns-in-Err-clause-placed g c = λ other. absurd (other refl)

@@ -74,3 +74,25 @@ returns-clause-settles g c =
     (written_copy_as form kind c.args.area.now _ from mid (c.deref.ensures.value ∙ c.requires.packed) (g.met.M.Format.laws c.args.format.now) c.requires.fits w.calls w.ends w.images w.later w.starts w.whole)
     (voided_copy form (g.B.Bucket.holding c.write.new.self).kind c.args.area.now mid void v.calls v.ends v.images v.later v.starts v.whole))
     c.read_back.ensures.settles
+
+pub returns-then-is_ok-clause-placed : goal.returns-then-is_ok-clause-placed
+returns-then-is_ok-clause-placed g c = λ other. ok_gives c.write.result _ c.write.ensures.placed (sym c.is_ok.ensures.value ∙ c.if-is_ok.true)
+
+pub returns-then-is_ok-2-clause-placed : goal.returns-then-is_ok-2-clause-placed
+returns-then-is_ok-2-clause-placed g c = λ other. ok_gives c.void.result _ c.void.ensures.placed (sym c.is_ok-2.ensures.value ∙ c.if-is_ok-2.true)
+
+pub returns-then-is_ok-clause-reads : goal.returns-then-is_ok-clause-reads
+returns-then-is_ok-clause-reads g c = λ placed quiet. c.write.ensures.reads placed
+
+pub returns-then-is_ok-2-clause-reads : goal.returns-then-is_ok-2-clause-reads
+returns-then-is_ok-2-clause-reads g c = λ placed quiet.
+    let rose = c.write.ensures.faults.rose (not_ok c.write.result (sym c.is_ok.ensures.value ∙ c.if-is_ok.false)) in
+    let later = c.void.ensures.faults.later in
+    absurd (quiet (omega (arith, rose, later)))
+
+pub returns-clause-reads : goal.returns-clause-reads
+returns-clause-reads g c = λ placed quiet.
+    let rose = c.write.ensures.faults.rose (not_ok c.write.result (sym c.is_ok.ensures.value ∙ c.if-is_ok.false)) in
+    let void = c.void.ensures.faults.later in
+    let last = c.read_back.ensures.settles.later.faults in
+    absurd (quiet (omega (arith, rose, void, last)))

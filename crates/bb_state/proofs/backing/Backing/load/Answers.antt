@@ -2,7 +2,7 @@ use Rattle.std.proofs.Common.{◌≡◌, ◌∙◌, ap, ◌++◌, ℕ, List, dro
 use Rattle.bb_copies.specs.Buckets.{kinds_of}
 use Rattle.bb_state.specs.Backed.{Backed}
 use Rattle.bb_state.specs.Kinds.{any_form, any_holding, laid_form, laid_kinds}
-use Rattle.bb_state.proofs.Handed.{exact_of, outside_of, raised, refused_of, whole_written}
+use Rattle.bb_state.proofs.Handed.{erasing_of, exact_of, outside_of, raised, refused_of, whole_written}
 use Rattle.bb_state.proofs.backing.Backing.load.Goals as goal
 
 pub returns-in_err-loaded-clause-fails : goal.returns-in_err-loaded-clause-fails
@@ -34,3 +34,11 @@ returns-else-eq-clause-exact g c =
     let kept = take c.self.inside.kept.len (c.load.new.area ++ drop (length c.load.new.area) c.self.inside.kept.items) in
     let same : kept ≡ c.load.new.area = whole_written c.self.inside.kept.len c.load.new.area c.self.inside.kept.items (grind arith) (grind arith) in
     exact_of _ _ c.args.self.now.layout c.load.new.area kept (g.F.Flash.device c.args.flash.now) (g.F.Flash.device c.load.new.flash) c.in_ok-loaded.loaded form kinds same c.in_ok-loaded.ensures.exact
+
+pub returns-else-eq-clause-erases : goal.returns-else-eq-clause-erases
+returns-else-eq-clause-erases g c =
+    let kinds : kinds_of any_holding c.self.inside.copies.buckets ≡ laid_kinds c.args.self.now.layout = c.self.invariant.kinds ∙ ap (λ (b : Backed). laid_kinds b.layout) c.self.view_is in
+    let form : any_form c.self.inside.copies.format ≡ laid_form c.args.self.now.layout = ap any_form c.self.invariant.format_is ∙ ap (λ (b : Backed). laid_form b.layout) c.self.view_is in
+    let kept = take c.self.inside.kept.len (c.load.new.area ++ drop (length c.load.new.area) c.self.inside.kept.items) in
+    let same : kept ≡ c.load.new.area = whole_written c.self.inside.kept.len c.load.new.area c.self.inside.kept.items (grind arith) (grind arith) in
+    erasing_of _ _ c.args.self.now.layout c.load.new.area kept (g.F.Flash.device c.args.flash.now) (g.F.Flash.device c.load.new.flash) c.in_ok-loaded.loaded form kinds same c.in_ok-loaded.ensures.erases

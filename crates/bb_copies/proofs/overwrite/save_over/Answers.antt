@@ -4,14 +4,14 @@ use Rattle.std.proofs.lemmas.Result.{err_from_is_err_and}
 use Rattle.bb_base.specs.Form.{Form}
 use Rattle.bb_flash.specs.Device.{Device}
 use Rattle.bb_bucket.specs.Kind.{Kind}
-use Rattle.bb_copies.specs.Buckets.{kinds_of}
+use Rattle.bb_copies.specs.Buckets.{AllFit, kinds_of}
 use Rattle.bb_copies.specs.Refreshing.{IsFirstMarked, IsSettledAt, IsStuckAt, IsWrittenAt, LeavesOthers, NoOther, Refreshes}
 use Rattle.bb_copies.specs.Saving.{IsWriteFault}
 use Rattle.bb_copies.proofs.Below.{stuck_earlier}
 use Rattle.bb_copies.proofs.Held.{none_of_match, some_of_match}
 use Rattle.bb_copies.proofs.Runs.{refreshes_joined, undisturbed_first, undisturbed_second}
-use Rattle.bb_copies.proofs.Saves.{alone, over_held, over_other, over_spares, over_written, spares_joined}
-use Rattle.bb_copies.proofs.save.save_over.Goals as goal
+use Rattle.bb_copies.proofs.Saves.{alone, over_erases, over_held, over_other, over_spares, over_written, spares_joined}
+use Rattle.bb_copies.proofs.overwrite.save_over.Goals as goal
 
 pub returns-in_err-refresh-clause-spares : goal.returns-in_err-refresh-clause-spares
 returns-in_err-refresh-clause-spares g c =
@@ -142,6 +142,32 @@ returns-in_err-good-clause-fails g c =
     let whole = stuck_earlier form kinds area c.in_err-good.field-0.0 from mid to r.refreshes.later s.refreshes.later stuck in
     let p = err_from_is_err_and c.from_residual-in_err-good.result c.from_residual-in_err-good.ensures.1 in
     subst (λ r. IfErr r (IsWriteFault form kinds (Some used) area from to)) (sym (p.1 ∙ ap (λ e. Err e) p.2)) (inl whole)
+
+pub returns-in_err-good-clause-inside : goal.returns-in_err-good-clause-inside
+returns-in_err-good-clause-inside g c =
+    let form : Form = g.M.Format.form c.args.format.now in
+    let kinds : List Kind = kinds_of g.B.Bucket.holding c.args.buckets.now.items in
+    let area : List ℕ = c.args.area.now in
+    let rec : List ℕ = c.args.room.now.record.items in
+    let marked : List Bool = c.args.good.now.items in
+    let from : Device = g.F.Flash.device c.args.flash.now in
+    let mid : Device = g.F.Flash.device c.refresh.new.flash in
+    let r = c.refresh.ensures in
+    let many : length c.args.buckets.now.items ≡ length kinds = sym (length-map c.args.buckets.now.items _) in
+    let used : ℕ = c.args.used in
+    let within : used < length marked = omega (arith, c.requires.inside, c.requires.marks) in
+    let inside : used < length kinds = omega (arith, c.requires.inside, many) in
+    let good : List Bool = c.refresh.new.good.items in
+    let size = length-set marked used true in
+    let all : length good ≡ length kinds = omega (arith, r.marks, size, c.requires.marks, many) in
+    let found = subst (λ (xs : List Bool). MatchOption c.first_good.result (NoOther xs used) (IsFirstMarked xs used)) c.deref.ensures.value c.first_good.ensures in
+    let to : Device = g.F.Flash.device c.settle_copy.new.flash in
+    let s = c.settle_copy.ensures in
+    let others : LeavesOthers kinds used mid to = subst (λ (ks : List Kind). LeavesOthers ks used mid to) r.kinds s.others in
+    let other = some_of_match c.first_good.result (NoOther good used) (IsFirstMarked good used) found (c.is_none.ensures ∙ ap not c.if-is_none.false) in
+    let stuck : IsStuckAt form kinds area c.in_err-good.field-0.0 mid to = subst (λ (ks : List Kind). IsStuckAt form ks area c.in_err-good.field-0.0 mid to) r.kinds c.in_err-good.ensures.stuck in
+    let p = err_from_is_err_and c.from_residual-in_err-good.result c.from_residual-in_err-good.ensures.1 in
+    subst (λ r. IfErr r (λ copy. copy < length c.args.buckets.now.items)) (sym (p.1 ∙ ap (λ e. Err e) p.2)) (omega (arith, stuck.inside, many))
 
 pub returns-clause-refreshes : goal.returns-clause-refreshes
 returns-clause-refreshes g c =
@@ -275,3 +301,62 @@ returns-clause-exact g c =
     over_written kinds rec marked used from mid to c.requires.unmarked within r.refreshes.later s.refreshes.later r.kept (r.exact (undisturbed_first from mid to s.refreshes.later quiet)) others
     (subst (λ (ks : List Kind). IsWrittenAt ks used rec mid to) r.kinds
     (subst (λ (xs : List ℕ). IsWrittenAt (kinds_of g.B.Bucket.holding c.refresh.new.buckets.items) used xs mid to) r.«record» (s.exact (undisturbed_second from mid to r.refreshes.later quiet))))
+
+pub returns-clause-erases : goal.returns-clause-erases
+returns-clause-erases g c =
+    let form : Form = g.M.Format.form c.args.format.now in
+    let kinds : List Kind = kinds_of g.B.Bucket.holding c.args.buckets.now.items in
+    let area : List ℕ = c.args.area.now in
+    let rec : List ℕ = c.args.room.now.record.items in
+    let marked : List Bool = c.args.good.now.items in
+    let from : Device = g.F.Flash.device c.args.flash.now in
+    let mid : Device = g.F.Flash.device c.refresh.new.flash in
+    let r = c.refresh.ensures in
+    let many : length c.args.buckets.now.items ≡ length kinds = sym (length-map c.args.buckets.now.items _) in
+    let used : ℕ = c.args.used in
+    let within : used < length marked = omega (arith, c.requires.inside, c.requires.marks) in
+    let inside : used < length kinds = omega (arith, c.requires.inside, many) in
+    let good : List Bool = c.refresh.new.good.items in
+    let size = length-set marked used true in
+    let all : length good ≡ length kinds = omega (arith, r.marks, size, c.requires.marks, many) in
+    let found = subst (λ (xs : List Bool). MatchOption c.first_good.result (NoOther xs used) (IsFirstMarked xs used)) c.deref.ensures.value c.first_good.ensures in
+    let to : Device = g.F.Flash.device c.settle_copy.new.flash in
+    let s = c.settle_copy.ensures in
+    let others : LeavesOthers kinds used mid to = subst (λ (ks : List Kind). LeavesOthers ks used mid to) r.kinds s.others in
+    let other = some_of_match c.first_good.result (NoOther good used) (IsFirstMarked good used) found (c.is_none.ensures ∙ ap not c.if-is_none.false) in
+    λ quiet.
+    over_erases kinds rec marked used from mid to c.requires.unmarked within inside r.refreshes.later s.refreshes.later r.kept (r.exact (undisturbed_first from mid to s.refreshes.later quiet))
+    (subst (λ (ks : List Kind). IsWrittenAt ks used rec mid to) r.kinds
+    (subst (λ (xs : List ℕ). IsWrittenAt (kinds_of g.B.Bucket.holding c.refresh.new.buckets.items) used xs mid to) r.«record» (s.exact (undisturbed_second from mid to r.refreshes.later quiet))))
+
+pub returns-in_err-good-clause-reads : goal.returns-in_err-good-clause-reads
+returns-in_err-good-clause-reads g c =
+    let from : Device = g.F.Flash.device c.args.flash.now in
+    let mid : Device = g.F.Flash.device c.refresh.new.flash in
+    let to : Device = g.F.Flash.device c.settle_copy.new.flash in
+    let r = c.refresh.ensures in
+    let s = c.settle_copy.ensures in
+    λ all quiet.
+    s.reads (c.in_ok-refresh.ensures.placed c.args.used (λ mark. all c.args.used)) (undisturbed_second from mid to r.refreshes.later quiet) ∙ r.reads all (undisturbed_first from mid to s.refreshes.later quiet)
+
+pub returns-clause-reads : goal.returns-clause-reads
+returns-clause-reads g c =
+    let from : Device = g.F.Flash.device c.args.flash.now in
+    let mid : Device = g.F.Flash.device c.refresh.new.flash in
+    let to : Device = g.F.Flash.device c.settle_copy.new.flash in
+    let r = c.refresh.ensures in
+    let s = c.settle_copy.ensures in
+    λ all quiet.
+    s.reads (c.in_ok-refresh.ensures.placed c.args.used (λ mark. all c.args.used)) (undisturbed_second from mid to r.refreshes.later quiet) ∙ r.reads all (undisturbed_first from mid to s.refreshes.later quiet)
+
+pub returns-clause-placed : goal.returns-clause-placed
+returns-clause-placed g c = λ place.
+    c.in_ok-good.ensures.placed place
+    (λ other. c.in_ok-refresh.ensures.placed place
+    (λ mark. let clash = get_or-set_other c.args.good.now.items c.args.used place true false other ∙ c.requires.unmarked place in absurd cc))
+
+pub settle_copy-requires-clause-found : goal.settle_copy-requires-clause-found
+settle_copy-requires-clause-found g c =
+    let r = c.refresh.ensures in
+    subst (λ (ks : List Kind). AllFit ks (length c.refresh.new.room.found.items)) (sym r.kinds)
+    (subst (λ (n : ℕ). AllFit (kinds_of g.B.Bucket.holding c.args.buckets.now.items) n) (sym r.found) c.requires.found)

@@ -6,8 +6,8 @@ use Rattle.bb_bucket.specs.Kind.{Kind}
 use Rattle.bb_copies.specs.Buckets.{kinds_of}
 use Rattle.bb_copies.specs.Refreshing.{IsFirstMarked, NoOther}
 use Rattle.bb_copies.proofs.Held.{none_of_match}
-use Rattle.bb_copies.proofs.Saves.{hopeless}
-use Rattle.bb_copies.proofs.save.save_first.Goals as goal
+use Rattle.bb_copies.proofs.Saves.{first_erases, hopeless}
+use Rattle.bb_copies.proofs.overwrite.save_first.Goals as goal
 
 pub returns-then-is_none-clause-fails : goal.returns-then-is_none-clause-fails
 returns-then-is_none-clause-fails g c =
@@ -41,3 +41,19 @@ returns-clause-exact g c =
     let r = c.refresh.ensures in
     let many : length c.args.buckets.now.items ≡ length kinds = sym (length-map c.args.buckets.now.items _) in
     λ quiet copy kind e. (r.exact quiet).each copy kind e (c.requires.unmarked copy)
+
+pub returns-clause-erases : goal.returns-clause-erases
+returns-clause-erases g c =
+    let form : Form = g.M.Format.form c.args.format.now in
+    let kinds : List Kind = kinds_of g.B.Bucket.holding c.args.buckets.now.items in
+    let area : List ℕ = c.args.area.now in
+    let rec : List ℕ = c.args.room.now.record.items in
+    let marked : List Bool = c.args.good.now.items in
+    let from : Device = g.F.Flash.device c.args.flash.now in
+    let mid : Device = g.F.Flash.device c.refresh.new.flash in
+    let r = c.refresh.ensures in
+    let many : length c.args.buckets.now.items ≡ length kinds = sym (length-map c.args.buckets.now.items _) in
+    λ quiet. first_erases kinds rec marked from mid c.requires.unmarked (r.exact quiet)
+
+pub returns-clause-placed : goal.returns-clause-placed
+returns-clause-placed g c = λ copy. c.in_ok-refresh.ensures.placed copy (λ mark. let clash = c.requires.unmarked copy in absurd cc)

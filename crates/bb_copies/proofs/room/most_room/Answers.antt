@@ -5,7 +5,7 @@ use Rattle.bb_bucket.specs.Kind.{Kind}
 use Rattle.bb_copies.specs.Buckets.{kinds_of}
 use Rattle.bb_copies.proofs.Finding.{most_more}
 use Rattle.bb_copies.proofs.Many.{kind_at}
-use Rattle.bb_copies.proofs.copies.most_room.Goals as goal
+use Rattle.bb_copies.proofs.room.most_room.Goals as goal
 
 pub loop-copy-preserved : goal.loop-copy-preserved
 loop-copy-preserved g c =

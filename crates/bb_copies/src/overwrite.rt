@@ -1,0 +1,196 @@
+ghost use Rattle.std.specs.Prelude.{◌≡◌, ◌<◌, ◌≤◌, ℕ, IfErr, IfSome, IsTrue, None, OnOk, Some};
+ghost use Rattle.std.specs.Prelude.{false, length};
+ghost use Rattle.bb_flash.specs.Device.{IsDevice};
+ghost use Rattle.bb_copies.specs.Buckets.{AllAgree, AllFit, AllServe, HaveRoom, kinds_of};
+ghost use Rattle.bb_copies.specs.Erasing.{ErasesBy};
+ghost use Rattle.bb_copies.specs.Placing.{AllPlaced, ReadsNothing};
+ghost use Rattle.bb_copies.specs.Refreshing.{AllHeld, Refreshes, SomeMarked, is_marked};
+ghost use Rattle.bb_copies.specs.Saving.{EachWritten, IsWriteFault, SparesUsed};
+ghost use Rattle.bb_copies.specs.Settling.{IsUndisturbed};
+
+use crate::refresh::{refresh, settle_copy};
+use crate::room::Room;
+use crate::tally::first_good;
+use bb_base::Format;
+use bb_bucket::Bucket;
+use bb_flash::Flash;
+
+/// Writes an area, whose record `room` holds, to all copies where none is used. No copy is marked
+/// before, and those that took it are marked then. The answer is the last copy where none took it.
+pub(crate) fn save_first<B: Bucket, M: Format, F: Flash>(
+    buckets: &mut Vec<B>,
+    good: &mut Vec<bool>,
+    format: &M,
+    flash: &mut F,
+    area: &[u8],
+    room: &mut Room,
+) -> Result<(), usize>
+    requires room { HaveRoom (M.form format.now) (kinds_of B.holding buckets.old.items) }
+    requires serves { AllServe (kinds_of B.holding buckets.old.items)
+        (F.device flash.old).geometry }
+    requires found { AllFit (kinds_of B.holding buckets.old.items) (length room.old.found.items) }
+    requires agreed { AllAgree B.holding (F.device flash.old) buckets.old.items }
+    requires whole { IsDevice (F.device flash.old) }
+    requires marks { length good.old.items ≡ length buckets.old.items }
+    requires unmarked { (copy : ℕ) → is_marked good.old.items copy ≡ false }
+    requires fits { IsTrue ((M.form format.now).fits area.now) }
+    requires packed { room.old.record.items ≡ (M.form format.now).text area.now }
+    requires area { length room.old.area.items ≡ (M.form format.now).area_len }
+    requires many { 2 ≤ length buckets.old.items }
+    ensures refreshes { Refreshes (M.form format.now) (kinds_of B.holding buckets.old.items)
+        area.now
+        (F.device flash.old) (F.device flash.new) }
+    ensures spares { SparesUsed (M.form format.now) (kinds_of B.holding buckets.old.items) (None)
+        (F.device flash.old) (F.device flash.new) }
+    ensures held { OnOk result (AllHeld (M.form format.now) (kinds_of B.holding buckets.old.items)
+        area.now
+        good.new.items (F.device flash.old) (F.device flash.new)) }
+    ensures some { OnOk result (SomeMarked good.new.items) }
+    ensures fails { IfErr result (IsWriteFault (M.form format.now)
+        (kinds_of B.holding buckets.old.items) (None)
+        area.now (F.device flash.old) (F.device flash.new)) }
+    ensures inside { IfErr result (λ copy. copy < length buckets.old.items) }
+    ensures exact { IsUndisturbed (F.device flash.old) (F.device flash.new)
+        → OnOk result (EachWritten (kinds_of B.holding buckets.old.items) room.old.record.items
+        (F.device flash.old) (F.device flash.new)) }
+    ensures erases { IsUndisturbed (F.device flash.old) (F.device flash.new)
+        → OnOk result (ErasesBy (kinds_of B.holding buckets.old.items) room.old.record.items
+        (F.device flash.old) (F.device flash.new)) }
+    ensures kinds { kinds_of B.holding buckets.new.items ≡ kinds_of B.holding buckets.old.items }
+    ensures agrees { AllAgree B.holding (F.device flash.new) buckets.new.items }
+    ensures placed { OnOk result (AllPlaced B.holding buckets.new.items) }
+    ensures reads { AllPlaced B.holding buckets.old.items
+        → ReadsNothing (F.device flash.old) (F.device flash.new) }
+    ensures marks { length good.new.items ≡ length good.old.items }
+    ensures found { length room.new.found.items ≡ length room.old.found.items }
+    ensures scratch { length room.new.area.items ≡ length room.old.area.items }
+    ensures record { room.new.record.items ≡ room.old.record.items }
+{
+    refresh(buckets, good, format, flash, area, room)?;
+    if first_good(good, good.len()).is_none() {
+        return Err(good.len() - 1);
+    }
+    Ok(())
+}
+
+/// Writes an area, whose record `room` holds, to all copies but the used one, and then to that one.
+/// No copy is marked before, and those that took it are marked then. Where no other took it the
+/// used one isn't touched, and is the answer.
+pub(crate) fn save_over<B: Bucket, M: Format, F: Flash>(
+    buckets: &mut Vec<B>,
+    good: &mut Vec<bool>,
+    used: usize,
+    format: &M,
+    flash: &mut F,
+    area: &[u8],
+    room: &mut Room,
+) -> Result<(), usize>
+    requires room { HaveRoom (M.form format.now) (kinds_of B.holding buckets.old.items) }
+    requires serves { AllServe (kinds_of B.holding buckets.old.items)
+        (F.device flash.old).geometry }
+    requires found { AllFit (kinds_of B.holding buckets.old.items) (length room.old.found.items) }
+    requires agreed { AllAgree B.holding (F.device flash.old) buckets.old.items }
+    requires whole { IsDevice (F.device flash.old) }
+    requires marks { length good.old.items ≡ length buckets.old.items }
+    requires unmarked { (copy : ℕ) → is_marked good.old.items copy ≡ false }
+    requires fits { IsTrue ((M.form format.now).fits area.now) }
+    requires packed { room.old.record.items ≡ (M.form format.now).text area.now }
+    requires area { length room.old.area.items ≡ (M.form format.now).area_len }
+    requires many { 2 ≤ length buckets.old.items }
+    requires inside { used < length buckets.old.items }
+    ensures refreshes { Refreshes (M.form format.now) (kinds_of B.holding buckets.old.items)
+        area.now
+        (F.device flash.old) (F.device flash.new) }
+    ensures spares { SparesUsed (M.form format.now) (kinds_of B.holding buckets.old.items)
+        (Some used)
+        (F.device flash.old) (F.device flash.new) }
+    ensures held { OnOk result (AllHeld (M.form format.now) (kinds_of B.holding buckets.old.items)
+        area.now
+        good.new.items (F.device flash.old) (F.device flash.new)) }
+    ensures some { OnOk result (SomeMarked good.new.items) }
+    ensures fails { IfErr result (IsWriteFault (M.form format.now)
+        (kinds_of B.holding buckets.old.items) (Some used)
+        area.now (F.device flash.old) (F.device flash.new)) }
+    ensures inside { IfErr result (λ copy. copy < length buckets.old.items) }
+    ensures exact { IsUndisturbed (F.device flash.old) (F.device flash.new)
+        → OnOk result (EachWritten (kinds_of B.holding buckets.old.items) room.old.record.items
+        (F.device flash.old) (F.device flash.new)) }
+    ensures erases { IsUndisturbed (F.device flash.old) (F.device flash.new)
+        → OnOk result (ErasesBy (kinds_of B.holding buckets.old.items) room.old.record.items
+        (F.device flash.old) (F.device flash.new)) }
+    ensures kinds { kinds_of B.holding buckets.new.items ≡ kinds_of B.holding buckets.old.items }
+    ensures agrees { AllAgree B.holding (F.device flash.new) buckets.new.items }
+    ensures placed { OnOk result (AllPlaced B.holding buckets.new.items) }
+    ensures reads { AllPlaced B.holding buckets.old.items
+        → ReadsNothing (F.device flash.old) (F.device flash.new) }
+    ensures marks { length good.new.items ≡ length good.old.items }
+    ensures found { length room.new.found.items ≡ length room.old.found.items }
+    ensures scratch { length room.new.area.items ≡ length room.old.area.items }
+    ensures record { room.new.record.items ≡ room.old.record.items }
+{
+    good[used] = true;
+    refresh(buckets, good, format, flash, area, room)?;
+    if first_good(good, used).is_none() {
+        return Err(used);
+    }
+    good[used] = settle_copy(buckets, used, format, flash, area, room)?;
+    Ok(())
+}
+
+/// Writes an area, whose record `room` holds, to all copies. The used one comes last.
+pub(crate) fn save_all<B: Bucket, M: Format, F: Flash>(
+    buckets: &mut Vec<B>,
+    good: &mut Vec<bool>,
+    used: Option<usize>,
+    format: &M,
+    flash: &mut F,
+    area: &[u8],
+    room: &mut Room,
+) -> Result<(), usize>
+    requires room { HaveRoom (M.form format.now) (kinds_of B.holding buckets.old.items) }
+    requires serves { AllServe (kinds_of B.holding buckets.old.items)
+        (F.device flash.old).geometry }
+    requires found { AllFit (kinds_of B.holding buckets.old.items) (length room.old.found.items) }
+    requires agreed { AllAgree B.holding (F.device flash.old) buckets.old.items }
+    requires whole { IsDevice (F.device flash.old) }
+    requires marks { length good.old.items ≡ length buckets.old.items }
+    requires unmarked { (copy : ℕ) → is_marked good.old.items copy ≡ false }
+    requires fits { IsTrue ((M.form format.now).fits area.now) }
+    requires packed { room.old.record.items ≡ (M.form format.now).text area.now }
+    requires area { length room.old.area.items ≡ (M.form format.now).area_len }
+    requires many { 2 ≤ length buckets.old.items }
+    requires inside { IfSome used (λ copy. copy < length buckets.old.items) }
+    ensures refreshes { Refreshes (M.form format.now) (kinds_of B.holding buckets.old.items)
+        area.now
+        (F.device flash.old) (F.device flash.new) }
+    ensures spares { SparesUsed (M.form format.now) (kinds_of B.holding buckets.old.items) used
+        (F.device flash.old) (F.device flash.new) }
+    ensures held { OnOk result (AllHeld (M.form format.now) (kinds_of B.holding buckets.old.items)
+        area.now
+        good.new.items (F.device flash.old) (F.device flash.new)) }
+    ensures some { OnOk result (SomeMarked good.new.items) }
+    ensures fails { IfErr result (IsWriteFault (M.form format.now)
+        (kinds_of B.holding buckets.old.items) used
+        area.now (F.device flash.old) (F.device flash.new)) }
+    ensures inside { IfErr result (λ copy. copy < length buckets.old.items) }
+    ensures exact { IsUndisturbed (F.device flash.old) (F.device flash.new)
+        → OnOk result (EachWritten (kinds_of B.holding buckets.old.items) room.old.record.items
+        (F.device flash.old) (F.device flash.new)) }
+    ensures erases { IsUndisturbed (F.device flash.old) (F.device flash.new)
+        → OnOk result (ErasesBy (kinds_of B.holding buckets.old.items) room.old.record.items
+        (F.device flash.old) (F.device flash.new)) }
+    ensures kinds { kinds_of B.holding buckets.new.items ≡ kinds_of B.holding buckets.old.items }
+    ensures agrees { AllAgree B.holding (F.device flash.new) buckets.new.items }
+    ensures placed { OnOk result (AllPlaced B.holding buckets.new.items) }
+    ensures reads { AllPlaced B.holding buckets.old.items
+        → ReadsNothing (F.device flash.old) (F.device flash.new) }
+    ensures marks { length good.new.items ≡ length good.old.items }
+    ensures found { length room.new.found.items ≡ length room.old.found.items }
+    ensures scratch { length room.new.area.items ≡ length room.old.area.items }
+    ensures record { room.new.record.items ≡ room.old.record.items }
+{
+    match used {
+        None => save_first(buckets, good, format, flash, area, room),
+        Some(used) => save_over(buckets, good, used, format, flash, area, room),
+    }
+}
