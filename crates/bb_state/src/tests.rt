@@ -14,7 +14,9 @@ use std::test::Fail;
 
 // A layout of one variable, `a.n`, in one byte.
 fn one_byte(alloc: Global) -> Result<Layout, NoMemory>
-    ensures { IfOk result (λ layout. layout.area_len ≡ 1) }
+    ensures geometry { IfOk result (λ layout.
+        layout.geometry ≡ record { page = 1; block = 0; size = 192 }) }
+    ensures area_len { IfOk result (λ layout. layout.area_len ≡ 1) }
 {
     let mut default = Bytes::none(alloc);
     default.add(b"\x03")?;
