@@ -1,9 +1,13 @@
--- Worked strides of 64 bytes, by computation alone.
-use Rattle.std.proofs.Common.{◌≡◌, ℕ, List, [], ◌∷◌, ◌++◌, replicate, refl, codes, true, false, Some, None}
+-- Worked strides and blocks of 64 bytes, by computation alone.
+use Rattle.std.proofs.Common.{◌≡◌, ℕ, List, [], ◌∷◌, ◌++◌, drop, replicate, refl, codes, true, false, Some, None}
 use Rattle.bb_flash.specs.declared.health.Health.{Health}
 use Rattle.bb_flash.specs.declared.health.Health.TheVariants.{Fine, Worn, Lost}
 use Rattle.bb_flash.specs.Image.{Image}
-use Rattle.bb_bucket.specs.Stride.{begun_with, entry_of, stride_candidate, stride_is_worn}
+use Rattle.bb_bucket.specs.declared.block.Block.{Block}
+use Rattle.bb_bucket.specs.Blocks.{blank_of}
+use Rattle.bb_bucket.specs.Front.{entry_of, front_candidate, front_is_worn}
+use Rattle.bb_bucket.specs.OneBlock.{block_entry, one_block_kind}
+use Rattle.bb_bucket.specs.Stride.{begun_with, stride_candidate, stride_is_worn}
 
 -- a stride that was never written, with one page in another health
 with_page : ℕ → Health → Image
@@ -68,3 +72,44 @@ none_with_too_great_a_length = refl
 some_with_the_greatest_length : stride_candidate (begun_with (0xf3 ∷ 0xfd ∷ 0x54 ∷ 0x23 ∷ 56 ∷ 0 ∷ 0 ∷ 0 ∷ []) blank) ≡ Some (replicate 56 255)
 unfolding blank
 some_with_the_greatest_length = refl
+
+-- ---- blocks of 64 bytes in pages of 16, each with one record
+
+small_block : Block
+small_block = record { region = record { at = 128; size = 64 }; page = 16 }
+
+-- after a write of this record, with its second page in this health
+block_with : List ℕ → Health → Image
+block_with rec health = record {
+  bytes = ((one_block_kind small_block).after_write rec blank).bytes;
+  health = Fine ∷ health ∷ Fine ∷ Fine ∷ [];
+}
+
+entry_of_five_bytes :
+    block_entry 16 (codes "12345")
+    ≡ (0xf3 ∷ 0xfd ∷ 0x54 ∷ 0x23 ∷ 5 ∷ 0 ∷ 0 ∷ 0 ∷ []) ++ codes "12345" ++ (255 ∷ 255 ∷ 255 ∷ [])
+entry_of_five_bytes = refl
+
+rest_of_the_block_is_blank : drop 16 (block_with (codes "12345") Fine).bytes ≡ replicate 48 255
+unfolding block_with blank small_block
+rest_of_the_block_is_blank = refl
+
+five_bytes_in_one_page : front_candidate 16 (block_with (codes "12345") Lost) ≡ Some (codes "12345")
+unfolding block_with blank small_block
+five_bytes_in_one_page = refl
+
+nine_bytes_in_two_pages : front_candidate 16 (block_with (codes "123456789") Fine) ≡ Some (codes "123456789")
+unfolding block_with blank small_block
+nine_bytes_in_two_pages = refl
+
+none_with_the_second_page_lost : front_candidate 16 (block_with (codes "123456789") Lost) ≡ None
+unfolding block_with blank small_block
+none_with_the_second_page_lost = refl
+
+worn_with_the_second_page_worn : front_is_worn 16 (block_with (codes "123456789") Worn) ≡ true
+unfolding block_with blank small_block
+worn_with_the_second_page_worn = refl
+
+nothing_in_a_blank_block : front_candidate 16 (blank_of small_block) ≡ None
+unfolding small_block
+nothing_in_a_blank_block = refl

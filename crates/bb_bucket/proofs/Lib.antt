@@ -1,7 +1,11 @@
+pub mod BlockCalls
 pub mod Candidates
+pub mod Erases
 pub mod Examples
+pub mod OneBlockCalls
 pub mod OneCall
 pub mod Outcomes
+pub mod Pages
 pub mod Programs
 pub mod Quiet
 pub mod Runs

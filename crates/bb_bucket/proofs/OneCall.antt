@@ -10,7 +10,7 @@ use Rattle.bb_flash.specs.Image.{Image, IsImageOf, Torn}
 use Rattle.bb_bucket.specs.Calls.{EachCall, EndsTorn, IsTornLast}
 
 -- an item past all others is the last
-last_item :
+pub last_item :
     {X : Type 0} (xs : List X) (y x : X) (k : ℕ) →
     length xs ≤ k → slice_get (xs ++ y ∷ []) k ≡ Some x → y ≡ x
 last_item [] y x zero past e = cc
@@ -19,7 +19,7 @@ last_item (z ∷ xs) y x zero past e = absurd (omega arith)
 last_item (z ∷ xs) y x (suc k) past e = last_item xs y x k (omega arith) e
 
 -- what an image of a device is torn from is one of the same device
-untorn :
+pub untorn :
     (geometry : Geometry) (page at len : ℕ) (before image : Image) →
     Torn page at len before image → IsImageOf geometry image → IsImageOf geometry before
 untorn geometry page at len before image torn whole = record {

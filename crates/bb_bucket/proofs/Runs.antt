@@ -1,6 +1,6 @@
 -- Two runs of a bucket's flash calls, one after the other; and runs that only read, before or after
 -- them.
-use Rattle.std.proofs.Common.{◌≡◌, ℕ, zero, suc, ◌<◌, ◌≤◌, List, [], ◌∷◌, ◌++◌, length, take, true, Option, Some, None, refl, sym, ap, ◌∙◌, subst, arith, inl, inr, ◌⊎◌, option_map, append_assoc}
+use Rattle.std.proofs.Common.{◌≡◌, ℕ, Bool, zero, suc, ◌<◌, ◌≤◌, List, [], ◌∷◌, ◌++◌, length, take, true, Option, Some, None, refl, sym, ap, ◌∙◌, subst, arith, inl, inr, ◌⊎◌, option_map, append_assoc}
 use Rattle.std.specs.Prelude.{slice_get}
 use Rattle.std.specs.Option.{ForSome, is_some}
 use Rattle.std.proofs.lemmas.List.{append-nil}
@@ -8,10 +8,11 @@ use Rattle.std.proofs.lemmas.Option.{slice_get_within}
 use Rattle.bb_flash.specs.declared.geometry.Geometry.{Geometry}
 use Rattle.bb_flash.specs.declared.region.Region.{Region}
 use Rattle.bb_flash.specs.Calls.{IsUntouched}
-use Rattle.bb_flash.specs.Cuts.{IsLater}
-use Rattle.bb_flash.specs.Device.{Change, Device, Told, content, moment}
+use Rattle.bb_flash.specs.Cuts.{EachTorn, IsLater}
+use Rattle.bb_flash.specs.Device.{Change, Device, Told, content, erases, moment}
 use Rattle.bb_flash.specs.Image.{Image, Torn}
-use Rattle.bb_bucket.specs.Calls.{EachCall, EndsTorn, IsTornLast, Leaves, but_reads, told_but_reads}
+use Rattle.bb_flash.proofs.Tearing.{Torn-refl}
+use Rattle.bb_bucket.specs.Calls.{EachCall, EndsTorn, ErasesWhere, IsTornLast, Leaves, but_reads, erases_after, told_but_reads}
 use Rattle.bb_bucket.specs.Kind.{part_of}
 
 some_of : {T : Type 0} (o : Option T) → is_some o ≡ true → (x : T) × (o ≡ Some x)
@@ -143,4 +144,113 @@ pub leaves_then_quiet :
     content three ≡ content two → Leaves region f one two → Leaves region f one three
 leaves_then_quiet region f one two three same run = record {
   there = λ before e after g. run.there before e after (sym same ∙ g);
+}
+
+told_of_content :
+    (told : Option Told) (image : Image) → option_map (λ (t : Told). t.image) told ≡ Some image →
+    (t : Told) × (told ≡ Some t) × (t.image ≡ image)
+told_of_content None image e = absurd cc
+told_of_content (Some t) image e = (t, refl, cc)
+
+-- what a run makes of a region where its first leaves what f makes, and its second what g makes of
+-- that
+pub leaves_joined :
+    (region : Region) (f g : Image → Image) (one two three : Device) →
+    IsLater one two → Leaves region f one two → Leaves region g two three →
+    Leaves region (λ part. g (f part)) one three
+leaves_joined region f g one two three h early late = record {
+  there = λ before e after k.
+      let first = told_of_content one.told before e in
+      let there = some_of two.told (h.told ∙ ap is_some first.1) in
+      let mid : Told = there.0 in
+      let held : content two ≡ Some mid.image = ap (option_map (λ (t : Told). t.image)) there.1 in
+      let second = subst (λ (geometry : Geometry). part_of geometry.page region after ≡ g (part_of geometry.page region mid.image)) h.geometry (late.there mid.image held after k) in
+      second ∙ ap g (early.there before e mid.image held);
+}
+
+-- what a run left of a region, where the device tells what it holds afterwards
+pub part_after :
+    (region : Region) (f : Image → Image) (one two : Device) (after : Image) →
+    IsLater one two → Leaves region f one two → content two ≡ Some after →
+    (before : Image) × (content one ≡ Some before) × (part_of one.geometry.page region after ≡ f (part_of one.geometry.page region before))
+part_after region f one two after h leaves k =
+    let last = told_of_content two.told after k in
+    let there = some_of one.told (sym h.told ∙ ap is_some last.1) in
+    let first : Told = there.0 in
+    let held : content one ≡ Some first.image = ap (option_map (λ (t : Told). t.image)) there.1 in
+    (first.image, held, leaves.there first.image held after k)
+
+-- what a run left of a region, of the images at its two ends
+pub leaves_of :
+    (region : Region) (f : Image → Image) (one two : Device) →
+    Leaves region f one two →
+    ForSome one.told
+    (λ first. ForSome two.told (λ mid. part_of one.geometry.page region mid.image ≡ f (part_of one.geometry.page region first.image)))
+leaves_of region f one two leaves first e mid k =
+    leaves.there first.image (ap (option_map (λ (t : Told). t.image)) e) mid.image (ap (option_map (λ (t : Told). t.image)) k)
+
+-- a run that erased nothing behind one that did
+pub erases_then_none :
+    (region : Region) (f : Image → Bool) (one two three : Device) →
+    erases three ≡ erases two → ErasesWhere region f one two → ErasesWhere region f one three
+erases_then_none region f one two three same run = record { counted = λ before e. same ∙ run.counted before e }
+
+-- ---- runs that only read
+
+kept_erases :
+    (from to : Option Told) →
+    option_map but_reads to ≡ option_map but_reads from →
+    option_map (λ (t : Told). t.erases) to ≡ option_map (λ (t : Told). t.erases) from
+kept_erases None None same = refl
+kept_erases None (Some last) same = absurd cc
+kept_erases (Some first) None same = absurd cc
+kept_erases (Some first) (Some last) same =
+    let is : but_reads last ≡ but_reads first = cc in
+    ap (λ told. Some told.erases) is
+
+pub quiet_erases : (from to : Device) → told_but_reads to ≡ told_but_reads from → erases to ≡ erases from
+quiet_erases from to same = kept_erases from.told to.told same
+
+-- no cut in it leaves another image
+pub quiet_torn :
+    (at size : ℕ) (from to : Device) → told_but_reads to ≡ told_but_reads from → EachTorn at size from to
+quiet_torn at size from to same = record {
+  images = record {
+    each = λ first e last f image cut.
+        let still = quiet_told from.told to.told first last same e f in
+        elim cut [
+          | inl now ↦
+              subst (λ (i : Image). Torn from.geometry.page at size first.image i) (sym (now ∙ still.image))
+              (Torn-refl from.geometry.page first.image at size)
+          | inr torn ↦
+              let there = slice_get_within last.changes torn.call torn.change torn.made in
+              let none = ap length still.changes in
+              absurd (omega (arith, there, torn.later, none))
+        ];
+  };
+}
+
+-- the calls of a run behind it are its calls too
+pub calls_after_quiet :
+    (P : Image → Change → Type 0) (one two three : Device) →
+    IsLater one two → IsLater two three → told_but_reads two ≡ told_but_reads one →
+    EachCall P two three → EachCall P one three
+calls_after_quiet P one two three h k same run =
+    calls_joined P P P (λ first image. image ≡ first) one two three (λ x change made. made)
+    (λ x y change is made. subst (λ (i : Image). P i change) is made) h k
+    (λ first e mid f. (quiet_told one.told two.told first mid same e f).image)
+    (quiet_calls P one two same) run
+
+-- and so are its erases
+pub erases_after_quiet :
+    (region : Region) (f : Image → Bool) (one two three : Device) →
+    IsLater one two → content two ≡ content one → told_but_reads two ≡ told_but_reads one →
+    ErasesWhere region f two three → ErasesWhere region f one three
+erases_after_quiet region f one two three h held same run = record {
+  counted = λ before e.
+      let after = run.counted before (held ∙ e) in
+      let here =
+      ap (λ (geometry : Geometry). option_map (erases_after geometry region (f (part_of geometry.page region before))) (erases two)) h.geometry
+      ∙ ap (option_map (erases_after one.geometry region (f (part_of one.geometry.page region before)))) (quiet_erases one two same) in
+      after ∙ here;
 }

@@ -1,20 +1,36 @@
 -- The flash call of a write to a stride, and that of a void.
-use Rattle.std.proofs.Common.{◌≡◌, ℕ, ◌+◌, ◌≤◌, List, [], ◌∷◌, length, replicate, refl, sym, ap, arith, subst, inl, inr, Contains}
+use Rattle.std.proofs.Common.{◌≡◌, ℕ, ◌+◌, ◌≤◌, List, [], ◌∷◌, length, replicate, refl, sym, ap, ◌∙◌, arith, subst, inl, inr, Contains}
+use Rattle.std.proofs.lemmas.List.{append-nil}
 use Rattle.bb_flash.specs.declared.geometry.Geometry.{Geometry}
+use Rattle.bb_flash.specs.declared.health.Health.TheVariants.{Fine}
 use Rattle.bb_flash.specs.declared.region.Region.{Region}
 use Rattle.bb_flash.specs.Calls.{ChangesOnly}
 use Rattle.bb_flash.specs.Cuts.{IsLater}
 use Rattle.bb_flash.specs.Device.{Device, IsDevice, change_of}
-use Rattle.bb_flash.specs.Image.{Image, IsImageOf}
+use Rattle.bb_flash.specs.Image.{Image, IsImageOf, with_bytes}
 use Rattle.bb_bucket.specs.Calls.{EachCall, IsVoidCall, IsWriteCall}
+use Rattle.bb_bucket.specs.Front.{entry_of, first_bytes, put_at}
+use Rattle.bb_bucket.specs.FrontLaws.{written_begins}
 use Rattle.bb_bucket.specs.Kind.{IsBegun, part_of}
-use Rattle.bb_bucket.specs.Stride.{entry_of, first_bytes, stride_candidate, stride_kind}
-use Rattle.bb_bucket.specs.StrideLaws.{IsHeld, written_begins}
+use Rattle.bb_bucket.specs.Stride.{begun_with, stride_candidate, stride_kind}
+use Rattle.bb_bucket.specs.StrideLaws.{IsHeld, lies_on}
 use Rattle.bb_bucket.proofs.OneCall.{one_call}
 use Rattle.bb_bucket.proofs.Programs.{part_programmed}
 
-only_one : {X : Type 0} (x y : X) → x ≡ y → Contains (x ∷ []) y
+pub only_one : {X : Type 0} (x y : X) → x ≡ y → Contains (x ∷ []) y
 only_one x y same = (0, omega arith, same)
+
+-- what stands in a stride once bytes were programmed over its first ones
+stride_programmed :
+    (stride : Region) (geometry : Geometry) (bytes : List ℕ) (image : Image) →
+    IsHeld stride geometry → length bytes ≤ stride.size → IsImageOf geometry image →
+    part_of geometry.page stride (with_bytes geometry.page stride.at bytes Fine image)
+    ≡ begun_with bytes (part_of geometry.page stride image)
+stride_programmed stride geometry bytes image held fits whole =
+    let start : stride.at ≡ stride.at + 0 = omega arith in
+    ap (λ at. part_of geometry.page stride (with_bytes geometry.page at bytes Fine image)) start
+    ∙ part_programmed stride geometry 0 bytes image (omega (arith, held.page)) (lies_on stride geometry held) (omega (arith, fits)) whole
+    ∙ ap (λ page. put_at page 0 bytes (part_of geometry.page stride image)) held.page
 
 pub write_call :
     (stride : Region) (geometry : Geometry) (rec : List ℕ) (image : Image) →
@@ -22,9 +38,10 @@ pub write_call :
     IsWriteCall (stride_kind stride) geometry.page rec image (change_of geometry.page stride.at (entry_of rec) image)
 write_call stride geometry rec image held fits whole =
     let long : 8 + length rec ≡ length (entry_of rec) = omega arith in
-    let within : length (entry_of rec) ≤ stride.size = omega (arith, fits) in
-    let after = part_programmed stride geometry (entry_of rec) image held within whole in
-    let begins = written_begins rec (part_of geometry.page stride image) (omega (arith, fits, held.small, held.inside)) in
+    let after = stride_programmed stride geometry (entry_of rec) image held (omega (arith, fits)) whole in
+    let begins =
+    written_begins 1 rec [] (entry_of rec) (part_of geometry.page stride image) (omega arith)
+    (omega (arith, fits, held.small, held.inside)) (sym (append-nil (entry_of rec))) in
     record {
       within = record { low = omega arith; high = omega (arith, fits) };
       range = only_one _ _ (ap (first_bytes stride) long);
@@ -41,7 +58,7 @@ void_call stride geometry image held fits whole =
       within = record { low = omega arith; high = omega (arith, fits) };
       range = only_one _ _ refl;
       begins = inl refl;
-      leaves = inr (ap stride_candidate (part_programmed stride geometry (replicate 8 0) image held fits whole));
+      leaves = inr (ap stride_candidate (stride_programmed stride geometry (replicate 8 0) image held fits whole));
     }
 
 -- each flash call of a write, where its one program was to write front and record

@@ -1,56 +1,69 @@
--- A read in a stride is a read of the stride alone, on a device whose page is a byte.
-use Rattle.std.proofs.Common.{◌≡◌, ℕ, ◌+◌, ◌-◌, ◌≤◌, List, length, take, drop, sym, ap, ◌∙◌, arith, subst}
-use Rattle.std.proofs.lemmas.List.{take-take, drop-drop, drop-take, take_all}
+-- A read in a region is a read of the region alone.
+use Rattle.std.proofs.Common.{◌≡◌, ℕ, ◌+◌, ◌/◌, ◌<◌, ◌≤◌, List, length, take, drop, sym, ap, ◌∙◌, arith}
+use Rattle.std.proofs.Math.Nat.{add-mul, le_of_mul-le-mul_right}
+use Rattle.std.proofs.lemmas.List.{length-drop, length-take-le, take_all}
 use Rattle.std.proofs.lemmas.Grind.{common_steps}
-use Rattle.bb_flash.specs.Device.{IsReading}
-use Rattle.bb_flash.specs.Image.{Image, health_of, worst_of}
+use Rattle.bb_flash.specs.declared.geometry.Geometry.{Geometry}
 use Rattle.bb_flash.specs.declared.health.Health.{Health}
 use Rattle.bb_flash.specs.declared.region.Region.{Region}
-use Rattle.bb_bucket.specs.Kind.{part_of}
-use Rattle.bb_bucket.specs.Stride.{IsPart}
-use Rattle.bb_bucket.specs.StrideLaws.{touched_bytes}
+use Rattle.bb_flash.specs.Device.{IsReading}
+use Rattle.bb_flash.specs.Image.{Image, IsImageOf, health_of, worst_of}
+use Rattle.bb_bucket.specs.Front.{IsPart}
+use Rattle.bb_bucket.specs.Kind.{LiesOn, part_of}
+use Rattle.bb_bucket.proofs.Pages.{take-drop-part, touched_part, touched_region}
+use Rattle.bb_flash.proofs.Geometries.{whole_times}
 
--- what stands in a part of a list stands in the list
-pub take-drop-part :
-    {X : Type 0} (xs : List X) (at size k n : ℕ) →
-    k + n ≤ size → take n (drop k (take size (drop at xs))) ≡ take n (drop (at + k) xs)
-take-drop-part xs at size k n fits =
-    let whole : size ≡ k + (size - k) = omega arith in
-    ap (λ s. take n (drop k (take s (drop at xs)))) whole ∙ ap (take n) (drop-take k (size - k) (drop at xs)) ∙ take-take n (size - k) (drop k (drop at xs)) (omega arith)
-    ∙ ap (take n) (drop-drop k at xs)
-
+-- how the pages of a range are, on the device and in the region
 pub health_of-part :
-    (image : Image) (stride : Region) (at n : ℕ) →
-    at + n ≤ stride.size →
-    health_of 1 image (stride.at + at) n ≡ health_of 1 (part_of 1 stride image) at n
-health_of-part image stride at n fits =
+    (geometry : Geometry) (image : Image) (region : Region) (at n : ℕ) →
+    0 < geometry.page → LiesOn geometry region → at + n ≤ region.size →
+    health_of geometry.page image (region.at + at) n
+    ≡ health_of geometry.page (part_of geometry.page region image) at n
+health_of-part geometry image region at n some lies fits =
     ap worst_of
-    (touched_bytes (stride.at + at) n image.health ∙ sym (take-drop-part image.health stride.at stride.size at n fits)
-    ∙ ap (λ pages. take n (drop at pages)) (sym (touched_bytes stride.at stride.size image.health))
-    ∙ sym (touched_bytes at n (part_of 1 stride image).health))
+    (touched_part geometry.page region.at region.size at n image.health some lies.aligned lies.whole fits)
 
--- a read that answered Ok, seen in its stride
-read_in_part :
-    (image : Image) (stride : Region) (size at : ℕ) (out : List ℕ) (health : Health) →
-    length image.bytes ≡ size → stride.at + stride.size ≤ size → at + length out ≤ stride.size →
-    IsReading 1 image (stride.at + at) out health →
-    IsPart (part_of 1 stride image) stride.size at out health
-read_in_part image stride size at out health whole inside within reading = record {
-  size_is = grind (arith, common_steps);
-  health_is = reading.worst ∙ health_of-part image stride at (length out) within;
-  exact = λ alive.
-      let here : stride.at + at + 0 ≡ stride.at + at = omega arith in
-      let same = ap (λ a. health_of 1 image a (length out)) here in
-      let read = reading.exact 0 (length out) (omega arith) (λ lost. alive (reading.worst ∙ sym same ∙ lost)) in
-      sym (take_all (length out) out (omega arith)) ∙ read ∙ ap (λ a. take (length out) (drop a image.bytes)) here
-      ∙ sym (take-drop-part image.bytes stride.at stride.size at (length out) within);
-}
+-- a region has as many bytes as its size
+pub part_size :
+    (geometry : Geometry) (image : Image) (region : Region) →
+    LiesOn geometry region → IsImageOf geometry image →
+    length (part_of geometry.page region image).bytes ≡ region.size
+part_size geometry image region lies whole =
+    let inside = lies.inside in
+    let bytes = whole.bytes in
+    grind (arith, common_steps)
 
+-- and as many healths as pages
+pub part_pages :
+    (geometry : Geometry) (image : Image) (region : Region) →
+    0 < geometry.page → LiesOn geometry region → IsImageOf geometry image →
+    length (part_of geometry.page region image).health ≡ region.size / geometry.page
+part_pages geometry image region some lies whole =
+    let page : ℕ = geometry.page in
+    let first = whole_times region.at page lies.aligned in
+    let times = whole_times region.size page lies.whole in
+    let sum = add-mul (region.at / page) (region.size / page) page in
+    let all : region.at / page + region.size / page ≤ length image.health = le_of_mul-le-mul_right {k = page} (omega (arith, whole.pages, lies.inside)) some in
+    ap length (touched_region page region.at region.size image.health some lies.aligned lies.whole)
+    ∙ length-take-le (region.size / page) (drop (region.at / page) image.health) (omega (arith, length-drop (region.at / page) image.health))
+
+-- a read that answered Ok, seen in its region
 pub part_read :
-    (image : Image) (stride : Region) (page size at : ℕ) (out : List ℕ) (health : Health) →
-    page ≡ 1 → length image.bytes ≡ size → stride.at + stride.size ≤ size →
-    at + length out ≤ stride.size → IsReading page image (stride.at + at) out health →
-    IsPart (part_of page stride image) stride.size at out health
-part_read image stride page size at out health one whole inside within reading =
-    subst (λ p. IsPart (part_of p stride image) stride.size at out health) (sym one)
-    (read_in_part image stride size at out health whole inside within (subst (λ p. IsReading p image (stride.at + at) out health) one reading))
+    (geometry : Geometry) (image : Image) (region : Region) (at : ℕ) (out : List ℕ) (health : Health) →
+    0 < geometry.page → LiesOn geometry region → IsImageOf geometry image →
+    at + length out ≤ region.size →
+    IsReading geometry.page image (region.at + at) out health →
+    IsPart geometry.page (part_of geometry.page region image) region.size at out health
+part_read geometry image region at out health some lies whole within reading =
+    let page : ℕ = geometry.page in
+    record {
+      size_is = part_size geometry image region lies whole;
+      health_is = reading.worst ∙ health_of-part geometry image region at (length out) some lies within;
+      exact = λ alive.
+          let here : region.at + at + 0 ≡ region.at + at = omega arith in
+          let same = ap (λ a. health_of page image a (length out)) here in
+          let read = reading.exact 0 (length out) (omega arith) (λ lost. alive (reading.worst ∙ sym same ∙ lost)) in
+          sym (take_all (length out) out (omega arith)) ∙ read
+          ∙ ap (λ a. take (length out) (drop a image.bytes)) here
+          ∙ sym (take-drop-part image.bytes region.at region.size at (length out) within);
+    }

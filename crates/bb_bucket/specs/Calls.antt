@@ -15,12 +15,18 @@ pub record Agrees (holding : Holding) (device : Device) : Type 0 where
       ForSome (content device)
       (λ image. IsTrue (holding.agrees (part_of device.geometry.page holding.kind.region image)))
 
--- what a read found: the candidate's length, its bytes in front of `out`, and whether a page of it
--- is Worn
-pub record IsFound (kind : Kind) (region : Image) (out : List ℕ) (found : Found) : Type 0 where
-  pub len : found.len ≡ option_map (λ bytes. length bytes) (kind.candidate_of region)
-  pub bytes : option_map (λ len. take len out) found.len ≡ kind.candidate_of region
-  pub worn : found.worn ≡ kind.is_worn region
+-- a read found this candidate: its length, its bytes in front of `out`, and whether a page of it is
+-- Worn
+pub record IsFoundAs
+    (candidate : Option (List ℕ)) (is_worn : Bool) (out : List ℕ) (found : Found) : Type 0 where
+  pub len : found.len ≡ option_map (λ bytes. length bytes) candidate
+  pub bytes : option_map (λ len. take len out) found.len ≡ candidate
+  pub worn : found.worn ≡ is_worn
+
+-- it found the candidate of a region
+abbrev pub IsFound : Kind → Image → List ℕ → Found → Type 0
+IsFound kind region out found =
+    IsFoundAs (kind.candidate_of region) (kind.is_worn region) out found
 
 -- all that a device tells, but for its number of reads
 abbrev pub but_reads : Told → Told

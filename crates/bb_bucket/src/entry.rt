@@ -1,5 +1,6 @@
-ghost use Rattle.std.specs.Prelude.{◌≡◌, ◌≤◌, ◌<◌, ◌+◌, ◌^◌, Some, None, length, if◌then◌else◌};
-ghost use Rattle.bb_bucket.specs.Stride.{entry_of, has_front, len_of};
+ghost use Rattle.std.specs.Prelude.{◌≡◌, ◌≤◌, ◌<◌, ◌+◌, ◌%◌, ◌^◌, Some, None, length, if◌then◌else◌};
+ghost use Rattle.bb_bucket.specs.Blocks.{filled_len, filled_to};
+ghost use Rattle.bb_bucket.specs.Front.{entry_of, has_front, len_of};
 
 use byteorder::{ByteOrder, LittleEndian};
 
@@ -8,7 +9,7 @@ pub const FRONT_LEN: u32 = 8;
 
 const FRONT_MAGIC: u32 = 0x2354_fdf3;
 
-/// The length that the front gives, where it is a front and a stride of `size` bytes holds so much.
+/// The length that the front gives, where it is a front and a region of `size` bytes holds so much.
 pub(crate) fn record_len(size: u32, front: &[u8]) -> Option<u32>
     requires some { 8 ≤ size }
     requires whole { length front.now ≡ 8 }
@@ -28,4 +29,26 @@ pub(crate) fn write_entry(rec: &[u8], out: &mut [u8])
     LittleEndian::write_u32(out, FRONT_MAGIC);
     LittleEndian::write_u32(&mut out[4..], rec.len() as u32);
     out[FRONT_LEN as usize..].copy_from_slice(rec);
+}
+
+/// Writes a record with its front into `out`, and fills it with 0xFF.
+pub(crate) fn write_filled_entry(rec: &[u8], out: &mut [u8])
+    requires small { length rec.now < 2 ^ 32 }
+    requires room { 8 + length rec.now ≤ length out.old }
+    ensures { out.new ≡ filled_to (length out.old) (entry_of rec.now) }
+{
+    let (entry, filling) = out.split_at_mut(FRONT_LEN as usize + rec.len());
+    write_entry(rec, entry);
+    filling.fill(0xFF);
+}
+
+/// The least number of bytes that holds `len` ones in whole pages.
+pub fn whole_pages(page: u32, len: u32) -> u32
+    requires some { 0 < page }
+    requires small { len + page < 2 ^ 32 }
+    ensures value { result ≡ filled_len page len }
+    ensures least { len ≤ result }
+    ensures pages { result % page ≡ 0 }
+{
+    len.div_ceil(page) * page
 }

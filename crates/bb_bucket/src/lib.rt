@@ -2,14 +2,21 @@
 //! Only the crates that keep copies may know it.
 #![tactic(auto)]
 
+mod block;
+mod block_store;
 mod bucket;
 mod entry;
 mod look;
+mod one_block;
 mod parts;
 mod store;
 mod stride;
 
+pub use block::Block;
 pub use bucket::{Bucket, Found};
+pub use entry::whole_pages;
+pub use one_block::OneBlock;
+pub use parts::{erase_block, program_part, read_part};
 pub use stride::Stride;
 
 #[cfg(test)]

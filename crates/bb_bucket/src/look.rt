@@ -1,11 +1,11 @@
-ghost use Rattle.std.specs.Prelude.{◌≡◌, ◌≤◌, ◌-◌, IfOk, IfSome, IsErr, IsTrue, length};
+ghost use Rattle.std.specs.Prelude.{◌≡◌, ◌≤◌, ◌<◌, ◌+◌, ◌-◌, ◌^◌, IfOk, IfSome, IsErr, length};
 ghost use Rattle.std.specs.Option.{ForSome};
 ghost use Rattle.bb_base.specs.Faults.{HasCause};
 ghost use Rattle.bb_flash.specs.Cuts.{IsLater};
 ghost use Rattle.bb_flash.specs.Device.{IsDevice, ReadKeeps, content};
-ghost use Rattle.bb_bucket.specs.Calls.{IsFound, told_but_reads};
-ghost use Rattle.bb_bucket.specs.Kind.{part_of};
-ghost use Rattle.bb_bucket.specs.Stride.{found_of, holds, is_lost, stride_kind};
+ghost use Rattle.bb_bucket.specs.Calls.{IsFoundAs, told_but_reads};
+ghost use Rattle.bb_bucket.specs.Front.{found_of, front_candidate, front_is_worn, is_lost};
+ghost use Rattle.bb_bucket.specs.Kind.{LiesOn, part_of};
 
 use crate::Found;
 use crate::entry::{FRONT_LEN, record_len};
@@ -18,19 +18,22 @@ const NOTHING: Found = Found {
     worn: false,
 };
 
-/// Looks for the record of a stride: one read of the front, and one of the record.
+/// Looks for the record of a region that begins with a front: one read of the front, and one of the
+/// record.
 pub(crate) fn read_record<F: Flash>(
     flash: &mut F,
-    stride: Region,
+    region: Region,
     out: &mut [u8],
 ) -> Result<Found, Failed>
-    requires held { IsTrue (holds stride (F.device flash.old).geometry) }
-    requires least { 8 ≤ stride.size }
-    requires room { length out.old ≡ stride.size - 8 }
+    requires lies { LiesOn (F.device flash.old).geometry region }
+    requires small { region.at + region.size < 2 ^ 32 }
+    requires least { 8 ≤ region.size }
+    requires room { length out.old ≡ region.size - 8 }
     ensures done { IfOk result (λ found. ForSome (content (F.device flash.old)) (λ image.
-        IsFound (stride_kind stride)
-        (part_of (F.device flash.old).geometry.page stride image) out.new found)) }
-    ensures fits { IfOk result (λ found. IfSome found.len (λ len. len ≤ stride.size - 8)) }
+        let page = (F.device flash.old).geometry.page in
+        let part = part_of page region image in
+        IsFoundAs (front_candidate page part) (front_is_worn page part) out.new found)) }
+    ensures fits { IfOk result (λ found. IfSome found.len (λ len. len ≤ region.size - 8)) }
     ensures keeps { ReadKeeps (F.device flash.old) (F.device flash.new) }
     ensures told { told_but_reads (F.device flash.new) ≡ told_but_reads (F.device flash.old) }
     ensures later { IsLater (F.device flash.old) (F.device flash.new) }
@@ -41,14 +44,14 @@ pub(crate) fn read_record<F: Flash>(
         (F.device flash.new).read_faults (IsErr result) }
 {
     let mut front = [0u8; FRONT_LEN as usize];
-    let front_health = read_part(flash, stride, 0, &mut front)?;
+    let front_health = read_part(flash, region, 0, &mut front)?;
     if is_lost(front_health) {
         return Ok(NOTHING);
     }
-    let Some(len) = record_len(stride.size, &front) else {
+    let Some(len) = record_len(region.size, &front) else {
         return Ok(NOTHING);
     };
-    let health = read_part(flash, stride, FRONT_LEN, &mut out[..len as usize])?;
+    let health = read_part(flash, region, FRONT_LEN, &mut out[..len as usize])?;
     Ok(found(len, health))
 }
 

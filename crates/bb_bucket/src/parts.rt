@@ -1,28 +1,33 @@
-ghost use Rattle.std.specs.Prelude.{◌≡◌, ◌≤◌, ◌<◌, ◌+◌, IfOk, IsErr, IsTrue, OnOk, length};
+ghost use Rattle.std.specs.Prelude.{◌≡◌, ◌≤◌, ◌<◌, ◌+◌, ◌%◌, ◌^◌, IfOk, IsErr, IsTrue, OnOk, length, replicate, true};
 ghost use Rattle.std.specs.Option.{ForSome};
 ghost use Rattle.bb_base.specs.Faults.{HasCause};
 ghost use Rattle.bb_flash.specs.Calls.{ChangesOnly};
 ghost use Rattle.bb_flash.specs.Cuts.{EachTorn, IsLater};
 ghost use Rattle.bb_flash.specs.Device.{IsDevice, LeavesStarts, ReadKeeps, content, erases, reads};
-ghost use Rattle.bb_bucket.specs.Calls.{EndsTorn, Leaves, told_but_reads};
-ghost use Rattle.bb_bucket.specs.Kind.{part_of};
-ghost use Rattle.bb_bucket.specs.Stride.{IsPart, begun_with, holds};
+ghost use Rattle.bb_flash.specs.Image.{IsBlank};
+ghost use Rattle.bb_bucket.specs.Blocks.{blank_block, is_block_of};
+ghost use Rattle.bb_bucket.specs.Calls.{EndsTorn, ErasesWhere, Leaves, told_but_reads};
+ghost use Rattle.bb_bucket.specs.Front.{IsPart, put_at};
+ghost use Rattle.bb_bucket.specs.Kind.{LiesOn, part_of};
 
+use crate::Block;
 use bb_base::Failed;
 use bb_flash::{Flash, Health, Region};
 
-/// Reads bytes at a place of a stride. The answer is how they are.
-pub(crate) fn read_part<F: Flash>(
+/// Reads bytes at a place of a region. The answer is how they are.
+pub fn read_part<F: Flash>(
     flash: &mut F,
-    stride: Region,
+    region: Region,
     at: u32,
     out: &mut [u8],
 ) -> Result<Health, Failed>
-    requires held { IsTrue (holds stride (F.device flash.old).geometry) }
-    requires within { at + length out.old ≤ stride.size }
+    requires lies { LiesOn (F.device flash.old).geometry region }
+    requires small { region.at + region.size < 2 ^ 32 }
+    requires within { at + length out.old ≤ region.size }
     ensures done { IfOk result (λ health. ForSome (content (F.device flash.old)) (λ image.
-        IsPart (part_of (F.device flash.old).geometry.page stride image)
-        stride.size at out.new health)) }
+        IsPart (F.device flash.old).geometry.page
+        (part_of (F.device flash.old).geometry.page region image)
+        region.size at out.new health)) }
     ensures keeps { ReadKeeps (F.device flash.old) (F.device flash.new) }
     ensures told { told_but_reads (F.device flash.new) ≡ told_but_reads (F.device flash.old) }
     ensures later { IsLater (F.device flash.old) (F.device flash.new) }
@@ -32,23 +37,35 @@ pub(crate) fn read_part<F: Flash>(
     ensures read_faults { HasCause (F.device flash.old).read_faults
         (F.device flash.new).read_faults (IsErr result) }
 {
-    flash.read(stride.at + at, out)
+    flash.read(region.at + at, out)
 }
 
-/// Writes bytes over the first ones of a stride, by one program.
-pub(crate) fn program_front<F: Flash>(
+/// Writes bytes at a place of a region, whole pages of it, by one program. On a device that is
+/// erased in blocks they are blank before.
+pub fn program_part<F: Flash>(
     flash: &mut F,
-    stride: Region,
+    region: Region,
+    at: u32,
     bytes: &[u8],
 ) -> Result<(), Failed>
-    requires held { IsTrue (holds stride (F.device flash.old).geometry) }
+    requires lies { LiesOn (F.device flash.old).geometry region }
+    requires small { region.at + region.size < 2 ^ 32 }
+    requires page { 0 < (F.device flash.old).geometry.page }
     requires some { 0 < length bytes.now }
-    requires within { length bytes.now ≤ stride.size }
-    ensures done { OnOk result (Leaves stride (begun_with bytes.now)
+    requires within { at + length bytes.now ≤ region.size }
+    requires aligned { at % (F.device flash.old).geometry.page ≡ 0 }
+    requires pages { length bytes.now % (F.device flash.old).geometry.page ≡ 0 }
+    requires blank { 0 < (F.device flash.old).geometry.block →
+        ForSome (content (F.device flash.old)) (λ image.
+        IsBlank (F.device flash.old).geometry.page
+        (part_of (F.device flash.old).geometry.page region image) at (length bytes.now)) }
+    ensures done { OnOk result (Leaves region
+        (put_at (F.device flash.old).geometry.page at bytes.now)
         (F.device flash.old) (F.device flash.new)) }
-    ensures changes { ChangesOnly stride.at bytes.now (F.device flash.old) (F.device flash.new) }
+    ensures changes { ChangesOnly (region.at + at) bytes.now
+        (F.device flash.old) (F.device flash.new) }
     ensures ends { EndsTorn (F.device flash.old) (F.device flash.new) }
-    ensures images { EachTorn stride.at stride.size (F.device flash.old) (F.device flash.new) }
+    ensures images { EachTorn region.at region.size (F.device flash.old) (F.device flash.new) }
     ensures erases { erases (F.device flash.new) ≡ erases (F.device flash.old) }
     ensures later { IsLater (F.device flash.old) (F.device flash.new) }
     ensures starts { LeavesStarts (F.device flash.old) (F.device flash.new) }
@@ -57,5 +74,28 @@ pub(crate) fn program_front<F: Flash>(
         (F.device flash.new).faults (IsErr result) }
     ensures reads { reads (F.device flash.new) ≡ reads (F.device flash.old) }
 {
-    flash.program(stride.at, bytes)
+    flash.program(region.at + at, bytes)
+}
+
+/// Erases a block, by one erase.
+pub fn erase_block<F: Flash>(flash: &mut F, block: Block) -> Result<(), Failed>
+    requires held { IsTrue (is_block_of block (F.device flash.old).geometry) }
+    ensures done { OnOk result (Leaves block.region
+        (λ part. blank_block (F.device flash.old).geometry.page block.region.size)
+        (F.device flash.old) (F.device flash.new)) }
+    ensures changes { ChangesOnly block.region.at (replicate block.region.size 255)
+        (F.device flash.old) (F.device flash.new) }
+    ensures ends { EndsTorn (F.device flash.old) (F.device flash.new) }
+    ensures images { EachTorn block.region.at block.region.size
+        (F.device flash.old) (F.device flash.new) }
+    ensures erases { OnOk result (ErasesWhere block.region (λ part. true)
+        (F.device flash.old) (F.device flash.new)) }
+    ensures later { IsLater (F.device flash.old) (F.device flash.new) }
+    ensures starts { LeavesStarts (F.device flash.old) (F.device flash.new) }
+    ensures whole { IsDevice (F.device flash.new) }
+    ensures faults { HasCause (F.device flash.old).faults
+        (F.device flash.new).faults (IsErr result) }
+    ensures reads { reads (F.device flash.new) ≡ reads (F.device flash.old) }
+{
+    flash.erase(block.region.at / block.region.size)
 }

@@ -6,7 +6,7 @@ ghost use Rattle.bb_bucket.specs.Calls.{EachCall, EndsTorn, ErasesWhere, IsVoidC
 ghost use Rattle.bb_bucket.specs.Stride.{holds, stride_kind};
 
 use crate::entry::{FRONT_LEN, write_entry};
-use crate::parts::program_front;
+use crate::parts::program_part;
 use bb_base::Failed;
 use bb_flash::{Flash, Region};
 
@@ -40,7 +40,7 @@ pub(crate) fn write_record<F: Flash>(
 {
     let entry = &mut memory[..FRONT_LEN as usize + rec.len()];
     write_entry(rec, entry);
-    program_front(flash, stride, entry)
+    program_part(flash, stride, 0, entry)
 }
 
 /// Writes zeros over the front of a stride, by one program.
@@ -62,5 +62,5 @@ pub(crate) fn void_record<F: Flash>(flash: &mut F, stride: Region) -> Result<(),
         (F.device flash.new).faults (IsErr result) }
     ensures reads { reads (F.device flash.new) ≡ reads (F.device flash.old) }
 {
-    program_front(flash, stride, &[0; FRONT_LEN as usize])
+    program_part(flash, stride, 0, &[0; FRONT_LEN as usize])
 }

@@ -1,21 +1,43 @@
-use Rattle.std.proofs.Common.{subst, List, ℕ, OnOk}
+use Rattle.std.proofs.Common.{◌≡◌, ◌+◌, ◌%◌, ℕ, List, OnOk, length, ap, ◌∙◌, arith, subst}
+use Rattle.std.proofs.Math.Nat.{mod-one, zero-mod}
 use Rattle.bb_flash.specs.Calls.{ChangesOnly}
 use Rattle.bb_flash.specs.Device.{Device}
 use Rattle.bb_bucket.specs.Calls.{Leaves}
-use Rattle.bb_bucket.specs.Stride.{begun_with}
-use Rattle.bb_bucket.specs.StrideLaws.{held_by}
+use Rattle.bb_bucket.specs.Front.{entry_of, put_at}
+use Rattle.bb_bucket.specs.StrideLaws.{held_by, lies_on}
 use Rattle.bb_bucket.proofs.StrideCalls.{write_calls}
 use Rattle.bb_bucket.proofs.store.write_record.Goals as goal
 
+pub program_part-requires-clause-lies : goal.program_part-requires-clause-lies
+program_part-requires-clause-lies g c = lies_on c.args.stride _ (held_by c.args.stride (g.F.Flash.device c.args.flash.now).geometry c.requires.held)
+
+pub program_part-requires-clause-aligned : goal.program_part-requires-clause-aligned
+program_part-requires-clause-aligned g c = zero-mod (g.F.Flash.device c.args.flash.now).geometry.page
+
+pub program_part-requires-clause-pages : goal.program_part-requires-clause-pages
+program_part-requires-clause-pages g c =
+    let held = held_by c.args.stride (g.F.Flash.device c.args.flash.now).geometry c.requires.held in
+    ap (λ page. length c.write_entry.new.out % page) held.page ∙ mod-one (length c.write_entry.new.out)
+
+pub program_part-requires-clause-blank : goal.program_part-requires-clause-blank
+program_part-requires-clause-blank g c = λ blocks.
+    let held = held_by c.args.stride (g.F.Flash.device c.args.flash.now).geometry c.requires.held in
+    absurd (omega (arith, blocks, held.block))
+
 pub returns-clause-done : goal.returns-clause-done
 returns-clause-done g c =
-    subst (λ (bytes : List ℕ). OnOk c.program_front.result (Leaves c.args.stride (begun_with bytes) (g.F.Flash.device c.args.flash.now) (g.F.Flash.device c.program_front.new.flash))) c.write_entry.ensures c.program_front.ensures.done
+    let held = held_by c.args.stride (g.F.Flash.device c.args.flash.now).geometry c.requires.held in
+    subst (λ (bytes : List ℕ). OnOk c.program_part.result (Leaves c.args.stride (put_at 1 0 bytes) (g.F.Flash.device c.args.flash.now) (g.F.Flash.device c.program_part.new.flash))) c.write_entry.ensures
+    (subst (λ page. OnOk c.program_part.result (Leaves c.args.stride (put_at page 0 c.write_entry.new.out) (g.F.Flash.device c.args.flash.now) (g.F.Flash.device c.program_part.new.flash))) held.page
+    c.program_part.ensures.done)
 
 pub returns-clause-calls : goal.returns-clause-calls
 returns-clause-calls g c =
     let from : Device = g.F.Flash.device c.args.flash.now in
-    let to : Device = g.F.Flash.device c.program_front.new.flash in
+    let to : Device = g.F.Flash.device c.program_part.new.flash in
     let held = held_by c.args.stride from.geometry c.requires.held in
-    let made = c.program_front.ensures in
-    let changes = subst (λ (bytes : List ℕ). ChangesOnly c.args.stride.at bytes from to) c.write_entry.ensures made.changes in
-    write_calls c.args.stride c.args.rec.now from to held c.requires.room made.later made.whole changes
+    let made = c.program_part.ensures in
+    let start : c.args.stride.at + 0 ≡ c.args.stride.at = omega arith in
+    let changes = subst (λ (bytes : List ℕ). ChangesOnly (c.args.stride.at + 0) bytes from to) c.write_entry.ensures made.changes in
+    write_calls c.args.stride c.args.rec.now from to held c.requires.room made.later made.whole
+    (subst (λ at. ChangesOnly at (entry_of c.args.rec.now) from to) start changes)

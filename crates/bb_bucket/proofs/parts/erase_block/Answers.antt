@@ -1,0 +1,27 @@
+use Rattle.bb_bucket.specs.BlockLaws.{block_of}
+use Rattle.bb_bucket.proofs.Erases.{erase_changes, erase_torn, leaves_blank}
+use Rattle.bb_bucket.proofs.OneCall.{ends_torn}
+use Rattle.bb_bucket.proofs.Outcomes.{on_ok_weaker}
+use Rattle.bb_bucket.proofs.parts.erase_block.Goals as goal
+
+pub returns-clause-done : goal.returns-clause-done
+returns-clause-done g c =
+    let held = block_of c.args.block (g.F.Flash.device c.args.flash.now).geometry c.requires.held in
+    let made = c.erase.ensures in
+    let changes = erase_changes c.args.block (g.F.Flash.device c.args.flash.now) (g.F.Flash.device c.erase.new.self) held made.changes in
+    on_ok_weaker _ _ c.erase.result
+    (leaves_blank c.args.block (g.F.Flash.device c.args.flash.now) (g.F.Flash.device c.erase.new.self) held made.whole made.later.geometry changes)
+    made.done
+
+pub returns-clause-changes : goal.returns-clause-changes
+returns-clause-changes g c =
+    let held = block_of c.args.block (g.F.Flash.device c.args.flash.now).geometry c.requires.held in
+    erase_changes c.args.block (g.F.Flash.device c.args.flash.now) (g.F.Flash.device c.erase.new.self) held c.erase.ensures.changes
+
+pub returns-clause-ends : goal.returns-clause-ends
+returns-clause-ends g c = ends_torn _ _ (g.F.Flash.device c.args.flash.now) (g.F.Flash.device c.erase.new.self) c.erase.ensures.changes
+
+pub returns-clause-images : goal.returns-clause-images
+returns-clause-images g c =
+    let held = block_of c.args.block (g.F.Flash.device c.args.flash.now).geometry c.requires.held in
+    erase_torn c.args.block (g.F.Flash.device c.args.flash.now) (g.F.Flash.device c.erase.new.self) held c.erase.ensures.images

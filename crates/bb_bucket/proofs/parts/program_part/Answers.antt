@@ -1,0 +1,35 @@
+use Rattle.std.proofs.Common.{ap, arith, length}
+use Rattle.bb_flash.specs.declared.geometry.Geometry.{Geometry}
+use Rattle.bb_bucket.proofs.Erases.{blank_on_device}
+use Rattle.bb_bucket.proofs.OneCall.{ends_torn}
+use Rattle.bb_bucket.proofs.Outcomes.{on_ok_weaker}
+use Rattle.bb_bucket.proofs.Pages.{sum_aligned}
+use Rattle.bb_bucket.proofs.Programs.{leaves_program, torn_in_region}
+use Rattle.bb_bucket.proofs.parts.program_part.Goals as goal
+
+pub returns-clause-done : goal.returns-clause-done
+returns-clause-done g c =
+    let made = c.program.ensures in
+    on_ok_weaker _ _ c.program.result
+    (leaves_program c.args.region c.args.at c.args.bytes.now (g.F.Flash.device c.args.flash.now) (g.F.Flash.device c.program.new.self) c.requires.lies c.requires.within made.whole made.later.geometry made.changes)
+    made.done
+
+pub returns-clause-images : goal.returns-clause-images
+returns-clause-images g c =
+    let made = c.program.ensures in
+    let page = ap (λ (geometry : Geometry). geometry.page) made.later.geometry in
+    torn_in_region c.args.region c.args.at _ (g.F.Flash.device c.args.flash.now) (g.F.Flash.device c.program.new.self) (omega (arith, made.whole.geometry.page_some, page)) c.requires.within made.images
+
+pub returns-clause-ends : goal.returns-clause-ends
+returns-clause-ends g c = ends_torn _ _ (g.F.Flash.device c.args.flash.now) (g.F.Flash.device c.program.new.self) c.program.ensures.changes
+
+pub program-requires : goal.program-requires
+program-requires g c = record {
+  some = c.requires.some;
+  inside = omega (arith, c.requires.within, c.requires.lies.inside);
+  aligned = sum_aligned (g.F.Flash.device c.args.flash.now).geometry.page c.args.region.at c.args.at c.requires.lies.aligned c.requires.aligned;
+  whole = c.requires.pages;
+  blank = λ blocks image told.
+      blank_on_device (g.F.Flash.device c.args.flash.now).geometry image c.args.region c.args.at (length c.args.bytes.now) c.requires.page c.requires.lies c.requires.within
+      (c.requires.blank blocks image told);
+}

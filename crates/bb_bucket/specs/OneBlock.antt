@@ -1,0 +1,39 @@
+-- A block that holds one record: it begins with a front, the record follows, and 0xFF fills the last
+-- page. A write erases the block and programs it from its first page on.
+use Rattle.std.specs.Prelude.{ℕ, ◌+◌, ◌-◌, true, List, [], ◌∷◌, length}
+use Rattle.bb_bucket.specs.declared.block.Block.{Block}
+use Rattle.bb_bucket.specs.Blocks.{blank_of, filled_len, filled_to, is_block_of}
+use Rattle.bb_bucket.specs.Front.{entry_of, first_bytes, front_candidate, front_is_worn, put_at}
+use Rattle.bb_bucket.specs.Kind.{Holding, Kind}
+
+-- how many bytes are programmed for a record of `len` bytes
+abbrev pub block_entry_len : ℕ → ℕ → ℕ
+block_entry_len page len = filled_len page (8 + len)
+
+-- what is programmed: front and record, filled with 0xFF to a whole page
+abbrev pub block_entry : ℕ → List ℕ → List ℕ
+block_entry page rec = filled_to (block_entry_len page (length rec)) (entry_of rec)
+
+abbrev pub one_block_kind : Block → Kind
+one_block_kind block = record {
+  region = block.region;
+  room = block.region.size - 8;
+  serves = is_block_of block;
+  candidate_of = front_candidate block.page;
+  is_worn = front_is_worn block.page;
+  after_write = λ rec old. put_at block.page 0 (block_entry block.page rec) (blank_of block);
+  after_void = λ old. blank_of block;
+  write_ranges = λ rec old.
+      block.region ∷ first_bytes block.region (block_entry_len block.page (length rec)) ∷ [];
+  void_ranges = block.region ∷ [];
+  write_erases = λ rec old. true;
+  void_erases = true;
+}
+
+-- it keeps nothing of its region, and a record always goes to its start
+abbrev pub one_block_holding : Block → Holding
+one_block_holding block = record {
+  kind = one_block_kind block;
+  agrees = λ old. true;
+  placed = true;
+}

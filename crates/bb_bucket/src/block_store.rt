@@ -1,0 +1,73 @@
+ghost use Rattle.std.specs.Prelude.{◌≡◌, ◌≤◌, ◌+◌, IsErr, IsTrue, OnOk, length};
+ghost use Rattle.bb_base.specs.Faults.{HasCause};
+ghost use Rattle.bb_flash.specs.Cuts.{EachTorn, IsLater};
+ghost use Rattle.bb_flash.specs.Device.{IsDevice, LeavesStarts, reads};
+ghost use Rattle.bb_bucket.specs.Blocks.{is_block_of};
+ghost use Rattle.bb_bucket.specs.Calls.{EachCall, EndsTorn, ErasesWhere, IsVoidCall, IsWriteCall, Leaves};
+ghost use Rattle.bb_bucket.specs.OneBlock.{one_block_kind};
+
+use crate::Block;
+use crate::entry::{FRONT_LEN, whole_pages, write_filled_entry};
+use crate::parts::{erase_block, program_part};
+use bb_base::Failed;
+use bb_flash::Flash;
+
+/// Erases a block, and then writes a record and its front to its start, by one program. They are put
+/// together in `memory`, which has the block's size.
+pub(crate) fn write_block<F: Flash>(
+    flash: &mut F,
+    block: Block,
+    memory: &mut [u8],
+    rec: &[u8],
+) -> Result<(), Failed>
+    requires held { IsTrue (is_block_of block (F.device flash.old).geometry) }
+    requires room { 8 + length rec.now ≤ block.region.size }
+    requires memory { length memory.old ≡ block.region.size }
+    ensures done { OnOk result (Leaves block.region ((one_block_kind block).after_write rec.now)
+        (F.device flash.old) (F.device flash.new)) }
+    ensures calls { EachCall
+        (IsWriteCall (one_block_kind block) (F.device flash.old).geometry.page rec.now)
+        (F.device flash.old) (F.device flash.new) }
+    ensures ends { EndsTorn (F.device flash.old) (F.device flash.new) }
+    ensures images { EachTorn block.region.at block.region.size
+        (F.device flash.old) (F.device flash.new) }
+    ensures erases { OnOk result (ErasesWhere block.region
+        ((one_block_kind block).write_erases rec.now)
+        (F.device flash.old) (F.device flash.new)) }
+    ensures later { IsLater (F.device flash.old) (F.device flash.new) }
+    ensures starts { LeavesStarts (F.device flash.old) (F.device flash.new) }
+    ensures whole { IsDevice (F.device flash.new) }
+    ensures faults { HasCause (F.device flash.old).faults
+        (F.device flash.new).faults (IsErr result) }
+    ensures reads { reads (F.device flash.new) ≡ reads (F.device flash.old) }
+{
+    erase_block(flash, block)?;
+    let len = whole_pages(block.page, FRONT_LEN + rec.len() as u32);
+    let entry = &mut memory[..len as usize];
+    write_filled_entry(rec, entry);
+    program_part(flash, block.region, 0, entry)
+}
+
+/// Erases a block, by one erase.
+pub(crate) fn void_block<F: Flash>(flash: &mut F, block: Block) -> Result<(), Failed>
+    requires held { IsTrue (is_block_of block (F.device flash.old).geometry) }
+    ensures done { OnOk result (Leaves block.region (one_block_kind block).after_void
+        (F.device flash.old) (F.device flash.new)) }
+    ensures calls { EachCall
+        (IsVoidCall (one_block_kind block) (F.device flash.old).geometry.page)
+        (F.device flash.old) (F.device flash.new) }
+    ensures ends { EndsTorn (F.device flash.old) (F.device flash.new) }
+    ensures images { EachTorn block.region.at block.region.size
+        (F.device flash.old) (F.device flash.new) }
+    ensures erases { OnOk result (ErasesWhere block.region
+        (λ region. (one_block_kind block).void_erases)
+        (F.device flash.old) (F.device flash.new)) }
+    ensures later { IsLater (F.device flash.old) (F.device flash.new) }
+    ensures starts { LeavesStarts (F.device flash.old) (F.device flash.new) }
+    ensures whole { IsDevice (F.device flash.new) }
+    ensures faults { HasCause (F.device flash.old).faults
+        (F.device flash.new).faults (IsErr result) }
+    ensures reads { reads (F.device flash.new) ≡ reads (F.device flash.old) }
+{
+    erase_block(flash, block)
+}
