@@ -23,7 +23,8 @@ use Rattle.bb_layout.specs.Layout.{Laid}
 use Rattle.bb_state.specs.Kinds.{any_holding, bucket_at, laid_buckets, laid_form, laid_kinds}
 use Rattle.bb_words.specs.Words.{words_of}
 use Rattle.bb_words.specs.declared.command.Command.{Command}
-use Rattle.bb_tool.specs.Calls.{ComesByDevice, ComesByFiles, ComesByOutlet, ComesByPlan, ComesByPlanAlone, ComesByReads, ComesByWords, IsAnswered, IsRefusedWith, IsSession, IsWithoutMemory, KeepsATrail, KeepsAtExit, KeepsOthers, NamesACopy, SendsSessionFront, Tells, geometry_of, is_planning, plan_over, session_for}
+use Rattle.bb_tool.specs.Calls.{ComesByDevice, ComesByFiles, ComesByOutlet, ComesByPlan, ComesByPlanAlone, ComesByReads, ComesByWords, IsAnswered, IsRefusedWith, IsSession, IsWithoutMemory, NamesACopy, SendsSessionFront, Tells, geometry_of, is_planning, plan_over, session_for}
+use Rattle.bb_tool.specs.Copying.{KeepsATrail, KeepsAtExit, KeepsOthers}
 use Rattle.bb_tool.specs.Ending.{IsFollowed, IsGiven}
 use Rattle.bb_tool.specs.Plan.{Act, FileAnswer, Plan, Show, Work, Write, copies_in, file_for, plan_of, planned}
 use Rattle.bb_tool.specs.Ran.{Ran}
@@ -192,7 +193,7 @@ planning_work statuses.WriteFault first second = cc
 planning_work statuses.SinkFault first second = cc
 planning_work statuses.NoMemory first second = cc
 
-unasked_by : (plan : Result Plan Refusal) (before after : Device) (answers : Answers) → IsFollowed plan before after answers → IsErr plan → after ≡ before
+pub unasked_by : (plan : Result Plan Refusal) (before after : Device) (answers : Answers) → IsFollowed plan before after answers → IsErr plan → after ≡ before
 unasked_by (Ok plan) before after answers followed_so refused = absurd cc
 unasked_by (Err refusal) before after answers followed_so refused = followed_so
 
@@ -209,16 +210,16 @@ unasked_of ran s h =
 -- ---- a fault of the device
 
 -- a fault rose between two moments of which the second is not the last
-rose_on : (first middle last : ℕ) → Rose first middle → middle ≤ last → Rose first last
+pub rose_on : (first middle last : ℕ) → Rose first middle → middle ≤ last → Rose first last
 rose_on first middle last rose more = omega arith
 
-rose_from : (first middle last : ℕ) → first ≤ middle → Rose middle last → Rose first last
+pub rose_from : (first middle last : ℕ) → first ≤ middle → Rose middle last → Rose first last
 rose_from first middle last more rose = omega arith
 
-rose_by : (rise before now : ℕ) → 1 ≤ rise → RoseBy rise before now → Rose before now
+pub rose_by : (rise before now : ℕ) → 1 ≤ rise → RoseBy rise before now → Rose before now
 rose_by rise before now some rose = omega arith
 
-copies_are : (layout : Laid) → length (laid_kinds layout) ≡ layout.copies
+pub copies_are : (layout : Laid) → length (laid_kinds layout) ≡ layout.copies
 copies_are layout =
     length-map (laid_buckets layout) (λ bucket. (any_holding bucket).kind)
     ∙ length-map (range_with_len 0 layout.copies) (bucket_at layout.storage layout.region)
@@ -242,7 +243,7 @@ tells_from layout from mid to faults.ReadFault tells more reads = (rose_from fro
 tells_from layout from mid to (faults.WriteFault copy) tells more reads = (rose_from from.faults mid.faults to.faults more tells.0, tells.1)
 tells_from layout from mid to faults.Unsure tells more reads = tells
 
-get_inside : {X : Type 0} → (xs : List X) (k : ℕ) → k < length xs → (x : X) × (slice_get xs k ≡ Some x)
+pub get_inside : {X : Type 0} → (xs : List X) (k : ℕ) → k < length xs → (x : X) × (slice_get xs k ≡ Some x)
 get_inside [] k h = absurd (omega arith)
 get_inside (x ∷ xs) zero h = (x, refl)
 get_inside (x ∷ xs) (suc k) h = get_inside xs k (omega arith)
@@ -290,7 +291,7 @@ pub record IsFault (layout : Laid) (from to : Device) (refusal : Refusal) : Type
   pub is : refusal ≡ copy_refusal fault
   pub tells : FaultTells layout from to fault
 
-none_some : {X : Type 0} → (x : X) → ◌≡◌ {A = Option X} None (Some x) → ⊥
+pub none_some : {X : Type 0} → (x : X) → ◌≡◌ {A = Option X} None (Some x) → ⊥
 none_some x h = cc
 
 saves_fault : (layout : Laid) (used : Option ℕ) (text : List ℕ) (areas : List (List ℕ)) (saves : List SaveAnswer) (from to : Device) (refusal : Refusal) → 2 ≤ layout.copies → ((copy : ℕ) → used ≡ Some copy → copy < length (laid_kinds layout)) → AreSaved layout used areas from to saves → (saved text areas saves).refusal ≡ Some refusal → IsFault layout from to refusal
@@ -304,7 +305,7 @@ saves_fault layout used text (area ∷ areas) (Err fault ∷ saves) from to refu
 saves_fault layout used text (area ∷ []) (Ok made ∷ saves) from to refusal many inside saved_so h = absurd (none_some refusal h)
 saves_fault layout used text (area ∷ (other ∷ areas)) (Ok made ∷ saves) from to refusal many inside saved_so h = absurd (let e = saved_so.1.0 in cc)
 
-saved_later : (layout : Laid) (used : Option ℕ) (areas : List (List ℕ)) (saves : List SaveAnswer) (from to : Device) → AreSaved layout used areas from to saves → (from.faults ≤ to.faults) × (from.read_faults ≤ to.read_faults)
+pub saved_later : (layout : Laid) (used : Option ℕ) (areas : List (List ℕ)) (saves : List SaveAnswer) (from to : Device) → AreSaved layout used areas from to saves → (from.faults ≤ to.faults) × (from.read_faults ≤ to.read_faults)
 saved_later layout used [] saves from to saved_so = subst (λ (d : Device). (from.faults ≤ d.faults) × (from.read_faults ≤ d.read_faults)) (sym saved_so.1) (omega arith, omega arith)
 saved_later layout used (area ∷ areas) [] from to saved_so = absurd saved_so
 saved_later layout used (area ∷ areas) (answer ∷ saves) from to saved_so = (saved_so.0.runs.later.faults, saved_so.0.runs.later.read_faults)

@@ -1,11 +1,15 @@
 pub mod Copies
+pub mod Early
 pub mod Endings
+pub mod Exact
 mod Examples
+pub mod Faults
 pub mod Given
 pub mod Kept
 pub mod Lines
 pub mod Plans
 pub mod Quiet
+mod Regions
 pub mod Sources
 pub mod Told
 pub mod Turns

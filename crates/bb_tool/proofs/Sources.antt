@@ -26,24 +26,24 @@ use Rattle.bb_tool.specs.declared.refusal.Refusal.{Refusal}
 use Rattle.bb_tool.specs.declared.refusal.Refusal.TheVariants as refusals
 
 -- there is no such file
-pub source_missing : (name : List ℕ) (before after : Folder) (copied : List ℕ) → copied ≡ name → ForSome before.told (λ files. file_of files name ≡ Ok None) → IsSourceRead name before after (Err (refusals.FileMissing copied))
-source_missing name before after copied same told = record {
+pub source_missing : (name : List ℕ) (before after : Folder) (copied : List ℕ) → copied ≡ name → ForSome before.told (λ files. file_of files name ≡ Ok None) → after.faults ≡ before.faults → IsSourceRead name before after (Err (refusals.FileMissing copied))
+source_missing name before after copied same told calm = record {
   file = Ok None;
-  read = record { told = told; cause = λ e. absurd cc };
+  read = record { told = told; cause = λ e. absurd cc; calm = λ e. calm };
   source = λ some. (ap (λ n. refusals.FileMissing n) (sym same), tt);
 }
 
 pub source_fault : (name : List ℕ) (before after : Folder) (copied : List ℕ) → copied ≡ name → Rose before.faults after.faults → IsSourceRead name before after (Err (refusals.FileFault copied))
 source_fault name before after copied same rose = record {
   file = Err file_fails.Fault;
-  read = record { told = λ files told. tt; cause = λ e. rose };
+  read = record { told = λ files told. tt; cause = λ e. rose; calm = λ e. absurd cc };
   source = λ some. (ap (λ n. refusals.FileFault n) (sym same), tt);
 }
 
 pub source_long : (name : List ℕ) (before after : Folder) (copied : List ℕ) → copied ≡ name → ForSome before.told (λ files. file_of files name ≡ Err file_fails.TooLong) → IsSourceRead name before after (Err (refusals.FileTooLong copied))
 source_long name before after copied same told = record {
   file = Err file_fails.TooLong;
-  read = record { told = told; cause = λ e. absurd cc };
+  read = record { told = told; cause = λ e. absurd cc; calm = λ e. absurd cc };
   source = λ some. (ap (λ n. refusals.FileTooLong n) (sym same), tt);
 }
 
@@ -51,7 +51,7 @@ source_long name before after copied same told = record {
 pub source_memory : (name : List ℕ) (before after : Folder) (given : Result (List ℕ) Refusal) → given ≡ Err refusals.NoMemory → IsSourceRead name before after given
 source_memory name before after given is = subst (λ (r : Result (List ℕ) Refusal). IsSourceRead name before after r) (sym is) (record {
   file = Err file_fails.NoMemory;
-  read = record { told = λ files told. tt; cause = λ e. absurd cc };
+  read = record { told = λ files told. tt; cause = λ e. absurd cc; calm = λ e. absurd cc };
   source = λ some. absurd (some refl);
 })
 

@@ -35,11 +35,11 @@ fault_rose layout from to faults.ReadFault tells = tells.0
 fault_rose layout from to (faults.WriteFault copy) tells = tells.0
 fault_rose layout from to faults.Unsure tells = absurd tells
 
-some_none : {X : Type 0} → (x : X) → ◌≡◌ {A = Option X} (Some x) None → ⊥
+pub some_none : {X : Type 0} → (x : X) → ◌≡◌ {A = Option X} (Some x) None → ⊥
 some_none x h = cc
 
 -- where no call of the device failed no part of the work was refused
-unrefused : (plan : Plan) (from to : Device) (load : LoadAnswer) (saves : List SaveAnswer) → IsWorkOf plan.work plan from to load saves → (Rose from.faults to.faults → ⊥) → (refusal : Option Refusal) → (worked plan load saves).refusal ≡ refusal → refusal ≡ None
+pub unrefused : (plan : Plan) (from to : Device) (load : LoadAnswer) (saves : List SaveAnswer) → IsWorkOf plan.work plan from to load saves → (Rose from.faults to.faults → ⊥) → (refusal : Option Refusal) → (worked plan load saves).refusal ≡ refusal → refusal ≡ None
 unrefused plan from to load saves work whole None is = refl
 unrefused plan from to load saves work whole (Some refusal) is =
     let fault = work_fault plan.work plan from to load saves refusal refl work is in
@@ -56,11 +56,11 @@ all_saved layout used text (area ∷ areas) (Ok made ∷ saves) from to saved_so
     ap (λ s. Ok made ∷ s) last ∙ ap (λ a. Ok tt ∷ all_made a) (sym none)
 
 -- what was answered is what the device holds
-record IsHeld (plan : Plan) (page : ℕ) (image : Image) (load : LoadAnswer) (saves : List SaveAnswer) : Type 0 where
-  load_is : load ≡ Ok (first_found (passed_in plan.layout page image))
-  saves_are : saves ≡ all_made (saves_behind plan load)
+pub record IsHeld (plan : Plan) (page : ℕ) (image : Image) (load : LoadAnswer) (saves : List SaveAnswer) : Type 0 where
+  pub load_is : load ≡ Ok (first_found (passed_in plan.layout page image))
+  pub saves_are : saves ≡ all_made (saves_behind plan load)
 
-work_held : (work : Work) (plan : Plan) (from to : Device) (load : LoadAnswer) (saves : List SaveAnswer) → plan.work ≡ work → IsWorkOf work plan from to load saves → (worked plan load saves).refusal ≡ None → (image : Image) → content from ≡ Some image → IsHeld plan from.geometry.page image load saves
+pub work_held : (work : Work) (plan : Plan) (from to : Device) (load : LoadAnswer) (saves : List SaveAnswer) → plan.work ≡ work → IsWorkOf work plan from to load saves → (worked plan load saves).refusal ≡ None → (image : Image) → content from ≡ Some image → IsHeld plan from.geometry.page image load saves
 work_held work plan from to (Err fault) saves is done none image told = absurd (some_none _ none)
 work_held Show plan from to (Ok found) saves is done none image told = record {
   load_is = ap (λ f. Ok f) (done.looked.told image told);

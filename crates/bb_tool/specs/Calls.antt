@@ -5,11 +5,9 @@ use Rattle.std.specs.Option.{ForSome}
 use Rattle.bb_base.specs.Faults.{HasCause, Rose}
 use Rattle.bb_base.specs.Folder.{FileMap}
 use Rattle.bb_base.specs.Outlet.{SendsFront}
-use Rattle.bb_copies.specs.Loading.{KeepsOutside}
 use Rattle.bb_flash.specs.Cuts.{IsLater}
 use Rattle.bb_flash.specs.Device.{LeavesStarts, content}
 use Rattle.bb_flash.specs.declared.geometry.Geometry.{Geometry}
-use Rattle.bb_state.specs.Kinds.{laid_kinds}
 use Rattle.bb_words.specs.Words.{words_of}
 use Rattle.bb_tool.specs.Ending.{AreAnswers}
 use Rattle.bb_tool.specs.Filing.{IsFolderLater}
@@ -18,7 +16,6 @@ use Rattle.bb_tool.specs.Ran.{Ran}
 use Rattle.bb_tool.specs.Refusal.{line_of, status_of}
 use Rattle.bb_tool.specs.Session.{Answers, Session, answers_of, ended_status, sent_of, session_of}
 use Rattle.bb_tool.specs.Telling.{IsSent, IsTold}
-use Rattle.bb_tool.specs.Turns.{HasTrails, LeadsOn}
 use Rattle.bb_tool.specs.declared.refusal.Refusal.{Refusal}
 use Rattle.bb_tool.specs.declared.refusal.Refusal.TheVariants as refusals
 use Rattle.bb_tool.specs.declared.status.Status.{Status}
@@ -218,33 +215,3 @@ CutsTheText ran = ran.status ≡ statuses.SinkFault → SendsSessionFront ran
 -- where memory was refused, nothing else is told and nothing was written
 abbrev pub WantsMemory : Ran → Type 0
 WantsMemory ran = ran.status ≡ statuses.NoMemory → IsWithoutMemory ran
-
--- ---- the copies
-
--- the work of a plan was done, for these answers
-abbrev pub EachWork : Ran → (Plan → Answers → Type 0) → Type 0
-EachWork ran P =
-    (answers : Answers) (plan : Plan) → MayAnswer ran answers →
-    plan_for ran answers ≡ Ok plan → P plan answers
-
--- For whatever answers the session is told: at exit, where no call that failed left a copy that
--- passes by luck, the copies stand for what the session's turn makes of the list.
-abbrev pub KeepsAtExit : Ran → Type 0
-KeepsAtExit ran =
-    EachWork ran
-    (λ plan answers.
-    LeadsOn plan ran.before.device ran.after.device answers.load answers.saves)
-
--- each image on the way that counts stands for a stage that it reached, or for a later one
-abbrev pub KeepsATrail : Ran → Type 0
-KeepsATrail ran =
-    EachWork ran
-    (λ plan answers.
-    HasTrails plan ran.before.device ran.after.device answers.load answers.saves)
-
--- nothing outside the copies changes, in any image
-abbrev pub KeepsOthers : Ran → Type 0
-KeepsOthers ran =
-    EachWork ran
-    (λ plan answers.
-    KeepsOutside (laid_kinds plan.layout) ran.before.device ran.after.device)

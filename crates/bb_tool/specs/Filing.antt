@@ -1,5 +1,5 @@
 -- What a session reads of its file, and the layout that it finds there.
-use Rattle.std.specs.Prelude.{◌≡◌, ◌≢◌, ◌≤◌, ⊤, ℕ, List, Some, None, Result, Ok, Err}
+use Rattle.std.specs.Prelude.{◌≡◌, ◌≢◌, ◌≤◌, ⊤, ℕ, List, Some, None, Result, Ok, Err, IsOk}
 use Rattle.std.specs.Option.{ForSome}
 use Rattle.bb_base.specs.Faults.{Rose}
 use Rattle.bb_base.specs.Folder.{Folder, file_of}
@@ -22,10 +22,12 @@ IsAnswerFor (Err TooLong) file = file ≡ Err TooLong
 IsAnswerFor (Err Fault) file = ⊤
 IsAnswerFor (Err NoMemory) file = ⊤
 
--- this is what reading a name gave; a fault was met only where the files' count of faults rose
+-- This is what reading a name gave. A fault was met only where the files' count of faults rose, and
+-- that count is as before where the file was read, or isn't there.
 pub record IsFileRead (name : List ℕ) (before after : Folder) (answer : FileAnswer) : Type 0 where
   pub told : ForSome before.told (λ files. IsAnswerFor answer (file_of files name))
   pub cause : answer ≡ Err Fault → Rose before.faults after.faults
+  pub calm : IsOk answer → after.faults ≡ before.faults
 
 -- the files are as before, and their count of faults never falls
 pub record IsFolderLater (before after : Folder) : Type 0 where

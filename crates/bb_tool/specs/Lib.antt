@@ -14,7 +14,9 @@ pub use Rattle.bb_state.specs.Kinds
 pub use Rattle.bb_state.specs.State
 pub use Rattle.bb_words.specs.Words
 pub mod Calls
+pub mod Copying
 pub mod Ending
+pub mod Exactly
 pub mod Filing
 pub mod Looking
 pub mod Plan
@@ -25,3 +27,4 @@ pub mod Status
 pub mod Telling
 pub mod Turns
 pub mod Work
+pub mod WriteFault

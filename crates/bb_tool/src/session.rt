@@ -1,7 +1,8 @@
 ghost use Rattle.std.specs.Prelude.{◌≡◌, ◌≤◌, false, IfErr};
 ghost use Rattle.bb_flash.specs.Cuts.{IsLater};
 ghost use Rattle.bb_flash.specs.Device.{LeavesStarts};
-ghost use Rattle.bb_tool.specs.Calls.{AsksNothing, ComesByDevice, ComesByFiles, ComesByOutlet, ComesByPlan, ComesByPlanAlone, ComesByReads, ComesByWords, CutsTheText, IsSession, IsUndisturbed, IsUndisturbedAlone, KeepsATrail, KeepsAtExit, KeepsFiles, KeepsHistory, KeepsOthers, LeavesUnnamedFiles, NamesTheCopy, StartsNothing, WantsMemory};
+ghost use Rattle.bb_tool.specs.Calls.{AsksNothing, ComesByDevice, ComesByFiles, ComesByOutlet, ComesByPlan, ComesByPlanAlone, ComesByReads, ComesByWords, CutsTheText, IsSession, IsUndisturbed, IsUndisturbedAlone, KeepsFiles, KeepsHistory, LeavesUnnamedFiles, NamesTheCopy, StartsNothing, WantsMemory};
+ghost use Rattle.bb_tool.specs.Copying.{KeepsATrail, KeepsAtExit, KeepsOthers, KnowsWriteFaults, LeavesUnread, MakesAlike, StopsAtFileFault, StopsBetweenSaves, WritesExactly};
 ghost use Rattle.bb_tool.specs.Ending.{IsGiven};
 ghost use Rattle.bb_tool.specs.Filing.{IsFolderLater};
 ghost use Rattle.bb_tool.specs.Plan.{names_file};
@@ -59,6 +60,18 @@ pub fn run<F: Files, B: Board, K: Sink>(
     ensures outside { KeepsOthers (ran_by F.folder B.device K.outlet words.now
         files.old files.new board.old board.new out.old out.new result) }
 
+    // Where no call of the device failed: to the byte, and what they pass then.
+    ensures written { WritesExactly (ran_by F.folder B.device K.outlet words.now
+        files.old files.new board.old board.new out.old out.new result) }
+    ensures passes { MakesAlike (ran_by F.folder B.device K.outlet words.now
+        files.old files.new board.old board.new out.old out.new result) }
+
+    // Sessions that end early: a file met a fault, or memory was refused.
+    ensures early { StopsAtFileFault (ran_by F.folder B.device K.outlet words.now
+        files.old files.new board.old board.new out.old out.new result) }
+    ensures early_memory { StopsBetweenSaves (ran_by F.folder B.device K.outlet words.now
+        files.old files.new board.old board.new out.old out.new result) }
+
     // Each answer but `Done` and its cause. Where the files are told, those that a plan brings come
     // exactly where it does; where the words name no file, whatever the files are.
     ensures bad_words { ComesByWords Status.BadWords (ran_by F.folder B.device K.outlet words.now
@@ -83,10 +96,14 @@ pub fn run<F: Files, B: Board, K: Sink>(
         files.old files.new board.old board.new out.old out.new result) }
     ensures read_fault { ComesByReads Status.ReadFault (ran_by F.folder B.device K.outlet words.now
         files.old files.new board.old board.new out.old out.new result) }
+    ensures read_fault_content { LeavesUnread (ran_by F.folder B.device K.outlet words.now
+        files.old files.new board.old board.new out.old out.new result) }
     ensures write_fault { ComesByDevice Status.WriteFault
         (ran_by F.folder B.device K.outlet words.now
         files.old files.new board.old board.new out.old out.new result) }
     ensures write_fault_copy { NamesTheCopy (ran_by F.folder B.device K.outlet words.now
+        files.old files.new board.old board.new out.old out.new result) }
+    ensures write_fault_cause { KnowsWriteFaults (ran_by F.folder B.device K.outlet words.now
         files.old files.new board.old board.new out.old out.new result) }
     ensures sink_fault { ComesByOutlet Status.SinkFault (ran_by F.folder B.device K.outlet words.now
         files.old files.new board.old board.new out.old out.new result) }

@@ -1,6 +1,9 @@
 use Rattle.std.proofs.Common.{refl}
 use Rattle.bb_tool.specs.declared.status.Status.TheVariants as statuses
 use Rattle.bb_tool.proofs.Endings.{at_exit, bad_words_of, beside, comes_alone, comes_planned, copy_of_fault, file_fault_of, front_of, no_memory_of, on_a_trail, read_fault_of, sink_fault_of, unasked_of, write_fault_of}
+use Rattle.bb_tool.proofs.Early.{early_memory_of, early_of}
+use Rattle.bb_tool.proofs.Exact.{alike_of, written_of}
+use Rattle.bb_tool.proofs.Faults.{unread_of, write_faults_of}
 use Rattle.bb_tool.proofs.Wholes.{undisturbed_alone_of, undisturbed_of}
 use Rattle.bb_tool.proofs.session.run.Goals as goal
 
@@ -63,3 +66,21 @@ returns-clause-no_memory g c = no_memory_of _ c.answer.ensures.session
 
 pub returns-clause-unasked : goal.returns-clause-unasked
 returns-clause-unasked g c = unasked_of _ c.answer.ensures.session
+
+pub returns-clause-written : goal.returns-clause-written
+returns-clause-written g c = written_of _ c.answer.ensures.session
+
+pub returns-clause-passes : goal.returns-clause-passes
+returns-clause-passes g c = alike_of _ c.answer.ensures.session
+
+pub returns-clause-early : goal.returns-clause-early
+returns-clause-early g c = early_of _ c.answer.ensures.session c.answer.ensures.unread
+
+pub returns-clause-early_memory : goal.returns-clause-early_memory
+returns-clause-early_memory g c = early_memory_of _ c.answer.ensures.session
+
+pub returns-clause-read_fault_content : goal.returns-clause-read_fault_content
+returns-clause-read_fault_content g c = unread_of _ c.answer.ensures.session
+
+pub returns-clause-write_fault_cause : goal.returns-clause-write_fault_cause
+returns-clause-write_fault_cause g c = write_faults_of _ c.answer.ensures.session

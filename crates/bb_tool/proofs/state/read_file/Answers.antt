@@ -17,6 +17,7 @@ returns-in-Ok-false-clause-read g c =
     (λ files told.
     subst (λ (n : List ℕ). file_of files n ≡ Ok None) c.as_str.ensures
     (c.in-Ok-false.ensures.read files told ∙ ap (λ (there : Bool). Ok (added there c.none-source.result c.read.new.out)) {y = false} c.in-Ok-false.field-0-test))
+    c.in-Ok-false.ensures.calm
 
 pub returns-in_err-copy-in-Err-Fault-clause-read : goal.returns-in_err-copy-in-Err-Fault-clause-read
 returns-in_err-copy-in-Err-Fault-clause-read g c =

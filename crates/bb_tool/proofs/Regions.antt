@@ -1,0 +1,57 @@
+-- What a load and a save make of one worked stride of 64 bytes, by computation alone.
+use Rattle.std.proofs.Common.{◌≡◌, ℕ, List, [], ◌∷◌, ◌++◌, replicate, refl, codes, Some, None}
+use Rattle.bb_base.specs.Crc.{divided, divided_8, after_byte}
+use Rattle.bb_base.specs.Form.{Form}
+use Rattle.bb_bucket.specs.Kind.{Kind}
+use Rattle.bb_bucket.specs.Stride.{stride_kind}
+use Rattle.bb_flash.specs.declared.health.Health.{Health}
+use Rattle.bb_flash.specs.declared.health.Health.TheVariants.{Fine, Worn}
+use Rattle.bb_flash.specs.Image.{Image}
+use Rattle.bb_layout.specs.declared.format_kind.FormatKind.TheVariants as formats
+use Rattle.bb_state.specs.Kinds.{any_form, format_of}
+use Rattle.bb_tool.specs.Exactly.{last_of, loaded_region, saved_region}
+
+form : Form
+form = any_form (format_of formats.Raw 0x12345678 9)
+
+kind : Kind
+kind = stride_kind (record { at = 0; size = 64 })
+
+-- the front and the record of the area `123456789` under the magic 0x12345678
+entry : List ℕ
+entry =
+    (0xf3 ∷ 0xfd ∷ 0x54 ∷ 0x23 ∷ 0x19 ∷ 0 ∷ 0 ∷ 0 ∷ [])
+    ++ (0x78 ∷ 0x56 ∷ 0x34 ∷ 0x12 ∷ 0 ∷ 0 ∷ 9 ∷ 0 ∷ 0x26 ∷ 0x39 ∷ 0xf4 ∷ 0xcb ∷ 0x03 ∷ 0x2e ∷ 0x3c ∷ 0xdf ∷ [])
+    ++ codes "123456789"
+
+blank : Image
+blank = record { bytes = replicate 64 255; health = replicate 64 Fine }
+
+-- a stride with that record, of which one page has this health
+stored : Health → Image
+stored health = record {
+  bytes = entry ++ replicate 31 255;
+  health = replicate 20 Fine ++ health ∷ replicate 43 Fine;
+}
+
+a_load_writes_a_blank_copy : loaded_region form kind (Some (codes "123456789")) blank ≡ stored Fine
+unfolding after_byte divided_8 divided form kind entry blank stored
+a_load_writes_a_blank_copy = refl
+
+a_load_leaves_a_copy_that_passes : loaded_region form kind (Some (codes "123456789")) (stored Fine) ≡ stored Fine
+unfolding after_byte divided_8 divided form kind entry stored
+a_load_leaves_a_copy_that_passes = refl
+
+a_load_writes_a_copy_with_a_worn_page : loaded_region form kind (Some (codes "123456789")) (stored Worn) ≡ stored Fine
+unfolding after_byte divided_8 divided form kind entry stored
+a_load_writes_a_copy_with_a_worn_page = refl
+
+a_load_that_took_none_writes_nothing : loaded_region form kind None (stored Worn) ≡ stored Worn
+a_load_that_took_none_writes_nothing = refl
+
+a_save_writes_each_copy : saved_region form kind (codes "123456789" ∷ []) (stored Worn) ≡ stored Fine
+unfolding after_byte divided_8 divided form kind entry stored
+a_save_writes_each_copy = refl
+
+the_last_save_counts : last_of (Some (codes "a")) (codes "b" ∷ codes "c" ∷ []) ≡ Some (codes "c")
+the_last_save_counts = refl

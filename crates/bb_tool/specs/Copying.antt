@@ -1,0 +1,103 @@
+-- What `run` says of the copies: how they stand at exit and on the way, to the byte where nothing
+-- failed, and why one of them couldn't be written. None of these facts names a command.
+use Rattle.std.specs.Prelude.{◌≡◌, ◌<◌, ◌⊎◌, ℕ, Some, Result, Ok}
+use Rattle.bb_copies.specs.Loading.{KeepsOutside}
+use Rattle.bb_copies.specs.Settling.{IsUndisturbed}
+use Rattle.bb_flash.specs.Device.{Device, content}
+use Rattle.bb_state.specs.Kinds.{laid_kinds}
+use Rattle.bb_tool.specs.Calls.{MayAnswer, plan_for, session_for}
+use Rattle.bb_tool.specs.Exactly.{EndsAlike, LeavesExactly}
+use Rattle.bb_tool.specs.Plan.{Plan}
+use Rattle.bb_tool.specs.Ran.{Ran}
+use Rattle.bb_tool.specs.Session.{Answers, all_made}
+use Rattle.bb_tool.specs.Turns.{HasTrails, LeadsOn}
+use Rattle.bb_tool.specs.WriteFault.{IsWriteFault}
+use Rattle.bb_tool.specs.declared.refusal.Refusal.{Refusal}
+use Rattle.bb_tool.specs.declared.refusal.Refusal.TheVariants as refusals
+use Rattle.bb_tool.specs.declared.status.Status.TheVariants as statuses
+
+-- ---- whatever happened
+
+-- the work of a plan was done, for these answers
+abbrev pub EachWork : Ran → (Plan → Answers → Type 0) → Type 0
+EachWork ran P =
+    (answers : Answers) (plan : Plan) → MayAnswer ran answers →
+    plan_for ran answers ≡ Ok plan → P plan answers
+
+-- For whatever answers the session is told: at exit, where no call that failed left a copy that
+-- passes by luck, the copies stand for what the session's turn makes of the list.
+abbrev pub KeepsAtExit : Ran → Type 0
+KeepsAtExit ran =
+    EachWork ran
+    (λ plan answers.
+    LeadsOn plan ran.before.device ran.after.device answers.load answers.saves)
+
+-- each image on the way that counts stands for a stage that it reached, or for a later one
+abbrev pub KeepsATrail : Ran → Type 0
+KeepsATrail ran =
+    EachWork ran
+    (λ plan answers.
+    HasTrails plan ran.before.device ran.after.device answers.load answers.saves)
+
+-- nothing outside the copies changes, in any image
+abbrev pub KeepsOthers : Ran → Type 0
+KeepsOthers ran =
+    EachWork ran
+    (λ plan answers.
+    KeepsOutside (laid_kinds plan.layout) ran.before.device ran.after.device)
+
+-- ---- where no call of the device failed
+
+-- a fact about what was left, for whatever answers the session is told
+abbrev pub EachCalm : Ran → (Result Plan Refusal → Device → Device → Type 0) → Type 0
+EachCalm ran P =
+    IsUndisturbed ran.before.device ran.after.device → (answers : Answers) → MayAnswer ran answers →
+    P (plan_for ran answers) ran.before.device ran.after.device
+
+-- Each copy holds exactly what the load and the saves make of it: a save writes every copy; a load
+-- that took one writes those that don't pass its area, or have a Worn page in their record. A look,
+-- a load that found none and a session that is refused before its work write nothing.
+abbrev pub WritesExactly : Ran → Type 0
+WritesExactly ran = EachCalm ran LeavesExactly
+
+-- Every copy passes the area that was loaded or saved last; where none was the copies are as at
+-- entry.
+abbrev pub MakesAlike : Ran → Type 0
+MakesAlike ran = EachCalm ran EndsAlike
+
+-- ---- early ends
+
+-- no call of the device was made
+abbrev pub LeavesDevice : Ran → Type 0
+LeavesDevice ran = ran.after.device ≡ ran.before.device
+
+-- so it is where the files' count of faults rose
+abbrev pub StopsAtFileFault : Ran → Type 0
+StopsAtFileFault ran = ran.before.folder.faults < ran.after.folder.faults → LeavesDevice ran
+
+-- each save that was begun answered Ok
+pub record MakesItsSaves (ran : Ran) : Type 0 where
+  pub answers : Answers
+  pub answered : MayAnswer ran answers
+  pub made : answers.saves ≡ all_made (session_for ran answers).saves
+
+-- where memory was refused that was before any call of the device, or behind saves that were made
+abbrev pub StopsBetweenSaves : Ran → Type 0
+StopsBetweenSaves ran = ran.status ≡ statuses.NoMemory → LeavesDevice ran ⊎ MakesItsSaves ran
+
+-- ---- where a call of the device failed
+
+-- a session that couldn't read the device leaves what it holds
+abbrev pub LeavesUnread : Ran → Type 0
+LeavesUnread ran =
+    (answers : Answers) → MayAnswer ran answers →
+    (session_for ran answers).refusal ≡ Some refusals.ReadFault →
+    content ran.after.device ≡ content ran.before.device
+
+-- a copy is named as one that couldn't be written only for one of the four causes
+abbrev pub KnowsWriteFaults : Ran → Type 0
+KnowsWriteFaults ran =
+    EachWork ran
+    (λ plan answers.
+    (copy : ℕ) → (session_for ran answers).refusal ≡ Some (refusals.WriteFault copy) →
+    IsWriteFault plan ran.before.device ran.after.device answers.load copy)

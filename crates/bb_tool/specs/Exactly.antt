@@ -1,0 +1,103 @@
+-- What a session leaves of the copies where no call of the device failed: each to the byte, by what
+-- stood there at entry.
+use Rattle.std.specs.Prelude.{◌≡◌, ℕ, ◌&&◌, Bool, false, not, List, [], ◌∷◌, All, Option, Some, None, Result, Ok, Err, option_and_then, if◌then◌else◌}
+use Rattle.std.specs.Option.{ForSome, option_map_or}
+use Rattle.std.specs.Str.{bytes_eq}
+use Rattle.bb_base.specs.Form.{Form}
+use Rattle.bb_bucket.specs.Kind.{Kind, part_of}
+use Rattle.bb_copies.specs.Buckets.{EachCopy}
+use Rattle.bb_flash.specs.Device.{Device, content}
+use Rattle.bb_flash.specs.Image.{Image}
+use Rattle.bb_layout.specs.Layout.{Laid}
+use Rattle.bb_state.specs.Kinds.{laid_form, laid_kinds}
+use Rattle.bb_tool.specs.Looking.{first_found, passed_in}
+use Rattle.bb_tool.specs.Plan.{Act, Plan, Show, Work, Write}
+use Rattle.bb_tool.specs.Session.{saves_behind}
+use Rattle.bb_tool.specs.declared.refusal.Refusal.{Refusal}
+
+-- ---- the region of one copy
+
+-- its record passes this area, and no page of it is Worn
+abbrev pub is_fresh : Form → Kind → List ℕ → Image → Bool
+is_fresh form kind area region =
+    not (kind.is_worn region)
+    && option_map_or (λ passed. bytes_eq passed area)
+    (option_and_then form.passes (kind.candidate_of region)) false
+
+-- after a load that took this area, if it took one: a copy that isn't fresh is written
+abbrev pub loaded_region : Form → Kind → Option (List ℕ) → Image → Image
+loaded_region form kind None region = region
+loaded_region form kind (Some area) region =
+    if is_fresh form kind area region then region else kind.after_write (form.text area) region
+
+-- after saves of these areas, one after another: each writes the copy
+abbrev pub saved_region : Form → Kind → List (List ℕ) → Image → Image
+saved_region form kind [] region = region
+saved_region form kind (area ∷ areas) region =
+    saved_region form kind areas (kind.after_write (form.text area) region)
+
+-- ---- the work of a plan, where the first copy that passed had this area, or none passed
+
+-- after the load, and the saves behind it
+abbrev pub stored_region : Plan → Option (List ℕ) → Kind → Image → Image
+stored_region plan found kind region =
+    let form = laid_form plan.layout in
+    saved_region form kind (saves_behind plan (Ok found)) (loaded_region form kind found region)
+
+-- a look changes nothing
+abbrev pub worked_region : Work → Plan → Option (List ℕ) → Kind → Image → Image
+worked_region Show plan found kind region = region
+worked_region (Write area) plan found kind region = stored_region plan found kind region
+worked_region (Act actions) plan found kind region = stored_region plan found kind region
+
+-- the area that was loaded or saved last, if one was
+abbrev pub last_of : Option (List ℕ) → List (List ℕ) → Option (List ℕ)
+last_of found [] = found
+last_of found (area ∷ areas) = last_of (Some area) areas
+
+-- a look loads none
+abbrev pub last_area : Work → Plan → Option (List ℕ) → Option (List ℕ)
+last_area Show plan found = None
+last_area (Write area) plan found = last_of found (saves_behind plan (Ok found))
+last_area (Act actions) plan found = last_of found (saves_behind plan (Ok found))
+
+-- ---- what it leaves of all copies
+
+-- the regions of the copies are what f makes of them
+abbrev pub LeavesRegions : List Kind → ℕ → (Kind → Image → Image) → Image → Image → Type 0
+LeavesRegions kinds page f before after =
+    EachCopy kinds
+    (λ copy kind. part_of page kind.region after ≡ f kind (part_of page kind.region before))
+
+-- every copy passes this area; where there is none the copies are as before
+abbrev pub PassAlike : Laid → ℕ → Option (List ℕ) → Image → Image → Type 0
+PassAlike layout page None before after =
+    LeavesRegions (laid_kinds layout) page (λ kind region. region) before after
+PassAlike layout page (Some area) before after =
+    All (λ passed. passed ≡ Some area) (passed_in layout page after)
+
+-- P holds of what the first copy passed at entry that passed, and of the contents at entry and exit
+abbrev pub EachContent : Plan → Device → Device → (Option (List ℕ) → Image → Image → Type 0) → Type 0
+EachContent plan from to P =
+    ForSome (content from)
+    (λ before.
+    ForSome (content to)
+    (λ after. P (first_found (passed_in plan.layout from.geometry.page before)) before after))
+
+-- at exit each copy is exactly what the load and the saves of the plan make of it; a plan that was
+-- refused leaves the device
+abbrev pub LeavesExactly : Result Plan Refusal → Device → Device → Type 0
+LeavesExactly (Err refusal) from to = to ≡ from
+LeavesExactly (Ok plan) from to =
+    EachContent plan from to
+    (λ found before after.
+    LeavesRegions (laid_kinds plan.layout) from.geometry.page (worked_region plan.work plan found)
+    before after)
+
+-- at exit every copy passes the area that was loaded or saved last
+abbrev pub EndsAlike : Result Plan Refusal → Device → Device → Type 0
+EndsAlike (Err refusal) from to = to ≡ from
+EndsAlike (Ok plan) from to =
+    EachContent plan from to
+    (λ found before after.
+    PassAlike plan.layout from.geometry.page (last_area plan.work plan found) before after)
