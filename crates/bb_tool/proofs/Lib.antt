@@ -11,8 +11,10 @@ pub mod Plans
 pub mod Quiet
 mod Regions
 pub mod Sources
+pub mod Tables
 pub mod Told
 pub mod Turns
+pub mod Unmarked
 pub mod Wholes
 pub mod Worked
 pub mod Works

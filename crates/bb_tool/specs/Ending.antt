@@ -1,10 +1,10 @@
 -- What files and a device may have answered to a session, and what it gave before anything was sent.
-use Rattle.std.specs.Prelude.{◌≡◌, ◌⊎◌, ℕ, List, None, Result, Ok, Err}
+use Rattle.std.specs.Prelude.{◌≡◌, ◌⊎◌, ℕ, List, Result, Ok, Err}
 use Rattle.bb_base.specs.Folder.{Folder}
 use Rattle.bb_flash.specs.Device.{Device}
 use Rattle.bb_tool.specs.Filing.{IsFiled}
 use Rattle.bb_tool.specs.Plan.{Plan, planned}
-use Rattle.bb_tool.specs.Session.{Answers, session_of}
+use Rattle.bb_tool.specs.Session.{Answers, HasNoFault, session_of}
 use Rattle.bb_tool.specs.Work.{Gives, IsRefusedMemory, IsWork}
 use Rattle.bb_tool.specs.declared.refusal.Refusal.{Refusal}
 use Rattle.bb_tool.specs.declared.refusal.Refusal.TheVariants as refusals
@@ -14,11 +14,11 @@ abbrev pub IsFollowed : Result Plan Refusal → Device → Device → Answers �
 IsFollowed (Ok plan) before after answers = IsWork plan before after answers.load answers.saves
 IsFollowed (Err refusal) before after answers = after ≡ before
 
--- these are what the file and the device answered
+-- these are what the files and the device answered
 pub record AreAnswers (words : List (List ℕ)) (folder folder' : Folder) (before after : Device)
     (answers : Answers) : Type 0 where
-  pub filed : IsFiled words folder folder' answers.file
-  pub followed : IsFollowed (planned words before.geometry answers.file) before after answers
+  pub filed : IsFiled words folder folder' answers.files
+  pub followed : IsFollowed (planned words before.geometry answers.files) before after answers
 
 -- the session gave its text, or its refusal
 pub record IsAnswer (words : List (List ℕ)) (folder folder' : Folder) (before after : Device)
@@ -27,12 +27,12 @@ pub record IsAnswer (words : List (List ℕ)) (folder folder' : Folder) (before 
   pub answered : AreAnswers words folder folder' before after answers
   pub gives : Gives (session_of words before.geometry answers) given
 
--- all its work was done, and then memory was refused for its text
+-- all its work was done, and then memory was refused for what was to be sent
 pub record IsWithoutText (words : List (List ℕ)) (folder folder' : Folder) (before after : Device)
     (given : Result (List ℕ) Refusal) : Type 0 where
   pub answers : Answers
   pub answered : AreAnswers words folder folder' before after answers
-  pub whole : (session_of words before.geometry answers).refusal ≡ None
+  pub whole : HasNoFault (session_of words before.geometry answers)
   pub is : given ≡ Err refusals.NoMemory
 
 -- before anything is sent: the answer of a session, or memory was refused

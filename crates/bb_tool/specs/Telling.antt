@@ -41,6 +41,8 @@ takes_memory (refusals.FileFault file) = true
 takes_memory (refusals.FileTooLong file) = true
 takes_memory refusals.ReadFault = false
 takes_memory (refusals.WriteFault copy) = false
+takes_memory (refusals.BadSettings e) = true
+takes_memory (refusals.NoGood place) = true
 takes_memory refusals.NoMemory = false
 
 abbrev pub IsToldMemory : Outlet → Outlet → Status → Type 0

@@ -1,9 +1,10 @@
 ghost use Rattle.std.specs.Prelude.{◌≡◌, ◌<◌, ◌++◌, true, IfOk, IfSome, None, codes, string_bytes};
-ghost use Rattle.bb_tool.specs.Refusal.{IsTellable, layout_words, line_of, refusal_words, tree_words, value_words, variable_words};
+ghost use Rattle.bb_tool.specs.Refusal.{IsTellable, layout_words, line_of, refusal_words, settings_words, tree_words, value_words, variable_words};
 ghost use Rattle.bb_tool.specs.Telling.{takes_memory};
 ghost use Rattle.bb_tool.specs.declared.refusal.Refusal.TheVariants as refusals;
 
 use crate::refusal::Refusal;
+use bb_chooser::SettingsError;
 use bb_dts::DtsError;
 use bb_layout::LayoutError;
 use bb_state::StateError;
@@ -31,6 +32,7 @@ pub(crate) fn fixed_line(refusal: &Refusal) -> Option<&'static str>
         Refusal::BadWords(_) | Refusal::BadTree(_) | Refusal::BadLayout(_) => None,
         Refusal::BadVariable(_, _) => None,
         Refusal::FileMissing(_) | Refusal::FileFault(_) | Refusal::FileTooLong(_) => None,
+        Refusal::BadSettings(_) | Refusal::NoGood(_) => None,
     }
 }
 
@@ -77,6 +79,8 @@ fn words(alloc: Global, refusal: &Refusal) -> Result<String, AllocError>
         Refusal::FileTooLong(file) => format!(in alloc; "FileTooLong {}", file.as_str()),
         Refusal::ReadFault => String::from_str(alloc, "ReadFault"),
         Refusal::WriteFault(copy) => format!(in alloc; "WriteFault {copy}"),
+        Refusal::BadSettings(error) => settings_words(alloc, error),
+        Refusal::NoGood(place) => format!(in alloc; "NoGood {place}"),
         Refusal::NoMemory => String::from_str(alloc, "NoMemory"),
     }
 }
@@ -140,5 +144,27 @@ fn layout_words(alloc: Global, error: &LayoutError) -> Result<String, AllocError
         LayoutError::AreaTooLong => String::from_str(alloc, "BadLayout AreaTooLong"),
         LayoutError::NameTwice => String::from_str(alloc, "BadLayout NameTwice"),
         LayoutError::NoMemory => String::from_str(alloc, "BadLayout NoMemory"),
+    }
+}
+
+fn settings_words(alloc: Global, error: &SettingsError) -> Result<String, AllocError>
+    ensures { IfOk result (λ words.
+        string_bytes words ≡ codes "BadSettings " ++ settings_words error.now) }
+{
+    match error {
+        SettingsError::BadLine(line) => format!(in alloc; "BadSettings BadLine {line}"),
+        SettingsError::NoTargets => String::from_str(alloc, "BadSettings NoTargets"),
+        SettingsError::TargetTwice(line) => format!(in alloc; "BadSettings TargetTwice {line}"),
+        SettingsError::BadNumber(line) => format!(in alloc; "BadSettings BadNumber {line}"),
+        SettingsError::BadEvent(line) => format!(in alloc; "BadSettings BadEvent {line}"),
+        SettingsError::NoSuchVariable(name) => format!(in alloc;
+            "BadSettings NoSuchVariable {}",
+            name.as_str()
+        ),
+        SettingsError::NotUint32(name) => format!(in alloc;
+            "BadSettings NotUint32 {}",
+            name.as_str()
+        ),
+        SettingsError::NoMemory => String::from_str(alloc, "BadSettings NoMemory"),
     }
 }
