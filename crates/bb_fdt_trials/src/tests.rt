@@ -1,0 +1,3 @@
+mod changed;
+mod fields;
+mod long;
