@@ -9,7 +9,7 @@ use Rattle.bb_words.specs.Words.{words_of}
 use Rattle.bb_words.specs.declared.command.Command.{Command}
 use Rattle.bb_words.specs.declared.command.Command.TheVariants.{Raw, State}
 use Rattle.bb_tool.specs.Calls.{IsSession, geometry_of}
-use Rattle.bb_tool.specs.Copying.{MakesItsSaves, StopsAtFileFault, StopsBetweenSaves}
+use Rattle.bb_tool.specs.Copying.{StopsAtFileFault, StopsBetweenSaves}
 use Rattle.bb_tool.specs.Ending.{IsFollowed}
 use Rattle.bb_tool.specs.Filing.{IsFiled}
 use Rattle.bb_tool.specs.Plan.{Act, FileAnswer, Plan, Show, Work, Write, has_file, names_file, plan_of, planned}

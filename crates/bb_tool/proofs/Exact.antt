@@ -1,8 +1,8 @@
 -- What a session leaves of each copy, to the byte, where no call of the device failed.
-use Rattle.std.proofs.Common.{◌≡◌, ◌⊎◌, ℕ, ◌+◌, ◌-◌, ◌≤◌, ◌&&◌, Bool, true, false, cond, not, List, [], ◌∷◌, length, count_by, Option, Some, None, is_some, Result, Ok, Err, refl, sym, ap, subst, ◌∙◌, inl, inr, arith, if◌then◌else◌}
+use Rattle.std.proofs.Common.{◌≡◌, ℕ, ◌+◌, ◌-◌, ◌≤◌, ◌&&◌, Bool, true, false, cond, not, List, [], ◌∷◌, length, count_by, Option, Some, None, is_some, Result, Ok, Err, refl, sym, ap, subst, ◌∙◌, inl, inr, arith, if◌then◌else◌}
 use Rattle.std.specs.List.{AllByRecursion}
 use Rattle.std.specs.Option.{option_map, option_map_or}
-use Rattle.std.specs.Prelude.{All, option_and_then}
+use Rattle.std.specs.Prelude.{All}
 use Rattle.std.specs.Str.{bytes_eq}
 use Rattle.std.proofs.lemmas.Bool.{cases_lt}
 use Rattle.std.proofs.lemmas.List.{length-map}
@@ -14,7 +14,6 @@ use Rattle.bb_base.specs.Form.{Form}
 use Rattle.bb_bucket.specs.Calls.{but_reads, told_but_reads}
 use Rattle.bb_bucket.specs.Kind.{Kind, part_of}
 use Rattle.bb_copies.specs.Loading.{IsAllKept, IsExact}
-use Rattle.bb_copies.specs.Looking.{IsFresh}
 use Rattle.bb_copies.specs.Passing.{passing_of}
 use Rattle.bb_copies.specs.Settling.{IsUndisturbed, RoseBy}
 use Rattle.bb_copies.specs.StandsFor.{IsAreaOrNone}
@@ -32,9 +31,9 @@ use Rattle.bb_tool.specs.Looking.{first_found, passed_in}
 use Rattle.bb_tool.specs.Plan.{Act, Plan, Show, Work, Write, planned}
 use Rattle.bb_tool.specs.Ran.{Ran}
 use Rattle.bb_tool.specs.Session.{Answers, LoadAnswer, SaveAnswer, all_made, saves_behind, worked}
-use Rattle.bb_tool.specs.Work.{AreSaved, IsFound, IsLoaded, IsLoadedAs, IsStoreWork, IsWork, IsWorkOf, taken}
+use Rattle.bb_tool.specs.Work.{AreSaved, IsFound, IsLoadedAs, IsStoreWork, IsWork, IsWorkOf, taken}
 use Rattle.bb_tool.specs.declared.refusal.Refusal.{Refusal}
-use Rattle.bb_tool.proofs.Endings.{copies_are, rose_by, rose_from, rose_on, saved_later}
+use Rattle.bb_tool.proofs.Endings.{rose_by, rose_from, rose_on, saved_later}
 use Rattle.bb_tool.proofs.Turns.{some_of, told_content}
 use Rattle.bb_tool.proofs.Wholes.{IsHeld, unrefused, work_held}
 

@@ -1,11 +1,10 @@
 -- Why a session says that it couldn't read the device, or write a copy.
-use Rattle.std.proofs.Common.{◌≡◌, ◌≢◌, ℕ, zero, suc, ◌-◌, ◌≤◌, List, [], ◌∷◌, length, Option, Some, None, Result, Ok, Err, refl, sym, ap, subst, ◌∙◌, inl, inr, arith}
-use Rattle.std.specs.Option.{ForSome, option_map}
+use Rattle.std.proofs.Common.{◌≡◌, ℕ, suc, ◌-◌, ◌≤◌, List, [], ◌∷◌, length, Option, Some, None, Result, Ok, Err, refl, sym, ap, subst, ◌∙◌, inl, inr, arith}
+use Rattle.std.specs.Option.{option_map}
 use Rattle.std.specs.Prelude.{Contains, slice_get, option_and_then}
 use Rattle.std.proofs.lemmas.Option.{same_Some, slice_get-map}
 use Rattle.bb_base.specs.Form.{Form}
 use Rattle.bb_bucket.specs.Kind.{Kind}
-use Rattle.bb_copies.specs.Buckets.{EachCopy}
 use Rattle.bb_copies.specs.Passing.{passes_at, passing_of, passings}
 use Rattle.bb_copies.specs.Refreshing.{IsStuckAt}
 use Rattle.bb_copies.specs.Saving as saving
@@ -18,7 +17,6 @@ use Rattle.bb_copies.specs.declared.answers.Loaded.TheVariants.{Copy, NoCopy}
 use Rattle.bb_copies.proofs.Many.{passes_kind}
 use Rattle.bb_flash.specs.Device.{Device, content}
 use Rattle.bb_flash.specs.Image.{Image}
-use Rattle.bb_layout.specs.Layout.{Laid}
 use Rattle.bb_state.specs.Kinds.{laid_form, laid_kinds}
 use Rattle.bb_tool.specs.Calls.{IsSession, geometry_of}
 use Rattle.bb_tool.specs.Copying.{KnowsWriteFaults, LeavesUnread}
@@ -28,8 +26,8 @@ use Rattle.bb_tool.specs.Plan.{Act, Plan, Show, Work, Write, planned}
 use Rattle.bb_tool.specs.Ran.{Ran}
 use Rattle.bb_tool.specs.Refusal.{copy_refusal}
 use Rattle.bb_tool.specs.Session.{Answers, LoadAnswer, SaveAnswer, followed, loaded_area, saved, saves_behind, saves_of, text_of, worked}
-use Rattle.bb_tool.specs.Work.{AreSaved, IsLoaded, IsSaved, IsStoreWork, IsWork, IsWorkOf, taken}
-use Rattle.bb_tool.specs.WriteFault.{AreAllLost, IsLeftAlone, IsLeftStale, IsWanted, IsWriteFault}
+use Rattle.bb_tool.specs.Work.{AreSaved, IsLoaded, IsSaved, IsStoreWork, IsWorkOf, taken}
+use Rattle.bb_tool.specs.WriteFault.{IsWanted, IsWriteFault}
 use Rattle.bb_tool.specs.declared.refusal.Refusal.{Refusal}
 use Rattle.bb_tool.specs.declared.refusal.Refusal.TheVariants as refusals
 use Rattle.bb_tool.proofs.Endings.{copies_are, get_inside, none_some, rose_from}

@@ -11,6 +11,7 @@ pub mod Plans
 pub mod Quiet
 mod Regions
 pub mod Sources
+pub mod Tellable
 pub mod Told
 pub mod Turns
 pub mod Wholes

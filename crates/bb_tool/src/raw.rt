@@ -1,8 +1,9 @@
-ghost use Rattle.std.specs.Prelude.{◌≡◌, ◌⊎◌, List, ℕ, Ok, IfErr, IfOk, length, option_map};
+ghost use Rattle.std.specs.Prelude.{◌≡◌, ◌⊎◌, ◌≤◌, List, ℕ, Ok, IfErr, IfOk, length, option_map, vec_len};
 ghost use Rattle.bb_base.specs.Folder.{Folder};
 ghost use Rattle.bb_flash.specs.Cuts.{IsLater};
 ghost use Rattle.bb_flash.specs.Device.{IsDevice, LeavesStarts};
 ghost use Rattle.bb_layout.specs.Layout.{laid};
+ghost use Rattle.bb_state.specs.State.{IsOn, IsSized, laid_of};
 ghost use Rattle.bb_words.specs.Answer.{IsSizedRaw};
 ghost use Rattle.bb_words.specs.Words.{words_of};
 ghost use Rattle.bb_words.specs.declared.command.Command.TheVariants as commands;
@@ -50,8 +51,25 @@ fn look<F: Flash>(alloc: Global, flash: &mut F, layout: Layout) -> Result<Bytes,
     ensures later { IsLater (F.device flash.old) (F.device flash.new) }
     ensures starts { LeavesStarts (F.device flash.old) (F.device flash.new) }
 {
-    let mut area = vec![in alloc; 0u8; layout.area_len as usize]?;
+    let area = vec![in alloc; 0u8; layout.area_len as usize]?;
     let mut state = State::mount(alloc, layout)?;
+    look_at(alloc, flash, &mut state, area)
+}
+
+// The same over a state that is mounted, with room for the area.
+fn look_at<F: Flash>(
+    alloc: Global,
+    flash: &mut F,
+    state: &mut State,
+    mut area: Vec<u8>,
+) -> Result<Bytes, Refusal>
+    requires sized { vec_len area ≡ (laid_of state.old).area_len }
+    requires on { IsOn state.old (F.device flash.old) }
+    ensures gives { IsWorkedOut (laid_of state.old) Show
+        (F.device flash.old) (F.device flash.new) result }
+    ensures later { IsLater (F.device flash.old) (F.device flash.new) }
+    ensures starts { LeavesStarts (F.device flash.old) (F.device flash.new) }
+{
     let found = state.look(flash, &mut area)?;
     Ok(look_text(alloc, found.then_some(area))?)
 }
@@ -89,6 +107,25 @@ fn save<F: Flash>(
     ensures starts { LeavesStarts (F.device flash.old) (F.device flash.new) }
 {
     let mut state = State::mount(alloc, layout)?;
+    save_on(alloc, flash, &mut state, area)
+}
+
+// The same over a state that is mounted.
+fn save_on<F: Flash>(
+    alloc: Global,
+    flash: &mut F,
+    state: &mut State,
+    area: &[u8],
+) -> Result<Bytes, Refusal>
+    requires table { IsSized state.old }
+    requires sized { length area.now ≡ (laid_of state.old).area_len }
+    requires on { IsOn state.old (F.device flash.old) }
+    requires many { 2 ≤ (laid_of state.old).copies }
+    ensures gives { IsWorkedOut (laid_of state.old) (Write area.now)
+        (F.device flash.old) (F.device flash.new) result }
+    ensures later { IsLater (F.device flash.old) (F.device flash.new) }
+    ensures starts { LeavesStarts (F.device flash.old) (F.device flash.new) }
+{
     state.load(flash)?;
     state.table.put(0, area);
     state.save_always(flash)?;

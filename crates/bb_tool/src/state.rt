@@ -4,6 +4,7 @@ ghost use Rattle.bb_flash.specs.Cuts.{IsLater};
 ghost use Rattle.bb_flash.specs.Device.{IsDevice, LeavesStarts};
 ghost use Rattle.bb_flash.specs.Geometry.{IsGeometry};
 ghost use Rattle.bb_layout.specs.Layout.{laid};
+ghost use Rattle.bb_state.specs.State.{IsOn, IsSized, laid_of};
 ghost use Rattle.bb_words.specs.Words.{words_of};
 ghost use Rattle.bb_words.specs.declared.command.Command.TheVariants as commands;
 ghost use Rattle.bb_tool.specs.Ending.{IsGiven};
@@ -107,8 +108,26 @@ fn act<F: Flash>(
     ensures starts { LeavesStarts (F.device flash.old) (F.device flash.new) }
 {
     let mut state = State::mount(alloc, layout)?;
+    act_on(alloc, flash, &mut state, actions)
+}
+
+// The same over a state that is mounted.
+fn act_on<F: Flash>(
+    alloc: Global,
+    flash: &mut F,
+    state: &mut State,
+    actions: &ActionList,
+) -> Result<Bytes, Refusal>
+    requires sized { IsSized state.old }
+    requires on { IsOn state.old (F.device flash.old) }
+    requires many { 2 ≤ (laid_of state.old).copies }
+    ensures gives { IsWorkedOut (laid_of state.old) (Act actions.now)
+        (F.device flash.old) (F.device flash.new) result }
+    ensures later { IsLater (F.device flash.old) (F.device flash.new) }
+    ensures starts { LeavesStarts (F.device flash.old) (F.device flash.new) }
+{
     state.load(flash)?;
-    make_sets(&mut state, actions);
+    make_sets(state, actions);
     state.save(flash)?;
     Ok(actions_text(alloc, state.layout(), state.table.bytes(), actions)?)
 }

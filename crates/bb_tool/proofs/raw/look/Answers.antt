@@ -1,76 +1,31 @@
-use Rattle.std.proofs.Common.{◌≡◌, ◌∙◌, Err, ap, sym, subst, option_map, arith}
-use Rattle.std.proofs.lemmas.Result.{err_from_is_err_and}
-use Rattle.std.specs.Bool.{then_some}
-use Rattle.std.specs.Vec.{with_items}
-use Rattle.bb_copies.specs.Loading.{LookGives}
-use Rattle.bb_layout.specs.Layout.{Laid, laid}
-use Rattle.bb_state.specs.Kinds.{laid_form, laid_kinds}
-use Rattle.bb_tool.specs.Looking.{look_text}
-use Rattle.bb_tool.proofs.Worked.{look_done, look_refused, look_textless, look_told, refilled, take-refill}
+use Rattle.std.proofs.Common.{◌≡◌, ◌∙◌, ◌≤◌, ap, sym, subst}
+use Rattle.std.specs.Prelude.{vec_len}
+use Rattle.bb_layout.specs.Layout.{Laid}
+use Rattle.bb_tool.specs.Plan.{Show}
+use Rattle.bb_tool.specs.Work.{IsWorkedOut}
+use Rattle.bb_tool.proofs.Tellable.{tellable_of}
 use Rattle.bb_tool.proofs.raw.look.Goals as goal
 
-pub look-requires-clause-on : goal.look-requires-clause-on
-look-requires-clause-on g c =
+pub look_at-requires-clause-sized : goal.look_at-requires-clause-sized
+look_at-requires-clause-sized g c =
+    subst (λ (l : Laid). vec_len c.in_ok-area.area ≡ l.area_len) (sym c.in_ok-state.ensures.layout)
+    c.in_ok-area.ensures.len
+
+pub look_at-requires-clause-on : goal.look_at-requires-clause-on
+look_at-requires-clause-on g c =
     c.in_ok-state.ensures.fresh (g.F.Flash.device c.args.flash.now)
     (sym c.requires.geometry ∙ ap (λ l. l.geometry) (sym c.in_ok-state.ensures.layout)) c.requires.whole
 
-pub returns-in_err-found-clause-gives : goal.returns-in_err-found-clause-gives
-returns-in_err-found-clause-gives g c =
-    let p = err_from_is_err_and c.from_residual-in_err-found.result c.from_residual-in_err-found.ensures.1 in
-    let keeps = c.in_err-found.ensures.keeps in
-    look_refused (laid c.args.layout) (g.F.Flash.device c.args.flash.now) (g.F.Flash.device c.look.new.flash)
-    c.in_err-found.field-0.0 c.from_residual-in_err-found.result
-    (record {
-      told = λ image told. tt;
-      fails = c.in_err-found.ensures.fails;
-      faults = c.in_err-found.ensures.faults;
-      read_faults = c.in_err-found.ensures.read_faults;
-      quiet = record {
-        told = c.in_err-found.ensures.told;
-        later = c.in_err-found.ensures.later;
-        starts = record { starts = keeps.starts; start_faults = keeps.start_faults };
-      };
-    })
-    (p.1 ∙ ap (λ e. Err e) p.2)
-
-pub returns-in_err-look_text-clause-gives : goal.returns-in_err-look_text-clause-gives
-returns-in_err-look_text-clause-gives g c =
-    let p = err_from_is_err_and c.from_residual-in_err-look_text.result c.from_residual-in_err-look_text.ensures.1 in
-    let keeps = c.in_ok-found.ensures.keeps in
-    look_textless (laid c.args.layout) (g.F.Flash.device c.args.flash.now) (g.F.Flash.device c.look.new.flash)
-    (then_some c.in_ok-found.found c.look.new.area) c.from_residual-in_err-look_text.result
-    (record {
-      told = look_told (laid c.args.layout) c.look.new.area c.in_ok-found.found (g.F.Flash.device c.args.flash.now)
-          (subst (λ (l : Laid). LookGives (laid_form l) (laid_kinds l) c.look.new.area (g.F.Flash.device c.args.flash.now) c.in_ok-found.found) c.in_ok-state.ensures.layout c.in_ok-found.ensures.gives);
-      fails = tt;
-      faults = c.in_ok-found.ensures.faults;
-      read_faults = c.in_ok-found.ensures.read_faults;
-      quiet = record {
-        told = c.in_ok-found.ensures.told;
-        later = c.in_ok-found.ensures.later;
-        starts = record { starts = keeps.starts; start_faults = keeps.start_faults };
-      };
-    })
-    (p.1 ∙ ap (λ e. Err e) p.2)
-
 pub returns-clause-gives : goal.returns-clause-gives
 returns-clause-gives g c =
-    let keeps = c.in_ok-found.ensures.keeps in
-    let filled = with_items c.in_ok-area.area c.look.new.area in
-    let items : filled.items ≡ c.look.new.area = take-refill _ _ _ (omega (arith, c.in_ok-area.ensures.len, c.look.auto.area, c.deref_mut.ensures.len)) in
-    look_done (laid c.args.layout) (g.F.Flash.device c.args.flash.now) (g.F.Flash.device c.look.new.flash)
-    (then_some c.in_ok-found.found c.look.new.area) _
-    (record {
-      told = look_told (laid c.args.layout) c.look.new.area c.in_ok-found.found (g.F.Flash.device c.args.flash.now)
-          (subst (λ (l : Laid). LookGives (laid_form l) (laid_kinds l) c.look.new.area (g.F.Flash.device c.args.flash.now) c.in_ok-found.found) c.in_ok-state.ensures.layout c.in_ok-found.ensures.gives);
-      fails = tt;
-      faults = c.in_ok-found.ensures.faults;
-      read_faults = c.in_ok-found.ensures.read_faults;
-      quiet = record {
-        told = c.in_ok-found.ensures.told;
-        later = c.in_ok-found.ensures.later;
-        starts = record { starts = keeps.starts; start_faults = keeps.start_faults };
-      };
-    })
-    (c.in_ok-look_text.ensures ∙ ap look_text (ap (option_map (λ area. area.items)) c.then_some.ensures
-    ∙ refilled c.in_ok-found.found filled c.look.new.area items))
+    subst
+    (λ (l : Laid). IsWorkedOut l Show (g.F.Flash.device c.args.flash.now)
+    (g.F.Flash.device c.look_at.new.flash) c.look_at.result)
+    c.in_ok-state.ensures.layout c.look_at.ensures.gives
+
+pub returns-clause-tellable : goal.returns-clause-tellable
+returns-clause-tellable g c =
+    tellable_of _ Show (g.F.Flash.device c.args.flash.now) (g.F.Flash.device c.look_at.new.flash)
+    c.look_at.result
+    (subst (λ (l : Laid). l.copies ≤ 3) (sym c.in_ok-state.ensures.layout) c.args.layout.facts.copied.most)
+    c.look_at.ensures.gives

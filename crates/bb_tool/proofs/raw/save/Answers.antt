@@ -1,124 +1,34 @@
-use Rattle.std.proofs.Common.{◌≡◌, ◌∙◌, ℕ, List, Option, Ok, Err, ap, sym, subst, refl}
-use Rattle.std.proofs.lemmas.Result.{err_from_is_err_and}
-use Rattle.bb_copies.specs.Store.{used_after}
-use Rattle.bb_flash.proofs.Moments.{later_joined}
-use Rattle.bb_layout.specs.Layout.{Laid, laid}
-use Rattle.bb_state.proofs.Mounting.{sized_fits}
+use Rattle.std.proofs.Common.{◌≡◌, ◌∙◌, ◌≤◌, length, ap, sym, subst}
+use Rattle.bb_layout.specs.Layout.{Laid}
 use Rattle.bb_tool.specs.Plan.{Write}
-use Rattle.bb_tool.specs.Refusal.{copy_refusal}
-use Rattle.bb_tool.specs.Work.{IsSaved}
-use Rattle.bb_tool.proofs.Worked.{LoadClauses, load_refused, put_whole, saved_err, saved_ok, stored_out}
+use Rattle.bb_tool.specs.Work.{IsWorkedOut}
+use Rattle.bb_tool.proofs.Tellable.{tellable_of}
 use Rattle.bb_tool.proofs.raw.save.Goals as goal
 
-pub load-requires-clause-on : goal.load-requires-clause-on
-load-requires-clause-on g c =
+pub save_on-requires-clause-sized : goal.save_on-requires-clause-sized
+save_on-requires-clause-sized g c =
+    subst (λ (l : Laid). length c.args.area.now ≡ l.area_len) (sym c.in_ok-state.ensures.layout)
+    c.requires.sized
+
+pub save_on-requires-clause-on : goal.save_on-requires-clause-on
+save_on-requires-clause-on g c =
     c.in_ok-state.ensures.fresh (g.F.Flash.device c.args.flash.now)
     (sym c.requires.geometry ∙ ap (λ l. l.geometry) (sym c.in_ok-state.ensures.layout)) c.requires.whole
 
-pub returns-in_err-load-clause-gives : goal.returns-in_err-load-clause-gives
-returns-in_err-load-clause-gives g c =
-    let from = g.F.Flash.device c.args.flash.now in
-    let to = g.F.Flash.device c.load.new.flash in
-    let area = c.load.new.self.table in
-    let fault = c.in_err-load.field-0.0 in
-    let p = err_from_is_err_and c.from_residual-in_err-load.result c.from_residual-in_err-load.ensures.1 in
-    load_refused (laid c.args.layout) (Write c.args.area.now) area from to fault
-    c.from_residual-in_err-load.result refl c.args.layout.facts.copied.least
-    (subst (λ (l : Laid). LoadClauses l area from to (Err fault)) c.in_ok-state.ensures.layout (record {
-      images = c.in_err-load.ensures.images;
-      outside = c.in_err-load.ensures.outside;
-      later = c.in_err-load.ensures.later;
-      starts = c.in_err-load.ensures.starts;
-      gives = tt;
-      defaults = tt;
-      exact = tt;
-      fails = c.in_err-load.ensures.fails;
-    }))
-    (p.1 ∙ ap (λ e. Err e) p.2)
-
-pub save_always-requires-clause-fits : goal.save_always-requires-clause-fits
-save_always-requires-clause-fits g c =
-    sized_fits c.load.new.self.backing.layout c.put.new.self
-    (c.put.ensures.same_length ∙ c.in_ok-load.ensures.sized)
-
-pub returns-in_err-save_always-clause-gives : goal.returns-in_err-save_always-clause-gives
-returns-in_err-save_always-clause-gives g c =
-    let from = g.F.Flash.device c.args.flash.now in
-    let mid = g.F.Flash.device c.load.new.flash in
-    let to = g.F.Flash.device c.save_always.new.flash in
-    let table = c.load.new.self.table in
-    let loaded = c.in_ok-load.field-0 in
-    let fault = c.in_err-save_always.field-0.0 in
-    let same = c.in_ok-load.ensures.layout ∙ c.in_ok-state.ensures.layout in
-    let p = err_from_is_err_and c.from_residual-in_err-save_always.result c.from_residual-in_err-save_always.ensures.1 in
-    let new : c.put.new.self ≡ c.args.area.now = c.put.ensures.replaced ∙ put_whole table c.args.area.now (c.requires.sized ∙ sym (c.in_ok-load.ensures.sized ∙ ap (λ (l : Laid). l.area_len) same)) in
-    let done : IsSaved c.load.new.self.backing.layout c.load.new.self.backing.used c.put.new.self mid to (Err fault) = record {
-      now = c.save_always.new.self.backing.used;
-      runs = c.in_err-save_always.ensures.runs;
-      stored = tt;
-      fails = c.in_err-save_always.ensures.fails;
-      sure = λ is. (let unsure = c.in_err-save_always.ensures.unsure.0 (ap (λ f. Err f) is) in let sure = c.in_ok-load.ensures.sure in cc);
-      exact = λ calm. tt;
-    } in
-    stored_out (laid c.args.layout) (Write c.args.area.now) from mid to table loaded refl c.args.layout.facts.copied.least
-    (subst (λ (l : Laid). LoadClauses l table from mid (Ok loaded)) c.in_ok-state.ensures.layout (record {
-      images = c.in_ok-load.ensures.images;
-      outside = c.in_ok-load.ensures.outside;
-      later = c.in_ok-load.ensures.later;
-      starts = c.in_ok-load.ensures.starts;
-      gives = c.in_ok-load.ensures.gives;
-      defaults = c.in_ok-load.ensures.defaults;
-      exact = c.in_ok-load.ensures.exact;
-      fails = tt;
-    }))
-    (λ text. Err (copy_refusal fault))
-    (saved_err (laid c.args.layout) (used_after loaded) c.args.area.now mid to fault
-    (subst (λ (l : Laid). IsSaved l (used_after loaded) c.args.area.now mid to (Err fault)) same
-    (subst (λ (u : Option ℕ). IsSaved c.load.new.self.backing.layout u c.args.area.now mid to (Err fault)) c.in_ok-load.ensures.used
-    (subst (λ (a : List ℕ). IsSaved c.load.new.self.backing.layout c.load.new.self.backing.used a mid to (Err fault)) new done))))
-    c.from_residual-in_err-save_always.result
-    (p.1 ∙ ap (λ e. Err e) p.2)
+pub save_on-requires-clause-many : goal.save_on-requires-clause-many
+save_on-requires-clause-many g c =
+    subst (λ (l : Laid). 2 ≤ l.copies) (sym c.in_ok-state.ensures.layout) c.args.layout.facts.copied.least
 
 pub returns-clause-gives : goal.returns-clause-gives
 returns-clause-gives g c =
-    let from = g.F.Flash.device c.args.flash.now in
-    let mid = g.F.Flash.device c.load.new.flash in
-    let to = g.F.Flash.device c.save_always.new.flash in
-    let table = c.load.new.self.table in
-    let loaded = c.in_ok-load.field-0 in
-    let same = c.in_ok-load.ensures.layout ∙ c.in_ok-state.ensures.layout in
-    let new : c.put.new.self ≡ c.args.area.now = c.put.ensures.replaced ∙ put_whole table c.args.area.now (c.requires.sized ∙ sym (c.in_ok-load.ensures.sized ∙ ap (λ (l : Laid). l.area_len) same)) in
-    let done : IsSaved c.load.new.self.backing.layout c.load.new.self.backing.used c.put.new.self mid to (Ok tt) = record {
-      now = c.save_always.new.self.backing.used;
-      runs = c.in_ok-save_always.ensures.runs;
-      stored = c.in_ok-save_always.ensures.saved;
-      fails = tt;
-      sure = tt;
-      exact = c.in_ok-save_always.ensures.exact;
-    } in
-    stored_out (laid c.args.layout) (Write c.args.area.now) from mid to table loaded refl c.args.layout.facts.copied.least
-    (subst (λ (l : Laid). LoadClauses l table from mid (Ok loaded)) c.in_ok-state.ensures.layout (record {
-      images = c.in_ok-load.ensures.images;
-      outside = c.in_ok-load.ensures.outside;
-      later = c.in_ok-load.ensures.later;
-      starts = c.in_ok-load.ensures.starts;
-      gives = c.in_ok-load.ensures.gives;
-      defaults = c.in_ok-load.ensures.defaults;
-      exact = c.in_ok-load.ensures.exact;
-      fails = tt;
-    }))
-    (λ text. Ok text)
-    (saved_ok (laid c.args.layout) (used_after loaded) c.args.area.now mid to
-    (subst (λ (l : Laid). IsSaved l (used_after loaded) c.args.area.now mid to (Ok tt)) same
-    (subst (λ (u : Option ℕ). IsSaved c.load.new.self.backing.layout u c.args.area.now mid to (Ok tt)) c.in_ok-load.ensures.used
-    (subst (λ (a : List ℕ). IsSaved c.load.new.self.backing.layout c.load.new.self.backing.used a mid to (Ok tt)) new done))))
-    (Ok c.none.result)
-    (ap (λ (t : List ℕ). Ok t) c.none.ensures)
+    subst
+    (λ (l : Laid). IsWorkedOut l (Write c.args.area.now) (g.F.Flash.device c.args.flash.now)
+    (g.F.Flash.device c.save_on.new.flash) c.save_on.result)
+    c.in_ok-state.ensures.layout c.save_on.ensures.gives
 
-pub returns-in_err-save_always-clause-later : goal.returns-in_err-save_always-clause-later
-returns-in_err-save_always-clause-later g c =
-    later_joined _ _ _ c.in_ok-load.ensures.later c.in_err-save_always.ensures.runs.later
-
-pub returns-clause-later : goal.returns-clause-later
-returns-clause-later g c =
-    later_joined _ _ _ c.in_ok-load.ensures.later c.in_ok-save_always.ensures.runs.later
+pub returns-clause-tellable : goal.returns-clause-tellable
+returns-clause-tellable g c =
+    tellable_of _ (Write c.args.area.now) (g.F.Flash.device c.args.flash.now) (g.F.Flash.device c.save_on.new.flash)
+    c.save_on.result
+    (subst (λ (l : Laid). l.copies ≤ 3) (sym c.in_ok-state.ensures.layout) c.args.layout.facts.copied.most)
+    c.save_on.ensures.gives

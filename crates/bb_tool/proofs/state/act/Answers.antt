@@ -1,224 +1,29 @@
-use Rattle.std.proofs.Common.{◌≡◌, ◌∙◌, ℕ, List, Ok, Err, ap, sym, subst, refl}
-use Rattle.std.proofs.lemmas.Result.{err_from_is_err_and}
-use Rattle.bb_actions.specs.Actions.{actions_text, after_all}
-use Rattle.bb_copies.specs.Store.{used_after}
-use Rattle.bb_layout.specs.Layout.{Laid, laid}
-use Rattle.bb_state.specs.State.{IsOn, is_sure, laid_of}
-use Rattle.bb_state.specs.declared.state.State.{State}
-use Rattle.bb_state.proofs.Mounting.{sized_fits}
+use Rattle.std.proofs.Common.{◌∙◌, ◌≤◌, ap, sym, subst}
+use Rattle.bb_layout.specs.Layout.{Laid}
 use Rattle.bb_tool.specs.Plan.{Act}
-use Rattle.bb_tool.specs.Refusal.{copy_refusal}
-use Rattle.bb_tool.specs.Session.{loaded_area}
-use Rattle.bb_tool.specs.Work.{IsFound, taken}
-use Rattle.bb_tool.proofs.Kept.{load_area}
-use Rattle.bb_tool.proofs.Worked.{LoadClauses, acted_err, acted_ok, begun_later, begun_starts, load_refused, stored_out, stored_textless}
+use Rattle.bb_tool.specs.Work.{IsWorkedOut}
+use Rattle.bb_tool.proofs.Tellable.{tellable_of}
 use Rattle.bb_tool.proofs.state.act.Goals as goal
 
-pub load-requires-clause-on : goal.load-requires-clause-on
-load-requires-clause-on g c =
+pub act_on-requires-clause-on : goal.act_on-requires-clause-on
+act_on-requires-clause-on g c =
     c.in_ok-state.ensures.fresh (g.F.Flash.device c.args.flash.now)
     (sym c.requires.geometry ∙ ap (λ l. l.geometry) (sym c.in_ok-state.ensures.layout)) c.requires.whole
 
-pub returns-in_err-load-clause-gives : goal.returns-in_err-load-clause-gives
-returns-in_err-load-clause-gives g c =
-    let from = g.F.Flash.device c.args.flash.now in
-    let to = g.F.Flash.device c.load.new.flash in
-    let area = c.load.new.self.table in
-    let fault = c.in_err-load.field-0.0 in
-    let p = err_from_is_err_and c.from_residual-in_err-load.result c.from_residual-in_err-load.ensures.1 in
-    load_refused (laid c.args.layout) (Act c.args.actions.now) area from to fault
-    c.from_residual-in_err-load.result refl c.args.layout.facts.copied.least
-    (subst (λ (l : Laid). LoadClauses l area from to (Err fault)) c.in_ok-state.ensures.layout (record {
-      images = c.in_err-load.ensures.images;
-      outside = c.in_err-load.ensures.outside;
-      later = c.in_err-load.ensures.later;
-      starts = c.in_err-load.ensures.starts;
-      gives = tt;
-      defaults = tt;
-      exact = tt;
-      fails = c.in_err-load.ensures.fails;
-    }))
-    (p.1 ∙ ap (λ e. Err e) p.2)
-
-pub save-requires-clause-fits : goal.save-requires-clause-fits
-save-requires-clause-fits g c =
-    sized_fits c.make_sets.new.state.backing.layout c.make_sets.new.state.table c.make_sets.ensures.sized
-
-pub save-requires-clause-on : goal.save-requires-clause-on
-save-requires-clause-on g c =
-    let on = c.in_ok-load.ensures.on in
-    subst (λ (s : State). IsOn s (g.F.Flash.device c.load.new.flash)) (sym c.make_sets.ensures.backing)
-    (record { geometry = on.geometry; agrees = on.agrees; whole = on.whole })
-
-pub returns-in_err-save-clause-gives : goal.returns-in_err-save-clause-gives
-returns-in_err-save-clause-gives g c =
-    let from = g.F.Flash.device c.args.flash.now in
-    let mid = g.F.Flash.device c.load.new.flash in
-    let to = g.F.Flash.device c.save.new.flash in
-    let first = c.load.new.self in
-    let loaded = c.in_ok-load.field-0 in
-    let layout = laid c.args.layout in
-    let p = err_from_is_err_and c.from_residual-in_err-save.result c.from_residual-in_err-save.ensures.1 in
-    let begun = acted_err first c.make_sets.new.state layout c.args.actions.now loaded mid to c.save.new.self.backing.used c.make_sets.ensures.backing c.make_sets.ensures.table
-    (c.in_ok-load.ensures.layout ∙ c.in_ok-state.ensures.layout) c.in_ok-load.ensures.used c.in_ok-load.ensures.sure c.in_ok-load.ensures.kept
-    c.in_err-save.ensures.runs c.in_err-save.ensures.idle c.in_err-save.field-0.0
-    (λ is. (let h = c.in_err-save.ensures.same is in cc))
-    (λ is. (let unsure = c.in_err-save.ensures.unsure.0 (ap (λ f. Err f) is) in let sure = ap is_sure c.make_sets.ensures.backing ∙ c.in_ok-load.ensures.sure in cc))
-    c.in_err-save.ensures.fails in
-    stored_out layout (Act c.args.actions.now) from mid to first.table loaded refl c.args.layout.facts.copied.least
-    (subst (λ (l : Laid). LoadClauses l c.load.new.self.table from mid (Ok loaded)) c.in_ok-state.ensures.layout (record {
-      images = c.in_ok-load.ensures.images;
-      outside = c.in_ok-load.ensures.outside;
-      later = c.in_ok-load.ensures.later;
-      starts = c.in_ok-load.ensures.starts;
-      gives = c.in_ok-load.ensures.gives;
-      defaults = c.in_ok-load.ensures.defaults;
-      exact = c.in_ok-load.ensures.exact;
-      fails = tt;
-    }))
-    (λ text. Err (copy_refusal c.in_err-save.field-0.0)) begun c.from_residual-in_err-save.result (p.1 ∙ ap (λ e. Err e) p.2)
-
-pub returns-in_err-save-clause-later : goal.returns-in_err-save-clause-later
-returns-in_err-save-clause-later g c =
-    let from = g.F.Flash.device c.args.flash.now in
-    let mid = g.F.Flash.device c.load.new.flash in
-    let to = g.F.Flash.device c.save.new.flash in
-    let first = c.load.new.self in
-    let loaded = c.in_ok-load.field-0 in
-    let layout = laid c.args.layout in
-    let begun = acted_err first c.make_sets.new.state layout c.args.actions.now loaded mid to c.save.new.self.backing.used c.make_sets.ensures.backing c.make_sets.ensures.table
-    (c.in_ok-load.ensures.layout ∙ c.in_ok-state.ensures.layout) c.in_ok-load.ensures.used c.in_ok-load.ensures.sure c.in_ok-load.ensures.kept
-    c.in_err-save.ensures.runs c.in_err-save.ensures.idle c.in_err-save.field-0.0
-    (λ is. (let h = c.in_err-save.ensures.same is in cc))
-    (λ is. (let unsure = c.in_err-save.ensures.unsure.0 (ap (λ f. Err f) is) in let sure = ap is_sure c.make_sets.ensures.backing ∙ c.in_ok-load.ensures.sure in cc))
-    c.in_err-save.ensures.fails in
-    begun_later layout (used_after loaded) _ begun.saves from mid to begun.are c.in_ok-load.ensures.later
-
-pub returns-in_err-save-clause-starts : goal.returns-in_err-save-clause-starts
-returns-in_err-save-clause-starts g c =
-    let from = g.F.Flash.device c.args.flash.now in
-    let mid = g.F.Flash.device c.load.new.flash in
-    let to = g.F.Flash.device c.save.new.flash in
-    let first = c.load.new.self in
-    let loaded = c.in_ok-load.field-0 in
-    let layout = laid c.args.layout in
-    let begun = acted_err first c.make_sets.new.state layout c.args.actions.now loaded mid to c.save.new.self.backing.used c.make_sets.ensures.backing c.make_sets.ensures.table
-    (c.in_ok-load.ensures.layout ∙ c.in_ok-state.ensures.layout) c.in_ok-load.ensures.used c.in_ok-load.ensures.sure c.in_ok-load.ensures.kept
-    c.in_err-save.ensures.runs c.in_err-save.ensures.idle c.in_err-save.field-0.0
-    (λ is. (let h = c.in_err-save.ensures.same is in cc))
-    (λ is. (let unsure = c.in_err-save.ensures.unsure.0 (ap (λ f. Err f) is) in let sure = ap is_sure c.make_sets.ensures.backing ∙ c.in_ok-load.ensures.sure in cc))
-    c.in_err-save.ensures.fails in
-    begun_starts layout (used_after loaded) _ begun.saves from mid to begun.are c.in_ok-load.ensures.starts
-
-pub returns-in_err-actions_text-clause-gives : goal.returns-in_err-actions_text-clause-gives
-returns-in_err-actions_text-clause-gives g c =
-    let from = g.F.Flash.device c.args.flash.now in
-    let mid = g.F.Flash.device c.load.new.flash in
-    let to = g.F.Flash.device c.save.new.flash in
-    let first = c.load.new.self in
-    let loaded = c.in_ok-load.field-0 in
-    let layout = laid c.args.layout in
-    let p = err_from_is_err_and c.from_residual-in_err-actions_text.result c.from_residual-in_err-actions_text.ensures.1 in
-    let begun = acted_ok first c.make_sets.new.state layout c.args.actions.now loaded mid to c.save.new.self.backing.used c.make_sets.ensures.backing c.make_sets.ensures.table
-    (c.in_ok-load.ensures.layout ∙ c.in_ok-state.ensures.layout) c.in_ok-load.ensures.used c.in_ok-load.ensures.sure c.in_ok-load.ensures.kept
-    c.in_ok-save.ensures.runs c.in_ok-save.ensures.idle c.in_ok-save.ensures.saved c.in_ok-save.ensures.exact in
-    stored_textless layout (Act c.args.actions.now) from mid to first.table loaded refl c.args.layout.facts.copied.least
-    (subst (λ (l : Laid). LoadClauses l c.load.new.self.table from mid (Ok loaded)) c.in_ok-state.ensures.layout (record {
-      images = c.in_ok-load.ensures.images;
-      outside = c.in_ok-load.ensures.outside;
-      later = c.in_ok-load.ensures.later;
-      starts = c.in_ok-load.ensures.starts;
-      gives = c.in_ok-load.ensures.gives;
-      defaults = c.in_ok-load.ensures.defaults;
-      exact = c.in_ok-load.ensures.exact;
-      fails = tt;
-    }))
-    (λ text. Ok text) begun (λ text. refl) c.from_residual-in_err-actions_text.result (p.1 ∙ ap (λ e. Err e) p.2)
-
-pub returns-in_err-actions_text-clause-later : goal.returns-in_err-actions_text-clause-later
-returns-in_err-actions_text-clause-later g c =
-    let from = g.F.Flash.device c.args.flash.now in
-    let mid = g.F.Flash.device c.load.new.flash in
-    let to = g.F.Flash.device c.save.new.flash in
-    let first = c.load.new.self in
-    let loaded = c.in_ok-load.field-0 in
-    let layout = laid c.args.layout in
-    let begun = acted_ok first c.make_sets.new.state layout c.args.actions.now loaded mid to c.save.new.self.backing.used c.make_sets.ensures.backing c.make_sets.ensures.table
-    (c.in_ok-load.ensures.layout ∙ c.in_ok-state.ensures.layout) c.in_ok-load.ensures.used c.in_ok-load.ensures.sure c.in_ok-load.ensures.kept
-    c.in_ok-save.ensures.runs c.in_ok-save.ensures.idle c.in_ok-save.ensures.saved c.in_ok-save.ensures.exact in
-    begun_later layout (used_after loaded) _ begun.saves from mid to begun.are c.in_ok-load.ensures.later
-
-pub returns-in_err-actions_text-clause-starts : goal.returns-in_err-actions_text-clause-starts
-returns-in_err-actions_text-clause-starts g c =
-    let from = g.F.Flash.device c.args.flash.now in
-    let mid = g.F.Flash.device c.load.new.flash in
-    let to = g.F.Flash.device c.save.new.flash in
-    let first = c.load.new.self in
-    let loaded = c.in_ok-load.field-0 in
-    let layout = laid c.args.layout in
-    let begun = acted_ok first c.make_sets.new.state layout c.args.actions.now loaded mid to c.save.new.self.backing.used c.make_sets.ensures.backing c.make_sets.ensures.table
-    (c.in_ok-load.ensures.layout ∙ c.in_ok-state.ensures.layout) c.in_ok-load.ensures.used c.in_ok-load.ensures.sure c.in_ok-load.ensures.kept
-    c.in_ok-save.ensures.runs c.in_ok-save.ensures.idle c.in_ok-save.ensures.saved c.in_ok-save.ensures.exact in
-    begun_starts layout (used_after loaded) _ begun.saves from mid to begun.are c.in_ok-load.ensures.starts
+pub act_on-requires-clause-many : goal.act_on-requires-clause-many
+act_on-requires-clause-many g c =
+    subst (λ (l : Laid). 2 ≤ l.copies) (sym c.in_ok-state.ensures.layout) c.args.layout.facts.copied.least
 
 pub returns-clause-gives : goal.returns-clause-gives
 returns-clause-gives g c =
-    let from = g.F.Flash.device c.args.flash.now in
-    let mid = g.F.Flash.device c.load.new.flash in
-    let to = g.F.Flash.device c.save.new.flash in
-    let first = c.load.new.self in
-    let loaded = c.in_ok-load.field-0 in
-    let layout = laid c.args.layout in
-    let begun = acted_ok first c.make_sets.new.state layout c.args.actions.now loaded mid to c.save.new.self.backing.used c.make_sets.ensures.backing c.make_sets.ensures.table
-    (c.in_ok-load.ensures.layout ∙ c.in_ok-state.ensures.layout) c.in_ok-load.ensures.used c.in_ok-load.ensures.sure c.in_ok-load.ensures.kept
-    c.in_ok-save.ensures.runs c.in_ok-save.ensures.idle c.in_ok-save.ensures.saved c.in_ok-save.ensures.exact in
-    let same = c.in_ok-load.ensures.layout ∙ c.in_ok-state.ensures.layout in
-    let found : IsFound layout first.table loaded from mid = subst (λ (l : Laid). IsFound l first.table loaded from mid) c.in_ok-state.ensures.layout
-    (record { gives = c.in_ok-load.ensures.gives; defaults = c.in_ok-load.ensures.defaults; exact = c.in_ok-load.ensures.exact }) in
-    let whole : loaded_area layout (taken first.table loaded) ≡ first.table = load_area layout first.table loaded from mid found in
-    stored_out layout (Act c.args.actions.now) from mid to first.table loaded refl c.args.layout.facts.copied.least
-    (subst (λ (l : Laid). LoadClauses l c.load.new.self.table from mid (Ok loaded)) c.in_ok-state.ensures.layout (record {
-      images = c.in_ok-load.ensures.images;
-      outside = c.in_ok-load.ensures.outside;
-      later = c.in_ok-load.ensures.later;
-      starts = c.in_ok-load.ensures.starts;
-      gives = c.in_ok-load.ensures.gives;
-      defaults = c.in_ok-load.ensures.defaults;
-      exact = c.in_ok-load.ensures.exact;
-      fails = tt;
-    }))
-    (λ text. Ok text) begun (Ok c.in_ok-actions_text.field-0)
-    (ap (λ (t : List ℕ). Ok t)
-    (c.in_ok-actions_text.ensures
-    ∙ ap (λ (l : Laid). actions_text l c.bytes.result.now c.args.actions.now)
-    (c.layout.ensures ∙ (c.in_ok-save.ensures.layout ∙ ap laid_of c.make_sets.ensures.backing ∙ same))
-    ∙ ap (λ (a : List ℕ). actions_text layout a c.args.actions.now)
-    (c.bytes.ensures ∙ (c.in_ok-save.ensures.table ∙ c.make_sets.ensures.table
-    ∙ ap (λ (l : Laid). after_all l.vars first.table c.args.actions.now) same
-    ∙ ap (λ (a : List ℕ). after_all layout.vars a c.args.actions.now) (sym whole)))))
+    subst
+    (λ (l : Laid). IsWorkedOut l (Act c.args.actions.now) (g.F.Flash.device c.args.flash.now)
+    (g.F.Flash.device c.act_on.new.flash) c.act_on.result)
+    c.in_ok-state.ensures.layout c.act_on.ensures.gives
 
-pub returns-clause-later : goal.returns-clause-later
-returns-clause-later g c =
-    let from = g.F.Flash.device c.args.flash.now in
-    let mid = g.F.Flash.device c.load.new.flash in
-    let to = g.F.Flash.device c.save.new.flash in
-    let first = c.load.new.self in
-    let loaded = c.in_ok-load.field-0 in
-    let layout = laid c.args.layout in
-    let begun = acted_ok first c.make_sets.new.state layout c.args.actions.now loaded mid to c.save.new.self.backing.used c.make_sets.ensures.backing c.make_sets.ensures.table
-    (c.in_ok-load.ensures.layout ∙ c.in_ok-state.ensures.layout) c.in_ok-load.ensures.used c.in_ok-load.ensures.sure c.in_ok-load.ensures.kept
-    c.in_ok-save.ensures.runs c.in_ok-save.ensures.idle c.in_ok-save.ensures.saved c.in_ok-save.ensures.exact in
-    begun_later layout (used_after loaded) _ begun.saves from mid to begun.are c.in_ok-load.ensures.later
-
-pub returns-clause-starts : goal.returns-clause-starts
-returns-clause-starts g c =
-    let from = g.F.Flash.device c.args.flash.now in
-    let mid = g.F.Flash.device c.load.new.flash in
-    let to = g.F.Flash.device c.save.new.flash in
-    let first = c.load.new.self in
-    let loaded = c.in_ok-load.field-0 in
-    let layout = laid c.args.layout in
-    let begun = acted_ok first c.make_sets.new.state layout c.args.actions.now loaded mid to c.save.new.self.backing.used c.make_sets.ensures.backing c.make_sets.ensures.table
-    (c.in_ok-load.ensures.layout ∙ c.in_ok-state.ensures.layout) c.in_ok-load.ensures.used c.in_ok-load.ensures.sure c.in_ok-load.ensures.kept
-    c.in_ok-save.ensures.runs c.in_ok-save.ensures.idle c.in_ok-save.ensures.saved c.in_ok-save.ensures.exact in
-    begun_starts layout (used_after loaded) _ begun.saves from mid to begun.are c.in_ok-load.ensures.starts
+pub returns-clause-tellable : goal.returns-clause-tellable
+returns-clause-tellable g c =
+    tellable_of _ (Act c.args.actions.now) (g.F.Flash.device c.args.flash.now) (g.F.Flash.device c.act_on.new.flash)
+    c.act_on.result
+    (subst (λ (l : Laid). l.copies ≤ 3) (sym c.in_ok-state.ensures.layout) c.args.layout.facts.copied.most)
+    c.act_on.ensures.gives
