@@ -77,7 +77,8 @@ PassAlike layout page (Some area) before after =
     All (λ passed. passed ≡ Some area) (passed_in layout page after)
 
 -- P holds of what the first copy passed at entry that passed, and of the contents at entry and exit
-abbrev pub EachContent : Plan → Device → Device → (Option (List ℕ) → Image → Image → Type 0) → Type 0
+abbrev pub EachContent : Plan → Device → Device → (Option (List ℕ) → Image → Image → Type 0)
+    → Type 0
 EachContent plan from to P =
     ForSome (content from)
     (λ before.

@@ -22,17 +22,20 @@ IsWanted plan from (Err fault) area =
     (λ image. first_found (passed_in plan.layout from.geometry.page image) ≡ Some area)
 
 -- the copy passes another area than the copies were to take, and two calls failed
-pub record IsLeftStale (plan : Plan) (from to : Device) (load : LoadAnswer) (copy : ℕ) : Type 0 where
+pub record IsLeftStale (plan : Plan) (from to : Device) (load : LoadAnswer) (copy : ℕ)
+    : Type 0 where
   pub area : List ℕ
   pub wanted : IsWanted plan from load area
   pub passes :
       ForSome (content to)
-      (λ image. PassesAnother area (passes_at (passed_in plan.layout from.geometry.page image) copy))
+      (λ image.
+      PassesAnother area (passes_at (passed_in plan.layout from.geometry.page image) copy))
   pub cause : RoseBy 2 from.faults to.faults
 
 -- The copy is the one that the load took, and the save left it as it was, in every image. No other
 -- copy passes anything, and for each of them a call failed.
-pub record IsLeftAlone (plan : Plan) (from to : Device) (load : LoadAnswer) (copy : ℕ) : Type 0 where
+pub record IsLeftAlone (plan : Plan) (from to : Device) (load : LoadAnswer) (copy : ℕ)
+    : Type 0 where
   -- between the load and the save
   pub middle : Device
   pub loaded : IsLoaded plan.layout (Some copy) from middle load
@@ -46,8 +49,10 @@ pub record IsLeftAlone (plan : Plan) (from to : Device) (load : LoadAnswer) (cop
       passes_at (passed_in plan.layout from.geometry.page image) place ≡ None)
   pub cause : RoseBy (plan.layout.copies - 1) from.faults to.faults
 
--- The load took no copy, and the copy is the last. None passes anything, and for each a call failed.
-pub record AreAllLost (plan : Plan) (from to : Device) (load : LoadAnswer) (copy : ℕ) : Type 0 where
+-- The load took no copy, and the copy is the last. None passes anything, and for each of them a call
+-- failed.
+pub record AreAllLost (plan : Plan) (from to : Device) (load : LoadAnswer) (copy : ℕ)
+    : Type 0 where
   pub found : load ≡ Ok None
   pub last : copy + 1 ≡ plan.layout.copies
   pub none :

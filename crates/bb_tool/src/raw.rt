@@ -46,7 +46,8 @@ pub(crate) fn raw<F: Flash>(
 fn look<F: Flash>(alloc: Global, flash: &mut F, layout: Layout) -> Result<Bytes, Refusal>
     requires geometry { layout.geometry ≡ (F.device flash.old).geometry }
     requires whole { IsDevice (F.device flash.old) }
-    ensures gives { IsWorkedOut (laid layout) Show (F.device flash.old) (F.device flash.new) result }
+    ensures gives { IsWorkedOut (laid layout) Show
+        (F.device flash.old) (F.device flash.new) result }
     ensures tellable { IfErr result IsTellable }
     ensures later { IsLater (F.device flash.old) (F.device flash.new) }
     ensures starts { LeavesStarts (F.device flash.old) (F.device flash.new) }
