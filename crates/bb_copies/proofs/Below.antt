@@ -14,9 +14,9 @@ use Rattle.bb_flash.specs.Image.{Image}
 use Rattle.bb_bucket.specs.Calls.{Leaves}
 use Rattle.bb_bucket.specs.Kind.{Kind, part_of}
 use Rattle.bb_copies.specs.Buckets.{EachCopy}
-use Rattle.bb_copies.specs.Erasing.{ErasesBy, unmarked}
+use Rattle.bb_copies.specs.Erasing.{ErasesBy, unmarked_kinds}
 use Rattle.bb_copies.specs.Passing.{passing_of}
-use Rattle.bb_copies.specs.Refreshing.{AllSettled, AllWritten, IsSettledAt, IsStuckAt, IsUntouched, IsWrittenAt, KeepsMarked, LeavesOthers, Refreshes, held, is_marked}
+use Rattle.bb_copies.specs.Refreshing.{AllSettled, AllWritten, IsSettledAt, IsStuckAt, IsUntouched, IsWrittenAt, KeepsMarked, LeavesOthers, Refreshes, area_if, is_marked}
 use Rattle.bb_copies.specs.Settling.{IsStale, IsUndisturbed, IsUnread, PassesAnother, RoseBy}
 use Rattle.bb_copies.proofs.Ends.{content_before}
 use Rattle.bb_copies.proofs.Erased.{count_append, erases_joined, none_erased, unmarked_enough, unmarked_more, unmarked_skip, written_erases}
@@ -35,10 +35,10 @@ pub record RefreshedBelow (form : Form) (kinds : List Kind) (area rec : List ℕ
       EachCopy
       kinds
       (λ copy kind.
-      copy < bound → is_marked marked copy ≡ false → ForSome (content to) (λ image. passing_of form from.geometry.page kind image ≡ held area (is_marked good copy)))
+      copy < bound → is_marked marked copy ≡ false → ForSome (content to) (λ image. passing_of form from.geometry.page kind image ≡ area_if area (is_marked good copy)))
   pub dead : RoseBy (count_by not (take bound good)) from.faults to.faults
   pub exact : IsUndisturbed from to → EachCopy kinds (λ copy kind. copy < bound → is_marked marked copy ≡ false → Leaves kind.region (kind.after_write rec) from to)
-  pub erased : IsUndisturbed from to → ErasesBy (unmarked (take bound marked) (take bound kinds)) rec from to
+  pub erased : IsUndisturbed from to → ErasesBy (unmarked_kinds (take bound marked) (take bound kinds)) rec from to
 
 pub none_refreshed : (form : Form) (kinds : List Kind) (area rec : List ℕ) (marked : List Bool) (device : Device) → IsDevice device → RefreshedBelow form kinds area rec marked marked 0 device device
 none_refreshed form kinds area rec marked device whole = record {
@@ -70,10 +70,10 @@ left_before marked bound copy (inl m) = inl m
 left_before marked bound copy (inr high) = inr (omega arith)
 
 -- one more copy, said of the list of those that were written
-erased_next : (kinds : List Kind) (rec : List ℕ) (marked : List Bool) (bound : ℕ) (written : List Kind) (from to : Device) → unmarked (take (suc bound) marked) (take (suc bound) kinds) ≡ written → ErasesBy written rec from to → ErasesBy (unmarked (take (bound + 1) marked) (take (bound + 1) kinds)) rec from to
+erased_next : (kinds : List Kind) (rec : List ℕ) (marked : List Bool) (bound : ℕ) (written : List Kind) (from to : Device) → unmarked_kinds (take (suc bound) marked) (take (suc bound) kinds) ≡ written → ErasesBy written rec from to → ErasesBy (unmarked_kinds (take (bound + 1) marked) (take (bound + 1) kinds)) rec from to
 erased_next kinds rec marked bound written from to is erased =
     let next : bound + 1 ≡ suc bound = omega arith in
-    subst (λ (n : ℕ). ErasesBy (unmarked (take n marked) (take n kinds)) rec from to) (sym next)
+    subst (λ (n : ℕ). ErasesBy (unmarked_kinds (take n marked) (take n kinds)) rec from to) (sym next)
     (subst (λ (ks : List Kind). ErasesBy ks rec from to) (sym is) erased)
 
 pub skipped : (form : Form) (kinds : List Kind) (area rec : List ℕ) (marked good : List Bool) (bound : ℕ) (from to : Device) → bound < length good → is_marked good bound ≡ true → RefreshedBelow form kinds area rec marked good bound from to → RefreshedBelow form kinds area rec marked good (bound + 1) from to
@@ -159,12 +159,12 @@ settled_more form kinds area rec marked good bound g from mid to inside within a
       each = λ copy kind e low fresh. elim (below_or_at copy bound low) [
         | inl lower ↦
             let apart : copy ≢ bound = omega arith in
-            subst (λ (b : Bool). ForSome (content to) (λ image. passing_of form from.geometry.page kind image ≡ held area b)) (sym (else_same copy apart))
-            (passes_still form kind from.geometry.page (held area (is_marked good copy)) mid to page run.later (others copy kind e apart) (below.each copy kind e lower fresh))
+            subst (λ (b : Bool). ForSome (content to) (λ image. passing_of form from.geometry.page kind image ≡ area_if area b)) (sym (else_same copy apart))
+            (passes_still form kind from.geometry.page (area_if area (is_marked good copy)) mid to page run.later (others copy kind e apart) (below.each copy kind e lower fresh))
         | inr at ↦
             let mark : is_marked (set good bound g) copy ≡ g = ap (is_marked (set good bound g)) at ∙ here in
-            subst (λ (b : Bool). ForSome (content to) (λ image. passing_of form from.geometry.page kind image ≡ held area b)) (sym mark)
-            (subst (λ (p : ℕ). ForSome (content to) (λ image. passing_of form p kind image ≡ held area g)) page (settled.passes copy kind e at))
+            subst (λ (b : Bool). ForSome (content to) (λ image. passing_of form from.geometry.page kind image ≡ area_if area b)) (sym mark)
+            (subst (λ (p : ℕ). ForSome (content to) (λ image. passing_of form p kind image ≡ area_if area g)) page (settled.passes copy kind e at))
       ];
       dead = dead_more good bound g from mid to within here run.later settled.cause below.dead;
       exact = λ quiet copy kind e low fresh. elim (below_or_at copy bound low) [
@@ -177,12 +177,12 @@ settled_more form kinds area rec marked good bound g from mid to inside within a
       ];
       erased = λ quiet.
           let kind = kind_inside kinds bound there in
-          let before : ErasesBy (unmarked (take bound marked) (take bound kinds)) rec from mid = below.erased (undisturbed_first from mid to run.later quiet) in
+          let before : ErasesBy (unmarked_kinds (take bound marked) (take bound kinds)) rec from mid = below.erased (undisturbed_first from mid to run.later quiet) in
           let last = written_erases kind.0 rec mid to (exact (undisturbed_second from mid to below.refreshes.later quiet) bound kind.0 kind.1 refl).erases in
-          let whole : List Kind = unmarked (take bound marked) (take bound kinds) ++ kind.0 ∷ [] in
+          let whole : List Kind = unmarked_kinds (take bound marked) (take bound kinds) ++ kind.0 ∷ [] in
           erased_next kinds rec marked bound whole from to (unmarked_more marked kinds bound kind.0 kind.1 among new)
-          (erases_joined (unmarked (take bound marked) (take bound kinds)) whole kind.0 rec from mid to below.refreshes.later run.later
-          (below.kept bound kind.0 kind.1 (inr (omega arith))) before last (λ p. count_append p (unmarked (take bound marked) (take bound kinds)) (kind.0 ∷ [])));
+          (erases_joined (unmarked_kinds (take bound marked) (take bound kinds)) whole kind.0 rec from mid to below.refreshes.later run.later
+          (below.kept bound kind.0 kind.1 (inr (omega arith))) before last (λ p. count_append p (unmarked_kinds (take bound marked) (take bound kinds)) (kind.0 ∷ [])));
     }
 
 -- ---- at the end
@@ -196,8 +196,8 @@ all_settled form kinds area rec marked good from to many below = record {
 
 pub all_written : (form : Form) (kinds : List Kind) (area rec : List ℕ) (marked good : List Bool) (from to : Device) → length good ≡ length kinds → RefreshedBelow form kinds area rec marked good (length good) from to → IsUndisturbed from to → AllWritten kinds rec marked from to
 all_written form kinds area rec marked good from to many below quiet =
-    let some : unmarked (take (length good) marked) (take (length good) kinds) ≡ unmarked marked kinds =
-    ap (λ n. unmarked (take (length good) marked) (take n kinds)) many ∙ ap (unmarked (take (length good) marked)) (take-length kinds)
+    let some : unmarked_kinds (take (length good) marked) (take (length good) kinds) ≡ unmarked_kinds marked kinds =
+    ap (λ n. unmarked_kinds (take (length good) marked) (take n kinds)) many ∙ ap (unmarked_kinds (take (length good) marked)) (take-length kinds)
     ∙ unmarked_enough marked kinds (length good) (omega (arith, many)) in
     record {
       each = λ copy kind e fresh. below.exact quiet copy kind e (omega (arith, slice_get_within kinds copy kind e, many)) fresh;

@@ -12,7 +12,7 @@ use Rattle.bb_flash.specs.Device.{Device, ReadKeeps, Told, content, erases}
 use Rattle.bb_flash.specs.Image.{Image}
 use Rattle.bb_bucket.specs.Calls.{ErasesWhere, but_reads, erases_after, told_but_reads}
 use Rattle.bb_bucket.specs.Kind.{Kind, part_of}
-use Rattle.bb_copies.specs.Erasing.{ErasesBy, erases_block, unmarked}
+use Rattle.bb_copies.specs.Erasing.{ErasesBy, erases_block, unmarked_kinds}
 use Rattle.bb_copies.specs.Refreshing.{IsUntouched, is_marked}
 use Rattle.bb_copies.proofs.Ends.{is_some_map, some_of}
 use Rattle.bb_copies.proofs.Many.{get_set_other, images_now, same_or_not, same_part}
@@ -30,7 +30,7 @@ count_append p xs ys = let f : Kind → ℕ = λ k. cond (p k) 1 0 in sum_by-app
 
 -- ---- the copies that aren't marked
 
-pub unmarked_skip : (marked : List Bool) (kinds : List Kind) (bound : ℕ) → is_marked marked bound ≡ true → unmarked (take (suc bound) marked) (take (suc bound) kinds) ≡ unmarked (take bound marked) (take bound kinds)
+pub unmarked_skip : (marked : List Bool) (kinds : List Kind) (bound : ℕ) → is_marked marked bound ≡ true → unmarked_kinds (take (suc bound) marked) (take (suc bound) kinds) ≡ unmarked_kinds (take bound marked) (take bound kinds)
 unmarked_skip [] kinds bound mark = absurd cc
 unmarked_skip (m ∷ marked) [] zero mark = refl
 unmarked_skip (m ∷ marked) [] (suc bound) mark = refl
@@ -39,7 +39,7 @@ unmarked_skip (false ∷ marked) (kind ∷ kinds) zero mark = absurd cc
 unmarked_skip (true ∷ marked) (kind ∷ kinds) (suc bound) mark = unmarked_skip marked kinds bound mark
 unmarked_skip (false ∷ marked) (kind ∷ kinds) (suc bound) mark = ap (λ ks. kind ∷ ks) (unmarked_skip marked kinds bound mark)
 
-pub unmarked_more : (marked : List Bool) (kinds : List Kind) (bound : ℕ) (here : Kind) → slice_get kinds bound ≡ Some here → bound < length marked → is_marked marked bound ≡ false → unmarked (take (suc bound) marked) (take (suc bound) kinds) ≡ unmarked (take bound marked) (take bound kinds) ++ here ∷ []
+pub unmarked_more : (marked : List Bool) (kinds : List Kind) (bound : ℕ) (here : Kind) → slice_get kinds bound ≡ Some here → bound < length marked → is_marked marked bound ≡ false → unmarked_kinds (take (suc bound) marked) (take (suc bound) kinds) ≡ unmarked_kinds (take bound marked) (take bound kinds) ++ here ∷ []
 unmarked_more [] kinds bound here e inside mark = absurd (omega arith)
 unmarked_more (m ∷ marked) [] bound here e inside mark = absurd cc
 unmarked_more (true ∷ marked) (kind ∷ kinds) zero here e inside mark = absurd cc
@@ -47,7 +47,7 @@ unmarked_more (false ∷ marked) (kind ∷ kinds) zero here e inside mark = let 
 unmarked_more (true ∷ marked) (kind ∷ kinds) (suc bound) here e inside mark = unmarked_more marked kinds bound here e (omega arith) mark
 unmarked_more (false ∷ marked) (kind ∷ kinds) (suc bound) here e inside mark = ap (λ ks. kind ∷ ks) (unmarked_more marked kinds bound here e (omega arith) mark)
 
-pub unmarked_enough : (marked : List Bool) (kinds : List Kind) (n : ℕ) → length kinds ≤ n → unmarked (take n marked) kinds ≡ unmarked marked kinds
+pub unmarked_enough : (marked : List Bool) (kinds : List Kind) (n : ℕ) → length kinds ≤ n → unmarked_kinds (take n marked) kinds ≡ unmarked_kinds marked kinds
 unmarked_enough [] kinds zero all = refl
 unmarked_enough [] kinds (suc n) all = refl
 unmarked_enough (m ∷ marked) [] zero all = refl
@@ -56,20 +56,20 @@ unmarked_enough (m ∷ marked) (kind ∷ kinds) zero all = absurd (omega arith)
 unmarked_enough (true ∷ marked) (kind ∷ kinds) (suc n) all = unmarked_enough marked kinds n (omega arith)
 unmarked_enough (false ∷ marked) (kind ∷ kinds) (suc n) all = ap (λ ks. kind ∷ ks) (unmarked_enough marked kinds n (omega arith))
 
-pub none_marked : (marked : List Bool) (kinds : List Kind) → ((copy : ℕ) → is_marked marked copy ≡ false) → unmarked marked kinds ≡ kinds
+pub none_marked : (marked : List Bool) (kinds : List Kind) → ((copy : ℕ) → is_marked marked copy ≡ false) → unmarked_kinds marked kinds ≡ kinds
 none_marked [] kinds none = refl
 none_marked (m ∷ marked) [] none = refl
 none_marked (true ∷ marked) (kind ∷ kinds) none = let clash : true ≡ false = none 0 in absurd cc
 none_marked (false ∷ marked) (kind ∷ kinds) none = ap (λ ks. kind ∷ ks) (none_marked marked kinds (λ copy. none (suc copy)))
 
 -- the copy of this number is one more
-pub one_more : (marked : List Bool) (kinds : List Kind) (used : ℕ) (here : Kind) → slice_get kinds used ≡ Some here → used < length marked → is_marked marked used ≡ false → (p : Kind → Bool) → count_by p (unmarked marked kinds) ≡ count_by p (unmarked (set marked used true) kinds) + count_by p (here ∷ [])
+pub one_more : (marked : List Bool) (kinds : List Kind) (used : ℕ) (here : Kind) → slice_get kinds used ≡ Some here → used < length marked → is_marked marked used ≡ false → (p : Kind → Bool) → count_by p (unmarked_kinds marked kinds) ≡ count_by p (unmarked_kinds (set marked used true) kinds) + count_by p (here ∷ [])
 one_more [] kinds used here e inside mark p = absurd (omega arith)
 one_more (m ∷ marked) [] used here e inside mark p = absurd cc
 one_more (true ∷ marked) (kind ∷ kinds) zero here e inside mark p = absurd cc
 one_more (false ∷ marked) (kind ∷ kinds) zero here e inside mark p =
     let is : kind ≡ here = cc in
-    let one = count_cons p kind (unmarked marked kinds) in
+    let one = count_cons p kind (unmarked_kinds marked kinds) in
     let f : Kind → ℕ = λ k. cond (p k) 1 0 in
     let two : f kind ≡ f here = ap f is in
     let three = count_one p here in
@@ -77,8 +77,8 @@ one_more (false ∷ marked) (kind ∷ kinds) zero here e inside mark p =
 one_more (true ∷ marked) (kind ∷ kinds) (suc used) here e inside mark p = one_more marked kinds used here e (omega arith) mark p
 one_more (false ∷ marked) (kind ∷ kinds) (suc used) here e inside mark p =
     let rest = one_more marked kinds used here e (omega arith) mark p in
-    let one = count_cons p kind (unmarked marked kinds) in
-    let two = count_cons p kind (unmarked (set marked used true) kinds) in
+    let one = count_cons p kind (unmarked_kinds marked kinds) in
+    let two = count_cons p kind (unmarked_kinds (set marked used true) kinds) in
     omega (arith, rest, one, two)
 
 -- ---- one write

@@ -13,10 +13,10 @@ use Rattle.bb_flash.specs.Image.{Image}
 use Rattle.bb_flash.proofs.Moments.{images_joined}
 use Rattle.bb_bucket.specs.Kind.{Kind}
 use Rattle.bb_copies.specs.Buckets.{EachCopy}
-use Rattle.bb_copies.specs.Erasing.{unmarked}
+use Rattle.bb_copies.specs.Erasing.{unmarked_kinds}
 use Rattle.bb_copies.specs.Looking.{IsFirst}
 use Rattle.bb_copies.specs.Passing.{passing_of, passings}
-use Rattle.bb_copies.specs.Refreshing.{AllHeld, AllSettled, AllWritten, IsFirstMarked, IsSettledAt, IsUntouched, IsWrittenAt, KeepsMarked, LeavesOthers, NeverEmpty, NoOther, held, is_marked}
+use Rattle.bb_copies.specs.Refreshing.{AllHeld, AllSettled, AllWritten, IsFirstMarked, IsSettledAt, IsUntouched, IsWrittenAt, KeepsMarked, LeavesOthers, NeverEmpty, NoOther, area_if, is_marked}
 use Rattle.bb_copies.specs.Settling.{IsUndisturbed, RoseBy}
 use Rattle.bb_copies.specs.StandsFor.{SomePasses}
 use Rattle.bb_copies.proofs.Below.{kind_inside, leaves_still, passes_still, still_leaves}
@@ -115,7 +115,7 @@ held_all form kinds area marked good from to later before kept settled = record 
   each = λ copy kind e. elim (true_or_false (is_marked marked copy)) [
     | inr fresh ↦ settled.each copy kind e fresh
     | inl mark ↦
-        subst (λ (b : Bool). ForSome (content to) (λ image. passing_of form from.geometry.page kind image ≡ held area b)) (sym (settled.stays copy mark))
+        subst (λ (b : Bool). ForSome (content to) (λ image. passing_of form from.geometry.page kind image ≡ area_if area b)) (sym (settled.stays copy mark))
         (passes_still form kind from.geometry.page (Some area) from to refl later (kept copy kind e mark) (before copy kind e mark))
   ];
   dead = settled.dead;
@@ -138,12 +138,12 @@ held_more form kinds area good used g from mid to inside mark h k before others 
       each = λ copy kind e. elim (same_or_not copy used) [
         | inl same ↦
             let now : is_marked (set good used g) copy ≡ g = ap (is_marked (set good used g)) same ∙ get_or-set_same good used g false inside in
-            subst (λ (b : Bool). ForSome (content to) (λ image. passing_of form from.geometry.page kind image ≡ held area b)) (sym now)
-            (subst (λ (p : ℕ). ForSome (content to) (λ image. passing_of form p kind image ≡ held area g)) page (settled.passes copy kind e same))
+            subst (λ (b : Bool). ForSome (content to) (λ image. passing_of form from.geometry.page kind image ≡ area_if area b)) (sym now)
+            (subst (λ (p : ℕ). ForSome (content to) (λ image. passing_of form p kind image ≡ area_if area g)) page (settled.passes copy kind e same))
         | inr other ↦
             let now : is_marked (set good used g) copy ≡ is_marked good copy = get_or-set_other good used copy g false other in
-            subst (λ (b : Bool). ForSome (content to) (λ image. passing_of form from.geometry.page kind image ≡ held area b)) (sym now)
-            (passes_still form kind from.geometry.page (held area (is_marked good copy)) mid to page k (others copy kind e other) (before.each copy kind e))
+            subst (λ (b : Bool). ForSome (content to) (λ image. passing_of form from.geometry.page kind image ≡ area_if area b)) (sym now)
+            (passes_still form kind from.geometry.page (area_if area (is_marked good copy)) mid to page k (others copy kind e other) (before.each copy kind e))
       ];
       dead = dead_set good used g from mid to mark k settled.cause before.dead;
     }
@@ -153,7 +153,7 @@ pub spares_other : (form : Form) (kinds : List Kind) (area : List ℕ) (good : L
 spares_other form kinds area good used copy from mid to h many first before others =
     let there = kind_inside kinds copy (omega (arith, first.inside)) in
     let page : mid.geometry.page ≡ from.geometry.page = ap (λ geo. geo.page) h.geometry in
-    let passes : ForSome (content mid) (λ image. passing_of form from.geometry.page there.0 image ≡ Some area) = subst (λ (b : Bool). ForSome (content mid) (λ image. passing_of form from.geometry.page there.0 image ≡ held area b)) first.marked (before.each copy there.0 there.1) in
+    let passes : ForSome (content mid) (λ image. passing_of form from.geometry.page there.0 image ≡ Some area) = subst (λ (b : Bool). ForSome (content mid) (λ image. passing_of form from.geometry.page there.0 image ≡ area_if area b)) first.marked (before.each copy there.0 there.1) in
     spares_by form kinds copy there.0 area mid to there.1 (others copy there.0 there.1 first.other)
     (subst (λ (p : ℕ). ForSome (content mid) (λ image. passing_of form p there.0 image ≡ Some area)) (sym page) passes)
 
@@ -183,7 +183,7 @@ written_others kinds rec good used from mid to h k kept written others last insi
   ];
   erases =
       let kind = kind_inside kinds used there in
-      erases_joined (unmarked (set good used true) kinds) (unmarked good kinds) kind.0 rec from mid to h k
+      erases_joined (unmarked_kinds (set good used true) kinds) (unmarked_kinds good kinds) kind.0 rec from mid to h k
       (kept used kind.0 kind.1 (get_or-set_same good used true false inside)) written.erases
       (written_erases kind.0 rec mid to (last used kind.0 kind.1 refl).erases) (one_more good kinds used kind.0 kind.1 inside stale);
 }

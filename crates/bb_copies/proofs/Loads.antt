@@ -16,11 +16,11 @@ use Rattle.bb_copies.specs.declared.answers.Loaded.TheVariants.{Copy, NoCopy}
 use Rattle.bb_copies.specs.declared.read.Passed.{Passed}
 use Rattle.bb_copies.specs.Buckets.{EachCopy}
 use Rattle.bb_copies.specs.Loading.{IsAllKept, IsEmpty, IsExact, IsFirstArea, IsLoadStuck, LoadErases, LoadGives, LoadImages, LoadRuns, LoadsExactly, StandsStill}
-use Rattle.bb_copies.specs.Erasing.{ErasesBy, unmarked}
+use Rattle.bb_copies.specs.Erasing.{ErasesBy, unmarked_kinds}
 use Rattle.bb_copies.specs.Looking.{IsFirst, IsReadAt, PassNothing}
 use Rattle.bb_copies.specs.Luck.{IsLucky}
 use Rattle.bb_copies.specs.Passing.{passing_of, passings}
-use Rattle.bb_copies.specs.Refreshing.{AllHeld, AllWritten, IsFirstMarked, IsStuckAt, KeepsMarked, NeverEmpty, Refreshes, held, is_marked}
+use Rattle.bb_copies.specs.Refreshing.{AllHeld, AllWritten, IsFirstMarked, IsStuckAt, KeepsMarked, NeverEmpty, Refreshes, area_if, is_marked}
 use Rattle.bb_copies.specs.Settling.{IsUndisturbed, RoseBy}
 use Rattle.bb_copies.specs.StandsFor.{IsAreaOrNone, KeepsOrTakes, SomePasses, Stands, first_passed}
 use Rattle.bb_copies.proofs.Below.{kind_inside, stuck_earlier}
@@ -115,18 +115,18 @@ fresh_runs form kinds area from mid to told keeps later whole entry run never =
 
 -- ---- what is answered
 
-held_or_none : (form : Form) (page : ℕ) (kind : Kind) (area : List ℕ) (image : Image) (g : Bool) → passing_of form page kind image ≡ held area g → IsAreaOrNone area (passing_of form page kind image)
+held_or_none : (form : Form) (page : ℕ) (kind : Kind) (area : List ℕ) (image : Image) (g : Bool) → passing_of form page kind image ≡ area_if area g → IsAreaOrNone area (passing_of form page kind image)
 held_or_none form page kind area image true e = inl e
 held_or_none form page kind area image false e = inr e
 
 abbrev one_if : Bool → ℕ
 one_if b = cond b 1 0
 
-held_count : (area : List ℕ) (g : Bool) → one_if (is_some (held area g)) ≡ one_if g
+held_count : (area : List ℕ) (g : Bool) → one_if (is_some (area_if area g)) ≡ one_if g
 held_count area true = refl
 held_count area false = refl
 
-counts_live : (form : Form) (page : ℕ) (area : List ℕ) (image : Image) (kinds : List Kind) (good : List Bool) → length good ≡ length kinds → EachCopy kinds (λ copy kind. passing_of form page kind image ≡ held area (is_marked good copy)) → count_by is_some (passings form page kinds image) ≡ count_by (λ marked. marked) good
+counts_live : (form : Form) (page : ℕ) (area : List ℕ) (image : Image) (kinds : List Kind) (good : List Bool) → length good ≡ length kinds → EachCopy kinds (λ copy kind. passing_of form page kind image ≡ area_if area (is_marked good copy)) → count_by is_some (passings form page kinds image) ≡ count_by (λ marked. marked) good
 counts_live form page area image [] [] many each = refl
 counts_live form page area image [] (g ∷ good) many each = absurd (omega arith)
 counts_live form page area image (kind ∷ kinds) [] many each = absurd (omega arith)
@@ -154,8 +154,8 @@ live_and_dead (g ∷ good) =
 pub all_kept : (form : Form) (kinds : List Kind) (area : List ℕ) (good : List Bool) (used live : ℕ) (from mid to : Device) → length good ≡ length kinds → IsLater from mid → IsFirstMarked good (length good) used → live ≡ count_by (λ marked. marked) good → AllHeld form kinds area good mid to → IsAllKept form kinds area used live from to
 all_kept form kinds area good used live from mid to many h first is_live all =
     let page : mid.geometry.page ≡ from.geometry.page = ap (λ geo. geo.page) h.geometry in
-    let each : EachCopy kinds (λ copy kind. ForSome (content to) (λ image. passing_of form from.geometry.page kind image ≡ held area (is_marked good copy))) =
-    λ copy kind e. subst (λ (p : ℕ). ForSome (content to) (λ image. passing_of form p kind image ≡ held area (is_marked good copy))) page (all.each copy kind e) in
+    let each : EachCopy kinds (λ copy kind. ForSome (content to) (λ image. passing_of form from.geometry.page kind image ≡ area_if area (is_marked good copy))) =
+    λ copy kind e. subst (λ (p : ℕ). ForSome (content to) (λ image. passing_of form p kind image ≡ area_if area (is_marked good copy))) page (all.each copy kind e) in
     let count : Bool → ℕ = λ marked. cond marked 1 0 in
     let one : count (get_or good used false) ≡ 1 = ap count first.marked in
     let less : count (get_or good used false) ≤ count_by (λ marked. marked) good = get_or-le-sum_by count good used false first.inside in
@@ -167,11 +167,11 @@ all_kept form kinds area good used live from mid to many h first is_live all =
         each = each_passes (λ kind. passing_of form from.geometry.page kind image) area kinds (λ copy kind e. held_or_none form from.geometry.page kind area image (is_marked good copy) (each copy kind e image f));
         passes =
             let there = kind_inside kinds used (omega (arith, first.inside, many)) in
-            passes_kind form from.geometry.page kinds used there.0 image there.1 ∙ each used there.0 there.1 image f ∙ ap (held area) first.marked;
+            passes_kind form from.geometry.page kinds used there.0 image there.1 ∙ each used there.0 there.1 image f ∙ ap (area_if area) first.marked;
         first = λ copy low.
             let within = first.inside in
             let there = kind_inside kinds copy (omega (arith, within, many)) in
-            passes_kind form from.geometry.page kinds copy there.0 image there.1 ∙ each copy there.0 there.1 image f ∙ ap (held area) (first.first copy low (λ same. absurd (omega (arith, within))));
+            passes_kind form from.geometry.page kinds copy there.0 image there.1 ∙ each copy there.0 there.1 image f ∙ ap (area_if area) (first.first copy low (λ same. absurd (omega (arith, within))));
         counted = is_live ∙ sym (counts_live form from.geometry.page area image kinds good many (λ copy kind e. each copy kind e image f));
       };
       inside = omega (arith, first.inside, many);
@@ -216,8 +216,8 @@ loads_erasing form kinds area rec good bound used from mid to many packed told h
   fresh = good;
   marks = λ image e copy kind there. (first image e).fresh copy kind there (omega (arith, slice_get_within kinds copy kind there, many));
   erases =
-      let by : ErasesBy (unmarked good kinds) rec mid to = (written (undisturbed_second from mid to h quiet)).erases in
-      erases_behind (unmarked good kinds) (form.text area) from mid to told keeps (subst (λ (r : List ℕ). ErasesBy (unmarked good kinds) r mid to) packed by);
+      let by : ErasesBy (unmarked_kinds good kinds) rec mid to = (written (undisturbed_second from mid to h quiet)).erases in
+      erases_behind (unmarked_kinds good kinds) (form.text area) from mid to told keeps (subst (λ (r : List ℕ). ErasesBy (unmarked_kinds good kinds) r mid to) packed by);
 }
 
 -- ---- a look

@@ -10,10 +10,10 @@ use Rattle.bb_flash.proofs.Counting.{counted_both}
 use Rattle.bb_flash.proofs.Moments.{images_joined, images_weaker}
 use Rattle.bb_bucket.specs.Kind.{Kind}
 use Rattle.bb_copies.specs.Buckets.{EachCopy}
-use Rattle.bb_copies.specs.Erasing.{ErasesBy, unmarked}
+use Rattle.bb_copies.specs.Erasing.{ErasesBy, unmarked_kinds}
 use Rattle.bb_copies.specs.Luck.{IsLucky}
 use Rattle.bb_copies.specs.Passing.{passing_of, passings}
-use Rattle.bb_copies.specs.Refreshing.{AllHeld, AllSettled, AllWritten, IsFirstMarked, IsSettledAt, IsWrittenAt, KeepsMarked, LeavesOthers, NeverEmpty, NoOther, Refreshes, held, is_marked}
+use Rattle.bb_copies.specs.Refreshing.{AllHeld, AllSettled, AllWritten, IsFirstMarked, IsSettledAt, IsWrittenAt, KeepsMarked, LeavesOthers, NeverEmpty, NoOther, Refreshes, area_if, is_marked}
 use Rattle.bb_copies.specs.Saving.{EachWritten, IsAlone, IsHopeless, KeepsUsed, SaveImages, SaveRuns, SparesUsed, StandsLonger}
 use Rattle.bb_copies.specs.StandsFor.{KeepsOrTakes, SomeIsSpared, SomePasses}
 use Rattle.bb_copies.proofs.Below.{kind_inside, leaves_still, passes_still, still_leaves}
@@ -34,7 +34,7 @@ hopeless form kinds area marked good last from to unmarked many is_last none set
     record {
       is = refl;
       last = is_last;
-      none = λ copy kind e. subst (λ (b : Bool). ForSome (content to) (λ image. passing_of form from.geometry.page kind image ≡ held area b)) (each_dead copy (omega (arith, slice_get_within kinds copy kind e, many))) (settled.each copy kind e (unmarked copy));
+      none = λ copy kind e. subst (λ (b : Bool). ForSome (content to) (λ image. passing_of form from.geometry.page kind image ≡ area_if area b)) (each_dead copy (omega (arith, slice_get_within kinds copy kind e, many))) (settled.each copy kind e (unmarked copy));
       cause = omega (arith, all, dead, many);
     }
 
@@ -55,7 +55,7 @@ over_spares form kinds good used from to inside within kept = record {
 }
 
 -- the others that weren't marked are settled
-over_each : (form : Form) (kinds : List Kind) (area : List ℕ) (marked good : List Bool) (used : ℕ) (from to : Device) → ((copy : ℕ) → is_marked marked copy ≡ false) → AllSettled form kinds area (set marked used true) good from to → EachCopy kinds (λ copy kind. copy ≢ used → ForSome (content to) (λ image. passing_of form from.geometry.page kind image ≡ held area (is_marked good copy)))
+over_each : (form : Form) (kinds : List Kind) (area : List ℕ) (marked good : List Bool) (used : ℕ) (from to : Device) → ((copy : ℕ) → is_marked marked copy ≡ false) → AllSettled form kinds area (set marked used true) good from to → EachCopy kinds (λ copy kind. copy ≢ used → ForSome (content to) (λ image. passing_of form from.geometry.page kind image ≡ area_if area (is_marked good copy)))
 over_each form kinds area marked good used from to unmarked settled = λ copy kind e other. settled.each copy kind e (get_or-set_other marked used copy true false other ∙ unmarked copy)
 
 pub alone : (form : Form) (kinds : List Kind) (area : List ℕ) (marked good : List Bool) (used : ℕ) (from to : Device) → ((copy : ℕ) → is_marked marked copy ≡ false) → length good ≡ length kinds → used < length marked → NoOther good used → KeepsMarked kinds (set marked used true) from to → AllSettled form kinds area (set marked used true) good from to → IsAlone form kinds (Some used) used from to
@@ -65,7 +65,7 @@ alone form kinds area marked good used from to unmarked many within none kept se
     record {
       is = refl;
       untouched = λ copy kind e same. kept copy kind e (ap (is_marked (set marked used true)) same ∙ get_or-set_same marked used true false within);
-      others = λ copy kind e other. subst (λ (b : Bool). ForSome (content to) (λ image. passing_of form from.geometry.page kind image ≡ held area b)) (none copy (omega (arith, slice_get_within kinds copy kind e, many)) other) (over_each form kinds area marked good used from to unmarked settled copy kind e other);
+      others = λ copy kind e other. subst (λ (b : Bool). ForSome (content to) (λ image. passing_of form from.geometry.page kind image ≡ area_if area b)) (none copy (omega (arith, slice_get_within kinds copy kind e, many)) other) (over_each form kinds area marked good used from to unmarked settled copy kind e other);
       cause = omega (arith, few, dead, many);
     }
 
@@ -73,7 +73,7 @@ pub over_other : (form : Form) (kinds : List Kind) (area : List ℕ) (marked goo
 over_other form kinds area marked good used copy from mid to unmarked h many first settled others =
     let there = kind_inside kinds copy (omega (arith, first.inside, many)) in
     let page : mid.geometry.page ≡ from.geometry.page = ap (λ geo. geo.page) h.geometry in
-    let passes : ForSome (content mid) (λ image. passing_of form from.geometry.page there.0 image ≡ Some area) = subst (λ (b : Bool). ForSome (content mid) (λ image. passing_of form from.geometry.page there.0 image ≡ held area b)) first.marked (over_each form kinds area marked good used from mid unmarked settled copy there.0 there.1 first.other) in
+    let passes : ForSome (content mid) (λ image. passing_of form from.geometry.page there.0 image ≡ Some area) = subst (λ (b : Bool). ForSome (content mid) (λ image. passing_of form from.geometry.page there.0 image ≡ area_if area b)) first.marked (over_each form kinds area marked good used from mid unmarked settled copy there.0 there.1 first.other) in
     spares_by form kinds copy there.0 area mid to there.1 (others copy there.0 there.1 first.other)
     (subst (λ (p : ℕ). ForSome (content mid) (λ image. passing_of form p there.0 image ≡ Some area)) (sym page) passes)
 
@@ -92,12 +92,12 @@ over_held form kinds area marked good used g from mid to unmarked inside mark h 
       each = λ copy kind e. elim (same_or_not copy used) [
         | inl same ↦
             let now : is_marked (set good used g) copy ≡ g = ap (is_marked (set good used g)) same ∙ get_or-set_same good used g false inside in
-            subst (λ (b : Bool). ForSome (content to) (λ image. passing_of form from.geometry.page kind image ≡ held area b)) (sym now)
-            (subst (λ (p : ℕ). ForSome (content to) (λ image. passing_of form p kind image ≡ held area g)) page (settled.passes copy kind e same))
+            subst (λ (b : Bool). ForSome (content to) (λ image. passing_of form from.geometry.page kind image ≡ area_if area b)) (sym now)
+            (subst (λ (p : ℕ). ForSome (content to) (λ image. passing_of form p kind image ≡ area_if area g)) page (settled.passes copy kind e same))
         | inr other ↦
             let now : is_marked (set good used g) copy ≡ is_marked good copy = get_or-set_other good used copy g false other in
-            subst (λ (b : Bool). ForSome (content to) (λ image. passing_of form from.geometry.page kind image ≡ held area b)) (sym now)
-            (passes_still form kind from.geometry.page (held area (is_marked good copy)) mid to page k (others copy kind e other) (over_each form kinds area marked good used from mid unmarked before copy kind e other))
+            subst (λ (b : Bool). ForSome (content to) (λ image. passing_of form from.geometry.page kind image ≡ area_if area b)) (sym now)
+            (passes_still form kind from.geometry.page (area_if area (is_marked good copy)) mid to page k (others copy kind e other) (over_each form kinds area marked good used from mid unmarked before copy kind e other))
       ];
       dead = dead_set good used g from mid to mark k settled.cause before.dead;
     }
@@ -115,7 +115,7 @@ over_written kinds rec marked used from mid to unmarked within h k kept written 
 pub over_erases : (kinds : List Kind) (rec : List ℕ) (marked : List Bool) (used : ℕ) (from mid to : Device) → ((copy : ℕ) → is_marked marked copy ≡ false) → used < length marked → used < length kinds → IsLater from mid → IsLater mid to → KeepsMarked kinds (set marked used true) from mid → AllWritten kinds rec (set marked used true) from mid → IsWrittenAt kinds used rec mid to → ErasesBy kinds rec from to
 over_erases kinds rec marked used from mid to none within there h k kept written last =
     let kind = kind_inside kinds used there in
-    erases_joined (unmarked (set marked used true) kinds) kinds kind.0 rec from mid to h k
+    erases_joined (unmarked_kinds (set marked used true) kinds) kinds kind.0 rec from mid to h k
     (kept used kind.0 kind.1 (get_or-set_same marked used true false within)) written.erases
     (written_erases kind.0 rec mid to (last used kind.0 kind.1 refl).erases)
     (λ p. ap (count_by p) (sym (none_marked marked kinds none)) ∙ one_more marked kinds used kind.0 kind.1 within (none used) p)

@@ -10,7 +10,7 @@ use Rattle.bb_copies.specs.declared.settle.Settled.{Settled}
 use Rattle.bb_copies.specs.declared.settle.Settled.TheVariants.{Good, Dead, Stuck}
 use Rattle.bb_copies.specs.Buckets.{EachCopy}
 use Rattle.bb_copies.specs.Passing.{passing_of}
-use Rattle.bb_copies.specs.Refreshing.{IsSettledAt, IsStuckAt, answer_of, held}
+use Rattle.bb_copies.specs.Refreshing.{IsSettledAt, IsStuckAt, answer_of, area_if}
 use Rattle.bb_copies.specs.Settling.{EndsAs, IsStale, IsUnread}
 
 -- what holds of the copy of a number
@@ -22,11 +22,11 @@ at_copy P kinds copy kind e holds = λ place other f same.
 
 pub settled_at : (form : Form) (kinds : List Kind) (area : List ℕ) (copy : ℕ) (kind : Kind) (from to : Device) (settled : Settled) → slice_get kinds copy ≡ Some kind → EndsAs form kind area from to settled → IfOk (answer_of copy settled) (IsSettledAt form kinds area copy from to)
 settled_at form kinds area copy kind from to Good e ends = record {
-  passes = at_copy (λ k. ForSome (content to) (λ image. passing_of form from.geometry.page k image ≡ held area true)) kinds copy kind e ends.passes;
+  passes = at_copy (λ k. ForSome (content to) (λ image. passing_of form from.geometry.page k image ≡ area_if area true)) kinds copy kind e ends.passes;
   cause = λ h. absurd cc;
 }
 settled_at form kinds area copy kind from to Dead e ends = record {
-  passes = at_copy (λ k. ForSome (content to) (λ image. passing_of form from.geometry.page k image ≡ held area false)) kinds copy kind e ends.passes;
+  passes = at_copy (λ k. ForSome (content to) (λ image. passing_of form from.geometry.page k image ≡ area_if area false)) kinds copy kind e ends.passes;
   cause = λ h. ends.cause;
 }
 settled_at form kinds area copy kind from to Stuck e ends = tt

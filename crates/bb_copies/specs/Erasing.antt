@@ -8,11 +8,11 @@ use Rattle.bb_flash.specs.Image.{Image}
 use Rattle.bb_bucket.specs.Kind.{Kind, part_of}
 
 -- the copies that aren't marked, where there is one mark a copy
-abbrev pub unmarked : List Bool → List Kind → List Kind
-unmarked [] kinds = kinds
-unmarked (mark ∷ marked) [] = []
-unmarked (mark ∷ marked) (kind ∷ kinds) =
-    if mark then unmarked marked kinds else kind ∷ unmarked marked kinds
+abbrev pub unmarked_kinds : List Bool → List Kind → List Kind
+unmarked_kinds [] kinds = kinds
+unmarked_kinds (mark ∷ marked) [] = []
+unmarked_kinds (mark ∷ marked) (kind ∷ kinds) =
+    if mark then unmarked_kinds marked kinds else kind ∷ unmarked_kinds marked kinds
 
 -- whether a write of the record to a copy erases this block
 abbrev pub erases_block : Geometry → Image → List ℕ → ℕ → Kind → Bool

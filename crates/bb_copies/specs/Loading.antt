@@ -16,7 +16,7 @@ use Rattle.bb_copies.specs.declared.answers.CopyFault.TheVariants.{ReadFault, Wr
 use Rattle.bb_copies.specs.declared.answers.Loaded.{Loaded}
 use Rattle.bb_copies.specs.declared.answers.Loaded.TheVariants.{Copy, NoCopy}
 use Rattle.bb_copies.specs.Buckets.{EachCopy, IsOutside}
-use Rattle.bb_copies.specs.Erasing.{ErasesBy, unmarked}
+use Rattle.bb_copies.specs.Erasing.{ErasesBy, unmarked_kinds}
 use Rattle.bb_copies.specs.Looking.{IsFresh}
 use Rattle.bb_copies.specs.Luck.{IsLucky}
 use Rattle.bb_copies.specs.Passing.{passes_at, passings}
@@ -139,7 +139,7 @@ pub record LoadErases (form : Form) (kinds : List Kind) (area : List ℕ)
       EachCopy kinds
       (λ copy kind.
       Decides (is_marked fresh copy) (IsFresh form from.geometry.page kind area image)))
-  pub erases : ErasesBy (unmarked fresh kinds) (form.text area) from to
+  pub erases : ErasesBy (unmarked_kinds fresh kinds) (form.text area) from to
 
 -- without a fault a load erased as those writes do, and nothing where no copy passes
 abbrev pub LoadsErasing : Form → List Kind → List ℕ → Device → Device → Loaded → Type 0

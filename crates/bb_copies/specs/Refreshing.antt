@@ -13,7 +13,7 @@ use Rattle.bb_bucket.specs.Kind.{Kind}
 use Rattle.bb_copies.specs.declared.settle.Settled.{Settled}
 use Rattle.bb_copies.specs.declared.settle.Settled.TheVariants.{Good, Dead, Stuck}
 use Rattle.bb_copies.specs.Buckets.{EachCopy, IsOutside}
-use Rattle.bb_copies.specs.Erasing.{ErasesBy, unmarked}
+use Rattle.bb_copies.specs.Erasing.{ErasesBy, unmarked_kinds}
 use Rattle.bb_copies.specs.Luck.{IsLucky}
 use Rattle.bb_copies.specs.Passing.{passing_of, passings}
 use Rattle.bb_copies.specs.Settling.{IsStale, IsWritten, IsUnread, RoseBy}
@@ -53,8 +53,8 @@ KeepsMarked kinds marked from to =
     EachCopy kinds (λ copy kind. is_marked marked copy ≡ true → IsUntouched kind from to)
 
 -- what a copy passes that is good, or else dead
-abbrev pub held : List ℕ → Bool → Option (List ℕ)
-held area good = if good then Some area else None
+abbrev pub area_if : List ℕ → Bool → Option (List ℕ)
+area_if area good = if good then Some area else None
 
 -- Each copy that wasn't marked is settled: it passes the area where it is marked now, and nothing
 -- where it isn't. A call failed for each that passes nothing.
@@ -65,7 +65,7 @@ pub record AllSettled (form : Form) (kinds : List Kind) (area : List ℕ) (marke
       kinds
       (λ copy kind.
       is_marked marked copy ≡ false → ForSome (content to)
-      (λ image. passing_of form from.geometry.page kind image ≡ held area (is_marked good copy)))
+      (λ image. passing_of form from.geometry.page kind image ≡ area_if area (is_marked good copy)))
   pub stays : (copy : ℕ) → is_marked marked copy ≡ true → is_marked good copy ≡ true
   pub dead : RoseBy (count_by not good) from.faults to.faults
 
@@ -84,7 +84,7 @@ pub record AllWritten (kinds : List Kind) (rec : List ℕ) (marked : List Bool)
       EachCopy kinds
       (λ copy kind.
       is_marked marked copy ≡ false → Leaves kind.region (kind.after_write rec) from to)
-  pub erases : ErasesBy (unmarked marked kinds) rec from to
+  pub erases : ErasesBy (unmarked_kinds marked kinds) rec from to
 
 -- no other copy was touched
 abbrev pub LeavesOthers : List Kind → ℕ → Device → Device → Type 0
@@ -99,7 +99,7 @@ pub record IsSettledAt (form : Form) (kinds : List Kind) (area : List ℕ) (copy
       EachCopy kinds
       (λ place kind.
       place ≡ copy → ForSome (content to)
-      (λ image. passing_of form from.geometry.page kind image ≡ held area good))
+      (λ image. passing_of form from.geometry.page kind image ≡ area_if area good))
   pub cause : good ≡ false → Rose from.faults to.faults
 
 -- the record was written to the copy of this number, and nothing else was done
@@ -122,7 +122,7 @@ pub record AllHeld (form : Form) (kinds : List Kind) (area : List ℕ) (good : L
       kinds
       (λ copy kind.
       ForSome (content to)
-      (λ image. passing_of form from.geometry.page kind image ≡ held area (is_marked good copy)))
+      (λ image. passing_of form from.geometry.page kind image ≡ area_if area (is_marked good copy)))
   pub dead : RoseBy (count_by not good) from.faults to.faults
 
 -- some copy passes, in every image

@@ -24,11 +24,11 @@ abbrev pub shell_name : List ℕ → List ℕ
 shell_name name = map (λ c. if c == 46 then 95 else c) name
 
 -- a value for a shell, between two `"`: `\` before each `\`, `"`, `$` and backquote
-abbrev pub escaped : ℕ → List ℕ
-escaped c = if list_any (λ d. d == c) (codes "\\\"$`") then 92 ∷ c ∷ [] else c ∷ []
+abbrev pub escape_of : ℕ → List ℕ
+escape_of c = if list_any (λ d. d == c) (codes "\\\"$`") then 92 ∷ c ∷ [] else c ∷ []
 
 abbrev pub shell_value : List ℕ → List ℕ
-shell_value value = flat_map escaped value
+shell_value value = flat_map escape_of value
 
 abbrev pub shell_line : List ℕ → List ℕ → Var → List ℕ
 shell_line name area v =

@@ -103,7 +103,8 @@ impl State {
     /// Saves the table to all copies, where it differs from the one last loaded or saved; after a
     /// load that found no copy that is the defaults. Otherwise it makes no call of the device.
     /// Unsure, with no call and nothing changed, where no load answered Ok yet or the last load or
-    /// save was refused. Once a load or a save answered Ok, one in which no call fails reads nothing.
+    /// save was refused. Once a load or a save answered Ok, a save in which no call fails reads
+    /// nothing.
     pub fn save<F: Flash>(&mut self, flash: &mut F) -> Result<(), CopyFault>
         requires sized { IsSized self.old }
         requires fits { FitsForm self.old }

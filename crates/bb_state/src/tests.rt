@@ -131,6 +131,8 @@ fn a_saved_table_is_loaded(rt: HostRuntime) -> Result<(), Fail> {
     let always = state.save_always(&mut board);
     assert_eq!(rt; always, Ok(()));
     assert_eq!(rt; board.programs(), 6);
+    // the load read three fronts, and a save reads nothing
+    assert_eq!(rt; board.reads(), 3);
     let mut later = mount(&rt)?;
     let loaded = later.load(&mut board);
     assert_eq!(rt; loaded, Ok(Loaded::Copy { used: 0, live: 3 }));
@@ -142,6 +144,8 @@ fn a_saved_table_is_loaded(rt: HostRuntime) -> Result<(), Fail> {
     let looked = later.look(&mut board, &mut area);
     assert_eq!(rt; looked, Ok(true));
     assert_eq!(rt; area[0], 7);
+    // a front and a record of three copies, and then those of the first alone
+    assert_eq!(rt; board.reads(), 11);
     assert_eq!(rt; later.layout().copies, 3);
     Ok(())
 }
