@@ -29,11 +29,11 @@ pub record NamesBoth (kind : Kind) (page : ℕ) (rec : List ℕ) (len : ℕ) (im
 abbrev pub kind_block : Kind → ℕ → Block
 kind_block kind page = record { region = kind.region; page = page }
 
-content_of : (told : Option Told) (first : Told) → told ≡ Some first → option_map (λ (t : Told). t.image) told ≡ Some first.image
+pub content_of : (told : Option Told) (first : Told) → told ≡ Some first → option_map (λ (t : Told). t.image) told ≡ Some first.image
 content_of told first e = ap (option_map (λ (t : Told). t.image)) e
 
 -- what a fact that is given of the first image adds to each call
-calls_given :
+pub calls_given :
     (S : Image → Type 0) (P : Image → Change → Type 0) (from to : Device) →
     ForSome (content from) S → EachCall (λ image change. S image → P image change) from to →
     EachCall P from to

@@ -52,7 +52,7 @@ pub(crate) fn read_record<F: Flash>(
         return Ok(NOTHING);
     };
     let health = read_part(flash, region, FRONT_LEN, &mut out[..len as usize])?;
-    Ok(found(len, health))
+    Ok(record_found(len, health))
 }
 
 fn is_lost(health: Health) -> bool
@@ -61,8 +61,8 @@ fn is_lost(health: Health) -> bool
     matches!(health, Health::Lost)
 }
 
-// A record of this length was read.
-fn found(len: u32, health: Health) -> Found
+/// What a read found, once a record of this length was read, and its pages were in this health.
+pub fn record_found(len: u32, health: Health) -> Found
     ensures value { result ≡ found_of len health }
     ensures whole { IfSome result.len (λ n. n ≡ len) }
 {

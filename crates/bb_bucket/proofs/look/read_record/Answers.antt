@@ -29,5 +29,5 @@ returns-clause-done g c = λ image told.
     let keeps = c.in_ok-front_health.ensures.keeps in
     let behind = c.in_ok-health.ensures.done image (keeps.content ∙ told) in
     let record_part = subst (λ (geometry : Geometry). IsPart geometry.page (part_of geometry.page c.args.region image) c.args.region.size 8 c.read_part-2.new.out c.in_ok-health.health) keeps.geometry behind in
-    rw c.found.ensures.value
+    rw c.record_found.ensures.value
     (found_record page (part_of page c.args.region image) c.args.region.size c.in-Some.len c.read_part.new.out c.read_part-2.new.out _ c.in_ok-front_health.front_health c.in_ok-health.health whole (c.in_ok-front_health.ensures.done image told) kept given.0 given.1 long record_part)
