@@ -1,0 +1,4 @@
+pub mod Examples
+pub mod LogCalls
+pub mod Looks
+pub mod Wearing

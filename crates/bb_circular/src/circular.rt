@@ -1,0 +1,96 @@
+ghost use Rattle.std.specs.Prelude.{◌≡◌, ◌≤◌, ◌%◌, IfOk, None};
+ghost use Rattle.bb_circular.specs.Circular.{circular_holding};
+ghost use Rattle.bb_circular.specs.CircularLaws.{circle_laws};
+
+use crate::entry::CLOSING_LEN;
+use crate::kept::Kept;
+use crate::look::read_log;
+use crate::store::{void_log, write_log};
+use bb_base::{Failed, NoMemory};
+use bb_bucket::{Block, Bucket, Found};
+use bb_flash::{Flash, Region};
+use std::alloc::Global;
+use std::marker::Model;
+
+/// A bucket on a device that is erased in blocks, over one block that is written as a log: an entry
+/// is the record, 0xFF, and 8 bytes that close it, the magic word 0x14FA2D02 and the entry's whole
+/// length, both little endian (barebox User Manual, State Framework, the backend storage type
+/// `circular`). It goes behind the last page that isn't blank, and the block is erased only where it
+/// doesn't fit there. From its last finished call on the bucket keeps where the next entry goes and
+/// where the newest one stands, so that a write that follows makes no read; a write or void that
+/// failed drops that. Clauses see the block and what is kept.
+#[derive(Debug, Drop)]
+pub struct Circular {
+    block: Block,
+    kept: Option<Kept>,
+    // pages that are looked at, and entries before they are programmed
+    memory: Vec<u8>,
+}
+
+impl Model for Circular {
+    ghost use Rattle.bb_circular.specs.Circular.{Circle, IsCircular};
+
+    ghost Value = { Circle };
+
+    ghost view = { λ circular. record { block = circular.block; kept = circular.kept } };
+
+    ghost invariant = { λ circular.
+        IsCircular circular.block circular.kept circular.memory.items };
+}
+
+impl Circular {
+    /// A bucket over the block in this region, on a device with this page of at least 16 bytes. The
+    /// region's size is a positive multiple of the page, and its place one of its size. It takes
+    /// memory for as many bytes, and nothing is kept yet.
+    pub fn of(alloc: Global, region: Region, page: u32) -> Result<Circular, NoMemory>
+        requires least { 16 ≤ page }
+        requires some { page ≤ region.size }
+        requires pages { region.size % page ≡ 0 }
+        requires aligned { region.at % region.size ≡ 0 }
+        ensures { IfOk result (λ circular. circular
+            ≡ record { block = record { region = region; page = page }; kept = None }) }
+    {
+        let memory = vec![in alloc; 0; region.size as usize]?;
+        let block = Block { region, page };
+        Ok(Circular {
+            block,
+            kept: None,
+            memory,
+        })
+    }
+}
+
+impl Bucket for Circular {
+    ghost holding = { circular_holding };
+
+    ghost laws = { circle_laws };
+
+    fn region(&self) -> Region {
+        self.block.region
+    }
+
+    fn room(&self) -> u32 {
+        self.block.region.size - CLOSING_LEN
+    }
+
+    fn read<F: Flash>(&mut self, flash: &mut F, out: &mut [u8]) -> Result<Found, Failed> {
+        let answer = read_log(flash, self.block, self.kept, &mut self.memory, out)?;
+        self.kept = Some(answer.1);
+        Ok(answer.0)
+    }
+
+    fn write<F: Flash>(&mut self, flash: &mut F, rec: &[u8]) -> Result<(), Failed> {
+        let kept = self.kept;
+        self.kept = None;
+        let written = write_log(flash, self.block, kept, &mut self.memory, rec)?;
+        self.kept = Some(written);
+        Ok(())
+    }
+
+    fn void<F: Flash>(&mut self, flash: &mut F) -> Result<(), Failed> {
+        self.kept = None;
+        let kept = void_log(flash, self.block)?;
+        self.kept = Some(kept);
+        Ok(())
+    }
+}

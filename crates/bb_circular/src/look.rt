@@ -1,0 +1,166 @@
+ghost use Rattle.std.specs.Prelude.{◌≡◌, ◌≤◌, ◌-◌, IfOk, IfSome, IsErr, IsTrue, Some, None, is_some, length, option_map, option_and_then, if◌then◌else◌};
+ghost use Rattle.std.specs.Option.{ForSome};
+ghost use Rattle.bb_base.specs.Faults.{HasCause};
+ghost use Rattle.bb_flash.specs.Cuts.{IsLater};
+ghost use Rattle.bb_flash.specs.Device.{IsDevice, ReadKeeps, content, reads};
+ghost use Rattle.bb_bucket.specs.Blocks.{is_block_of};
+ghost use Rattle.bb_bucket.specs.Calls.{IsFoundAs, told_but_reads};
+ghost use Rattle.bb_bucket.specs.Kind.{part_of};
+ghost use Rattle.bb_circular.specs.Circular.{IsEntryIn, IsKeptIn, agrees_with, circular_candidate, circular_is_worn, kept_of, readable, record_of};
+ghost use Rattle.bb_circular.specs.Looking.{IsKnown, worn_of};
+
+use crate::entry::{CLOSING_LEN, closed_entry};
+use crate::kept::{Entry, Kept};
+use crate::last_page::find_last_page;
+use bb_base::Failed;
+use bb_bucket::{Block, Found, read_part, record_found};
+use bb_flash::Flash;
+
+const NOTHING: Found = Found {
+    len: None,
+    worn: false,
+};
+
+/// Looks for the record of a block, by what is kept of it or else from its end backwards. The answer
+/// is what was found, and what there is to keep.
+pub(crate) fn read_log<F: Flash>(
+    flash: &mut F,
+    block: Block,
+    kept: Option<Kept>,
+    memory: &mut [u8],
+    out: &mut [u8],
+) -> Result<(Found, Kept), Failed>
+    requires held { IsTrue (is_block_of block (F.device flash.old).geometry) }
+    requires agreed { ForSome (content (F.device flash.old)) (λ image.
+        IsTrue (agrees_with block.page kept (part_of block.page block.region image))) }
+    requires inside { IfSome kept (IsKeptIn block) }
+    requires memory { length memory.old ≡ block.region.size }
+    requires room { length out.old ≡ block.region.size - 8 }
+    ensures done { IfOk result (λ answer. ForSome (content (F.device flash.old)) (λ image.
+        let old = part_of block.page block.region image in
+        IsFoundAs (circular_candidate block.page old) (circular_is_worn block.page old)
+        out.new answer.0)) }
+    ensures fits { IfOk result (λ answer.
+        IfSome answer.0.len (λ len. len ≤ block.region.size - 8)) }
+    ensures kept { IfOk result (λ answer. ForSome (content (F.device flash.old)) (λ image.
+        answer.1 ≡ kept_of block.page (part_of block.page block.region image))) }
+    ensures inside { IfOk result (λ answer. IsKeptIn block answer.1) }
+    ensures keeps { ReadKeeps (F.device flash.old) (F.device flash.new) }
+    ensures told { told_but_reads (F.device flash.new) ≡ told_but_reads (F.device flash.old) }
+    ensures later { IsLater (F.device flash.old) (F.device flash.new) }
+    ensures whole { IsDevice (F.device flash.new) }
+    ensures faults { HasCause (F.device flash.old).faults
+        (F.device flash.new).faults (IsErr result) }
+    ensures read_faults { HasCause (F.device flash.old).read_faults
+        (F.device flash.new).read_faults (IsErr result) }
+{
+    let kept = look_up(flash, block, kept, memory)?;
+    let found = read_newest(flash, block, kept.newest, out)?;
+    Ok((found, confirm(kept, found)))
+}
+
+/// Where the next entry goes, and which is the newest as the block's last page says: what is kept, or
+/// else what a look from the block's end backwards finds.
+pub(crate) fn look_up<F: Flash>(
+    flash: &mut F,
+    block: Block,
+    kept: Option<Kept>,
+    memory: &mut [u8],
+) -> Result<Kept, Failed>
+    requires held { IsTrue (is_block_of block (F.device flash.old).geometry) }
+    requires agreed { ForSome (content (F.device flash.old)) (λ image.
+        IsTrue (agrees_with block.page kept (part_of block.page block.region image))) }
+    requires inside { IfSome kept (IsKeptIn block) }
+    requires memory { length memory.old ≡ block.region.size }
+    ensures done { IfOk result (λ known. ForSome (content (F.device flash.old)) (λ image.
+        IsKnown block.page (part_of block.page block.region image) known)) }
+    ensures inside { IfOk result (IsKeptIn block) }
+    ensures reads { IsTrue (is_some kept) →
+        reads (F.device flash.new) ≡ reads (F.device flash.old) }
+    ensures keeps { ReadKeeps (F.device flash.old) (F.device flash.new) }
+    ensures told { told_but_reads (F.device flash.new) ≡ told_but_reads (F.device flash.old) }
+    ensures later { IsLater (F.device flash.old) (F.device flash.new) }
+    ensures whole { IsDevice (F.device flash.new) }
+    ensures faults { HasCause (F.device flash.old).faults
+        (F.device flash.new).faults (IsErr result) }
+    ensures read_faults { HasCause (F.device flash.old).read_faults
+        (F.device flash.new).read_faults (IsErr result) }
+{
+    let _ = flash.geometry();
+    match kept {
+        Some(kept) => Ok(kept),
+        None => find_newest(flash, block, memory),
+    }
+}
+
+// The same by a look from the end.
+fn find_newest<F: Flash>(flash: &mut F, block: Block, memory: &mut [u8]) -> Result<Kept, Failed>
+    requires held { IsTrue (is_block_of block (F.device flash.old).geometry) }
+    requires memory { length memory.old ≡ block.region.size }
+    ensures done { IfOk result (λ known. ForSome (content (F.device flash.old)) (λ image.
+        IsKnown block.page (part_of block.page block.region image) known)) }
+    ensures inside { IfOk result (IsKeptIn block) }
+    ensures keeps { ReadKeeps (F.device flash.old) (F.device flash.new) }
+    ensures told { told_but_reads (F.device flash.new) ≡ told_but_reads (F.device flash.old) }
+    ensures later { IsLater (F.device flash.old) (F.device flash.new) }
+    ensures whole { IsDevice (F.device flash.new) }
+    ensures faults { HasCause (F.device flash.old).faults
+        (F.device flash.new).faults (IsErr result) }
+    ensures read_faults { HasCause (F.device flash.old).read_faults
+        (F.device flash.new).read_faults (IsErr result) }
+{
+    let page = &mut memory[..block.page as usize];
+    let last = find_last_page(flash, block, page)?;
+    Ok(Kept {
+        next: last.pages * block.page,
+        newest: closed_entry(last, page, block),
+    })
+}
+
+// Reads the record of an entry, if there is one and none of its pages is Lost.
+fn read_newest<F: Flash>(
+    flash: &mut F,
+    block: Block,
+    newest: Option<Entry>,
+    out: &mut [u8],
+) -> Result<Found, Failed>
+    requires held { IsTrue (is_block_of block (F.device flash.old).geometry) }
+    requires inside { IfSome newest (IsEntryIn block) }
+    requires room { length out.old ≡ block.region.size - 8 }
+    ensures done { IfOk result (λ found. ForSome (content (F.device flash.old)) (λ image.
+        let old = part_of block.page block.region image in
+        let read = option_and_then (readable block.page old) newest in
+        IsFoundAs (option_map (record_of old) read) (worn_of block.page old read) out.new found)) }
+    ensures fits { IfOk result (λ found.
+        IfSome found.len (λ len. len ≤ block.region.size - 8)) }
+    ensures keeps { ReadKeeps (F.device flash.old) (F.device flash.new) }
+    ensures told { told_but_reads (F.device flash.new) ≡ told_but_reads (F.device flash.old) }
+    ensures later { IsLater (F.device flash.old) (F.device flash.new) }
+    ensures whole { IsDevice (F.device flash.new) }
+    ensures faults { HasCause (F.device flash.old).faults
+        (F.device flash.new).faults (IsErr result) }
+    ensures read_faults { HasCause (F.device flash.old).read_faults
+        (F.device flash.new).read_faults (IsErr result) }
+{
+    let _ = flash.geometry();
+    let Some(entry) = newest else {
+        return Ok(NOTHING);
+    };
+    let len = entry.len - CLOSING_LEN;
+    let health = read_part(flash, block.region, entry.at, &mut out[..len as usize])?;
+    Ok(record_found(len, health))
+}
+
+// What there is to keep, once the newest entry was read or found to be none.
+fn confirm(kept: Kept, found: Found) -> Kept
+    ensures { result ≡ (if is_some found.len then kept else record kept { newest = None }) }
+{
+    if found.len.is_some() {
+        kept
+    } else {
+        Kept {
+            newest: None,
+            ..kept
+        }
+    }
+}
