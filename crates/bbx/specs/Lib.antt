@@ -1,1 +1,2 @@
--- No definition of its own.
+-- Definitions that contracts cite.
+pub mod PlanFile

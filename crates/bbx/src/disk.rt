@@ -29,6 +29,21 @@ pub fn lengthen(file: &mut File, len: u64) -> io::Result<()> {
     unless_uncached(file.sync_all())
 }
 
+/// Puts a file of these bytes in the place of the one at `path`, where there is one, and waits until it is on the disk.
+/// It is made at `new_path`, in the same folder. After a power cut the old file or the new one is at `path`, whole.
+pub fn replace<R: Files<File = File> + AllocGlobal>(
+    rt: &R,
+    path: &str,
+    new_path: &str,
+    bytes: &[u8],
+) -> io::Result<()> {
+    let mut file = File::create(rt, new_path)?;
+    file.write_all(bytes)?;
+    unless_uncached(file.sync_all())?;
+    fs::rename(rt, new_path, path)?;
+    keep_name(rt, path)
+}
+
 /// Waits until the name of the file behind a path is on the disk, in the folder in which it stands
 /// behind all links.
 pub fn keep_name<R: Files<File = File> + AllocGlobal>(rt: &R, path: &str) -> io::Result<()> {

@@ -3,17 +3,19 @@ ghost use Rattle.bb_flash.specs.Geometry.{IsGeometry};
 
 use crate::device_file::{OpenError, open_device};
 use crate::disk::{blank_through, write_through};
+use crate::plan_file::PlanFile;
 use bb_base::Failed;
 use bb_flash::{Board, Flash, Geometry, Health, Plan};
-use std::alloc::Global;
 use std::fs::File;
 use std::os::unix::fs::FileExt;
-use std::rt::Files;
 
-/// A device behind a file of the system. It doesn't tell what it holds, and counts the calls that failed.
+/// A device behind a file of the system, which starts a system by writing its plan into a file. It doesn't tell what
+/// it holds, and counts the calls and the starts that failed.
 #[derive(Drop)]
-pub struct FileBoard {
+pub struct FileBoard<'r> {
+    rt: &'r HostRuntime,
     file: File,
+    plan_file: PlanFile,
     geometry: Geometry,
     faults: u64,
     read_faults: u64,
@@ -21,17 +23,19 @@ pub struct FileBoard {
     ghost bounds: { IsGeometry geometry },
 }
 
-impl FileBoard {
+impl<'r> FileBoard<'r> {
     /// Opens the device file, as `open_device` says.
-    pub fn open<R: Files<File = File> + AllocGlobal>(
-        rt: &R,
+    pub fn open(
+        rt: &'r HostRuntime,
         path: &str,
         geometry: Geometry,
-    ) -> Result<FileBoard, OpenError>
+    ) -> Result<FileBoard<'r>, OpenError>
         requires { IsGeometry geometry }
     {
         Ok(FileBoard {
+            rt,
             file: open_device(rt, path, u64::from(geometry.size))?,
+            plan_file: PlanFile::of_device(rt, path)?,
             geometry,
             faults: 0,
             read_faults: 0,
@@ -40,7 +44,7 @@ impl FileBoard {
     }
 }
 
-impl Flash for FileBoard {
+impl<'r> Flash for FileBoard<'r> {
     ghost device = { λ b. record {
       geometry = b.geometry;
       told = None;
@@ -80,10 +84,12 @@ impl Flash for FileBoard {
     }
 }
 
-impl Board for FileBoard {
-    /// No start is made yet: each one fails.
-    fn start(&mut self, _plan: &Plan) -> Result<(), Failed> {
-        self.start_faults = self.start_faults.saturating_add(1);
-        Err(Failed)
+impl<'r> Board for FileBoard<'r> {
+    fn start(&mut self, plan: &Plan) -> Result<(), Failed> {
+        if self.plan_file.write(self.rt, plan).is_err() {
+            self.start_faults = self.start_faults.saturating_add(1);
+            return Err(Failed);
+        }
+        Ok(())
     }
 }

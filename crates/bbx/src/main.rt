@@ -7,6 +7,7 @@ mod device_file;
 mod disk;
 mod file_board;
 mod output;
+mod plan_file;
 mod real_files;
 mod usage;
 
