@@ -40,9 +40,9 @@ impl Model for Chooser {
 }
 
 impl Chooser {
-    ghost use Rattle.std.specs.Prelude.{◌≢◌, ◌<◌, ◌↔◌, List, ℕ, Ok, Err, IfOk, IfErr, IfSome, IsNone, IsTrue, IsSome, length, slice_get};
+    ghost use Rattle.std.specs.Prelude.{◌≢◌, ◌<◌, ◌≤◌, ◌↔◌, List, ℕ, Ok, Err, IfOk, IfErr, IfSome, IsNone, IsTrue, IsSome, length, slice_get};
     ghost use Rattle.std.specs.Option.{option_copied, option_map};
-    ghost use Rattle.bb_chooser.specs.Binding.{bind_of};
+    ghost use Rattle.bb_chooser.specs.Binding.{IsBinding, bind_of};
     ghost use Rattle.bb_chooser.specs.Choosing as choosing;
     ghost use Rattle.bb_chooser.specs.Choosing.{IsBest, Qualifies};
     ghost use Rattle.bb_chooser.specs.Counting.{chosen_target, mark_good_of, spend_of};
@@ -69,9 +69,11 @@ impl Chooser {
         bound_chooser(alloc, settings, layout)
     }
 
-    /// How many targets there are.
+    /// How many targets there are. Since no two of their variables share a byte they are at most 65,535.
     pub fn count(&self) -> usize
-        ensures { result ≡ length self.now.targets }
+        ensures count { result ≡ length self.now.targets }
+        ensures few { result ≤ 65535 }
+        ensures binding { IsBinding self.now }
     {
         self.targets.len()
     }

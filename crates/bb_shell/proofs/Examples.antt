@@ -1,0 +1,119 @@
+-- Worked boots, by computation alone: two systems of priority 20 and 10, with three attempts each.
+use Rattle.std.proofs.Common.{◌≡◌, ℕ, Bool, true, false, List, [], ◌∷◌, Option, Some, None, Ok, Err, codes, refl}
+use Rattle.bb_chooser.specs.Binding.{Binding}
+use Rattle.bb_chooser.specs.declared.cause.Cause.TheVariants.{Other}
+use Rattle.bb_chooser.specs.declared.rules.Rules.{Rules}
+use Rattle.bb_chooser.specs.declared.target.Target.{Target}
+use Rattle.bb_copies.specs.declared.answers.CopyFault.TheVariants.{WriteFault}
+use Rattle.bb_flash.specs.declared.plan.Plan.{Plan}
+use Rattle.bb_shell.specs.Boot.{end_of, first_table, table_after}
+use Rattle.bb_shell.specs.Plans.{plan_by, plans_by}
+use Rattle.bb_shell.specs.Rounds.{RoundAnswer, best_of, rounds_by}
+use Rattle.bb_shell.specs.declared.boot_end.BootEnd.TheVariants.{Started, NoTarget, StartFailed, Fault}
+use Rattle.bb_shell.specs.declared.plan_fault.PlanFault.TheVariants.{FileTooLong}
+use Rattle.bb_base.specs.declared.files.FileFail.TheVariants.{TooLong}
+
+abbrev rules : Bool → Bool → Rules
+rules all_zero retry = record {
+  reset_attempts = record { power_on = false; reset = false; all_zero = all_zero };
+  reset_priorities = false;
+  retry = retry;
+  disable_on_zero_attempts = false;
+}
+
+abbrev target : List ℕ → ℕ → Target
+target name priority = record { name = name; entry = codes "e"; default_attempts = 3; default_priority = priority }
+
+abbrev bound : Bool → Bool → Binding
+bound all_zero retry = record {
+  targets =
+      record { target = target (codes "system0") 20; attempts_at = 0; priority_at = 4 }
+      ∷ record { target = target (codes "system1") 10; attempts_at = 8; priority_at = 12 } ∷ [];
+  rules = rules all_zero retry;
+  last_chosen_at = 16;
+  area_len = 20;
+}
+
+-- attempts and priority of system0, then of system1, then the one that was chosen last
+abbrev table : ℕ → ℕ → ℕ → ℕ → ℕ → List ℕ
+table a p b q last = a ∷ 0 ∷ 0 ∷ 0 ∷ p ∷ 0 ∷ 0 ∷ 0 ∷ b ∷ 0 ∷ 0 ∷ 0 ∷ q ∷ 0 ∷ 0 ∷ 0 ∷ last ∷ 0 ∷ 0 ∷ 0 ∷ []
+
+abbrev plan : ℕ → Plan
+plan place = record { place = place; linux = codes "/zImage"; initrds = []; options = []; devicetree = [] }
+
+abbrev both : List (Option Plan)
+both = Some (plan 1) ∷ Some (plan 2) ∷ []
+
+-- every save is made, and every start too
+abbrev made : RoundAnswer
+made = record { save = None; starts = true }
+
+abbrev failed : RoundAnswer
+failed = record { save = None; starts = false }
+
+abbrev refused : RoundAnswer
+refused = record { save = Some (WriteFault 1); starts = false }
+
+-- ---- the first start of a fresh board, and one that fails
+
+fresh : end_of (bound false false) (rounds_by (bound false false) both (table 3 20 3 10 0) (made ∷ [])) ≡ Started 0 2 1
+unfolding rounds_by
+fresh = refl
+
+fresh_table : table_after (table 3 20 3 10 0) (rounds_by (bound false false) both (table 3 20 3 10 0) (made ∷ [])) ≡ table 2 20 3 10 1
+unfolding rounds_by
+fresh_table = refl
+
+fresh_fails : end_of (bound false false) (rounds_by (bound false false) both (table 3 20 3 10 0) (failed ∷ [])) ≡ StartFailed 0 1
+unfolding rounds_by
+fresh_fails = refl
+
+its_save_is_refused : end_of (bound false false) (rounds_by (bound false false) both (table 3 20 3 10 0) (refused ∷ [])) ≡ Fault (WriteFault 1)
+unfolding rounds_by
+its_save_is_refused = refl
+
+-- ---- the best target
+
+the_other_has_attempts : end_of (bound false false) (rounds_by (bound false false) both (table 0 10 3 10 0) (made ∷ [])) ≡ Started 1 2 1
+unfolding rounds_by
+the_other_has_attempts = refl
+
+none_has_attempts : end_of (bound false false) (rounds_by (bound false false) both (table 0 20 0 10 0) (made ∷ [])) ≡ NoTarget
+unfolding rounds_by
+none_has_attempts = refl
+
+equal_priorities : best_of (bound false false) (table 3 10 3 10 0) ≡ Some 0
+equal_priorities = refl
+
+-- ---- a reset gives both their attempts back
+
+reset_first : first_table (bound true false) Other true (table 0 20 0 10 0) ≡ table 3 20 3 10 0
+reset_first = refl
+
+reset_and_started : end_of (bound true false) (rounds_by (bound true false) both (table 3 20 3 10 0) (made ∷ [])) ≡ Started 0 2 1
+unfolding rounds_by
+reset_and_started = refl
+
+-- ---- where another target is tried, and none has a plan
+
+abbrev six : List RoundAnswer
+six = made ∷ made ∷ made ∷ made ∷ made ∷ made ∷ made ∷ []
+
+abbrev no_plans : List (Option Plan)
+no_plans = None ∷ None ∷ []
+
+all_are_tried : end_of (bound false true) (rounds_by (bound false true) no_plans (table 3 20 3 10 0) six) ≡ StartFailed 1 6
+unfolding rounds_by
+all_are_tried = refl
+
+all_is_spent : table_after (table 3 20 3 10 0) (rounds_by (bound false true) no_plans (table 3 20 3 10 0) six) ≡ table 0 20 0 10 2
+unfolding rounds_by
+all_is_spent = refl
+
+-- ---- plans
+
+no_file : plan_by 0 None ≡ None
+no_file = refl
+
+too_long : plans_by (Ok None ∷ Err TooLong ∷ Ok None ∷ []) ≡ Err (FileTooLong 1)
+too_long = refl

@@ -1,0 +1,121 @@
+-- What the save of a round makes of the device.
+use Rattle.std.proofs.Common.{◌≡◌, ◌≢◌, ℕ, ◌&&◌, Bool, true, false, not, List, Option, Some, None, ap, refl, sym, subst, ◌∙◌}
+use Rattle.std.proofs.lemmas.Bool.{false≢true}
+use Rattle.std.proofs.lemmas.Slice.Eq.{bytes_eq-Decides}
+use Rattle.std.specs.Option.{IfNone}
+use Rattle.std.specs.Prelude.{is_some}
+use Rattle.std.specs.Str.{bytes_eq}
+use Rattle.bb_copies.specs.Loading.{KeepsOutside}
+use Rattle.bb_copies.specs.Passing.{passings}
+use Rattle.bb_copies.specs.Saving.{EachWritten, SaveFails, SaveRuns}
+use Rattle.bb_copies.specs.Settling.{IsUndisturbed}
+use Rattle.bb_copies.specs.StandsFor.{EachPassesOrNothing}
+use Rattle.bb_copies.specs.declared.answers.CopyFault.{CopyFault}
+use Rattle.bb_copies.specs.declared.answers.CopyFault.TheVariants.{ReadFault, WriteFault, Unsure}
+use Rattle.bb_copies.proofs.Runs.{later_refl}
+use Rattle.bb_flash.specs.Cuts.{IsLater}
+use Rattle.bb_flash.specs.Device.{Device, IsDevice, LeavesStarts, content}
+use Rattle.bb_layout.specs.Layout.{Laid}
+use Rattle.bb_state.specs.Kinds.{laid_form, laid_kinds}
+use Rattle.bb_state.specs.State.{IsStored, form_of, has_changed, is_kept, is_sure, kept_of, kinds_of, laid_of, used_of}
+use Rattle.bb_state.specs.declared.state.State.{State}
+use Rattle.bb_shell.proofs.Joins.{outside_refl, stored_refl}
+use Rattle.bb_shell.specs.Ends.{IsWriteFault, StaysStored}
+use Rattle.bb_shell.specs.Running.{IsSaveRun}
+
+-- ---- the state's words
+
+changed_is : (state : State) (same : Bool) → is_sure state ≡ true → bytes_eq state.table (kept_of state) ≡ same → has_changed state ≡ not same
+changed_is state same sure e = ap (λ s. s && not (bytes_eq state.table (kept_of state))) sure ∙ ap not e
+
+kept_is : (state : State) → is_sure state ≡ true → bytes_eq state.table (kept_of state) ≡ true → is_kept state ≡ true
+kept_is state sure e = ap (λ s. s && bytes_eq state.table (kept_of state)) sure ∙ e
+
+-- a save that answered Ok
+pub saved_ok : (state : State) (now : Option ℕ) (from to : Device) → is_sure state ≡ true →
+    (has_changed state ≡ false → to ≡ from) →
+    (has_changed state ≡ true → SaveRuns (form_of state) (kinds_of state) (used_of state) state.table from to) →
+    (has_changed state ≡ true → IsStored (laid_of state) state.table now from to) →
+    (has_changed state ≡ true → IsUndisturbed from to → EachWritten (kinds_of state) ((form_of state).text state.table) from to) →
+    (is_kept state ≡ true → now ≡ used_of state) →
+    IsSaveRun (laid_of state) (kept_of state) (used_of state) now state.table None from to
+saved_ok state now from to sure idle runs stored exact used = record {
+  idle = λ same. record { device = idle (changed_is state true sure same); copy = used (kept_is state sure same); done = refl };
+  begun = λ other. record {
+    runs = runs (changed_is state false sure other);
+    stored = stored (changed_is state false sure other);
+    fails = tt;
+    sure = tt;
+    exact = exact (changed_is state false sure other);
+  };
+}
+
+-- and one that was refused
+pub saved_err : (state : State) (now : Option ℕ) (fault : CopyFault) (from to : Device) → is_sure state ≡ true →
+    (is_kept state ≡ true → ⊥) → fault ≢ Unsure →
+    (has_changed state ≡ true → SaveRuns (form_of state) (kinds_of state) (used_of state) state.table from to) →
+    SaveFails (form_of state) (kinds_of state) (used_of state) state.table from to fault →
+    IsSaveRun (laid_of state) (kept_of state) (used_of state) now state.table (Some fault) from to
+saved_err state now fault from to sure other known runs fails = record {
+  idle = λ same. absurd (other (kept_is state sure same));
+  begun = λ changed. record {
+    runs = runs (changed_is state false sure changed);
+    stored = tt;
+    fails = fails;
+    sure = known;
+    exact = λ _. tt;
+  };
+}
+
+-- ---- what follows of a save
+
+module _ (layout : Laid) (kept : List ℕ) (used now : Option ℕ) (table : List ℕ) (refusal : Option CopyFault) (from to : Device)
+    (run : IsSaveRun layout kept used now table refusal from to) where
+  by_same : (P : Device → Type 0) → P from → (SaveRuns (laid_form layout) (laid_kinds layout) used table from to → P to) → P to
+  by_same P here there = at (bytes_eq table kept) refl
+    where
+      at : (same : Bool) → bytes_eq table kept ≡ same → P to
+      at true e = subst P (sym (run.idle e).device) here
+      at false e = there (run.begun e).runs
+
+  pub save_later : IsLater from to
+  save_later = by_same (IsLater from) (later_refl from) (λ runs. runs.later)
+
+  pub save_outside : KeepsOutside (laid_kinds layout) from to
+  save_outside = by_same (KeepsOutside (laid_kinds layout) from) (outside_refl (laid_kinds layout) from) (λ runs. runs.outside)
+
+  pub save_starts : LeavesStarts from to
+  save_starts = by_same (LeavesStarts from) (record { starts = refl; start_faults = refl }) (λ runs. runs.starts)
+
+  pub save_whole : IsDevice from → IsDevice to
+  save_whole whole = by_same IsDevice whole (λ runs. runs.whole)
+
+  same_stored : bytes_eq table kept ≡ true → StaysStored layout kept table from to
+  same_stored same =
+      let tables : table ≡ kept = (bytes_eq-Decides table kept).0 same in
+      subst (λ t. StaysStored layout kept t from to) (sym tables) (stored_refl layout kept from to (ap (λ d. content d) (run.idle same).device))
+
+  new_stored : from.geometry ≡ layout.geometry → IsStored layout table now from to → StaysStored layout kept table from to
+  new_stored geometry stored before h after k held =
+      subst (λ g. EachPassesOrNothing table (passings (laid_form layout) g.page (laid_kinds layout) after)) geometry (stored.saved.exit.kept after k).each
+
+  pub save_stored : from.geometry ≡ layout.geometry → refusal ≡ None → StaysStored layout kept table from to
+  save_stored geometry done = at (bytes_eq table kept) refl
+    where
+      at : (same : Bool) → bytes_eq table kept ≡ same → StaysStored layout kept table from to
+      at true e = same_stored e
+      at false e = new_stored geometry (subst (λ r. IfNone r (IsStored layout table now from to)) done (run.begun e).stored)
+
+-- a save is refused by a write alone
+pub write_fault : (layout : Laid) (kept : List ℕ) (used now : Option ℕ) (table : List ℕ) (fault : CopyFault) (from to : Device) →
+    IsSaveRun layout kept used now table (Some fault) from to → IsWriteFault fault
+write_fault layout kept used now table fault from to run = at (bytes_eq table kept) refl
+  where
+    by : (f : CopyFault) → SaveFails (laid_form layout) (laid_kinds layout) used table from to f → f ≢ Unsure → IsWriteFault f
+    by ReadFault fails sure = absurd fails
+    by (WriteFault copy) fails sure = record { copy = copy; is = refl }
+    by Unsure fails sure = absurd (sure refl)
+
+    at : (same : Bool) → bytes_eq table kept ≡ same → IsWriteFault fault
+    at true e = let none : Some fault ≡ None = (run.idle e).done in absurd (let f : Option CopyFault → Bool = λ o. is_some o in false≢true (sym (ap f none)))
+    at false e = by fault (run.begun e).fails (run.begun e).sure

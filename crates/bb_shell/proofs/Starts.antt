@@ -1,0 +1,157 @@
+-- What the start of a round makes of the device, and then the round.
+use Rattle.std.proofs.Common.{◌≡◌, ℕ, ◌++◌, Bool, true, false, List, [], ◌∷◌, Option, Some, None, ap, arith, refl, sym, subst, ◌∙◌}
+use Rattle.std.specs.Option.{IsSomeAnd, option_map}
+use Rattle.std.specs.Prelude.{is_some}
+use Rattle.bb_copies.specs.Loading.{KeepsOutside}
+use Rattle.bb_copies.specs.Settling.{RoseBy}
+use Rattle.bb_copies.proofs.Runs.{later_refl}
+use Rattle.bb_flash.proofs.Moments.{later_joined}
+use Rattle.bb_flash.specs.declared.plan.Plan.{Plan}
+use Rattle.bb_flash.specs.Calls.{started}
+use Rattle.bb_flash.specs.Cuts.{IsLater}
+use Rattle.bb_flash.specs.Device.{Device, IsDevice, Start, Told, content, starts}
+use Rattle.bb_layout.specs.Layout.{Laid}
+use Rattle.bb_state.specs.Kinds.{laid_kinds}
+use Rattle.bb_shell.proofs.Joins.{outside_joined, outside_refl, some_is, still_outside, stored_joined, stored_refl}
+use Rattle.bb_shell.proofs.Saves.{save_later, save_outside, save_starts, save_stored}
+use Rattle.bb_shell.specs.Boot.{Round, plan_at}
+use Rattle.bb_shell.specs.Ends.{AddsStart, StartsOnce, StaysStored, failed_start}
+use Rattle.bb_shell.specs.Running.{IsRoundRun, IsSaveRun, IsStartFailed, IsStartMade, IsTried, StartRuns, is_refused, refusal_of}
+use Rattle.bb_shell.specs.declared.outcome.Outcome.{Outcome}
+use Rattle.bb_shell.specs.declared.outcome.Outcome.TheVariants.{Refused, Unplanned, Failed, Started}
+
+-- ---- the start
+
+-- a fact of the start is one of the device that stays, or of a start that ran
+module _ (from to : Device) (P : Device → Type 0) (same : P from) (ran : (made : Bool) → StartRuns made from to → P to) where
+  by_failed : (plan : Option Plan) → IsSomeAnd plan (IsStartFailed from to) → P to
+  by_failed None h = absurd h
+  by_failed (Some plan) h = ran false h.runs
+
+  by_made : (plan : Option Plan) → IsSomeAnd plan (IsStartMade from to) → P to
+  by_made None h = absurd h
+  by_made (Some plan) h = ran true h.runs
+
+  pub by_start : (plan : Option Plan) (outcome : Outcome) → IsTried plan outcome from to → P to
+  by_start plan (Refused fault) h = subst P (sym h) same
+  by_start plan Unplanned h = subst P (sym h) same
+  by_start plan Failed h = by_failed plan h
+  by_start plan Started h = by_made plan h
+
+pub start_later : (plan : Option Plan) (outcome : Outcome) (from to : Device) → IsTried plan outcome from to → IsLater from to
+start_later plan outcome from to = by_start from to (IsLater from) (later_refl from) (λ made runs. runs.later) plan outcome
+
+pub start_whole : (plan : Option Plan) (outcome : Outcome) (from to : Device) → IsDevice from → IsTried plan outcome from to → IsDevice to
+start_whole plan outcome from to whole = by_start from to IsDevice whole (λ made runs. runs.whole) plan outcome
+
+pub start_content : (plan : Option Plan) (outcome : Outcome) (from to : Device) → IsTried plan outcome from to → content to ≡ content from
+start_content plan outcome from to = by_start from to (λ d. content d ≡ content from) refl (λ made runs. runs.keeps.content) plan outcome
+
+pub start_outside : (layout : Laid) (plan : Option Plan) (outcome : Outcome) (from to : Device) → IsTried plan outcome from to → KeepsOutside (laid_kinds layout) from to
+start_outside layout plan outcome from to =
+    by_start from to (KeepsOutside (laid_kinds layout) from) (outside_refl (laid_kinds layout) from)
+    (λ made runs. still_outside (laid_kinds layout) from to runs.keeps.content runs.keeps.changes) plan outcome
+
+-- a device's own count rose by nothing
+rose_same : (n : ℕ) → RoseBy 0 n n
+rose_same n = omega arith
+
+pub start_rose : (plan : Option Plan) (outcome : Outcome) (from to : Device) → IsTried plan outcome from to → RoseBy (failed_start outcome) from.start_faults to.start_faults
+start_rose plan (Refused fault) from to h = subst (λ d. RoseBy 0 from.start_faults d.start_faults) (sym h) (rose_same from.start_faults)
+start_rose plan Unplanned from to h = subst (λ d. RoseBy 0 from.start_faults d.start_faults) (sym h) (rose_same from.start_faults)
+start_rose None Failed from to h = absurd h
+start_rose (Some plan) Failed from to h = h.runs.start_faults.rose refl
+start_rose None Started from to h = absurd h
+start_rose (Some plan) Started from to h = let more = h.runs.start_faults.later in omega (arith, more)
+
+-- ---- what it adds
+
+told_starts : (first : Told) (from : Device) → from.told ≡ Some first → starts from ≡ Some first.starts
+told_starts first from h = ap (option_map (λ (told : Told). told.starts)) h
+
+-- a start behind a step that leaves the starts
+once_behind : (plan : Plan) (from mid to : Device) → starts mid ≡ starts from → is_some mid.told ≡ is_some from.told →
+    to.told ≡ option_map (started plan) mid.told → StartsOnce from to plan
+once_behind plan from mid to same told done = record {
+  added = λ first h last k. by mid.told refl first h last k;
+}
+  where
+    by : (o : Option Told) → mid.told ≡ o → (first : Told) → from.told ≡ Some first → (last : Told) → to.told ≡ Some last →
+        last.starts ≡ first.starts ++ (record { plan = plan; image = last.image }) ∷ []
+    by None e first h last k =
+        let none : None ≡ Some last = sym (ap (option_map (started plan)) e) ∙ sym done ∙ k in
+        absurd (none_some last none)
+      where
+        none_some : (x : Told) → None ≡ Some x → ⊥
+        none_some x p = cc
+    by (Some middle) e first h last k =
+        let is : started plan middle ≡ last = some_is (started plan middle) last (sym (ap (option_map (started plan)) e) ∙ sym done ∙ k) in
+        let before : middle.starts ≡ first.starts =
+        some_is middle.starts first.starts (sym (told_starts middle mid e) ∙ same ∙ told_starts first from h) in
+        ap (λ (t : Told). t.starts) (sym is) ∙ ap (λ (l : List Start). l ++ (record { plan = plan; image = middle.image }) ∷ []) before
+        ∙ ap (λ (t : Told). first.starts ++ (record { plan = plan; image = t.image }) ∷ []) is
+
+pub start_adds : (plan : Option Plan) (outcome : Outcome) (from mid to : Device) → starts mid ≡ starts from → IsLater from mid →
+    IsTried plan outcome mid to → AddsStart plan outcome from to
+start_adds plan (Refused fault) from mid to same later h = ap (λ d. starts d) h ∙ same
+start_adds plan Unplanned from mid to same later h = ap (λ d. starts d) h ∙ same
+start_adds None Failed from mid to same later h = absurd h
+start_adds (Some plan) Failed from mid to same later h = ap (option_map (λ (told : Told). told.starts)) h.failed ∙ same
+start_adds None Started from mid to same later h = absurd h
+start_adds (Some plan) Started from mid to same later h = once_behind plan from mid to same later.told h.done
+
+-- ---- a round
+
+true_false : true ≡ false → ⊥
+true_false p = cc
+
+unrefused : (outcome : Outcome) → is_refused outcome ≡ false → refusal_of outcome ≡ None
+unrefused (Refused fault) h = absurd (true_false h)
+unrefused Unplanned h = refl
+unrefused Failed h = refl
+unrefused Started h = refl
+
+-- a round whose save answered Ok
+pub round_ok : (layout : Laid) (plans : List (Option Plan)) (kept : List ℕ) (used now : Option ℕ) (target : ℕ)
+    (spent table : List ℕ) (outcome : Outcome) (from middle to : Device) →
+    IsSaveRun layout kept used now spent None from middle → table ≡ spent → is_refused outcome ≡ false →
+    IsTried (plan_at plans target) outcome middle to →
+    IsRoundRun layout plans kept used now (record { target = target; table = table; outcome = outcome }) from to
+round_ok layout plans kept used now target spent table outcome from middle to saved same done tried = record {
+  middle = middle;
+  saved =
+      subst (λ refusal. IsSaveRun layout kept used now table refusal from middle) (sym (unrefused outcome done))
+      (subst (λ t. IsSaveRun layout kept used now t None from middle) (sym same) saved);
+  tried = tried;
+}
+
+module _ (layout : Laid) (plans : List (Option Plan)) (kept : List ℕ) (used now : Option ℕ) (round : Round) (from to : Device)
+    (run : IsRoundRun layout plans kept used now round from to) where
+  to_middle : IsLater from run.middle
+  to_middle = save_later layout kept used now round.table (refusal_of round.outcome) from run.middle run.saved
+
+  pub round_later : IsLater from to
+  round_later = later_joined from run.middle to to_middle (start_later (plan_at plans round.target) round.outcome run.middle to run.tried)
+
+  pub round_outside : KeepsOutside (laid_kinds layout) from to
+  round_outside =
+      outside_joined (laid_kinds layout) from run.middle to to_middle (start_later (plan_at plans round.target) round.outcome run.middle to run.tried)
+      (save_outside layout kept used now round.table (refusal_of round.outcome) from run.middle run.saved)
+      (start_outside layout (plan_at plans round.target) round.outcome run.middle to run.tried)
+
+  pub round_adds : AddsStart (plan_at plans round.target) round.outcome from to
+  round_adds =
+      let saved = save_starts layout kept used now round.table (refusal_of round.outcome) from run.middle run.saved in
+      start_adds (plan_at plans round.target) round.outcome from run.middle to saved.starts to_middle run.tried
+
+  pub round_rose : RoseBy (failed_start round.outcome) from.start_faults to.start_faults
+  round_rose =
+      let saved = save_starts layout kept used now round.table (refusal_of round.outcome) from run.middle run.saved in
+      subst (λ n. RoseBy (failed_start round.outcome) n to.start_faults) saved.start_faults
+      (start_rose (plan_at plans round.target) round.outcome run.middle to run.tried)
+
+  pub round_stored : from.geometry ≡ layout.geometry → is_refused round.outcome ≡ false → StaysStored layout kept round.table from to
+  round_stored geometry done =
+      stored_joined layout kept round.table round.table from run.middle to to_middle
+      (save_stored layout kept used now round.table (refusal_of round.outcome) from run.middle run.saved geometry (unrefused round.outcome done))
+      (stored_refl layout round.table run.middle to (start_content (plan_at plans round.target) round.outcome run.middle to run.tried))

@@ -1,0 +1,25 @@
+use Rattle.std.proofs.Common.{rules}
+use Rattle.bb_copies.proofs.Runs.{later_refl}
+use Rattle.bb_shell.proofs.Ends.{booted_none, booted_of}
+use Rattle.bb_shell.proofs.Joins.{outside_refl}
+use Rattle.bb_shell.specs.Boot.{NoneQualifies, first_table}
+use Rattle.bb_state.specs.State.{kinds_of}
+use Rattle.bb_shell.proofs.boot.boot_run.Goals as goal
+
+pub returns-in_default-clause-booted : goal.returns-in_default-clause-booted
+returns-in_default-clause-booted g c =
+    let first = first_table c.args.chooser.now c.args.cause c.args.first c.args.state.now.table in
+    let none : NoneQualifies c.args.chooser.now first = c.first_target.ensures.none.0 (search rules) in
+    booted_none c.args.chooser.now c.args.plans.now first c.args.state.now (g.B.Flash.device c.args.board.now) none
+
+pub returns-in_default-clause-outside : goal.returns-in_default-clause-outside
+returns-in_default-clause-outside g c = outside_refl (kinds_of c.args.state.now) (g.B.Flash.device c.args.board.now)
+
+pub returns-in_default-clause-later : goal.returns-in_default-clause-later
+returns-in_default-clause-later g c = later_refl (g.B.Flash.device c.args.board.now)
+
+pub returns-clause-booted : goal.returns-clause-booted
+returns-clause-booted g c =
+    booted_of c.args.chooser.now c.args.plans.now (first_table c.args.chooser.now c.args.cause c.args.first c.args.state.now.table)
+    c.reset_first.new.table c.args.state.now c.run_rounds.new.state (g.B.Flash.device c.args.board.now) (g.B.Flash.device c.run_rounds.new.board)
+    c.run_rounds.result c.reset_first.ensures.table c.run_rounds.ensures.have_run

@@ -1,0 +1,33 @@
+use Rattle.bb_state.specs.State.{has_changed, kept_of, kinds_of, laid_of, used_of}
+use Rattle.bb_state.specs.declared.state.State.{State}
+use Rattle.bb_shell.proofs.Joins.{changed_outside}
+use Rattle.bb_shell.proofs.Saves.{saved_ok}
+use Rattle.bb_shell.proofs.Starts.{round_later, round_ok, round_outside}
+use Rattle.bb_shell.proofs.round.run_round.Goals as goal
+
+pub returns-in-Ok-clause-run : goal.returns-in-Ok-clause-run
+returns-in-Ok-clause-run g c =
+    let state : State = record c.args.state.now { table = c.spend.new.table } in
+    let saved = c.in-Ok.ensures in
+    round_ok (laid_of c.args.state.now) c.args.plans.now (kept_of c.args.state.now) (used_of c.args.state.now) (used_of c.save.new.self)
+    c.args.target c.spend.new.table c.save.new.self.table c.try_start.result
+    (g.B.Flash.device c.args.board.now) (g.B.Flash.device c.save.new.flash) (g.B.Flash.device c.try_start.new.board)
+    (saved_ok state (used_of c.save.new.self) (g.B.Flash.device c.args.board.now) (g.B.Flash.device c.save.new.flash)
+    c.requires.ready.sure saved.idle saved.runs saved.saved saved.exact saved.used)
+    saved.table c.try_start.ensures.saved c.try_start.ensures.tried
+
+pub returns-in-Ok-clause-outside : goal.returns-in-Ok-clause-outside
+returns-in-Ok-clause-outside g c =
+    round_outside (laid_of c.args.state.now) c.args.plans.now (kept_of c.args.state.now) (used_of c.args.state.now) (used_of c.save.new.self)
+    _ (g.B.Flash.device c.args.board.now) (g.B.Flash.device c.try_start.new.board) (returns-in-Ok-clause-run g c)
+
+pub returns-in-Ok-clause-later : goal.returns-in-Ok-clause-later
+returns-in-Ok-clause-later g c =
+    round_later (laid_of c.args.state.now) c.args.plans.now (kept_of c.args.state.now) (used_of c.args.state.now) (used_of c.save.new.self)
+    _ (g.B.Flash.device c.args.board.now) (g.B.Flash.device c.try_start.new.board) (returns-in-Ok-clause-run g c)
+
+pub returns-in-Err-clause-outside : goal.returns-in-Err-clause-outside
+returns-in-Err-clause-outside g c =
+    let state : State = record c.args.state.now { table = c.spend.new.table } in
+    changed_outside (kinds_of c.args.state.now) (has_changed state) (g.B.Flash.device c.args.board.now) (g.B.Flash.device c.save.new.flash)
+    c.in-Err.ensures.idle (λ changed. (c.in-Err.ensures.runs changed).outside)

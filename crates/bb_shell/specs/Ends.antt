@@ -1,0 +1,139 @@
+-- What a boot leaves of a state and its device, as its contract sees it.
+use Rattle.std.specs.Prelude.{◌≡◌, ◌⊎◌, ℕ, ◌+◌, ◌++◌, Bool, true, false, List, [], ◌∷◌, Option, IsNone, IsSomeAnd, count_by, if◌then◌else◌, length}
+use Rattle.std.specs.Option.{ForSome}
+use Rattle.bb_base.specs.Faults.{Rose}
+use Rattle.bb_chooser.specs.Binding.{Binding}
+use Rattle.bb_copies.specs.Settling.{RoseBy}
+use Rattle.bb_copies.specs.StandsFor.{EachPassesOrNothing}
+use Rattle.bb_copies.specs.declared.answers.CopyFault.{CopyFault}
+use Rattle.bb_copies.specs.declared.answers.CopyFault.TheVariants.{WriteFault}
+use Rattle.bb_flash.specs.declared.plan.Plan.{Plan}
+use Rattle.bb_flash.specs.Device.{Device, content, starts}
+use Rattle.bb_layout.specs.Layout.{Laid}
+use Rattle.bb_state.specs.Kinds.{laid_passings}
+use Rattle.bb_state.specs.State.{FitsForm, IsOn, IsSized, is_sure, kept_of, laid_of, used_of}
+use Rattle.bb_state.specs.declared.state.State.{State}
+use Rattle.bb_shell.specs.Boot.{AreRounds, Round, end_by, end_of, plan_at, table_after}
+use Rattle.bb_shell.specs.Running.{AreRun}
+use Rattle.bb_shell.specs.declared.boot_end.BootEnd.{BootEnd}
+use Rattle.bb_shell.specs.declared.boot_end.BootEnd.TheVariants as ends
+use Rattle.bb_shell.specs.declared.outcome.Outcome.{Outcome}
+use Rattle.bb_shell.specs.declared.outcome.Outcome.TheVariants.{Refused, Unplanned, Failed, Started}
+
+-- ---- before
+
+-- a chooser's variables are those of a layout
+pub record IsBoundTo (b : Binding) (layout : Laid) : Type 0 where
+  pub area_len : b.area_len ≡ layout.area_len
+
+-- a state can be booted: its last load or save answered Ok, and the chooser was bound to its layout
+pub record IsReady (b : Binding) (state : State) (device : Device) : Type 0 where
+  pub sized : IsSized state
+  pub fits : FitsForm state
+  pub sure : is_sure state ≡ true
+  pub on : IsOn state device
+  pub bound : IsBoundTo b (laid_of state)
+
+-- ---- behind
+
+abbrev pub is_failed_start : Outcome → Bool
+is_failed_start (Refused fault) = false
+is_failed_start Unplanned = false
+is_failed_start Failed = true
+is_failed_start Started = false
+
+-- the rise of the starts' faults that a round is to bring
+abbrev pub failed_start : Outcome → ℕ
+failed_start outcome = if is_failed_start outcome then 1 else 0
+
+-- how many rounds failed although their target has a plan
+abbrev pub failed_starts : List Round → ℕ
+failed_starts rounds = count_by (λ round. is_failed_start round.outcome) rounds
+
+-- Rounds were run from this table on, and the last one brought this end. The table is the one that it
+-- left, which is also the one that was last saved.
+pub record HaveRun
+    (b : Binding) (plans : List (Option Plan)) (before after : State) (from to : Device)
+    (end : BootEnd) : Type 0 where
+  pub earlier : List Round
+  pub last : Round
+  pub are : AreRounds b plans before.table (earlier ++ last ∷ [])
+  pub run :
+      AreRun (laid_of before) plans (kept_of before) (used_of before) (used_of after)
+      (earlier ++ last ∷ []) from to
+  pub end_is : end ≡ end_by b (length earlier + 1) last last.outcome
+  pub table : after.table ≡ last.table
+  pub kept : is_sure after ≡ true → kept_of after ≡ last.table
+  pub start_faults : RoseBy (failed_starts (earlier ++ last ∷ [])) from.start_faults to.start_faults
+
+-- Some rounds came from the first table, to this end. The device is what their saves and starts made
+-- of it, and the table is the last one that they left, which is also the one that was last saved.
+pub record IsBooted
+    (b : Binding) (plans : List (Option Plan)) (first : List ℕ) (before after : State)
+    (from to : Device) (end : BootEnd) : Type 0 where
+  pub rounds : List Round
+  pub are : AreRounds b plans first rounds
+  pub run :
+      AreRun (laid_of before) plans (kept_of before) (used_of before) (used_of after) rounds from to
+  pub end_is : end ≡ end_of b rounds
+  pub table : after.table ≡ table_after before.table rounds
+  pub kept : is_sure after ≡ true → kept_of after ≡ table_after (kept_of before) rounds
+  pub start_faults : RoseBy (failed_starts rounds) from.start_faults to.start_faults
+
+-- nothing was saved or started, and the table is the one before any reset
+pub record IsUnchanged (before after : State) (from to : Device) : Type 0 where
+  pub state : after ≡ before
+  pub device : to ≡ from
+
+-- one start was made, the last one that there is: by this plan, with what the device holds at exit
+pub record StartsOnce (from to : Device) (plan : Plan) : Type 0 where
+  pub added :
+      ForSome from.told
+      (λ first.
+      ForSome to.told
+      (λ last. last.starts ≡ first.starts ++ (record { plan = plan; image = last.image }) ∷ []))
+
+-- what a round adds, by what came of it
+abbrev pub AddsStart : Option Plan → Outcome → Device → Device → Type 0
+AddsStart plan (Refused fault) from to = starts to ≡ starts from
+AddsStart plan Unplanned from to = starts to ≡ starts from
+AddsStart plan Failed from to = starts to ≡ starts from
+AddsStart plan Started from to = IsSomeAnd plan (StartsOnce from to)
+
+-- at most one start was made, by the plan of the target that the end names, and none where it names
+-- none
+abbrev pub AddsStarts : List (Option Plan) → Device → Device → BootEnd → Type 0
+AddsStarts plans from to (ends.Started target left tries) =
+    IsSomeAnd (plan_at plans target) (StartsOnce from to)
+AddsStarts plans from to ends.NoTarget = starts to ≡ starts from
+AddsStarts plans from to (ends.StartFailed target tries) = starts to ≡ starts from
+AddsStarts plans from to (ends.Fault fault) = starts to ≡ starts from
+
+-- where every copy passed the table that was last loaded or saved, or nothing, it is so afterwards
+abbrev pub StaysStored : Laid → List ℕ → List ℕ → Device → Device → Type 0
+StaysStored layout kept now from to =
+    ForSome (content from)
+    (λ before.
+    ForSome (content to)
+    (λ after.
+    EachPassesOrNothing kept (laid_passings layout before) →
+    EachPassesOrNothing now (laid_passings layout after)))
+
+abbrev pub is_fault : BootEnd → Bool
+is_fault (ends.Started target left tries) = false
+is_fault ends.NoTarget = false
+is_fault (ends.StartFailed target tries) = false
+is_fault (ends.Fault fault) = true
+
+-- the cause of an end that brings a refusal: a copy couldn't be written; the last target has no
+-- plan, or a start failed
+pub record IsWriteFault (fault : CopyFault) : Type 0 where
+  pub copy : ℕ
+  pub is : fault ≡ WriteFault copy
+
+abbrev pub HasEndCause : List (Option Plan) → Device → Device → BootEnd → Type 0
+HasEndCause plans from to (ends.Started target left tries) = Unit {0}
+HasEndCause plans from to ends.NoTarget = Unit {0}
+HasEndCause plans from to (ends.StartFailed target tries) =
+    IsNone (plan_at plans target) ⊎ Rose from.start_faults to.start_faults
+HasEndCause plans from to (ends.Fault fault) = IsWriteFault fault

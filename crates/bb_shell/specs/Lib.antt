@@ -1,0 +1,13 @@
+-- Definitions that contracts cite.
+pub use Rattle.bb_base.specs.Faults
+pub use Rattle.bb_base.specs.Folder
+pub use Rattle.bb_flash.specs.Cuts
+pub use Rattle.bb_flash.specs.Device
+pub use Rattle.bb_copies.specs.Saving
+pub use Rattle.bb_chooser.specs.Choosing
+pub use Rattle.bb_state.specs.State
+pub mod Boot
+pub mod Ends
+pub mod Plans
+pub mod Rounds
+pub mod Running

@@ -1,0 +1,109 @@
+-- The plans by which the targets of a chooser are started, from their entries' files.
+use Rattle.std.specs.Prelude.{◌≡◌, ◌≢◌, ℕ, ◌+◌, ◌<◌, ◌≤◌, ⊤, Bool, true, false, List, length, map, slice_get, take, Option, Result, Ok, Err, IfOk, option_map}
+use Rattle.std.specs.List.{AllZip, enumerate_from}
+use Rattle.std.specs.Option.{ForSome, option_and_then}
+use Rattle.std.specs.Result.{result_ok}
+use Rattle.bb_base.specs.Folder.{FileMap, Folder, file_of}
+use Rattle.bb_base.specs.declared.files.FileFail.{FileFail}
+use Rattle.bb_base.specs.declared.files.FileFail.TheVariants as file_fails
+use Rattle.bb_bls.specs.Entry.{entry_of}
+use Rattle.bb_bls.specs.declared.entry.Entry.{Entry}
+use Rattle.bb_chooser.specs.Binding.{Binding}
+use Rattle.bb_flash.specs.declared.plan.Plan.{Plan}
+use Rattle.bb_layout.specs.Results.{all_ok}
+use Rattle.bb_shell.specs.declared.plan_fault.PlanFault.{PlanFault}
+use Rattle.bb_shell.specs.declared.plan_fault.PlanFault.TheVariants.{FileFault, FileTooLong, NoMemory}
+
+-- ---- one target, counted from 0
+
+-- a plan takes these of an entry, and the target's place, which counts from 1
+abbrev pub plan_with : ℕ → Entry → Plan
+plan_with target entry = record {
+  place = target + 1;
+  linux = entry.linux;
+  initrds = entry.initrds;
+  options = entry.options;
+  devicetree = entry.devicetree;
+}
+
+-- the plan of a target by its entry's text: none where there is no text, or where that is no entry
+abbrev pub plan_by : ℕ → Option (List ℕ) → Option Plan
+plan_by target text =
+    option_map (plan_with target) (option_and_then (λ bytes. result_ok (entry_of bytes)) text)
+
+-- what reading an entry's file gave: its bytes, or that there is none of that name
+abbrev pub EntryAnswer : Type 0
+EntryAnswer = Result (Option (List ℕ)) FileFail
+
+-- the plan of a target by what reading its entry's file gave, or why there are no plans
+abbrev pub plan_for : ℕ → EntryAnswer → Result (Option Plan) PlanFault
+plan_for target (Ok text) = Ok (plan_by target text)
+plan_for target (Err file_fails.Fault) = Err (FileFault target)
+plan_for target (Err file_fails.TooLong) = Err (FileTooLong target)
+plan_for target (Err file_fails.NoMemory) = Err NoMemory
+
+-- ---- all targets
+
+-- the plans of the first targets by what reading their entries' files gave; the first that can't be
+-- read decides
+abbrev pub plans_by : List EntryAnswer → Result (List (Option Plan)) PlanFault
+plans_by answers =
+    all_ok (map (λ entry. plan_for entry.0 entry.1) (enumerate_from 0 answers))
+
+-- the name of each target's entry file
+abbrev pub entries_of : Binding → List (List ℕ)
+entries_of b = map (λ t. t.target.entry) b.targets
+
+-- the plans of a chooser's targets over these files
+abbrev pub plans_of : FileMap → Binding → Result (List (Option Plan)) PlanFault
+plans_of files b = plans_by (map (file_of files) (entries_of b))
+
+-- ---- what is answered
+
+-- where the call met no fault and had memory, the answer is that of the files
+abbrev pub IsAnswerOf : EntryAnswer → EntryAnswer → Type 0
+IsAnswerOf (Ok text) file = file ≡ Ok text
+IsAnswerOf (Err file_fails.TooLong) file = file ≡ Err file_fails.TooLong
+IsAnswerOf (Err file_fails.Fault) file = ⊤
+IsAnswerOf (Err file_fails.NoMemory) file = ⊤
+
+-- these are what reading the first targets' entries gave, where the files are told
+abbrev pub AreAnswersOf : Folder → Binding → List EntryAnswer → Type 0
+AreAnswersOf folder b answers =
+    ForSome folder.told
+    (λ files.
+    AllZip IsAnswerOf answers (take (length answers) (map (file_of files) (entries_of b))))
+
+-- The plans, or the fault, come of what was read of the entries, told or not: of all of them where
+-- there are plans. Memory may be refused all the same.
+pub record IsPlanned
+    (b : Binding) (before : Folder) (given : Result (List (Option Plan)) PlanFault) : Type 0 where
+  pub answers : List EntryAnswer
+  pub answered : AreAnswersOf before b answers
+  pub most : length answers ≤ length b.targets
+  pub whole : IfOk given (λ plans. length answers ≡ length b.targets)
+  pub gives : given ≢ Err NoMemory → given ≡ plans_by answers
+
+-- the answer says that a file met a fault
+abbrev pub is_file_fault : {X : Type 0} → Result X PlanFault → Bool
+is_file_fault (Ok plans) = false
+is_file_fault (Err (FileFault target)) = true
+is_file_fault (Err (FileTooLong target)) = false
+is_file_fault (Err NoMemory) = false
+
+-- a fault names a target
+abbrev pub NamesTarget : Binding → PlanFault → Type 0
+NamesTarget b (FileFault target) = target < length b.targets
+NamesTarget b (FileTooLong target) = target < length b.targets
+NamesTarget b NoMemory = ⊤
+
+-- the plan of one target, or the fault, comes of what was read of its entry
+pub record IsPlanOf
+    (b : Binding) (target : ℕ) (before : Folder) (given : Result (Option Plan) PlanFault)
+    : Type 0 where
+  pub answer : EntryAnswer
+  pub answered :
+      ForSome before.told
+      (λ files.
+      ForSome (slice_get (entries_of b) target) (λ name. IsAnswerOf answer (file_of files name)))
+  pub gives : given ≢ Err NoMemory → given ≡ plan_for target answer

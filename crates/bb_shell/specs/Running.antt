@@ -1,0 +1,110 @@
+-- What the rounds of a boot make of a device: first each save, then each start.
+use Rattle.std.specs.Prelude.{◌≡◌, ◌≢◌, ℕ, Bool, true, false, List, [], ◌∷◌, Option, Some, None, IfNone, IfSome, IsSomeAnd, is_some, option_map}
+use Rattle.std.specs.Str.{bytes_eq}
+use Rattle.bb_base.specs.Faults.{HasCause}
+use Rattle.bb_copies.specs.Saving.{EachWritten, SaveFails, SaveRuns}
+use Rattle.bb_copies.specs.Settling.{IsUndisturbed}
+use Rattle.bb_copies.specs.declared.answers.CopyFault.{CopyFault}
+use Rattle.bb_copies.specs.declared.answers.CopyFault.TheVariants.{Unsure}
+use Rattle.bb_flash.specs.declared.plan.Plan.{Plan}
+use Rattle.bb_flash.specs.Calls.{started}
+use Rattle.bb_flash.specs.Cuts.{IsLater}
+use Rattle.bb_flash.specs.Device.{Device, IsDevice, StartKeeps}
+use Rattle.bb_layout.specs.Layout.{Laid}
+use Rattle.bb_state.specs.Kinds.{laid_form, laid_kinds}
+use Rattle.bb_state.specs.State.{IsStored}
+use Rattle.bb_shell.specs.Boot.{Round, plan_at}
+use Rattle.bb_shell.specs.declared.outcome.Outcome.{Outcome}
+use Rattle.bb_shell.specs.declared.outcome.Outcome.TheVariants.{Refused, Unplanned, Failed, Started}
+
+-- ---- the save of a round
+
+-- what it was refused for, if it was
+abbrev pub refusal_of : Outcome → Option CopyFault
+refusal_of (Refused fault) = Some fault
+refusal_of Unplanned = None
+refusal_of Failed = None
+refusal_of Started = None
+
+abbrev pub is_refused : Outcome → Bool
+is_refused outcome = is_some (refusal_of outcome)
+
+-- The table is the one that was last loaded or saved: no call of the device is made.
+pub record IsIdle
+    (used now : Option ℕ) (refusal : Option CopyFault) (from to : Device) : Type 0 where
+  pub device : to ≡ from
+  pub copy : now ≡ used
+  pub done : refusal ≡ None
+
+-- It is another one, and is saved to the copies, of which `used` is the first that passes the last
+-- one, and `now` the first that passes this one.
+pub record IsBegun
+    (layout : Laid) (used now : Option ℕ) (table : List ℕ) (refusal : Option CopyFault)
+    (from to : Device) : Type 0 where
+  pub runs : SaveRuns (laid_form layout) (laid_kinds layout) used table from to
+  pub stored : IfNone refusal (IsStored layout table now from to)
+  pub fails : IfSome refusal (SaveFails (laid_form layout) (laid_kinds layout) used table from to)
+  pub sure : IfSome refusal (λ fault. fault ≢ Unsure)
+  pub exact :
+      IsUndisturbed from to →
+      IfNone refusal (EachWritten (laid_kinds layout) ((laid_form layout).text table) from to)
+
+-- a table was to be saved where `kept` was last loaded or saved
+pub record IsSaveRun
+    (layout : Laid) (kept : List ℕ) (used now : Option ℕ) (table : List ℕ)
+    (refusal : Option CopyFault) (from to : Device) : Type 0 where
+  pub idle : bytes_eq table kept ≡ true → IsIdle used now refusal from to
+  pub begun : bytes_eq table kept ≡ false → IsBegun layout used now table refusal from to
+
+-- ---- the start of a round
+
+-- what holds of every start, whether it was made or failed
+pub record StartRuns (made : Bool) (from to : Device) : Type 0 where
+  pub keeps : StartKeeps from to
+  pub later : IsLater from to
+  pub whole : IsDevice to
+  pub start_faults : HasCause from.start_faults to.start_faults (made ≡ false)
+
+pub record IsStartMade (from to : Device) (plan : Plan) : Type 0 where
+  pub runs : StartRuns true from to
+  pub done : to.told ≡ option_map (started plan) from.told
+
+pub record IsStartFailed (from to : Device) (plan : Plan) : Type 0 where
+  pub runs : StartRuns false from to
+  pub failed : to.told ≡ from.told
+
+-- behind the save the target is started by its plan; where it has none, or the save was refused,
+-- no call is made
+abbrev pub IsTried : Option Plan → Outcome → Device → Device → Type 0
+IsTried plan (Refused fault) from to = to ≡ from
+IsTried plan Unplanned from to = to ≡ from
+IsTried plan Failed from to = IsSomeAnd plan (IsStartFailed from to)
+IsTried plan Started from to = IsSomeAnd plan (IsStartMade from to)
+
+-- ---- rounds
+
+-- a round was run: its save, and then its start
+pub record IsRoundRun
+    (layout : Laid) (plans : List (Option Plan)) (kept : List ℕ) (used now : Option ℕ)
+    (round : Round) (from to : Device) : Type 0 where
+  -- between the two
+  pub middle : Device
+  pub saved : IsSaveRun layout kept used now round.table (refusal_of round.outcome) from middle
+  pub tried : IsTried (plan_at plans round.target) round.outcome middle to
+
+-- P holds up to some device and the copy that is used then, and Q from them on
+pub record Between (P Q : Option ℕ → Device → Type 0) : Type 0 where
+  pub copy : Option ℕ
+  pub device : Device
+  pub before : P copy device
+  pub behind : Q copy device
+
+-- The rounds were run one after another. `kept` was last loaded or saved before them, and `used` is
+-- the copy that is used before them, `now` the one behind them.
+unfoldable pub AreRun :
+    Laid → List (Option Plan) → List ℕ → Option ℕ → Option ℕ → List Round → Device → Device → Type 0
+AreRun layout plans kept used now [] from to = (now ≡ used) × (to ≡ from)
+AreRun layout plans kept used now (round ∷ later) from to =
+    Between
+    (λ copy device. IsRoundRun layout plans kept used copy round from device)
+    (λ copy device. AreRun layout plans round.table copy now later device to)
