@@ -123,60 +123,16 @@ fn a_table_is_unsure_before_a_load(rt: HostRuntime) -> Result<(), Fail> {
 }
 
 #[test]
-fn a_table_is_saved_where_it_was_changed(rt: HostRuntime) -> Result<(), Fail> {
+fn a_save_reads_nothing(rt: HostRuntime) -> Result<(), Fail> {
     let mut board = board(&rt)?;
     let mut state = mount(&rt)?;
     let empty = state.load(&mut board);
     assert_eq!(rt; empty, Ok(Loaded::NoCopy));
-    let same = state.save(&mut board);
-    assert_eq!(rt; same, Ok(()));
-    state.table.put(0, &[7]);
-    let saved = state.save(&mut board);
+    let saved = state.save_always(&mut board);
     assert_eq!(rt; saved, Ok(()));
     assert_eq!(rt; board.programs(), 3);
-    Ok(())
-}
-
-// A board of which all copies hold a table with 7.
-fn saved_board(rt: &HostRuntime) -> Result<MemBoard, NoMemory>
-    ensures geometry { IfOk result (λ board.
-        board.geometry ≡ record { page = 1; block = 0; size = 192 }) }
-    ensures whole { IfOk result (λ board. IsDevice (device_of board)) }
-{
-    let mut board = board(rt)?;
-    let mut state = mount(rt)?;
-    if state.load(&mut board).is_ok() {
-        state.table.put(0, &[7]);
-        let _answer = state.save_always(&mut board);
-    }
-    Ok(board)
-}
-
-#[test]
-fn a_saved_table_is_loaded(rt: HostRuntime) -> Result<(), Fail> {
-    let mut board = saved_board(&rt)?;
-    // the load read three fronts, and a save reads nothing
+    // the load read three fronts
     assert_eq!(rt; board.reads(), 3);
-    let mut state = mount(&rt)?;
-    let loaded = state.load(&mut board);
-    assert_eq!(rt; loaded, Ok(Loaded::Copy { used: 0, live: 3 }));
-    let mut out = Bytes::none(rt.alloc());
-    state.get("a.n", &mut out).or(Err(NoMemory))?;
-    assert_eq!(rt; out.as_slice(), b"7".as_slice());
-    assert_eq!(rt; state.layout().copies, 3);
-    Ok(())
-}
-
-#[test]
-fn a_look_reads_the_first_copy_alone(rt: HostRuntime) -> Result<(), Fail> {
-    let mut board = saved_board(&rt)?;
-    let mut state = mount(&rt)?;
-    let mut area = [0u8; 1];
-    let looked = state.look(&mut board, &mut area);
-    assert_eq!(rt; looked, Ok(true));
-    assert_eq!(rt; area[0], 7);
-    // its front and its record, behind the three of the load
-    assert_eq!(rt; board.reads(), 5);
     Ok(())
 }
 

@@ -114,10 +114,13 @@ fn the_first_passing_copy_is_printed(rt: HostRuntime) -> Result<(), Fail> {
     let mut bytes = written();
     let mut device = board(&rt, alloc, "ov:192", &bytes)?;
     says(&rt, alloc, &LOOK, &mut device, Status::Done, FOUND)?;
+    // The front and the record of copy 0, and no other copy.
+    assert_eq!(rt; device.reads(), 2);
     // Copy 0 passes nothing, and copy 1 stands in for it.
     bytes[24] = 0x30;
     let mut damaged = board(&rt, alloc, "ov:192", &bytes)?;
     says(&rt, alloc, &LOOK, &mut damaged, Status::Done, FOUND)?;
+    assert_eq!(rt; damaged.reads(), 4);
     bytes[64] = 0;
     bytes[128] = 0;
     let mut voided = board(&rt, alloc, "ov:192", &bytes)?;
