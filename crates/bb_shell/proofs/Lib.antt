@@ -1,4 +1,5 @@
 -- Lemmas.
+pub mod Answering
 pub mod Attempts
 pub mod Ends
 mod Examples

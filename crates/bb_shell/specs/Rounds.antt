@@ -1,13 +1,14 @@
 -- The rounds of a boot as a function of what saves and starts answer, one answer a round.
-use Rattle.std.specs.Prelude.{ℕ, ◌&&◌, ◌||◌, Bool, not, List, [], ◌∷◌, Option, Some, None, find, if◌then◌else◌, length, nat_le, nat_lt}
+use Rattle.std.specs.Prelude.{◌≡◌, ℕ, ◌&&◌, ◌||◌, Bool, true, false, not, List, [], ◌∷◌, Option, Some, None, find, if◌then◌else◌, length, map, nat_le, nat_lt}
 use Rattle.std.specs.List.{list_all, range_with_len}
 use Rattle.std.specs.Option.{option_map_or}
 use Rattle.bb_flash.specs.declared.plan.Plan.{Plan}
 use Rattle.bb_chooser.specs.Binding.{Binding}
-use Rattle.bb_chooser.specs.Choosing.{attempts_of, priority_of}
+use Rattle.bb_chooser.specs.Choosing.{IsBest, attempts_of, priority_of}
 use Rattle.bb_chooser.specs.Counting.{spend_of}
 use Rattle.bb_copies.specs.declared.answers.CopyFault.{CopyFault}
-use Rattle.bb_shell.specs.Boot.{Round, is_retried, plan_at}
+use Rattle.bb_shell.specs.Boot.{AreRounds, NoneQualifies, Round, is_retried, plan_at}
+use Rattle.bb_shell.specs.Running.{refusal_of}
 use Rattle.bb_shell.specs.declared.outcome.Outcome.{Outcome}
 use Rattle.bb_shell.specs.declared.outcome.Outcome.TheVariants.{Refused, Unplanned, Failed, Started}
 
@@ -67,3 +68,34 @@ rounds_by b plans table (answer ∷ answers) =
     let round = round_by b plans table answer target in
     followed_by b round (rounds_by b plans round.table answers))
     (best_of b table) []
+
+-- ---- what was answered
+
+abbrev pub is_started : Outcome → Bool
+is_started (Refused fault) = false
+is_started Unplanned = false
+is_started Failed = false
+is_started Started = true
+
+-- what a round was answered of which this came
+abbrev pub answer_of : Round → RoundAnswer
+answer_of round = record {
+  save = refusal_of round.outcome;
+  starts = is_started round.outcome;
+}
+
+-- the best target is the one that is found
+abbrev pub BestLaw : Type 0
+BestLaw =
+    (b : Binding) (table : List ℕ) (target : ℕ) → IsBest b table target →
+    best_of b table ≡ Some target
+
+-- and none is found where none qualifies
+abbrev pub NoneLaw : Type 0
+NoneLaw = (b : Binding) (table : List ℕ) → NoneQualifies b table → best_of b table ≡ None
+
+-- the rounds of a boot are those that their answers make
+abbrev pub RoundsLaw : Type 0
+RoundsLaw =
+    (b : Binding) (plans : List (Option Plan)) (table : List ℕ) (rounds : List Round) →
+    AreRounds b plans table rounds → rounds_by b plans table (map answer_of rounds) ≡ rounds

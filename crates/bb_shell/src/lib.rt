@@ -4,6 +4,7 @@
 
 mod boot;
 mod boot_end;
+mod law;
 mod outcome;
 mod plan_fault;
 mod plans;
@@ -11,5 +12,6 @@ mod round;
 
 pub use boot::boot_run;
 pub use boot_end::BootEnd;
+pub use law::law_rounds;
 pub use plan_fault::PlanFault;
 pub use plans::read_plans;
