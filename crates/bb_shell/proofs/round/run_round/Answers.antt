@@ -2,7 +2,7 @@ use Rattle.bb_state.specs.State.{has_changed, kept_of, kinds_of, laid_of, used_o
 use Rattle.bb_state.specs.declared.state.State.{State}
 use Rattle.bb_shell.proofs.Joins.{changed_outside}
 use Rattle.bb_shell.proofs.Saves.{saved_ok}
-use Rattle.bb_shell.proofs.Starts.{round_later, round_ok, round_outside}
+use Rattle.bb_shell.proofs.Starts.{round_later, round_ok, round_outside, round_stored}
 use Rattle.bb_shell.proofs.round.run_round.Goals as goal
 
 pub returns-in-Ok-clause-run : goal.returns-in-Ok-clause-run
@@ -31,3 +31,9 @@ returns-in-Err-clause-outside g c =
     let state : State = record c.args.state.now { table = c.spend.new.table } in
     changed_outside (kinds_of c.args.state.now) (has_changed state) (g.B.Flash.device c.args.board.now) (g.B.Flash.device c.save.new.flash)
     c.in-Err.ensures.idle (λ changed. (c.in-Err.ensures.runs changed).outside)
+
+pub returns-in-Ok-clause-stored : goal.returns-in-Ok-clause-stored
+returns-in-Ok-clause-stored g c done =
+    round_stored (laid_of c.args.state.now) c.args.plans.now (kept_of c.args.state.now) (used_of c.args.state.now) (used_of c.save.new.self)
+    _ (g.B.Flash.device c.args.board.now) (g.B.Flash.device c.try_start.new.board) (returns-in-Ok-clause-run g c)
+    c.requires.ready.on.geometry done
