@@ -1,5 +1,5 @@
 -- Devicetrees and their layouts, worked through by computation.
-use Rattle.std.specs.Prelude.{◌≡◌, ℕ, Bool, List, [], ◌∷◌, ◌++◌, Option, Some, None, Result, Ok, Err, codes, find, flat_map, if◌then◌else◌, map, ok_or, option_and_then, refl}
+use Rattle.std.specs.Prelude.{◌≡◌, ℕ, ◌-◌, Bool, List, [], ◌∷◌, ◌++◌, Option, Some, None, Result, Ok, Err, codes, find, flat_map, if◌then◌else◌, map, ok_or, option_and_then, refl}
 use Rattle.std.proofs.Common.{ap}
 use Rattle.std.specs.Int.{to_be_bytes, w32}
 use Rattle.std.specs.Result.{result_ok}
@@ -21,7 +21,8 @@ use Rattle.bb_layout.specs.Steps.{result_then}
 use Rattle.bb_layout.specs.declared.format_kind.FormatKind.TheVariants.{Raw}
 use Rattle.bb_layout.specs.declared.layout_error.LayoutError.{LayoutError}
 use Rattle.bb_layout.specs.declared.layout_error.LayoutError.TheVariants.{NoState, Missing, BadProp, BadType, BadReg, Overlap, NoBackend, TooSmall, Unaligned, OutOfDevice, AreaTooLong, NameTwice}
-use Rattle.bb_layout.specs.declared.storage.Storage.TheVariants.{Stride}
+use Rattle.bb_layout.specs.declared.storage.Storage.TheVariants.{Stride, OneBlock, Circular}
+use Rattle.bb_layout.specs.declared.storage.Storage.{Storage}
 use Rattle.bb_layout.specs.declared.var.Var.{Var}
 
 -- ---- how trees are written here
@@ -61,6 +62,9 @@ raw = (codes "backend-type", text (codes "raw"))
 
 abbrev backend : Value
 backend = (codes "backend", cells (1 ∷ []))
+
+abbrev kept_as : List ℕ → Value
+kept_as name = (codes "backend-storage-type", text name)
 
 abbrev stride : ℕ → Value
 stride n = (codes "backend-stridesize", cells (n ∷ []))
@@ -119,7 +123,7 @@ board_layout : layout_from board None (in_place_of 1048576) ≡ Ok (record {
 })
 board_layout = ap (from_alias board (codes "/state") (in_place_of 1048576)) (ascii_is_text (codes "/state") refl)
 
-board_copies : map (region_of (Stride 64) board_region) (0 ∷ 1 ∷ 2 ∷ []) ≡ record { at = 131072; size = 64 } ∷ record { at = 131136; size = 64 } ∷ record { at = 131200; size = 64 } ∷ []
+board_copies : map (region_of (in_place_of 1048576) (Stride 64) board_region) (0 ∷ 1 ∷ 2 ∷ []) ≡ record { at = 131072; size = 64 } ∷ record { at = 131136; size = 64 } ∷ record { at = 131200; size = 64 } ∷ []
 board_copies = refl
 
 board_defaults : defaults_of 20 board_vars ≡ 3 ∷ 0 ∷ 0 ∷ 0 ∷ 20 ∷ 0 ∷ 0 ∷ 0 ∷ 3 ∷ 0 ∷ 0 ∷ 0 ∷ 10 ∷ 0 ∷ 0 ∷ 0 ∷ 0 ∷ 0 ∷ 0 ∷ 0 ∷ []
@@ -173,8 +177,11 @@ stride_of_zero = refl
 backend_by_name : refused (tree (compatible ∷ magic ∷ raw ∷ (codes "backend", text (codes "partition")) ∷ []) [] (partition 0 96)) small ≡ Err (BadProp (codes "backend"))
 backend_by_name = refl
 
-on_blocks : refused (tree good [] (partition 128 384)) blocks ≡ Err (BadProp (codes "backend-storage-type"))
-on_blocks = refl
+other_storage : refused (tree (kept_as (codes "log") ∷ good) [] (partition 0 96)) small ≡ Err (BadProp (codes "backend-storage-type"))
+other_storage = refl
+
+other_storage_on_blocks : refused (tree (kept_as (codes "log") ∷ good) [] (partition 128 384)) blocks ≡ Err (BadProp (codes "backend-storage-type"))
+other_storage_on_blocks = refl
 
 unknown_type : refused (tree good (at (codes "a") ((codes "type", text (codes "int")) ∷ []) [] ∷ []) (partition 0 96)) small ≡ Err BadType
 unknown_type = refl
@@ -212,6 +219,59 @@ one_stride = refl
 
 two_strides : fits (tree (stride 48 ∷ good) [] (partition 0 96)) ≡ Some (2, 0)
 two_strides = refl
+
+-- ---- blocks
+
+-- how the copies are stored, and how many there are
+abbrev on : Node → Geometry → Option (Storage × ℕ)
+on t geometry = option_map (λ l. (l.storage, l.copies)) (result_ok (layout_from t None geometry))
+
+abbrev with_storage : List ℕ → Node
+with_storage name = tree (kept_as name ∷ good) [] (partition 0 384)
+
+log_unless_said : on (tree good [] (partition 0 384)) blocks ≡ Some (Circular, 3)
+log_unless_said = refl
+
+log : on (with_storage (codes "circular")) blocks ≡ Some (Circular, 3)
+log = refl
+
+no_log : on (with_storage (codes "noncircular")) blocks ≡ Some (OneBlock, 3)
+no_log = refl
+
+direct : on (with_storage (codes "direct")) blocks ≡ Some (OneBlock, 3)
+direct = refl
+
+-- in place there are strides, whatever good storage is asked for, and on blocks none, whatever stride is
+log_in_place : on (with_storage (codes "circular")) small ≡ Some (Stride 128, 3)
+log_in_place = refl
+
+stride_on_blocks : on (tree (stride 0x40 ∷ good) [] (partition 0 384)) blocks ≡ Some (Circular, 3)
+stride_on_blocks = refl
+
+blocks_of_64k : Geometry
+blocks_of_64k = record { page = 256; block = 65536; size = 1048576 }
+
+one_block : refused (tree good [] (partition 0x20000 0x10000)) blocks_of_64k ≡ Err TooSmall
+unfolding blocks_of_64k
+one_block = refl
+
+two_blocks : on (tree good [] (partition 0x20000 0x20000)) blocks_of_64k ≡ Some (Circular, 2)
+unfolding blocks_of_64k
+two_blocks = refl
+
+second_block : region_of blocks_of_64k Circular board_region 1 ≡ record { at = 196608; size = 65536 }
+unfolding blocks_of_64k
+second_block = refl
+
+-- a block of two pages holds the entry of an area of 104 bytes, and none of 105
+abbrev area_to : ℕ → Node
+area_to end = tree good (number (codes "last") (end - 4) [] ∷ []) (partition 0 384)
+
+entry_of_two_pages : on (area_to 104) blocks ≡ Some (Circular, 3)
+entry_of_two_pages = refl
+
+entry_of_three_pages : refused (area_to 105) blocks ≡ Err TooSmall
+entry_of_three_pages = refl
 
 -- a region in cells of 64 bits
 abbrev far : List ℕ → Node

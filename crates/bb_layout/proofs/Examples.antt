@@ -1,7 +1,6 @@
 -- Variables and areas by computation.
 use Rattle.std.proofs.Common.{◌≡◌, ℕ, List, [], ◌∷◌, ◌++◌, Some, None, Ok, Err, codes, refl}
 use Rattle.bb_flash.specs.declared.geometry.Geometry.{Geometry}
-use Rattle.bb_flash.specs.declared.region.Region.{Region}
 use Rattle.bb_tree.specs.Node.{Branch, empty, forest}
 use Rattle.bb_vars.specs.declared.kind.Kind.{Kind}
 use Rattle.bb_vars.specs.declared.kind.Kind.TheVariants.{Uint8, Uint32, Enum32, Mac, Chars}
@@ -166,7 +165,7 @@ thirds_of_64_bytes : raw_layout 1 40 in_place ≡ Ok (laid_thirds 1 40 in_place)
 unfolding in_place
 thirds_of_64_bytes = refl
 
-third_copy : region_of (thirds_of in_place) (whole_device in_place) 2 ≡ record { at = 128; size = 64 }
+third_copy : region_of in_place (thirds_of in_place) (whole_device in_place) 2 ≡ record { at = 128; size = 64 }
 unfolding in_place
 third_copy = refl
 

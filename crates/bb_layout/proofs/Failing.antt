@@ -1,6 +1,6 @@
 -- Which refusals each step can give.
 use Rattle.std.proofs.Common.{◌≡◌, ℕ, Bool, true, false, List, [], ◌∷◌, Option, Some, None, Result, Ok, Err, refl, subst, cond, map}
-use Rattle.std.specs.Prelude.{◌+◌, ◌/◌, ◌==◌, ◌||◌, codes, filter, length, nat_le, nat_lt, not, ok_or, option_and_then, reverse, unwrap_or}
+use Rattle.std.specs.Prelude.{◌+◌, ◌||◌, codes, filter, length, nat_le, nat_lt, not, ok_or, option_and_then, reverse}
 use Rattle.std.specs.Option.{option_map_or}
 use Rattle.bb_flash.specs.declared.geometry.Geometry.{Geometry}
 use Rattle.bb_flash.specs.declared.region.Region.{Region}
@@ -12,10 +12,10 @@ use Rattle.bb_layout.specs.Copies.{copies_of, room_for, spacing}
 use Rattle.bb_layout.specs.Fields.{cell_of, string_of, texts_of, two_cells_of}
 use Rattle.bb_layout.specs.Ranges.{area_of, greatest_end, has_same_name, shares_byte, some_pair}
 use Rattle.bb_layout.specs.Results.{all_ok, option_filter, result_and_then}
-use Rattle.bb_layout.specs.StateProps.{algo_of, checked, is_storage_type, is_string, magic_of, needed, props_of, some_cell, storage_type_of, stride_of}
+use Rattle.bb_layout.specs.StateProps.{algo_of, checked, circular_in, is_circular_of, is_string, magic_of, needed, props_of, some_cell, stride_of}
 use Rattle.bb_layout.specs.StateProps
 use Rattle.bb_layout.specs.Steps.{result_then}
-use Rattle.bb_layout.specs.Storage.{fitted, is_aligned, placed, storage_of}
+use Rattle.bb_layout.specs.Storage.{fitted, is_aligned, placed}
 use Rattle.bb_layout.specs.Variables.{default_in, default_of, dotted, filled, fits_type, is_variable, kind_of, names_of, range_of, type_of, variable_at, variable_of, variables_of, ways_of}
 use Rattle.bb_layout.specs.VarType.{type_named}
 use Rattle.bb_layout.specs.declared.layout_error.LayoutError.{LayoutError}
@@ -24,7 +24,6 @@ use Rattle.bb_layout.specs.declared.storage.Storage.{Storage}
 use Rattle.bb_layout.specs.declared.var.Var.{Var}
 use Rattle.bb_layout.specs.declared.var_type.VarType.{VarType}
 use Rattle.bb_layout.specs.declared.var_type.VarType.TheVariants as kinds
-use Rattle.bb_layout.specs.declared.storage.Storage.TheVariants.{Stride}
 use Rattle.bb_vars.specs.Kind.{size_of}
 use Rattle.bb_vars.specs.declared.kind.Kind.{Kind}
 use Rattle.bb_vars.specs.declared.kind.Kind.TheVariants.{Uint8, Uint32, Enum32, Mac, Chars}
@@ -98,10 +97,6 @@ of_place Unaligned = true
 of_place OutOfDevice = true
 of_place e = false
 
-abbrev pub of_storage : LayoutError → Bool
-of_storage (BadProp name) = true
-of_storage e = false
-
 abbrev pub of_room : LayoutError → Bool
 of_room TooSmall = true
 of_room e = false
@@ -122,6 +117,12 @@ module _ (b : Branch (List ℕ)) where
   fails_type : Fails of_props (StateProps.type_of b)
   fails_type = fails_then (needed b (codes "backend-type")) _ (fails_needed (codes "backend-type") refl) (λ v. fails_checked (codes "backend-type") (λ value. is_string value (codes "raw")))
 
+  fails_circular : Fails of_props (is_circular_of b)
+  fails_circular =
+      let bad = BadProp (codes "backend-storage-type") in
+      fails_map_or (λ v. ok_or (circular_in v) bad) (prop_of (codes "backend-storage-type") b) (Ok true)
+      (λ v. fails_or (circular_in v) bad refl) (fails_ok true)
+
   fails_stride : Fails of_props (stride_of b)
   fails_stride =
       let bad : Result (Option ℕ) LayoutError = Err (BadProp (codes "backend-stridesize")) in
@@ -134,8 +135,8 @@ module _ (b : Branch (List ℕ)) where
       fails_then (magic_of b) _ fails_magic (λ magic.
       fails_then (StateProps.type_of b) _ fails_type (λ _.
       fails_then (algo_of b) _ (fails_checked (codes "algo") (λ _. false)) (λ _.
-      fails_then (storage_type_of b) _ (fails_checked (codes "backend-storage-type") is_storage_type) (λ _.
-      fails_then (stride_of b) _ fails_stride (λ stride. fails_ok (record { magic = magic; stride = stride }))))))
+      fails_then (is_circular_of b) _ fails_circular (λ is_circular.
+      fails_then (stride_of b) _ fails_stride (λ stride. fails_ok (record { magic = magic; is_circular = is_circular; stride = stride }))))))
 
 fails_range : (type : VarType) (value : Option (List ℕ)) → Fails of_vars (range_of type value)
 fails_range type None = fails_err (Missing (codes "reg")) refl
@@ -192,11 +193,6 @@ fails_place geometry region =
     fails_if (not (is_aligned geometry region)) (Err Unaligned) _ (fails_err Unaligned refl)
     (fails_if (nat_lt geometry.size (region.at + region.size)) (Err OutOfDevice) (Ok tt) (fails_err OutOfDevice refl) (fails_ok tt))
 
-pub fails_storage : (geometry : Geometry) (region : Region) (stride : Option ℕ) → Fails of_storage (storage_of geometry region stride)
-fails_storage geometry region stride =
-    let storage = Stride (unwrap_or stride (region.size / 3)) in
-    fails_if (geometry.block == 0) (Ok storage) (Err (BadProp (codes "backend-storage-type"))) (fails_ok storage) (fails_err (BadProp (codes "backend-storage-type")) refl)
-
-pub fails_room : (storage : Storage) (region : Region) (area_len : ℕ) → Fails of_room (fitted storage region area_len)
-fails_room storage region area_len =
-    fails_if (nat_lt (copies_of storage region) 2 || nat_lt (spacing storage) (room_for area_len)) (Err TooSmall) (Ok tt) (fails_err TooSmall refl) (fails_ok tt)
+pub fails_room : (geometry : Geometry) (storage : Storage) (region : Region) (len : ℕ) → Fails of_room (fitted geometry storage region len)
+fails_room geometry storage region len =
+    fails_if (nat_lt (copies_of geometry storage region) 2 || nat_lt (spacing geometry storage) (room_for geometry storage len)) (Err TooSmall) (Ok tt) (fails_err TooSmall refl) (fails_ok tt)

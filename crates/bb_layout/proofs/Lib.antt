@@ -2,7 +2,6 @@
 pub mod Apart
 pub mod Boards
 pub mod Calling
-pub mod CopiesApart
 pub mod Examples
 pub mod Failing
 pub mod Filling
@@ -12,6 +11,7 @@ pub mod Places
 pub mod RangeFacts
 pub mod RawLayouts
 pub mod Refusing
+pub mod Standing
 pub mod Strings
 pub mod Texts
 pub mod Walking

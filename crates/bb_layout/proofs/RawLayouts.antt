@@ -1,9 +1,9 @@
 -- The layout of raw records, where it is accepted.
-use Rattle.std.proofs.Common.{◌≡◌, ℕ, ◌+◌, ◌*◌, ◌/◌, ◌≤◌, ◌<◌, Bool, true, false, ◌||◌, cond, Result, Ok, Err, refl, sym, ap, subst, ◌∙◌, arith, min}
+use Rattle.std.proofs.Common.{◌≡◌, ℕ, ◌+◌, ◌/◌, ◌≤◌, Bool, true, false, ◌||◌, Result, Ok, Err, refl, sym, ap, ◌∙◌, arith, min}
 use Rattle.std.specs.Prelude.{◌==◌, if◌then◌else◌, codes, nat_lt}
 use Rattle.std.proofs.lemmas.Bool.Decides.{nat_tests}
 use Rattle.bb_flash.specs.declared.geometry.Geometry.{Geometry}
-use Rattle.bb_layout.specs.Copies.{copies_of, room_for, spacing}
+use Rattle.bb_layout.specs.Copies.{copies_of, raw_len}
 use Rattle.bb_layout.specs.Layout.{Laid}
 use Rattle.bb_layout.specs.Steps.{result_then}
 use Rattle.bb_layout.specs.Storage.{fitted}
@@ -37,8 +37,8 @@ three_fit size some = grind (arith)
 pub raw_three : (magic area_len : ℕ) (geometry : Geometry) (layout : Laid) → raw_layout magic area_len geometry ≡ Ok layout → (layout.area_len ≡ area_len) × (layout.copies ≡ 3)
 raw_three magic area_len geometry layout is =
     let storage = thirds_of geometry in
-    let good = accepted (geometry.block == 0) (fitted storage (whole_device geometry) area_len) (BadProp (codes "backend-storage-type")) (laid_thirds magic area_len geometry) layout is in
-    let tight : nat_lt (geometry.size / 3) (room_for area_len) ≡ false =
-    roomy (nat_lt (copies_of storage (whole_device geometry)) 2) _ (loose _ good.0) in
+    let good = accepted (geometry.block == 0) (fitted geometry storage (whole_device geometry) (raw_len area_len)) (BadProp (codes "backend-storage-type")) (laid_thirds magic area_len geometry) layout is in
+    let tight : nat_lt (geometry.size / 3) (raw_len area_len + 8) ≡ false =
+    roomy (nat_lt (copies_of geometry storage (whole_device geometry)) 2) _ (loose _ good.0) in
     let some : 24 ≤ geometry.size / 3 = grind (arith, nat_tests) in
     (ap (λ (l : Laid). l.area_len) (sym good.1), ap (λ (l : Laid). l.copies) (sym good.1) ∙ three_fit geometry.size some)

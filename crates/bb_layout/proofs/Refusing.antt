@@ -4,20 +4,20 @@ use Rattle.std.specs.Prelude.{ok_or}
 use Rattle.bb_flash.specs.declared.geometry.Geometry.{Geometry}
 use Rattle.bb_tree.specs.Node.{Branch}
 use Rattle.bb_layout.specs.Backend.{backend_of}
-use Rattle.bb_layout.specs.Copies.{copies_of}
+use Rattle.bb_layout.specs.Copies.{copies_of, raw_len}
 use Rattle.bb_layout.specs.Layout.{Laid, laid, layout_at, layout_from}
 use Rattle.bb_layout.specs.Ranges.{area_of}
-use Rattle.bb_layout.specs.Refusals.{AtArea, AtBackend, AtPlace, AtProps, AtRoom, AtStorage, AtVars, ComesExactly, HasArea, HasPlace, HasProps, HasRegion, HasState, HasStorage, HasVars}
+use Rattle.bb_layout.specs.Refusals.{storage_at, AtArea, AtBackend, AtPlace, AtProps, AtRoom, AtVars, ComesExactly, HasArea, HasPlace, HasProps, HasRegion, HasState, HasVars}
 use Rattle.bb_layout.specs.StateNode.{state_of}
 use Rattle.bb_layout.specs.StateProps.{props_of}
 use Rattle.bb_layout.specs.Steps.{result_then}
-use Rattle.bb_layout.specs.Storage.{fitted, placed, storage_of, stored}
+use Rattle.bb_layout.specs.Storage.{fitted, placed, stored}
 use Rattle.bb_layout.specs.Variables.{variables_of}
 use Rattle.bb_layout.specs.declared.format_kind.FormatKind.TheVariants.{Raw}
 use Rattle.bb_layout.specs.declared.layout.Layout.{Layout}
 use Rattle.bb_layout.specs.declared.layout_error.LayoutError.{LayoutError}
 use Rattle.bb_layout.specs.declared.layout_error.LayoutError.TheVariants.{NoState, Missing, BadProp, BadType, BadReg, Overlap, NoBackend, TooSmall, Unaligned, OutOfDevice, AreaTooLong, NameTwice, NoMemory}
-use Rattle.bb_layout.proofs.Failing.{fails_area, fails_backend, fails_place, fails_props, fails_room, fails_storage, fails_vars, of_area, of_backend, of_place, of_props, of_room, of_storage, of_vars}
+use Rattle.bb_layout.proofs.Failing.{fails_area, fails_backend, fails_place, fails_props, fails_room, fails_vars, of_area, of_backend, of_place, of_props, of_room, of_vars}
 
 -- ---- steps
 
@@ -44,7 +44,6 @@ pub data Refuses (tree : Branch (List ℕ)) (name : Option (List ℕ)) (geometry
   at_area : AtArea tree name e → Refuses tree name geometry e
   at_backend : AtBackend tree name e → Refuses tree name geometry e
   at_place : AtPlace tree name geometry e → Refuses tree name geometry e
-  at_storage : AtStorage tree name geometry e → Refuses tree name geometry e
   at_room : AtRoom tree name geometry e → Refuses tree name geometry e
 
 abbrev of_state : LayoutError → Bool
@@ -55,7 +54,7 @@ module _ {tree : Branch (List ℕ)} {name : Option (List ℕ)} (geometry : Geome
   -- what is left to do
   abbrev after_region : HasRegion tree name → Result Laid LayoutError
   after_region s =
-      result_then (stored geometry s.region s.measured.listed.read.props.stride s.measured.area_len) (λ storage.
+      result_then (stored geometry s.region s.measured.listed.read.props (raw_len s.measured.area_len)) (λ storage.
       Ok (record {
         name = s.measured.listed.read.found.called;
         node = s.measured.listed.read.found.state.name;
@@ -64,7 +63,7 @@ module _ {tree : Branch (List ℕ)} {name : Option (List ℕ)} (geometry : Geome
         storage = storage;
         geometry = geometry;
         region = s.region;
-        copies = copies_of storage s.region;
+        copies = copies_of geometry storage s.region;
         area_len = s.measured.area_len;
         vars = s.measured.listed.vars;
       }))
@@ -73,7 +72,7 @@ module _ {tree : Branch (List ℕ)} {name : Option (List ℕ)} (geometry : Geome
   after_vars s =
       result_then (area_of s.vars) (λ area_len.
       result_then (backend_of tree s.read.found.state) (λ region.
-      result_then (stored geometry region s.read.props.stride area_len) (λ storage.
+      result_then (stored geometry region s.read.props (raw_len area_len)) (λ storage.
       Ok (record {
         name = s.read.found.called;
         node = s.read.found.state.name;
@@ -82,7 +81,7 @@ module _ {tree : Branch (List ℕ)} {name : Option (List ℕ)} (geometry : Geome
         storage = storage;
         geometry = geometry;
         region = region;
-        copies = copies_of storage region;
+        copies = copies_of geometry storage region;
         area_len = area_len;
         vars = s.vars;
       }))))
@@ -95,7 +94,6 @@ module _ {tree : Branch (List ℕ)} {name : Option (List ℕ)} (geometry : Geome
   can_be (at_area h) = of_area
   can_be (at_backend h) = of_backend
   can_be (at_place h) = of_place
-  can_be (at_storage h) = of_storage
   can_be (at_room h) = of_room
 
   may : (e : LayoutError) (r : Refuses tree name geometry e) → can_be r e ≡ true
@@ -105,24 +103,19 @@ module _ {tree : Branch (List ℕ)} {name : Option (List ℕ)} (geometry : Geome
   may e (at_area h) = (fails_area h.0.vars).passes e h.1
   may e (at_backend h) = (fails_backend tree h.0.listed.read.found.state).passes e h.1
   may e (at_place h) = (fails_place geometry h.0.region).passes e h.1
-  may e (at_storage h) = (fails_storage geometry h.0.backed.region h.0.backed.measured.listed.read.props.stride).passes e h.1
-  may e (at_room h) = (fails_room h.0.storage h.0.placing.backed.region h.0.placing.backed.measured.area_len).passes e h.1
+  may e (at_room h) =
+      (fails_room geometry (storage_at h.0) h.0.backed.region (raw_len h.0.backed.measured.area_len)).passes e h.1
 
   -- the first step that refuses, from each step on
-  from_region : (s : HasRegion tree name) (e : LayoutError) → stored geometry s.region s.measured.listed.read.props.stride s.measured.area_len ≡ Err e → Refuses tree name geometry e
+  from_region : (s : HasRegion tree name) (e : LayoutError) → stored geometry s.region s.measured.listed.read.props (raw_len s.measured.area_len) ≡ Err e → Refuses tree name geometry e
   from_region s e h =
       elim (then_cases (placed geometry s.region) _ e h) [
         | inl q ↦ at_place (s, q)
         | inr q ↦
             let there : HasPlace tree name geometry = record { backed = s; placed_is = q.1 } in
-            elim (then_cases (storage_of geometry s.region s.measured.listed.read.props.stride) _ e q.2) [
-              | inl r ↦ at_storage (there, r)
-              | inr r ↦
-                  let kept : HasStorage tree name geometry = record { placing = there; storage = r.0; storage_is = r.1 } in
-                  elim (then_cases (fitted r.0 s.region s.measured.area_len) _ e r.2) [
-                    | inl t ↦ at_room (kept, t)
-                    | inr t ↦ absurd (ok_err t.2)
-                  ]
+            elim (then_cases (fitted geometry (storage_at there) s.region (raw_len s.measured.area_len)) _ e q.2) [
+              | inl r ↦ at_room (there, r)
+              | inr r ↦ absurd (ok_err r.2)
             ]
       ]
     where
@@ -139,7 +132,7 @@ module _ {tree : Branch (List ℕ)} {name : Option (List ℕ)} (geometry : Geome
               | inl r ↦ at_backend (m, r)
               | inr r ↦
                   let b : HasRegion tree name = record { measured = m; region = r.0; region_is = r.1 } in
-                  elim (then_cases (stored geometry r.0 s.read.props.stride q.0) _ e r.2) [
+                  elim (then_cases (stored geometry r.0 s.read.props (raw_len q.0)) _ e r.2) [
                     | inl t ↦ from_region b e t
                     | inr t ↦ absurd (ok_err t.2)
                   ]
@@ -195,18 +188,11 @@ module _ {tree : Branch (List ℕ)} {name : Option (List ℕ)} (geometry : Geome
       to_vars h.0.listed ∙ then_ok (area_of h.0.listed.vars) _ h.0.area_len h.0.area_is
       ∙ then_err (backend_of tree h.0.listed.read.found.state) _ e h.1
   decides e (at_place h) = to_region h.0 ∙ then_err _ _ e (then_err (placed geometry h.0.region) _ e h.1)
-  decides e (at_storage h) =
+  decides e (at_room h) =
       to_region h.0.backed
       ∙ then_err _ _ e
       (then_ok (placed geometry h.0.backed.region) _ tt h.0.placed_is
-      ∙ then_err (storage_of geometry h.0.backed.region h.0.backed.measured.listed.read.props.stride) _ e h.1)
-  decides e (at_room h) =
-      let there = h.0.placing in
-      to_region there.backed
-      ∙ then_err _ _ e
-      (then_ok (placed geometry there.backed.region) _ tt there.placed_is
-      ∙ then_ok (storage_of geometry there.backed.region there.backed.measured.listed.read.props.stride) _ h.0.storage h.0.storage_is
-      ∙ then_err (fitted h.0.storage there.backed.region there.backed.measured.area_len) _ e h.1)
+      ∙ then_err (fitted geometry (storage_at h.0) h.0.backed.region (raw_len h.0.backed.measured.area_len)) _ e h.1)
 
 -- ---- each answer
 
@@ -332,23 +318,19 @@ module _ (tree : Branch (List ℕ)) (name : Option (List ℕ)) (geometry : Geome
         ]
       ])
 
-  bad_prop_only : (prop : List ℕ) → Refuses tree name geometry (BadProp prop) → AtProps tree name (BadProp prop) ⊎ (AtVars tree name (BadProp prop) ⊎ (AtBackend tree name (BadProp prop) ⊎ AtStorage tree name geometry (BadProp prop)))
+  bad_prop_only : (prop : List ℕ) → Refuses tree name geometry (BadProp prop) → AtProps tree name (BadProp prop) ⊎ (AtVars tree name (BadProp prop) ⊎ AtBackend tree name (BadProp prop))
   bad_prop_only prop (at_props h) = inl h
   bad_prop_only prop (at_vars h) = inr (inl h)
-  bad_prop_only prop (at_backend h) = inr (inr (inl h))
-  bad_prop_only prop (at_storage h) = inr (inr (inr h))
+  bad_prop_only prop (at_backend h) = inr (inr h)
   bad_prop_only prop r = absurd (false_true (may geometry (BadProp prop) r))
 
-  pub bad_prop_exactly : (prop : List ℕ) → ComesExactly result (BadProp prop) (AtProps tree name (BadProp prop) ⊎ (AtVars tree name (BadProp prop) ⊎ (AtBackend tree name (BadProp prop) ⊎ AtStorage tree name geometry (BadProp prop))))
+  pub bad_prop_exactly : (prop : List ℕ) → ComesExactly result (BadProp prop) (AtProps tree name (BadProp prop) ⊎ (AtVars tree name (BadProp prop) ⊎ AtBackend tree name (BadProp prop)))
   bad_prop_exactly prop =
       exactly _ result (BadProp prop) _ is (λ h. cc) (λ h. bad_prop_only prop (first_refusal geometry (BadProp prop) h))
       (λ f. elim f [
         | inl h ↦ decides geometry (BadProp prop) (at_props h)
         | inr g ↦ elim g [
           | inl h ↦ decides geometry (BadProp prop) (at_vars h)
-          | inr k ↦ elim k [
-            | inl h ↦ decides geometry (BadProp prop) (at_backend h)
-            | inr h ↦ decides geometry (BadProp prop) (at_storage h)
-          ]
+          | inr h ↦ decides geometry (BadProp prop) (at_backend h)
         ]
       ])

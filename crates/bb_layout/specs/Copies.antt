@@ -1,21 +1,34 @@
--- Where copies stand in a partition: one behind the other, two or three of them.
+-- Where copies stand in a partition, one behind the other, two or three of them, and the room that a record takes there
+-- (barebox User Manual, State Framework).
 use Rattle.std.specs.Prelude.{ℕ, ◌+◌, ◌*◌, ◌/◌, min}
+use Rattle.std.specs.Int.{next_multiple_of}
+use Rattle.bb_flash.specs.declared.geometry.Geometry.{Geometry}
 use Rattle.bb_flash.specs.declared.region.Region.{Region}
 use Rattle.bb_layout.specs.declared.storage.Storage.{Storage}
-use Rattle.bb_layout.specs.declared.storage.Storage.TheVariants.{Stride}
+use Rattle.bb_layout.specs.declared.storage.Storage.TheVariants.{Stride, OneBlock, Circular}
 
--- how many bytes the region of a copy has
-abbrev pub spacing : Storage → ℕ
-spacing (Stride stride) = stride
+-- how many bytes the region of a copy has: a stride, or a block of the device
+abbrev pub spacing : Geometry → Storage → ℕ
+spacing geometry (Stride stride) = stride
+spacing geometry OneBlock = geometry.block
+spacing geometry Circular = geometry.block
 
 -- the region of a copy, counted from 0
-abbrev pub region_of : Storage → Region → ℕ → Region
-region_of storage partition copy = record { at = partition.at + copy * spacing storage; size = spacing storage }
+abbrev pub region_of : Geometry → Storage → Region → ℕ → Region
+region_of geometry storage partition copy =
+    record { at = partition.at + copy * spacing geometry storage; size = spacing geometry storage }
 
 -- how many copies there are: as many as fit, at most three
-abbrev pub copies_of : Storage → Region → ℕ
-copies_of storage partition = min 3 (partition.size / spacing storage)
+abbrev pub copies_of : Geometry → Storage → Region → ℕ
+copies_of geometry storage partition = min 3 (partition.size / spacing geometry storage)
 
--- a raw record is 16 bytes and the area; 8 bytes stand in front of a copy's record
-abbrev pub room_for : ℕ → ℕ
-room_for area_len = 8 + (16 + area_len)
+-- a raw record is 16 bytes and the area
+abbrev pub raw_len : ℕ → ℕ
+raw_len area_len = 16 + area_len
+
+-- how many bytes a copy with a record of that length takes: 8 bytes stand before the record, or behind it where an entry
+-- of whole pages ends with them
+abbrev pub room_for : Geometry → Storage → ℕ → ℕ
+room_for geometry (Stride stride) len = len + 8
+room_for geometry OneBlock len = len + 8
+room_for geometry Circular len = next_multiple_of (len + 8) geometry.page

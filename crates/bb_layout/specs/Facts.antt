@@ -1,10 +1,11 @@
 -- What is true of every layout.
-use Rattle.std.specs.Prelude.{◌≡◌, ◌≢◌, ℕ, ◌+◌, ◌<◌, ◌≤◌, List, All, AllPairs}
+use Rattle.std.specs.Prelude.{◌≡◌, ◌≢◌, ℕ, ◌+◌, ◌%◌, ◌<◌, ◌≤◌, ◌==◌, Bool, true, false, List, All, AllPairs}
 use Rattle.bb_flash.specs.Geometry.{IsGeometry}
 use Rattle.bb_flash.specs.declared.geometry.Geometry.{Geometry}
 use Rattle.bb_flash.specs.declared.region.Region.{Region}
-use Rattle.bb_layout.specs.Copies.{region_of, room_for, spacing}
+use Rattle.bb_layout.specs.Copies.{raw_len, region_of, room_for, spacing}
 use Rattle.bb_layout.specs.declared.storage.Storage.{Storage}
+use Rattle.bb_layout.specs.declared.storage.Storage.TheVariants.{Stride, OneBlock, Circular}
 use Rattle.bb_layout.specs.declared.var.Var.{Var}
 use Rattle.std.specs.Coded.{Unit-prop, le_prop}
 use Rattle.bb_layout.specs.Ranges.{end_of}
@@ -41,20 +42,33 @@ pub record AreVars (area_len : ℕ) (vars : List Var) : Type 0 where
 abbrev pub EndsBefore : Region → Region → Type 0
 EndsBefore first second = first.at + first.size ≤ second.at
 
--- copies of an area of so many bytes in a partition of a device: each has a region in the partition, with room for its
--- record, and no two of them share a byte
-pub record HasCopies (geometry : Geometry) (partition : Region) (storage : Storage) (copies area_len : ℕ) : Type 0 where
-  pub in_place : geometry.block ≡ 0
+-- on a device that is erased in blocks, a region is made of whole blocks
+pub record IsAligned (geometry : Geometry) (region : Region) : Type 0 where
+  pub at : 0 < geometry.block → region.at % geometry.block ≡ 0
+  pub size : 0 < geometry.block → region.size % geometry.block ≡ 0
+
+abbrev pub is_stride : Storage → Bool
+is_stride (Stride stride) = true
+is_stride OneBlock = false
+is_stride Circular = false
+
+-- copies in a partition of a device, with records of that length: each has a region in the partition, with room for its
+-- record, and no two of them share a byte. They stand in strides exactly on a device without blocks, and in whole blocks
+-- on every other.
+pub record HasCopies (geometry : Geometry) (partition : Region) (storage : Storage) (copies len : ℕ) : Type 0 where
+  pub strides : is_stride storage ≡ (geometry.block == 0)
   pub on_device : partition.at + partition.size ≤ geometry.size
+  pub whole_blocks : IsAligned geometry partition
   pub least : 2 ≤ copies
   pub most : copies ≤ 3
-  pub inside : (copy : ℕ) → copy < copies → IsWithin partition (region_of storage partition copy)
+  pub inside : (copy : ℕ) → copy < copies → IsWithin partition (region_of geometry storage partition copy)
+  pub aligned : (copy : ℕ) → IsAligned geometry (region_of geometry storage partition copy)
   pub apart : (first second : ℕ) → first < second
-      → EndsBefore (region_of storage partition first) (region_of storage partition second)
-  pub room : room_for area_len ≤ spacing storage
+      → EndsBefore (region_of geometry storage partition first) (region_of geometry storage partition second)
+  pub room : room_for geometry storage len ≤ spacing geometry storage
 
 pub record IsLayout (geometry : Geometry) (partition : Region) (storage : Storage) (copies area_len : ℕ) (vars : List Var) : Type 0 where
   pub geometry_is : IsGeometry geometry
-  pub copied : HasCopies geometry partition storage copies area_len
+  pub copied : HasCopies geometry partition storage copies (raw_len area_len)
   pub area_most : area_len ≤ 65535
   pub vars_are : AreVars area_len vars

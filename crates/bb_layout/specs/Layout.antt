@@ -5,7 +5,7 @@ use Rattle.bb_flash.specs.declared.geometry.Geometry.{Geometry}
 use Rattle.bb_flash.specs.declared.region.Region.{Region}
 use Rattle.bb_tree.specs.Node.{Branch}
 use Rattle.bb_layout.specs.Backend.{backend_of}
-use Rattle.bb_layout.specs.Copies.{copies_of}
+use Rattle.bb_layout.specs.Copies.{copies_of, raw_len}
 use Rattle.bb_layout.specs.Ranges.{area_of}
 use Rattle.bb_layout.specs.StateNode.{state_of}
 use Rattle.bb_layout.specs.StateProps.{props_of}
@@ -54,7 +54,7 @@ layout_at tree name state geometry =
     result_then (variables_of state) (λ vars.
     result_then (area_of vars) (λ area_len.
     result_then (backend_of tree state) (λ region.
-    result_then (stored geometry region props.stride area_len) (λ storage.
+    result_then (stored geometry region props (raw_len area_len)) (λ storage.
     Ok (record {
       name = name;
       node = state.name;
@@ -63,7 +63,7 @@ layout_at tree name state geometry =
       storage = storage;
       geometry = geometry;
       region = region;
-      copies = copies_of storage region;
+      copies = copies_of geometry storage region;
       area_len = area_len;
       vars = vars;
     }))))))

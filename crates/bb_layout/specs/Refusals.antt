@@ -4,6 +4,7 @@ use Rattle.bb_flash.specs.declared.geometry.Geometry.{Geometry}
 use Rattle.bb_flash.specs.declared.region.Region.{Region}
 use Rattle.bb_tree.specs.Node.{Branch}
 use Rattle.bb_layout.specs.Backend.{backend_of}
+use Rattle.bb_layout.specs.Copies.{raw_len}
 use Rattle.bb_layout.specs.Ranges.{area_of}
 use Rattle.bb_layout.specs.StateNode.{state_of}
 use Rattle.bb_layout.specs.StateProps.{props_of}
@@ -53,11 +54,9 @@ pub record HasPlace (tree : Branch (List ℕ)) (name : Option (List ℕ)) (geome
   pub backed : HasRegion tree name
   pub placed_is : placed geometry backed.region ≡ Ok tt
 
--- and there is a storage for it
-pub record HasStorage (tree : Branch (List ℕ)) (name : Option (List ℕ)) (geometry : Geometry) : Type 0 where
-  pub placing : HasPlace tree name geometry
-  pub storage : Storage
-  pub storage_is : storage_of geometry placing.backed.region placing.backed.measured.listed.read.props.stride ≡ Ok storage
+-- how its copies are stored there
+abbrev pub storage_at : {tree : Branch (List ℕ)} {name : Option (List ℕ)} {geometry : Geometry} → HasPlace tree name geometry → Storage
+storage_at {geometry = geometry} s = storage_of geometry s.backed.region s.backed.measured.listed.read.props
 
 -- ---- the step that refuses
 
@@ -76,13 +75,10 @@ AtBackend tree name e = (s : HasArea tree name) × (backend_of tree s.listed.rea
 abbrev pub AtPlace : Branch (List ℕ) → Option (List ℕ) → Geometry → LayoutError → Type 0
 AtPlace tree name geometry e = (s : HasRegion tree name) × (placed geometry s.region ≡ Err e)
 
-abbrev pub AtStorage : Branch (List ℕ) → Option (List ℕ) → Geometry → LayoutError → Type 0
-AtStorage tree name geometry e =
-    (s : HasPlace tree name geometry) × (storage_of geometry s.backed.region s.backed.measured.listed.read.props.stride ≡ Err e)
-
 abbrev pub AtRoom : Branch (List ℕ) → Option (List ℕ) → Geometry → LayoutError → Type 0
 AtRoom tree name geometry e =
-    (s : HasStorage tree name geometry) × (fitted s.storage s.placing.backed.region s.placing.backed.measured.area_len ≡ Err e)
+    (s : HasPlace tree name geometry)
+    × (fitted geometry (storage_at s) s.backed.region (raw_len s.backed.measured.area_len) ≡ Err e)
 
 -- ---- an answer
 

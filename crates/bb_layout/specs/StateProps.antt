@@ -1,6 +1,6 @@
 -- The properties of the state node itself, in the order in which they are looked at (devicetree binding `barebox,state`;
 -- barebox User Manual, State Framework).
-use Rattle.std.specs.Prelude.{ℕ, Bool, false, ◌||◌, ◌∷◌, [], ◌++◌, List, Option, Some, None, Result, Ok, Err, if◌then◌else◌, codes, nat_lt, ok_or, option_and_then}
+use Rattle.std.specs.Prelude.{ℕ, Bool, true, false, ◌||◌, ◌∷◌, [], ◌++◌, List, Option, Some, None, Result, Ok, Err, if◌then◌else◌, codes, nat_lt, ok_or, option_and_then}
 use Rattle.std.specs.Option.{option_map_or}
 use Rattle.std.specs.Str.{bytes_eq}
 use Rattle.bb_tree.specs.Node.{Branch}
@@ -35,11 +35,18 @@ type_of b = result_then (needed b (codes "backend-type")) (λ _. checked b (code
 abbrev pub algo_of : Branch (List ℕ) → Result (Unit {0}) LayoutError
 algo_of b = checked b (codes "algo") (λ _. false)
 
-abbrev pub is_storage_type : List ℕ → Bool
-is_storage_type value = is_string value (codes "circular") || is_string value (codes "noncircular") || is_string value (codes "direct")
+-- whether `backend-storage-type` asks for a circular log, if it is one of its three strings
+abbrev pub circular_in : List ℕ → Option Bool
+circular_in value =
+    if is_string value (codes "circular") then Some true
+    else if is_string value (codes "noncircular") || is_string value (codes "direct") then Some false
+    else None
 
-abbrev pub storage_type_of : Branch (List ℕ) → Result (Unit {0}) LayoutError
-storage_type_of b = checked b (codes "backend-storage-type") is_storage_type
+-- where there is none, a log
+abbrev pub is_circular_of : Branch (List ℕ) → Result Bool LayoutError
+is_circular_of b =
+    option_map_or (λ value. ok_or (circular_in value) (BadProp (codes "backend-storage-type")))
+    (prop_of (codes "backend-storage-type") b) (Ok true)
 
 -- `backend-stridesize` is one cell above 0
 abbrev pub some_cell : List ℕ → Option ℕ
@@ -55,5 +62,5 @@ props_of b =
     result_then (magic_of b) (λ magic.
     result_then (type_of b) (λ _.
     result_then (algo_of b) (λ _.
-    result_then (storage_type_of b) (λ _.
-    result_then (stride_of b) (λ stride. Ok (record { magic = magic; stride = stride }))))))
+    result_then (is_circular_of b) (λ is_circular.
+    result_then (stride_of b) (λ stride. Ok (record { magic = magic; is_circular = is_circular; stride = stride }))))))

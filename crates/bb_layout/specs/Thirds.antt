@@ -2,7 +2,7 @@
 use Rattle.std.specs.Prelude.{ℕ, ◌/◌, ◌==◌, [], Result, Ok, Err, if◌then◌else◌, codes}
 use Rattle.bb_flash.specs.declared.geometry.Geometry.{Geometry}
 use Rattle.bb_flash.specs.declared.region.Region.{Region}
-use Rattle.bb_layout.specs.Copies.{copies_of}
+use Rattle.bb_layout.specs.Copies.{copies_of, raw_len}
 use Rattle.bb_layout.specs.Layout.{Laid}
 use Rattle.bb_layout.specs.Steps.{result_then}
 use Rattle.bb_layout.specs.Storage.{fitted}
@@ -28,7 +28,7 @@ laid_thirds magic area_len geometry = record {
   storage = thirds_of geometry;
   geometry = geometry;
   region = whole_device geometry;
-  copies = copies_of (thirds_of geometry) (whole_device geometry);
+  copies = copies_of geometry (thirds_of geometry) (whole_device geometry);
   area_len = area_len;
   vars = [];
 }
@@ -37,6 +37,6 @@ laid_thirds magic area_len geometry = record {
 abbrev pub raw_layout : ℕ → ℕ → Geometry → Result Laid LayoutError
 raw_layout magic area_len geometry =
     if geometry.block == 0
-    then result_then (fitted (thirds_of geometry) (whole_device geometry) area_len) (λ _.
+    then result_then (fitted geometry (thirds_of geometry) (whole_device geometry) (raw_len area_len)) (λ _.
     Ok (laid_thirds magic area_len geometry))
     else Err (BadProp (codes "backend-storage-type"))

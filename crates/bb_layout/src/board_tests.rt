@@ -1,4 +1,4 @@
-use crate::{LayoutError, layout_of};
+use crate::{LayoutError, Storage, layout_of};
 use bb_base::{Bytes, NoMemory, Text};
 use bb_flash::geometry_of;
 use bb_tree::{Node, NodeList, PairList, Prop, PropList, Tree};
@@ -50,9 +50,9 @@ fn state(alloc: Global) -> Result<Node, NoMemory> {
     Ok(state)
 }
 
-fn board(alloc: Global) -> Result<Tree, NoMemory> {
+fn board(alloc: Global, reg: &[u8]) -> Result<Tree, NoMemory> {
     let mut partition = bare(alloc, "partition@20000")?;
-    add(alloc, &mut partition, "reg", b"\0\x02\0\0\0\x03\0\0")?;
+    add(alloc, &mut partition, "reg", reg)?;
     let mut root = bare(alloc, "")?;
     root.nodes.push(partition)?;
     root.nodes.push(state(alloc)?)?;
@@ -64,7 +64,7 @@ fn board(alloc: Global) -> Result<Tree, NoMemory> {
 
 #[test]
 fn a_board_is_laid_out(rt: HostRuntime) -> Result<(), Fail> {
-    let tree = board(rt.alloc())?;
+    let tree = board(rt.alloc(), b"\0\x02\0\0\0\x03\0\0")?;
     let geometry = geometry_of("ov:1048576").ok_or("no geometry")?;
     let layout = layout_of(rt.alloc(), &tree, Some("state"), geometry)
         .ok()
@@ -82,6 +82,22 @@ fn a_board_is_laid_out(rt: HostRuntime) -> Result<(), Fail> {
         area.as_slice(),
         b"\0\0\0\0\x01\0\0\0\x00\x11\x22\x33\x44\x55\0\0ab\0\0".as_slice()
     );
+    Ok(())
+}
+
+#[test]
+fn a_log_has_two_blocks_at_least(rt: HostRuntime) -> Result<(), Fail> {
+    let geometry = geometry_of("er:256:65536:1048576").ok_or("no geometry")?;
+    let one = board(rt.alloc(), b"\0\x02\0\0\0\x01\0\0")?;
+    let refused = layout_of(rt.alloc(), &one, None, geometry);
+    assert!(rt; matches!(refused, Err(LayoutError::TooSmall)));
+    let two = board(rt.alloc(), b"\0\x02\0\0\0\x02\0\0")?;
+    let layout = layout_of(rt.alloc(), &two, None, geometry)
+        .ok()
+        .ok_or("the tree is refused")?;
+    assert_eq!(rt; layout.copies, 2);
+    assert_eq!(rt; layout.storage, Storage::Circular);
+    assert_eq!(rt; layout.region(1).at, 196_608);
     Ok(())
 }
 

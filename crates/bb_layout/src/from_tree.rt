@@ -3,12 +3,12 @@ ghost use Rattle.std.specs.Option.{option_copied};
 ghost use Rattle.bb_flash.specs.Geometry.{IsGeometry};
 ghost use Rattle.bb_tree.specs.NodeViews.{branch_of};
 ghost use Rattle.bb_layout.specs.Layout.{laid, layout_at, layout_from};
-ghost use Rattle.bb_layout.specs.Refusals.{AtArea, AtBackend, AtPlace, AtProps, AtRoom, AtStorage, AtVars, ComesExactly};
+ghost use Rattle.bb_layout.specs.Refusals.{AtArea, AtBackend, AtPlace, AtProps, AtRoom, AtVars, ComesExactly};
 ghost use Rattle.bb_layout.specs.StateNode.{state_of};
 
 use crate::backend::backend;
 use crate::fields::base_name;
-use crate::placing::{copies, stored};
+use crate::placing::{copies, raw_len, stored};
 use crate::ranges::area_len;
 use crate::state_node::{aliased, first_wanted};
 use crate::state_props::state_props;
@@ -38,8 +38,7 @@ pub fn layout_of(
     ensures missing { (prop : List ℕ) → ComesExactly result (LayoutError.Missing prop) (AtProps (branch_of tree.now.root) (option_copied name.entry) (LayoutError.Missing prop)
         ⊎ (AtVars (branch_of tree.now.root) (option_copied name.entry) (LayoutError.Missing prop) ⊎ AtBackend (branch_of tree.now.root) (option_copied name.entry) (LayoutError.Missing prop))) }
     ensures bad_prop { (prop : List ℕ) → ComesExactly result (LayoutError.BadProp prop) (AtProps (branch_of tree.now.root) (option_copied name.entry) (LayoutError.BadProp prop)
-        ⊎ (AtVars (branch_of tree.now.root) (option_copied name.entry) (LayoutError.BadProp prop) ⊎ (AtBackend (branch_of tree.now.root) (option_copied name.entry) (LayoutError.BadProp prop)
-        ⊎ AtStorage (branch_of tree.now.root) (option_copied name.entry) geometry (LayoutError.BadProp prop)))) }
+        ⊎ (AtVars (branch_of tree.now.root) (option_copied name.entry) (LayoutError.BadProp prop) ⊎ AtBackend (branch_of tree.now.root) (option_copied name.entry) (LayoutError.BadProp prop))) }
     ensures bad_type { ComesExactly result LayoutError.BadType (AtVars (branch_of tree.now.root) (option_copied name.entry) LayoutError.BadType) }
     ensures bad_reg { ComesExactly result LayoutError.BadReg (AtVars (branch_of tree.now.root) (option_copied name.entry) LayoutError.BadReg) }
     ensures overlap { ComesExactly result LayoutError.Overlap (AtArea (branch_of tree.now.root) (option_copied name.entry) LayoutError.Overlap) }
@@ -90,7 +89,7 @@ fn layout_at(
     let vars = variables(alloc, state)?;
     let area_len = area_len(alloc, &vars)?;
     let region = backend(alloc, tree, state)?;
-    let storage = stored(alloc, geometry, region, props.stride, area_len)?;
+    let storage = stored(geometry, region, props, raw_len(area_len))?;
     Ok(Layout {
         name: Text::of(alloc, name)?,
         node: state.name.copy()?,
@@ -99,7 +98,7 @@ fn layout_at(
         storage,
         geometry,
         region,
-        copies: copies(storage, region),
+        copies: copies(geometry, storage, region),
         area_len,
         vars,
     })

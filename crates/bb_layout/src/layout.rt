@@ -2,13 +2,14 @@ ghost use Rattle.bb_layout.specs.Facts.{HasFewNames-prop, IsLayout};
 ghost use Rattle.std.proofs.Props.{props};
 
 use crate::defaults::fill_defaults;
+use crate::placing::spacing;
 use crate::{FormatKind, Storage, VarList};
 use bb_base::Text;
 use bb_flash::{Geometry, Region};
 
 /// What a state node says: its variables in an area, and the copies of that area on a device. Two or three copies stand
-/// in the partition, each with room for its record, and the partition on the device. The variables' names differ, and
-/// their ranges share no byte.
+/// in the partition, each with room for its record, and the partition on the device: in strides on one that is overwritten
+/// in place, in whole erase blocks on any other. The variables' names differ, and their ranges share no byte.
 #[derive(Drop)]
 pub struct Layout {
     /// The name by which it is asked for.
@@ -34,23 +35,24 @@ pub struct Layout {
 
 impl Layout {
     ghost use Rattle.std.specs.Prelude.{◌≡◌, ◌≤◌, ◌<◌, length};
-    ghost use Rattle.bb_layout.specs.Copies.{region_of, room_for};
+    ghost use Rattle.bb_layout.specs.Copies.{raw_len, region_of, room_for};
     ghost use Rattle.bb_layout.specs.Defaults.{defaults_of};
-    ghost use Rattle.bb_layout.specs.Facts.{IsWithin};
+    ghost use Rattle.bb_layout.specs.Facts.{IsAligned, IsWithin};
     ghost use Rattle.bb_layout.specs.VarNames.{place_of};
 
     /// Where a copy stands, counted from 0.
     pub fn region(&self, copy: u32) -> Region
         requires { copy < self.now.copies }
-        ensures value { result ≡ region_of self.now.storage self.now.region copy }
+        ensures value { result ≡ region_of self.now.geometry self.now.storage self.now.region copy }
         ensures within { IsWithin self.now.region result }
-        ensures room { room_for self.now.area_len ≤ result.size }
+        ensures aligned { IsAligned self.now.geometry result }
+        ensures room { room_for self.now.geometry self.now.storage (raw_len self.now.area_len)
+            ≤ result.size }
     {
-        match self.storage {
-            Storage::Stride(stride) => Region {
-                at: self.region.at + copy * stride,
-                size: stride,
-            },
+        let size = spacing(self.geometry, self.storage);
+        Region {
+            at: self.region.at + copy * size,
+            size,
         }
     }
 

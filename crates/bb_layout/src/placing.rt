@@ -1,29 +1,30 @@
-ghost use Rattle.std.specs.Prelude.{◌≡◌, ◌<◌, ◌≤◌, IfOk};
+ghost use Rattle.std.specs.Prelude.{◌≡◌, ◌≤◌, ◌<◌, ◌^◌, IfOk, nat_le};
+ghost use Rattle.bb_flash.specs.Geometry.{IsGeometry};
 ghost use Rattle.bb_layout.specs.Copies as copy;
 ghost use Rattle.bb_layout.specs.Facts.{HasCopies};
 ghost use Rattle.bb_layout.specs.Steps.{Gives};
 ghost use Rattle.bb_layout.specs.Storage as spec;
 
+use crate::state_props::Props;
 use crate::{LayoutError, Storage};
 use bb_flash::{Geometry, Region};
-use std::alloc::Global;
 
-#[tactic(auto, using(crate::proofs::CopiesApart::ends_before))]
-/// How copies of an area are stored in a partition of a device, in strides of the size that is given.
+#[tactic(auto, using(crate::proofs::Standing::stored_copies))]
+/// How copies with a record of `len` bytes are stored in a partition of a device.
 pub(crate) fn stored(
-    alloc: Global,
     geometry: Geometry,
     partition: Region,
-    stride: Option<u32>,
-    area_len: u32,
+    props: Props,
+    len: u64,
 ) -> Result<Storage, LayoutError>
-    requires { area_len ≤ 65535 }
-    ensures gives { Gives (spec.stored geometry partition stride area_len) result }
-    ensures copies { IfOk result (λ storage. HasCopies geometry partition storage (copy.copies_of storage partition) area_len) }
+    requires { IsGeometry geometry }
+    ensures gives { result ≡ spec.stored geometry partition props len }
+    ensures copies { IfOk result (λ storage. HasCopies geometry partition storage
+        (copy.copies_of geometry storage partition) len) }
 {
     check_place(geometry, partition)?;
-    let storage = storage_for(alloc, geometry, partition, stride)?;
-    check_room(storage, partition, area_len)?;
+    let storage = storage_for(geometry, partition, props);
+    check_room(geometry, storage, partition, len)?;
     Ok(storage)
 }
 
@@ -46,53 +47,82 @@ fn is_aligned(geometry: Geometry, partition: Region) -> bool
         || partition.at % geometry.block == 0 && partition.size % geometry.block == 0
 }
 
-fn storage_for(
-    alloc: Global,
-    geometry: Geometry,
-    partition: Region,
-    stride: Option<u32>,
-) -> Result<Storage, LayoutError>
-    ensures { Gives (spec.storage_of geometry partition stride) result }
+fn storage_for(geometry: Geometry, partition: Region, props: Props) -> Storage
+    ensures { result ≡ spec.storage_of geometry partition props }
 {
-    if geometry.block != 0 {
-        return Err(LayoutError::bad_prop(alloc, "backend-storage-type"));
+    if geometry.block == 0 {
+        return Storage::Stride(props.stride.unwrap_or(partition.size / 3));
     }
-    Ok(Storage::Stride(stride.unwrap_or(partition.size / 3)))
+    if props.is_circular {
+        Storage::Circular
+    } else {
+        Storage::OneBlock
+    }
 }
 
-const FRONT_LEN: u32 = 8;
-
-const HEADER_LEN: u32 = 16;
-
-/// Whether two copies fit, and a record fits into each.
+/// Whether two copies fit, and a record of `len` bytes fits into each.
 pub(crate) fn check_room(
+    geometry: Geometry,
     storage: Storage,
     partition: Region,
-    area_len: u32,
+    len: u64,
 ) -> Result<(), LayoutError>
-    requires { area_len ≤ 65535 }
-    ensures { result ≡ spec.fitted storage partition area_len }
+    requires { IsGeometry geometry }
+    ensures { result ≡ spec.fitted geometry storage partition len }
 {
-    if copies(storage, partition) < 2 || spacing(storage) < FRONT_LEN + HEADER_LEN + area_len {
+    if copies(geometry, storage, partition) < 2 || !has_room(geometry, storage, len) {
         return Err(LayoutError::TooSmall);
     }
     Ok(())
 }
 
-/// How many copies fit, at most 3.
-pub(crate) fn copies(storage: Storage, partition: Region) -> u32
-    ensures { result ≡ copy.copies_of storage partition }
+/// How many bytes a raw record has.
+pub(crate) fn raw_len(area_len: u32) -> u64
+    ensures { result ≡ copy.raw_len area_len }
 {
-    match partition.size.checked_div(spacing(storage)) {
+    16 + u64::from(area_len)
+}
+
+/// How many copies fit, at most 3.
+pub(crate) fn copies(geometry: Geometry, storage: Storage, partition: Region) -> u32
+    ensures { result ≡ copy.copies_of geometry storage partition }
+{
+    match partition.size.checked_div(spacing(geometry, storage)) {
         Some(count) => count.min(3),
         None => 0,
     }
 }
 
-fn spacing(storage: Storage) -> u32
-    ensures { result ≡ copy.spacing storage }
+#[tactic(auto, using(crate::proofs::Standing::room_more))]
+fn has_room(geometry: Geometry, storage: Storage, len: u64) -> bool
+    requires { IsGeometry geometry }
+    ensures { result ≡ nat_le (copy.room_for geometry storage len) (copy.spacing geometry storage) }
+{
+    let size = u64::from(spacing(geometry, storage));
+    len < size && room_for(geometry, storage, len) <= size
+}
+
+// The 8 bytes that stand before a record, or behind it.
+const FRONT_LEN: u64 = 8;
+
+#[tactic(auto, using(crate::proofs::Standing::next_below))]
+fn room_for(geometry: Geometry, storage: Storage, len: u64) -> u64
+    requires geometry { IsGeometry geometry }
+    requires short { len < 2 ^ 32 }
+    ensures { result ≡ copy.room_for geometry storage len }
+{
+    match storage {
+        Storage::Stride(_) | Storage::OneBlock => len + FRONT_LEN,
+        Storage::Circular => (len + FRONT_LEN).next_multiple_of(u64::from(geometry.page)),
+    }
+}
+
+/// How many bytes the region of a copy has.
+pub(crate) fn spacing(geometry: Geometry, storage: Storage) -> u32
+    ensures { result ≡ copy.spacing geometry storage }
 {
     match storage {
         Storage::Stride(stride) => stride,
+        Storage::OneBlock | Storage::Circular => geometry.block,
     }
 }

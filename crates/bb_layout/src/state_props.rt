@@ -13,6 +13,8 @@ use std::alloc::Global;
 pub(crate) struct Props {
     /// The magic word of a copy's record.
     pub magic: u32,
+    /// Whether an erase block holds a log of records, and not one record alone.
+    pub is_circular: bool,
     /// How many bytes lie between the starts of two copies, if that is said.
     pub stride: Option<u32>,
 }
@@ -25,9 +27,13 @@ pub(crate) fn state_props(alloc: Global, state: &Node) -> Result<Props, LayoutEr
     let magic = magic(alloc, state)?;
     check_type(alloc, state)?;
     check_algo(alloc, state)?;
-    check_storage_type(alloc, state)?;
+    let is_circular = is_circular(alloc, state)?;
     let stride = stride(alloc, state)?;
-    Ok(Props { magic, stride })
+    Ok(Props {
+        magic,
+        is_circular,
+        stride,
+    })
 }
 
 /// The value of a property that must be there.
@@ -68,24 +74,28 @@ fn check_algo(alloc: Global, state: &Node) -> Result<(), LayoutError>
     Ok(())
 }
 
-fn check_storage_type(alloc: Global, state: &Node) -> Result<(), LayoutError>
-    ensures { Gives (spec.storage_type_of (branch_of state.now)) result }
+fn is_circular(alloc: Global, state: &Node) -> Result<bool, LayoutError>
+    ensures { Gives (spec.is_circular_of (branch_of state.now)) result }
 {
     let Some(value) = state.prop("backend-storage-type") else {
-        return Ok(());
+        return Ok(true);
     };
-    if !is_storage_type(value) {
-        return Err(LayoutError::bad_prop(alloc, "backend-storage-type"));
+    match circular_in(value) {
+        Some(is_circular) => Ok(is_circular),
+        None => Err(LayoutError::bad_prop(alloc, "backend-storage-type")),
     }
-    Ok(())
 }
 
-fn is_storage_type(value: &[u8]) -> bool
-    ensures { result ≡ spec.is_storage_type value.now }
+fn circular_in(value: &[u8]) -> Option<bool>
+    ensures { result ≡ spec.circular_in value.now }
 {
-    value == b"circular\0".as_slice()
-        || value == b"noncircular\0".as_slice()
-        || value == b"direct\0".as_slice()
+    if value == b"circular\0".as_slice() {
+        return Some(true);
+    }
+    if value == b"noncircular\0".as_slice() || value == b"direct\0".as_slice() {
+        return Some(false);
+    }
+    None
 }
 
 fn stride(alloc: Global, state: &Node) -> Result<Option<u32>, LayoutError>

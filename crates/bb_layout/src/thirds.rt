@@ -1,16 +1,17 @@
-ghost use Rattle.std.specs.Prelude.{◌≡◌, ◌≢◌, ◌≤◌, ◌<◌, ◌/◌, Ok, Err, IfOk, IfErr, codes};
+ghost use Rattle.std.specs.Prelude.{◌≡◌, ◌≢◌, ◌≤◌, ◌<◌, ◌+◌, ◌/◌, Ok, Err, IfOk, IfErr, codes};
 ghost use Rattle.bb_flash.specs.Geometry.{IsGeometry};
-ghost use Rattle.bb_layout.specs.Copies.{room_for};
+ghost use Rattle.bb_layout.specs.Copies.{raw_len};
 ghost use Rattle.bb_layout.specs.Layout.{laid};
 ghost use Rattle.bb_layout.specs.Refusals.{ComesExactly};
 ghost use Rattle.bb_layout.specs.Thirds.{raw_layout};
 
-use crate::placing::{check_room, copies};
+use crate::placing::{check_room, copies, raw_len};
 use crate::{FormatKind, Layout, LayoutError, Storage, VarList};
 use bb_base::Text;
 use bb_flash::{Geometry, Region};
 use std::alloc::Global;
 
+#[tactic(auto, using(crate::proofs::Standing::have_copies))]
 /// The layout of raw records with an area of so many bytes, at most 65,535: no name and no variables, and three copies
 /// in the thirds of a device that is overwritten in place.
 pub fn raw_layout(
@@ -31,7 +32,7 @@ pub fn raw_layout(
     ensures bad_prop { ComesExactly result (LayoutError.BadProp (codes "backend-storage-type"))
         (geometry.block ≢ 0) }
     ensures too_small { ComesExactly result LayoutError.TooSmall
-        ((geometry.block ≡ 0) × (geometry.size / 3 < room_for area_len)) }
+        ((geometry.block ≡ 0) × (geometry.size / 3 < raw_len area_len + 8)) }
 {
     if geometry.block != 0 {
         return Err(LayoutError::bad_prop(alloc, "backend-storage-type"));
@@ -41,7 +42,7 @@ pub fn raw_layout(
         at: 0,
         size: geometry.size,
     };
-    check_room(storage, region, area_len)?;
+    check_room(geometry, storage, region, raw_len(area_len))?;
     Ok(Layout {
         name: Text::of(alloc, "")?,
         node: Text::of(alloc, "")?,
@@ -50,7 +51,7 @@ pub fn raw_layout(
         storage,
         geometry,
         region,
-        copies: copies(storage, region),
+        copies: copies(geometry, storage, region),
         area_len,
         vars: VarList::none(alloc),
     })
