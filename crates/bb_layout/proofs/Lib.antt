@@ -10,6 +10,8 @@ pub mod Pairs
 pub mod Places
 pub mod RangeFacts
 pub mod RawLayouts
+pub mod RecordExamples
+pub mod Records
 pub mod Refusing
 pub mod Standing
 pub mod Strings

@@ -1,5 +1,5 @@
--- Where copies stand in a partition, one behind the other, two or three of them, and the room that a record takes there
--- (barebox User Manual, State Framework).
+-- Where copies stand in a partition, one behind the other, two or three of them, and the room that
+-- a record takes there (barebox User Manual, State Framework).
 use Rattle.std.specs.Prelude.{ℕ, ◌+◌, ◌*◌, ◌/◌, min}
 use Rattle.std.specs.Int.{next_multiple_of}
 use Rattle.bb_flash.specs.declared.geometry.Geometry.{Geometry}
@@ -26,8 +26,8 @@ copies_of geometry storage partition = min 3 (partition.size / spacing geometry 
 abbrev pub raw_len : ℕ → ℕ
 raw_len area_len = 16 + area_len
 
--- how many bytes a copy with a record of that length takes: 8 bytes stand before the record, or behind it where an entry
--- of whole pages ends with them
+-- how many bytes a copy with a record of that length takes: 8 bytes stand before the record, or
+-- behind it where an entry of whole pages ends with them
 abbrev pub room_for : Geometry → Storage → ℕ → ℕ
 room_for geometry (Stride stride) len = len + 8
 room_for geometry OneBlock len = len + 8

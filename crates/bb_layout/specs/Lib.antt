@@ -6,6 +6,7 @@ pub mod Facts
 pub mod Fields
 pub mod Layout
 pub mod Ranges
+pub mod Record
 pub mod Refusals
 pub mod Results
 pub mod Spans

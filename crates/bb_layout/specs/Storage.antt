@@ -22,8 +22,8 @@ placed geometry partition =
     else if nat_lt geometry.size (partition.at + partition.size) then Err OutOfDevice
     else Ok tt
 
--- in blocks, as the state node's properties say; or else in strides of the size that they give, or of a third of the
--- partition
+-- in blocks, as the state node's properties say; or else in strides of the size that they give, or
+-- of a third of the partition
 abbrev pub storage_of : Geometry → Region → Props → Storage
 storage_of geometry partition props =
     if geometry.block == 0 then Stride (unwrap_or props.stride (partition.size / 3))

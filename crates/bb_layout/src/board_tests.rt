@@ -1,7 +1,7 @@
-use crate::{LayoutError, Storage, layout_of};
+use crate::{Layout, LayoutError, Storage, layout_of};
 use bb_base::{Bytes, NoMemory, Text};
 use bb_flash::geometry_of;
-use bb_tree::{Node, NodeList, PairList, Prop, PropList, Tree};
+use bb_tree::{Node, NodeList, PairList, Prop, PropList, Tree, blob_length};
 use std::alloc::Global;
 use std::test::Fail;
 
@@ -98,6 +98,43 @@ fn a_log_has_two_blocks_at_least(rt: HostRuntime) -> Result<(), Fail> {
     assert_eq!(rt; layout.copies, 2);
     assert_eq!(rt; layout.storage, Storage::Circular);
     assert_eq!(rt; layout.region(1).at, 196_608);
+    Ok(())
+}
+
+fn lone_byte(alloc: Global) -> Result<Tree, NoMemory> {
+    let mut partition = bare(alloc, "partition@0")?;
+    add(alloc, &mut partition, "reg", b"\0\0\0\0\0\0\0\xc0")?;
+    let mut state = bare(alloc, "state")?;
+    add(alloc, &mut state, "compatible", b"barebox,state\0")?;
+    add(alloc, &mut state, "magic", b"MC20")?;
+    add(alloc, &mut state, "backend-type", b"raw\0")?;
+    add(alloc, &mut state, "backend", b"/partition@0\0")?;
+    state
+        .nodes
+        .push(variable(alloc, "a@0", b"\0\0\0\0\0\0\0\x01", b"uint8\0")?)?;
+    let mut root = bare(alloc, "")?;
+    root.nodes.push(partition)?;
+    root.nodes.push(state)?;
+    Ok(Tree {
+        root,
+        reserved: PairList::none(alloc),
+    })
+}
+
+#[test]
+fn a_record_of_one_byte_is_a_blob_of_208(rt: HostRuntime) -> Result<(), Fail> {
+    let tree = lone_byte(rt.alloc())?;
+    let geometry = geometry_of("ov:192").ok_or("no geometry")?;
+    let layout = layout_of(rt.alloc(), &tree, None, geometry)
+        .ok()
+        .ok_or("the tree is refused")?;
+    assert_eq!(rt; layout.area_len, 1);
+    let record = Layout::record_tree(rt.alloc(), &layout, &[7])?;
+    assert_eq!(rt; blob_length(&record), 208);
+    let byte = record.find("/state/a@0").ok_or("no node")?;
+    assert_eq!(rt; byte.prop("value"), Some(b"\0\0\0\x07".as_slice()));
+    let state = record.find("/state").ok_or("no state node")?;
+    assert_eq!(rt; state.prop("magic"), Some(b"MC20".as_slice()));
     Ok(())
 }
 

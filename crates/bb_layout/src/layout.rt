@@ -3,9 +3,12 @@ ghost use Rattle.std.proofs.Props.{props};
 
 use crate::defaults::fill_defaults;
 use crate::placing::spacing;
+use crate::record_tree::record_tree;
 use crate::{FormatKind, Storage, VarList};
-use bb_base::Text;
+use bb_base::{NoMemory, Text};
 use bb_flash::{Geometry, Region};
+use bb_tree::Tree;
+use std::alloc::Global;
 
 /// What a state node says: its variables in an area, and the copies of that area on a device. Two or three copies stand
 /// in the partition, each with room for its record, and the partition on the device: in strides on one that is overwritten
@@ -34,10 +37,13 @@ pub struct Layout {
 }
 
 impl Layout {
-    ghost use Rattle.std.specs.Prelude.{◌≡◌, ◌≤◌, ◌<◌, length};
+    ghost use Rattle.std.specs.Prelude.{◌≡◌, ◌≤◌, ◌<◌, [], IfOk, length};
+    ghost use Rattle.bb_tree.specs.NodeViews.{branch_of};
     ghost use Rattle.bb_layout.specs.Copies.{raw_len, region_of, room_for};
     ghost use Rattle.bb_layout.specs.Defaults.{defaults_of};
     ghost use Rattle.bb_layout.specs.Facts.{IsAligned, IsWithin};
+    ghost use Rattle.bb_layout.specs.Layout.{laid};
+    ghost use Rattle.bb_layout.specs.Record.{record_tree_of};
     ghost use Rattle.bb_layout.specs.VarNames.{place_of};
 
     /// Where a copy stands, counted from 0.
@@ -69,5 +75,17 @@ impl Layout {
         ensures { out.new ≡ defaults_of self.now.area_len self.now.vars }
     {
         fill_defaults(&self.vars, out);
+    }
+
+    /// The tree whose blob is the record of an area of `area_len` bytes, where that is a blob: 4 zero bytes stand in it
+    /// for its CRC. A variable's node stands in those of its path, and shares with the variable before it the nodes of
+    /// the longest path that leads to both. A number is a cell, big endian; a MAC address and a string are their bytes.
+    pub fn record_tree(alloc: Global, layout: &Layout, area: &[u8]) -> Result<Tree, NoMemory>
+        requires { length area.now ≡ layout.now.area_len }
+        ensures tree { IfOk result (λ tree. branch_of tree.root
+            ≡ record_tree_of (laid layout.now) area.now) }
+        ensures none_reserved { IfOk result (λ tree. tree.reserved ≡ []) }
+    {
+        record_tree(alloc, layout, area)
     }
 }

@@ -1,0 +1,16 @@
+use Rattle.std.proofs.Common.{◌≡◌, ◌+◌, ◌-◌, ℕ, List, take, sym, ap, ◌∙◌, arith}
+use Rattle.std.specs.List.{common_prefix_len}
+use Rattle.std.specs.Str.{bytes_eq}
+use Rattle.bb_layout.specs.Record.{grown_of}
+use Rattle.bb_layout.proofs.Records.{path_before}
+use Rattle.bb_layout.proofs.record_nodes.shared_before.Goals as goal
+
+pub returns : goal.returns
+returns c = λ area.
+    let vars = c.args.vars.now in
+    let place = c.args.place in
+    let some = c.if-place-eq0.false in
+    let next : place - 1 + 1 ≡ place = omega (arith, some) in
+    c.shared.ensures
+    ∙ ap (λ (p : List (List ℕ)). common_prefix_len bytes_eq p c.args.path.now)
+    (sym (path_before area vars (place - 1) c.in-Some.before.now (sym c.in-Some.ensures)) ∙ ap (λ (n : ℕ). (grown_of area (take n vars)).path) next)
