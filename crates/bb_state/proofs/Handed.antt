@@ -1,12 +1,13 @@
 -- What the copies say of their buckets and format, said of a layout.
-use Rattle.std.proofs.Common.{◌≡◌, ℕ, zero, suc, List, [], ◌∷◌, ◌++◌, length, take, drop, Ok, Err, Option, Result, IfErr, refl, subst, sym, ap, arith}
+use Rattle.std.proofs.Common.{◌≡◌, ℕ, zero, suc, Bool, List, [], ◌∷◌, ◌++◌, length, take, drop, Ok, Err, Option, Result, IfErr, IfOk, refl, subst, sym, ap, arith}
 use Rattle.std.specs.Result.{IsErrAnd}
 use Rattle.bb_base.specs.Form.{Form}
 use Rattle.bb_flash.specs.Cuts.{IsLater}
 use Rattle.bb_flash.specs.Device.{Device, IsDevice, LeavesStarts}
 use Rattle.bb_bucket.specs.Kind.{Kind}
-use Rattle.bb_copies.specs.Loading.{KeepsOutside, LoadFails, LoadsErasing, LoadsExactly}
-use Rattle.bb_copies.specs.Saving.{IsSaved, SaveImages, SaveRuns}
+use Rattle.bb_copies.specs.Erasing.{ErasesBy}
+use Rattle.bb_copies.specs.Loading.{KeepsOutside, LoadFails, LoadGives, LoadImages, LoadsErasing, LoadsExactly, LookGives}
+use Rattle.bb_copies.specs.Saving.{EachWritten, IsSaved, SaveFails, SaveImages, SaveRuns}
 use Rattle.bb_copies.specs.declared.answers.CopyFault.{CopyFault}
 use Rattle.bb_copies.specs.declared.answers.Loaded.{Loaded}
 use Rattle.bb_layout.specs.Layout.{Laid}
@@ -56,6 +57,49 @@ erasing_of form kinds layout area table from to loaded ef ek et h =
     (subst (λ form. LoadsErasing form (laid_kinds layout) area from to loaded) ef
     (subst (λ kinds. LoadsErasing form kinds area from to loaded) ek h))
 
+pub images_of : (form : Form) (kinds : List Kind) (layout : Laid) (from to : Device) →
+    form ≡ laid_form layout → kinds ≡ laid_kinds layout → LoadImages form kinds from to → LoadImages (laid_form layout) (laid_kinds layout) from to
+images_of form kinds layout from to ef ek h =
+    subst (λ form. LoadImages form (laid_kinds layout) from to) ef
+    (subst (λ kinds. LoadImages form kinds from to) ek h)
+
+pub gives_of : (form : Form) (kinds : List Kind) (layout : Laid) (area table : List ℕ) (from to : Device) (loaded : Loaded) →
+    form ≡ laid_form layout → kinds ≡ laid_kinds layout → table ≡ area → LoadGives form kinds area from to loaded →
+    LoadGives (laid_form layout) (laid_kinds layout) table from to loaded
+gives_of form kinds layout area table from to loaded ef ek et h =
+    subst (λ table. LoadGives (laid_form layout) (laid_kinds layout) table from to loaded) (sym et)
+    (subst (λ form. LoadGives form (laid_kinds layout) area from to loaded) ef
+    (subst (λ kinds. LoadGives form kinds area from to loaded) ek h))
+
+pub look_of : (form : Form) (kinds : List Kind) (layout : Laid) (area : List ℕ) (from : Device) (E : Type 0) (answer : Result Bool E) →
+    form ≡ laid_form layout → kinds ≡ laid_kinds layout → IfOk answer (LookGives form kinds area from) →
+    IfOk answer (LookGives (laid_form layout) (laid_kinds layout) area from)
+look_of form kinds layout area from E answer ef ek h =
+    subst (λ form. IfOk answer (LookGives form (laid_kinds layout) area from)) ef
+    (subst (λ kinds. IfOk answer (LookGives form kinds area from)) ek h)
+
+pub fails_of : (form : Form) (kinds : List Kind) (used : Option ℕ) (seen : Backed) (table : List ℕ) (from to : Device) (fault : CopyFault) →
+    form ≡ form_in seen → kinds ≡ kinds_in seen → used ≡ seen.used →
+    SaveFails form kinds used table from to fault → SaveFails (form_in seen) (kinds_in seen) seen.used table from to fault
+fails_of form kinds used seen table from to fault ef ek eu h =
+    subst (λ form. SaveFails form (kinds_in seen) seen.used table from to fault) ef
+    (subst (λ kinds. SaveFails form kinds seen.used table from to fault) ek
+    (subst (λ used. SaveFails form kinds used table from to fault) eu h))
+
+pub written_of : (form : Form) (kinds : List Kind) (layout : Laid) (table : List ℕ) (from to : Device) →
+    form ≡ laid_form layout → kinds ≡ laid_kinds layout → EachWritten kinds (form.text table) from to →
+    EachWritten (laid_kinds layout) ((laid_form layout).text table) from to
+written_of form kinds layout table from to ef ek h =
+    subst (λ (form : Form). EachWritten (laid_kinds layout) (form.text table) from to) ef
+    (subst (λ kinds. EachWritten kinds (form.text table) from to) ek h)
+
+pub erased_of : (form : Form) (kinds : List Kind) (layout : Laid) (table : List ℕ) (from to : Device) →
+    form ≡ laid_form layout → kinds ≡ laid_kinds layout → ErasesBy kinds (form.text table) from to →
+    ErasesBy (laid_kinds layout) ((laid_form layout).text table) from to
+erased_of form kinds layout table from to ef ek h =
+    subst (λ (form : Form). ErasesBy (laid_kinds layout) (form.text table) from to) ef
+    (subst (λ kinds. ErasesBy kinds (form.text table) from to) ek h)
+
 pub runs_of : (form : Form) (kinds : List Kind) (used : Option ℕ) (seen : Backed) (table : List ℕ) (from to : Device) →
     form ≡ form_in seen → kinds ≡ kinds_in seen → used ≡ seen.used →
     SaveImages form kinds used table from to → KeepsOutside kinds from to → IsLater from to → LeavesStarts from to → IsDevice to →
@@ -78,3 +122,10 @@ whole_written zero (x ∷ xs) ys ex ey = absurd (omega (arith, ex))
 whole_written (suc n) [] ys ex ey = absurd (omega (arith, ex))
 whole_written (suc n) (x ∷ xs) [] ex ey = absurd (omega (arith, ey))
 whole_written (suc n) (x ∷ xs) (y ∷ ys) ex ey = ap (λ xs. x ∷ xs) (whole_written n xs ys (omega (arith, ex)) (omega (arith, ey)))
+
+-- bytes that were put at the front of a table of their length
+pub whole_put : (xs ys : List ℕ) → length xs ≡ length ys → xs ++ drop (length xs) ys ≡ xs
+whole_put [] [] e = refl
+whole_put [] (y ∷ ys) e = absurd (omega (arith, e))
+whole_put (x ∷ xs) [] e = absurd (omega (arith, e))
+whole_put (x ∷ xs) (y ∷ ys) e = ap (λ xs. x ∷ xs) (whole_put xs ys (omega (arith, e)))

@@ -1,62 +1,64 @@
 -- The buckets that a layout has.
-use Rattle.std.proofs.Common.{◌≡◌, ℕ, ◌+◌, ◌<◌, ◌≤◌, List, [], ◌∷◌, ◌++◌, Some, length, map, slice_get, refl, sym, ap, ◌∙◌, subst, arith, IsTrue, inl, inr, ◌≢◌}
+use Rattle.std.proofs.Common.{◌≡◌, ℕ, zero, suc, ◌+◌, ◌*◌, ◌/◌, ◌%◌, ◌<◌, ◌≤◌, eqb, false, List, [], ◌∷◌, ◌++◌, Some, length, map, slice_get, refl, sym, ap, ◌∙◌, subst, arith, IsTrue, inl, inr, ◌≢◌}
 use Rattle.std.specs.List.{range_with_len}
 use Rattle.std.proofs.lemmas.List.FromFn.{length-map-range_with_len, get_or-map-range_with_len, map-range_with_len_more}
 use Rattle.std.proofs.lemmas.Simd.{map-map}
-use Rattle.std.proofs.lemmas.Bool.{cases_lt, eq-eqb}
+use Rattle.std.proofs.lemmas.Bool.{cases_lt, eq-eqb, eqb-true}
 use Rattle.std.proofs.lemmas.Bool.Decides.{nat_tests}
 use Rattle.std.proofs.lemmas.Option.{slice_get_within, get_or_from_slice_get}
 use Rattle.bb_base.specs.Form.{Form}
+use Rattle.std.proofs.Math.Nat.{add-mul}
 use Rattle.bb_flash.specs.Geometry.{IsGeometry}
+use Rattle.bb_flash.proofs.Geometries.{whole_times}
 use Rattle.bb_flash.specs.declared.geometry.Geometry.{Geometry}
 use Rattle.bb_flash.specs.declared.region.Region.{Region}
 use Rattle.bb_flash.specs.Device.{Device}
 use Rattle.bb_bucket.specs.Calls.{Agrees}
 use Rattle.bb_bucket.specs.Kind.{Kind}
-use Rattle.bb_bucket.specs.Stride.{stride_kind}
+use Rattle.bb_bucket.specs.Blocks.{is_block_of}
 use Rattle.bb_copies.specs.Buckets.{AllAgree, AllServe, AreApart, HaveRoom, IsApart, kinds_of}
-use Rattle.bb_layout.specs.Copies.{region_of, room_for, spacing}
-use Rattle.bb_layout.specs.Facts.{EndsBefore, HasCopies, IsLayout, IsWithin}
+use Rattle.bb_layout.specs.Copies.{raw_len, region_of, room_for, spacing}
+use Rattle.bb_layout.specs.Facts.{EndsBefore, HasCopies, IsLayout, IsWithin, is_stride}
 use Rattle.bb_layout.specs.Layout.{Laid}
 use Rattle.bb_layout.specs.declared.format_kind.FormatKind.{FormatKind}
 use Rattle.bb_layout.specs.declared.format_kind.FormatKind.TheVariants.{Raw}
 use Rattle.bb_layout.specs.declared.storage.Storage.{Storage}
-use Rattle.bb_layout.specs.declared.storage.Storage.TheVariants.{Stride}
-use Rattle.bb_state.specs.Kinds.{any_form, any_holding, bucket_at, format_of, laid_buckets, laid_form, laid_kinds}
+use Rattle.bb_layout.specs.declared.storage.Storage.TheVariants.{Stride, OneBlock, Circular}
+use Rattle.bb_state.specs.Kinds.{any_form, any_holding, block_at, bucket_at, format_of, laid_buckets, laid_form, laid_kinds}
 use Rattle.bb_state.specs.declared.any_bucket.AnyBucket.{AnyBucket}
 use Rattle.bb_state.specs.declared.any_bucket.AnyBucket.TheVariants as any
 
 -- one bucket more
-pub buckets_more : (storage : Storage) (partition : Region) (copy : ℕ) →
-    map (bucket_at storage partition) (range_with_len 0 copy) ++ bucket_at storage partition copy ∷ []
-    ≡ map (bucket_at storage partition) (range_with_len 0 (copy + 1))
-buckets_more storage partition copy = sym (map-range_with_len_more (bucket_at storage partition) 0 copy copy (omega arith))
+pub buckets_more : (geometry : Geometry) (storage : Storage) (partition : Region) (copy : ℕ) →
+    map (bucket_at geometry storage partition) (range_with_len 0 copy) ++ bucket_at geometry storage partition copy ∷ []
+    ≡ map (bucket_at geometry storage partition) (range_with_len 0 (copy + 1))
+buckets_more geometry storage partition copy = sym (map-range_with_len_more (bucket_at geometry storage partition) 0 copy copy (omega arith))
 
-kind_at : Storage → Region → ℕ → Kind
-kind_at storage partition copy = (any_holding (bucket_at storage partition copy)).kind
+kind_at : Geometry → Storage → Region → ℕ → Kind
+kind_at geometry storage partition copy = (any_holding (bucket_at geometry storage partition copy)).kind
 
-kinds_are : (layout : Laid) → laid_kinds layout ≡ map (kind_at layout.storage layout.region) (range_with_len 0 layout.copies)
+kinds_are : (layout : Laid) → laid_kinds layout ≡ map (kind_at layout.geometry layout.storage layout.region) (range_with_len 0 layout.copies)
 unfolding kind_at
-kinds_are layout = map-map (λ (b : AnyBucket). (any_holding b).kind) (bucket_at layout.storage layout.region) (range_with_len 0 layout.copies)
+kinds_are layout = map-map (λ (b : AnyBucket). (any_holding b).kind) (bucket_at layout.geometry layout.storage layout.region) (range_with_len 0 layout.copies)
 
 pub buckets_len : (layout : Laid) → length (laid_buckets layout) ≡ layout.copies
-buckets_len layout = length-map-range_with_len (bucket_at layout.storage layout.region) 0 layout.copies
+buckets_len layout = length-map-range_with_len (bucket_at layout.geometry layout.storage layout.region) 0 layout.copies
 
 -- the copy of a number stands among the copies, and has the kind of its number
 record IsAt (layout : Laid) (copy : ℕ) (kind : Kind) : Type 0 where
   inside : copy < layout.copies
-  kind_is : kind_at layout.storage layout.region copy ≡ kind
+  kind_is : kind_at layout.geometry layout.storage layout.region copy ≡ kind
 
 kind_there : (layout : Laid) (copy : ℕ) (kind : Kind) → slice_get (laid_kinds layout) copy ≡ Some kind → IsAt layout copy kind
 kind_there layout copy kind h =
     let there = subst (λ kinds. slice_get kinds copy ≡ Some kind) (kinds_are layout) h in
-    let numbers = map (kind_at layout.storage layout.region) (range_with_len 0 layout.copies) in
+    let numbers = map (kind_at layout.geometry layout.storage layout.region) (range_with_len 0 layout.copies) in
     let within = slice_get_within numbers copy kind there in
-    let len = length-map-range_with_len (kind_at layout.storage layout.region) 0 layout.copies in
+    let len = length-map-range_with_len (kind_at layout.geometry layout.storage layout.region) 0 layout.copies in
     let inside : copy < layout.copies = omega (arith, within, len) in
     record {
       inside = inside;
-      kind_is = sym (get_or-map-range_with_len (kind_at layout.storage layout.region) 0 layout.copies copy copy kind inside (omega arith)) ∙ get_or_from_slice_get numbers copy kind kind there;
+      kind_is = sym (get_or-map-range_with_len (kind_at layout.geometry layout.storage layout.region) 0 layout.copies copy copy kind inside (omega arith)) ∙ get_or_from_slice_get numbers copy kind kind there;
     }
 
 -- a bucket stands in its region, with room for a record, on the device
@@ -65,15 +67,66 @@ record IsFit (form : Form) (geometry : Geometry) (region : Region) (kind : Kind)
   room : form.length ≤ kind.room
   serves : IsTrue (kind.serves geometry)
 
+-- the region of a copy on a device that is erased in blocks
+pub record IsBlockAt (geometry : Geometry) (region : Region) : Type 0 where
+  pub size_is : region.size ≡ geometry.block
+  pub page_least : 16 ≤ geometry.page
+  pub page_most : geometry.page ≤ region.size
+  pub pages : region.size % geometry.page ≡ 0
+  pub aligned : region.at % region.size ≡ 0
+
+at_least : (count unit n : ℕ) → count * unit ≡ n → 0 < n → unit ≤ n
+at_least zero unit n is some = absurd (omega arith)
+at_least (suc count) unit n is some = omega (arith, add-mul count 1 unit)
+
+above_zero : (n : ℕ) → eqb n 0 ≡ false → 0 < n
+above_zero zero e = absurd cc
+above_zero (suc n) e = omega arith
+
+-- a positive multiple is as large as its unit
+multiple_least : (unit n : ℕ) → 0 < n → n % unit ≡ 0 → unit ≤ n
+multiple_least unit n some whole = at_least (n / unit) unit n (whole_times n unit whole) some
+
+pub block_at_copy : (storage : Storage) (geometry : Geometry) (partition : Region) (copies area_len copy : ℕ) → IsGeometry geometry →
+    HasCopies geometry partition storage copies area_len → is_stride storage ≡ false →
+    spacing geometry storage ≡ geometry.block → IsBlockAt geometry (region_of geometry storage partition copy)
+block_at_copy storage geometry partition copies area_len copy is has blocks size =
+    let some : 0 < geometry.block = above_zero geometry.block (sym has.strides ∙ blocks) in
+    let has_blocks = is.blocks some in
+    let at = has.aligned copy in
+    record {
+      size_is = size;
+      page_least = has_blocks.page_least;
+      page_most = subst (λ n. geometry.page ≤ n) (sym size) (multiple_least geometry.page geometry.block some has_blocks.block_pages);
+      pages = ap (λ n. n % geometry.page) size ∙ has_blocks.block_pages;
+      aligned = ap (λ n. (partition.at + copy * spacing geometry storage) % n) size ∙ at.at some;
+    }
+
+serves_block : (storage : Storage) (geometry : Geometry) (partition : Region) (copies area_len copy : ℕ) → IsGeometry geometry →
+    HasCopies geometry partition storage copies area_len → copy < copies → is_stride storage ≡ false →
+    spacing geometry storage ≡ geometry.block → IsTrue (is_block_of (block_at geometry storage partition copy) geometry)
+serves_block storage geometry partition copies area_len copy is has below blocks size =
+    let at = block_at_copy storage geometry partition copies area_len copy is has blocks size in
+    let within = has.inside copy below in
+    let on_device = has.on_device in
+    let to = within.to in
+    let small = is.size_most in
+    let size_is = at.size_is in
+    let page_least = at.page_least in
+    let page_most = at.page_most in
+    let pages = at.pages in
+    let aligned = at.aligned in
+    grind (arith, nat_tests)
+
 fit_of : (storage : Storage) (format : FormatKind) (geometry : Geometry) (partition : Region) (copies area_len magic copy : ℕ) → IsGeometry geometry →
-    HasCopies geometry partition storage copies area_len → copy < copies →
-    IsFit (any_form (format_of format magic area_len)) geometry (region_of storage partition copy) (kind_at storage partition copy)
-unfolding kind_at
+    HasCopies geometry partition storage copies (raw_len area_len) → copy < copies →
+    IsFit (any_form (format_of format magic area_len)) geometry (region_of geometry storage partition copy) (kind_at geometry storage partition copy)
+unfolding kind_at any_holding
 fit_of (Stride stride) Raw geometry partition copies area_len magic copy is has below =
     let within = has.inside copy below in
     let room = has.room in
-    let page = is.in_place has.in_place in
-    let block = has.in_place in
+    let none : geometry.block ≡ 0 = eqb-true geometry.block 0 (sym has.strides) in
+    let page = is.in_place none in
     let on_device = has.on_device in
     let small = is.size_most in
     let to = within.to in
@@ -82,22 +135,28 @@ fit_of (Stride stride) Raw geometry partition copies area_len magic copy is has 
       room = omega arith;
       serves = grind (arith, nat_tests);
     }
+fit_of OneBlock Raw geometry partition copies area_len magic copy is has below =
+    let room = has.room in
+    record { region_is = refl; room = omega arith; serves = serves_block OneBlock geometry partition copies (raw_len area_len) copy is has below refl refl }
+fit_of Circular Raw geometry partition copies area_len magic copy is has below =
+    let room = has.room in
+    record { region_is = refl; room = omega arith; serves = serves_block Circular geometry partition copies (raw_len area_len) copy is has below refl refl }
 
 -- what the facts of a layout say of a copy
 abbrev pub AreFacts : Laid → Type 0
 AreFacts layout = IsLayout layout.geometry layout.region layout.storage layout.copies layout.area_len layout.vars
 
 kind_fit : (layout : Laid) (copy : ℕ) (kind : Kind) → AreFacts layout → slice_get (laid_kinds layout) copy ≡ Some kind →
-    (copy < layout.copies) × IsFit (laid_form layout) layout.geometry (region_of layout.storage layout.region copy) kind
+    (copy < layout.copies) × IsFit (laid_form layout) layout.geometry (region_of layout.geometry layout.storage layout.region copy) kind
 kind_fit layout copy kind facts h =
     let at = kind_there layout copy kind h in (
       at.inside,
-      subst (IsFit (laid_form layout) layout.geometry (region_of layout.storage layout.region copy)) at.kind_is
+      subst (IsFit (laid_form layout) layout.geometry (region_of layout.geometry layout.storage layout.region copy)) at.kind_is
           (fit_of layout.storage layout.format layout.geometry layout.region layout.copies layout.area_len layout.magic copy facts.geometry_is facts.copied at.inside),
     )
 
 apart_of : (layout : Laid) (one two : ℕ) → AreFacts layout → one ≢ two →
-    IsApart (region_of layout.storage layout.region one) (region_of layout.storage layout.region two)
+    IsApart (region_of layout.geometry layout.storage layout.region one) (region_of layout.geometry layout.storage layout.region two)
 apart_of layout one two facts differ =
     elim (cases_lt one two) [
       | inl before ↦ inl (facts.copied.apart one two before)
@@ -132,11 +191,21 @@ all_serve layout facts copy kind there = (kind_fit layout copy kind facts there)
 
 -- ---- what holds of a fresh state
 
-bucket_agrees : (device : Device) (bucket : AnyBucket) → Agrees (any_holding bucket) device
-bucket_agrees device (any.Stride region) = record { here = λ image told. refl }
+bucket_agrees : (geometry : Geometry) (storage : Storage) (partition : Region) (copy : ℕ) (device : Device) → Agrees (any_holding (bucket_at geometry storage partition copy)) device
+unfolding any_holding
+bucket_agrees geometry (Stride stride) partition copy device = record { here = λ image told. refl }
+bucket_agrees geometry OneBlock partition copy device = record { here = λ image told. refl }
+bucket_agrees geometry Circular partition copy device = record { here = λ image told. refl }
 
-pub all_agree : (device : Device) (buckets : List AnyBucket) → AllAgree any_holding device buckets
-all_agree device buckets copy bucket there = bucket_agrees device bucket
+-- the buckets of a layout keep nothing yet
+pub all_agree : (layout : Laid) (device : Device) → AllAgree any_holding device (laid_buckets layout)
+all_agree layout device copy bucket there =
+    let make = bucket_at layout.geometry layout.storage layout.region in
+    let within = slice_get_within (laid_buckets layout) copy bucket there in
+    let len = length-map-range_with_len make 0 layout.copies in
+    let inside : copy < layout.copies = omega (arith, within, len) in
+    let is : make copy ≡ bucket = sym (get_or-map-range_with_len make 0 layout.copies copy copy bucket inside (omega arith)) ∙ get_or_from_slice_get (laid_buckets layout) copy bucket bucket there in
+    subst (λ (b : AnyBucket). Agrees (any_holding b) device) is (bucket_agrees layout.geometry layout.storage layout.region copy device)
 
 fits_at : (format : FormatKind) (magic area_len : ℕ) (table : List ℕ) → length table ≡ area_len → IsTrue ((any_form (format_of format magic area_len)).fits table)
 fits_at Raw magic area_len table sized = eq-eqb _ _ sized

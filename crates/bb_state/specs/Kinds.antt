@@ -3,10 +3,16 @@ use Rattle.std.specs.Prelude.{ℕ, List, Option, None, map}
 use Rattle.std.specs.List.{range_with_len}
 use Rattle.bb_base.specs.Form.{Form, IsForm}
 use Rattle.bb_flash.specs.Image.{Image}
+use Rattle.bb_flash.specs.declared.geometry.Geometry.{Geometry}
 use Rattle.bb_flash.specs.declared.region.Region.{Region}
 use Rattle.bb_bucket.specs.Kind.{Holding, IsKind, Kind}
+use Rattle.bb_bucket.specs.declared.block.Block.{Block}
+use Rattle.bb_bucket.specs.OneBlock.{one_block_holding}
+use Rattle.bb_bucket.specs.OneBlockLaws.{one_block_laws}
 use Rattle.bb_bucket.specs.Stride.{stride_holding}
 use Rattle.bb_bucket.specs.StrideLaws.{stride_laws}
+use Rattle.bb_circular.specs.Circular.{circular_holding}
+use Rattle.bb_circular.specs.CircularLaws.{circle_laws}
 use Rattle.bb_raw.specs.Laws.{raw_laws}
 use Rattle.bb_raw.specs.Raw.{raw_form}
 use Rattle.bb_layout.specs.Copies.{region_of}
@@ -18,17 +24,22 @@ use Rattle.bb_layout.specs.declared.storage.Storage.TheVariants as storages
 use Rattle.bb_copies.specs.Buckets.{kinds_of}
 use Rattle.bb_copies.specs.Passing.{passings}
 use Rattle.bb_state.specs.declared.any_bucket.AnyBucket.{AnyBucket}
-use Rattle.bb_state.specs.declared.any_bucket.AnyBucket.TheVariants.{Stride}
+use Rattle.bb_state.specs.declared.any_bucket.AnyBucket.TheVariants.{Stride, OneBlock, Circular}
 use Rattle.bb_state.specs.declared.any_format.AnyFormat.{AnyFormat}
 use Rattle.bb_state.specs.declared.any_format.AnyFormat.TheVariants.{Raw}
 
 -- ---- each is what the kind inside is
 
-abbrev pub any_holding : AnyBucket → Holding
+unfoldable pub any_holding : AnyBucket → Holding
 any_holding (Stride region) = stride_holding region
+any_holding (OneBlock block) = one_block_holding block
+any_holding (Circular circle) = circular_holding circle
 
 pub any_bucket_laws : (bucket : AnyBucket) → IsKind (any_holding bucket).kind
+unfolding any_holding
 any_bucket_laws (Stride region) = stride_laws region
+any_bucket_laws (OneBlock block) = one_block_laws block
+any_bucket_laws (Circular circle) = circle_laws circle
 
 abbrev pub any_form : AnyFormat → Form
 any_form (Raw kind) = raw_form kind
@@ -38,14 +49,23 @@ any_format_laws (Raw kind) = raw_laws kind
 
 -- ---- of a layout
 
--- the bucket of a copy, counted from 0
-abbrev pub bucket_at : Storage → Region → ℕ → AnyBucket
-bucket_at (storages.Stride stride) partition copy =
-    Stride (region_of (storages.Stride stride) partition copy)
+-- the block of a copy, counted from 0
+abbrev pub block_at : Geometry → Storage → Region → ℕ → Block
+block_at geometry storage partition copy =
+    record { region = region_of geometry storage partition copy; page = geometry.page }
+
+-- its bucket, which keeps nothing yet
+abbrev pub bucket_at : Geometry → Storage → Region → ℕ → AnyBucket
+bucket_at geometry (storages.Stride stride) partition copy =
+    Stride (region_of geometry (storages.Stride stride) partition copy)
+bucket_at geometry storages.OneBlock partition copy =
+    OneBlock (block_at geometry storages.OneBlock partition copy)
+bucket_at geometry storages.Circular partition copy =
+    Circular (record { block = block_at geometry storages.Circular partition copy; kept = None })
 
 -- the buckets of all copies, in their order, and their kinds
 abbrev pub laid_buckets : Laid → List AnyBucket
-laid_buckets layout = map (bucket_at layout.storage layout.region) (range_with_len 0 layout.copies)
+laid_buckets layout = map (bucket_at layout.geometry layout.storage layout.region) (range_with_len 0 layout.copies)
 
 abbrev pub laid_kinds : Laid → List Kind
 laid_kinds layout = kinds_of any_holding (laid_buckets layout)

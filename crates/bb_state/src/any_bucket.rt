@@ -1,7 +1,10 @@
+#![tactic(auto, unfolding(crate::specs::Kinds::any_holding))]
+
 ghost use Rattle.bb_state.specs.Kinds.{any_bucket_laws, any_holding};
 
 use bb_base::Failed;
-use bb_bucket::{Bucket, Found, Stride};
+use bb_bucket::{Bucket, Found, OneBlock, Stride};
+use bb_circular::Circular;
 use bb_flash::{Flash, Region};
 
 /// A bucket of any kind: each call is that of the bucket inside.
@@ -9,6 +12,10 @@ use bb_flash::{Flash, Region};
 pub enum AnyBucket {
     /// On a device that is overwritten in place.
     Stride(Stride),
+    /// A block that holds one record.
+    OneBlock(OneBlock),
+    /// A block that holds a log of records.
+    Circular(Circular),
 }
 
 impl Bucket for AnyBucket {
@@ -19,30 +26,40 @@ impl Bucket for AnyBucket {
     fn region(&self) -> Region {
         match self {
             AnyBucket::Stride(stride) => stride.region(),
+            AnyBucket::OneBlock(block) => block.region(),
+            AnyBucket::Circular(log) => log.region(),
         }
     }
 
     fn room(&self) -> u32 {
         match self {
             AnyBucket::Stride(stride) => stride.room(),
+            AnyBucket::OneBlock(block) => block.room(),
+            AnyBucket::Circular(log) => log.room(),
         }
     }
 
     fn read<F: Flash>(&mut self, flash: &mut F, out: &mut [u8]) -> Result<Found, Failed> {
         match self {
             AnyBucket::Stride(stride) => stride.read(flash, out),
+            AnyBucket::OneBlock(block) => block.read(flash, out),
+            AnyBucket::Circular(log) => log.read(flash, out),
         }
     }
 
     fn write<F: Flash>(&mut self, flash: &mut F, rec: &[u8]) -> Result<(), Failed> {
         match self {
             AnyBucket::Stride(stride) => stride.write(flash, rec),
+            AnyBucket::OneBlock(block) => block.write(flash, rec),
+            AnyBucket::Circular(log) => log.write(flash, rec),
         }
     }
 
     fn void<F: Flash>(&mut self, flash: &mut F) -> Result<(), Failed> {
         match self {
             AnyBucket::Stride(stride) => stride.void(flash),
+            AnyBucket::OneBlock(block) => block.void(flash),
+            AnyBucket::Circular(log) => log.void(flash),
         }
     }
 }

@@ -21,7 +21,8 @@ ghost use Rattle.bb_state.specs.State.{IsDefault, IsRefused, IsStored};
 
 use crate::{AnyBucket, AnyFormat};
 use bb_base::NoMemory;
-use bb_bucket::Stride;
+use bb_bucket::{OneBlock, Stride};
+use bb_circular::Circular;
 use bb_copies::{BucketList, Copies, CopyFault, Loaded};
 use bb_flash::Flash;
 use bb_layout::{FormatKind, Layout, Storage};
@@ -57,7 +58,6 @@ impl Model for Backing {
 
 impl Backing {
     /// Copies of which nothing is known yet.
-    #[tactic(auto, using(crate::proofs::Mounting::all_agree))]
     pub(crate) fn mount(alloc: Global, layout: Layout) -> Result<Backing, NoMemory>
         ensures layout { IfOk result (λ b. b.layout ≡ laid layout) }
         ensures buckets { IfOk result (λ b. b.buckets ≡ laid_buckets (laid layout)) }
@@ -212,10 +212,15 @@ fn buckets_of(alloc: Global, layout: &Layout) -> Result<BucketList<AnyBucket>, N
 
 fn bucket_at(alloc: Global, layout: &Layout, copy: u32) -> Result<AnyBucket, NoMemory>
     requires { copy < layout.now.copies }
-    ensures { IfOk result (λ bucket. bucket ≡ bucket_at layout.now.storage layout.now.region copy) }
+    ensures { IfOk result (λ bucket. bucket
+        ≡ bucket_at layout.now.geometry layout.now.storage layout.now.region copy) }
 {
+    let region = layout.region(copy);
+    let page = layout.geometry.page;
     match layout.storage {
-        Storage::Stride(_) => Ok(AnyBucket::Stride(Stride::of(alloc, layout.region(copy))?)),
+        Storage::Stride(_) => Ok(AnyBucket::Stride(Stride::of(alloc, region)?)),
+        Storage::OneBlock => Ok(AnyBucket::OneBlock(OneBlock::of(alloc, region, page)?)),
+        Storage::Circular => Ok(AnyBucket::Circular(Circular::of(alloc, region, page)?)),
     }
 }
 

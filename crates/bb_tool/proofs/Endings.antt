@@ -222,7 +222,7 @@ rose_by rise before now some rose = omega arith
 pub copies_are : (layout : Laid) → length (laid_kinds layout) ≡ layout.copies
 copies_are layout =
     length-map (laid_buckets layout) (λ bucket. (any_holding bucket).kind)
-    ∙ length-map (range_with_len 0 layout.copies) (bucket_at layout.storage layout.region)
+    ∙ length-map (range_with_len 0 layout.copies) (bucket_at layout.geometry layout.storage layout.region)
     ∙ length-range_with_len 0 layout.copies
 
 -- what each fault of a load or a save tells: a count rose, and a copy that is named is there

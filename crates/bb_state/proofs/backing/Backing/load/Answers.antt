@@ -1,8 +1,9 @@
-use Rattle.std.proofs.Common.{◌≡◌, ◌∙◌, ap, ◌++◌, ℕ, List, drop, length, arith, take}
-use Rattle.bb_copies.specs.Buckets.{kinds_of}
+use Rattle.std.proofs.Common.{◌≡◌, ◌∙◌, ap, subst, sym, ◌++◌, ℕ, List, drop, length, arith, take}
+use Rattle.bb_copies.specs.Buckets.{AllAgree, kinds_of}
 use Rattle.bb_state.specs.Backed.{Backed}
 use Rattle.bb_state.specs.Kinds.{any_form, any_holding, laid_form, laid_kinds}
-use Rattle.bb_state.proofs.Handed.{erasing_of, exact_of, outside_of, raised, refused_of, whole_written}
+use Rattle.bb_state.specs.declared.any_bucket.AnyBucket.{AnyBucket}
+use Rattle.bb_state.proofs.Handed.{erasing_of, exact_of, gives_of, images_of, outside_of, raised, refused_of, whole_written}
 use Rattle.bb_state.proofs.backing.Backing.load.Goals as goal
 
 pub returns-in_err-loaded-clause-fails : goal.returns-in_err-loaded-clause-fails
@@ -42,3 +43,34 @@ returns-else-eq-clause-erases g c =
     let kept = take c.self.inside.kept.len (c.load.new.area ++ drop (length c.load.new.area) c.self.inside.kept.items) in
     let same : kept ≡ c.load.new.area = whole_written c.self.inside.kept.len c.load.new.area c.self.inside.kept.items (grind arith) (grind arith) in
     erasing_of _ _ c.args.self.now.layout c.load.new.area kept (g.F.Flash.device c.args.flash.now) (g.F.Flash.device c.load.new.flash) c.in_ok-loaded.loaded form kinds same c.in_ok-loaded.ensures.erases
+
+pub load-requires-clause-agreed : goal.load-requires-clause-agreed
+load-requires-clause-agreed g c =
+    let buckets : c.self.inside.copies.buckets ≡ c.args.self.now.buckets = ap (λ (b : Backed). b.buckets) c.self.view_is in
+    subst (λ (buckets : List AnyBucket). AllAgree any_holding (g.F.Flash.device c.args.flash.now) buckets) (sym buckets) c.requires.agreed
+
+pub returns-in_err-loaded-clause-images : goal.returns-in_err-loaded-clause-images
+returns-in_err-loaded-clause-images g c =
+    let kinds : kinds_of any_holding c.self.inside.copies.buckets ≡ laid_kinds c.args.self.now.layout = c.self.invariant.kinds ∙ ap (λ (b : Backed). laid_kinds b.layout) c.self.view_is in
+    let form : any_form c.self.inside.copies.format ≡ laid_form c.args.self.now.layout = ap any_form c.self.invariant.format_is ∙ ap (λ (b : Backed). laid_form b.layout) c.self.view_is in
+    images_of _ _ c.args.self.now.layout (g.F.Flash.device c.args.flash.now) (g.F.Flash.device c.load.new.flash) form kinds c.load.ensures.images
+
+pub returns-then-eq-clause-images : goal.returns-then-eq-clause-images
+returns-then-eq-clause-images g c =
+    let kinds : kinds_of any_holding c.self.inside.copies.buckets ≡ laid_kinds c.args.self.now.layout = c.self.invariant.kinds ∙ ap (λ (b : Backed). laid_kinds b.layout) c.self.view_is in
+    let form : any_form c.self.inside.copies.format ≡ laid_form c.args.self.now.layout = ap any_form c.self.invariant.format_is ∙ ap (λ (b : Backed). laid_form b.layout) c.self.view_is in
+    images_of _ _ c.args.self.now.layout (g.F.Flash.device c.args.flash.now) (g.F.Flash.device c.load.new.flash) form kinds c.load.ensures.images
+
+pub returns-else-eq-clause-images : goal.returns-else-eq-clause-images
+returns-else-eq-clause-images g c =
+    let kinds : kinds_of any_holding c.self.inside.copies.buckets ≡ laid_kinds c.args.self.now.layout = c.self.invariant.kinds ∙ ap (λ (b : Backed). laid_kinds b.layout) c.self.view_is in
+    let form : any_form c.self.inside.copies.format ≡ laid_form c.args.self.now.layout = ap any_form c.self.invariant.format_is ∙ ap (λ (b : Backed). laid_form b.layout) c.self.view_is in
+    images_of _ _ c.args.self.now.layout (g.F.Flash.device c.args.flash.now) (g.F.Flash.device c.load.new.flash) form kinds c.load.ensures.images
+
+pub returns-else-eq-clause-gives : goal.returns-else-eq-clause-gives
+returns-else-eq-clause-gives g c =
+    let kinds : kinds_of any_holding c.self.inside.copies.buckets ≡ laid_kinds c.args.self.now.layout = c.self.invariant.kinds ∙ ap (λ (b : Backed). laid_kinds b.layout) c.self.view_is in
+    let form : any_form c.self.inside.copies.format ≡ laid_form c.args.self.now.layout = ap any_form c.self.invariant.format_is ∙ ap (λ (b : Backed). laid_form b.layout) c.self.view_is in
+    let kept = take c.self.inside.kept.len (c.load.new.area ++ drop (length c.load.new.area) c.self.inside.kept.items) in
+    let same : kept ≡ c.load.new.area = whole_written c.self.inside.kept.len c.load.new.area c.self.inside.kept.items (grind arith) (grind arith) in
+    gives_of _ _ c.args.self.now.layout c.load.new.area kept (g.F.Flash.device c.args.flash.now) (g.F.Flash.device c.load.new.flash) c.in_ok-loaded.loaded form kinds same c.in_ok-loaded.ensures.gives

@@ -1,10 +1,10 @@
 use Rattle.std.proofs.Common.{◌≡◌, ℕ, ◌≤◌, List, arith, ap, subst, sym, ◌∙◌, length}
 use Rattle.bb_base.specs.Form.{Form}
-use Rattle.bb_copies.specs.Buckets.{HaveRoom, kinds_of}
+use Rattle.bb_copies.specs.Buckets.{AllAgree, HaveRoom, kinds_of}
 use Rattle.bb_layout.specs.Layout.{laid}
 use Rattle.bb_state.specs.Kinds.{any_form, any_holding, laid_buckets, laid_form, laid_kinds}
 use Rattle.bb_state.specs.declared.any_bucket.AnyBucket.{AnyBucket}
-use Rattle.bb_state.proofs.Mounting.{all_serve, buckets_len, have_room}
+use Rattle.bb_state.proofs.Mounting.{all_agree, all_serve, buckets_len, have_room}
 use Rattle.bb_state.proofs.backing.Backing.mount.Goals as goal
 
 pub mount-requires-clause-many : goal.mount-requires-clause-many
@@ -34,3 +34,7 @@ invariant_of-result c =
       serves = all_serve (laid c.args.layout) c.args.layout.facts;
       sized = grind arith;
     }
+
+pub returns-clause-agrees : goal.returns-clause-agrees
+returns-clause-agrees c = λ device.
+    subst (λ (buckets : List AnyBucket). AllAgree any_holding device buckets) (sym (c.in_ok-copies.ensures.buckets ∙ c.in_ok-buckets_of.ensures)) (all_agree (laid c.args.layout) device)
