@@ -5,6 +5,7 @@ pub use Rattle.bb_base.specs.Outlet
 pub use Rattle.bb_flash.specs.Cuts
 pub use Rattle.bb_flash.specs.Device
 pub use Rattle.bb_flash.specs.Image
+pub use Rattle.bb_circular.specs.Wear
 pub use Rattle.bb_copies.specs.Chronicle
 pub use Rattle.bb_copies.specs.Loading
 pub use Rattle.bb_copies.specs.Saving

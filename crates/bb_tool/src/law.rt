@@ -1,3 +1,4 @@
+ghost use Rattle.bb_circular.specs.Wear.{WearLaw};
 ghost use Rattle.bb_copies.specs.Chronicle.{BlankLaw, ChronicleLaw};
 
 /// Over every list of sessions, of sessions that were cut and of decays: the number of the area that is
@@ -6,4 +7,11 @@ ghost use Rattle.bb_copies.specs.Chronicle.{BlankLaw, ChronicleLaw};
 pub fn law_chronicle()
     ensures kept { ChronicleLaw }
     ensures blank { BlankLaw }
+{}
+
+/// Over every history of a block that is written as a log, in which all calls answered Ok and nothing
+/// decayed or was voided: records of one length erase it at most once for as many as it holds, rounded
+/// up, whatever it held before.
+pub fn law_wear()
+    ensures { WearLaw }
 {}

@@ -11,6 +11,6 @@ mod state;
 mod status;
 mod tell;
 
-pub use law::law_chronicle;
+pub use law::{law_chronicle, law_wear};
 pub use session::run;
 pub use status::Status;
