@@ -1,6 +1,7 @@
 -- What the copies say of their buckets and format, said of a layout.
 use Rattle.std.proofs.Common.{◌≡◌, ℕ, zero, suc, Bool, List, [], ◌∷◌, ◌++◌, length, take, drop, Ok, Err, Option, Result, IfErr, IfOk, refl, subst, sym, ap, arith}
 use Rattle.std.specs.Result.{IsErrAnd}
+use Rattle.std.proofs.lemmas.Grind.{common_steps}
 use Rattle.bb_base.specs.Form.{Form}
 use Rattle.bb_flash.specs.Cuts.{IsLater}
 use Rattle.bb_flash.specs.Device.{Device, IsDevice, LeavesStarts}
@@ -11,6 +12,7 @@ use Rattle.bb_copies.specs.Saving.{EachWritten, IsSaved, SaveFails, SaveImages, 
 use Rattle.bb_copies.specs.declared.answers.CopyFault.{CopyFault}
 use Rattle.bb_copies.specs.declared.answers.Loaded.{Loaded}
 use Rattle.bb_layout.specs.Layout.{Laid}
+use Rattle.bb_vars.specs.Table.{table_with}
 use Rattle.bb_state.specs.Backed.{Backed, form_in, kinds_in}
 use Rattle.bb_state.specs.Kinds.{laid_form, laid_kinds}
 use Rattle.bb_state.specs.State.{IsRefused, IsStored}
@@ -124,8 +126,5 @@ whole_written (suc n) (x ∷ xs) [] ex ey = absurd (omega (arith, ey))
 whole_written (suc n) (x ∷ xs) (y ∷ ys) ex ey = ap (λ xs. x ∷ xs) (whole_written n xs ys (omega (arith, ex)) (omega (arith, ey)))
 
 -- bytes that were put at the front of a table of their length
-pub whole_put : (xs ys : List ℕ) → length xs ≡ length ys → xs ++ drop (length xs) ys ≡ xs
-whole_put [] [] e = refl
-whole_put [] (y ∷ ys) e = absurd (omega (arith, e))
-whole_put (x ∷ xs) [] e = absurd (omega (arith, e))
-whole_put (x ∷ xs) (y ∷ ys) e = ap (λ xs. x ∷ xs) (whole_put xs ys (omega (arith, e)))
+pub whole_put : (xs ys : List ℕ) → length xs ≡ length ys → table_with ys 0 xs ≡ xs
+whole_put xs ys e = grind (arith, common_steps)
