@@ -1,11 +1,14 @@
 -- What the start of a round makes of the device, and then the round.
-use Rattle.std.proofs.Common.{◌≡◌, ℕ, ◌++◌, Bool, true, false, List, [], ◌∷◌, Option, Some, None, ap, arith, refl, sym, subst, ◌∙◌}
+use Rattle.std.proofs.Common.{◌≡◌, ℕ, ◌++◌, Bool, true, false, IsTrue, List, [], ◌∷◌, Option, Some, None, ap, arith, refl, sym, subst, ◌∙◌}
 use Rattle.std.specs.Option.{IsSomeAnd, option_map}
 use Rattle.std.specs.Prelude.{is_some}
+use Rattle.bb_bucket.specs.Kind.{Holding, part_of}
+use Rattle.bb_copies.specs.Buckets.{AllAgree}
 use Rattle.bb_copies.specs.Loading.{KeepsOutside}
 use Rattle.bb_copies.specs.Settling.{RoseBy}
 use Rattle.bb_copies.proofs.Runs.{later_refl}
 use Rattle.bb_flash.proofs.Moments.{later_joined}
+use Rattle.bb_flash.specs.declared.geometry.Geometry.{Geometry}
 use Rattle.bb_flash.specs.declared.plan.Plan.{Plan}
 use Rattle.bb_flash.specs.Calls.{started}
 use Rattle.bb_flash.specs.Cuts.{IsLater}
@@ -46,6 +49,20 @@ start_whole plan outcome from to whole = by_start from to IsDevice whole (λ mad
 
 pub start_content : (plan : Option Plan) (outcome : Outcome) (from to : Device) → IsTried plan outcome from to → content to ≡ content from
 start_content plan outcome from to = by_start from to (λ d. content d ≡ content from) refl (λ made runs. runs.keeps.content) plan outcome
+
+pub start_geometry : (plan : Option Plan) (outcome : Outcome) (from to : Device) → IsTried plan outcome from to → to.geometry ≡ from.geometry
+start_geometry plan outcome from to = by_start from to (λ d. d.geometry ≡ from.geometry) refl (λ made runs. runs.keeps.geometry) plan outcome
+
+-- what buckets keep is what stands there still
+pub start_agrees : {B : Type 0} (holding : B → Holding) (buckets : List B) (plan : Option Plan) (outcome : Outcome) (from to : Device) →
+    IsTried plan outcome from to → AllAgree holding from buckets → AllAgree holding to buckets
+start_agrees holding buckets plan outcome from to tried agree copy bucket e =
+    let here = (agree copy bucket e).here in
+    record {
+      here = λ image told.
+          subst (λ (g : Geometry). IsTrue ((holding bucket).agrees (part_of g.page (holding bucket).kind.region image)))
+          (sym (start_geometry plan outcome from to tried)) (here image (sym (start_content plan outcome from to tried) ∙ told));
+    }
 
 pub start_outside : (layout : Laid) (plan : Option Plan) (outcome : Outcome) (from to : Device) → IsTried plan outcome from to → KeepsOutside (laid_kinds layout) from to
 start_outside layout plan outcome from to =

@@ -1,8 +1,11 @@
+use Rattle.std.proofs.Common.{◌∙◌}
+use Rattle.bb_state.specs.Kinds.{any_holding}
 use Rattle.bb_state.specs.State.{has_changed, kept_of, kinds_of, laid_of, used_of}
 use Rattle.bb_state.specs.declared.state.State.{State}
 use Rattle.bb_shell.proofs.Joins.{changed_outside}
 use Rattle.bb_shell.proofs.Saves.{saved_ok}
-use Rattle.bb_shell.proofs.Starts.{round_later, round_ok, round_outside, round_stored}
+use Rattle.bb_shell.proofs.Starts.{round_adds, round_later, round_ok, round_outside, round_stored, start_agrees, start_geometry}
+use Rattle.bb_shell.specs.Boot.{plan_at}
 use Rattle.bb_shell.proofs.round.run_round.Goals as goal
 
 pub returns-in-Ok-clause-run : goal.returns-in-Ok-clause-run
@@ -37,3 +40,19 @@ returns-in-Ok-clause-stored g c done =
     round_stored (laid_of c.args.state.now) c.args.plans.now (kept_of c.args.state.now) (used_of c.args.state.now) (used_of c.save.new.self)
     _ (g.B.Flash.device c.args.board.now) (g.B.Flash.device c.try_start.new.board) (returns-in-Ok-clause-run g c)
     c.requires.ready.on.geometry done
+
+pub returns-in-Ok-clause-starts : goal.returns-in-Ok-clause-starts
+returns-in-Ok-clause-starts g c =
+    round_adds (laid_of c.args.state.now) c.args.plans.now (kept_of c.args.state.now) (used_of c.args.state.now) (used_of c.save.new.self)
+    _ (g.B.Flash.device c.args.board.now) (g.B.Flash.device c.try_start.new.board) (returns-in-Ok-clause-run g c)
+
+pub returns-in-Ok-clause-on : goal.returns-in-Ok-clause-on
+returns-in-Ok-clause-on g c =
+    let plan = plan_at c.args.plans.now c.args.target in
+    let from = g.B.Flash.device c.save.new.flash in
+    let to = g.B.Flash.device c.try_start.new.board in
+    record {
+      geometry = start_geometry plan c.try_start.result from to c.try_start.ensures.tried ∙ c.save.ensures.on.geometry;
+      agrees = start_agrees any_holding c.save.new.self.backing.buckets plan c.try_start.result from to c.try_start.ensures.tried c.save.ensures.on.agrees;
+      whole = c.try_start.ensures.whole;
+    }
