@@ -4,9 +4,8 @@
 # A check is a function that says what is wrong and is silent where nothing is. Each has one line of output, and what
 # cannot be tried on this machine has one that says so. The last line is `N passed, N failed`.
 set -u
-root=$(cd "$(dirname "${BASH_SOURCE[0]}")/../.." && pwd) || exit 1
-"$root/bbx" --version >/dev/null || exit 1
-program=$root/crates/bbx/out/bbx
+# shellcheck source=program.sh
+. "$(dirname "${BASH_SOURCE[0]}")/program.sh"
 work=$(cd "$(mktemp -d)" && pwd -P) || exit 1
 trap 'clear_up' EXIT
 
@@ -47,7 +46,7 @@ under=()
 expect() {
   local wanted=$1 text=$2 status
   shift 2
-  timeout -k 5 20 "${under[@]}" "$program" "$@" >text 2>errors
+  timeout -k 5 20 "${under[@]}" "${program[@]}" "$@" >text 2>errors
   status=$?
   [ "$status" = "$wanted" ] || echo "  status $status, not $wanted"
   printf '%s' "$text" | cmp -s - text || { echo "  printed:"; sed 's/^/    /' text; }

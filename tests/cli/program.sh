@@ -1,0 +1,14 @@
+# shellcheck shell=bash
+# What run, devices, faults and pairs begin with: `root` is the repository, and the array `program` the command that is
+# tried. That is the proved program, which is built where it is missing, or COMMAND of the words `--program COMMAND`, as
+# a build for a board under an emulator is: `qemu-aarch64-static FILE`. FILE is the last word of COMMAND.
+root=$(cd "$(dirname "${BASH_SOURCE[0]}")/../.." && pwd) || exit 1
+if [ "${1:-}" = --program ]; then
+  read -ra program <<<"${2:-}"
+  [ -f "${program[-1]:-}" ] || { echo "--program: there is no file ${program[-1]:-}" >&2; exit 2; }
+  program[-1]=$(realpath "${program[-1]}") || exit
+  shift 2
+else
+  "$root/bbx" --version >/dev/null || exit 1
+  program=("$root/crates/bbx/out/bbx")
+fi
