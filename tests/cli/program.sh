@@ -5,8 +5,10 @@
 root=$(cd "$(dirname "${BASH_SOURCE[0]}")/../.." && pwd) || exit 1
 if [ "${1:-}" = --program ]; then
   read -ra program <<<"${2:-}"
-  [ -f "${program[-1]:-}" ] || { echo "--program: there is no file ${program[-1]:-}" >&2; exit 2; }
-  program[-1]=$(realpath "${program[-1]}") || exit
+  tried=${2:-}
+  tried=${tried##* }
+  [ -f "$tried" ] || { echo "--program: there is no file '$tried'" >&2; exit 2; }
+  program[-1]=$(realpath "$tried") || exit 2
   shift 2
 else
   "$root/bbx" --version >/dev/null || exit 1
