@@ -2,7 +2,7 @@
 use Rattle.std.proofs.Common.{◌≡◌, ℕ, List, [], ◌∷◌, Option, Some, None, Ok, Err, codes, refl}
 use Rattle.hex.specs.Hex.{decode_pairs}
 use Rattle.bb_words.specs.declared.command.Command.{Command}
-use Rattle.bb_words.specs.declared.command.Command.TheVariants.{State}
+use Rattle.bb_words.specs.declared.command.Command.TheVariants.{State, MarkGood}
 use Rattle.bb_words.specs.declared.command.Action.{Action}
 use Rattle.bb_words.specs.declared.command.Action.TheVariants.{Set, Get, Dump, DumpShell}
 use Rattle.bb_words.specs.declared.command.RawAction.TheVariants.{Look, Write}
@@ -130,3 +130,46 @@ long_set_without_sign = refl
 no_key : words_of (codes "state" ∷ codes "-k" ∷ codes "key" ∷ []) ≡ Err 1
 unfolding words_from
 no_key = refl
+
+-- ---- `mark-good`
+
+abbrev mark : List ℕ → List ℕ → Option (List ℕ) → Command
+mark file settings name = MarkGood (record { file = file; settings = settings; name = name })
+
+good : words_of (codes "mark-good" ∷ codes "-i" ∷ codes "b.dts" ∷ codes "-c" ∷ codes "set.txt" ∷ [])
+    ≡ Ok (mark (codes "b.dts") (codes "set.txt") None)
+unfolding words_from
+good = refl
+
+good_any_order : words_of (codes "mark-good" ∷ codes "-c" ∷ codes "-i" ∷ codes "--name=a" ∷ codes "--input" ∷ codes "-c" ∷ [])
+    ≡ Ok (mark (codes "-c") (codes "-i") (Some (codes "a")))
+unfolding words_from
+good_any_order = refl
+
+good_without_settings : words_of (codes "mark-good" ∷ codes "-i" ∷ codes "b.dts" ∷ []) ≡ Err 3
+unfolding words_from
+good_without_settings = refl
+
+good_without_file : words_of (codes "mark-good" ∷ codes "-c" ∷ codes "set.txt" ∷ []) ≡ Err 3
+unfolding words_from
+good_without_file = refl
+
+second_settings : words_of (codes "mark-good" ∷ codes "-c" ∷ codes "a" ∷ codes "-c" ∷ codes "a" ∷ []) ≡ Err 3
+unfolding words_from
+second_settings = refl
+
+settings_joined : words_of (codes "mark-good" ∷ codes "-c=a" ∷ []) ≡ Err 1
+unfolding words_from
+settings_joined = refl
+
+settings_of_state : words_of (codes "state" ∷ codes "-i" ∷ codes "f" ∷ codes "-c" ∷ codes "a" ∷ []) ≡ Err 3
+unfolding words_from
+settings_of_state = refl
+
+good_gets_nothing : words_of (codes "mark-good" ∷ codes "-g" ∷ codes "a" ∷ []) ≡ Err 1
+unfolding words_from
+good_gets_nothing = refl
+
+good_dumps_nothing : words_of (codes "mark-good" ∷ codes "-d" ∷ []) ≡ Err 1
+unfolding words_from
+good_dumps_nothing = refl

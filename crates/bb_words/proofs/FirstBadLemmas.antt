@@ -8,13 +8,13 @@ use Rattle.hex.proofs.HexLemmas.{decode_sized-encode_lower}
 use Rattle.bb_words.specs.declared.command.Action.{Action}
 use Rattle.bb_words.specs.declared.command.Action.TheVariants.{Set, Get}
 use Rattle.bb_words.specs.declared.command.Command.{Command}
-use Rattle.bb_words.specs.declared.command.Command.TheVariants.{State}
+use Rattle.bb_words.specs.declared.command.Command.TheVariants.{State, MarkGood}
 use Rattle.bb_words.specs.declared.command.RawAction.TheVariants.{Look, Write}
 use Rattle.bb_words.specs.declared.given.Given.{Given}
 use Rattle.bb_words.specs.declared.option.Valued.{Valued}
-use Rattle.bb_words.specs.declared.option.Valued.TheVariants.{Input, Name, Get as GetOption, Set as SetOption}
+use Rattle.bb_words.specs.declared.option.Valued.TheVariants.{Input, Name, Get as GetOption, Set as SetOption, Settings}
 use Rattle.bb_words.specs.declared.row.Row.{Row}
-use Rattle.bb_words.specs.declared.row.Row.TheVariants.{State as StateRow}
+use Rattle.bb_words.specs.declared.row.Row.TheVariants.{State as StateRow, MarkGood as MarkGoodRow}
 use Rattle.bb_words.specs.FirstBad.{Begins}
 use Rattle.bb_words.specs.Options.{with_action}
 use Rattle.bb_words.specs.Words.{Stage, Start, Magic, Length, Mode, Area, Options, Whole, raw_of, next, command_at, words_from, words_of}
@@ -49,14 +49,27 @@ area_completed start magic len =
     )
 
 -- a row of the table: what must be there can come
-state_completed : (start : ℕ) (file name : Option (List ℕ)) (actions : List Action) →
-    Continues start (Options StateRow None (record { file = file; name = name; actions = actions })) []
+state_completed : (start : ℕ) (file name settings : Option (List ℕ)) (actions : List Action) →
+    Continues start (Options StateRow None (record { file = file; name = name; settings = settings; actions = actions })) []
 unfolding words_from
-state_completed start None name actions = (codes "-i" ∷ [] ∷ [], State (record { file = []; name = name; actions = actions }), refl)
-state_completed start (Some file) name actions = ([], State (record { file = file; name = name; actions = actions }), refl)
+state_completed start None name settings actions = (codes "-i" ∷ [] ∷ [], State (record { file = []; name = name; actions = actions }), refl)
+state_completed start (Some file) name settings actions = ([], State (record { file = file; name = name; actions = actions }), refl)
+
+mark_completed : (start : ℕ) (file name settings : Option (List ℕ)) (actions : List Action) →
+    Continues start (Options MarkGoodRow None (record { file = file; name = name; settings = settings; actions = actions })) []
+unfolding words_from
+mark_completed start None name None actions =
+    (codes "-i" ∷ [] ∷ codes "-c" ∷ [] ∷ [], MarkGood (record { file = []; settings = []; name = name }), refl)
+mark_completed start None name (Some settings) actions =
+    (codes "-i" ∷ [] ∷ [], MarkGood (record { file = []; settings = settings; name = name }), refl)
+mark_completed start (Some file) name None actions =
+    (codes "-c" ∷ [] ∷ [], MarkGood (record { file = file; settings = []; name = name }), refl)
+mark_completed start (Some file) name (Some settings) actions =
+    ([], MarkGood (record { file = file; settings = settings; name = name }), refl)
 
 options_completed : (start : ℕ) (row : Row) (given : Given) → Continues start (Options row None given) []
-options_completed start StateRow given = state_completed start given.file given.name given.actions
+options_completed start StateRow given = state_completed start given.file given.name given.settings given.actions
+options_completed start MarkGoodRow given = mark_completed start given.file given.name given.settings given.actions
 
 -- an option has a value that it takes
 value_completed : (start : ℕ) (row : Row) (valued : Valued) (given : Given) → Continues start (Options row (Some valued) given) []
@@ -66,6 +79,9 @@ value_completed start row Input given =
     ([] ∷ rest.0, rest.1, rest.2)
 value_completed start row Name given =
     let rest = options_completed (start + 1) row (record given { name = Some [] }) in
+    ([] ∷ rest.0, rest.1, rest.2)
+value_completed start row Settings given =
+    let rest = options_completed (start + 1) row (record given { settings = Some [] }) in
     ([] ∷ rest.0, rest.1, rest.2)
 value_completed start row GetOption given =
     let rest = options_completed (start + 1) row (with_action (Get []) given) in

@@ -9,16 +9,16 @@ use Rattle.std.specs.Str.{bytes_eq}
 use Rattle.bb_words.specs.declared.command.Action.{Action}
 use Rattle.bb_words.specs.declared.command.Action.TheVariants.{Set, Get, Dump, DumpShell}
 use Rattle.bb_words.specs.declared.command.Command.{Command}
-use Rattle.bb_words.specs.declared.command.Command.TheVariants.{Raw, State}
+use Rattle.bb_words.specs.declared.command.Command.TheVariants.{Raw, State, MarkGood}
 use Rattle.bb_words.specs.declared.command.RawAction.{RawAction}
 use Rattle.bb_words.specs.declared.command.RawAction.TheVariants.{Look, Write}
 use Rattle.bb_words.specs.declared.command.RawCommand.{RawCommand}
 use Rattle.bb_words.specs.declared.given.Given.{Given}
 use Rattle.bb_words.specs.declared.option.Valued.{Valued}
-use Rattle.bb_words.specs.declared.option.Valued.TheVariants.{Input, Name, Get as GetOption, Set as SetOption}
+use Rattle.bb_words.specs.declared.option.Valued.TheVariants.{Input, Name, Get as GetOption, Set as SetOption, Settings}
 use Rattle.bb_words.specs.declared.row.Row.{Row}
-use Rattle.bb_words.specs.declared.row.Row.TheVariants.{State as StateRow}
-use Rattle.bb_words.specs.Grammar.{IsAction, IsRaw, IsSpelt, Spells, Form, Short, Long, Joined, Item, Takes, ShortDump, LongDump, ShellDump, short_form, long_form, spelling_of, is_value, has_item, file_in, name_in, action_in}
+use Rattle.bb_words.specs.declared.row.Row.TheVariants.{State as StateRow, MarkGood as MarkGoodRow}
+use Rattle.bb_words.specs.Grammar.{IsAction, IsRaw, IsSpelt, Spells, Form, Short, Long, Joined, Item, Takes, ShortDump, LongDump, ShellDump, short_form, long_form, spelling_of, has_long, has_form, is_value, has_item, file_in, name_in, settings_in, action_in}
 use Rattle.bb_words.specs.Options.{dump_of, long_of, valued_of, value_in, has_sign, set_in, with_value, with_action, none_given}
 use Rattle.bb_words.specs.Table.{name_of, row_of, has, has_dumps, may_come, command_of}
 use Rattle.bb_words.specs.Words.{Stage, Magic, Length, Mode, Area, Options, Whole, raw_of, number_up_to, area_of, dumped, opened, taken, closed, behind_option, next, words_from, words_of}
@@ -43,23 +43,27 @@ both false b h = absurd (cc)
 record Gives (given : Given) (items : List Item) (all : Given) : Type 0 where
   files : option_to_list given.file ++ filter_map file_in items ≡ option_to_list all.file
   names : option_to_list given.name ++ filter_map name_in items ≡ option_to_list all.name
+  settings : option_to_list given.settings ++ filter_map settings_in items ≡ option_to_list all.settings
   actions : given.actions ++ filter_map action_in items ≡ all.actions
 
 gives_none : (given all : Given) → Gives given [] all → given ≡ all
 gives_none given all g =
     let file = same_item given.file all.file g.files in
     let name = same_item given.name all.name g.names in
+    let settings = same_item given.settings all.settings g.settings in
     let actions = sym (append-nil given.actions) ∙ g.actions in
-    ap (λ file. record { file = file; name = given.name; actions = given.actions }) file
-    ∙ ap (λ name. record { file = all.file; name = name; actions = given.actions }) name
-    ∙ ap (λ actions. record { file = all.file; name = all.name; actions = actions }) actions
+    ap (λ file. record given { file = file }) file
+    ∙ ap (λ name. record given { file = all.file; name = name }) name
+    ∙ ap (λ settings. record given { file = all.file; name = all.name; settings = settings }) settings
+    ∙ ap (λ actions. record all { actions = actions }) actions
 
 -- an action is put behind those before
-action_behind : (given all : Given) (items : List Item) (item : Item) (action : Action) → file_in item ≡ None → name_in item ≡ None → action_in item ≡ Some action →
+action_behind : (given all : Given) (items : List Item) (item : Item) (action : Action) → file_in item ≡ None → name_in item ≡ None → settings_in item ≡ None → action_in item ≡ Some action →
     Gives given (item ∷ items) all → Gives (with_action action given) items all
-action_behind given all items item action no_file no_name does g = record {
+action_behind given all items item action no_file no_name no_settings does g = record {
   files = ap (λ o. option_to_list given.file ++ cons_option o (filter_map file_in items)) (sym no_file) ∙ g.files;
   names = ap (λ o. option_to_list given.name ++ cons_option o (filter_map name_in items)) (sym no_name) ∙ g.names;
+  settings = ap (λ o. option_to_list given.settings ++ cons_option o (filter_map settings_in items)) (sym no_settings) ∙ g.settings;
   actions =
       append_assoc given.actions (action ∷ []) (filter_map action_in items)
       ∙ ap (λ o. given.actions ++ cons_option o (filter_map action_in items)) (sym does)
@@ -67,11 +71,12 @@ action_behind given all items item action no_file no_name does g = record {
 }
 
 -- and the other way round
-action_before : (given all : Given) (items : List Item) (item : Item) (action : Action) → file_in item ≡ None → name_in item ≡ None → action_in item ≡ Some action →
+action_before : (given all : Given) (items : List Item) (item : Item) (action : Action) → file_in item ≡ None → name_in item ≡ None → settings_in item ≡ None → action_in item ≡ Some action →
     Gives (with_action action given) items all → Gives given (item ∷ items) all
-action_before given all items item action no_file no_name does g = record {
+action_before given all items item action no_file no_name no_settings does g = record {
   files = ap (λ o. option_to_list given.file ++ cons_option o (filter_map file_in items)) no_file ∙ g.files;
   names = ap (λ o. option_to_list given.name ++ cons_option o (filter_map name_in items)) no_name ∙ g.names;
+  settings = ap (λ o. option_to_list given.settings ++ cons_option o (filter_map settings_in items)) no_settings ∙ g.settings;
   actions =
       ap (λ o. given.actions ++ cons_option o (filter_map action_in items)) does
       ∙ sym (append_assoc given.actions (action ∷ []) (filter_map action_in items))
@@ -98,39 +103,46 @@ record Leaves (row : Row) (valued : Valued) (value : List ℕ) (items : List Ite
 may_still : (row : Row) (valued : Valued) → has row valued ≡ true → (has row valued && true) ≡ true
 may_still row valued h = ap (λ b. b && true) h
 
-takes_leaves : (row : Row) (form : Form) (valued : Valued) (value : List ℕ) (items : List Item) (file name : Option (List ℕ)) (actions : List Action) (all : Given) →
-    has row valued ≡ true → is_value valued value ≡ true → Gives (record { file = file; name = name; actions = actions }) (Takes form valued value ∷ items) all →
-    Leaves row valued value items (record { file = file; name = name; actions = actions }) all
-takes_leaves row form Input value items None name actions all had is g = record {
-  behind = record { file = Some value; name = name; actions = actions };
+takes_leaves : (row : Row) (form : Form) (valued : Valued) (value : List ℕ) (items : List Item) (file name settings : Option (List ℕ)) (actions : List Action) (all : Given) →
+    has row valued ≡ true → is_value valued value ≡ true → Gives (record { file = file; name = name; settings = settings; actions = actions }) (Takes form valued value ∷ items) all →
+    Leaves row valued value items (record { file = file; name = name; settings = settings; actions = actions }) all
+takes_leaves row form Input value items None name settings actions all had is g = record {
+  behind = record { file = Some value; name = name; settings = settings; actions = actions };
   may = may_still row Input had;
   with = refl;
-  gives = record { files = g.files; names = g.names; actions = g.actions };
+  gives = record { files = g.files; names = g.names; settings = g.settings; actions = g.actions };
 }
-takes_leaves row form Input value items (Some x) name actions all had is g = absurd (one_item x value _ all.file g.files)
-takes_leaves row form Name value items file None actions all had is g = record {
-  behind = record { file = file; name = Some value; actions = actions };
+takes_leaves row form Input value items (Some x) name settings actions all had is g = absurd (one_item x value _ all.file g.files)
+takes_leaves row form Name value items file None settings actions all had is g = record {
+  behind = record { file = file; name = Some value; settings = settings; actions = actions };
   may = may_still row Name had;
   with = refl;
-  gives = record { files = g.files; names = g.names; actions = g.actions };
+  gives = record { files = g.files; names = g.names; settings = g.settings; actions = g.actions };
 }
-takes_leaves row form Name value items file (Some x) actions all had is g = absurd (one_item x value _ all.name g.names)
-takes_leaves row form GetOption value items file name actions all had is g =
-    let given : Given = record { file = file; name = name; actions = actions } in
+takes_leaves row form Name value items file (Some x) settings actions all had is g = absurd (one_item x value _ all.name g.names)
+takes_leaves row form Settings value items file name None actions all had is g = record {
+  behind = record { file = file; name = name; settings = Some value; actions = actions };
+  may = may_still row Settings had;
+  with = refl;
+  gives = record { files = g.files; names = g.names; settings = g.settings; actions = g.actions };
+}
+takes_leaves row form Settings value items file name (Some x) actions all had is g = absurd (one_item x value _ all.settings g.settings)
+takes_leaves row form GetOption value items file name settings actions all had is g =
+    let given : Given = record { file = file; name = name; settings = settings; actions = actions } in
     record {
       behind = with_action (Get value) given;
       may = may_still row GetOption had;
       with = refl;
-      gives = action_behind given all items (Takes form GetOption value) (Get value) refl refl refl g;
+      gives = action_behind given all items (Takes form GetOption value) (Get value) refl refl refl refl g;
     }
-takes_leaves row form SetOption value items file name actions all had is g =
-    let given : Given = record { file = file; name = name; actions = actions } in
+takes_leaves row form SetOption value items file name settings actions all had is g =
+    let given : Given = record { file = file; name = name; settings = settings; actions = actions } in
     let set = Set (before_first is_sign value) (after_first is_sign value) in
     record {
       behind = with_action set given;
       may = may_still row SetOption had;
       with = ap (option_map (λ action. with_action action given)) (set_made value is);
-      gives = action_behind given all items (Takes form SetOption value) set refl refl (set_made value is) g;
+      gives = action_behind given all items (Takes form SetOption value) set refl refl refl (set_made value is) g;
     }
 
 -- a word that may come
@@ -170,27 +182,30 @@ short_opens start row Input given rest h = open_step start _ (Options row (Some 
 short_opens start row Name given rest h = open_step start _ (Options row (Some Name) given) None rest h
 short_opens start row GetOption given rest h = open_step start _ (Options row (Some GetOption) given) None rest h
 short_opens start row SetOption given rest h = open_step start _ (Options row (Some SetOption) given) None rest h
+short_opens start row Settings given rest h = open_step start _ (Options row (Some Settings) given) None rest h
 
-long_opens : (start : ℕ) (row : Row) (valued : Valued) (given : Given) (rest : List (List ℕ)) → may_come row valued given ≡ true →
+long_opens : (start : ℕ) (row : Row) (valued : Valued) (given : Given) (rest : List (List ℕ)) → has_long valued ≡ true → may_come row valued given ≡ true →
     words_from start (Options row None given) (long_form valued ∷ rest) ≡ words_from (start + 1) (Options row (Some valued) given) rest
 unfolding words_from
-long_opens start row Input given rest h = open_step start _ (Options row (Some Input) given) None rest h
-long_opens start row Name given rest h = open_step start _ (Options row (Some Name) given) None rest h
-long_opens start row GetOption given rest h = open_step start _ (Options row (Some GetOption) given) None rest h
-long_opens start row SetOption given rest h = open_step start _ (Options row (Some SetOption) given) None rest h
+long_opens start row Input given rest long h = open_step start _ (Options row (Some Input) given) None rest h
+long_opens start row Name given rest long h = open_step start _ (Options row (Some Name) given) None rest h
+long_opens start row GetOption given rest long h = open_step start _ (Options row (Some GetOption) given) None rest h
+long_opens start row SetOption given rest long h = open_step start _ (Options row (Some SetOption) given) None rest h
+long_opens start row Settings given rest long h = absurd (cc)
 
-takes_words : (start : ℕ) (row : Row) (form : Form) (valued : Valued) (value : List ℕ) (given behind : Given) (rest : List (List ℕ)) → may_come row valued given ≡ true →
-    with_value valued value given ≡ Some behind →
+takes_words : (start : ℕ) (row : Row) (form : Form) (valued : Valued) (value : List ℕ) (given behind : Given) (rest : List (List ℕ)) → has_form form valued ≡ true →
+    may_come row valued given ≡ true → with_value valued value given ≡ Some behind →
     words_from start (Options row None given) (spelling_of (Takes form valued value) ++ rest) ≡ words_from (behind_form start form) (Options row None behind) rest
 unfolding words_from
-takes_words start row Short valued value given behind rest h with =
+takes_words start row Short valued value given behind rest form h with =
     opened_words start row valued value given behind rest (short_form valued) (short_opens start row valued given (value ∷ rest) h) with
-takes_words start row Long valued value given behind rest h with =
-    opened_words start row valued value given behind rest (long_form valued) (long_opens start row valued given (value ∷ rest) h) with
-takes_words start row Joined Input value given behind rest h with = close_step start row _ _ behind rest h with
-takes_words start row Joined Name value given behind rest h with = close_step start row _ _ behind rest h with
-takes_words start row Joined GetOption value given behind rest h with = close_step start row _ _ behind rest h with
-takes_words start row Joined SetOption value given behind rest h with = close_step start row _ _ behind rest h with
+takes_words start row Long valued value given behind rest form h with =
+    opened_words start row valued value given behind rest (long_form valued) (long_opens start row valued given (value ∷ rest) form h) with
+takes_words start row Joined Input value given behind rest form h with = close_step start row _ _ behind rest h with
+takes_words start row Joined Name value given behind rest form h with = close_step start row _ _ behind rest h with
+takes_words start row Joined GetOption value given behind rest form h with = close_step start row _ _ behind rest h with
+takes_words start row Joined SetOption value given behind rest form h with = close_step start row _ _ behind rest h with
+takes_words start row Joined Settings value given behind rest form h with = absurd (cc)
 
 -- the words of items make this command, behind what was given
 Makes : Row → List Item → Type 0
@@ -207,27 +222,28 @@ unfolding Makes
 takes_made row form valued value items ih start given all command had g made =
     let here = both _ _ had in
     let item = both _ _ here.0 in
-    let l = takes_leaves row form valued value items given.file given.name given.actions all item.0 item.1 g in
-    takes_words start row form valued value given l.behind (flat_map spelling_of items) l.may l.with
+    let spelt = both _ _ item.1 in
+    let l = takes_leaves row form valued value items given.file given.name given.settings given.actions all item.0 spelt.1 g in
+    takes_words start row form valued value given l.behind (flat_map spelling_of items) spelt.0 l.may l.with
     ∙ ih (behind_form start form) l.behind all command here.1 l.gives made
 
-dump_made : (row : Row) (item : Item) (action : Action) (items : List Item) → file_in item ≡ None → name_in item ≡ None → action_in item ≡ Some action →
+dump_made : (row : Row) (item : Item) (action : Action) (items : List Item) → file_in item ≡ None → name_in item ≡ None → settings_in item ≡ None → action_in item ≡ Some action →
     has_item row item ≡ has_dumps row →
     ((start : ℕ) (given : Given) (rest : List (List ℕ)) → has_dumps row ≡ true →
     words_from start (Options row None given) (spelling_of item ++ rest) ≡ words_from (start + 1) (Options row None (with_action action given)) rest) →
     Makes row items → Makes row (item ∷ items)
 unfolding Makes
-dump_made row item action items no_file no_name does is step ih start given all command had g made =
+dump_made row item action items no_file no_name no_settings does is step ih start given all command had g made =
     let here = both _ _ had in
     step start given (flat_map spelling_of items) (sym is ∙ here.0)
-    ∙ ih (start + 1) (with_action action given) all command here.1 (action_behind given all items item action no_file no_name does g) made
+    ∙ ih (start + 1) (with_action action given) all command here.1 (action_behind given all items item action no_file no_name no_settings does g) made
 
 item_made : (row : Row) (item : Item) (items : List Item) → Makes row items → Makes row (item ∷ items)
 unfolding words_from
 item_made row (Takes form valued value) items ih = takes_made row form valued value items ih
-item_made row ShortDump items ih = dump_made row ShortDump Dump items refl refl refl refl (λ start given rest h. open_step start _ (Options row None (with_action Dump given)) None rest h) ih
-item_made row LongDump items ih = dump_made row LongDump Dump items refl refl refl refl (λ start given rest h. open_step start _ (Options row None (with_action Dump given)) None rest h) ih
-item_made row ShellDump items ih = dump_made row ShellDump DumpShell items refl refl refl refl (λ start given rest h. open_step start _ (Options row None (with_action DumpShell given)) None rest h) ih
+item_made row ShortDump items ih = dump_made row ShortDump Dump items refl refl refl refl refl (λ start given rest h. open_step start _ (Options row None (with_action Dump given)) None rest h) ih
+item_made row LongDump items ih = dump_made row LongDump Dump items refl refl refl refl refl (λ start given rest h. open_step start _ (Options row None (with_action Dump given)) None rest h) ih
+item_made row ShellDump items ih = dump_made row ShellDump DumpShell items refl refl refl refl refl (λ start given rest h. open_step start _ (Options row None (with_action DumpShell given)) None rest h) ih
 
 items_made : (row : Row) (items : List Item) → Makes row items
 items_made row [] = none_made row
@@ -236,13 +252,14 @@ items_made row (item ∷ items) = item_made row item items (items_made row items
 row_begins : (row : Row) (rest : List (List ℕ)) → words_of (name_of row ∷ rest) ≡ words_from 1 (Options row None none_given) rest
 unfolding words_from
 row_begins StateRow rest = refl
+row_begins MarkGoodRow rest = refl
 
 options_accepted : (row : Row) (words : List (List ℕ)) (command : Command) → IsSpelt row words command → words_of words ≡ Ok command
 unfolding Makes
 options_accepted row words command is =
     ap words_of is.spelt
     ∙ row_begins row (flat_map spelling_of is.items)
-    ∙ items_made row is.items 1 none_given is.given command is.has_all (record { files = is.file_is; names = is.name_is; actions = is.actions_are }) is.made
+    ∙ items_made row is.items 1 none_given is.given command is.has_all (record { files = is.file_is; names = is.name_is; settings = is.settings_are; actions = is.actions_are }) is.made
 
 action_accepted : (magic len : ℕ) (action : RawAction) (words : List (List ℕ)) → IsAction len action words → words_from 3 (Mode magic len) words ≡ Ok (raw_of magic len action)
 unfolding words_from
@@ -262,6 +279,7 @@ raw_accepted rest raw is =
 pub accepted : (words : List (List ℕ)) (command : Command) → Spells words command → words_of words ≡ Ok command
 accepted words (Raw raw) is = ap words_of is.1 ∙ raw_accepted is.0 raw is.2
 accepted words (State state) is = options_accepted StateRow words (State state) is
+accepted words (MarkGood mark) is = options_accepted MarkGoodRow words (MarkGood mark) is
 
 -- ---- what is accepted was spelt so
 
@@ -358,29 +376,39 @@ raw_spelt (magic ∷ ws) command h =
 
 -- what words of options say
 
+-- a word is the long form of an option, which has one
+abbrev IsLong : List ℕ → Valued → Type 0
+IsLong w v = (has_long v ≡ true) × (w ≡ long_form v)
+
+long_is : (w : List ℕ) (u v : Valued) → has_long u ≡ true → bytes_eq w (long_form u) ≡ true → Some u ≡ Some v → IsLong w v
+long_is w u v long is h = subst (IsLong w) (some_same u v h) (long, same_bytes w (long_form u) is)
+
 long_cases : (w : List ℕ) (v : Valued) (a b c d : Bool) → bytes_eq w (codes "--input") ≡ a → bytes_eq w (codes "--name") ≡ b → bytes_eq w (codes "--get") ≡ c → bytes_eq w (codes "--set") ≡ d →
-    (if a then Some Input else if b then Some Name else if c then Some GetOption else if d then Some SetOption else None) ≡ Some v → w ≡ long_form v
-long_cases w v true b c d ea eb ec ed h = same_bytes w (codes "--input") ea ∙ ap long_form (some_same Input v h)
-long_cases w v false true c d ea eb ec ed h = same_bytes w (codes "--name") eb ∙ ap long_form (some_same Name v h)
-long_cases w v false false true d ea eb ec ed h = same_bytes w (codes "--get") ec ∙ ap long_form (some_same GetOption v h)
-long_cases w v false false false true ea eb ec ed h = same_bytes w (codes "--set") ed ∙ ap long_form (some_same SetOption v h)
+    (if a then Some Input else if b then Some Name else if c then Some GetOption else if d then Some SetOption else None) ≡ Some v → IsLong w v
+long_cases w v true b c d ea eb ec ed h = long_is w Input v refl ea h
+long_cases w v false true c d ea eb ec ed h = long_is w Name v refl eb h
+long_cases w v false false true d ea eb ec ed h = long_is w GetOption v refl ec h
+long_cases w v false false false true ea eb ec ed h = long_is w SetOption v refl ed h
 long_cases w v false false false false ea eb ec ed h = absurd (cc)
 
-long_words : (w : List ℕ) (v : Valued) → long_of w ≡ Some v → w ≡ long_form v
+long_words : (w : List ℕ) (v : Valued) → long_of w ≡ Some v → IsLong w v
 long_words w v h =
     long_cases w v (bytes_eq w (codes "--input")) (bytes_eq w (codes "--name")) (bytes_eq w (codes "--get")) (bytes_eq w (codes "--set")) refl refl refl refl h
 
-valued_cases : (w : List ℕ) (v : Valued) (a b c d : Bool) → bytes_eq w (codes "-i") ≡ a → bytes_eq w (codes "-n") ≡ b → bytes_eq w (codes "-g") ≡ c → bytes_eq w (codes "-s") ≡ d →
-    (if a then Some Input else if b then Some Name else if c then Some GetOption else if d then Some SetOption else long_of w) ≡ Some v → (w ≡ short_form v) ⊎ (w ≡ long_form v)
-valued_cases w v true b c d ea eb ec ed h = inl (same_bytes w (codes "-i") ea ∙ ap short_form (some_same Input v h))
-valued_cases w v false true c d ea eb ec ed h = inl (same_bytes w (codes "-n") eb ∙ ap short_form (some_same Name v h))
-valued_cases w v false false true d ea eb ec ed h = inl (same_bytes w (codes "-g") ec ∙ ap short_form (some_same GetOption v h))
-valued_cases w v false false false true ea eb ec ed h = inl (same_bytes w (codes "-s") ed ∙ ap short_form (some_same SetOption v h))
-valued_cases w v false false false false ea eb ec ed h = inr (long_words w v h)
+valued_cases : (w : List ℕ) (v : Valued) (a b c d e : Bool) → bytes_eq w (codes "-i") ≡ a → bytes_eq w (codes "-n") ≡ b → bytes_eq w (codes "-g") ≡ c → bytes_eq w (codes "-s") ≡ d →
+    bytes_eq w (codes "-c") ≡ e →
+    (if a then Some Input else if b then Some Name else if c then Some GetOption else if d then Some SetOption else if e then Some Settings else long_of w) ≡ Some v →
+    (w ≡ short_form v) ⊎ IsLong w v
+valued_cases w v true b c d e ea eb ec ed ee h = inl (same_bytes w (codes "-i") ea ∙ ap short_form (some_same Input v h))
+valued_cases w v false true c d e ea eb ec ed ee h = inl (same_bytes w (codes "-n") eb ∙ ap short_form (some_same Name v h))
+valued_cases w v false false true d e ea eb ec ed ee h = inl (same_bytes w (codes "-g") ec ∙ ap short_form (some_same GetOption v h))
+valued_cases w v false false false true e ea eb ec ed ee h = inl (same_bytes w (codes "-s") ed ∙ ap short_form (some_same SetOption v h))
+valued_cases w v false false false false true ea eb ec ed ee h = inl (same_bytes w (codes "-c") ee ∙ ap short_form (some_same Settings v h))
+valued_cases w v false false false false false ea eb ec ed ee h = inr (long_words w v h)
 
-valued_words : (w : List ℕ) (v : Valued) → valued_of w ≡ Some v → (w ≡ short_form v) ⊎ (w ≡ long_form v)
+valued_words : (w : List ℕ) (v : Valued) → valued_of w ≡ Some v → (w ≡ short_form v) ⊎ IsLong w v
 valued_words w v h =
-    valued_cases w v (bytes_eq w (codes "-i")) (bytes_eq w (codes "-n")) (bytes_eq w (codes "-g")) (bytes_eq w (codes "-s")) refl refl refl refl h
+    valued_cases w v (bytes_eq w (codes "-i")) (bytes_eq w (codes "-n")) (bytes_eq w (codes "-g")) (bytes_eq w (codes "-s")) (bytes_eq w (codes "-c")) refl refl refl refl refl h
 
 -- a word is what stands before its first `=`, that sign, and what stands behind it
 cut_behind : (c : ℕ) (cs : List ℕ) (n m k : ℕ) → m ≡ suc n → k ≡ suc (n + 1) → cs ≡ take n cs ++ 61 ∷ drop (n + 1) cs → c ∷ cs ≡ take m (c ∷ cs) ++ 61 ∷ drop k (c ∷ cs)
@@ -400,15 +428,16 @@ cut (c ∷ cs) h = cut_at c cs (is_sign c) refl h (cut cs)
 
 value_cases : (w : List ℕ) (given : Valued × List ℕ) (b : Bool) → list_any is_sign w ≡ b →
     option_and_then (λ (cut : List ℕ × List ℕ). option_map (λ valued. (valued, cut.1)) (long_of cut.0)) (if b then Some (before_first is_sign w, after_first is_sign w) else None) ≡ Some given →
-    w ≡ long_form given.0 ++ 61 ∷ given.1
+    (has_long given.0 ≡ true) × (w ≡ long_form given.0 ++ 61 ∷ given.1)
 value_cases w given true e h =
     let long = on_map (λ valued. (valued, after_first is_sign w)) (long_of (before_first is_sign w)) given h in
-    let name = long_words (before_first is_sign w) long.0 long.1 ∙ ap (λ (g : Valued × List ℕ). long_form g.0) long.2 in
+    let word = long_words (before_first is_sign w) long.0 long.1 in
+    let name = word.1 ∙ ap (λ (g : Valued × List ℕ). long_form g.0) long.2 in
     let value = ap (λ (g : Valued × List ℕ). g.1) long.2 in
-    cut w e ∙ ap (λ name. name ++ 61 ∷ after_first is_sign w) name ∙ ap (λ value. long_form given.0 ++ 61 ∷ value) value
+    (sym (ap (λ (g : Valued × List ℕ). has_long g.0) long.2) ∙ word.0, cut w e ∙ ap (λ name. name ++ 61 ∷ after_first is_sign w) name ∙ ap (λ value. long_form given.0 ++ 61 ∷ value) value)
 value_cases w given false e h = absurd (cc)
 
-value_words : (w : List ℕ) (given : Valued × List ℕ) → value_in w ≡ Some given → w ≡ long_form given.0 ++ 61 ∷ given.1
+value_words : (w : List ℕ) (given : Valued × List ℕ) → value_in w ≡ Some given → (has_long given.0 ≡ true) × (w ≡ long_form given.0 ++ 61 ∷ given.1)
 value_words w given h = value_cases w given (list_any is_sign w) refl h
 
 -- the options, item by item
@@ -435,7 +464,7 @@ end_read start row given (Some made) command e h = record {
   all = given;
   spelt_so = refl;
   has_all = refl;
-  gives = record { files = append-nil (option_to_list given.file); names = append-nil (option_to_list given.name); actions = append-nil given.actions };
+  gives = record { files = append-nil (option_to_list given.file); names = append-nil (option_to_list given.name); settings = append-nil (option_to_list given.settings); actions = append-nil given.actions };
   made = e ∙ ap (λ c. Some c) (ok_same made command h);
 }
 
@@ -450,48 +479,57 @@ record Begun (row : Row) (form : Form) (valued : Valued) (value : List ℕ) (ite
   had : has_item row (Takes form valued value) ≡ true
   gives : Gives given (Takes form valued value ∷ items) all
 
-item_had : (row : Row) (form : Form) (valued : Valued) (value : List ℕ) → has row valued ≡ true → is_value valued value ≡ true → has_item row (Takes form valued value) ≡ true
-item_had row form valued value had is = ap (λ b. b && is_value valued value) had ∙ is
+item_had : (row : Row) (form : Form) (valued : Valued) (value : List ℕ) → has row valued ≡ true → has_form form valued ≡ true → is_value valued value ≡ true →
+    has_item row (Takes form valued value) ≡ true
+item_had row form valued value had formed is =
+    ap (λ b. b && (has_form form valued && is_value valued value)) had ∙ ap (λ b. b && is_value valued value) formed ∙ is
 
-takes_begun : (row : Row) (form : Form) (valued : Valued) (value : List ℕ) (items : List Item) (file name : Option (List ℕ)) (actions : List Action) (behind all : Given) →
-    may_come row valued (record { file = file; name = name; actions = actions }) ≡ true →
-    with_value valued value (record { file = file; name = name; actions = actions }) ≡ Some behind → Gives behind items all →
-    Begun row form valued value items (record { file = file; name = name; actions = actions }) all
-takes_begun row form Input value items None name actions behind all may with g =
+takes_begun : (row : Row) (form : Form) (valued : Valued) (value : List ℕ) (items : List Item) (file name settings : Option (List ℕ)) (actions : List Action) (behind all : Given) →
+    has_form form valued ≡ true → may_come row valued (record { file = file; name = name; settings = settings; actions = actions }) ≡ true →
+    with_value valued value (record { file = file; name = name; settings = settings; actions = actions }) ≡ Some behind → Gives behind items all →
+    Begun row form valued value items (record { file = file; name = name; settings = settings; actions = actions }) all
+takes_begun row form Input value items None name settings actions behind all formed may with g =
     let given = subst (λ behind. Gives behind items all) (sym (some_same _ behind with)) g in
     record {
-      had = item_had row form Input value (both _ _ may).0 refl;
-      gives = record { files = given.files; names = given.names; actions = given.actions };
+      had = item_had row form Input value (both _ _ may).0 formed refl;
+      gives = record { files = given.files; names = given.names; settings = given.settings; actions = given.actions };
     }
-takes_begun row form Input value items (Some x) name actions behind all may with g = absurd (cc ((both (has row Input) false may).1))
-takes_begun row form Name value items file None actions behind all may with g =
+takes_begun row form Input value items (Some x) name settings actions behind all formed may with g = absurd (cc ((both (has row Input) false may).1))
+takes_begun row form Name value items file None settings actions behind all formed may with g =
     let given = subst (λ behind. Gives behind items all) (sym (some_same _ behind with)) g in
     record {
-      had = item_had row form Name value (both _ _ may).0 refl;
-      gives = record { files = given.files; names = given.names; actions = given.actions };
+      had = item_had row form Name value (both _ _ may).0 formed refl;
+      gives = record { files = given.files; names = given.names; settings = given.settings; actions = given.actions };
     }
-takes_begun row form Name value items file (Some x) actions behind all may with g = absurd (cc ((both (has row Name) false may).1))
-takes_begun row form GetOption value items file name actions behind all may with g =
-    let before : Given = record { file = file; name = name; actions = actions } in
+takes_begun row form Name value items file (Some x) settings actions behind all formed may with g = absurd (cc ((both (has row Name) false may).1))
+takes_begun row form Settings value items file name None actions behind all formed may with g =
     let given = subst (λ behind. Gives behind items all) (sym (some_same _ behind with)) g in
     record {
-      had = item_had row form GetOption value (both _ _ may).0 refl;
-      gives = action_before before all items (Takes form GetOption value) (Get value) refl refl refl given;
+      had = item_had row form Settings value (both _ _ may).0 formed refl;
+      gives = record { files = given.files; names = given.names; settings = given.settings; actions = given.actions };
     }
-takes_begun row form SetOption value items file name actions behind all may with g =
-    let before : Given = record { file = file; name = name; actions = actions } in
+takes_begun row form Settings value items file name (Some x) actions behind all formed may with g = absurd (cc ((both (has row Settings) false may).1))
+takes_begun row form GetOption value items file name settings actions behind all formed may with g =
+    let before : Given = record { file = file; name = name; settings = settings; actions = actions } in
+    let given = subst (λ behind. Gives behind items all) (sym (some_same _ behind with)) g in
+    record {
+      had = item_had row form GetOption value (both _ _ may).0 formed refl;
+      gives = action_before before all items (Takes form GetOption value) (Get value) refl refl refl refl given;
+    }
+takes_begun row form SetOption value items file name settings actions behind all formed may with g =
+    let before : Given = record { file = file; name = name; settings = settings; actions = actions } in
     let set = on_map (λ action. with_action action before) (set_in value) behind with in
     let given = subst (λ behind. Gives behind items all) (sym set.2) g in
     record {
-      had = item_had row form SetOption value (both _ _ may).0 (set_value value set.0 (has_sign value) refl set.1);
-      gives = action_before before all items (Takes form SetOption value) set.0 refl refl set.1 given;
+      had = item_had row form SetOption value (both _ _ may).0 formed (set_value value set.0 (has_sign value) refl set.1);
+      gives = action_before before all items (Takes form SetOption value) set.0 refl refl refl set.1 given;
     }
 
 takes_read : (row : Row) (form : Form) (valued : Valued) (value : List ℕ) (given behind : Given) (rest : List (List ℕ)) (command : Command) →
-    may_come row valued given ≡ true → with_value valued value given ≡ Some behind → IsRead row behind rest command →
+    has_form form valued ≡ true → may_come row valued given ≡ true → with_value valued value given ≡ Some behind → IsRead row behind rest command →
     IsRead row given (spelling_of (Takes form valued value) ++ rest) command
-takes_read row form valued value given behind rest command may with r =
-    let begun = takes_begun row form valued value r.items given.file given.name given.actions behind r.all may with r.gives in
+takes_read row form valued value given behind rest command formed may with r =
+    let begun = takes_begun row form valued value r.items given.file given.name given.settings given.actions behind r.all formed may with r.gives in
     record {
       items = Takes form valued value ∷ r.items;
       all = r.all;
@@ -502,14 +540,14 @@ takes_read row form valued value given behind rest command may with r =
     }
 
 dump_read : (row : Row) (item : Item) (w : List ℕ) (action : Action) (given : Given) (rest : List (List ℕ)) (command : Command) →
-    w ∷ [] ≡ spelling_of item → has_item row item ≡ true → file_in item ≡ None → name_in item ≡ None → action_in item ≡ Some action →
+    w ∷ [] ≡ spelling_of item → has_item row item ≡ true → file_in item ≡ None → name_in item ≡ None → settings_in item ≡ None → action_in item ≡ Some action →
     IsRead row (with_action action given) rest command → IsRead row given (w ∷ rest) command
-dump_read row item w action given rest command spelling had no_file no_name does r = record {
+dump_read row item w action given rest command spelling had no_file no_name no_settings does r = record {
   items = item ∷ r.items;
   all = r.all;
   spelt_so = ap (λ ws. ws ++ rest) spelling ∙ ap (λ rest. spelling_of item ++ rest) r.spelt_so;
   has_all = ap (λ b. b && list_all (has_item row) r.items) had ∙ r.has_all;
-  gives = action_before given r.all r.items item action no_file no_name does r.gives;
+  gives = action_before given r.all r.items item action no_file no_name no_settings does r.gives;
   made = r.made;
 }
 
@@ -521,11 +559,11 @@ dump_cases : (row : Row) (w : List ℕ) (action : Action) (given : Given) (rest 
     (if a || b then Some Dump else if c then Some DumpShell else None) ≡ Some action →
     IsRead row (with_action action given) rest command → IsRead row given (w ∷ rest) command
 dump_cases row w action given rest command true b c had ea eb ec h r =
-    dump_read row ShortDump w action given rest command (one_word _ _ (same_bytes w (codes "-d") ea)) had refl refl h r
+    dump_read row ShortDump w action given rest command (one_word _ _ (same_bytes w (codes "-d") ea)) had refl refl refl h r
 dump_cases row w action given rest command false true c had ea eb ec h r =
-    dump_read row LongDump w action given rest command (one_word _ _ (same_bytes w (codes "--dump") eb)) had refl refl h r
+    dump_read row LongDump w action given rest command (one_word _ _ (same_bytes w (codes "--dump") eb)) had refl refl refl h r
 dump_cases row w action given rest command false false true had ea eb ec h r =
-    dump_read row ShellDump w action given rest command (one_word _ _ (same_bytes w (codes "--dump-shell") ec)) had refl refl h r
+    dump_read row ShellDump w action given rest command (one_word _ _ (same_bytes w (codes "--dump-shell") ec)) had refl refl refl h r
 dump_cases row w action given rest command false false false had ea eb ec h r = absurd (cc)
 
 -- the words behind a stage spell the rest of a command
@@ -544,12 +582,12 @@ dump_onward start row w rest given command s ih stage h =
     let r = ih (start + 1) None (with_action dump.0 given) command (from_stage (start + 1) _ s rest command had.1 h) in
     dump_cases row w dump.0 given rest command (bytes_eq w (codes "-d")) (bytes_eq w (codes "--dump")) (bytes_eq w (codes "--dump-shell")) had.0 refl refl refl dump.1 r
 
-opened_form : (row : Row) (w value : List ℕ) (v : Valued) (given behind : Given) (rest : List (List ℕ)) (command : Command) → (w ≡ short_form v) ⊎ (w ≡ long_form v) →
+opened_form : (row : Row) (w value : List ℕ) (v : Valued) (given behind : Given) (rest : List (List ℕ)) (command : Command) → (w ≡ short_form v) ⊎ IsLong w v →
     may_come row v given ≡ true → with_value v value given ≡ Some behind → IsRead row behind rest command → IsRead row given (w ∷ value ∷ rest) command
 opened_form row w value v given behind rest command (inl short) may with r =
-    subst (λ w. IsRead row given (w ∷ value ∷ rest) command) (sym short) (takes_read row Short v value given behind rest command may with r)
+    subst (λ w. IsRead row given (w ∷ value ∷ rest) command) (sym short) (takes_read row Short v value given behind rest command refl may with r)
 opened_form row w value v given behind rest command (inr long) may with r =
-    subst (λ w. IsRead row given (w ∷ value ∷ rest) command) (sym long) (takes_read row Long v value given behind rest command may with r)
+    subst (λ w. IsRead row given (w ∷ value ∷ rest) command) (sym long.1) (takes_read row Long v value given behind rest command long.0 may with r)
 
 opened_onward : (start : ℕ) (row : Row) (w : List ℕ) (rest : List (List ℕ)) (given : Given) (command : Command) (s : Stage) → Onward row rest →
     option_and_then (opened row given) (valued_of w) ≡ Some s → words_from (start + 1) s rest ≡ Ok command → IsRead row given (w ∷ rest) command
@@ -572,7 +610,8 @@ closed_onward start row w rest given command s ih stage h =
     let may = on_test (may_come row v.0.0 given) (taken row given v.0.0 v.0.1) s v.2 in
     let behind = on_map (Options row None) (with_value v.0.0 v.0.1 given) s may.1 in
     let r = ih (start + 1) None behind.0 command (from_stage (start + 1) _ s rest command behind.2 h) in
-    subst (λ w. IsRead row given (w ∷ rest) command) (sym (value_words w v.0 v.1)) (takes_read row Joined v.0.0 v.0.1 given behind.0 rest command may.0 behind.1 r)
+    let word = value_words w v.0 v.1 in
+    subst (λ w. IsRead row given (w ∷ rest) command) (sym word.1) (takes_read row Joined v.0.0 v.0.1 given behind.0 rest command word.0 may.0 behind.1 r)
 
 option_onward : (start : ℕ) (row : Row) (w : List ℕ) (rest : List (List ℕ)) (given : Given) (command : Command) (s : Stage) → Onward row rest →
     behind_option row given w ≡ Some s → words_from (start + 1) s rest ≡ Ok command → IsRead row given (w ∷ rest) command
@@ -608,13 +647,24 @@ raw_of_words w rest command is h =
 
 -- the command that a row makes
 row_made : (row : Row) (given : Given) (words : List (List ℕ)) (command : Command) → command_of row given ≡ Some command → IsSpelt row words command → Spells words command
+row_made MarkGoodRow given words command made is =
+    let file = on_then
+    (λ file. option_map (λ settings. MarkGood (record { file = file; settings = settings; name = given.name })) given.settings)
+    given.file command made in
+    let mark = on_map (λ settings. MarkGood (record { file = file.0; settings = settings; name = given.name })) given.settings command file.2 in
+    subst (λ command. IsSpelt MarkGoodRow words command → Spells words command) mark.2 (λ is. is) is
 row_made StateRow given words command made is =
     let state = on_map (λ file. State (record { file = file; name = given.name; actions = given.actions })) given.file command made in
     subst (λ command. IsSpelt StateRow words command → Spells words command) state.2 (λ is. is) is
 
-row_named : (w : List ℕ) (row : Row) (b : Bool) → bytes_eq w (name_of StateRow) ≡ b → (if b then Some StateRow else None) ≡ Some row → w ≡ name_of row
-row_named w row true e h = same_bytes w (name_of StateRow) e ∙ ap name_of (some_same StateRow row h)
-row_named w row false e h = absurd (cc)
+row_cases : (w : List ℕ) (row : Row) (a b : Bool) → bytes_eq w (name_of StateRow) ≡ a → bytes_eq w (name_of MarkGoodRow) ≡ b →
+    (if a then Some StateRow else if b then Some MarkGoodRow else None) ≡ Some row → w ≡ name_of row
+row_cases w row true b ea eb h = same_bytes w (name_of StateRow) ea ∙ ap name_of (some_same StateRow row h)
+row_cases w row false true ea eb h = same_bytes w (name_of MarkGoodRow) eb ∙ ap name_of (some_same MarkGoodRow row h)
+row_cases w row false false ea eb h = absurd (cc)
+
+row_named : (w : List ℕ) (row : Row) → row_of w ≡ Some row → w ≡ name_of row
+row_named w row named = row_cases w row (bytes_eq w (name_of StateRow)) (bytes_eq w (name_of MarkGoodRow)) refl refl named
 
 options_of_words : (row : Row) (w : List ℕ) (rest : List (List ℕ)) (command : Command) → row_of w ≡ Some row → words_from 1 (Options row None none_given) rest ≡ Ok command →
     Spells (w ∷ rest) command
@@ -624,10 +674,11 @@ options_of_words row w rest command named h =
     row_made row r.all (w ∷ rest) command r.made (record {
       items = r.items;
       given = r.all;
-      spelt = ap (λ w. w ∷ rest) (row_named w row (bytes_eq w (name_of StateRow)) refl named) ∙ ap (λ rest. name_of row ∷ rest) r.spelt_so;
+      spelt = ap (λ w. w ∷ rest) (row_named w row named) ∙ ap (λ rest. name_of row ∷ rest) r.spelt_so;
       has_all = r.has_all;
       file_is = r.gives.files;
       name_is = r.gives.names;
+      settings_are = r.gives.settings;
       actions_are = r.gives.actions;
       made = r.made;
     })

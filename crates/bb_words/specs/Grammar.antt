@@ -1,19 +1,19 @@
 -- The accepted lists of words, by how a command is spelt.
-use Rattle.std.specs.Prelude.{◌≡◌, ℕ, Bool, true, ◌&&◌, List, [], ◌∷◌, ◌++◌, codes, Option, Some, None}
+use Rattle.std.specs.Prelude.{◌≡◌, ℕ, Bool, true, false, ◌&&◌, List, [], ◌∷◌, ◌++◌, codes, Option, Some, None}
 use Rattle.std.specs.List.{filter_map, flat_map, list_all}
 use Rattle.std.specs.Option.{option_to_list}
 use Rattle.bb_words.specs.declared.command.Action.{Action}
 use Rattle.bb_words.specs.declared.command.Action.TheVariants.{Get, Dump, DumpShell}
 use Rattle.bb_words.specs.declared.command.Command.{Command}
-use Rattle.bb_words.specs.declared.command.Command.TheVariants.{Raw, State}
+use Rattle.bb_words.specs.declared.command.Command.TheVariants.{Raw, State, MarkGood}
 use Rattle.bb_words.specs.declared.command.RawAction.{RawAction}
 use Rattle.bb_words.specs.declared.command.RawAction.TheVariants.{Look, Write}
 use Rattle.bb_words.specs.declared.command.RawCommand.{RawCommand}
 use Rattle.bb_words.specs.declared.given.Given.{Given}
 use Rattle.bb_words.specs.declared.option.Valued.{Valued}
-use Rattle.bb_words.specs.declared.option.Valued.TheVariants.{Input, Name, Get as GetOption, Set as SetOption}
+use Rattle.bb_words.specs.declared.option.Valued.TheVariants.{Input, Name, Get as GetOption, Set as SetOption, Settings}
 use Rattle.bb_words.specs.declared.row.Row.{Row}
-use Rattle.bb_words.specs.declared.row.Row.TheVariants.{State as StateRow}
+use Rattle.bb_words.specs.declared.row.Row.TheVariants.{State as StateRow, MarkGood as MarkGoodRow}
 use Rattle.bb_words.specs.Options.{has_sign, set_in}
 use Rattle.bb_words.specs.Table.{name_of, has, has_dumps, command_of}
 use Rattle.bb_words.specs.Words.{number_up_to, area_of}
@@ -52,12 +52,19 @@ short_form Input = codes "-i"
 short_form Name = codes "-n"
 short_form GetOption = codes "-g"
 short_form SetOption = codes "-s"
+short_form Settings = codes "-c"
+
+-- whether there is a long form, and it
+abbrev pub has_long : Valued → Bool
+has_long Settings = false
+has_long _ = true
 
 abbrev pub long_form : Valued → List ℕ
 long_form Input = codes "--input"
 long_form Name = codes "--name"
 long_form GetOption = codes "--get"
 long_form SetOption = codes "--set"
+long_form Settings = []
 
 abbrev pub spelling_of : Item → List (List ℕ)
 spelling_of (Takes Short valued value) = short_form valued ∷ value ∷ []
@@ -72,12 +79,19 @@ abbrev pub is_value : Valued → List ℕ → Bool
 is_value SetOption value = has_sign value
 is_value _ value = true
 
+-- whether an option has that form
+abbrev pub has_form : Form → Valued → Bool
+has_form Short valued = true
+has_form Long valued = has_long valued
+has_form Joined valued = has_long valued
+
 -- whether a command has the item
 abbrev pub has_item : Row → Item → Bool
-has_item row (Takes form valued value) = has row valued && is_value valued value
+has_item row (Takes form valued value) =
+    has row valued && (has_form form valued && is_value valued value)
 has_item row _ = has_dumps row
 
--- the file, the state's name and the action that an item gives
+-- the file, the state's name, the file of the settings and the action that an item gives
 abbrev pub file_in : Item → Option (List ℕ)
 file_in (Takes form Input value) = Some value
 file_in _ = None
@@ -86,17 +100,22 @@ abbrev pub name_in : Item → Option (List ℕ)
 name_in (Takes form Name value) = Some value
 name_in _ = None
 
+abbrev pub settings_in : Item → Option (List ℕ)
+settings_in (Takes form Settings value) = Some value
+settings_in _ = None
+
 abbrev pub action_in : Item → Option Action
 action_in (Takes form Input value) = None
 action_in (Takes form Name value) = None
+action_in (Takes form Settings value) = None
 action_in (Takes form GetOption value) = Some (Get value)
 action_in (Takes form SetOption value) = set_in value
 action_in ShortDump = Some Dump
 action_in LongDump = Some Dump
 action_in ShellDump = Some DumpShell
 
--- the command's name, and items that it has in any order: at most one file and one name, and the actions in their
--- order; they make the command where those are there that must be
+-- the command's name, and items that it has in any order: at most one file, one name and one file of
+-- settings, and the actions in their order; they make the command where those are there that must be
 pub record IsSpelt (row : Row) (words : List (List ℕ)) (command : Command) : Type 0 where
   pub items : List Item
   pub given : Given
@@ -104,6 +123,7 @@ pub record IsSpelt (row : Row) (words : List (List ℕ)) (command : Command) : T
   pub has_all : list_all (has_item row) items ≡ true
   pub file_is : filter_map file_in items ≡ option_to_list given.file
   pub name_is : filter_map name_in items ≡ option_to_list given.name
+  pub settings_are : filter_map settings_in items ≡ option_to_list given.settings
   pub actions_are : filter_map action_in items ≡ given.actions
   pub made : command_of row given ≡ Some command
 
@@ -113,3 +133,4 @@ pub record IsSpelt (row : Row) (words : List (List ℕ)) (command : Command) : T
 abbrev pub Spells : List (List ℕ) → Command → Type 0
 Spells words (Raw raw) = (rest : List (List ℕ)) × (words ≡ codes "raw" ∷ rest) × IsRaw rest raw
 Spells words (State state) = IsSpelt StateRow words (State state)
+Spells words (MarkGood mark) = IsSpelt MarkGoodRow words (MarkGood mark)

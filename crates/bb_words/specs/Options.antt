@@ -7,7 +7,7 @@ use Rattle.bb_words.specs.declared.command.Action.{Action}
 use Rattle.bb_words.specs.declared.command.Action.TheVariants.{Set, Get, Dump, DumpShell}
 use Rattle.bb_words.specs.declared.given.Given.{Given}
 use Rattle.bb_words.specs.declared.option.Valued.{Valued}
-use Rattle.bb_words.specs.declared.option.Valued.TheVariants.{Input, Name, Get as GetOption, Set as SetOption}
+use Rattle.bb_words.specs.declared.option.Valued.TheVariants.{Input, Name, Get as GetOption, Set as SetOption, Settings}
 
 -- ---- what a word is
 
@@ -27,6 +27,7 @@ valued_of word =
     else if bytes_eq word (codes "-n") then Some Name
     else if bytes_eq word (codes "-g") then Some GetOption
     else if bytes_eq word (codes "-s") then Some SetOption
+    else if bytes_eq word (codes "-c") then Some Settings
     else long_of word
 
 -- what stands before the first `=` of a text, and what behind it
@@ -51,7 +52,7 @@ dump_of word =
 -- ---- what options give
 
 abbrev pub none_given : Given
-none_given = record { file = None; name = None; actions = [] }
+none_given = record { file = None; name = None; settings = None; actions = [] }
 
 abbrev pub with_action : Action → Given → Given
 with_action action given = record given { actions = given.actions ++ action ∷ [] }
@@ -64,6 +65,7 @@ set_in text = option_map (λ cut. Set cut.0 cut.1) (cut_at_sign text)
 abbrev pub with_value : Valued → List ℕ → Given → Option Given
 with_value Input value given = Some (record given { file = Some value })
 with_value Name value given = Some (record given { name = Some value })
+with_value Settings value given = Some (record given { settings = Some value })
 with_value GetOption value given = Some (with_action (Get value) given)
 with_value SetOption value given = option_map (λ action. with_action action given) (set_in value)
 
@@ -71,5 +73,6 @@ with_value SetOption value given = option_map (λ action. with_action action giv
 abbrev pub given_once : Valued → Given → Option (List ℕ)
 given_once Input given = given.file
 given_once Name given = given.name
+given_once Settings given = given.settings
 given_once GetOption given = None
 given_once SetOption given = None

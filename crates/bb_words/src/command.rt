@@ -6,6 +6,7 @@ use bb_base::{Bytes, Text};
 pub enum Command {
     Raw(RawCommand),
     State(StateCommand),
+    MarkGood(MarkGoodCommand),
 }
 
 /// `raw`: a raw record in three strides of a device.
@@ -36,6 +37,17 @@ pub struct StateCommand {
     pub name: Option<Text>,
     /// What is done, in the order of the words.
     pub actions: ActionList,
+}
+
+/// `mark-good`: the target that was started last is good.
+#[derive(Debug, Drop)]
+pub struct MarkGoodCommand {
+    /// `-i`: the file that describes the state.
+    pub file: Text,
+    /// `-c`: the file with the bootchooser's settings.
+    pub settings: Text,
+    /// `-n`: which state of the file, if that is said.
+    pub name: Option<Text>,
 }
 
 /// What is done with a state.

@@ -7,7 +7,7 @@ ghost use Rattle.bb_words.specs.Words.{Options, next, opened, closed, behind_opt
 
 use crate::option::{Valued, cut_at_sign, dump_of, value_in, valued_of};
 use crate::row::Row;
-use crate::{Action, ActionList, Command, StateCommand, WordsError};
+use crate::{Action, ActionList, Command, MarkGoodCommand, StateCommand, WordsError};
 use bb_base::{NoMemory, Text};
 use std::alloc::Global;
 
@@ -16,6 +16,7 @@ use std::alloc::Global;
 pub(crate) struct Given {
     pub file: Option<Text>,
     pub name: Option<Text>,
+    pub settings: Option<Text>,
     pub actions: ActionList,
 }
 
@@ -27,6 +28,7 @@ impl Given {
         Given {
             file: None,
             name: None,
+            settings: None,
             actions: ActionList::none(alloc),
         }
     }
@@ -103,6 +105,7 @@ impl Given {
         match valued {
             Valued::Input => self.file.as_ref(),
             Valued::Name => self.name.as_ref(),
+            Valued::Settings => self.settings.as_ref(),
             Valued::Get | Valued::Set => None,
         }
     }
@@ -121,6 +124,7 @@ impl Given {
         match valued {
             Valued::Input => self.file = Some(Text::of(alloc, value)?),
             Valued::Name => self.name = Some(Text::of(alloc, value)?),
+            Valued::Settings => self.settings = Some(Text::of(alloc, value)?),
             Valued::Get => self.actions.push(Action::Get(Text::of(alloc, value)?))?,
             Valued::Set => {
                 let Some(set) = set_in(alloc, value)? else {
@@ -143,12 +147,19 @@ impl Given {
         ensures sized { IfOk result IsSized }
         ensures refused { IfErr result (λ cause. (cause ≡ WordsError.BadWord place) × (command_at (Options row due self) ≡ None)) }
     {
-        match (row, due, self.file) {
-            (Row::State, None, Some(file)) => Ok(Command::State(StateCommand {
+        match (row, due, self.file, self.settings) {
+            (Row::State, None, Some(file), _) => Ok(Command::State(StateCommand {
                 file,
                 name: self.name,
                 actions: self.actions,
             })),
+            (Row::MarkGood, None, Some(file), Some(settings)) => {
+                Ok(Command::MarkGood(MarkGoodCommand {
+                    file,
+                    settings,
+                    name: self.name,
+                }))
+            }
             _ => Err(WordsError::BadWord(place)),
         }
     }

@@ -15,6 +15,8 @@ pub(crate) enum Valued {
     Get,
     /// `-s`, `--set`
     Set,
+    /// `-c`, which has no long form
+    Settings,
 }
 
 /// The action that an option without a value asks for.
@@ -37,6 +39,7 @@ pub(crate) fn valued_of(word: &str) -> Option<Valued>
         "-n" => Some(Valued::Name),
         "-g" => Some(Valued::Get),
         "-s" => Some(Valued::Set),
+        "-c" => Some(Valued::Settings),
         _ => long_of(word),
     }
 }

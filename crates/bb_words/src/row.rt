@@ -8,6 +8,7 @@ use crate::option::Valued;
 #[derive(Clone, Copy, Debug, PartialEq, Eq)]
 pub(crate) enum Row {
     State,
+    MarkGood,
 }
 
 impl Row {
@@ -17,6 +18,7 @@ impl Row {
     {
         match name {
             "state" => Some(Row::State),
+            "mark-good" => Some(Row::MarkGood),
             _ => None,
         }
     }
@@ -27,6 +29,9 @@ impl Row {
     {
         match (self, valued) {
             (Row::State, Valued::Input | Valued::Name | Valued::Get | Valued::Set) => true,
+            (Row::State, Valued::Settings) => false,
+            (Row::MarkGood, Valued::Input | Valued::Name | Valued::Settings) => true,
+            (Row::MarkGood, Valued::Get | Valued::Set) => false,
         }
     }
 
@@ -36,6 +41,7 @@ impl Row {
     {
         match self {
             Row::State => true,
+            Row::MarkGood => false,
         }
     }
 }

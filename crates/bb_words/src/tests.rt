@@ -82,6 +82,22 @@ fn options_come_in_any_order(rt: HostRuntime) -> Result<(), Fail> {
 }
 
 #[test]
+fn settings_are_named(rt: HostRuntime) -> Result<(), Fail> {
+    let words = list(
+        rt.alloc(),
+        &["mark-good", "-c", "set.txt", "--input=b.dts", "-n", "a"],
+    )?;
+    let command = read_words(rt.alloc(), &words).map_err(|_| NoMemory)?;
+    let Command::MarkGood(mark) = command else {
+        return Err(Fail::from(NoMemory));
+    };
+    assert_eq!(rt; mark.file.as_str(), "b.dts");
+    assert_eq!(rt; mark.settings.as_str(), "set.txt");
+    assert_eq!(rt; mark.name.as_ref().map(|name| name.as_str()), Some("a"));
+    Ok(())
+}
+
+#[test]
 fn a_bad_word_has_its_place(rt: HostRuntime) -> Result<(), Fail> {
     assert_eq!(rt; bad_place(rt.alloc(), &[])?, Some(0));
     assert_eq!(rt; bad_place(rt.alloc(), &["state", "-d"])?, Some(2));
@@ -113,6 +129,11 @@ fn a_bad_word_has_its_place(rt: HostRuntime) -> Result<(), Fail> {
     assert_eq!(rt;
         bad_place(rt.alloc(), &["state", "-i", "a", "-s", "abc"])?,
         Some(4)
+    );
+    assert_eq!(rt; bad_place(rt.alloc(), &["mark-good", "-i", "a"])?, Some(3));
+    assert_eq!(rt;
+        bad_place(rt.alloc(), &["mark-good", "-i", "a", "-c", "b", "-d"])?,
+        Some(5)
     );
     Ok(())
 }
