@@ -26,10 +26,10 @@ use Rattle.bb_words.specs.declared.command.Command.{Command}
 use Rattle.bb_tool.specs.Calls.{ComesByDevice, ComesByFiles, ComesByOutlet, ComesByPlan, ComesByPlanAlone, ComesByReads, ComesByWords, IsAnswered, IsRefusedWith, IsSession, IsWithoutMemory, NamesACopy, SendsSessionFront, Tells, geometry_of, is_planning, plan_over, session_for}
 use Rattle.bb_tool.specs.Copying.{KeepsATrail, KeepsAtExit, KeepsOthers}
 use Rattle.bb_tool.specs.Ending.{IsFollowed, IsGiven}
-use Rattle.bb_tool.specs.Plan.{Act, FileAnswer, Plan, Show, Work, Write, copies_in, file_for, plan_of, planned}
+use Rattle.bb_tool.specs.Plan.{Act, FileAnswers, Good, Plan, Show, Work, Write, copies_in, files_for, plan_of, planned}
 use Rattle.bb_tool.specs.Ran.{Ran}
 use Rattle.bb_tool.specs.Refusal.{copy_refusal, line_of, status_of}
-use Rattle.bb_tool.specs.Session.{Answers, LoadAnswer, SaveAnswer, Session, ended_status, followed, loaded_area, refused_for, saved, saves_behind, saves_of, sent_of, session_of, text_of, worked}
+use Rattle.bb_tool.specs.Session.{Answers, LoadAnswer, SaveAnswer, Session, ended_status, followed, loaded_area, refused_for, saved, saves_behind, saves_of, sent_of, session_of, text_of, unless_unmarked, unmarked, worked}
 use Rattle.bb_tool.specs.Telling.{IsCutOff, IsToldRefusal, takes_memory}
 use Rattle.bb_tool.specs.Work.{AreSaved, IsFound, IsLookWork, IsStoreWork, IsWorkOf}
 use Rattle.bb_tool.specs.declared.refusal.Refusal.{Refusal}
@@ -38,6 +38,7 @@ use Rattle.bb_tool.specs.declared.status.Status.{Status}
 use Rattle.bb_tool.specs.declared.status.Status.TheVariants as statuses
 use Rattle.bb_tool.proofs.Plans.{alone_plan, faulty_words, plan_refusal, same_plan, words_refused}
 use Rattle.bb_tool.proofs.Told.{memory_sink, told_cases, told_front, told_memory, told_other, told_own}
+use Rattle.bb_tool.proofs.Unmarked.{is_device_fault, stored_refusal}
 use Rattle.bb_tool.proofs.Works.{has_trails, keeps_outside, leads_on}
 
 -- ---- an answer that is the session's own
@@ -46,7 +47,7 @@ pub record IsOwn (ran : Ran) (answer : Status) : Type 0 where
   pub ending : IsAnswered ran
   pub own : ended_status (session_for ran ending.answers) ≡ answer
 
-own_answer : (ran : Ran) (answer : Status) → IsSession ran → answer ≢ statuses.SinkFault → answer ≢ statuses.NoMemory → ran.status ≡ answer → IsOwn ran answer
+pub own_answer : (ran : Ran) (answer : Status) → IsSession ran → answer ≢ statuses.SinkFault → answer ≢ statuses.NoMemory → ran.status ≡ answer → IsOwn ran answer
 own_answer ran answer (inl ending) first second e = record {
   ending = ending;
   own = told_own _ _ answer ran.before.outlet ran.after.outlet ran.status ending.told first second e;
@@ -71,6 +72,8 @@ is_work statuses.FileFault = false
 is_work statuses.FileTooLong = false
 is_work statuses.ReadFault = true
 is_work statuses.WriteFault = true
+is_work statuses.BadSettings = false
+is_work statuses.NoGood = true
 is_work statuses.SinkFault = false
 is_work statuses.NoMemory = false
 
@@ -85,8 +88,14 @@ saved_work text (area ∷ areas) [] = refl
 saved_work text (area ∷ areas) (Err fault ∷ saves) = fault_work fault
 saved_work text (area ∷ areas) (Ok made ∷ saves) = saved_work text areas saves
 
+marked_work : (place : Option ℕ) (session : Session) → is_work (ended_status session) ≡ true → is_work (ended_status (unless_unmarked place session)) ≡ true
+marked_work None session h = h
+marked_work (Some place) session h = refl
+
 worked_work : (plan : Plan) (load : LoadAnswer) (saves : List SaveAnswer) → is_work (ended_status (worked plan load saves)) ≡ true
-worked_work plan (Ok found) saves = saved_work (text_of plan.layout plan.work found) (saves_behind plan (Ok found)) saves
+worked_work plan (Ok found) saves =
+    marked_work (unmarked plan.work (loaded_area plan.layout found)) (saved (text_of plan.layout plan.work found) (saves_behind plan (Ok found)) saves)
+    (saved_work (text_of plan.layout plan.work found) (saves_behind plan (Ok found)) saves)
 worked_work plan (Err fault) saves = fault_work fault
 
 not_work : (status other : Status) → is_work status ≡ true → is_work other ≡ false → status ≢ other
@@ -97,7 +106,7 @@ plan_only : (plan : Result Plan Refusal) (answers : Answers) (answer : Status) �
 plan_only (Ok plan) answers answer other e = absurd (not_work (ended_status (worked plan answers.load answers.saves)) answer (worked_work plan answers.load answers.saves) other e)
 plan_only (Err refusal) answers answer other e = e
 
-plan_ends : (plan : Result Plan Refusal) (answers : Answers) (answer : Status) → IsRefusedWith answer plan → ended_status (followed plan answers) ≡ answer
+pub plan_ends : (plan : Result Plan Refusal) (answers : Answers) (answer : Status) → IsRefusedWith answer plan → ended_status (followed plan answers) ≡ answer
 plan_ends (Ok plan) answers answer refused = absurd refused
 plan_ends (Err refusal) answers answer refused = refused
 
@@ -110,7 +119,7 @@ refused_memory a plan is refused = sym (subst (IsRefusedWith a) is refused)
 
 -- ---- words and plans
 
-words_always : (command : Result Command ℕ) (geometry : Geometry) → IsErr command → (answers : Answers) → ended_status (followed (plan_of command geometry answers.file) answers) ≡ statuses.BadWords
+words_always : (command : Result Command ℕ) (geometry : Geometry) → IsErr command → (answers : Answers) → ended_status (followed (plan_of command geometry answers.files) answers) ≡ statuses.BadWords
 words_always (Err place) geometry refused answers = refl
 words_always (Ok command) geometry refused answers = absurd cc
 
@@ -118,20 +127,20 @@ pub bad_words_of : (ran : Ran) → IsSession ran → ComesByWords statuses.BadWo
 bad_words_of ran s = record {
   only = λ e.
       let own = own_answer ran statuses.BadWords s (λ h. cc) (λ h. cc) e in
-      words_refused (words_of ran.words) (geometry_of ran) own.ending.answers.file (plan_only (planned ran.words (geometry_of ran) own.ending.answers.file) own.ending.answers statuses.BadWords refl own.own);
+      words_refused (words_of ran.words) (geometry_of ran) own.ending.answers.files (plan_only (planned ran.words (geometry_of ran) own.ending.answers.files) own.ending.answers statuses.BadWords refl own.own);
   always = λ refused. comes_always ran statuses.BadWords s (words_always (words_of ran.words) (geometry_of ran) refused);
 }
 
 always_planned : (ran : Ran) → IsSession ran → (answer : Status) → (files : FileMap) → ran.before.folder.told ≡ Some files → IsRefusedWith answer (plan_over ran files) → (ran.status ≡ answer) ⊎ ((ran.status ≡ statuses.SinkFault) ⊎ ((ran.status ≡ statuses.NoMemory) ⊎ (ran.status ≡ statuses.FileFault)))
 always_planned ran (inr memory) answer files told refused = elim (told_cases _ statuses.NoMemory ran.before.outlet ran.after.outlet ran.status memory.told) [ inl e ↦ inr (inr (inl e)) | inr other ↦ elim other [ inl sink ↦ inr (inl sink) | inr e ↦ inr (inr (inl e)) ] ]
 always_planned ran (inl ending) answer files told refused =
-    let plan = planned ran.words (geometry_of ran) ending.answers.file in
+    let plan = planned ran.words (geometry_of ran) ending.answers.files in
     elim (told_cases _ _ ran.before.outlet ran.after.outlet ran.status ending.told) [
       | inr other ↦ elim other [ inl sink ↦ inr (inl sink) | inr e ↦ inr (inr (inl e)) ]
-      | inl own ↦ elim (same_plan ran.words (geometry_of ran) ran.before.folder ran.after.folder ending.answers.file ending.answered.filed files told) [
+      | inl own ↦ elim (same_plan ran.words (geometry_of ran) ran.before.folder ran.after.folder ending.answers.files ending.answered.filed files told) [
         | inl same ↦ inl (own ∙ plan_ends plan ending.answers answer (subst (IsRefusedWith answer) (sym same) refused))
         | inr odd ↦ elim odd [
-          | inl fault ↦ inr (inr (inr (own ∙ plan_ends plan ending.answers statuses.FileFault fault.refused)))
+          | inl fault ↦ inr (inr (inr (own ∙ plan_ends plan ending.answers statuses.FileFault fault)))
           | inr memory ↦ inr (inr (inl (own ∙ ap (λ (p : Result Plan Refusal). ended_status (followed p ending.answers)) memory)))
         ]
       ]
@@ -143,12 +152,12 @@ comes_planned ran s answer other first second third = λ files told. record {
   only = λ e.
       let own = own_answer ran answer s first second e in
       let answers = own.ending.answers in
-      let plan = planned ran.words (geometry_of ran) answers.file in
+      let plan = planned ran.words (geometry_of ran) answers.files in
       let refused = plan_only plan answers answer other own.own in
-      elim (same_plan ran.words (geometry_of ran) ran.before.folder ran.after.folder answers.file own.ending.answered.filed files told) [
+      elim (same_plan ran.words (geometry_of ran) ran.before.folder ran.after.folder answers.files own.ending.answered.filed files told) [
         | inl same ↦ subst (IsRefusedWith answer) same refused
         | inr odd ↦ elim odd [
-          | inl fault ↦ absurd (third (refused_one answer statuses.FileFault plan refused fault.refused))
+          | inl fault ↦ absurd (third (refused_one answer statuses.FileFault plan refused fault))
           | inr memory ↦ absurd (second (refused_memory answer plan memory refused))
         ]
       ];
@@ -158,14 +167,14 @@ comes_planned ran s answer other first second third = λ files told. record {
 -- and where the words name no file, over any
 pub comes_alone : (ran : Ran) → IsSession ran → (answer : Status) → is_work answer ≡ false → answer ≢ statuses.SinkFault → answer ≢ statuses.NoMemory → ComesByPlanAlone answer ran
 comes_alone ran s answer other first second = λ none files.
-    let same : (file : FileAnswer) → planned ran.words (geometry_of ran) file ≡ plan_over ran files = λ file. alone_plan (words_of ran.words) (geometry_of ran) file (file_for ran.words files) none in
+    let same : (read : FileAnswers) → planned ran.words (geometry_of ran) read ≡ plan_over ran files = λ read. alone_plan (words_of ran.words) (geometry_of ran) read (files_for ran.words files) none in
     record {
       only = λ e.
           let own = own_answer ran answer s first second e in
           let answers = own.ending.answers in
-          subst (IsRefusedWith answer) (same answers.file) (plan_only (planned ran.words (geometry_of ran) answers.file) answers answer other own.own);
+          subst (IsRefusedWith answer) (same answers.files) (plan_only (planned ran.words (geometry_of ran) answers.files) answers answer other own.own);
       always = λ refused. comes_always ran answer s
-          (λ answers. plan_ends (planned ran.words (geometry_of ran) answers.file) answers answer (subst (IsRefusedWith answer) (sym (same answers.file)) refused));
+          (λ answers. plan_ends (planned ran.words (geometry_of ran) answers.files) answers answer (subst (IsRefusedWith answer) (sym (same answers.files)) refused));
     }
 
 pub file_fault_of : (ran : Ran) → IsSession ran → ran.before.folder.faults ≤ ran.after.folder.faults → ComesByFiles statuses.FileFault ran
@@ -173,10 +182,10 @@ file_fault_of ran s later = record {
   later = later;
   rose = λ e.
       let own = own_answer ran statuses.FileFault s (λ h. cc) (λ h. cc) e in
-      let file = own.ending.answers.file in
-      let refused = plan_only (planned ran.words (geometry_of ran) file) own.ending.answers statuses.FileFault refl own.own in
-      let named = faulty_words ran.words (geometry_of ran) file (words_of ran.words) refl refused in
-      (own.ending.answered.filed.read named.command named.words_are).cause named.fault;
+      let files = own.ending.answers.files in
+      let refused = plan_only (planned ran.words (geometry_of ran) files) own.ending.answers statuses.FileFault refl own.own in
+      let named = faulty_words ran.words (geometry_of ran) files (words_of ran.words) refl refused in
+      own.ending.answered.filed.cause named.role named.name named.named named.fault;
 }
 
 planning_work : (status : Status) → is_work status ≡ true → is_planning status ≡ true → ⊥
@@ -190,6 +199,8 @@ planning_work statuses.FileFault first second = cc
 planning_work statuses.FileTooLong first second = cc
 planning_work statuses.ReadFault first second = cc
 planning_work statuses.WriteFault first second = cc
+planning_work statuses.BadSettings first second = cc
+planning_work statuses.NoGood first second = cc
 planning_work statuses.SinkFault first second = cc
 planning_work statuses.NoMemory first second = cc
 
@@ -205,7 +216,7 @@ planning_refused (Err refusal) answers h = refl
 pub unasked_of : (ran : Ran) → IsSession ran → is_planning ran.status ≡ true → ran.after.device ≡ ran.before.device
 unasked_of ran s h =
     let own = own_answer ran ran.status s (λ e. (let n : true ≡ false = sym h ∙ ap is_planning e in cc)) (λ e. (let n : true ≡ false = sym h ∙ ap is_planning e in cc)) refl in
-    unasked_by (planned ran.words (geometry_of ran) own.ending.answers.file) ran.before.device ran.after.device own.ending.answers own.ending.answered.followed (planning_refused (planned ran.words (geometry_of ran) own.ending.answers.file) own.ending.answers (ap is_planning own.own ∙ h))
+    unasked_by (planned ran.words (geometry_of ran) own.ending.answers.files) ran.before.device ran.after.device own.ending.answers own.ending.answered.followed (planning_refused (planned ran.words (geometry_of ran) own.ending.answers.files) own.ending.answers (ap is_planning own.own ∙ h))
 
 -- ---- a fault of the device
 
@@ -310,37 +321,40 @@ saved_later layout used [] saves from to saved_so = subst (λ (d : Device). (fro
 saved_later layout used (area ∷ areas) [] from to saved_so = absurd saved_so
 saved_later layout used (area ∷ areas) (answer ∷ saves) from to saved_so = (saved_so.0.runs.later.faults, saved_so.0.runs.later.read_faults)
 
-store_fault : (plan : Plan) (from to : Device) (load : LoadAnswer) (saves : List SaveAnswer) (refusal : Refusal) → IsStoreWork plan from to load saves → (worked plan load saves).refusal ≡ Some refusal → IsFault plan.layout from to refusal
-store_fault plan from to (Err fault) saves refusal work h =
+store_fault : (plan : Plan) (from to : Device) (load : LoadAnswer) (saves : List SaveAnswer) (refusal : Refusal) → is_device_fault (status_of refusal) ≡ true → IsStoreWork plan from to load saves → (worked plan load saves).refusal ≡ Some refusal → IsFault plan.layout from to refusal
+store_fault plan from to (Err fault) saves refusal device work h =
     let later = saved_later plan.layout work.used [] saves work.middle to work.saved in
     record {
       fault = fault;
       is = same_Some refusal (copy_refusal fault) (sym h);
       tells = tells_on plan.layout from work.middle to fault (load_tells plan.layout work.loaded.fails.area from work.middle fault work.loaded.fails.fails) later.0 later.1;
     }
-store_fault plan from to (Ok found) saves refusal work h =
+store_fault plan from to (Ok found) saves refusal device work h =
     let gave = work.loaded.gives in
     let fault = saves_fault plan.layout work.used (text_of plan.layout plan.work found) (saves_behind plan (Ok found)) saves work.middle to refusal work.many
-    (λ copy is. used_inside plan.layout work.used copy from work.middle found gave.area gave.loaded gave.gave (sym gave.used_is ∙ is)) work.saved h in
+    (λ copy is. used_inside plan.layout work.used copy from work.middle found gave.area gave.loaded gave.gave (sym gave.used_is ∙ is)) work.saved
+    (stored_refusal plan found saves refusal device h (unmarked plan.work (loaded_area plan.layout found)) refl) in
     record {
       fault = fault.fault;
       is = fault.is;
       tells = tells_from plan.layout from work.middle to fault.fault fault.tells work.loaded.later.faults work.loaded.later.read_faults;
     }
 
-look_fault : (layout : Laid) (text : Option (List ℕ) → List ℕ) (from to : Device) (load : LoadAnswer) (refusal : Refusal) (plan : Plan) (saves : List SaveAnswer) → plan.work ≡ Show → IsLookWork plan from to load saves → (worked plan load saves).refusal ≡ Some refusal → IsFault plan.layout from to refusal
-look_fault layout text from to (Err fault) refusal plan saves shows work h = record {
+look_fault : (layout : Laid) (text : Option (List ℕ) → List ℕ) (from to : Device) (load : LoadAnswer) (refusal : Refusal) (plan : Plan) (saves : List SaveAnswer) → is_device_fault (status_of refusal) ≡ true → plan.work ≡ Show → IsLookWork plan from to load saves → (worked plan load saves).refusal ≡ Some refusal → IsFault plan.layout from to refusal
+look_fault layout text from to (Err fault) refusal plan saves device shows work h = record {
   fault = fault;
   is = same_Some refusal (copy_refusal fault) (sym h);
   tells = look_tells plan.layout from to fault work.looked.fails (work.looked.faults.rose refl) (work.looked.read_faults.rose refl);
 }
-look_fault layout text from to (Ok found) refusal plan saves shows work h =
-    absurd (none_some refusal (sym (ap (λ (w : Work). (saved (text_of plan.layout plan.work found) (saves_of plan.layout w (loaded_area plan.layout found)) saves).refusal) shows) ∙ h))
+look_fault layout text from to (Ok found) refusal plan saves device shows work h =
+    absurd (none_some refusal (sym (ap (λ (w : Work). (saved (text_of plan.layout plan.work found) (saves_of plan.layout w (loaded_area plan.layout found)) saves).refusal) shows)
+    ∙ stored_refusal plan found saves refusal device h (unmarked plan.work (loaded_area plan.layout found)) refl))
 
-pub work_fault : (work : Work) (plan : Plan) (from to : Device) (load : LoadAnswer) (saves : List SaveAnswer) (refusal : Refusal) → plan.work ≡ work → IsWorkOf work plan from to load saves → (worked plan load saves).refusal ≡ Some refusal → IsFault plan.layout from to refusal
-work_fault Show plan from to load saves refusal is work h = look_fault plan.layout (text_of plan.layout Show) from to load refusal plan saves is work h
-work_fault (Write area) plan from to load saves refusal is work h = store_fault plan from to load saves refusal work h
-work_fault (Act actions) plan from to load saves refusal is work h = store_fault plan from to load saves refusal work h
+pub work_fault : (work : Work) (plan : Plan) (from to : Device) (load : LoadAnswer) (saves : List SaveAnswer) (refusal : Refusal) → is_device_fault (status_of refusal) ≡ true → plan.work ≡ work → IsWorkOf work plan from to load saves → (worked plan load saves).refusal ≡ Some refusal → IsFault plan.layout from to refusal
+work_fault Show plan from to load saves refusal device is work h = look_fault plan.layout (text_of plan.layout Show) from to load refusal plan saves device is work h
+work_fault (Write area) plan from to load saves refusal device is work h = store_fault plan from to load saves refusal device work h
+work_fault (Act actions) plan from to load saves refusal device is work h = store_fault plan from to load saves refusal device work h
+work_fault (Good targets) plan from to load saves refusal device is work h = store_fault plan from to load saves refusal device work h
 
 -- a session that ends so was refused by its plan, or by a fault of its device
 record IsFaulted (plan : Result Plan Refusal) (from to : Device) (session : Session) (answer : Status) : Type 0 where
@@ -355,8 +369,8 @@ some_refusal : (refused : Option Refusal) (answer : Status) → answer ≢ statu
 some_refusal None answer other e = absurd (other (sym e))
 some_refusal (Some refusal) answer other e = (refusal, (refl, e))
 
-plan_fault : (plan : Result Plan Refusal) (from to : Device) (answers : Answers) (answer : Status) → answer ≢ statuses.Done → (IsRefusedWith answer plan → ⊥) → IsFollowed plan from to answers → ended_status (followed plan answers) ≡ answer → IsFaulted plan from to (followed plan answers) answer
-plan_fault (Ok plan) from to answers answer other none work h =
+plan_fault : (plan : Result Plan Refusal) (from to : Device) (answers : Answers) (answer : Status) → answer ≢ statuses.Done → is_device_fault answer ≡ true → (IsRefusedWith answer plan → ⊥) → IsFollowed plan from to answers → ended_status (followed plan answers) ≡ answer → IsFaulted plan from to (followed plan answers) answer
+plan_fault (Ok plan) from to answers answer other device none work h =
     let some = some_refusal (worked plan answers.load answers.saves).refusal answer other h in
     record {
       planned_as = plan;
@@ -364,13 +378,13 @@ plan_fault (Ok plan) from to answers answer other none work h =
       refusal = some.0;
       refusal_is = some.1.0;
       status_is = some.1.1;
-      fault = work_fault plan.work plan from to answers.load answers.saves some.0 refl work some.1.0;
+      fault = work_fault plan.work plan from to answers.load answers.saves some.0 (ap is_device_fault some.1.1 ∙ device) refl work some.1.0;
     }
-plan_fault (Err refusal) from to answers answer other none work h = absurd (none h)
+plan_fault (Err refusal) from to answers answer other device none work h = absurd (none h)
 
-faulted : (ran : Ran) (answer : Status) → answer ≢ statuses.Done → ((plan : Result Plan Refusal) → Unit {0}) → (own : IsOwn ran answer) → (IsRefusedWith answer (planned ran.words (geometry_of ran) own.ending.answers.file) → ⊥) → IsFaulted (planned ran.words (geometry_of ran) own.ending.answers.file) ran.before.device ran.after.device (session_for ran own.ending.answers) answer
-faulted ran answer other u own none =
-    plan_fault (planned ran.words (geometry_of ran) own.ending.answers.file) ran.before.device ran.after.device own.ending.answers answer other none own.ending.answered.followed own.own
+faulted : (ran : Ran) (answer : Status) → answer ≢ statuses.Done → is_device_fault answer ≡ true → (own : IsOwn ran answer) → (IsRefusedWith answer (planned ran.words (geometry_of ran) own.ending.answers.files) → ⊥) → IsFaulted (planned ran.words (geometry_of ran) own.ending.answers.files) ran.before.device ran.after.device (session_for ran own.ending.answers) answer
+faulted ran answer other device own none =
+    plan_fault (planned ran.words (geometry_of ran) own.ending.answers.files) ran.before.device ran.after.device own.ending.answers answer other device none own.ending.answered.followed own.own
 
 read_told : (layout : Laid) (from to : Device) (fault : CopyFault) → status_of (copy_refusal fault) ≡ statuses.ReadFault → FaultTells layout from to fault → Rose from.read_faults to.read_faults
 read_told layout from to faults.ReadFault h tells = tells.1
@@ -382,7 +396,7 @@ read_fault_of ran s later = record {
   later = later;
   rose = λ e.
       let own = own_answer ran statuses.ReadFault s (λ h. cc) (λ h. cc) e in
-      let fault = faulted ran statuses.ReadFault (λ h. cc) (λ p. tt) own (plan_refusal statuses.ReadFault refl (words_of ran.words) (geometry_of ran) own.ending.answers.file) in
+      let fault = faulted ran statuses.ReadFault (λ h. cc) refl own (plan_refusal statuses.ReadFault refl (words_of ran.words) (geometry_of ran) own.ending.answers.files) in
       read_told fault.planned_as.layout ran.before.device ran.after.device fault.fault.fault (ap status_of (sym fault.fault.is) ∙ fault.status_is) fault.fault.tells;
 }
 
@@ -398,9 +412,9 @@ named_copy layout from to refusal faults.ReadFault is tells h = absurd (let n : 
 named_copy layout from to refusal (faults.WriteFault copy) is tells h = record { copy = copy; is = is; inside = tells.1; rose = tells.0 }
 named_copy layout from to refusal faults.Unsure is tells h = absurd tells
 
-write_named : (ran : Ran) (own : IsOwn ran statuses.WriteFault) → (fault : IsFaulted (planned ran.words (geometry_of ran) own.ending.answers.file) ran.before.device ran.after.device (session_for ran own.ending.answers) statuses.WriteFault) × IsNamed fault.planned_as.layout ran.before.device ran.after.device fault.refusal
+write_named : (ran : Ran) (own : IsOwn ran statuses.WriteFault) → (fault : IsFaulted (planned ran.words (geometry_of ran) own.ending.answers.files) ran.before.device ran.after.device (session_for ran own.ending.answers) statuses.WriteFault) × IsNamed fault.planned_as.layout ran.before.device ran.after.device fault.refusal
 write_named ran own =
-    let fault = faulted ran statuses.WriteFault (λ h. cc) (λ p. tt) own (plan_refusal statuses.WriteFault refl (words_of ran.words) (geometry_of ran) own.ending.answers.file) in
+    let fault = faulted ran statuses.WriteFault (λ h. cc) refl own (plan_refusal statuses.WriteFault refl (words_of ran.words) (geometry_of ran) own.ending.answers.files) in
     (fault, named_copy fault.planned_as.layout ran.before.device ran.after.device fault.refusal fault.fault.fault fault.fault.is fault.fault.tells fault.status_is)
 
 pub write_fault_of : (ran : Ran) → IsSession ran → ran.before.device.faults ≤ ran.after.device.faults → ComesByDevice statuses.WriteFault ran
@@ -452,6 +466,8 @@ refusal_memory (refusals.FileFault file) h = absurd cc
 refusal_memory (refusals.FileTooLong file) h = absurd cc
 refusal_memory refusals.ReadFault h = absurd cc
 refusal_memory (refusals.WriteFault copy) h = absurd cc
+refusal_memory (refusals.BadSettings e) h = absurd cc
+refusal_memory (refusals.NoGood place) h = absurd cc
 refusal_memory refusals.NoMemory h = refl
 
 -- the plan was refused for want of memory
@@ -470,7 +486,7 @@ pub no_memory_of : (ran : Ran) → IsSession ran → ran.status ≡ statuses.NoM
 no_memory_of ran (inr memory) e = memory
 no_memory_of ran (inl ending) e =
     let own = told_memory _ _ ran.before.outlet ran.after.outlet ran.status ending.told e in
-    let memory = plan_memory (planned ran.words (geometry_of ran) ending.answers.file) ran.before.device ran.after.device ending.answers ending.answered.followed own in
+    let memory = plan_memory (planned ran.words (geometry_of ran) ending.answers.files) ran.before.device ran.after.device ending.answers ending.answered.followed own in
     record {
       told = subst (λ (session : Session). Tells ran (sent_of session) (ended_status session)) memory.is ending.told;
       work = inl memory.unasked;
@@ -482,7 +498,7 @@ plan_sink : (plan : Result Plan Refusal) (answers : Answers) → (IsRefusedWith 
 plan_sink plan answers none = λ e. none (plan_only plan answers statuses.SinkFault refl e)
 
 session_sink : (words : List (List ℕ)) (geometry : Geometry) (answers : Answers) → ended_status (session_of words geometry answers) ≢ statuses.SinkFault
-session_sink words geometry answers = plan_sink (planned words geometry answers.file) answers (plan_refusal statuses.SinkFault refl (words_of words) geometry answers.file)
+session_sink words geometry answers = plan_sink (planned words geometry answers.files) answers (plan_refusal statuses.SinkFault refl (words_of words) geometry answers.files)
 
 cut_off : (ran : Ran) (ending : IsAnswered ran) → ran.status ≡ statuses.SinkFault → IsCutOff (sent_of (session_for ran ending.answers)) (ended_status (session_for ran ending.answers)) ran.before.outlet ran.after.outlet ran.status
 cut_off ran ending e = told_front _ _ ran.before.outlet ran.after.outlet ran.status ending.told (session_sink ran.words (geometry_of ran) ending.answers) e
@@ -512,11 +528,26 @@ fault_memory faults.ReadFault = refl
 fault_memory (faults.WriteFault copy) = refl
 fault_memory faults.Unsure = refl
 
--- a refusal whose line takes memory is that of a plan
+-- no line of a refusal behind a call of the device takes memory
+saved_memory : (text : List ℕ) (areas : List (List ℕ)) (saves : List SaveAnswer) (refusal : Refusal) → (saved text areas saves).refusal ≡ Some refusal → takes_memory refusal ≡ false
+saved_memory text [] saves refusal h = absurd (none_some refusal h)
+saved_memory text (area ∷ areas) [] refusal h = absurd (none_some refusal h)
+saved_memory text (area ∷ areas) (Err fault ∷ saves) refusal h = ap takes_memory (same_Some refusal (copy_refusal fault) (sym h)) ∙ fault_memory fault
+saved_memory text (area ∷ areas) (Ok made ∷ saves) refusal h = saved_memory text areas saves refusal h
+
+unmarked_memory : (place : Option ℕ) (text : List ℕ) (areas : List (List ℕ)) (saves : List SaveAnswer) (refusal : Refusal) → (unless_unmarked place (saved text areas saves)).refusal ≡ Some refusal → takes_memory refusal ≡ false
+unmarked_memory None text areas saves refusal h = saved_memory text areas saves refusal h
+unmarked_memory (Some place) text areas saves refusal h = ap takes_memory (same_Some refusal (refusals.NoGood place) (sym h))
+
+worked_memory : (plan : Plan) (load : LoadAnswer) (saves : List SaveAnswer) (refusal : Refusal) → (worked plan load saves).refusal ≡ Some refusal → takes_memory refusal ≡ false
+worked_memory plan (Err fault) saves refusal h = ap takes_memory (same_Some refusal (copy_refusal fault) (sym h)) ∙ fault_memory fault
+worked_memory plan (Ok found) saves refusal h =
+    unmarked_memory (unmarked plan.work (loaded_area plan.layout found)) (text_of plan.layout plan.work found) (saves_behind plan (Ok found)) saves refusal h
+
+-- so a refusal whose line takes memory is that of a plan
 lined_plan : (plan : Result Plan Refusal) (from to : Device) (answers : Answers) (refusal : Refusal) → takes_memory refusal ≡ true → IsFollowed plan from to answers → (followed plan answers).refusal ≡ Some refusal → to ≡ from
 lined_plan (Ok plan) from to answers refusal takes work h =
-    let fault = work_fault plan.work plan from to answers.load answers.saves refusal refl work h in
-    absurd (let e : false ≡ true = sym (fault_memory fault.fault) ∙ ap takes_memory (sym fault.is) ∙ takes in cc)
+    absurd (let e : false ≡ true = sym (worked_memory plan answers.load answers.saves refusal h) ∙ takes in cc)
 lined_plan (Err other) from to answers refusal takes work h = work
 
 ok_err : {X Y : Type 0} → (x : X) (y : Y) → ◌≡◌ {A = Result X Y} (Ok x) (Err y) → ⊥
@@ -545,7 +576,7 @@ refused ran refusal (inl given) (inl told) =
     })
 refused ran refusal (inl given) (inr memory) = inr (record {
   told = memory.1;
-  work = inl (lined_plan (planned ran.words (geometry_of ran) given.answers.file) ran.before.device ran.after.device given.answers refusal memory.0 given.answered.followed given.gives.1);
+  work = inl (lined_plan (planned ran.words (geometry_of ran) given.answers.files) ran.before.device ran.after.device given.answers refusal memory.0 given.answered.followed given.gives.1);
 })
 refused ran refusal (inr (inl given)) told = inr (record {
   told = memory_told ran refusal (err_same refusal refusals.NoMemory given.is) told;

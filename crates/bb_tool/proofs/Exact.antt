@@ -28,7 +28,7 @@ use Rattle.bb_tool.specs.Copying.{MakesAlike, WritesExactly}
 use Rattle.bb_tool.specs.Ending.{IsFollowed}
 use Rattle.bb_tool.specs.Exactly.{EndsAlike, LeavesExactly, LeavesRegions, PassAlike, is_fresh, last_area, last_of, loaded_region, saved_region, stored_region, worked_region}
 use Rattle.bb_tool.specs.Looking.{first_found, passed_in}
-use Rattle.bb_tool.specs.Plan.{Act, Plan, Show, Work, Write, planned}
+use Rattle.bb_tool.specs.Plan.{Act, Good, Plan, Show, Work, Write, planned}
 use Rattle.bb_tool.specs.Ran.{Ran}
 use Rattle.bb_tool.specs.Session.{Answers, LoadAnswer, SaveAnswer, all_made, saves_behind, worked}
 use Rattle.bb_tool.specs.Work.{AreSaved, IsFound, IsLoadedAs, IsStoreWork, IsWork, IsWorkOf, taken}
@@ -306,6 +306,9 @@ module _ (plan : Plan) (from to : Device) (saves : List SaveAnswer) (calm : IsUn
   work_done (Act actions) load work held =
       let done = store_done load work held in
       record { left = done.left; alike = done.alike }
+  work_done (Good targets) load work held =
+      let done = store_done load work held in
+      record { left = done.left; alike = done.alike }
 
 plan_done : (plan : Plan) (from to : Device) (load : LoadAnswer) (saves : List SaveAnswer) →
     IsWork plan from to load saves → IsUndisturbed from to → (x z : Image) →
@@ -329,10 +332,10 @@ alike_by (Ok plan) from to answers done calm = λ x e z f.
 
 pub written_of : (ran : Ran) → IsSession ran → WritesExactly ran
 written_of ran session = λ calm answers answered.
-    left_by (planned ran.words (geometry_of ran) answers.file) ran.before.device ran.after.device
+    left_by (planned ran.words (geometry_of ran) answers.files) ran.before.device ran.after.device
     answers answered.followed calm
 
 pub alike_of : (ran : Ran) → IsSession ran → MakesAlike ran
 alike_of ran session = λ calm answers answered.
-    alike_by (planned ran.words (geometry_of ran) answers.file) ran.before.device ran.after.device
+    alike_by (planned ran.words (geometry_of ran) answers.files) ran.before.device ran.after.device
     answers answered.followed calm

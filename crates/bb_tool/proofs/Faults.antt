@@ -1,5 +1,5 @@
 -- Why a session says that it couldn't read the device, or write a copy.
-use Rattle.std.proofs.Common.{◌≡◌, ℕ, suc, ◌-◌, ◌≤◌, List, [], ◌∷◌, length, Option, Some, None, Result, Ok, Err, refl, sym, ap, subst, ◌∙◌, inl, inr, arith}
+use Rattle.std.proofs.Common.{◌≡◌, ℕ, suc, ◌-◌, ◌≤◌, true, List, [], ◌∷◌, length, Option, Some, None, Result, Ok, Err, refl, sym, ap, subst, ◌∙◌, inl, inr, arith}
 use Rattle.std.specs.Option.{option_map}
 use Rattle.std.specs.Prelude.{Contains, slice_get, option_and_then}
 use Rattle.std.proofs.lemmas.Option.{same_Some, slice_get-map}
@@ -22,10 +22,10 @@ use Rattle.bb_tool.specs.Calls.{IsSession, geometry_of}
 use Rattle.bb_tool.specs.Copying.{KnowsWriteFaults, LeavesUnread}
 use Rattle.bb_tool.specs.Ending.{IsFollowed}
 use Rattle.bb_tool.specs.Looking.{first_found, passed_in}
-use Rattle.bb_tool.specs.Plan.{Act, Plan, Show, Work, Write, planned}
+use Rattle.bb_tool.specs.Plan.{Act, Good, Plan, Show, Work, Write, planned}
 use Rattle.bb_tool.specs.Ran.{Ran}
-use Rattle.bb_tool.specs.Refusal.{copy_refusal}
-use Rattle.bb_tool.specs.Session.{Answers, LoadAnswer, SaveAnswer, followed, loaded_area, saved, saves_behind, saves_of, text_of, worked}
+use Rattle.bb_tool.specs.Refusal.{copy_refusal, status_of}
+use Rattle.bb_tool.specs.Session.{Answers, LoadAnswer, SaveAnswer, followed, loaded_area, saved, saves_behind, saves_of, text_of, unmarked, worked}
 use Rattle.bb_tool.specs.Work.{AreSaved, IsLoaded, IsSaved, IsStoreWork, IsWorkOf, taken}
 use Rattle.bb_tool.specs.WriteFault.{IsWanted, IsWriteFault}
 use Rattle.bb_tool.specs.declared.refusal.Refusal.{Refusal}
@@ -33,6 +33,7 @@ use Rattle.bb_tool.specs.declared.refusal.Refusal.TheVariants as refusals
 use Rattle.bb_tool.proofs.Endings.{copies_are, get_inside, none_some, rose_from}
 use Rattle.bb_tool.proofs.Exact.{quiet_content}
 use Rattle.bb_tool.proofs.Kept.{found_first}
+use Rattle.bb_tool.proofs.Unmarked.{is_device_fault, stored_refusal}
 
 -- ---- counts and lists
 
@@ -218,9 +219,10 @@ saves_explain plan used from mid to found text (area ∷ (other ∷ areas)) (Ok 
     absurd (let e = done.1.0 in cc)
 
 store_explains : (plan : Plan) (from to : Device) (load : LoadAnswer) (saves : List SaveAnswer)
-    (refusal : Refusal) → IsStoreWork plan from to load saves →
-    (worked plan load saves).refusal ≡ Some refusal → IsExplained plan from to load refusal
-store_explains plan from to (Err fault) saves refusal work h = record {
+    (refusal : Refusal) → is_device_fault (status_of refusal) ≡ true →
+    IsStoreWork plan from to load saves → (worked plan load saves).refusal ≡ Some refusal →
+    IsExplained plan from to load refusal
+store_explains plan from to (Err fault) saves refusal device work h = record {
   fault = fault;
   is = same_Some refusal (copy_refusal fault) (sym h);
   explains =
@@ -228,9 +230,11 @@ store_explains plan from to (Err fault) saves refusal work h = record {
       (subst (λ (d : Device). IsLoaded plan.layout work.used from d (Err fault)) (sym work.saved.1)
       work.loaded);
 }
-store_explains plan from to (Ok found) saves refusal work h =
+store_explains plan from to (Ok found) saves refusal device work h =
     saves_explain plan work.used from work.middle to found (text_of plan.layout plan.work found)
-    (saves_behind plan (Ok found)) saves refusal refl work.loaded work.saved h
+    (saves_behind plan (Ok found)) saves refusal refl work.loaded work.saved
+    (stored_refusal plan found saves refusal device h
+    (unmarked plan.work (loaded_area plan.layout found)) refl)
 
 look_explains : (plan : Plan) (from to : Device) (load : LoadAnswer) (fault : CopyFault) →
     fault ≡ faults.ReadFault → content to ≡ content from → Explains plan from to load fault
@@ -238,25 +242,29 @@ look_explains plan from to load fault is same =
     subst (Explains plan from to load) (sym is) same
 
 work_explains : (work : Work) (plan : Plan) (from to : Device) (load : LoadAnswer)
-    (saves : List SaveAnswer) (refusal : Refusal) → plan.work ≡ work →
-    IsWorkOf work plan from to load saves → (worked plan load saves).refusal ≡ Some refusal →
-    IsExplained plan from to load refusal
-work_explains Show plan from to (Err fault) saves refusal is work h = record {
+    (saves : List SaveAnswer) (refusal : Refusal) → is_device_fault (status_of refusal) ≡ true →
+    plan.work ≡ work → IsWorkOf work plan from to load saves →
+    (worked plan load saves).refusal ≡ Some refusal → IsExplained plan from to load refusal
+work_explains Show plan from to (Err fault) saves refusal device is work h = record {
   fault = fault;
   is = same_Some refusal (copy_refusal fault) (sym h);
   explains =
       look_explains plan from to (Err fault) fault work.looked.fails
       (quiet_content from to work.looked.quiet.told);
 }
-work_explains Show plan from to (Ok found) saves refusal is work h =
+work_explains Show plan from to (Ok found) saves refusal device is work h =
     absurd
     (none_some refusal
     (sym (ap (λ (w : Work). (saved (text_of plan.layout plan.work found)
-    (saves_of plan.layout w (loaded_area plan.layout found)) saves).refusal) is) ∙ h))
-work_explains (Write area) plan from to load saves refusal is work h =
-    store_explains plan from to load saves refusal work h
-work_explains (Act actions) plan from to load saves refusal is work h =
-    store_explains plan from to load saves refusal work h
+    (saves_of plan.layout w (loaded_area plan.layout found)) saves).refusal) is)
+    ∙ stored_refusal plan found saves refusal device h
+    (unmarked plan.work (loaded_area plan.layout found)) refl))
+work_explains (Write area) plan from to load saves refusal device is work h =
+    store_explains plan from to load saves refusal device work h
+work_explains (Act actions) plan from to load saves refusal device is work h =
+    store_explains plan from to load saves refusal device work h
+work_explains (Good targets) plan from to load saves refusal device is work h =
+    store_explains plan from to load saves refusal device work h
 
 -- ---- in the words of a call
 
@@ -281,12 +289,12 @@ read_by : (plan : Result Plan Refusal) (from to : Device) (answers : Answers) �
     (followed plan answers).refusal ≡ Some refusals.ReadFault → content to ≡ content from
 read_by (Err refusal) from to answers done h = ap content done
 read_by (Ok plan) from to answers done h =
-    let is = work_explains plan.work plan from to answers.load answers.saves refusals.ReadFault refl done h in
+    let is = work_explains plan.work plan from to answers.load answers.saves refusals.ReadFault refl refl done h in
     read_fault plan from to answers.load is.fault is.is is.explains
 
 pub unread_of : (ran : Ran) → IsSession ran → LeavesUnread ran
 unread_of ran session = λ answers answered h.
-    read_by (planned ran.words (geometry_of ran) answers.file) ran.before.device ran.after.device
+    read_by (planned ran.words (geometry_of ran) answers.files) ran.before.device ran.after.device
     answers answered.followed h
 
 write_by : (given : Result Plan Refusal) (plan : Plan) (from to : Device) (answers : Answers) →
@@ -296,11 +304,11 @@ write_by : (given : Result Plan Refusal) (plan : Plan) (from to : Device) (answe
 write_by (Err refusal) plan from to answers is done copy h = absurd cc
 write_by (Ok other) plan from to answers is done copy h =
     let same : other ≡ plan = cc in
-    let why = work_explains other.work other from to answers.load answers.saves (refusals.WriteFault copy) refl done h in
+    let why = work_explains other.work other from to answers.load answers.saves (refusals.WriteFault copy) refl refl done h in
     subst (λ (p : Plan). IsWriteFault p from to answers.load copy) same
     (write_fault other from to answers.load why.fault copy why.is why.explains)
 
 pub write_faults_of : (ran : Ran) → IsSession ran → KnowsWriteFaults ran
 write_faults_of ran session answers plan answered is =
-    write_by (planned ran.words (geometry_of ran) answers.file) plan ran.before.device
+    write_by (planned ran.words (geometry_of ran) answers.files) plan ran.before.device
     ran.after.device answers is answered.followed

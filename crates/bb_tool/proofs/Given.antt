@@ -1,6 +1,10 @@
 -- What a session gave before anything was sent: each way in which its steps end, as answers of the file and the device.
 use Rattle.std.proofs.Common.{◌≡◌, ◌≢◌, ◌⊎◌, ℕ, List, [], None, Result, Ok, Err, refl, sym, ap, subst, ◌∙◌, inl, inr}
-use Rattle.bb_base.specs.Folder.{Folder}
+use Rattle.std.specs.Option.{ForSome}
+use Rattle.bb_base.specs.Faults.{Rose}
+use Rattle.bb_base.specs.Folder.{Folder, file_of}
+use Rattle.bb_base.specs.declared.files.FileFail.TheVariants.{Fault, NoMemory as FileMemory}
+use Rattle.bb_chooser.specs.Binding.{Binding}
 use Rattle.bb_flash.specs.Device.{Device}
 use Rattle.bb_layout.specs.Layout.{Laid}
 use Rattle.bb_layout.specs.Thirds.{raw_layout}
@@ -9,31 +13,34 @@ use Rattle.bb_layout.specs.declared.layout_error.LayoutError.TheVariants as layo
 use Rattle.bb_words.specs.Answer.{Refuses}
 use Rattle.bb_words.specs.Words.{words_of}
 use Rattle.bb_words.specs.declared.command.Command.{Command}
-use Rattle.bb_words.specs.declared.command.Command.TheVariants.{Raw, State}
+use Rattle.bb_words.specs.declared.command.Command.TheVariants.{Raw, State, MarkGood}
+use Rattle.bb_words.specs.declared.command.MarkGoodCommand.{MarkGoodCommand}
 use Rattle.bb_words.specs.declared.command.RawCommand.{RawCommand}
 use Rattle.bb_words.specs.declared.command.StateCommand.{StateCommand}
 use Rattle.bb_words.specs.declared.error.WordsError.{WordsError}
 use Rattle.bb_words.specs.declared.error.WordsError.TheVariants.{BadWord, NoMemory}
 use Rattle.bb_tool.specs.Ending.{IsAnswer, IsFollowed, IsGiven}
-use Rattle.bb_tool.specs.Filing.{IsFiled, IsFileRead}
-use Rattle.bb_tool.specs.Plan.{Act, FileAnswer, Plan, Work, plan_of, planned, raw_laid, raw_work, state_plan}
+use Rattle.bb_tool.specs.Filing.{IsAnswerFor, IsFiled, IsFileRead, IsFolderLater}
+use Rattle.bb_tool.specs.Plan.{Act, FileAnswer, FileAnswers, Good, Plan, Role, Settings, Tree, Work, mark_plan, name_for, plan_of, planned, raw_laid, raw_work, state_plan}
 use Rattle.bb_tool.specs.Refusal.{layout_refusal, words_refusal}
 use Rattle.bb_tool.specs.Session.{Answers, followed}
 use Rattle.bb_tool.specs.Work.{Gives, IsWorkedOut}
 use Rattle.bb_tool.specs.declared.refusal.Refusal.{Refusal}
 use Rattle.bb_tool.specs.declared.refusal.Refusal.TheVariants as refusals
+use Rattle.bb_tool.proofs.Endings.{rose_from, rose_on}
+use Rattle.bb_tool.proofs.Plans.{each_of_mark, each_of_state}
 
-no_answers : FileAnswer → Answers
-no_answers file = record { file = file; load = Ok None; saves = [] }
+no_answers : FileAnswers → Answers
+no_answers files = record { files = files; load = Ok None; saves = [] }
 
 -- nothing was asked of the device, since the plan was refused
-given_refused : (words : List (List ℕ)) (folder folder' : Folder) (file : FileAnswer) (device : Device)
-    (refusal : Refusal) → IsFiled words folder folder' file →
-    planned words device.geometry file ≡ Err refusal →
+given_refused : (words : List (List ℕ)) (folder folder' : Folder) (files : FileAnswers) (device : Device)
+    (refusal : Refusal) → IsFiled words folder folder' files →
+    planned words device.geometry files ≡ Err refusal →
     IsAnswer words folder folder' device device (Err refusal)
 unfolding no_answers
-given_refused words folder folder' file device refusal filed refused =
-    let answers = no_answers file in
+given_refused words folder folder' files device refusal filed refused =
+    let answers = no_answers files in
     record {
       answers = answers;
       answered = record {
@@ -48,10 +55,16 @@ given_refused words folder folder' file device refusal filed refused =
     }
 
 -- words that name no file
-no_file : (words : List (List ℕ)) (folder folder' : Folder) (answer : FileAnswer) →
-    ((command : StateCommand) → words_of words ≢ Ok (State command)) →
-    IsFiled words folder folder' answer
-no_file words folder folder' answer none = record { read = λ command is. absurd (none command is) }
+unnamed : Role → FileAnswer
+unnamed role = Ok None
+
+no_file : (words : List (List ℕ)) (folder : Folder) (files : FileAnswers) →
+    ((role : Role) → name_for (words_of words) role ≡ None) → IsFiled words folder folder files
+no_file words folder files none = record {
+  told = λ role name is. absurd (let e = sym (none role) ∙ is in cc);
+  cause = λ role name is. absurd (let e = sym (none role) ∙ is in cc);
+  calm = λ each. refl;
+}
 
 no_memory : (words : List (List ℕ)) (folder folder' : Folder) (device : Device)
     (given : Result (List ℕ) Refusal) → given ≡ Err refusals.NoMemory →
@@ -63,16 +76,16 @@ pub given_words : (words : List (List ℕ)) (folder : Folder) (device : Device) 
     Refuses (words_of words) error →
     IsGiven words folder folder device device (Err (words_refusal error))
 given_words words folder device (BadWord place) refused =
-    inl (given_refused words folder folder (Ok None) device (refusals.BadWords place)
-    (no_file words folder folder (Ok None) (λ command is. let e = sym refused ∙ is in cc))
-    (ap (λ (w : Result Command ℕ). plan_of w device.geometry (Ok None)) refused))
+    inl (given_refused words folder folder unnamed device (refusals.BadWords place)
+    (no_file words folder unnamed (λ role. ap (λ (w : Result Command ℕ). name_for w role) refused))
+    (ap (λ (w : Result Command ℕ). plan_of w device.geometry unnamed) refused))
 given_words words folder device NoMemory refused =
     no_memory words folder folder device (Err refusals.NoMemory) refl
 
 raw_no_file : (words : List (List ℕ)) (folder : Folder) (command : RawCommand) →
-    words_of words ≡ Ok (Raw command) → IsFiled words folder folder (Ok None)
+    words_of words ≡ Ok (Raw command) → IsFiled words folder folder unnamed
 raw_no_file words folder command is =
-    no_file words folder folder (Ok None) (λ other that. let e = sym is ∙ that in cc)
+    no_file words folder unnamed (λ role. ap (λ (w : Result Command ℕ). name_for w role) is)
 
 -- a layout is refused with its own refusal, or memory is
 layout_cases : (e : LayoutError) →
@@ -105,20 +118,20 @@ given_layout words folder device command e is refused = elim (layout_cases e) [
   | inr other ↦
       inl
       (subst (λ (r : Refusal). IsAnswer words folder folder device device (Err r)) (sym other.1)
-      (given_refused words folder folder (Ok None) device (refusals.BadLayout e)
+      (given_refused words folder folder unnamed device (refusals.BadLayout e)
       (raw_no_file words folder command is)
-      (ap (λ (w : Result Command ℕ). plan_of w device.geometry (Ok None)) is
+      (ap (λ (w : Result Command ℕ). plan_of w device.geometry unnamed) is
       ∙ ap (raw_laid command) (refused other.0))))
 ]
 
 -- the work of a plan was done, or memory was refused before it or behind it
-given_worked : (words : List (List ℕ)) (folder folder' : Folder) (file : FileAnswer)
+given_worked : (words : List (List ℕ)) (folder folder' : Folder) (files : FileAnswers)
     (before after : Device) (layout : Laid) (work : Work) (given : Result (List ℕ) Refusal) →
-    IsFiled words folder folder' file →
-    planned words before.geometry file ≡ Ok (record { layout = layout; work = work }) →
+    IsFiled words folder folder' files →
+    planned words before.geometry files ≡ Ok (record { layout = layout; work = work }) →
     IsWorkedOut layout work before after given → IsGiven words folder folder' before after given
-given_worked words folder folder' file before after layout work given filed is (inl done) =
-    let answers : Answers = record { file = file; load = done.load; saves = done.saves } in
+given_worked words folder folder' files before after layout work given filed is (inl done) =
+    let answers : Answers = record { files = files; load = done.load; saves = done.saves } in
     inl (record {
       answers = answers;
       answered = record {
@@ -130,8 +143,8 @@ given_worked words folder folder' file before after layout work given filed is (
       gives =
           subst (λ (p : Result Plan Refusal). Gives (followed p answers) given) (sym is) done.gives;
     })
-given_worked words folder folder' file before after layout work given filed is (inr (inl text)) =
-    let answers : Answers = record { file = file; load = text.load; saves = text.saves } in
+given_worked words folder folder' files before after layout work given filed is (inr (inl text)) =
+    let answers : Answers = record { files = files; load = text.load; saves = text.saves } in
     inr (inl (record {
       answers = answers;
       answered = record {
@@ -141,11 +154,10 @@ given_worked words folder folder' file before after layout work given filed is (
             text.work;
       };
       whole =
-          subst (λ (p : Result Plan Refusal). (followed p answers).refusal ≡ None) (sym is)
-          text.whole;
+          ap (λ (p : Result Plan Refusal). (followed p answers).refusal) is ∙ text.whole;
       is = text.is;
     }))
-given_worked words folder folder' file before after layout work given filed is (inr (inr memory)) =
+given_worked words folder folder' files before after layout work given filed is (inr (inr memory)) =
     inr (inr memory)
 
 -- the work of `raw` was done
@@ -155,47 +167,152 @@ pub given_raw : (words : List (List ℕ)) (folder : Folder) (before after : Devi
     raw_layout command.magic command.area_len before.geometry ≡ Ok layout →
     IsWorkedOut layout work before after given → IsGiven words folder folder before after given
 given_raw words folder before after command layout work given is action laid worked =
-    given_worked words folder folder (Ok None) before after layout work given
+    given_worked words folder folder unnamed before after layout work given
     (raw_no_file words folder command is)
-    (ap (λ (w : Result Command ℕ). plan_of w before.geometry (Ok None)) is
+    (ap (λ (w : Result Command ℕ). plan_of w before.geometry unnamed) is
     ∙ ap (raw_laid command) laid
     ∙ ap (λ (w : Work). Ok (record { layout = layout; work = w })) action)
     worked
 
+-- ---- commands that read files
+
 state_filed : (words : List (List ℕ)) (folder folder' : Folder) (command : StateCommand)
-    (file : FileAnswer) → words_of words ≡ Ok (State command) →
-    IsFileRead command.file folder folder' file → IsFiled words folder folder' file
-state_filed words folder folder' command file is read = record {
-  read = λ other that.
-      let e = sym is ∙ that in
-      let same : command ≡ other = cc in
-      subst (λ (c : StateCommand). IsFileRead c.file folder folder' file) same read;
+    (tree : FileAnswer) → words_of words ≡ Ok (State command) →
+    IsFileRead command.file folder folder' tree → IsFiled words folder folder' (λ role. tree)
+state_filed words folder folder' command tree is read = record {
+  told =
+      each_of_state words command is
+      (λ role name. ForSome folder.told (λ files. IsAnswerFor tree (file_of files name))) read.told;
+  cause =
+      each_of_state words command is
+      (λ role name. tree ≡ Err Fault → Rose folder.faults folder'.faults) read.cause;
+  calm = λ each. read.calm (each Tree command.file (ap (λ (w : Result Command ℕ). name_for w Tree) is));
 }
 
 -- the file, its tree, its layout or a variable was refused
 pub given_state_refused : (words : List (List ℕ)) (folder folder' : Folder) (device : Device)
-    (command : StateCommand) (file : FileAnswer) (refusal : Refusal) →
-    words_of words ≡ Ok (State command) → IsFileRead command.file folder folder' file →
-    state_plan command device.geometry file ≡ Err refusal →
+    (command : StateCommand) (tree : FileAnswer) (refusal : Refusal) →
+    words_of words ≡ Ok (State command) → IsFileRead command.file folder folder' tree →
+    state_plan command device.geometry tree ≡ Err refusal →
     IsGiven words folder folder' device device (Err refusal)
-given_state_refused words folder folder' device command file refusal is read refused =
+given_state_refused words folder folder' device command tree refusal is read refused =
     inl
-    (given_refused words folder folder' file device refusal
-    (state_filed words folder folder' command file is read)
-    (ap (λ (w : Result Command ℕ). plan_of w device.geometry file) is ∙ refused))
+    (given_refused words folder folder' (λ role. tree) device refusal
+    (state_filed words folder folder' command tree is read)
+    (ap (λ (w : Result Command ℕ). plan_of w device.geometry (λ role. tree)) is ∙ refused))
 
 -- the actions of `state` were done
 pub given_acted : (words : List (List ℕ)) (folder folder' : Folder) (before after : Device)
-    (command : StateCommand) (file : FileAnswer) (layout : Laid) (given : Result (List ℕ) Refusal) →
-    words_of words ≡ Ok (State command) → IsFileRead command.file folder folder' file →
-    state_plan command before.geometry file
+    (command : StateCommand) (tree : FileAnswer) (layout : Laid) (given : Result (List ℕ) Refusal) →
+    words_of words ≡ Ok (State command) → IsFileRead command.file folder folder' tree →
+    state_plan command before.geometry tree
     ≡ Ok (record { layout = layout; work = Act command.actions }) →
     IsWorkedOut layout (Act command.actions) before after given →
     IsGiven words folder folder' before after given
-given_acted words folder folder' before after command file layout given is read plans worked =
-    given_worked words folder folder' file before after layout (Act command.actions) given
-    (state_filed words folder folder' command file is read)
-    (ap (λ (w : Result Command ℕ). plan_of w before.geometry file) is ∙ plans) worked
+given_acted words folder folder' before after command tree layout given is read plans worked =
+    given_worked words folder folder' (λ role. tree) before after layout (Act command.actions) given
+    (state_filed words folder folder' command tree is read)
+    (ap (λ (w : Result Command ℕ). plan_of w before.geometry (λ role. tree)) is ∙ plans) worked
+
+-- the devicetree and the settings were read
+both_read : FileAnswer → FileAnswer → Role → FileAnswer
+both_read tree settings Tree = tree
+both_read tree settings Settings = settings
+
+module _ (words : List (List ℕ)) (command : MarkGoodCommand)
+    (is : words_of words ≡ Ok (MarkGood command)) where
+  named_so : (role : Role) →
+      name_for (words_of words) role ≡ name_for (Ok (MarkGood command)) role
+  named_so role = ap (λ (w : Result Command ℕ). name_for w role) is
+
+  unset_filed : (folder folder' : Folder) (tree : FileAnswer) →
+      IsFileRead command.file folder folder' tree →
+      IsFiled words folder folder' (both_read tree (Err FileMemory))
+  unfolding both_read
+  unset_filed folder folder' tree read = record {
+    told =
+        each_of_mark words command is
+        (λ role name.
+        ForSome folder.told
+        (λ files. IsAnswerFor (both_read tree (Err FileMemory) role) (file_of files name)))
+        read.told (λ files told. tt);
+    cause =
+        each_of_mark words command is
+        (λ role name.
+        both_read tree (Err FileMemory) role ≡ Err Fault → Rose folder.faults folder'.faults)
+        read.cause (λ e. absurd cc);
+    calm = λ each. absurd (let h = each Settings command.settings (named_so Settings) in cc);
+  }
+
+  set_filed : (folder mid folder' : Folder) (tree settings : FileAnswer) →
+      IsFileRead command.file folder mid tree → IsFolderLater folder mid →
+      IsFileRead command.settings mid folder' settings → IsFolderLater mid folder' →
+      IsFiled words folder folder' (both_read tree settings)
+  unfolding both_read
+  set_filed folder mid folder' tree settings first early second late = record {
+    told =
+        each_of_mark words command is
+        (λ role name.
+        ForSome folder.told
+        (λ files. IsAnswerFor (both_read tree settings role) (file_of files name)))
+        first.told
+        (subst (λ t. ForSome t (λ files. IsAnswerFor settings (file_of files command.settings)))
+        early.told second.told);
+    cause =
+        each_of_mark words command is
+        (λ role name.
+        both_read tree settings role ≡ Err Fault → Rose folder.faults folder'.faults)
+        (λ e. rose_on folder.faults mid.faults folder'.faults (first.cause e) late.faults)
+        (λ e. rose_from folder.faults mid.faults folder'.faults early.faults (second.cause e));
+    calm = λ each.
+        second.calm (each Settings command.settings (named_so Settings))
+        ∙ first.calm (each Tree command.file (named_so Tree));
+  }
+
+  -- the file of the state was refused, its tree or its layout
+  pub given_unset : (folder folder' : Folder) (device : Device) (tree : FileAnswer)
+      (refusal : Refusal) → IsFileRead command.file folder folder' tree →
+      ((settings : FileAnswer) → mark_plan command device.geometry tree settings ≡ Err refusal) →
+      IsGiven words folder folder' device device (Err refusal)
+  unfolding both_read
+  given_unset folder folder' device tree refusal read refused =
+      inl
+      (given_refused words folder folder' (both_read tree (Err FileMemory)) device refusal
+      (unset_filed folder folder' tree read)
+      (ap (λ (w : Result Command ℕ).
+      plan_of w device.geometry (both_read tree (Err FileMemory))) is
+      ∙ refused (Err FileMemory)))
+
+  module _ (folder mid folder' : Folder) (tree settings : FileAnswer)
+      (first : IsFileRead command.file folder mid tree) (early : IsFolderLater folder mid)
+      (second : IsFileRead command.settings mid folder' settings)
+      (late : IsFolderLater mid folder') where
+    -- the file of the settings was refused, its text or what it is bound to
+    pub given_misset : (device : Device) (refusal : Refusal) →
+        mark_plan command device.geometry tree settings ≡ Err refusal →
+        IsGiven words folder folder' device device (Err refusal)
+    unfolding both_read
+    given_misset device refusal refused =
+        inl
+        (given_refused words folder folder' (both_read tree settings) device refusal
+        (set_filed folder mid folder' tree settings first early second late)
+        (ap (λ (w : Result Command ℕ). plan_of w device.geometry (both_read tree settings)) is
+        ∙ refused))
+
+    -- the work of `mark-good` was done
+    pub given_marked : (before after : Device) (layout : Laid) (targets : Binding)
+        (given : Result (List ℕ) Refusal) →
+        mark_plan command before.geometry tree settings
+        ≡ Ok (record { layout = layout; work = Good targets }) →
+        IsWorkedOut layout (Good targets) before after given →
+        IsGiven words folder folder' before after given
+    unfolding both_read
+    given_marked before after layout targets given plans worked =
+        given_worked words folder folder' (both_read tree settings) before after layout
+        (Good targets) given (set_filed folder mid folder' tree settings first early second late)
+        (ap (λ (w : Result Command ℕ). plan_of w before.geometry (both_read tree settings)) is
+        ∙ plans)
+        worked
 
 -- memory was refused before any call of the device
 pub given_no_memory : (words : List (List ℕ)) (folder folder' : Folder) (device : Device)

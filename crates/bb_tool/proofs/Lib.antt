@@ -11,9 +11,11 @@ pub mod Plans
 pub mod Quiet
 mod Regions
 pub mod Sources
+pub mod Tables
 pub mod Tellable
 pub mod Told
 pub mod Turns
+pub mod Unmarked
 pub mod Wholes
 pub mod Worked
 pub mod Works

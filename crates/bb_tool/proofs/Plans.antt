@@ -1,60 +1,137 @@
 -- What a session's plan can be, and of which words and files it comes.
-use Rattle.std.proofs.Common.{◌≡◌, ◌⊎◌, ℕ, Bool, true, false, List, Option, Some, None, Result, Ok, Err, IsErr, refl, sym, ap, ◌∙◌, inl, inr}
-use Rattle.bb_base.specs.Folder.{FileMap, Folder}
+use Rattle.std.proofs.Common.{◌≡◌, ◌≢◌, ◌⊎◌, ℕ, Bool, true, false, List, Option, Some, None, Result, Ok, Err, IsErr, IsOk, IfErr, refl, sym, ap, subst, ◌∙◌, inl, inr}
+use Rattle.std.proofs.lemmas.Option.{same_Some}
+use Rattle.bb_base.specs.Folder.{FileMap, Folder, file_of}
 use Rattle.bb_base.specs.declared.files.FileFail.TheVariants as file_fails
+use Rattle.bb_chooser.specs.Binding.{Binding}
+use Rattle.bb_chooser.specs.declared.settings_error.SettingsError.{SettingsError}
 use Rattle.bb_dts.specs.Source.{Read, source_of}
 use Rattle.bb_dts.specs.declared.error.DtsError.{DtsError}
 use Rattle.bb_flash.specs.declared.geometry.Geometry.{Geometry}
 use Rattle.bb_layout.specs.Layout.{Laid, layout_from}
+use Rattle.bb_layout.specs.Results.{result_and_then}
 use Rattle.bb_layout.specs.Thirds.{raw_layout}
 use Rattle.bb_layout.specs.declared.layout_error.LayoutError.{LayoutError}
 use Rattle.bb_actions.specs.Actions.{misfit_of}
 use Rattle.bb_state.specs.declared.error.StateError.{StateError}
 use Rattle.bb_words.specs.Words.{words_of}
 use Rattle.bb_words.specs.declared.command.Command.{Command}
-use Rattle.bb_words.specs.declared.command.Command.TheVariants.{Raw, State}
-use Rattle.bb_words.specs.declared.command.Action.{Action}
+use Rattle.bb_words.specs.declared.command.Command.TheVariants.{Raw, State, MarkGood}
+use Rattle.bb_words.specs.declared.command.MarkGoodCommand.{MarkGoodCommand}
 use Rattle.bb_words.specs.declared.command.RawCommand.{RawCommand}
 use Rattle.bb_words.specs.declared.command.StateCommand.{StateCommand}
 use Rattle.bb_tool.specs.Calls.{IsRefusedWith}
-use Rattle.bb_tool.specs.Filing.{IsFiled}
-use Rattle.bb_tool.specs.Plan.{FileAnswer, Plan, file_for, file_named, has_file, plan_of, planned, raw_laid, state_laid, state_named, state_plan, state_read}
+use Rattle.bb_tool.specs.Filing.{EachNamed, IsAnswerFor, IsFiled}
+use Rattle.bb_tool.specs.Plan.{Act, FileAnswer, FileAnswers, Good, Plan, Role, Settings, Tree, binding_in, bound_in, bytes_in, file_named, files_for, fit_by, has_file, layout_by, layout_in, mark_laid, mark_plan, name_for, plan_of, planned, raw_laid, refused_as, state_laid, state_plan}
 use Rattle.bb_tool.specs.declared.refusal.Refusal.{Refusal}
 use Rattle.bb_tool.specs.declared.refusal.Refusal.TheVariants as refusals
+use Rattle.bb_tool.specs.Refusal.{status_of}
 use Rattle.bb_tool.specs.declared.status.Status.{Status}
 use Rattle.bb_tool.specs.declared.status.Status.TheVariants as statuses
 
--- P holds of whatever the command `state` may plan
-pub record HoldsForState (P : Result Plan Refusal → Type 0) : Type 0 where
-  shows : (plan : Plan) → P (Ok plan)
-  tree : (e : DtsError) → P (Err (refusals.BadTree e))
-  layout : (e : LayoutError) → P (Err (refusals.BadLayout e))
-  variable : (name : List ℕ) (cause : StateError) → P (Err (refusals.BadVariable name cause))
-  missing : (file : List ℕ) → P (Err (refusals.FileMissing file))
-  fault : (file : List ℕ) → P (Err (refusals.FileFault file))
-  long : (file : List ℕ) → P (Err (refusals.FileTooLong file))
-  memory : P (Err refusals.NoMemory)
+-- ---- the files that words name
 
-named_all : (P : Result Plan Refusal → Type 0) → HoldsForState P → (laid : Laid) (actions : List Action) (misfit : Option (List ℕ × StateError)) → P (state_named laid actions misfit)
-named_all P holds laid actions None = holds.shows _
-named_all P holds laid actions (Some misfit) = holds.variable misfit.0 misfit.1
+pub each_of_state : (words : List (List ℕ)) (command : StateCommand) → words_of words ≡ Ok (State command) →
+    (P : Role → List ℕ → Type 0) → P Tree command.file → EachNamed words P
+each_of_state words command is P tree Tree name named =
+    subst (P Tree) (same_Some command.file name (sym (ap (λ c. name_for c Tree) is) ∙ named)) tree
+each_of_state words command is P tree Settings name named =
+    absurd (let e : ◌≡◌ {A = Option (List ℕ)} None (Some name) = sym (ap (λ c. name_for c Settings) is) ∙ named in cc)
 
-laid_all : (P : Result Plan Refusal → Type 0) → HoldsForState P → (command : StateCommand) (laid : Result Laid LayoutError) → P (state_laid command laid)
-laid_all P holds command (Ok laid) = named_all P holds laid command.actions (misfit_of laid.vars command.actions)
-laid_all P holds command (Err e) = holds.layout e
-
-read_all : (P : Result Plan Refusal → Type 0) → HoldsForState P → (command : StateCommand) (geometry : Geometry) (read : Result Read DtsError) → P (state_read command geometry read)
-read_all P holds command geometry (Ok tree) = laid_all P holds command (layout_from tree.root command.name geometry)
-read_all P holds command geometry (Err e) = holds.tree e
-
-state_all : (P : Result Plan Refusal → Type 0) → HoldsForState P → (command : StateCommand) (geometry : Geometry) (file : FileAnswer) → P (state_plan command geometry file)
-state_all P holds command geometry (Ok (Some source)) = read_all P holds command geometry (source_of source)
-state_all P holds command geometry (Ok None) = holds.missing command.file
-state_all P holds command geometry (Err file_fails.Fault) = holds.fault command.file
-state_all P holds command geometry (Err file_fails.TooLong) = holds.long command.file
-state_all P holds command geometry (Err file_fails.NoMemory) = holds.memory
+pub each_of_mark : (words : List (List ℕ)) (command : MarkGoodCommand) → words_of words ≡ Ok (MarkGood command) →
+    (P : Role → List ℕ → Type 0) → P Tree command.file → P Settings command.settings → EachNamed words P
+each_of_mark words command is P tree settings Tree name named =
+    subst (P Tree) (same_Some command.file name (sym (ap (λ c. name_for c Tree) is) ∙ named)) tree
+each_of_mark words command is P tree settings Settings name named =
+    subst (P Settings) (same_Some command.settings name (sym (ap (λ c. name_for c Settings) is) ∙ named)) settings
 
 -- ---- refusals
+
+-- P holds of each refusal of what a file holds
+record HoldsForTexts (P : Refusal → Type 0) : Type 0 where
+  tree : (e : DtsError) → P (refusals.BadTree e)
+  layout : (e : LayoutError) → P (refusals.BadLayout e)
+  variable : (name : List ℕ) (cause : StateError) → P (refusals.BadVariable name cause)
+  settings : (e : SettingsError) → P (refusals.BadSettings e)
+
+-- and of each for which it wasn't read
+record HoldsForFiles (P : Refusal → Type 0) : Type 0 where
+  missing : (file : List ℕ) → P (refusals.FileMissing file)
+  fault : (file : List ℕ) → P (refusals.FileFault file)
+  long : (file : List ℕ) → P (refusals.FileTooLong file)
+  memory : P refusals.NoMemory
+
+module _ (P : Refusal → Type 0) where
+  then_all : {A B : Type 0} (next : A → Result B Refusal) (r : Result A Refusal) → IfErr r P →
+      ((x : A) → IfErr (next x) P) → IfErr (result_and_then next r) P
+  then_all next (Ok x) here behind = behind x
+  then_all next (Err e) here behind = here
+
+  as_all : {A E : Type 0} (refusal : E → Refusal) (r : Result A E) → ((e : E) → P (refusal e)) →
+      IfErr (refused_as refusal r) P
+  as_all refusal (Ok x) each = tt
+  as_all refusal (Err e) each = each e
+
+  bytes_all : HoldsForFiles P → (file : List ℕ) (answer : FileAnswer) → IfErr (bytes_in file answer) P
+  bytes_all holds file (Ok (Some bytes)) = tt
+  bytes_all holds file (Ok None) = holds.missing file
+  bytes_all holds file (Err file_fails.Fault) = holds.fault file
+  bytes_all holds file (Err file_fails.TooLong) = holds.long file
+  bytes_all holds file (Err file_fails.NoMemory) = holds.memory
+
+  module _ (holds : HoldsForTexts P) where
+    layout_all : (name : Option (List ℕ)) (geometry : Geometry) (source : List ℕ) →
+        IfErr (layout_by name geometry source) P
+    layout_all name geometry source =
+        then_all (λ (tree : Read). refused_as refusals.BadLayout (layout_from tree.root name geometry))
+        (refused_as refusals.BadTree (source_of source))
+        (as_all refusals.BadTree (source_of source) holds.tree)
+        (λ tree. as_all refusals.BadLayout (layout_from tree.root name geometry) holds.layout)
+
+    fit_all : (misfit : Option (List ℕ × StateError)) → IfErr (fit_by misfit) P
+    fit_all None = tt
+    fit_all (Some misfit) = holds.variable misfit.0 misfit.1
+
+    acts_all : (command : StateCommand) (layout : Laid) → IfErr (state_laid command layout) P
+    acts_all command layout =
+        then_all (λ (fit : Unit {0}). Ok (record { layout = layout; work = Act command.actions }))
+        (fit_by (misfit_of layout.vars command.actions))
+        (fit_all (misfit_of layout.vars command.actions)) (λ fit. tt)
+
+    bound_all : (layout : Laid) (text : List ℕ) → IfErr (refused_as refusals.BadSettings (bound_in layout text)) P
+    bound_all layout text = as_all refusals.BadSettings (bound_in layout text) holds.settings
+
+    marks_all : (layout : Laid) (r : Result Binding Refusal) → IfErr r P →
+        IfErr {T = Plan} (result_and_then (λ binding. Ok (record { layout = layout; work = Good binding })) r) P
+    marks_all layout r here =
+        then_all (λ (binding : Binding). Ok (record { layout = layout; work = Good binding })) r here (λ binding. tt)
+
+    module _ (files : HoldsForFiles P) where
+      state_all : (command : StateCommand) (geometry : Geometry) (tree : FileAnswer) →
+          IfErr (state_plan command geometry tree) P
+      state_all command geometry tree =
+          then_all (state_laid command) (layout_in command.file command.name geometry tree)
+          (then_all (layout_by command.name geometry) (bytes_in command.file tree)
+          (bytes_all files command.file tree) (layout_all command.name geometry))
+          (acts_all command)
+
+      mark_all : (command : MarkGoodCommand) (geometry : Geometry) (tree settings : FileAnswer) →
+          IfErr (mark_plan command geometry tree settings) P
+      mark_all command geometry tree settings =
+          then_all (mark_laid command settings) (layout_in command.file command.name geometry tree)
+          (then_all (layout_by command.name geometry) (bytes_in command.file tree)
+          (bytes_all files command.file tree) (layout_all command.name geometry))
+          (λ layout.
+          marks_all layout (binding_in command.settings layout settings)
+          (then_all (λ text. refused_as refusals.BadSettings (bound_in layout text))
+          (bytes_in command.settings settings) (bytes_all files command.settings settings)
+          (bound_all layout)))
+
+-- a plan isn't refused with a status that none of its refusals has
+unlike : (answer : Status) (plan : Result Plan Refusal) → IfErr plan (λ refusal. status_of refusal ≢ answer) →
+    IsRefusedWith answer plan → ⊥
+unlike answer (Ok plan) other refused = refused
+unlike answer (Err refusal) other refused = other refused
 
 -- the statuses with which a plan may be refused
 abbrev is_refusal : Status → Bool
@@ -68,113 +145,251 @@ is_refusal statuses.FileFault = true
 is_refusal statuses.FileTooLong = true
 is_refusal statuses.ReadFault = false
 is_refusal statuses.WriteFault = false
+is_refusal statuses.BadSettings = true
 is_refusal statuses.SinkFault = false
+is_refusal statuses.NoGood = false
 is_refusal statuses.NoMemory = true
 
-not_refusal : (a b : Status) → a ≡ b → is_refusal a ≡ true → is_refusal b ≡ false → ⊥
-not_refusal a b e first second = let h : true ≡ false = sym first ∙ ap is_refusal e ∙ second in cc
+not_refusal : (a b : Status) → is_refusal a ≡ true → is_refusal b ≡ false → a ≢ b
+not_refusal a b first second e = let h : true ≡ false = sym first ∙ ap is_refusal e ∙ second in cc
 
-state_refusal : (answer : Status) → is_refusal answer ≡ false → HoldsForState (λ plan. IsRefusedWith answer plan → ⊥)
-state_refusal answer never = record {
-  shows = λ plan refused. refused;
-  tree = λ e refused. not_refusal statuses.BadTree answer refused refl never;
-  layout = λ e refused. not_refusal statuses.BadLayout answer refused refl never;
-  variable = λ name cause refused. not_refusal statuses.BadVariable answer refused refl never;
-  missing = λ file refused. not_refusal statuses.FileMissing answer refused refl never;
-  fault = λ file refused. not_refusal statuses.FileFault answer refused refl never;
-  long = λ file refused. not_refusal statuses.FileTooLong answer refused refl never;
-  memory = λ refused. not_refusal statuses.NoMemory answer refused refl never;
+other_texts : (answer : Status) → is_refusal answer ≡ false → HoldsForTexts (λ refusal. status_of refusal ≢ answer)
+other_texts answer never = record {
+  tree = λ e. not_refusal statuses.BadTree answer refl never;
+  layout = λ e. not_refusal statuses.BadLayout answer refl never;
+  variable = λ name cause. not_refusal statuses.BadVariable answer refl never;
+  settings = λ e. not_refusal statuses.BadSettings answer refl never;
 }
 
-raw_refusal : (answer : Status) → is_refusal answer ≡ false → (command : RawCommand) (laid : Result Laid LayoutError) → IsRefusedWith answer (raw_laid command laid) → ⊥
-raw_refusal answer never command (Ok layout) refused = refused
-raw_refusal answer never command (Err e) refused = not_refusal statuses.BadLayout answer refused refl never
+other_files : (answer : Status) → is_refusal answer ≡ false → HoldsForFiles (λ refusal. status_of refusal ≢ answer)
+other_files answer never = record {
+  missing = λ file. not_refusal statuses.FileMissing answer refl never;
+  fault = λ file. not_refusal statuses.FileFault answer refl never;
+  long = λ file. not_refusal statuses.FileTooLong answer refl never;
+  memory = not_refusal statuses.NoMemory answer refl never;
+}
 
-pub plan_refusal : (answer : Status) → is_refusal answer ≡ false → (command : Result Command ℕ) (geometry : Geometry) (file : FileAnswer) → IsRefusedWith answer (plan_of command geometry file) → ⊥
-plan_refusal answer never (Ok (Raw command)) geometry file refused = raw_refusal answer never command (raw_layout command.magic command.area_len geometry) refused
-plan_refusal answer never (Ok (State command)) geometry file refused = state_all (λ plan. IsRefusedWith answer plan → ⊥) (state_refusal answer never) command geometry file refused
-plan_refusal answer never (Err place) geometry file refused = not_refusal statuses.BadWords answer refused refl never
+raw_refusal : (answer : Status) → statuses.BadLayout ≢ answer → (command : RawCommand) (laid : Result Laid LayoutError) → IsRefusedWith answer (raw_laid command laid) → ⊥
+raw_refusal answer other command (Ok layout) refused = refused
+raw_refusal answer other command (Err e) refused = other refused
+
+pub plan_refusal : (answer : Status) → is_refusal answer ≡ false → (command : Result Command ℕ) (geometry : Geometry) (files : FileAnswers) → IsRefusedWith answer (plan_of command geometry files) → ⊥
+plan_refusal answer never (Ok (Raw command)) geometry files refused =
+    raw_refusal answer (not_refusal statuses.BadLayout answer refl never) command (raw_layout command.magic command.area_len geometry) refused
+plan_refusal answer never (Ok (State command)) geometry files refused =
+    unlike answer (state_plan command geometry (files Tree))
+    (state_all (λ refusal. status_of refusal ≢ answer) (other_texts answer never) (other_files answer never) command geometry (files Tree)) refused
+plan_refusal answer never (Ok (MarkGood command)) geometry files refused =
+    unlike answer (mark_plan command geometry (files Tree) (files Settings))
+    (mark_all (λ refusal. status_of refusal ≢ answer) (other_texts answer never) (other_files answer never) command geometry (files Tree) (files Settings)) refused
+plan_refusal answer never (Err place) geometry files refused = not_refusal statuses.BadWords answer refl never refused
 
 -- only words that are none are refused as such
-state_words : HoldsForState (λ plan. IsRefusedWith statuses.BadWords plan → ⊥)
-state_words = record {
-  shows = λ plan refused. refused;
-  tree = λ e refused. cc;
-  layout = λ e refused. cc;
-  variable = λ name cause refused. cc;
-  missing = λ file refused. cc;
-  fault = λ file refused. cc;
-  long = λ file refused. cc;
-  memory = λ refused. cc;
+OtherThanWords : Refusal → Type 0
+OtherThanWords refusal = status_of refusal ≢ statuses.BadWords
+
+words_texts : HoldsForTexts OtherThanWords
+unfolding OtherThanWords
+words_texts = record {
+  tree = λ e h. cc;
+  layout = λ e h. cc;
+  variable = λ name cause h. cc;
+  settings = λ e h. cc;
 }
 
-raw_words : (command : RawCommand) (laid : Result Laid LayoutError) → IsRefusedWith statuses.BadWords (raw_laid command laid) → ⊥
-raw_words command (Ok layout) refused = refused
-raw_words command (Err e) refused = cc
+words_files : HoldsForFiles OtherThanWords
+unfolding OtherThanWords
+words_files = record { missing = λ file h. cc; fault = λ file h. cc; long = λ file h. cc; memory = λ h. cc }
 
-pub words_refused : (command : Result Command ℕ) (geometry : Geometry) (file : FileAnswer) → IsRefusedWith statuses.BadWords (plan_of command geometry file) → IsErr command
-words_refused (Err place) geometry file refused = refl
-words_refused (Ok (Raw command)) geometry file refused = absurd (raw_words command (raw_layout command.magic command.area_len geometry) refused)
-words_refused (Ok (State command)) geometry file refused = absurd (state_all (λ plan. IsRefusedWith statuses.BadWords plan → ⊥) state_words command geometry file refused)
+pub words_refused : (command : Result Command ℕ) (geometry : Geometry) (files : FileAnswers) → IsRefusedWith statuses.BadWords (plan_of command geometry files) → IsErr command
+unfolding OtherThanWords
+words_refused (Err place) geometry files refused = refl
+words_refused (Ok (Raw command)) geometry files refused =
+    absurd (raw_refusal statuses.BadWords (λ h. cc) command (raw_layout command.magic command.area_len geometry) refused)
+words_refused (Ok (State command)) geometry files refused =
+    absurd (unlike statuses.BadWords (state_plan command geometry (files Tree))
+    (state_all OtherThanWords words_texts words_files command geometry (files Tree)) refused)
+words_refused (Ok (MarkGood command)) geometry files refused =
+    absurd (unlike statuses.BadWords (mark_plan command geometry (files Tree) (files Settings))
+    (mark_all OtherThanWords words_texts words_files command geometry (files Tree) (files Settings)) refused)
 
 -- where no file is named, the plan is the same whatever is answered of one
-pub alone_plan : (command : Result Command ℕ) (geometry : Geometry) (one two : FileAnswer) → has_file command ≡ false → plan_of command geometry one ≡ plan_of command geometry two
+pub alone_plan : (command : Result Command ℕ) (geometry : Geometry) (one two : FileAnswers) → has_file command ≡ false → plan_of command geometry one ≡ plan_of command geometry two
 alone_plan (Ok (Raw command)) geometry one two none = refl
 alone_plan (Ok (State command)) geometry one two none = absurd cc
+alone_plan (Ok (MarkGood command)) geometry one two none = absurd cc
 alone_plan (Err place) geometry one two none = refl
 
 -- ---- files that are told
 
--- the plan over a file that met a fault, or for which memory was refused
-pub record IsFaulty (file : FileAnswer) (plan : Result Plan Refusal) : Type 0 where
-  pub fault : file ≡ Err file_fails.Fault
-  pub refused : IsRefusedWith statuses.FileFault plan
+-- an answer is that of the files, unless a fault was met or memory refused
+answer_cases : (answer told : FileAnswer) → IsAnswerFor answer told → (told ≡ answer) ⊎ ((answer ≡ Err file_fails.Fault) ⊎ (answer ≡ Err file_fails.NoMemory))
+answer_cases (Ok found) told is = inl is
+answer_cases (Err file_fails.TooLong) told is = inl is
+answer_cases (Err file_fails.Fault) told is = inr (inl refl)
+answer_cases (Err file_fails.NoMemory) told is = inr (inr refl)
 
-named_file : (command : Result Command ℕ) (words : List (List ℕ)) → words_of words ≡ command → (geometry : Geometry) (folder folder' : Folder) (file : FileAnswer) → IsFiled words folder folder' file → (files : FileMap) → folder.told ≡ Some files → (plan_of command geometry file ≡ plan_of command geometry (file_named command files)) ⊎ (IsFaulty file (plan_of command geometry file) ⊎ (plan_of command geometry file ≡ Err refusals.NoMemory))
-named_file (Ok (Raw command)) words is geometry folder folder' file filed files told = inl refl
-named_file (Err place) words is geometry folder folder' file filed files told = inl refl
-named_file (Ok (State command)) words is geometry folder folder' (Ok found) filed files told =
-    inl (ap (state_plan command geometry) (sym ((filed.read command is).told files told)))
-named_file (Ok (State command)) words is geometry folder folder' (Err file_fails.TooLong) filed files told =
-    inl (ap (state_plan command geometry) (sym ((filed.read command is).told files told)))
-named_file (Ok (State command)) words is geometry folder folder' (Err file_fails.Fault) filed files told = inr (inl (record { fault = refl; refused = refl }))
-named_file (Ok (State command)) words is geometry folder folder' (Err file_fails.NoMemory) filed files told = inr (inr refl)
+-- and so is a plan
+abbrev pub IsPlanOf : Result Plan Refusal → Result Plan Refusal → Type 0
+IsPlanOf plan told = (plan ≡ told) ⊎ (IsRefusedWith statuses.FileFault plan ⊎ (plan ≡ Err refusals.NoMemory))
 
--- the plan is that of the file as it is told, unless a fault was met or memory refused
-pub same_plan : (words : List (List ℕ)) (geometry : Geometry) (folder folder' : Folder) (file : FileAnswer) → IsFiled words folder folder' file → (files : FileMap) → folder.told ≡ Some files → (planned words geometry file ≡ planned words geometry (file_for words files)) ⊎ (IsFaulty file (planned words geometry file) ⊎ (planned words geometry file ≡ Err refusals.NoMemory))
-same_plan words geometry folder folder' file filed files told = named_file (words_of words) words refl geometry folder folder' file filed files told
+-- it is for whatever it makes of an answer
+plan_cases : (make : FileAnswer → Result Plan Refusal) (answer told : FileAnswer) → IsAnswerFor answer told →
+    IsRefusedWith statuses.FileFault (make (Err file_fails.Fault)) → make (Err file_fails.NoMemory) ≡ Err refusals.NoMemory → IsPlanOf (make answer) (make told)
+plan_cases make answer told is fault memory = elim (answer_cases answer told is) [
+  | inl same ↦ inl (ap make (sym same))
+  | inr odd ↦ elim odd [
+    | inl e ↦ inr (inl (subst (λ a. IsRefusedWith statuses.FileFault (make a)) (sym e) fault))
+    | inr e ↦ inr (inr (ap make e ∙ memory))
+  ]
+]
 
-no_named_fault : (laid : Laid) (actions : List Action) (misfit : Option (List ℕ × StateError)) → IsRefusedWith statuses.FileFault (state_named laid actions misfit) → ⊥
-no_named_fault laid actions None refused = refused
-no_named_fault laid actions (Some misfit) refused = cc
+settings_told : (command : MarkGoodCommand) (laid : Result Laid Refusal) (answer told : FileAnswer) → IsAnswerFor answer told →
+    IsPlanOf (result_and_then (mark_laid command answer) laid) (result_and_then (mark_laid command told) laid)
+settings_told command (Err e) answer told is = inl refl
+settings_told command (Ok layout) answer told is = plan_cases (λ a. mark_laid command a layout) answer told is refl refl
 
-no_laid_fault : (command : StateCommand) (laid : Result Laid LayoutError) → IsRefusedWith statuses.FileFault (state_laid command laid) → ⊥
-no_laid_fault command (Ok laid) refused = no_named_fault laid command.actions (misfit_of laid.vars command.actions) refused
-no_laid_fault command (Err e) refused = cc
+mark_told : (command : MarkGoodCommand) (geometry : Geometry) (tree tree' settings settings' : FileAnswer) →
+    IsAnswerFor tree tree' → IsAnswerFor settings settings' →
+    IsPlanOf (mark_plan command geometry tree settings) (mark_plan command geometry tree' settings')
+mark_told command geometry tree tree' settings settings' first second = elim (answer_cases tree tree' first) [
+  | inl same ↦
+      subst (λ t. IsPlanOf (mark_plan command geometry tree settings) (mark_plan command geometry t settings')) (sym same)
+      (settings_told command (layout_in command.file command.name geometry tree) settings settings' second)
+  | inr odd ↦ elim odd [
+    | inl e ↦ inr (inl (subst (λ a. IsRefusedWith statuses.FileFault (mark_plan command geometry a settings)) (sym e) refl))
+    | inr e ↦ inr (inr (ap (λ a. mark_plan command geometry a settings) e))
+  ]
+]
 
-no_read_fault : (command : StateCommand) (geometry : Geometry) (read : Result Read DtsError) → IsRefusedWith statuses.FileFault (state_read command geometry read) → ⊥
-no_read_fault command geometry (Ok tree) refused = no_laid_fault command (layout_from tree.root command.name geometry) refused
-no_read_fault command geometry (Err e) refused = cc
+named_file : (command : Result Command ℕ) (words : List (List ℕ)) → words_of words ≡ command → (geometry : Geometry) (folder folder' : Folder) (answers : FileAnswers) → IsFiled words folder folder' answers → (files : FileMap) → folder.told ≡ Some files → IsPlanOf (plan_of command geometry answers) (plan_of command geometry (file_named command files))
+named_file (Ok (Raw command)) words is geometry folder folder' answers filed files told = inl refl
+named_file (Err place) words is geometry folder folder' answers filed files told = inl refl
+named_file (Ok (State command)) words is geometry folder folder' answers filed files told =
+    plan_cases (state_plan command geometry) (answers Tree) (file_of files command.file)
+    (filed.told Tree command.file (ap (λ c. name_for c Tree) is) files told) refl refl
+named_file (Ok (MarkGood command)) words is geometry folder folder' answers filed files told =
+    mark_told command geometry (answers Tree) (file_of files command.file) (answers Settings) (file_of files command.settings)
+    (filed.told Tree command.file (ap (λ c. name_for c Tree) is) files told)
+    (filed.told Settings command.settings (ap (λ c. name_for c Settings) is) files told)
+
+-- the plan is that of the files as they are told, unless a fault was met or memory refused
+pub same_plan : (words : List (List ℕ)) (geometry : Geometry) (folder folder' : Folder) (answers : FileAnswers) → IsFiled words folder folder' answers → (files : FileMap) → folder.told ≡ Some files → IsPlanOf (planned words geometry answers) (planned words geometry (files_for words files))
+same_plan words geometry folder folder' answers filed files told = named_file (words_of words) words refl geometry folder folder' answers filed files told
+
+-- ---- files that met a fault
+
+OtherThanFault : Refusal → Type 0
+OtherThanFault refusal = status_of refusal ≢ statuses.FileFault
+
+fault_texts : HoldsForTexts OtherThanFault
+unfolding OtherThanFault
+fault_texts = record {
+  tree = λ e h. cc;
+  layout = λ e h. cc;
+  variable = λ name cause h. cc;
+  settings = λ e h. cc;
+}
 
 -- a plan that is refused for a fault is one over a faulty file
-state_faults : (command : StateCommand) (geometry : Geometry) (file : FileAnswer) → IsRefusedWith statuses.FileFault (state_plan command geometry file) → file ≡ Err file_fails.Fault
-state_faults command geometry (Ok (Some source)) refused = absurd (no_read_fault command geometry (source_of source) refused)
+state_faults : (command : StateCommand) (geometry : Geometry) (tree : FileAnswer) → IsRefusedWith statuses.FileFault (state_plan command geometry tree) → tree ≡ Err file_fails.Fault
+unfolding OtherThanFault
+state_faults command geometry (Ok (Some source)) refused =
+    absurd (unlike statuses.FileFault (result_and_then (state_laid command) (layout_by command.name geometry source))
+    (then_all OtherThanFault (state_laid command) (layout_by command.name geometry source)
+    (layout_all OtherThanFault fault_texts command.name geometry source) (acts_all OtherThanFault fault_texts command)) refused)
 state_faults command geometry (Ok None) refused = absurd cc
 state_faults command geometry (Err file_fails.Fault) refused = refl
 state_faults command geometry (Err file_fails.TooLong) refused = absurd cc
 state_faults command geometry (Err file_fails.NoMemory) refused = absurd cc
 
-raw_faults : (command : RawCommand) (laid : Result Laid LayoutError) → IsRefusedWith statuses.FileFault (raw_laid command laid) → ⊥
-raw_faults command (Ok layout) refused = refused
-raw_faults command (Err e) refused = cc
+settings_faults : (command : MarkGoodCommand) (layout : Laid) (settings : FileAnswer) → IsRefusedWith statuses.FileFault (mark_laid command settings layout) → settings ≡ Err file_fails.Fault
+unfolding OtherThanFault
+settings_faults command layout (Ok (Some text)) refused =
+    let bound = refused_as refusals.BadSettings (bound_in layout text) in
+    absurd (unlike statuses.FileFault (result_and_then (λ binding. Ok (record { layout = layout; work = Good binding })) bound)
+    (marks_all OtherThanFault fault_texts layout bound (bound_all OtherThanFault fault_texts layout text)) refused)
+settings_faults command layout (Ok None) refused = absurd cc
+settings_faults command layout (Err file_fails.Fault) refused = refl
+settings_faults command layout (Err file_fails.TooLong) refused = absurd cc
+settings_faults command layout (Err file_fails.NoMemory) refused = absurd cc
 
--- the file that the words name met a fault
-pub record IsNamedFault (words : List (List ℕ)) (file : FileAnswer) : Type 0 where
-  pub command : StateCommand
-  pub words_are : words_of words ≡ Ok (State command)
-  pub fault : file ≡ Err file_fails.Fault
+behind_faults : (command : MarkGoodCommand) (laid : Result Laid Refusal) (settings : FileAnswer) → IfErr laid OtherThanFault → IsRefusedWith statuses.FileFault (result_and_then (mark_laid command settings) laid) → settings ≡ Err file_fails.Fault
+unfolding OtherThanFault
+behind_faults command (Ok layout) settings other refused = settings_faults command layout settings refused
+behind_faults command (Err e) settings other refused = absurd (other refused)
 
-pub faulty_words : (words : List (List ℕ)) (geometry : Geometry) (file : FileAnswer) (command : Result Command ℕ) → words_of words ≡ command → IsRefusedWith statuses.FileFault (plan_of command geometry file) → IsNamedFault words file
-faulty_words words geometry file (Err place) is refused = absurd cc
-faulty_words words geometry file (Ok (Raw command)) is refused = absurd (raw_faults command (raw_layout command.magic command.area_len geometry) refused)
-faulty_words words geometry file (Ok (State command)) is refused = record { command = command; words_are = is; fault = state_faults command geometry file refused }
+mark_faults : (command : MarkGoodCommand) (geometry : Geometry) (tree settings : FileAnswer) → IsRefusedWith statuses.FileFault (mark_plan command geometry tree settings) → (tree ≡ Err file_fails.Fault) ⊎ (settings ≡ Err file_fails.Fault)
+mark_faults command geometry (Ok (Some source)) settings refused =
+    inr (behind_faults command (layout_by command.name geometry source) settings
+    (layout_all OtherThanFault fault_texts command.name geometry source) refused)
+mark_faults command geometry (Ok None) settings refused = absurd cc
+mark_faults command geometry (Err file_fails.Fault) settings refused = inl refl
+mark_faults command geometry (Err file_fails.TooLong) settings refused = absurd cc
+mark_faults command geometry (Err file_fails.NoMemory) settings refused = absurd cc
+
+-- a file that the words name met a fault
+pub record IsNamedFault (words : List (List ℕ)) (answers : FileAnswers) : Type 0 where
+  pub role : Role
+  pub name : List ℕ
+  pub named : name_for (words_of words) role ≡ Some name
+  pub fault : answers role ≡ Err file_fails.Fault
+
+pub faulty_words : (words : List (List ℕ)) (geometry : Geometry) (answers : FileAnswers) (command : Result Command ℕ) → words_of words ≡ command → IsRefusedWith statuses.FileFault (plan_of command geometry answers) → IsNamedFault words answers
+faulty_words words geometry answers (Err place) is refused = absurd cc
+faulty_words words geometry answers (Ok (Raw command)) is refused =
+    absurd (raw_refusal statuses.FileFault (λ h. cc) command (raw_layout command.magic command.area_len geometry) refused)
+faulty_words words geometry answers (Ok (State command)) is refused = record {
+  role = Tree;
+  name = command.file;
+  named = ap (λ c. name_for c Tree) is;
+  fault = state_faults command geometry (answers Tree) refused;
+}
+faulty_words words geometry answers (Ok (MarkGood command)) is refused =
+    elim (mark_faults command geometry (answers Tree) (answers Settings) refused) [
+      | inl fault ↦ record {
+        role = Tree;
+        name = command.file;
+        named = ap (λ c. name_for c Tree) is;
+        fault = fault;
+      }
+      | inr fault ↦ record {
+        role = Settings;
+        name = command.settings;
+        named = ap (λ c. name_for c Settings) is;
+        fault = fault;
+      }
+    ]
+
+-- ---- where no plan comes of files of which one isn't read
+
+state_needs : (command : StateCommand) (geometry : Geometry) (tree : FileAnswer) → (IsOk tree → ⊥) → IsErr (state_plan command geometry tree)
+state_needs command geometry (Ok found) none = absurd (none refl)
+state_needs command geometry (Err file_fails.Fault) none = refl
+state_needs command geometry (Err file_fails.TooLong) none = refl
+state_needs command geometry (Err file_fails.NoMemory) none = refl
+
+behind_needs : (command : MarkGoodCommand) (laid : Result Laid Refusal) (settings : FileAnswer) → (IsOk settings → ⊥) → IsErr (result_and_then (mark_laid command settings) laid)
+behind_needs command (Err e) settings none = refl
+behind_needs command (Ok layout) (Ok found) none = absurd (none refl)
+behind_needs command (Ok layout) (Err file_fails.Fault) none = refl
+behind_needs command (Ok layout) (Err file_fails.TooLong) none = refl
+behind_needs command (Ok layout) (Err file_fails.NoMemory) none = refl
+
+mark_needs : (command : MarkGoodCommand) (geometry : Geometry) (tree settings : FileAnswer) → (IsOk tree → IsOk settings → ⊥) → IsErr (mark_plan command geometry tree settings)
+mark_needs command geometry (Ok found) settings none =
+    behind_needs command (layout_in command.file command.name geometry (Ok found)) settings (none refl)
+mark_needs command geometry (Err file_fails.Fault) settings none = refl
+mark_needs command geometry (Err file_fails.TooLong) settings none = refl
+mark_needs command geometry (Err file_fails.NoMemory) settings none = refl
+
+-- where not each file that is named was read, the plan is refused
+pub plan_needs : (command : Result Command ℕ) (words : List (List ℕ)) → words_of words ≡ command → (geometry : Geometry) (answers : FileAnswers) → has_file command ≡ true → (EachNamed words (λ role name. IsOk (answers role)) → ⊥) → IsErr (plan_of command geometry answers)
+plan_needs (Err place) words is geometry answers named none = refl
+plan_needs (Ok (Raw command)) words is geometry answers named none = absurd cc
+plan_needs (Ok (State command)) words is geometry answers named none =
+    state_needs command geometry (answers Tree)
+    (λ tree. none (each_of_state words command is (λ role name. IsOk (answers role)) tree))
+plan_needs (Ok (MarkGood command)) words is geometry answers named none =
+    mark_needs command geometry (answers Tree) (answers Settings)
+    (λ tree settings. none (each_of_mark words command is (λ role name. IsOk (answers role)) tree settings))

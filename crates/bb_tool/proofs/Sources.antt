@@ -1,90 +1,134 @@
--- What reading a file gives, and what a layout that is planned from it is.
-use Rattle.std.proofs.Common.{◌≡◌, ◌≢◌, ◌⊎◌, ℕ, List, Option, Some, None, Result, Ok, Err, ok_or, refl, sym, ap, subst, ◌∙◌, inl, inr}
+-- What reading a file gives, and what the steps behind it make of that.
+use Rattle.std.proofs.Common.{◌≡◌, ◌≢◌, ◌⊎◌, ℕ, List, Option, None, Result, Ok, Err, ok_or, refl, sym, ap, subst, ◌∙◌, inl, inr}
 use Rattle.std.specs.Option.{ForSome}
 use Rattle.bb_base.specs.Faults.{Rose}
 use Rattle.bb_base.specs.Folder.{Folder, file_of}
 use Rattle.bb_base.specs.declared.files.FileFail.TheVariants as file_fails
+use Rattle.bb_chooser.specs.Binding.{Binding}
+use Rattle.bb_chooser.specs.declared.settings_error.SettingsError.{SettingsError}
+use Rattle.bb_chooser.specs.declared.settings_error.SettingsError.TheVariants as settings_errors
 use Rattle.bb_dts.specs.Source.{Read}
+use Rattle.bb_dts.specs.declared.error.DtsError.{DtsError}
+use Rattle.bb_dts.specs.declared.error.DtsError.TheVariants as tree_errors
 use Rattle.bb_flash.specs.declared.geometry.Geometry.{Geometry}
 use Rattle.bb_tree.specs.Node.{Branch}
 use Rattle.bb_layout.specs.Backend.{backend_of}
 use Rattle.bb_layout.specs.Copies.{raw_len}
 use Rattle.bb_layout.specs.Layout.{Laid, layout_at, layout_from}
 use Rattle.bb_layout.specs.Ranges.{area_of}
+use Rattle.bb_layout.specs.Results.{result_and_then}
 use Rattle.bb_layout.specs.StateNode.{state_of}
 use Rattle.bb_layout.specs.StateProps.{props_of}
 use Rattle.bb_layout.specs.Steps.{result_then}
 use Rattle.bb_layout.specs.Storage.{stored}
 use Rattle.bb_layout.specs.Variables.{variables_of}
-use Rattle.bb_layout.specs.declared.layout.Layout.{Layout}
 use Rattle.bb_layout.specs.declared.layout_error.LayoutError.{LayoutError}
 use Rattle.bb_layout.specs.declared.layout_error.LayoutError.TheVariants as layout_errors
-use Rattle.bb_words.specs.declared.command.StateCommand.{StateCommand}
-use Rattle.bb_tool.specs.Filing.{IsFileRead, IsPlanned, IsSourceRead}
-use Rattle.bb_tool.specs.Plan.{FileAnswer, state_laid, state_plan}
-use Rattle.bb_tool.specs.Refusal.{layout_refusal}
+use Rattle.bb_tool.specs.Filing.{Follows, IsReadFor}
+use Rattle.bb_tool.specs.Plan.{FileAnswer, bytes_in, layout_in, refused_as}
+use Rattle.bb_tool.specs.Refusal.{layout_refusal, settings_refusal, tree_refusal}
 use Rattle.bb_tool.specs.declared.refusal.Refusal.{Refusal}
 use Rattle.bb_tool.specs.declared.refusal.Refusal.TheVariants as refusals
 
 -- there is no such file
-pub source_missing : (name : List ℕ) (before after : Folder) (copied : List ℕ) → copied ≡ name → ForSome before.told (λ files. file_of files name ≡ Ok None) → after.faults ≡ before.faults → IsSourceRead name before after (Err (refusals.FileMissing copied))
-source_missing name before after copied same told calm = record {
-  file = Ok None;
+pub bytes_missing : (name : List ℕ) (before after : Folder) (copied : List ℕ) → copied ≡ name → ForSome before.told (λ files. file_of files name ≡ Ok None) → after.faults ≡ before.faults → IsReadFor name before after (bytes_in name) (λ (bytes : List ℕ). bytes) (Err (refusals.FileMissing copied))
+bytes_missing name before after copied same told calm = record {
+  answer = Ok None;
   read = record { told = told; cause = λ e. absurd cc; calm = λ e. calm };
-  source = λ some. (ap (λ n. refusals.FileMissing n) (sym same), tt);
+  follows = λ some. ap (λ n. Err (refusals.FileMissing n)) (sym same);
 }
 
-pub source_fault : (name : List ℕ) (before after : Folder) (copied : List ℕ) → copied ≡ name → Rose before.faults after.faults → IsSourceRead name before after (Err (refusals.FileFault copied))
-source_fault name before after copied same rose = record {
-  file = Err file_fails.Fault;
+pub bytes_fault : (name : List ℕ) (before after : Folder) (copied : List ℕ) → copied ≡ name → Rose before.faults after.faults → IsReadFor name before after (bytes_in name) (λ (bytes : List ℕ). bytes) (Err (refusals.FileFault copied))
+bytes_fault name before after copied same rose = record {
+  answer = Err file_fails.Fault;
   read = record { told = λ files told. tt; cause = λ e. rose; calm = λ e. absurd cc };
-  source = λ some. (ap (λ n. refusals.FileFault n) (sym same), tt);
+  follows = λ some. ap (λ n. Err (refusals.FileFault n)) (sym same);
 }
 
-pub source_long : (name : List ℕ) (before after : Folder) (copied : List ℕ) → copied ≡ name → ForSome before.told (λ files. file_of files name ≡ Err file_fails.TooLong) → IsSourceRead name before after (Err (refusals.FileTooLong copied))
-source_long name before after copied same told = record {
-  file = Err file_fails.TooLong;
+pub bytes_long : (name : List ℕ) (before after : Folder) (copied : List ℕ) → copied ≡ name → ForSome before.told (λ files. file_of files name ≡ Err file_fails.TooLong) → IsReadFor name before after (bytes_in name) (λ (bytes : List ℕ). bytes) (Err (refusals.FileTooLong copied))
+bytes_long name before after copied same told = record {
+  answer = Err file_fails.TooLong;
   read = record { told = told; cause = λ e. absurd cc; calm = λ e. absurd cc };
-  source = λ some. (ap (λ n. refusals.FileTooLong n) (sym same), tt);
+  follows = λ some. ap (λ n. Err (refusals.FileTooLong n)) (sym same);
 }
 
--- memory was refused
-pub source_memory : (name : List ℕ) (before after : Folder) (given : Result (List ℕ) Refusal) → given ≡ Err refusals.NoMemory → IsSourceRead name before after given
-source_memory name before after given is = subst (λ (r : Result (List ℕ) Refusal). IsSourceRead name before after r) (sym is) (record {
-  file = Err file_fails.NoMemory;
-  read = record { told = λ files told. tt; cause = λ e. absurd cc; calm = λ e. absurd cc };
-  source = λ some. absurd (some refl);
-})
+-- memory was refused before a step gave what is expected
+pub memory_read : {A B : Type 0} (name : List ℕ) (before after : Folder) (expected : FileAnswer → Result B Refusal) (view : A → B) (given : Result A Refusal) → given ≡ Err refusals.NoMemory → IsReadFor name before after expected view given
+memory_read name before after expected view given is =
+    subst (λ r. IsReadFor name before after expected view r) (sym is) (record {
+      answer = Err file_fails.NoMemory;
+      read = record { told = λ files told. tt; cause = λ e. absurd cc; calm = λ e. absurd cc };
+      follows = λ some. absurd (some refl);
+    })
 
-refused_layout : (command : StateCommand) (given : Result Laid LayoutError) (e : LayoutError) → (e ≢ layout_errors.NoMemory → given ≡ Err e) → layout_refusal e ≢ refusals.NoMemory → state_laid command given ≡ Err (layout_refusal e)
-refused_layout command given layout_errors.NoState refused some = ap (state_laid command) (refused (λ h. cc))
-refused_layout command given (layout_errors.Missing prop) refused some = ap (state_laid command) (refused (λ h. cc))
-refused_layout command given (layout_errors.BadProp prop) refused some = ap (state_laid command) (refused (λ h. cc))
-refused_layout command given layout_errors.BadType refused some = ap (state_laid command) (refused (λ h. cc))
-refused_layout command given layout_errors.BadReg refused some = ap (state_laid command) (refused (λ h. cc))
-refused_layout command given layout_errors.Overlap refused some = ap (state_laid command) (refused (λ h. cc))
-refused_layout command given layout_errors.NoBackend refused some = ap (state_laid command) (refused (λ h. cc))
-refused_layout command given layout_errors.TooSmall refused some = ap (state_laid command) (refused (λ h. cc))
-refused_layout command given layout_errors.Unaligned refused some = ap (state_laid command) (refused (λ h. cc))
-refused_layout command given layout_errors.OutOfDevice refused some = ap (state_laid command) (refused (λ h. cc))
-refused_layout command given layout_errors.AreaTooLong refused some = ap (state_laid command) (refused (λ h. cc))
-refused_layout command given layout_errors.NameTwice refused some = ap (state_laid command) (refused (λ h. cc))
-refused_layout command given layout_errors.NoMemory refused some = absurd (some refl)
+-- ---- steps behind a file's bytes
 
--- the layout that was refused, of a file that was read
-pub layout_planned : (command : StateCommand) (geometry : Geometry) (before after : Folder) (file : FileAnswer) (source : List ℕ) (tree : Read) (e : LayoutError) → IsFileRead command.file before after file → file ≡ Ok (Some source) → state_plan command geometry (Ok (Some source)) ≡ state_laid command (layout_from tree.root command.name geometry) → (e ≢ layout_errors.NoMemory → layout_from tree.root command.name geometry ≡ Err e) → IsPlanned command geometry before after (Err (layout_refusal e))
-layout_planned command geometry before after file source tree e read is plans refused = record {
-  file = file;
-  read = read;
-  plans = λ some. ap (state_plan command geometry) is ∙ plans ∙ refused_layout command (layout_from tree.root command.name geometry) e refused some;
+-- the file wasn't read
+pub unread_for : {A B : Type 0} (name : List ℕ) (before after : Folder) (next : List ℕ → Result B Refusal) (view : A → B) (e : Refusal) →
+    IsReadFor name before after (bytes_in name) (λ (bytes : List ℕ). bytes) (Err e) →
+    IsReadFor name before after (λ answer. result_and_then next (bytes_in name answer)) view (Err e)
+unread_for name before after next view e read = record {
+  answer = read.answer;
+  read = read.read;
+  follows = λ some. ap (result_and_then next) (read.follows some);
 }
 
-pub memory_planned : (command : StateCommand) (geometry : Geometry) (before after : Folder) (file : FileAnswer) (given : Result Layout Refusal) → IsFileRead command.file before after file → given ≡ Err refusals.NoMemory → IsPlanned command geometry before after given
-memory_planned command geometry before after file given read is = subst (λ (r : Result Layout Refusal). IsPlanned command geometry before after r) (sym is) (record {
-  file = file;
-  read = read;
-  plans = λ some. absurd (some refl);
-})
+-- it was, and the step behind it gave this
+pub read_for : {A B : Type 0} (name : List ℕ) (before after : Folder) (next : List ℕ → Result B Refusal) (view : A → B) (bytes : List ℕ) (given : Result A Refusal) →
+    IsReadFor name before after (bytes_in name) (λ (bytes : List ℕ). bytes) (Ok bytes) → Follows (next bytes) view given →
+    IsReadFor name before after (λ answer. result_and_then next (bytes_in name answer)) view given
+read_for name before after next view bytes given read follows = record {
+  answer = read.answer;
+  read = read.read;
+  follows =
+      subst (λ r. Follows r view given) (sym (ap (result_and_then next) read.follows)) follows;
+}
+
+-- the layout that was read, of the name and the geometry that were handed in
+pub laid_as : (file : List ℕ) (given name : Option (List ℕ)) (handed geometry : Geometry) (answer : FileAnswer) (laid : Result Laid Refusal) →
+    given ≡ name → handed ≡ geometry → layout_in file given handed answer ≡ laid → layout_in file name geometry answer ≡ laid
+laid_as file given name handed geometry answer laid same_name same_geometry is =
+    ap (λ (n : Option (List ℕ)). layout_in file n geometry answer) (sym same_name)
+    ∙ ap (λ (g : Geometry). layout_in file given g answer) (sym same_geometry) ∙ is
+
+-- ---- refusals by the names that they have in a session
+
+pub tree_refused : (read : Result Read DtsError) (e : DtsError) → (e ≢ tree_errors.NoMemory → read ≡ Err e) → tree_refusal e ≢ refusals.NoMemory → refused_as refusals.BadTree read ≡ Err (tree_refusal e)
+tree_refused read (tree_errors.NotText at) refused some = ap (refused_as refusals.BadTree) (refused (λ h. cc))
+tree_refused read (tree_errors.BadToken at) refused some = ap (refused_as refusals.BadTree) (refused (λ h. cc))
+tree_refused read (tree_errors.Unexpected at) refused some = ap (refused_as refusals.BadTree) (refused (λ h. cc))
+tree_refused read (tree_errors.NumberTooLarge at) refused some = ap (refused_as refusals.BadTree) (refused (λ h. cc))
+tree_refused read (tree_errors.LeftOut at) refused some = ap (refused_as refusals.BadTree) (refused (λ h. cc))
+tree_refused read (tree_errors.TooDeep at) refused some = ap (refused_as refusals.BadTree) (refused (λ h. cc))
+tree_refused read (tree_errors.DuplicateLabel at) refused some = ap (refused_as refusals.BadTree) (refused (λ h. cc))
+tree_refused read (tree_errors.DuplicatePhandle at) refused some = ap (refused_as refusals.BadTree) (refused (λ h. cc))
+tree_refused read (tree_errors.NoSuchLabel at) refused some = ap (refused_as refusals.BadTree) (refused (λ h. cc))
+tree_refused read tree_errors.NoMemory refused some = absurd (some refl)
+
+pub layout_refused : (laid : Result Laid LayoutError) (e : LayoutError) → (e ≢ layout_errors.NoMemory → laid ≡ Err e) → layout_refusal e ≢ refusals.NoMemory → refused_as refusals.BadLayout laid ≡ Err (layout_refusal e)
+layout_refused laid layout_errors.NoState refused some = ap (refused_as refusals.BadLayout) (refused (λ h. cc))
+layout_refused laid (layout_errors.Missing prop) refused some = ap (refused_as refusals.BadLayout) (refused (λ h. cc))
+layout_refused laid (layout_errors.BadProp prop) refused some = ap (refused_as refusals.BadLayout) (refused (λ h. cc))
+layout_refused laid layout_errors.BadType refused some = ap (refused_as refusals.BadLayout) (refused (λ h. cc))
+layout_refused laid layout_errors.BadReg refused some = ap (refused_as refusals.BadLayout) (refused (λ h. cc))
+layout_refused laid layout_errors.Overlap refused some = ap (refused_as refusals.BadLayout) (refused (λ h. cc))
+layout_refused laid layout_errors.NoBackend refused some = ap (refused_as refusals.BadLayout) (refused (λ h. cc))
+layout_refused laid layout_errors.TooSmall refused some = ap (refused_as refusals.BadLayout) (refused (λ h. cc))
+layout_refused laid layout_errors.Unaligned refused some = ap (refused_as refusals.BadLayout) (refused (λ h. cc))
+layout_refused laid layout_errors.OutOfDevice refused some = ap (refused_as refusals.BadLayout) (refused (λ h. cc))
+layout_refused laid layout_errors.AreaTooLong refused some = ap (refused_as refusals.BadLayout) (refused (λ h. cc))
+layout_refused laid layout_errors.NameTwice refused some = ap (refused_as refusals.BadLayout) (refused (λ h. cc))
+layout_refused laid layout_errors.NoMemory refused some = absurd (some refl)
+
+pub settings_refused : (bound : Result Binding SettingsError) (e : SettingsError) → (e ≢ settings_errors.NoMemory → bound ≡ Err e) → settings_refusal e ≢ refusals.NoMemory → refused_as refusals.BadSettings bound ≡ Err (settings_refusal e)
+settings_refused bound (settings_errors.BadLine line) refused some = ap (refused_as refusals.BadSettings) (refused (λ h. cc))
+settings_refused bound settings_errors.NoTargets refused some = ap (refused_as refusals.BadSettings) (refused (λ h. cc))
+settings_refused bound (settings_errors.TargetTwice line) refused some = ap (refused_as refusals.BadSettings) (refused (λ h. cc))
+settings_refused bound (settings_errors.BadNumber line) refused some = ap (refused_as refusals.BadSettings) (refused (λ h. cc))
+settings_refused bound (settings_errors.BadEvent line) refused some = ap (refused_as refusals.BadSettings) (refused (λ h. cc))
+settings_refused bound (settings_errors.NoSuchVariable name) refused some = ap (refused_as refusals.BadSettings) (refused (λ h. cc))
+settings_refused bound (settings_errors.NotUint32 name) refused some = ap (refused_as refusals.BadSettings) (refused (λ h. cc))
+settings_refused bound settings_errors.NoMemory refused some = absurd (some refl)
 
 -- whether a refusal is want of memory
 pub memory_or_not : (e : Refusal) → (e ≡ refusals.NoMemory) ⊎ (e ≢ refusals.NoMemory)
@@ -97,6 +141,8 @@ memory_or_not (refusals.FileFault file) = inr (λ h. cc)
 memory_or_not (refusals.FileTooLong file) = inr (λ h. cc)
 memory_or_not refusals.ReadFault = inr (λ h. cc)
 memory_or_not (refusals.WriteFault copy) = inr (λ h. cc)
+memory_or_not (refusals.BadSettings e) = inr (λ h. cc)
+memory_or_not (refusals.NoGood place) = inr (λ h. cc)
 memory_or_not refusals.NoMemory = inl refl
 
 -- ---- the geometry of a layout is the one that was handed in

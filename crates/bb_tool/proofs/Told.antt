@@ -20,6 +20,8 @@ overrule_cases statuses.FileTooLong = inl refl
 overrule_cases statuses.BadLayout = inl refl
 overrule_cases statuses.ReadFault = inl refl
 overrule_cases statuses.WriteFault = inl refl
+overrule_cases statuses.BadSettings = inl refl
+overrule_cases statuses.NoGood = inl refl
 overrule_cases statuses.SinkFault = inl refl
 overrule_cases statuses.NoMemory = inr refl
 
@@ -50,6 +52,8 @@ overruled_memory statuses.FileTooLong e = absurd cc
 overruled_memory statuses.BadLayout e = absurd cc
 overruled_memory statuses.ReadFault e = absurd cc
 overruled_memory statuses.WriteFault e = absurd cc
+overruled_memory statuses.BadSettings e = absurd cc
+overruled_memory statuses.NoGood e = absurd cc
 overruled_memory statuses.SinkFault e = absurd cc
 overruled_memory statuses.NoMemory e = refl
 

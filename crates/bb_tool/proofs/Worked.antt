@@ -24,13 +24,14 @@ use Rattle.bb_state.specs.State.{IsDefault, IsRefused, has_changed, is_kept, is_
 use Rattle.bb_state.specs.State.{IsStored}
 use Rattle.bb_state.specs.declared.state.State.{State}
 use Rattle.bb_tool.specs.Looking.{first_found, look_text, passed_in}
-use Rattle.bb_tool.specs.Plan.{Act, Plan, Show, Work, Write}
+use Rattle.bb_tool.specs.Plan.{Act, Good, Plan, Show, Work, Write}
 use Rattle.bb_tool.specs.Refusal.{copy_refusal}
-use Rattle.bb_tool.specs.Session.{LoadAnswer, SaveAnswer, loaded_area, saved, saved_where, saves_behind, saves_of, text_of}
+use Rattle.bb_tool.specs.Session.{LoadAnswer, SaveAnswer, Session, loaded_area, saved, saved_where, saves_behind, saves_of, text_of, unmarked, worked}
 use Rattle.bb_tool.specs.Work.{AreSaved, Gives, IsLoaded, IsLooked, IsSaved, IsStoreWork, IsWorkOf, IsWorkedOut, taken}
 use Rattle.bb_tool.specs.declared.refusal.Refusal.{Refusal}
 use Rattle.bb_tool.specs.declared.refusal.Refusal.TheVariants as refusals
 use Rattle.bb_tool.proofs.Kept.{found_first, found_none, load_area}
+use Rattle.bb_tool.proofs.Unmarked.{marked_session, unmarked_saves, unmarked_session}
 
 -- ---- memory was refused before the device was asked
 
@@ -131,6 +132,7 @@ abbrev pub is_store : Work → Bool
 is_store Show = false
 is_store (Write area) = true
 is_store (Act actions) = true
+is_store (Good targets) = true
 
 store_work : (work : Work) (plan : Plan) (from to : Device) (load : LoadAnswer)
     (saves : List SaveAnswer) → is_store work ≡ true → IsStoreWork plan from to load saves →
@@ -138,6 +140,7 @@ store_work : (work : Work) (plan : Plan) (from to : Device) (load : LoadAnswer)
 store_work Show plan from to load saves stored done = absurd cc
 store_work (Write area) plan from to load saves stored done = done
 store_work (Act actions) plan from to load saves stored done = done
+store_work (Good targets) plan from to load saves stored done = done
 
 pub load_refused : (layout : Laid) (work : Work) (area : List ℕ) (from to : Device)
     (fault : CopyFault) (given : Result (List ℕ) Refusal) → is_store work ≡ true →
@@ -211,7 +214,8 @@ module _ (layout : Laid) (work : Work) (from mid to : Device) (area : List ℕ) 
     (stored : is_store work ≡ true) (many : 2 ≤ layout.copies)
     (clauses : LoadClauses layout area from mid (Ok loaded))
     (given : List ℕ → Result (List ℕ) Refusal)
-    (begun : IsBegun layout (used_after loaded) (saves_of layout work area) mid to given) where
+    (begun : IsBegun layout (used_after loaded) (saves_of layout work area) mid to given)
+    (marks : unmarked work area ≡ None) where
   abbrev Whole : Plan
   Whole = record { layout = layout; work = work }
 
@@ -225,6 +229,12 @@ module _ (layout : Laid) (work : Work) (from mid to : Device) (area : List ℕ) 
   begun_behind =
       subst (λ a. IsBegun layout (used_after loaded) (saves_of layout work a) mid to given)
       (sym same_area) begun
+
+  session_is : worked Whole (Ok (taken area loaded)) begun_behind.saves
+      ≡ saved (text_of layout work (taken area loaded))
+      (saves_behind Whole (Ok (taken area loaded))) begun_behind.saves
+  session_is =
+      marked_session Whole (taken area loaded) begun_behind.saves (ap (unmarked work) same_area ∙ marks)
 
   store_done : IsWorkOf work Whole from to (Ok (taken area loaded)) begun_behind.saves
   store_done =
@@ -246,7 +256,9 @@ module _ (layout : Laid) (work : Work) (from mid to : Device) (area : List ℕ) 
         load = Ok (taken area loaded);
         saves = begun_behind.saves;
         work = store_done;
-        gives = begun_behind.gives (text_of layout work (taken area loaded));
+        gives =
+            subst (λ (s : Session). Gives s (given (text_of layout work (taken area loaded))))
+            (sym session_is) (begun_behind.gives (text_of layout work (taken area loaded)));
       }))
 
   -- or memory was refused for its text
@@ -262,9 +274,41 @@ module _ (layout : Laid) (work : Work) (from mid to : Device) (area : List ℕ) 
         load = Ok (taken area loaded);
         saves = begun_behind.saves;
         work = store_done;
-        whole = gives.1;
+        whole = ap (λ (s : Session). s.refusal) session_is ∙ gives.1;
         is = is;
       }))
+
+-- ---- a load that gave a table in which no target is to be marked good
+
+pub unmarked_out : (layout : Laid) (work : Work) (from to : Device) (area : List ℕ)
+    (loaded : Loaded) (place : ℕ) → is_store work ≡ true → 2 ≤ layout.copies →
+    LoadClauses layout area from to (Ok loaded) → unmarked work area ≡ Some place →
+    (given : Result (List ℕ) Refusal) → given ≡ Err (refusals.NoGood place) →
+    IsWorkedOut layout work from to given
+unmarked_out layout work from to area loaded place stored many clauses marks given is =
+    let plan : Plan = record { layout = layout; work = work } in
+    let found = taken area loaded in
+    let same : loaded_area layout found ≡ area =
+    load_area layout area loaded from to
+    (record { gives = clauses.gives; defaults = clauses.defaults; exact = clauses.exact }) in
+    let here : unmarked work (loaded_area layout found) ≡ Some place = ap (unmarked work) same ∙ marks in
+    subst (IsWorkedOut layout work from to) (sym is)
+    (inl (record {
+      load = Ok found;
+      saves = [];
+      work = store_work work plan from to (Ok found) [] stored (record {
+        middle = to;
+        used = used_after loaded;
+        many = many;
+        loaded = load_ok layout area from to loaded clauses;
+        saved =
+            subst (λ areas. AreSaved layout (used_after loaded) areas to to [])
+            (sym (unmarked_saves layout work (loaded_area layout found) place here)) (refl, refl);
+      });
+      gives =
+          subst (λ (s : Session). Gives s (Err (refusals.NoGood place)))
+          (sym (unmarked_session plan found [] place here)) (refl, refl);
+    }))
 
 -- ---- a vector that was filled anew
 
@@ -304,6 +348,72 @@ is_kept_is state area new sure table kept =
     kept_is (is_sure state) (bytes_eq state.table (kept_of state)) sure
     ∙ ap (λ t. bytes_eq t (kept_of state)) table ∙ ap (λ k. bytes_eq new k) kept
 
+-- ---- the save of a table that was changed
+
+module _ (first state : State) (layout : Laid) (new : List ℕ) (loaded : Loaded)
+    (mid to : Device) (now : Option ℕ)
+    (backing : state ≡ record first { table = state.table })
+    (new_is : state.table ≡ new)
+    (layout_is : laid_of first ≡ layout) (used : used_of first ≡ used_after loaded)
+    (sure : is_sure first ≡ true) (kept : kept_of first ≡ first.table)
+    (runs : has_changed state ≡ true →
+    SaveRuns (laid_form (laid_of state)) (laid_kinds (laid_of state)) (used_of state) state.table mid
+    to)
+    (idle : has_changed state ≡ false → to ≡ mid) where
+  sure_is : is_sure state ≡ true
+  sure_is = ap is_sure backing ∙ sure
+
+  kept_so : kept_of state ≡ first.table
+  kept_so = ap kept_of backing ∙ kept
+
+  changed_so : has_changed state ≡ not (bytes_eq new first.table)
+  changed_so = has_changed_is state first.table new sure_is new_is kept_so
+
+  moved : (answer : SaveAnswer) → IsSaved (laid_of state) (used_of state) state.table mid to answer →
+      IsSaved layout (used_after loaded) new mid to answer
+  moved answer done =
+      subst (λ (l : Laid). IsSaved l (used_after loaded) new mid to answer)
+      (ap laid_of backing ∙ layout_is)
+      (subst (λ (u : Option ℕ). IsSaved (laid_of state) u new mid to answer)
+      (ap used_of backing ∙ used)
+      (subst (λ (a : List ℕ). IsSaved (laid_of state) (used_of state) a mid to answer) new_is done))
+
+  pub changed_ok :
+      (has_changed state ≡ true → IsStored (laid_of state) state.table now mid to) →
+      (has_changed state ≡ true → IsUndisturbed mid to →
+      EachWritten (laid_kinds (laid_of state)) ((laid_form (laid_of state)).text state.table) mid to) →
+      IsBegun layout (used_after loaded) (saved_where (bytes_eq new first.table) new) mid to
+      (λ text. Ok text)
+  changed_ok stored exact =
+      where_ok layout (used_after loaded) new mid to (bytes_eq new first.table)
+      (λ e. idle (changed_so ∙ ap not e))
+      (λ e. let changed = changed_so ∙ ap not e in
+      moved (Ok tt) (record {
+        now = now;
+        runs = runs changed;
+        stored = stored changed;
+        fails = tt;
+        sure = tt;
+        exact = exact changed;
+      }))
+
+  pub changed_err : (fault : CopyFault) → (is_kept state ≡ true → ⊥) → fault ≢ Unsure →
+      SaveFails (laid_form (laid_of state)) (laid_kinds (laid_of state)) (used_of state) state.table
+      mid to fault →
+      IsBegun layout (used_after loaded) (saved_where (bytes_eq new first.table) new) mid to
+      (λ text. Err (copy_refusal fault))
+  changed_err fault same other fails =
+      where_err layout (used_after loaded) new mid to (bytes_eq new first.table) fault
+      (λ e. same (is_kept_is state first.table new sure_is new_is kept_so ∙ e))
+      (λ e. moved (Err fault) (record {
+        now = now;
+        runs = runs (changed_so ∙ ap not e);
+        stored = tt;
+        fails = fails;
+        sure = other;
+        exact = λ calm. tt;
+      }))
+
 -- ---- the save behind all sets
 
 module _ (first state : State) (layout : Laid) (actions : List Action) (loaded : Loaded)
@@ -316,29 +426,8 @@ module _ (first state : State) (layout : Laid) (actions : List Action) (loaded :
     SaveRuns (laid_form (laid_of state)) (laid_kinds (laid_of state)) (used_of state) state.table mid
     to)
     (idle : has_changed state ≡ false → to ≡ mid) where
-  abbrev New : List ℕ
-  New = after_all layout.vars first.table actions
-
-  new_is : state.table ≡ New
-  new_is = table ∙ ap (λ (l : Laid). after_all l.vars first.table actions) layout_is
-
-  sure_is : is_sure state ≡ true
-  sure_is = ap is_sure backing ∙ sure
-
-  kept_so : kept_of state ≡ first.table
-  kept_so = ap kept_of backing ∙ kept
-
-  changed_so : has_changed state ≡ not (bytes_eq New first.table)
-  changed_so = has_changed_is state first.table New sure_is new_is kept_so
-
-  moved : (answer : SaveAnswer) → IsSaved (laid_of state) (used_of state) state.table mid to answer →
-      IsSaved layout (used_after loaded) New mid to answer
-  moved answer done =
-      subst (λ (l : Laid). IsSaved l (used_after loaded) New mid to answer)
-      (ap laid_of backing ∙ layout_is)
-      (subst (λ (u : Option ℕ). IsSaved (laid_of state) u New mid to answer)
-      (ap used_of backing ∙ used)
-      (subst (λ (a : List ℕ). IsSaved (laid_of state) (used_of state) a mid to answer) new_is done))
+  made_is : state.table ≡ after_all layout.vars first.table actions
+  made_is = table ∙ ap (λ (l : Laid). after_all l.vars first.table actions) layout_is
 
   pub acted_ok :
       (has_changed state ≡ true → IsStored (laid_of state) state.table now mid to) →
@@ -346,35 +435,18 @@ module _ (first state : State) (layout : Laid) (actions : List Action) (loaded :
       EachWritten (laid_kinds (laid_of state)) ((laid_form (laid_of state)).text state.table) mid to) →
       IsBegun layout (used_after loaded) (saves_of layout (Act actions) first.table) mid to
       (λ text. Ok text)
-  acted_ok stored exact =
-      where_ok layout (used_after loaded) New mid to (bytes_eq New first.table)
-      (λ e. idle (changed_so ∙ ap not e))
-      (λ e. let changed = changed_so ∙ ap not e in
-      moved (Ok tt) (record {
-        now = now;
-        runs = runs changed;
-        stored = stored changed;
-        fails = tt;
-        sure = tt;
-        exact = exact changed;
-      }))
+  acted_ok =
+      changed_ok first state layout (after_all layout.vars first.table actions) loaded mid to now
+      backing made_is layout_is used sure kept runs idle
 
   pub acted_err : (fault : CopyFault) → (is_kept state ≡ true → ⊥) → fault ≢ Unsure →
       SaveFails (laid_form (laid_of state)) (laid_kinds (laid_of state)) (used_of state) state.table
       mid to fault →
       IsBegun layout (used_after loaded) (saves_of layout (Act actions) first.table) mid to
       (λ text. Err (copy_refusal fault))
-  acted_err fault same other fails =
-      where_err layout (used_after loaded) New mid to (bytes_eq New first.table) fault
-      (λ e. same (is_kept_is state first.table New sure_is new_is kept_so ∙ e))
-      (λ e. moved (Err fault) (record {
-        now = now;
-        runs = runs (changed_so ∙ ap not e);
-        stored = tt;
-        fails = fails;
-        sure = other;
-        exact = λ calm. tt;
-      }))
+  acted_err =
+      changed_err first state layout (after_all layout.vars first.table actions) loaded mid to now
+      backing made_is layout_is used sure kept runs idle
 
 pub begun_later : (layout : Laid) (used : Option ℕ) (areas : List (List ℕ)) (saves : List SaveAnswer)
     (from mid to : Device) → AreSaved layout used areas mid to saves → IsLater from mid →

@@ -15,11 +15,12 @@ use Rattle.bb_flash.proofs.Moments.{images_joined}
 use Rattle.bb_layout.specs.Layout.{Laid}
 use Rattle.bb_state.specs.Kinds.{laid_kinds}
 use Rattle.bb_tool.specs.Looking.{IsQuiet, passed_in}
-use Rattle.bb_tool.specs.Plan.{Act, Plan, Show, Work, Write}
-use Rattle.bb_tool.specs.Session.{LoadAnswer, SaveAnswer, saved, saves_behind, text_of}
+use Rattle.bb_tool.specs.Plan.{Act, Good, Plan, Show, Work, Write}
+use Rattle.bb_tool.specs.Session.{LoadAnswer, SaveAnswer, loaded_area, saved, saves_behind, text_of, unmarked}
 use Rattle.bb_tool.specs.Turns.{EachStanding, HasTrail, HasTrails, IsFairRun, LeadsOn, LeadsTo, first_area, load_turn, made_of, work_turn}
 use Rattle.bb_tool.specs.Work.{AreSaved, IsLoaded, IsSaved, IsStoreWork, IsWork, IsWorkOf}
 use Rattle.bb_tool.proofs.Copies.{given, load_stays, loads_in_order, saves_in_order, since_entry, since_load, stored_stands}
+use Rattle.bb_tool.proofs.Unmarked.{worked_saves}
 use Rattle.bb_tool.proofs.Turns.{counts_now, fair_from, leads, loaded_leads, loaded_trail, made_leads, made_trail, refused_leads, refused_trail, some_of, standing_at, stays_trail}
 
 -- the turn leads on, in a fair run, and has a trail
@@ -143,8 +144,15 @@ saves_turned layout used from mid to found text (area ∷ []) (answer ∷ (other
 store_turned : (plan : Plan) (from to : Device) (load : LoadAnswer) (saves : List SaveAnswer) →
     IsStoreWork plan from to load saves → Turned plan.layout from to (load_turn plan load saves)
 store_turned plan from to (Ok found) saves work =
-    saves_turned plan.layout work.used from work.middle to found
-    (text_of plan.layout plan.work found) (saves_behind plan (Ok found)) saves work.loaded work.saved
+    let text = text_of plan.layout plan.work found in
+    let areas = saves_behind plan (Ok found) in
+    subst
+    (λ (made : List (List ℕ)). Turned plan.layout from to
+    (λ marks. Loaded (picked marks) made (made_of saves) None))
+    (sym (worked_saves plan found saves
+    (unmarked plan.work (loaded_area plan.layout found)) refl))
+    (saves_turned plan.layout work.used from work.middle to found text areas saves work.loaded
+    work.saved)
 store_turned plan from to (Err fault) saves work =
     subst (λ d. Turned plan.layout from d (λ marks. Unloaded)) (sym work.saved.1)
     (unloaded plan.layout work.used from work.middle fault work.loaded)
@@ -193,6 +201,7 @@ work_turned : (work : Work) (plan : Plan) (from to : Device) (load : LoadAnswer)
 work_turned Show plan from to load saves work = look_turned plan.layout from to work.looked.quiet
 work_turned (Write area) plan from to load saves work = store_turned plan from to load saves work
 work_turned (Act actions) plan from to load saves work = store_turned plan from to load saves work
+work_turned (Good targets) plan from to load saves work = store_turned plan from to load saves work
 
 pub leads_on : (plan : Plan) (from to : Device) (load : LoadAnswer) (saves : List SaveAnswer) →
     IsWork plan from to load saves → LeadsOn plan from to load saves
@@ -256,6 +265,9 @@ work_outside (Write area) plan from to load saves work =
     outside_saved plan.layout work.used from work.middle to load (saves_behind plan load) saves
     work.loaded work.saved
 work_outside (Act actions) plan from to load saves work =
+    outside_saved plan.layout work.used from work.middle to load (saves_behind plan load) saves
+    work.loaded work.saved
+work_outside (Good targets) plan from to load saves work =
     outside_saved plan.layout work.used from work.middle to load (saves_behind plan load) saves
     work.loaded work.saved
 

@@ -1,6 +1,6 @@
 -- What `run` says of each call: every clause of its contract is one of these facts, and none of them
 -- names a command.
-use Rattle.std.specs.Prelude.{◌≡◌, ◌⊎◌, ◌<◌, ℕ, Bool, true, false, List, Some, None, Result, Ok, Err, IsErr}
+use Rattle.std.specs.Prelude.{◌≡◌, ◌⊎◌, ◌<◌, ℕ, Bool, true, false, List, Option, Some, None, Result, Ok, Err, IsErr, IsSome}
 use Rattle.std.specs.Option.{ForSome}
 use Rattle.bb_base.specs.Faults.{HasCause, Rose}
 use Rattle.bb_base.specs.Folder.{FileMap}
@@ -11,10 +11,10 @@ use Rattle.bb_flash.specs.declared.geometry.Geometry.{Geometry}
 use Rattle.bb_words.specs.Words.{words_of}
 use Rattle.bb_tool.specs.Ending.{AreAnswers}
 use Rattle.bb_tool.specs.Filing.{IsFolderLater}
-use Rattle.bb_tool.specs.Plan.{Plan, copies_in, file_for, names_file, planned}
+use Rattle.bb_tool.specs.Plan.{Plan, copies_in, files_for, names_file, planned}
 use Rattle.bb_tool.specs.Ran.{Ran}
 use Rattle.bb_tool.specs.Refusal.{line_of, status_of}
-use Rattle.bb_tool.specs.Session.{Answers, Session, answers_of, ended_status, sent_of, session_of}
+use Rattle.bb_tool.specs.Session.{Answers, Session, answers_of, ended_status, load_for, sent_of, session_of, unmarked_behind}
 use Rattle.bb_tool.specs.Telling.{IsSent, IsTold}
 use Rattle.bb_tool.specs.declared.refusal.Refusal.{Refusal}
 use Rattle.bb_tool.specs.declared.refusal.Refusal.TheVariants as refusals
@@ -36,13 +36,13 @@ MayAnswer ran answers =
 abbrev pub session_for : Ran → Answers → Session
 session_for ran answers = session_of ran.words (geometry_of ran) answers
 
--- the plan, where reading the file that the words name gave what these files hold
+-- the plan, where reading the files that the words name gave what these files hold
 abbrev pub plan_over : Ran → FileMap → Result Plan Refusal
-plan_over ran files = planned ran.words (geometry_of ran) (file_for ran.words files)
+plan_over ran files = planned ran.words (geometry_of ran) (files_for ran.words files)
 
--- the plan for what reading the file answered
+-- the plan for what reading the files answered
 abbrev pub plan_for : Ran → Answers → Result Plan Refusal
-plan_for ran answers = planned ran.words (geometry_of ran) answers.file
+plan_for ran answers = planned ran.words (geometry_of ran) answers.files
 
 -- the words name no file
 abbrev pub NamesNoFile : Ran → Type 0
@@ -129,6 +129,8 @@ is_planning statuses.FileFault = true
 is_planning statuses.FileTooLong = true
 is_planning statuses.ReadFault = false
 is_planning statuses.WriteFault = false
+is_planning statuses.BadSettings = true
+is_planning statuses.NoGood = false
 is_planning statuses.SinkFault = false
 is_planning statuses.NoMemory = false
 
@@ -137,6 +139,14 @@ abbrev pub AsksNothing : Ran → Type 0
 AsksNothing ran = is_planning ran.status ≡ true → ran.after.device ≡ ran.before.device
 
 -- ---- each answer and its cause
+
+-- the statuses that a fault of the files, the device or the output brings
+abbrev pub is_fault : Status → Bool
+is_fault statuses.FileFault = true
+is_fault statuses.ReadFault = true
+is_fault statuses.WriteFault = true
+is_fault statuses.SinkFault = true
+is_fault _ = false
 
 -- an answer comes exactly where a fact holds; a failing output and want of memory come before it
 pub record ComesExactly (ran : Ran) (answer : Status) (fact : Type 0) : Type 0 where
@@ -172,6 +182,24 @@ abbrev pub ComesByPlanAlone : Status → Ran → Type 0
 ComesByPlanAlone answer ran =
     NamesNoFile ran → (files : FileMap)
     → ComesExactly ran answer (IsRefusedWith answer (plan_over ran files))
+
+-- An answer comes exactly where the table of a plan's copies at entry has, as the place that is to be
+-- marked good, one that no target has. Each fault comes before it.
+pub record ComesUnmarked (ran : Ran) (answer : Status) (place : Option ℕ) : Type 0 where
+  pub only : ran.status ≡ answer → IsSome place
+  pub always : IsSome place
+      → (ran.status ≡ answer)
+      ⊎ ((ran.status ≡ statuses.NoMemory) ⊎ (is_fault ran.status ≡ true))
+
+-- so it does over the files and a device that are told
+abbrev pub ComesByTable : Status → Ran → Type 0
+ComesByTable answer ran =
+    ForSome ran.before.folder.told
+    (λ files.
+    ForSome (content ran.before.device)
+    (λ image.
+    let plan = plan_over ran files in
+    ComesUnmarked ran answer (unmarked_behind plan (load_for plan (geometry_of ran) image))))
 
 -- an answer comes only where a count rose: that of the files, the device, its reads, or the output
 abbrev pub ComesByFiles : Status → Ran → Type 0

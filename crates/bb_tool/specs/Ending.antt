@@ -14,11 +14,11 @@ abbrev pub IsFollowed : Result Plan Refusal → Device → Device → Answers �
 IsFollowed (Ok plan) before after answers = IsWork plan before after answers.load answers.saves
 IsFollowed (Err refusal) before after answers = after ≡ before
 
--- these are what the file and the device answered
+-- these are what the files and the device answered
 pub record AreAnswers (words : List (List ℕ)) (folder folder' : Folder) (before after : Device)
     (answers : Answers) : Type 0 where
-  pub filed : IsFiled words folder folder' answers.file
-  pub followed : IsFollowed (planned words before.geometry answers.file) before after answers
+  pub filed : IsFiled words folder folder' answers.files
+  pub followed : IsFollowed (planned words before.geometry answers.files) before after answers
 
 -- the session gave its text, or its refusal
 pub record IsAnswer (words : List (List ℕ)) (folder folder' : Folder) (before after : Device)

@@ -11,7 +11,7 @@ use Rattle.bb_flash.specs.Image.{Image}
 use Rattle.bb_layout.specs.Layout.{Laid}
 use Rattle.bb_state.specs.Kinds.{laid_form, laid_kinds}
 use Rattle.bb_tool.specs.Looking.{first_found, passed_in}
-use Rattle.bb_tool.specs.Plan.{Act, Plan, Show, Work, Write}
+use Rattle.bb_tool.specs.Plan.{Act, Good, Plan, Show, Work, Write}
 use Rattle.bb_tool.specs.Session.{saves_behind}
 use Rattle.bb_tool.specs.declared.refusal.Refusal.{Refusal}
 
@@ -49,6 +49,7 @@ abbrev pub worked_region : Work → Plan → Option (List ℕ) → Kind → Imag
 worked_region Show plan found kind region = region
 worked_region (Write area) plan found kind region = stored_region plan found kind region
 worked_region (Act actions) plan found kind region = stored_region plan found kind region
+worked_region (Good targets) plan found kind region = stored_region plan found kind region
 
 -- the area that was loaded or saved last, if one was
 abbrev pub last_of : Option (List ℕ) → List (List ℕ) → Option (List ℕ)
@@ -60,6 +61,7 @@ abbrev pub last_area : Work → Plan → Option (List ℕ) → Option (List ℕ)
 last_area Show plan found = None
 last_area (Write area) plan found = last_of found (saves_behind plan (Ok found))
 last_area (Act actions) plan found = last_of found (saves_behind plan (Ok found))
+last_area (Good targets) plan found = last_of found (saves_behind plan (Ok found))
 
 -- ---- what it leaves of all copies
 

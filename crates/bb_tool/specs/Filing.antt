@@ -1,17 +1,11 @@
--- What a session reads of its file, and the layout that it finds there.
-use Rattle.std.specs.Prelude.{◌≡◌, ◌≢◌, ◌≤◌, ⊤, ℕ, List, Some, None, Result, Ok, Err, IsOk}
+-- What a session reads of the files that its words name, and what a step makes of one.
+use Rattle.std.specs.Prelude.{◌≡◌, ◌≢◌, ◌≤◌, ⊤, ℕ, List, Some, Result, Ok, Err, IsOk}
 use Rattle.std.specs.Option.{ForSome}
 use Rattle.bb_base.specs.Faults.{Rose}
 use Rattle.bb_base.specs.Folder.{Folder, file_of}
 use Rattle.bb_base.specs.declared.files.FileFail.TheVariants.{Fault, TooLong, NoMemory}
-use Rattle.bb_flash.specs.declared.geometry.Geometry.{Geometry}
-use Rattle.bb_layout.specs.Layout.{laid}
-use Rattle.bb_layout.specs.declared.layout.Layout.{Layout}
 use Rattle.bb_words.specs.Words.{words_of}
-use Rattle.bb_words.specs.declared.command.Command.TheVariants.{State}
-use Rattle.bb_words.specs.declared.command.Action.{Action}
-use Rattle.bb_words.specs.declared.command.StateCommand.{StateCommand}
-use Rattle.bb_tool.specs.Plan.{Act, FileAnswer, Plan, state_plan}
+use Rattle.bb_tool.specs.Plan.{FileAnswer, FileAnswers, Role, name_for}
 use Rattle.bb_tool.specs.declared.refusal.Refusal.{Refusal}
 use Rattle.bb_tool.specs.declared.refusal.Refusal.TheVariants as refusals
 
@@ -34,41 +28,37 @@ pub record IsFolderLater (before after : Folder) : Type 0 where
   pub told : after.told ≡ before.told
   pub faults : before.faults ≤ after.faults
 
--- this is what reading the file gave that the words name, if they name one
-pub record IsFiled (words : List (List ℕ)) (before after : Folder) (answer : FileAnswer) : Type 0 where
-  pub read : (command : StateCommand) → words_of words ≡ Ok (State command) → IsFileRead command.file before after answer
+-- ---- all files of a session
 
--- the refusal that reading a file brings
-abbrev pub file_refusal : List ℕ → FileAnswer → Refusal
-file_refusal name (Ok None) = refusals.FileMissing name
-file_refusal name (Ok (Some source)) = refusals.NoMemory
-file_refusal name (Err Fault) = refusals.FileFault name
-file_refusal name (Err TooLong) = refusals.FileTooLong name
-file_refusal name (Err NoMemory) = refusals.NoMemory
+-- a fact about each file that the words name
+abbrev pub EachNamed : List (List ℕ) → (Role → List ℕ → Type 0) → Type 0
+EachNamed words P =
+    (role : Role) (name : List ℕ) → name_for (words_of words) role ≡ Some name → P role name
 
--- there are no bytes to read
-abbrev pub IsNoSource : FileAnswer → Type 0
-IsNoSource (Ok (Some source)) = ⊥
-IsNoSource (Ok None) = ⊤
-IsNoSource (Err e) = ⊤
+-- This is what reading the files gave that the words name. Of one to which the session didn't come
+-- it is an answer that may be given.
+pub record IsFiled (words : List (List ℕ)) (before after : Folder) (answers : FileAnswers)
+    : Type 0 where
+  pub told :
+      EachNamed words
+      (λ role name.
+      ForSome before.told (λ files. IsAnswerFor (answers role) (file_of files name)))
+  pub cause :
+      EachNamed words
+      (λ role name. answers role ≡ Err Fault → Rose before.faults after.faults)
+  pub calm : EachNamed words (λ role name. IsOk (answers role)) → after.faults ≡ before.faults
 
--- the bytes of the file, or the refusal
-abbrev pub IsSource : List ℕ → FileAnswer → Result (List ℕ) Refusal → Type 0
-IsSource name file (Ok source) = file ≡ Ok (Some source)
-IsSource name file (Err e) = e ≢ refusals.NoMemory → (file_refusal name file ≡ e) × IsNoSource file
+-- ---- one step
 
-pub record IsSourceRead (name : List ℕ) (before after : Folder) (given : Result (List ℕ) Refusal) : Type 0 where
-  pub file : FileAnswer
-  pub read : IsFileRead name before after file
-  pub source : IsSource name file given
+-- a step gave what is expected of it, unless memory was refused
+abbrev pub Follows : {A B : Type 0} → Result B Refusal → (A → B) → Result A Refusal → Type 0
+Follows expected view (Ok x) = expected ≡ Ok (view x)
+Follows expected view (Err e) = e ≢ refusals.NoMemory → expected ≡ Err e
 
--- the layout whose copies are worked on, or the refusal
-abbrev pub Plans : Result Plan Refusal → List Action → Result Layout Refusal → Type 0
-Plans plan actions (Ok layout) = plan ≡ Ok (record { layout = laid layout; work = Act actions })
-Plans plan actions (Err e) = e ≢ refusals.NoMemory → plan ≡ Err e
-
-pub record IsPlanned (command : StateCommand) (geometry : Geometry) (before after : Folder)
-    (given : Result Layout Refusal) : Type 0 where
-  pub file : FileAnswer
-  pub read : IsFileRead command.file before after file
-  pub plans : Plans (state_plan command geometry file) command.actions given
+-- a file was read, and the step behind it gave what is expected of what reading it gave
+pub record IsReadFor {A B : Type 0} (name : List ℕ) (before after : Folder)
+    (expected : FileAnswer → Result B Refusal) (view : A → B) (given : Result A Refusal)
+    : Type 0 where
+  pub answer : FileAnswer
+  pub read : IsFileRead name before after answer
+  pub follows : Follows (expected answer) view given

@@ -20,6 +20,7 @@ pub mod Ending
 pub mod Exactly
 pub mod Filing
 pub mod Looking
+pub mod Marking
 pub mod Plan
 pub mod Ran
 pub mod Refusal

@@ -1,21 +1,26 @@
 -- What a session is to do on the device, or why it is refused before: a function of its words, of the device's geometry,
--- and of what reading the file gave that a word names.
-use Rattle.std.specs.Prelude.{ℕ, Bool, true, false, List, Option, Some, None, Result, Ok, Err}
+-- and of what reading the files gave that the words name.
+use Rattle.std.specs.Prelude.{ℕ, Bool, is_some, List, Option, Some, None, Result, Ok, Err}
+use Rattle.std.specs.Option.{option_map_or}
+use Rattle.bb_actions.specs.Actions.{misfit_of}
 use Rattle.bb_base.specs.Folder.{FileMap, file_of}
 use Rattle.bb_base.specs.declared.files.FileFail.{FileFail}
 use Rattle.bb_base.specs.declared.files.FileFail.TheVariants as file_fails
-use Rattle.bb_dts.specs.Source.{Read, source_of}
-use Rattle.bb_dts.specs.declared.error.DtsError.{DtsError}
+use Rattle.bb_chooser.specs.Binding.{Binding, bind_from}
+use Rattle.bb_chooser.specs.Settings.{settings_of}
+use Rattle.bb_chooser.specs.declared.settings_error.SettingsError.{SettingsError}
+use Rattle.bb_dts.specs.Source.{source_of}
 use Rattle.bb_flash.specs.declared.geometry.Geometry.{Geometry}
 use Rattle.bb_layout.specs.Layout.{Laid, layout_from}
+use Rattle.bb_layout.specs.Results.{result_and_then}
 use Rattle.bb_layout.specs.Thirds.{raw_layout}
 use Rattle.bb_layout.specs.declared.layout_error.LayoutError.{LayoutError}
-use Rattle.bb_actions.specs.Actions.{misfit_of}
 use Rattle.bb_state.specs.declared.error.StateError.{StateError}
 use Rattle.bb_words.specs.Words.{words_of}
 use Rattle.bb_words.specs.declared.command.Action.{Action}
 use Rattle.bb_words.specs.declared.command.Command.{Command}
-use Rattle.bb_words.specs.declared.command.Command.TheVariants.{Raw, State}
+use Rattle.bb_words.specs.declared.command.Command.TheVariants.{Raw, State, MarkGood}
+use Rattle.bb_words.specs.declared.command.MarkGoodCommand.{MarkGoodCommand}
 use Rattle.bb_words.specs.declared.command.RawAction.{RawAction}
 use Rattle.bb_words.specs.declared.command.RawAction.TheVariants as raw_actions
 use Rattle.bb_words.specs.declared.command.RawCommand.{RawCommand}
@@ -27,6 +32,17 @@ use Rattle.bb_tool.specs.declared.refusal.Refusal.TheVariants as refusals
 abbrev pub FileAnswer : Type 0
 FileAnswer = Result (Option (List ℕ)) FileFail
 
+-- what a file that words name is for, in the order of reading
+pub data Role : Type 0 where
+  -- `-i`: the devicetree that describes the state
+  Tree : Role
+  -- `-c`: bootchooser's settings
+  Settings : Role
+
+-- what reading each of them gave
+abbrev pub FileAnswers : Type 0
+FileAnswers = Role → FileAnswer
+
 -- what is done with the copies of a layout
 pub data Work : Type 0 where
   -- to look at them, and to send the area of the first that passes in hexadecimal
@@ -36,12 +52,59 @@ pub data Work : Type 0 where
   -- to load them, to make the sets among these actions, to save the table that this makes where it
   -- is another, and to send what is got of it
   Act : List Action → Work
+  -- to load them, to give the target that was chosen last its default attempts, to save the table
+  -- that this makes where it is another, and to send that target
+  Good : Binding → Work
 
 pub record Plan : Type 0 where
   pub layout : Laid
   pub work : Work
 
--- ---- the command `raw`
+-- ---- steps
+
+-- what a step gave, or its refusal by the name that it has in a session
+abbrev pub refused_as : {A E : Type 0} → (E → Refusal) → Result A E → Result A Refusal
+refused_as refusal (Ok x) = Ok x
+refused_as refusal (Err e) = Err (refusal e)
+
+-- the bytes of the file of this name
+abbrev pub bytes_in : List ℕ → FileAnswer → Result (List ℕ) Refusal
+bytes_in file (Ok (Some bytes)) = Ok bytes
+bytes_in file (Ok None) = Err (refusals.FileMissing file)
+bytes_in file (Err file_fails.Fault) = Err (refusals.FileFault file)
+bytes_in file (Err file_fails.TooLong) = Err (refusals.FileTooLong file)
+bytes_in file (Err file_fails.NoMemory) = Err refusals.NoMemory
+
+-- the layout of the state of this name, if one is asked for, by the tree of a source
+abbrev pub layout_by : Option (List ℕ) → Geometry → List ℕ → Result Laid Refusal
+layout_by name geometry source =
+    result_and_then
+    (λ tree. refused_as refusals.BadLayout (layout_from tree.root name geometry))
+    (refused_as refusals.BadTree (source_of source))
+
+-- the source is that in the file
+abbrev pub layout_in : List ℕ → Option (List ℕ) → Geometry → FileAnswer → Result Laid Refusal
+layout_in file name geometry answer =
+    result_and_then (layout_by name geometry) (bytes_in file answer)
+
+-- settings, bound to the variables of a layout
+abbrev pub bound_in : Laid → List ℕ → Result Binding SettingsError
+bound_in layout text =
+    result_and_then (λ settings. bind_from settings layout.name layout.vars layout.area_len)
+    (settings_of text)
+
+-- those in the file
+abbrev pub binding_in : List ℕ → Laid → FileAnswer → Result Binding Refusal
+binding_in file layout answer =
+    result_and_then (λ text. refused_as refusals.BadSettings (bound_in layout text))
+    (bytes_in file answer)
+
+-- all variables that are named fit, or this is the first that doesn't
+abbrev pub fit_by : Option (List ℕ × StateError) → Result (Unit {0}) Refusal
+fit_by None = Ok tt
+fit_by (Some misfit) = Err (refusals.BadVariable misfit.0 misfit.1)
+
+-- ---- each command
 
 abbrev pub raw_work : RawAction → Work
 raw_work raw_actions.Look = Show
@@ -54,56 +117,62 @@ raw_laid command (Err e) = Err (refusals.BadLayout e)
 abbrev pub raw_plan : RawCommand → Geometry → Result Plan Refusal
 raw_plan command geometry = raw_laid command (raw_layout command.magic command.area_len geometry)
 
--- ---- the command `state`: its file, the tree in it, the layout of that, the variables that are named
-
-abbrev pub state_named : Laid → List Action → Option (List ℕ × StateError) → Result Plan Refusal
-state_named laid actions None = Ok (record { layout = laid; work = Act actions })
-state_named laid actions (Some misfit) = Err (refusals.BadVariable misfit.0 misfit.1)
-
-abbrev pub state_laid : StateCommand → Result Laid LayoutError → Result Plan Refusal
-state_laid command (Ok laid) =
-    state_named laid command.actions (misfit_of laid.vars command.actions)
-state_laid command (Err e) = Err (refusals.BadLayout e)
-
-abbrev pub state_read : StateCommand → Geometry → Result Read DtsError → Result Plan Refusal
-state_read command geometry (Ok tree) = state_laid command (layout_from tree.root command.name geometry)
-state_read command geometry (Err e) = Err (refusals.BadTree e)
+-- `state`: its layout, and then the variables that are named
+abbrev pub state_laid : StateCommand → Laid → Result Plan Refusal
+state_laid command layout =
+    result_and_then (λ fit. Ok (record { layout = layout; work = Act command.actions }))
+    (fit_by (misfit_of layout.vars command.actions))
 
 abbrev pub state_plan : StateCommand → Geometry → FileAnswer → Result Plan Refusal
-state_plan command geometry (Ok (Some source)) = state_read command geometry (source_of source)
-state_plan command geometry (Ok None) = Err (refusals.FileMissing command.file)
-state_plan command geometry (Err file_fails.Fault) = Err (refusals.FileFault command.file)
-state_plan command geometry (Err file_fails.TooLong) = Err (refusals.FileTooLong command.file)
-state_plan command geometry (Err file_fails.NoMemory) = Err refusals.NoMemory
+state_plan command geometry tree =
+    result_and_then (state_laid command) (layout_in command.file command.name geometry tree)
+
+-- `mark-good`: its layout, and then its settings
+abbrev pub mark_laid : MarkGoodCommand → FileAnswer → Laid → Result Plan Refusal
+mark_laid command settings layout =
+    result_and_then (λ binding. Ok (record { layout = layout; work = Good binding }))
+    (binding_in command.settings layout settings)
+
+abbrev pub mark_plan : MarkGoodCommand → Geometry → FileAnswer → FileAnswer → Result Plan Refusal
+mark_plan command geometry tree settings =
+    result_and_then (mark_laid command settings)
+    (layout_in command.file command.name geometry tree)
 
 -- ---- all commands
 
-abbrev pub plan_of : Result Command ℕ → Geometry → FileAnswer → Result Plan Refusal
-plan_of (Ok (Raw command)) geometry file = raw_plan command geometry
-plan_of (Ok (State command)) geometry file = state_plan command geometry file
-plan_of (Err place) geometry file = Err (refusals.BadWords place)
+abbrev pub plan_of : Result Command ℕ → Geometry → FileAnswers → Result Plan Refusal
+plan_of (Ok (Raw command)) geometry files = raw_plan command geometry
+plan_of (Ok (State command)) geometry files = state_plan command geometry (files Tree)
+plan_of (Ok (MarkGood command)) geometry files =
+    mark_plan command geometry (files Tree) (files Settings)
+plan_of (Err place) geometry files = Err (refusals.BadWords place)
 
 -- the steps that make no device call, in their order. The first refusal decides.
-abbrev pub planned : List (List ℕ) → Geometry → FileAnswer → Result Plan Refusal
-planned words geometry file = plan_of (words_of words) geometry file
+abbrev pub planned : List (List ℕ) → Geometry → FileAnswers → Result Plan Refusal
+planned words geometry files = plan_of (words_of words) geometry files
+
+-- the file that a command names for this
+abbrev pub name_for : Result Command ℕ → Role → Option (List ℕ)
+name_for (Ok (Raw command)) role = None
+name_for (Ok (State command)) Tree = Some command.file
+name_for (Ok (State command)) Settings = None
+name_for (Ok (MarkGood command)) Tree = Some command.file
+name_for (Ok (MarkGood command)) Settings = Some command.settings
+name_for (Err place) role = None
 
 -- a command names a file
 abbrev pub has_file : Result Command ℕ → Bool
-has_file (Ok (Raw command)) = false
-has_file (Ok (State command)) = true
-has_file (Err place) = false
+has_file command = is_some (name_for command Tree)
 
 abbrev pub names_file : List (List ℕ) → Bool
 names_file words = has_file (words_of words)
 
--- the file that the words name, among these files; where they name none, none is read
-abbrev pub file_named : Result Command ℕ → FileMap → FileAnswer
-file_named (Ok (Raw command)) files = Ok None
-file_named (Ok (State command)) files = file_of files command.file
-file_named (Err place) files = Ok None
+-- the files that the words name, among these; where they name none, none is read
+abbrev pub file_named : Result Command ℕ → FileMap → Role → FileAnswer
+file_named command files role = option_map_or (file_of files) (name_for command role) (Ok None)
 
-abbrev pub file_for : List (List ℕ) → FileMap → FileAnswer
-file_for words files = file_named (words_of words) files
+abbrev pub files_for : List (List ℕ) → FileMap → FileAnswers
+files_for words files = file_named (words_of words) files
 
 -- how many copies the layout of a plan has
 abbrev pub copies_in : Result Plan Refusal → ℕ

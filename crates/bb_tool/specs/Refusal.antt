@@ -1,5 +1,7 @@
 -- Why a session was refused: its status, and the one line that is sent of it.
 use Rattle.std.specs.Prelude.{List, ℕ, ◌+◌, ◌++◌, ◌<◌, ⊤, codes, decimal}
+use Rattle.bb_chooser.specs.declared.settings_error.SettingsError.{SettingsError}
+use Rattle.bb_chooser.specs.declared.settings_error.SettingsError.TheVariants as settings_errors
 use Rattle.bb_dts.specs.declared.error.DtsError.{DtsError}
 use Rattle.bb_dts.specs.declared.error.DtsError.TheVariants as tree_errors
 use Rattle.bb_layout.specs.declared.layout_error.LayoutError.{LayoutError}
@@ -28,6 +30,8 @@ status_of (refusals.FileFault file) = statuses.FileFault
 status_of (refusals.FileTooLong file) = statuses.FileTooLong
 status_of refusals.ReadFault = statuses.ReadFault
 status_of (refusals.WriteFault copy) = statuses.WriteFault
+status_of (refusals.BadSettings e) = statuses.BadSettings
+status_of (refusals.NoGood place) = statuses.NoGood
 status_of refusals.NoMemory = statuses.NoMemory
 
 -- the words for a text that is no source: the refusal's name, and its offset
@@ -73,6 +77,17 @@ variable_words state_errors.NoSuchVariable = codes "NoSuchVariable"
 variable_words (state_errors.Value cause) = value_words cause
 variable_words state_errors.NoMemory = codes "NoMemory"
 
+-- the words for settings that are no good: the refusal's name, and the line, counted from 1, or the variable
+abbrev pub settings_words : SettingsError → List ℕ
+settings_words (settings_errors.BadLine line) = codes "BadLine " ++ decimal line
+settings_words settings_errors.NoTargets = codes "NoTargets"
+settings_words (settings_errors.TargetTwice line) = codes "TargetTwice " ++ decimal line
+settings_words (settings_errors.BadNumber line) = codes "BadNumber " ++ decimal line
+settings_words (settings_errors.BadEvent line) = codes "BadEvent " ++ decimal line
+settings_words (settings_errors.NoSuchVariable name) = codes "NoSuchVariable " ++ name
+settings_words (settings_errors.NotUint32 name) = codes "NotUint32 " ++ name
+settings_words settings_errors.NoMemory = codes "NoMemory"
+
 -- what the line says behind the number of the status: words are counted from 1, copies from 0
 abbrev pub refusal_words : Refusal → List ℕ
 refusal_words (refusals.BadWords place) = codes "BadWords " ++ decimal (place + 1)
@@ -85,6 +100,8 @@ refusal_words (refusals.FileFault file) = codes "FileFault " ++ file
 refusal_words (refusals.FileTooLong file) = codes "FileTooLong " ++ file
 refusal_words refusals.ReadFault = codes "ReadFault"
 refusal_words (refusals.WriteFault copy) = codes "WriteFault " ++ decimal copy
+refusal_words (refusals.BadSettings e) = codes "BadSettings " ++ settings_words e
+refusal_words (refusals.NoGood place) = codes "NoGood " ++ decimal place
 refusal_words refusals.NoMemory = codes "NoMemory"
 
 -- the line of a refusal
@@ -104,6 +121,8 @@ IsTellable (refusals.FileMissing file) = ⊤
 IsTellable (refusals.FileFault file) = ⊤
 IsTellable (refusals.FileTooLong file) = ⊤
 IsTellable refusals.ReadFault = ⊤
+IsTellable (refusals.BadSettings e) = ⊤
+IsTellable (refusals.NoGood place) = ⊤
 IsTellable refusals.NoMemory = ⊤
 
 -- how a session is refused by what the steps refuse
@@ -144,3 +163,17 @@ layout_refusal layout_errors.OutOfDevice = refusals.BadLayout layout_errors.OutO
 layout_refusal layout_errors.AreaTooLong = refusals.BadLayout layout_errors.AreaTooLong
 layout_refusal layout_errors.NameTwice = refusals.BadLayout layout_errors.NameTwice
 layout_refusal layout_errors.NoMemory = refusals.NoMemory
+
+abbrev pub settings_refusal : SettingsError → Refusal
+settings_refusal (settings_errors.BadLine line) = refusals.BadSettings (settings_errors.BadLine line)
+settings_refusal settings_errors.NoTargets = refusals.BadSettings settings_errors.NoTargets
+settings_refusal (settings_errors.TargetTwice line) =
+    refusals.BadSettings (settings_errors.TargetTwice line)
+settings_refusal (settings_errors.BadNumber line) =
+    refusals.BadSettings (settings_errors.BadNumber line)
+settings_refusal (settings_errors.BadEvent line) = refusals.BadSettings (settings_errors.BadEvent line)
+settings_refusal (settings_errors.NoSuchVariable name) =
+    refusals.BadSettings (settings_errors.NoSuchVariable name)
+settings_refusal (settings_errors.NotUint32 name) =
+    refusals.BadSettings (settings_errors.NotUint32 name)
+settings_refusal settings_errors.NoMemory = refusals.NoMemory

@@ -30,7 +30,8 @@ abbrev pub IsTold : List ℕ → Status → Outlet → Outlet → Status → Typ
 IsTold text ended before after status =
     IsSent text ended before after status ⊎ IsCutOff text ended before after status
 
--- the line of a refusal takes memory, unless it is that of a fault of the device or of want of memory
+-- the line of a refusal takes memory, unless it is that of a refusal behind a call of the device, or of
+-- want of memory
 abbrev pub takes_memory : Refusal → Bool
 takes_memory (refusals.BadWords place) = true
 takes_memory (refusals.BadTree e) = true
@@ -41,6 +42,8 @@ takes_memory (refusals.FileFault file) = true
 takes_memory (refusals.FileTooLong file) = true
 takes_memory refusals.ReadFault = false
 takes_memory (refusals.WriteFault copy) = false
+takes_memory (refusals.BadSettings e) = true
+takes_memory (refusals.NoGood place) = false
 takes_memory refusals.NoMemory = false
 
 abbrev pub IsToldMemory : Outlet → Outlet → Status → Type 0

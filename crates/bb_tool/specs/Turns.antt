@@ -11,7 +11,7 @@ use Rattle.bb_flash.specs.Image.{Image}
 use Rattle.bb_layout.specs.Defaults.{defaults_of}
 use Rattle.bb_layout.specs.Layout.{Laid}
 use Rattle.bb_tool.specs.Looking.{passed_in}
-use Rattle.bb_tool.specs.Plan.{Act, Plan, Show, Work, Write}
+use Rattle.bb_tool.specs.Plan.{Act, Good, Plan, Show, Work, Write}
 use Rattle.bb_tool.specs.Session.{LoadAnswer, SaveAnswer, worked}
 
 -- the area that an empty device stands for
@@ -33,6 +33,7 @@ abbrev pub work_turn : Work → Plan → LoadAnswer → List SaveAnswer → List
 work_turn Show plan load saves marks = Looked
 work_turn (Write area) plan load saves marks = load_turn plan load saves marks
 work_turn (Act actions) plan load saves marks = load_turn plan load saves marks
+work_turn (Good targets) plan load saves marks = load_turn plan load saves marks
 
 -- of a plan, at copies with these marks
 abbrev pub turn_of : Plan → LoadAnswer → List SaveAnswer → List (Option ℕ) → Turn

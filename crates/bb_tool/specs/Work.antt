@@ -15,7 +15,7 @@ use Rattle.bb_layout.specs.Layout.{Laid}
 use Rattle.bb_state.specs.Kinds.{laid_form, laid_kinds}
 use Rattle.bb_state.specs.State.{IsDefault, IsRefused, IsStored}
 use Rattle.bb_tool.specs.Looking.{IsQuiet, first_found, passed_in}
-use Rattle.bb_tool.specs.Plan.{Act, Plan, Show, Work, Write}
+use Rattle.bb_tool.specs.Plan.{Act, Good, Plan, Show, Work, Write}
 use Rattle.bb_tool.specs.Session.{LoadAnswer, SaveAnswer, Session, saves_behind, worked}
 use Rattle.bb_tool.specs.declared.refusal.Refusal.{Refusal}
 use Rattle.bb_tool.specs.declared.refusal.Refusal.TheVariants as refusals
@@ -109,6 +109,7 @@ abbrev pub IsWorkOf : Work → Plan → Device → Device → LoadAnswer → Lis
 IsWorkOf Show plan from to load saves = IsLookWork plan from to load saves
 IsWorkOf (Write area) plan from to load saves = IsStoreWork plan from to load saves
 IsWorkOf (Act actions) plan from to load saves = IsStoreWork plan from to load saves
+IsWorkOf (Good targets) plan from to load saves = IsStoreWork plan from to load saves
 
 abbrev pub IsWork : Plan → Device → Device → LoadAnswer → List SaveAnswer → Type 0
 IsWork plan from to load saves = IsWorkOf plan.work plan from to load saves
@@ -127,7 +128,7 @@ pub record IsWorkDone (plan : Plan) (from to : Device) (given : Result (List ℕ
   pub work : IsWork plan from to load saves
   pub gives : Gives (worked plan load saves) given
 
--- it was done, no part of it was refused, and then memory was refused for its text
+-- it was done, no part of it was refused, and then memory was refused for what was to be sent
 pub record IsTextRefused (plan : Plan) (from to : Device) (given : Result (List ℕ) Refusal)
     : Type 0 where
   pub load : LoadAnswer

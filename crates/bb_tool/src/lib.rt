@@ -2,13 +2,17 @@
 //! stands on it.
 #![tactic(auto)]
 
+mod described;
+mod file;
 mod law;
 mod line;
+mod mark_good;
 mod raw;
 mod refusal;
 mod session;
 mod state;
 mod status;
+mod targets;
 mod tell;
 
 pub use law::{law_chronicle, law_wear};

@@ -1,13 +1,16 @@
-ghost use Rattle.std.specs.Prelude.{◌≡◌, ◌<◌, ◌++◌, true, IfOk, IfSome, None, codes, string_bytes};
-ghost use Rattle.bb_tool.specs.Refusal.{IsTellable, layout_words, line_of, refusal_words, tree_words, value_words, variable_words};
+ghost use Rattle.std.specs.Prelude.{◌≡◌, ◌<◌, ◌≤◌, ◌++◌, true, IfOk, IfSome, None, codes, length, string_bytes};
+ghost use Rattle.bb_tool.specs.Refusal.{IsTellable, layout_words, line_of, refusal_words, settings_words, tree_words, value_words, variable_words};
 ghost use Rattle.bb_tool.specs.Telling.{takes_memory};
 ghost use Rattle.bb_tool.specs.declared.refusal.Refusal.TheVariants as refusals;
 
 use crate::refusal::Refusal;
+use arrayvec::ArrayString;
+use bb_chooser::SettingsError;
 use bb_dts::DtsError;
 use bb_layout::LayoutError;
 use bb_state::StateError;
 use bb_vars::ValueError;
+use itoa::Buffer;
 use std::alloc::{AllocError, Global};
 
 /// The line that is sent of a refusal: the number of its status, and what the refusal is.
@@ -18,24 +21,49 @@ pub(crate) fn line(alloc: Global, refusal: &Refusal) -> Result<String, AllocErro
     format!(in alloc; "fault {} {words}\n", refusal.status().code())
 }
 
+/// A line of at most 27 bytes, which takes no memory.
+pub(crate) type ShortLine = ArrayString<27>;
+
 /// The line of a refusal that takes no memory, where it is one.
-pub(crate) fn fixed_line(refusal: &Refusal) -> Option<&'static str>
+pub(crate) fn fixed_line(refusal: &Refusal) -> Option<ShortLine>
     requires { IsTellable refusal.now }
-    ensures line { IfSome result (λ line. line.now ≡ line_of refusal.now) }
+    ensures line { IfSome result (λ line. line.bytes ≡ line_of refusal.now) }
     ensures made { result ≡ None → takes_memory refusal.now ≡ true }
 {
     match refusal {
-        Refusal::ReadFault => Some(read_line()),
-        Refusal::WriteFault(copy) => Some(write_line(*copy)),
-        Refusal::NoMemory => Some(no_memory_line()),
+        Refusal::ReadFault => Some(short(read_line())),
+        Refusal::WriteFault(copy) => Some(short(write_line(*copy))),
+        Refusal::NoGood(place) => Some(no_good_line(*place)),
+        Refusal::NoMemory => Some(short(no_memory_line())),
         Refusal::BadWords(_) | Refusal::BadTree(_) | Refusal::BadLayout(_) => None,
         Refusal::BadVariable(_, _) => None,
         Refusal::FileMissing(_) | Refusal::FileFault(_) | Refusal::FileTooLong(_) => None,
+        Refusal::BadSettings(_) => None,
     }
 }
 
+fn short(text: &str) -> ShortLine
+    requires { length text.now ≤ 27 }
+    ensures { result.bytes ≡ text.now }
+{
+    let mut line = ShortLine::new();
+    line.push_str(text);
+    line
+}
+
+fn no_good_line(place: u32) -> ShortLine
+    ensures { result.bytes ≡ line_of (refusals.NoGood place) }
+{
+    let mut digits = Buffer::new();
+    let mut line = short("fault 18 NoGood ");
+    line.push_str(digits.format(place));
+    line.push_str("\n");
+    line
+}
+
 fn read_line() -> &'static str
-    ensures { result.now ≡ line_of refusals.ReadFault }
+    ensures line { result.now ≡ line_of refusals.ReadFault }
+    ensures short { length result.now ≤ 27 }
 {
     "fault 8 ReadFault\n"
 }
@@ -43,7 +71,8 @@ fn read_line() -> &'static str
 // The line where one of the three copies couldn't be written.
 fn write_line(copy: u32) -> &'static str
     requires { copy < 3 }
-    ensures { result.now ≡ line_of (refusals.WriteFault copy) }
+    ensures line { result.now ≡ line_of (refusals.WriteFault copy) }
+    ensures short { length result.now ≤ 27 }
 {
     match copy {
         0 => "fault 9 WriteFault 0\n",
@@ -54,7 +83,8 @@ fn write_line(copy: u32) -> &'static str
 
 /// The line that is sent where memory was refused.
 pub(crate) fn no_memory_line() -> &'static str
-    ensures { result.now ≡ line_of refusals.NoMemory }
+    ensures line { result.now ≡ line_of refusals.NoMemory }
+    ensures short { length result.now ≤ 27 }
 {
     "fault 20 NoMemory\n"
 }
@@ -77,6 +107,8 @@ fn words(alloc: Global, refusal: &Refusal) -> Result<String, AllocError>
         Refusal::FileTooLong(file) => format!(in alloc; "FileTooLong {}", file.as_str()),
         Refusal::ReadFault => String::from_str(alloc, "ReadFault"),
         Refusal::WriteFault(copy) => format!(in alloc; "WriteFault {copy}"),
+        Refusal::BadSettings(error) => settings_words(alloc, error),
+        Refusal::NoGood(place) => format!(in alloc; "NoGood {place}"),
         Refusal::NoMemory => String::from_str(alloc, "NoMemory"),
     }
 }
@@ -140,5 +172,27 @@ fn layout_words(alloc: Global, error: &LayoutError) -> Result<String, AllocError
         LayoutError::AreaTooLong => String::from_str(alloc, "BadLayout AreaTooLong"),
         LayoutError::NameTwice => String::from_str(alloc, "BadLayout NameTwice"),
         LayoutError::NoMemory => String::from_str(alloc, "BadLayout NoMemory"),
+    }
+}
+
+fn settings_words(alloc: Global, error: &SettingsError) -> Result<String, AllocError>
+    ensures { IfOk result (λ words.
+        string_bytes words ≡ codes "BadSettings " ++ settings_words error.now) }
+{
+    match error {
+        SettingsError::BadLine(line) => format!(in alloc; "BadSettings BadLine {line}"),
+        SettingsError::NoTargets => String::from_str(alloc, "BadSettings NoTargets"),
+        SettingsError::TargetTwice(line) => format!(in alloc; "BadSettings TargetTwice {line}"),
+        SettingsError::BadNumber(line) => format!(in alloc; "BadSettings BadNumber {line}"),
+        SettingsError::BadEvent(line) => format!(in alloc; "BadSettings BadEvent {line}"),
+        SettingsError::NoSuchVariable(name) => format!(in alloc;
+            "BadSettings NoSuchVariable {}",
+            name.as_str()
+        ),
+        SettingsError::NotUint32(name) => format!(in alloc;
+            "BadSettings NotUint32 {}",
+            name.as_str()
+        ),
+        SettingsError::NoMemory => String::from_str(alloc, "BadSettings NoMemory"),
     }
 }

@@ -2,6 +2,7 @@ ghost use Rattle.std.specs.Prelude.{◌≡◌};
 
 use crate::Status;
 use bb_base::{NoMemory, Text};
+use bb_chooser::SettingsError;
 use bb_dts::DtsError;
 use bb_layout::LayoutError;
 use bb_state::{CopyFault, StateError};
@@ -24,6 +25,9 @@ pub enum Refusal {
     ReadFault,
     /// This copy, counted from 0, couldn't be written.
     WriteFault(u32),
+    BadSettings(SettingsError),
+    /// The table has this place as the one that was chosen last, and it is 0 or above the number of targets.
+    NoGood(u32),
     NoMemory,
 }
 
@@ -106,6 +110,20 @@ impl From<LayoutError> for Refusal {
     }
 }
 
+impl From<SettingsError> for Refusal {
+    ghost use Rattle.std.specs.Prelude.{◌≡◌};
+    ghost use Rattle.bb_tool.specs.Refusal.{settings_refusal};
+
+    ghost from_gives = { λ error e. e ≡ settings_refusal error };
+
+    fn from(error: SettingsError) -> Self {
+        match error {
+            SettingsError::NoMemory => Refusal::NoMemory,
+            other => Refusal::BadSettings(other),
+        }
+    }
+}
+
 impl Refusal {
     ghost use Rattle.bb_tool.specs.Refusal.{status_of};
 
@@ -123,6 +141,8 @@ impl Refusal {
             Refusal::FileTooLong(_) => Status::FileTooLong,
             Refusal::ReadFault => Status::ReadFault,
             Refusal::WriteFault(_) => Status::WriteFault,
+            Refusal::BadSettings(_) => Status::BadSettings,
+            Refusal::NoGood(_) => Status::NoGood,
             Refusal::NoMemory => Status::NoMemory,
         }
     }

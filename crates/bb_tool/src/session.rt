@@ -1,7 +1,7 @@
 ghost use Rattle.std.specs.Prelude.{◌≡◌, ◌≤◌, false, IfErr};
 ghost use Rattle.bb_flash.specs.Cuts.{IsLater};
 ghost use Rattle.bb_flash.specs.Device.{LeavesStarts};
-ghost use Rattle.bb_tool.specs.Calls.{AsksNothing, ComesByDevice, ComesByFiles, ComesByOutlet, ComesByPlan, ComesByPlanAlone, ComesByReads, ComesByWords, CutsTheText, IsSession, IsUndisturbed, IsUndisturbedAlone, KeepsFiles, KeepsHistory, LeavesUnnamedFiles, NamesTheCopy, StartsNothing, WantsMemory};
+ghost use Rattle.bb_tool.specs.Calls.{AsksNothing, ComesByDevice, ComesByFiles, ComesByOutlet, ComesByPlan, ComesByPlanAlone, ComesByReads, ComesByTable, ComesByWords, CutsTheText, IsSession, IsUndisturbed, IsUndisturbedAlone, KeepsFiles, KeepsHistory, LeavesUnnamedFiles, NamesTheCopy, StartsNothing, WantsMemory};
 ghost use Rattle.bb_tool.specs.Copying.{KeepsATrail, KeepsAtExit, KeepsOthers, KnowsWriteFaults, LeavesUnread, MakesAlike, StopsAtFileFault, StopsBetweenSaves, WritesExactly};
 ghost use Rattle.bb_tool.specs.Ending.{IsGiven};
 ghost use Rattle.bb_tool.specs.Filing.{IsFolderLater};
@@ -10,6 +10,7 @@ ghost use Rattle.bb_tool.specs.Ran.{ran_by};
 ghost use Rattle.bb_tool.specs.Refusal.{IsTellable};
 
 use crate::Status;
+use crate::mark_good::mark_good;
 use crate::raw::raw;
 use crate::refusal::Refusal;
 use crate::state::state;
@@ -20,7 +21,7 @@ use bb_words::{Command, read_words};
 use std::alloc::Global;
 
 /// One session, over files, a device and an output: the words behind the device and its geometry, the
-/// file that they name, the layout, the work on the device, and the text that is sent, after all other
+/// files that they name, the layout, the work on the device, and the text that is sent, after all other
 /// work. The first refusal ends it, with one fault line behind the text that the work gathered.
 pub fn run<F: Files, B: Board, K: Sink>(
     alloc: Global,
@@ -29,7 +30,7 @@ pub fn run<F: Files, B: Board, K: Sink>(
     board: &mut B,
     out: &mut K,
 ) -> Status
-    // The status and the text are those of the session, for what the file and the device answered;
+    // The status and the text are those of the session, for what the files and the device answered;
     // or memory was refused.
     ensures session { IsSession (ran_by F.folder B.device K.outlet words.now
         files.old files.new board.old board.new out.old out.new result) }
@@ -105,6 +106,11 @@ pub fn run<F: Files, B: Board, K: Sink>(
         files.old files.new board.old board.new out.old out.new result) }
     ensures write_fault_cause { KnowsWriteFaults (ran_by F.folder B.device K.outlet words.now
         files.old files.new board.old board.new out.old out.new result) }
+    ensures bad_settings { ComesByPlan Status.BadSettings
+        (ran_by F.folder B.device K.outlet words.now
+        files.old files.new board.old board.new out.old out.new result) }
+    ensures no_good { ComesByTable Status.NoGood (ran_by F.folder B.device K.outlet words.now
+        files.old files.new board.old board.new out.old out.new result) }
     ensures sink_fault { ComesByOutlet Status.SinkFault (ran_by F.folder B.device K.outlet words.now
         files.old files.new board.old board.new out.old out.new result) }
     ensures sink_fault_front { CutsTheText (ran_by F.folder B.device K.outlet words.now
@@ -158,5 +164,6 @@ fn session<N: Files, F: Flash>(
     match read_words(alloc, words)? {
         Command::Raw(command) => raw(alloc, flash, command),
         Command::State(command) => state(alloc, files, flash, &command),
+        Command::MarkGood(command) => mark_good(alloc, files, flash, &command),
     }
 }

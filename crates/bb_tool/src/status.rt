@@ -23,8 +23,12 @@ pub enum Status {
     ReadFault,
     /// A copy couldn't be written.
     WriteFault,
+    /// The settings aren't settings, or the layout hasn't their variables.
+    BadSettings,
     /// The text couldn't be sent whole. It takes the place of any other status but `NoMemory`.
     SinkFault,
+    /// No target was chosen last that could be marked good.
+    NoGood,
     /// Memory was refused.
     NoMemory,
 }
@@ -47,7 +51,9 @@ impl Status {
             Status::FileTooLong => 7,
             Status::ReadFault => 8,
             Status::WriteFault => 9,
+            Status::BadSettings => 13,
             Status::SinkFault => 14,
+            Status::NoGood => 18,
             Status::NoMemory => 20,
         }
     }

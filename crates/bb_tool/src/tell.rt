@@ -30,14 +30,14 @@ fn overruled(ended: Status) -> Status
 
 /// Sends the one line of a refusal before which no text was gathered, and gives the status with which
 /// the session ends. A line that names something takes memory; where that is refused, so is the
-/// session. The lines of faults of the device take none.
+/// session. The lines of refusals behind a call of the device take none.
 pub(crate) fn tell_refusal<K: Sink>(alloc: Global, refusal: &Refusal, out: &mut K) -> Status
     requires { IsTellable refusal.now }
     ensures told { IsToldRefusal refusal.now (K.outlet out.old) (K.outlet out.new) result }
     ensures later { (K.outlet out.old).faults ≤ (K.outlet out.new).faults }
 {
     match fixed_line(refusal) {
-        Some(line) => tell(line.as_bytes(), refusal.status(), out),
+        Some(line) => tell(line.as_str().as_bytes(), refusal.status(), out),
         None => tell_made(line(alloc, refusal), refusal.status(), out),
     }
 }

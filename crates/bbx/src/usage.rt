@@ -31,6 +31,11 @@ COMMAND
      -g, --get VAR     the variable's value
      -d, --dump        VAR=VALUE for each variable
      --dump-shell      each variable as a shell's assignment to NAME_VAR, with _ for each dot
+  mark-good -i FILE -c FILE [-n NAME]
+                       reads FILE of -i as `state` does, and bootchooser's settings, gives
+                       the target that was chosen last its default attempts, saves where
+                       that changed them, and prints `good` with its name and attempts
+     -c FILE           the settings, up to 1048576 bytes
 
 Numbers are decimal, or hexadecimal behind 0x.
 
@@ -47,6 +52,9 @@ STATUS
    7 FileTooLong a file is longer than 1048576 bytes
    8 ReadFault   the device can't be opened or read, or is no device
    9 WriteFault  a copy can't be written; the line has its number, from 0
+  13 BadSettings the settings aren't settings, or a variable of theirs isn't in the layout or
+                 is no uint32; the line has the cause, and its line or the variable
   14 SinkFault   the output can't be written
+  18 NoGood      no target was chosen last; the line has last_chosen
   20 NoMemory    memory was refused
 ";

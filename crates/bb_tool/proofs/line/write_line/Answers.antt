@@ -16,13 +16,13 @@ line_2 : codes "fault 9 WriteFault 2\n" ≡ line_of (WriteFault 2)
 unfolding digits
 line_2 = refl
 
-pub returns-in-0 : goal.returns-in-0
-returns-in-0 c = line_0 ∙ ap (λ (copy : ℕ). line_of (WriteFault copy)) (sym c.in-0.is)
+pub returns-in-0-clause-line : goal.returns-in-0-clause-line
+returns-in-0-clause-line c = line_0 ∙ ap (λ (copy : ℕ). line_of (WriteFault copy)) (sym c.in-0.is)
 
-pub returns-in-1 : goal.returns-in-1
-returns-in-1 c = line_1 ∙ ap (λ (copy : ℕ). line_of (WriteFault copy)) (sym c.in-1.is)
+pub returns-in-1-clause-line : goal.returns-in-1-clause-line
+returns-in-1-clause-line c = line_1 ∙ ap (λ (copy : ℕ). line_of (WriteFault copy)) (sym c.in-1.is)
 
-pub returns-in_default : goal.returns-in_default
-returns-in_default c =
+pub returns-in_default-clause-line : goal.returns-in_default-clause-line
+returns-in_default-clause-line c =
     let two : 2 ≡ c.args.copy = omega arith in
     line_2 ∙ ap (λ (copy : ℕ). line_of (WriteFault copy)) two

@@ -73,7 +73,7 @@ returns-in_err-save_always-clause-gives g c =
     (subst (λ (l : Laid). IsSaved l (used_after loaded) c.args.area.now mid to (Err fault)) same
     (subst (λ (u : Option ℕ). IsSaved c.load.new.self.backing.layout u c.args.area.now mid to (Err fault)) c.in_ok-load.ensures.used
     (subst (λ (a : List ℕ). IsSaved c.load.new.self.backing.layout c.load.new.self.backing.used a mid to (Err fault)) new done))))
-    c.from_residual-in_err-save_always.result
+    refl c.from_residual-in_err-save_always.result
     (p.1 ∙ ap (λ e. Err e) p.2)
 
 pub returns-clause-gives : goal.returns-clause-gives
@@ -110,7 +110,7 @@ returns-clause-gives g c =
     (subst (λ (l : Laid). IsSaved l (used_after loaded) c.args.area.now mid to (Ok tt)) same
     (subst (λ (u : Option ℕ). IsSaved c.load.new.self.backing.layout u c.args.area.now mid to (Ok tt)) c.in_ok-load.ensures.used
     (subst (λ (a : List ℕ). IsSaved c.load.new.self.backing.layout c.load.new.self.backing.used a mid to (Ok tt)) new done))))
-    (Ok c.none.result)
+    refl (Ok c.none.result)
     (ap (λ (t : List ℕ). Ok t) c.none.ensures)
 
 pub returns-in_err-save_always-clause-later : goal.returns-in_err-save_always-clause-later

@@ -4,6 +4,7 @@ use Rattle.bb_tool.proofs.Endings.{at_exit, bad_words_of, beside, comes_alone, c
 use Rattle.bb_tool.proofs.Early.{early_memory_of, early_of}
 use Rattle.bb_tool.proofs.Exact.{alike_of, written_of}
 use Rattle.bb_tool.proofs.Faults.{unread_of, write_faults_of}
+use Rattle.bb_tool.proofs.Tables.{no_good_of}
 use Rattle.bb_tool.proofs.Wholes.{undisturbed_alone_of, undisturbed_of}
 use Rattle.bb_tool.proofs.session.run.Goals as goal
 
@@ -60,6 +61,12 @@ returns-clause-sink_fault g c = sink_fault_of _ c.answer.ensures.session c.answe
 
 pub returns-clause-sink_fault_front : goal.returns-clause-sink_fault_front
 returns-clause-sink_fault_front g c = front_of _ c.answer.ensures.session
+
+pub returns-clause-bad_settings : goal.returns-clause-bad_settings
+returns-clause-bad_settings g c = comes_planned _ c.answer.ensures.session statuses.BadSettings refl (λ h. cc) (λ h. cc) (λ h. cc)
+
+pub returns-clause-no_good : goal.returns-clause-no_good
+returns-clause-no_good g c = no_good_of _ c.answer.ensures.session
 
 pub returns-clause-no_memory : goal.returns-clause-no_memory
 returns-clause-no_memory g c = no_memory_of _ c.answer.ensures.session

@@ -71,7 +71,7 @@ returns-in_err-save-clause-gives g c =
       exact = c.in_ok-load.ensures.exact;
       fails = tt;
     })
-    (λ text. Err (copy_refusal c.in_err-save.field-0.0)) begun c.from_residual-in_err-save.result (p.1 ∙ ap (λ e. Err e) p.2)
+    (λ text. Err (copy_refusal c.in_err-save.field-0.0)) begun refl c.from_residual-in_err-save.result (p.1 ∙ ap (λ e. Err e) p.2)
 
 pub returns-in_err-save-clause-later : goal.returns-in_err-save-clause-later
 returns-in_err-save-clause-later g c =
@@ -128,7 +128,7 @@ returns-in_err-actions_text-clause-gives g c =
       exact = c.in_ok-load.ensures.exact;
       fails = tt;
     })
-    (λ text. Ok text) begun (λ text. refl) c.from_residual-in_err-actions_text.result (p.1 ∙ ap (λ e. Err e) p.2)
+    (λ text. Ok text) begun refl (λ text. refl) c.from_residual-in_err-actions_text.result (p.1 ∙ ap (λ e. Err e) p.2)
 
 pub returns-in_err-actions_text-clause-later : goal.returns-in_err-actions_text-clause-later
 returns-in_err-actions_text-clause-later g c =
@@ -182,7 +182,7 @@ returns-clause-gives g c =
       exact = c.in_ok-load.ensures.exact;
       fails = tt;
     })
-    (λ text. Ok text) begun (Ok c.in_ok-actions_text.field-0)
+    (λ text. Ok text) begun refl (Ok c.in_ok-actions_text.field-0)
     (ap (λ (t : List ℕ). Ok t)
     (c.in_ok-actions_text.ensures
     ∙ ap (λ (l : Laid). actions_text l c.bytes.result.now c.args.actions.now)

@@ -1,0 +1,122 @@
+ghost use Rattle.std.specs.Prelude.{◌≡◌, ◌≤◌, List, ℕ, Ok, IfErr, IfOk, length};
+ghost use Rattle.std.specs.Option.{option_map};
+ghost use Rattle.bb_flash.specs.Cuts.{IsLater};
+ghost use Rattle.bb_flash.specs.Device.{IsDevice, LeavesStarts};
+ghost use Rattle.bb_layout.specs.Layout.{laid};
+ghost use Rattle.bb_state.specs.State.{IsOn, IsSized, laid_of};
+ghost use Rattle.bb_words.specs.Words.{words_of};
+ghost use Rattle.bb_words.specs.declared.command.Command.TheVariants as commands;
+ghost use Rattle.bb_tool.specs.Ending.{IsGiven};
+ghost use Rattle.bb_tool.specs.Filing.{IsFolderLater};
+ghost use Rattle.bb_tool.specs.Marking.{chosen_name, good_line, good_text};
+ghost use Rattle.bb_tool.specs.Plan.{Good};
+ghost use Rattle.bb_tool.specs.Refusal.{IsTellable};
+ghost use Rattle.bb_tool.specs.Work.{IsWorkedOut};
+
+use crate::described::read_layout;
+use crate::refusal::Refusal;
+use crate::targets::read_targets;
+use bb_base::{Bytes, Files, NoMemory, Text};
+use bb_chooser::Chooser;
+use bb_flash::Flash;
+use bb_layout::Layout;
+use bb_state::State;
+use bb_vars::Table;
+use bb_words::MarkGoodCommand;
+use std::alloc::Global;
+
+/// The command `mark-good`: the layout that its file describes, the settings' targets, and then the work on the device.
+pub(crate) fn mark_good<N: Files, F: Flash>(
+    alloc: Global,
+    files: &mut N,
+    flash: &mut F,
+    command: &MarkGoodCommand,
+) -> Result<Bytes, Refusal>
+    ensures gives { (words : List (List ℕ)) → words_of words ≡ Ok (commands.MarkGood command.now)
+        → IsGiven words (N.folder files.old) (N.folder files.new)
+        (F.device flash.old) (F.device flash.new) result }
+    ensures tellable { IfErr result IsTellable }
+    ensures files { IsFolderLater (N.folder files.old) (N.folder files.new) }
+    ensures later { IsLater (F.device flash.old) (F.device flash.new) }
+    ensures starts { LeavesStarts (F.device flash.old) (F.device flash.new) }
+{
+    let name = command.name.as_ref();
+    let layout = read_layout(alloc, files, &command.file, name, flash.geometry())?;
+    let chooser = read_targets(alloc, files, &command.settings, &layout)?;
+    mark(alloc, flash, layout, &chooser)
+}
+
+// Loads the copies of a layout, gives the target that was chosen last its default attempts, saves the table where it is
+// another than the one that was loaded, and gives the target's line.
+fn mark<F: Flash>(
+    alloc: Global,
+    flash: &mut F,
+    layout: Layout,
+    chooser: &Chooser,
+) -> Result<Bytes, Refusal>
+    requires geometry { layout.geometry ≡ (F.device flash.old).geometry }
+    requires whole { IsDevice (F.device flash.old) }
+    requires sized { chooser.now.area_len ≡ layout.area_len }
+    ensures gives { IsWorkedOut (laid layout) (Good chooser.now)
+        (F.device flash.old) (F.device flash.new) result }
+    ensures tellable { IfErr result IsTellable }
+    ensures later { IsLater (F.device flash.old) (F.device flash.new) }
+    ensures starts { LeavesStarts (F.device flash.old) (F.device flash.new) }
+{
+    let mut state = State::mount(alloc, layout)?;
+    mark_on(alloc, flash, &mut state, chooser)
+}
+
+// The same over a state that is mounted.
+fn mark_on<F: Flash>(
+    alloc: Global,
+    flash: &mut F,
+    state: &mut State,
+    chooser: &Chooser,
+) -> Result<Bytes, Refusal>
+    requires table { IsSized state.old }
+    requires sized { chooser.now.area_len ≡ (laid_of state.old).area_len }
+    requires on { IsOn state.old (F.device flash.old) }
+    requires many { 2 ≤ (laid_of state.old).copies }
+    ensures gives { IsWorkedOut (laid_of state.old) (Good chooser.now)
+        (F.device flash.old) (F.device flash.new) result }
+    ensures later { IsLater (F.device flash.old) (F.device flash.new) }
+    ensures starts { LeavesStarts (F.device flash.old) (F.device flash.new) }
+{
+    state.load(flash)?;
+    if !chooser.mark_good(&mut state.table) {
+        return Err(Refusal::NoGood(chooser.last_chosen(&state.table)));
+    }
+    state.save(flash)?;
+    Ok(good_text(alloc, chooser, &state.table)?)
+}
+
+fn good_text(alloc: Global, chooser: &Chooser, table: &Table) -> Result<Bytes, NoMemory>
+    requires { length table.now ≡ chooser.now.area_len }
+    ensures { IfOk result (λ text. text ≡ good_text chooser.now table.now) }
+{
+    match chosen_name(chooser, table) {
+        Some((name, attempts)) => good_line(alloc, name, attempts),
+        None => Ok(Bytes::none(alloc)),
+    }
+}
+
+fn good_line(alloc: Global, name: &Text, attempts: u32) -> Result<Bytes, NoMemory>
+    ensures { IfOk result (λ line. line ≡ good_line name.now attempts) }
+{
+    let mut line = Bytes::none(alloc);
+    let words = format!(in alloc; "good {} {attempts}\n", name.as_str())?;
+    line.add(words.as_bytes())?;
+    Ok(line)
+}
+
+// The name of the target that was chosen last, and the attempts that it has.
+fn chosen_name<'a>(chooser: &'a Chooser, table: &Table) -> Option<(&'a Text, u32)>
+    requires { length table.now ≡ chooser.now.area_len }
+    ensures { option_map (λ c. (c.0.now, c.1)) result ≡ chosen_name chooser.now table.now }
+{
+    let place = chooser.last_chosen(table) as usize;
+    let target = place.checked_sub(1)?;
+    let name = chooser.name(target)?;
+    Some((name, chooser.attempts(table, target)))
+}
