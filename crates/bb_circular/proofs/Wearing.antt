@@ -7,17 +7,18 @@ use Rattle.std.proofs.lemmas.Bool.{cases_Bool, leb-false, leb-true}
 use Rattle.std.proofs.lemmas.Grind.{div_ceil_times}
 use Rattle.std.specs.List.{AllByRecursion}
 use Rattle.std.proofs.lemmas.Option.{same_Some}
-use Rattle.bb_bucket.specs.Calls.{erases_after}
+use Rattle.bb_bucket.specs.Calls.{ErasesWhere, Leaves, erases_after}
 use Rattle.bb_flash.specs.declared.geometry.Geometry.{Geometry}
+use Rattle.bb_flash.specs.Cuts.{IsLater}
 use Rattle.bb_flash.specs.Device.{Device, Told, content, erases}
 use Rattle.bb_flash.specs.Image.{Image}
 use Rattle.bb_bucket.specs.declared.block.Block.{Block}
 use Rattle.bb_bucket.specs.Blocks.{blank_of}
 use Rattle.bb_bucket.specs.BlockLaws.{block_of}
 use Rattle.bb_bucket.specs.Front.{put_at}
-use Rattle.bb_bucket.specs.Kind.{part_of}
+use Rattle.bb_bucket.specs.Kind.{Kind, part_of}
 use Rattle.bb_circular.specs.declared.kept.Kept.{Kept}
-use Rattle.bb_circular.specs.Circular.{after_write, fits_behind, next_place}
+use Rattle.bb_circular.specs.Circular.{after_write, circular_kind, fits_behind, next_place}
 use Rattle.bb_circular.specs.CircularLaws.{behind_next, blank_paged, blank_pages, block_paged, entry_fits, kept_put, put_paged}
 use Rattle.bb_circular.specs.Entries.{entry_len, log_entry}
 use Rattle.bb_circular.specs.EntryLaws.{entry_len_is, entry_size}
@@ -240,12 +241,12 @@ after_written :
     IsWritten block len rec from to → IsAfter block geometry (Write rec) image before to
 unfolding wear
 after_written block geometry len rec from to image before same holds counts written =
-    let there = numbers_told to.told (written.told ∙ told_image from.told image holds) in
+    let there = numbers_told to.told (written.later.told ∙ told_image from.told image holds) in
     let old : Image = part_of geometry.page block.region image in
     let place : ℕ = block.region.at / geometry.block in
     let fits : Bool = fits_behind block rec old in
-    let left = subst (λ (g : Geometry). part_of g.page block.region there.0 ≡ after_write block rec (part_of g.page block.region image)) same (written.leaves.there image holds there.0 there.2) in
-    let erased = subst (λ (g : Geometry). erases to ≡ option_map (erases_after g block.region (not (fits_behind block rec (part_of g.page block.region image)))) (erases from)) same (written.erased.counted image holds) in
+    let left = subst (λ (g : Geometry). part_of g.page block.region there.0 ≡ after_write block rec (part_of g.page block.region image)) same (written.done.there image holds there.0 there.2) in
+    let erased = subst (λ (g : Geometry). erases to ≡ option_map (erases_after g block.region (not (fits_behind block rec (part_of g.page block.region image)))) (erases from)) same (written.erases.counted image holds) in
     let is : Some there.1 ≡ Some (erases_after geometry block.region (not fits) before) = sym there.3 ∙ erased ∙ ap (option_map (erases_after geometry block.region (not fits))) counts in
     let numbers : there.1 ≡ erases_after geometry block.region (not fits) before = same_Some _ _ is in
     let number = ap (λ (ns : List ℕ). slice_index ns place) numbers in
@@ -254,7 +255,7 @@ after_written block geometry len rec from to image before same holds counts writ
     record {
       mid = there.0;
       numbers = there.1;
-      geometry_is = written.geometry ∙ same;
+      geometry_is = written.later.geometry ∙ same;
       holds = there.2;
       counts = there.3;
       rest = λ recs. (let count = ap (wear block recs) left in omega (arith, number, most, once, count));
@@ -292,3 +293,16 @@ wears_little block len from events serves whole room history before counts after
     let count = rises block from.geometry len events from told.0 before after refl told.1 counts end history in
     let most = worn_at_most block len held.page_least held.pages small room (records_in events) (part_of from.geometry.page block.region told.0) paged (all_sized block len from events history) in
     omega (arith, count, most)
+
+-- what a write's clauses say of a bucket of this kind is all that the law asks of a write
+pub was_written :
+    (kind : Kind) (block : Block) (rec : List ℕ) (from to : Device) → kind ≡ circular_kind block →
+    Leaves kind.region (kind.after_write rec) from to →
+    ErasesWhere kind.region (kind.write_erases rec) from to →
+    IsLater from to → IsWritten block (length rec) rec from to
+was_written kind block rec from to is done erases later = record {
+  sized = refl;
+  done = subst (λ (k : Kind). Leaves k.region (k.after_write rec) from to) is done;
+  erases = subst (λ (k : Kind). ErasesWhere k.region (k.write_erases rec) from to) is erases;
+  later = later;
+}

@@ -2,6 +2,7 @@
 use Rattle.std.specs.Prelude.{◌≡◌, ℕ, ◌+◌, ◌/◌, ◌≤◌, List, [], ◌∷◌, length, IsTrue, is_some, slice_index, ⊤}
 use Rattle.std.specs.Int.{div_ceil}
 use Rattle.std.specs.Option.{ForSome}
+use Rattle.bb_flash.specs.Cuts.{IsLater}
 use Rattle.bb_flash.specs.Device.{Device, IsDevice, erases}
 use Rattle.bb_bucket.specs.declared.block.Block.{Block}
 use Rattle.bb_bucket.specs.Blocks.{is_block_of}
@@ -17,13 +18,12 @@ entries_in block len = block.region.size / entry_len block.page len
 abbrev pub number_of : Block → Device → List ℕ → ℕ
 number_of block device numbers = slice_index numbers (block.region.at / device.geometry.block)
 
--- a write that answered Ok, of a record of this length: what it says of its block
+-- a record of this length was written and the write answered Ok: what its clauses say of the block
 pub record IsWritten (block : Block) (len : ℕ) (rec : List ℕ) (from to : Device) : Type 0 where
   pub sized : length rec ≡ len
-  pub geometry : to.geometry ≡ from.geometry
-  pub told : is_some to.told ≡ is_some from.told
-  pub leaves : Leaves block.region ((circular_kind block).after_write rec) from to
-  pub erased : ErasesWhere block.region ((circular_kind block).write_erases rec) from to
+  pub done : Leaves block.region ((circular_kind block).after_write rec) from to
+  pub erases : ErasesWhere block.region ((circular_kind block).write_erases rec) from to
+  pub later : IsLater from to
 
 -- nothing was done to the block: reads, restarts and calls on other blocks may have been made
 pub record IsIdle (block : Block) (from to : Device) : Type 0 where
