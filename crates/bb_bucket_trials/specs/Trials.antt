@@ -1,0 +1,10 @@
+-- The block that is tried, and the device on which it stands: the second of three blocks, of four
+-- pages of 16 bytes.
+use Rattle.bb_flash.specs.declared.geometry.Geometry.{Geometry}
+use Rattle.bb_bucket.specs.declared.block.Block.{Block}
+
+abbrev pub tried_block : Block
+tried_block = record { region = record { at = 64; size = 64 }; page = 16 }
+
+abbrev pub tried_device : Geometry
+tried_device = record { page = 16; block = 64; size = 192 }
