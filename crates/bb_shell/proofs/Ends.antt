@@ -83,39 +83,3 @@ end_cause b plans tries round layout kept used now mid to (Refused fault) from n
 end_cause b plans tries round layout kept used now mid to Unplanned from n run fits rose = inl fits
 end_cause b plans tries round layout kept used now mid to Failed from n run fits rose = inr (rose_once n from.start_faults to.start_faults rose)
 end_cause b plans tries round layout kept used now mid to Started from n run fits rose = tt
-
--- ---- the whole
-
-pub booted_of : (b : Binding) (plans : List (Option Plan)) (first table : List ℕ) (before after : State) (from to : Device) (end : BootEnd) →
-    table ≡ first → HaveRun b plans (record before { table = table }) after from to end → IsBooted b plans first before after from to end
-booted_of b plans first table before after from to end same run =
-    let rounds = run.earlier ++ run.last ∷ [] in
-    let last = last_is run.earlier run.last in
-    let len : length rounds ≡ length run.earlier + 1 = length-append run.earlier (run.last ∷ []) in
-    record {
-      rounds = rounds;
-      are = subst (λ t. AreRounds b plans t rounds) same run.are;
-      run = run.run;
-      end_is =
-          run.end_is ∙ ap (λ n. end_by b n run.last run.last.outcome) (sym len)
-          ∙ sym (ap (λ o. option_map_or (λ (round : Round). end_by b (length rounds) round round.outcome) o ends.NoTarget) last);
-      table = run.table ∙ sym (ap (λ o. option_map_or (λ (round : Round). round.table) o before.table) last);
-      kept = λ sure. run.kept sure ∙ sym (ap (λ o. option_map_or (λ (round : Round). round.table) o before.backing.kept) last);
-      start_faults = run.start_faults;
-    }
-
-rose_none : (n : ℕ) → RoseBy 0 n n
-rose_none n = omega arith
-
-pub booted_none : (b : Binding) (plans : List (Option Plan)) (first : List ℕ) (state : State) (device : Device) → NoneQualifies b first →
-    IsBooted b plans first state state device device ends.NoTarget
-unfolding AreRounds AreRun
-booted_none b plans first state device none = record {
-  rounds = [];
-  are = none;
-  run = (refl, refl);
-  end_is = refl;
-  table = refl;
-  kept = λ sure. refl;
-  start_faults = rose_none device.start_faults;
-}
