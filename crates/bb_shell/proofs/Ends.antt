@@ -1,7 +1,7 @@
 -- What the last round makes of a boot's end.
-use Rattle.std.proofs.Common.{◌≡◌, ℕ, ◌+◌, ◌++◌, ◌&&◌, Bool, true, false, List, [], ◌∷◌, Option, Some, None, ap, arith, inl, inr, length, length-append, refl, sym, subst, ◌∙◌}
+use Rattle.std.proofs.Common.{◌≡◌, ℕ, ◌+◌, ◌++◌, ◌&&◌, Bool, true, false, List, [], ◌∷◌, Option, Some, None, ap, arith, inl, inr, refl, sym, ◌∙◌}
 use Rattle.std.proofs.lemmas.Bool.{false≢true}
-use Rattle.std.specs.Option.{IsSomeAnd, option_map, option_map_or}
+use Rattle.std.specs.Option.{IsSomeAnd, option_map}
 use Rattle.std.specs.Prelude.{is_some}
 use Rattle.bb_base.specs.Faults.{Rose}
 use Rattle.bb_chooser.specs.Binding.{Binding}
@@ -9,15 +9,11 @@ use Rattle.bb_copies.specs.Settling.{RoseBy}
 use Rattle.bb_flash.specs.declared.plan.Plan.{Plan}
 use Rattle.bb_flash.specs.Device.{Device, Start, Told, starts}
 use Rattle.bb_layout.specs.Layout.{Laid}
-use Rattle.bb_state.specs.declared.state.State.{State}
 use Rattle.bb_shell.proofs.Joins.{some_is}
 use Rattle.bb_shell.proofs.Saves.{write_fault}
-use Rattle.bb_shell.proofs.Underway.{last_is}
-use Rattle.bb_shell.specs.Boot.{AreRounds, IsOutcome, NoneQualifies, Round, end_by, is_retried, plan_at}
-use Rattle.bb_shell.specs.Ends.{AddsStart, AddsStarts, HasEndCause, HaveRun, IsBooted, StartsOnce, failed_start}
-use Rattle.bb_shell.specs.Running.{AreRun, IsRoundRun, is_refused}
-use Rattle.bb_shell.specs.declared.boot_end.BootEnd.{BootEnd}
-use Rattle.bb_shell.specs.declared.boot_end.BootEnd.TheVariants as ends
+use Rattle.bb_shell.specs.Boot.{IsOutcome, Round, end_by, is_retried, plan_at}
+use Rattle.bb_shell.specs.Ends.{AddsStart, AddsStarts, HasEndCause, StartsOnce, failed_start}
+use Rattle.bb_shell.specs.Running.{IsRoundRun, is_refused}
 use Rattle.bb_shell.specs.declared.outcome.Outcome.{Outcome}
 use Rattle.bb_shell.specs.declared.outcome.Outcome.TheVariants.{Refused, Unplanned, Failed, Started}
 

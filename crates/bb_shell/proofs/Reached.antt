@@ -1,5 +1,5 @@
 -- What each image since a boot began stands for: one relation over a round, joined over the rounds.
-use Rattle.std.proofs.Common.{◌≡◌, ◌⊎◌, ℕ, zero, suc, ◌+◌, ◌≤◌, Bool, true, false, not, List, [], ◌∷◌, ◌++◌, length, map, take, Option, Some, None, ap, arith, cond, inl, inr, length-append, refl, sym, subst, ◌∙◌}
+use Rattle.std.proofs.Common.{◌≡◌, ℕ, zero, suc, ◌+◌, Bool, true, false, not, List, [], ◌∷◌, ◌++◌, length, map, take, Option, Some, None, ap, arith, cond, inl, inr, refl, sym, subst, ◌∙◌}
 use Rattle.std.specs.Option.{IfNone, option_map}
 use Rattle.std.specs.Prelude.{⊤, MatchBool, count_by, is_some, slice_get}
 use Rattle.std.specs.Str.{bytes_eq}
@@ -10,7 +10,7 @@ use Rattle.bb_chooser.specs.Binding.{Binding}
 use Rattle.bb_copies.specs.Luck.{IsLucky}
 use Rattle.bb_copies.specs.Passing.{passes_at, passings}
 use Rattle.bb_copies.specs.Saving.{KeepsUsed, SaveImages, StandsLonger}
-use Rattle.bb_copies.specs.StandsFor.{EachPassesOrNothing, SomePasses, Stands}
+use Rattle.bb_copies.specs.StandsFor.{EachPassesOrNothing, SomePasses}
 use Rattle.bb_copies.specs.Trail.{Stage, StandsAtOne, stages_of}
 use Rattle.bb_copies.proofs.History.{save_done, save_last}
 use Rattle.bb_copies.proofs.Places.{get_seam}

@@ -1,12 +1,10 @@
 -- The trail of a boot's saves, and what the copies stand for at its end.
-use Rattle.std.proofs.Common.{◌≡◌, ◌⊎◌, ℕ, zero, suc, ◌+◌, ◌-◌, ◌≤◌, Bool, true, false, List, [], ◌∷◌, ◌++◌, length, map, take, Option, Some, None, ap, append_assoc, arith, inl, inr, refl, sym, subst, ◌∙◌}
+use Rattle.std.proofs.Common.{◌≡◌, ℕ, zero, suc, ◌+◌, ◌-◌, ◌≤◌, Bool, true, false, List, [], ◌∷◌, ◌++◌, length, map, Option, Some, None, ap, append_assoc, arith, inl, inr, refl, sym, subst, ◌∙◌}
 use Rattle.std.proofs.lemmas.List.{append-nil, length-take}
 use Rattle.std.proofs.lemmas.Option.{same_Some}
 use Rattle.std.specs.Option.{option_map_or}
 use Rattle.std.specs.Prelude.{count_by, is_some, slice_get}
 use Rattle.std.specs.Str.{bytes_eq}
-use Rattle.std.proofs.lemmas.Bool.{false≢true}
-use Rattle.std.proofs.lemmas.Slice.Eq.{bytes_eq-Decides}
 use Rattle.bb_copies.specs.Trail.{IsSince, IsTrail, Milestone, Stage, StandsAtOne, milestone_of, stages_in}
 use Rattle.bb_copies.proofs.History.{longer}
 use Rattle.bb_flash.specs.declared.plan.Plan.{Plan}
@@ -15,12 +13,12 @@ use Rattle.bb_flash.specs.Cuts.{IsContinued, IsLater}
 use Rattle.bb_flash.specs.Device.{Change, Device, Told, content, moment}
 use Rattle.bb_flash.specs.Image.{Image}
 use Rattle.bb_layout.specs.Layout.{Laid}
-use Rattle.bb_shell.proofs.Reached.{HoldsNow, Longer, Luck, Passed, Reaches, StopsRefused, begun_counted, begun_saving, idle_content, idle_saving, idle_settled, is_made, longer_stands, made_cons, made_holds, made_stages, none_alone, reached_by, refused_stages, rounds_later, rounds_reached, settled_more, stage, told_image}
+use Rattle.bb_shell.proofs.Reached.{Luck, Passed, Reaches, StopsRefused, begun_counted, begun_saving, idle_content, idle_saving, idle_settled, is_made, longer_stands, made_cons, made_holds, made_stages, none_alone, reached_by, refused_stages, rounds_later, rounds_reached, settled_more, stage, told_image}
 use Rattle.bb_shell.proofs.Joins.{some_is}
 use Rattle.bb_shell.proofs.Starts.{round_later}
-use Rattle.bb_shell.specs.Boot.{Round, last_round, table_after}
+use Rattle.bb_shell.specs.Boot.{Round, table_after}
 use Rattle.bb_shell.specs.Running.{AreRun, IsRoundRun, is_refused}
-use Rattle.bb_shell.specs.Stages.{EachSettled, HasTrail, IsCounted, IsFairRun, IsSettled, KeepsATrail, KeepsAtExit, LeadsTo, StandsIn, first_area, made_of, saves_of, saving_rounds}
+use Rattle.bb_shell.specs.Stages.{EachSettled, HasTrail, IsCounted, IsFairRun, IsSettled, KeepsATrail, KeepsAtExit, LeadsTo, StandsIn, first_area, saving_rounds}
 
 some_of : {T : Type 0} → (o : Option T) → is_some o ≡ true → (x : T) × (o ≡ Some x)
 some_of None e = absurd cc
