@@ -1,4 +1,0 @@
-mod areas;
-mod boots;
-mod each_fault;
-mod rig;
