@@ -132,9 +132,11 @@ fn a_record_of_one_byte_is_a_blob_of_208(rt: HostRuntime) -> Result<(), Fail> {
     let record = Layout::record_tree(rt.alloc(), &layout, &[7])?;
     assert_eq!(rt; blob_length(&record), 208);
     let byte = record.find("/state/a@0").ok_or("no node")?;
-    assert_eq!(rt; byte.prop("value"), Some(b"\0\0\0\x07".as_slice()));
+    let value = byte.prop("value").ok_or("no value")?;
+    assert_eq!(rt; value, b"\0\0\0\x07".as_slice());
     let state = record.find("/state").ok_or("no state node")?;
-    assert_eq!(rt; state.prop("magic"), Some(b"MC20".as_slice()));
+    let magic = state.prop("magic").ok_or("no magic")?;
+    assert_eq!(rt; magic, b"MC20".as_slice());
     Ok(())
 }
 
