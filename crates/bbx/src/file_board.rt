@@ -4,10 +4,10 @@ ghost use Rattle.bb_flash.specs.Geometry.{IsGeometry};
 use crate::device_file::{OpenError, open_device};
 use crate::disk::{blank_through, write_through};
 use crate::plan_file::PlanFile;
+use crate::read_ahead::ReadAhead;
 use bb_base::Failed;
 use bb_flash::{Board, Flash, Geometry, Health, Plan};
 use std::fs::File;
-use std::os::unix::fs::FileExt;
 
 /// A device behind a file of the system, which starts a system by writing its plan into a file. It doesn't tell what
 /// it holds, and counts the calls and the starts that failed.
@@ -15,6 +15,7 @@ use std::os::unix::fs::FileExt;
 pub struct FileBoard<'r> {
     rt: &'r HostRuntime,
     file: File,
+    ahead: ReadAhead,
     plan_file: PlanFile,
     geometry: Geometry,
     faults: u64,
@@ -35,6 +36,7 @@ impl<'r> FileBoard<'r> {
         Ok(FileBoard {
             rt,
             file: open_device(rt, path, u64::from(geometry.size))?,
+            ahead: ReadAhead::of(rt.alloc(), geometry)?,
             plan_file: PlanFile::of_device(rt, path)?,
             geometry,
             faults: 0,
@@ -58,7 +60,11 @@ impl<'r> Flash for FileBoard<'r> {
     }
 
     fn read(&mut self, at: u32, out: &mut [u8]) -> Result<Health, Failed> {
-        if self.file.read_exact_at(out, u64::from(at)).is_err() {
+        if self
+            .ahead
+            .read_exact_at(&self.file, out, u64::from(at))
+            .is_err()
+        {
             self.faults = self.faults.saturating_add(1);
             self.read_faults = self.read_faults.saturating_add(1);
             return Err(Failed);
@@ -67,6 +73,7 @@ impl<'r> Flash for FileBoard<'r> {
     }
 
     fn program(&mut self, at: u32, bytes: &[u8]) -> Result<(), Failed> {
+        self.ahead.forget();
         if write_through(&self.file, u64::from(at), bytes).is_err() {
             self.faults = self.faults.saturating_add(1);
             return Err(Failed);
@@ -76,6 +83,7 @@ impl<'r> Flash for FileBoard<'r> {
 
     fn erase(&mut self, block: u32) -> Result<(), Failed> {
         let len = u64::from(self.geometry.block);
+        self.ahead.forget();
         if blank_through(&mut self.file, u64::from(block) * len, len).is_err() {
             self.faults = self.faults.saturating_add(1);
             return Err(Failed);

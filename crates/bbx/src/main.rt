@@ -8,6 +8,7 @@ mod disk;
 mod file_board;
 mod output;
 mod plan_file;
+mod read_ahead;
 mod real_files;
 mod usage;
 

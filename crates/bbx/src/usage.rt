@@ -13,7 +13,7 @@ DEVICE
 
 GEOMETRY
   ov:SIZE              overwritten in place, of SIZE bytes, up to 268435456
-  er:PAGE:BLOCK:SIZE   written in pages and erased in blocks; no command works on one yet
+  er:PAGE:BLOCK:SIZE   written in pages and erased in blocks; state alone works on one
 
 COMMAND
   raw MAGIC LEN -g     prints the first area that passes, in hexadecimal, or `none`;
