@@ -1,7 +1,8 @@
-ghost use Rattle.std.specs.Prelude.{◌≡◌, IfOk};
+ghost use Rattle.std.specs.Prelude.{◌≡◌, [], ◌∷◌, IfOk, codes};
 ghost use Rattle.bb_flash.specs.Device.{IsDevice};
 ghost use Rattle.bb_flash.specs.Memory.{device_of};
 ghost use Rattle.bb_state.specs.State.{FitsForm, IsFresh, IsSized, laid_of};
+ghost use Rattle.bb_vars.specs.declared.kind.Kind.TheVariants.{Uint8};
 
 use super::*;
 use crate::shell::{add_shell_name, add_shell_value};
@@ -12,11 +13,18 @@ use bb_vars::{Kind, Table, ValueError};
 use std::alloc::Global;
 use std::test::Fail;
 
-// A layout of one variable, `a.n`, in one byte.
-fn one_byte(alloc: Global) -> Result<Layout, NoMemory>
-    ensures geometry { IfOk result (λ layout.
-        layout.geometry ≡ record { page = 1; block = 0; size = 192 }) }
-    ensures area_len { IfOk result (λ layout. layout.area_len ≡ 1) }
+mod logs;
+
+// The one variable `a.n`, in one byte.
+fn one_var(alloc: Global) -> Result<VarList, NoMemory>
+    ensures { IfOk result (λ vars. vars ≡ record {
+      name = codes "a.n";
+      path = [];
+      at = 0;
+      size = 1;
+      kind = Uint8;
+      default = 3 ∷ [];
+    } ∷ []) }
 {
     let mut default = Bytes::none(alloc);
     default.add(b"\x03")?;
@@ -29,6 +37,15 @@ fn one_byte(alloc: Global) -> Result<Layout, NoMemory>
         kind: Kind::Uint8,
         default,
     })?;
+    Ok(vars)
+}
+
+// A layout of that variable, in strides.
+fn one_byte(alloc: Global) -> Result<Layout, NoMemory>
+    ensures geometry { IfOk result (λ layout.
+        layout.geometry ≡ record { page = 1; block = 0; size = 192 }) }
+    ensures area_len { IfOk result (λ layout. layout.area_len ≡ 1) }
+{
     Ok(Layout {
         name: Text::of(alloc, "state")?,
         node: Text::of(alloc, "state")?,
@@ -43,7 +60,7 @@ fn one_byte(alloc: Global) -> Result<Layout, NoMemory>
         region: Region { at: 0, size: 192 },
         copies: 3,
         area_len: 1,
-        vars,
+        vars: one_var(alloc)?,
     })
 }
 
