@@ -1,7 +1,7 @@
 -- What the last round makes of a boot's end.
-use Rattle.std.proofs.Common.{◌≡◌, ℕ, ◌+◌, ◌++◌, ◌&&◌, Bool, true, false, List, [], ◌∷◌, Option, Some, None, ap, arith, inl, inr, length, length-append, refl, sym, subst, ◌∙◌}
+use Rattle.std.proofs.Common.{◌≡◌, ℕ, ◌+◌, ◌++◌, ◌&&◌, Bool, true, false, List, [], ◌∷◌, Option, Some, None, ap, arith, inl, inr, refl, sym, ◌∙◌}
 use Rattle.std.proofs.lemmas.Bool.{false≢true}
-use Rattle.std.specs.Option.{IsSomeAnd, option_map, option_map_or}
+use Rattle.std.specs.Option.{IsSomeAnd, option_map}
 use Rattle.std.specs.Prelude.{is_some}
 use Rattle.bb_base.specs.Faults.{Rose}
 use Rattle.bb_chooser.specs.Binding.{Binding}
@@ -9,15 +9,11 @@ use Rattle.bb_copies.specs.Settling.{RoseBy}
 use Rattle.bb_flash.specs.declared.plan.Plan.{Plan}
 use Rattle.bb_flash.specs.Device.{Device, Start, Told, starts}
 use Rattle.bb_layout.specs.Layout.{Laid}
-use Rattle.bb_state.specs.declared.state.State.{State}
 use Rattle.bb_shell.proofs.Joins.{some_is}
 use Rattle.bb_shell.proofs.Saves.{write_fault}
-use Rattle.bb_shell.proofs.Underway.{last_is}
-use Rattle.bb_shell.specs.Boot.{AreRounds, IsOutcome, NoneQualifies, Round, end_by, is_retried, plan_at}
-use Rattle.bb_shell.specs.Ends.{AddsStart, AddsStarts, HasEndCause, HaveRun, IsBooted, StartsOnce, failed_start}
-use Rattle.bb_shell.specs.Running.{AreRun, IsRoundRun, is_refused}
-use Rattle.bb_shell.specs.declared.boot_end.BootEnd.{BootEnd}
-use Rattle.bb_shell.specs.declared.boot_end.BootEnd.TheVariants as ends
+use Rattle.bb_shell.specs.Boot.{IsOutcome, Round, end_by, is_retried, plan_at}
+use Rattle.bb_shell.specs.Ends.{AddsStart, AddsStarts, HasEndCause, StartsOnce, failed_start}
+use Rattle.bb_shell.specs.Running.{IsRoundRun, is_refused}
 use Rattle.bb_shell.specs.declared.outcome.Outcome.{Outcome}
 use Rattle.bb_shell.specs.declared.outcome.Outcome.TheVariants.{Refused, Unplanned, Failed, Started}
 
@@ -83,39 +79,3 @@ end_cause b plans tries round layout kept used now mid to (Refused fault) from n
 end_cause b plans tries round layout kept used now mid to Unplanned from n run fits rose = inl fits
 end_cause b plans tries round layout kept used now mid to Failed from n run fits rose = inr (rose_once n from.start_faults to.start_faults rose)
 end_cause b plans tries round layout kept used now mid to Started from n run fits rose = tt
-
--- ---- the whole
-
-pub booted_of : (b : Binding) (plans : List (Option Plan)) (first table : List ℕ) (before after : State) (from to : Device) (end : BootEnd) →
-    table ≡ first → HaveRun b plans (record before { table = table }) after from to end → IsBooted b plans first before after from to end
-booted_of b plans first table before after from to end same run =
-    let rounds = run.earlier ++ run.last ∷ [] in
-    let last = last_is run.earlier run.last in
-    let len : length rounds ≡ length run.earlier + 1 = length-append run.earlier (run.last ∷ []) in
-    record {
-      rounds = rounds;
-      are = subst (λ t. AreRounds b plans t rounds) same run.are;
-      run = run.run;
-      end_is =
-          run.end_is ∙ ap (λ n. end_by b n run.last run.last.outcome) (sym len)
-          ∙ sym (ap (λ o. option_map_or (λ (round : Round). end_by b (length rounds) round round.outcome) o ends.NoTarget) last);
-      table = run.table ∙ sym (ap (λ o. option_map_or (λ (round : Round). round.table) o before.table) last);
-      kept = λ sure. run.kept sure ∙ sym (ap (λ o. option_map_or (λ (round : Round). round.table) o before.backing.kept) last);
-      start_faults = run.start_faults;
-    }
-
-rose_none : (n : ℕ) → RoseBy 0 n n
-rose_none n = omega arith
-
-pub booted_none : (b : Binding) (plans : List (Option Plan)) (first : List ℕ) (state : State) (device : Device) → NoneQualifies b first →
-    IsBooted b plans first state state device device ends.NoTarget
-unfolding AreRounds AreRun
-booted_none b plans first state device none = record {
-  rounds = [];
-  are = none;
-  run = (refl, refl);
-  end_is = refl;
-  table = refl;
-  kept = λ sure. refl;
-  start_faults = rose_none device.start_faults;
-}

@@ -9,6 +9,7 @@ use Rattle.bb_flash.specs.declared.plan.Plan.{Plan}
 use Rattle.bb_shell.specs.Boot.{end_of, first_table, table_after}
 use Rattle.bb_shell.specs.Plans.{plan_by, plans_by}
 use Rattle.bb_shell.specs.Rounds.{RoundAnswer, best_of, rounds_by}
+use Rattle.bb_shell.specs.Stages.{made_of, saves_of, stages_reached}
 use Rattle.bb_shell.specs.declared.boot_end.BootEnd.TheVariants.{Started, NoTarget, StartFailed, Fault}
 use Rattle.bb_shell.specs.declared.plan_fault.PlanFault.TheVariants.{FileTooLong}
 use Rattle.bb_base.specs.declared.files.FileFail.TheVariants.{TooLong}
@@ -109,6 +110,52 @@ all_are_tried = refl
 all_is_spent : table_after (table 3 20 3 10 0) (rounds_by (bound false true) no_plans (table 3 20 3 10 0) six) ≡ table 0 20 0 10 2
 unfolding rounds_by
 all_is_spent = refl
+
+-- ---- the saves of a boot, and the stages that they reach
+
+-- the first start, which is made
+one_save : saves_of (table 3 20 3 10 0) (rounds_by (bound false false) both (table 3 20 3 10 0) (made ∷ [])) ≡ table 2 20 3 10 1 ∷ []
+unfolding rounds_by
+one_save = refl
+
+one_made : made_of (table 3 20 3 10 0) (rounds_by (bound false false) both (table 3 20 3 10 0) (made ∷ [])) ≡ 1
+unfolding rounds_by
+one_made = refl
+
+-- one that is refused
+none_made : made_of (table 3 20 3 10 0) (rounds_by (bound false false) both (table 3 20 3 10 0) (refused ∷ [])) ≡ 0
+unfolding rounds_by
+none_made = refl
+
+-- a start that fails, and another
+two_saves : saves_of (table 3 20 3 10 0) (rounds_by (bound false true) both (table 3 20 3 10 0) (failed ∷ made ∷ []))
+    ≡ table 2 20 3 10 1 ∷ table 1 20 3 10 1 ∷ []
+unfolding rounds_by
+two_saves = refl
+
+-- a reset that gives back what the last boot spent, so that the spent table is stored already
+no_save : saves_of (table 2 20 3 10 1) (rounds_by (bound false false) both (table 3 20 3 10 1) (made ∷ [])) ≡ []
+unfolding rounds_by
+no_save = refl
+
+-- a save that answered Ok: as at entry, begun, acknowledged
+stages_made : stages_reached ((1 ∷ []) ∷ []) 0 ((2 ∷ []) ∷ []) 1
+    ≡ record { areas = (1 ∷ []) ∷ []; acked = 0 }
+    ∷ record { areas = (1 ∷ []) ∷ (2 ∷ []) ∷ []; acked = 0 }
+    ∷ record { areas = (1 ∷ []) ∷ (2 ∷ []) ∷ []; acked = 1 } ∷ []
+stages_made = refl
+
+-- behind it one that was refused
+stages_refused : stages_reached ((1 ∷ []) ∷ []) 0 ((2 ∷ []) ∷ (3 ∷ []) ∷ []) 1
+    ≡ record { areas = (1 ∷ []) ∷ []; acked = 0 }
+    ∷ record { areas = (1 ∷ []) ∷ (2 ∷ []) ∷ []; acked = 0 }
+    ∷ record { areas = (1 ∷ []) ∷ (2 ∷ []) ∷ []; acked = 1 }
+    ∷ record { areas = (1 ∷ []) ∷ (2 ∷ []) ∷ (3 ∷ []) ∷ []; acked = 1 } ∷ []
+stages_refused = refl
+
+-- without a save it is at entry alone
+stages_none : stages_reached ((1 ∷ []) ∷ []) 0 [] 0 ≡ record { areas = (1 ∷ []) ∷ []; acked = 0 } ∷ []
+stages_none = refl
 
 -- ---- plans
 

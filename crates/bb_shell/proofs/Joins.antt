@@ -45,7 +45,7 @@ outside_joined kinds one two three first second before behind region apart =
     subst (λ g. EachImage (IsSameRegion g.page region.at region.size) two three) first.geometry (behind region apart) in
     images_same_joined page region.at region.size one two three first second (before region apart) again
 
-untouched : (from to : Device) → content to ≡ content from → changes to ≡ changes from → ForSome from.told (λ first. ForSome to.told (IsUntouched first))
+pub untouched : (from to : Device) → content to ≡ content from → changes to ≡ changes from → ForSome from.told (λ first. ForSome to.told (IsUntouched first))
 untouched from to same history first h last k = record {
   image = some_is _ _ (ap (option_map (λ (told : Told). told.image)) (sym k) ∙ same ∙ ap (option_map (λ (told : Told). told.image)) h);
   changes = some_is _ _ (ap (option_map (λ (told : Told). told.changes)) (sym k) ∙ history ∙ ap (option_map (λ (told : Told). told.changes)) h);

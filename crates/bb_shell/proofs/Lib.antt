@@ -1,10 +1,13 @@
 -- Lemmas.
 pub mod Answering
 pub mod Attempts
+pub mod Booted
 pub mod Ends
 mod Examples
 pub mod Joins
+pub mod Reached
 pub mod Reading
 pub mod Saves
 pub mod Starts
+pub mod Trails
 pub mod Underway

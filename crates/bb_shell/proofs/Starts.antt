@@ -122,7 +122,7 @@ start_adds (Some plan) Started from mid to same later h = once_behind plan from 
 true_false : true ≡ false → ⊥
 true_false p = cc
 
-unrefused : (outcome : Outcome) → is_refused outcome ≡ false → refusal_of outcome ≡ None
+pub unrefused : (outcome : Outcome) → is_refused outcome ≡ false → refusal_of outcome ≡ None
 unrefused (Refused fault) h = absurd (true_false h)
 unrefused Unplanned h = refl
 unrefused Failed h = refl

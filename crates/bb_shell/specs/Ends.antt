@@ -15,6 +15,7 @@ use Rattle.bb_state.specs.State.{FitsForm, IsOn, IsSized, is_sure, kept_of, laid
 use Rattle.bb_state.specs.declared.state.State.{State}
 use Rattle.bb_shell.specs.Boot.{AreRounds, Round, end_by, end_of, plan_at, table_after}
 use Rattle.bb_shell.specs.Running.{AreRun}
+use Rattle.bb_shell.specs.Stages.{KeepsATrail, KeepsAtExit}
 use Rattle.bb_shell.specs.declared.boot_end.BootEnd.{BootEnd}
 use Rattle.bb_shell.specs.declared.boot_end.BootEnd.TheVariants as ends
 use Rattle.bb_shell.specs.declared.outcome.Outcome.{Outcome}
@@ -78,6 +79,10 @@ pub record IsBooted
   pub end_is : end ≡ end_of b rounds
   pub table : after.table ≡ table_after before.table rounds
   pub kept : is_sure after ≡ true → kept_of after ≡ table_after (kept_of before) rounds
+  -- what the copies stand for, in each image on the way and at exit
+  pub trail : KeepsATrail (laid_of before) (kept_of before) (used_of before) rounds from to
+  pub exit :
+      KeepsAtExit (laid_of before) (kept_of before) (used_of before) (used_of after) rounds from to
   pub start_faults : RoseBy (failed_starts rounds) from.start_faults to.start_faults
 
 -- nothing was saved or started, and the table is the one before any reset

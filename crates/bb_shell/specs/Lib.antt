@@ -11,3 +11,4 @@ pub mod Ends
 pub mod Plans
 pub mod Rounds
 pub mod Running
+pub mod Stages

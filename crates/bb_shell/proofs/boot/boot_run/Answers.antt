@@ -1,6 +1,6 @@
 use Rattle.std.proofs.Common.{rules}
 use Rattle.bb_copies.proofs.Runs.{later_refl}
-use Rattle.bb_shell.proofs.Ends.{booted_none, booted_of}
+use Rattle.bb_shell.proofs.Booted.{booted_none, booted_of}
 use Rattle.bb_shell.proofs.Joins.{outside_refl}
 use Rattle.bb_shell.specs.Boot.{NoneQualifies, first_table}
 use Rattle.bb_state.specs.State.{kinds_of}
@@ -10,7 +10,7 @@ pub returns-in_default-clause-booted : goal.returns-in_default-clause-booted
 returns-in_default-clause-booted g c =
     let first = first_table c.args.chooser.now c.args.cause c.args.first c.args.state.now.table in
     let none : NoneQualifies c.args.chooser.now first = c.first_target.ensures.none.0 (search rules) in
-    booted_none c.args.chooser.now c.args.plans.now first c.args.state.now (g.B.Flash.device c.args.board.now) none
+    booted_none c.args.chooser.now c.args.plans.now first c.args.state.now (g.B.Flash.device c.args.board.now) none c.requires.on.geometry
 
 pub returns-in_default-clause-outside : goal.returns-in_default-clause-outside
 returns-in_default-clause-outside g c = outside_refl (kinds_of c.args.state.now) (g.B.Flash.device c.args.board.now)
@@ -22,4 +22,4 @@ pub returns-clause-booted : goal.returns-clause-booted
 returns-clause-booted g c =
     booted_of c.args.chooser.now c.args.plans.now (first_table c.args.chooser.now c.args.cause c.args.first c.args.state.now.table)
     c.reset_first.new.table c.args.state.now c.run_rounds.new.state (g.B.Flash.device c.args.board.now) (g.B.Flash.device c.run_rounds.new.board)
-    c.run_rounds.result c.reset_first.ensures.table c.run_rounds.ensures.have_run
+    c.run_rounds.result c.reset_first.ensures.table c.requires.on.geometry c.run_rounds.ensures.have_run

@@ -1,0 +1,58 @@
+-- The whole of a boot.
+use Rattle.std.proofs.Common.{◌≡◌, ℕ, ◌+◌, ◌++◌, List, [], ◌∷◌, Option, ap, arith, length, length-append, refl, sym, subst, ◌∙◌}
+use Rattle.std.specs.Option.{option_map_or}
+use Rattle.bb_chooser.specs.Binding.{Binding}
+use Rattle.bb_copies.specs.Settling.{RoseBy}
+use Rattle.bb_flash.specs.declared.plan.Plan.{Plan}
+use Rattle.bb_flash.specs.Device.{Device}
+use Rattle.bb_state.specs.State.{kept_of, laid_of, used_of}
+use Rattle.bb_state.specs.declared.state.State.{State}
+use Rattle.bb_shell.proofs.Reached.{stops_refused}
+use Rattle.bb_shell.proofs.Trails.{boot_exit, boot_trail}
+use Rattle.bb_shell.proofs.Underway.{last_is}
+use Rattle.bb_shell.specs.Boot.{AreRounds, NoneQualifies, Round, end_by}
+use Rattle.bb_shell.specs.Ends.{HaveRun, IsBooted}
+use Rattle.bb_shell.specs.Running.{AreRun}
+use Rattle.bb_shell.specs.declared.boot_end.BootEnd.{BootEnd}
+use Rattle.bb_shell.specs.declared.boot_end.BootEnd.TheVariants as ends
+
+pub booted_of : (b : Binding) (plans : List (Option Plan)) (first table : List ℕ) (before after : State) (from to : Device) (end : BootEnd) →
+    table ≡ first → from.geometry ≡ (laid_of before).geometry →
+    HaveRun b plans (record before { table = table }) after from to end → IsBooted b plans first before after from to end
+booted_of b plans first table before after from to end same geometry run =
+    let rounds = run.earlier ++ run.last ∷ [] in
+    let last = last_is run.earlier run.last in
+    let len : length rounds ≡ length run.earlier + 1 = length-append run.earlier (run.last ∷ []) in
+    let are : AreRounds b plans first rounds = subst (λ t. AreRounds b plans t rounds) same run.are in
+    let stops = stops_refused b plans first rounds are in
+    record {
+      rounds = rounds;
+      are = are;
+      run = run.run;
+      end_is =
+          run.end_is ∙ ap (λ n. end_by b n run.last run.last.outcome) (sym len)
+          ∙ sym (ap (λ o. option_map_or (λ (round : Round). end_by b (length rounds) round round.outcome) o ends.NoTarget) last);
+      table = run.table ∙ sym (ap (λ o. option_map_or (λ (round : Round). round.table) o before.table) last);
+      kept = λ sure. run.kept sure ∙ sym (ap (λ o. option_map_or (λ (round : Round). round.table) o before.backing.kept) last);
+      trail = boot_trail (laid_of before) plans rounds (kept_of before) (used_of before) (used_of after) from to geometry stops run.run;
+      exit = boot_exit (laid_of before) plans rounds (kept_of before) (used_of before) (used_of after) from to geometry stops run.run;
+      start_faults = run.start_faults;
+    }
+
+rose_none : (n : ℕ) → RoseBy 0 n n
+rose_none n = omega arith
+
+pub booted_none : (b : Binding) (plans : List (Option Plan)) (first : List ℕ) (state : State) (device : Device) → NoneQualifies b first →
+    device.geometry ≡ (laid_of state).geometry → IsBooted b plans first state state device device ends.NoTarget
+unfolding AreRounds AreRun
+booted_none b plans first state device none geometry = record {
+  rounds = [];
+  are = none;
+  run = (refl, refl);
+  end_is = refl;
+  table = refl;
+  kept = λ sure. refl;
+  trail = boot_trail (laid_of state) plans [] (kept_of state) (used_of state) (used_of state) device device geometry tt (refl, refl);
+  exit = boot_exit (laid_of state) plans [] (kept_of state) (used_of state) (used_of state) device device geometry tt (refl, refl);
+  start_faults = rose_none device.start_faults;
+}

@@ -1,0 +1,369 @@
+-- The trail of a boot's saves, and what the copies stand for at its end.
+use Rattle.std.proofs.Common.{◌≡◌, ℕ, zero, suc, ◌+◌, ◌-◌, ◌≤◌, Bool, true, false, List, [], ◌∷◌, ◌++◌, length, map, Option, Some, None, ap, append_assoc, arith, inl, inr, refl, sym, subst, ◌∙◌}
+use Rattle.std.proofs.lemmas.List.{append-nil, length-take}
+use Rattle.std.proofs.lemmas.Option.{same_Some}
+use Rattle.std.specs.Option.{option_map_or}
+use Rattle.std.specs.Prelude.{count_by, is_some, slice_get}
+use Rattle.std.specs.Str.{bytes_eq}
+use Rattle.bb_copies.specs.Trail.{IsSince, IsTrail, Milestone, Stage, StandsAtOne, milestone_of, stages_in}
+use Rattle.bb_copies.proofs.History.{longer}
+use Rattle.bb_flash.specs.declared.plan.Plan.{Plan}
+use Rattle.bb_flash.specs.Counted.{Counts, EachCounted, IsFair}
+use Rattle.bb_flash.specs.Cuts.{IsContinued, IsLater}
+use Rattle.bb_flash.specs.Device.{Change, Device, Told, content, moment}
+use Rattle.bb_flash.specs.Image.{Image}
+use Rattle.bb_layout.specs.Layout.{Laid}
+use Rattle.bb_shell.proofs.Reached.{Luck, Passed, Reaches, StopsRefused, begun_counted, begun_saving, idle_content, idle_saving, idle_settled, is_made, longer_stands, made_cons, made_holds, made_stages, none_alone, reached_by, refused_stages, rounds_later, rounds_reached, settled_more, stage, told_image}
+use Rattle.bb_shell.proofs.Joins.{some_is}
+use Rattle.bb_shell.proofs.Starts.{round_later}
+use Rattle.bb_shell.specs.Boot.{Round, table_after}
+use Rattle.bb_shell.specs.Running.{AreRun, IsRoundRun, is_refused}
+use Rattle.bb_shell.specs.Stages.{EachSettled, HasTrail, IsCounted, IsFairRun, IsSettled, KeepsATrail, KeepsAtExit, LeadsTo, StandsIn, first_area, saving_rounds}
+
+some_of : {T : Type 0} → (o : Option T) → is_some o ≡ true → (x : T) × (o ≡ Some x)
+some_of None e = absurd cc
+some_of (Some x) e = (x, refl)
+
+in_order : (first last : Told) → IsContinued first last → moment first ≤ moment last
+in_order first last continued =
+    let e = ap length continued.changes in omega (arith, length-take (moment first) last.changes)
+
+fair_from : (L : Change → Image → Type 0) (told : Told) (since later : ℕ) → since ≤ later →
+    IsFair L told since (moment told) → IsFair L told later (moment told)
+fair_from L told since later order fair = λ call change from before made lucky.
+    fair call change (omega arith) before made lucky
+
+-- the last of rounds, one of which comes before them
+table_cons : (kept : List ℕ) (round : Round) (later : List Round) → table_after kept (round ∷ later) ≡ table_after round.table later
+table_cons kept round [] = refl
+table_cons kept round (next ∷ later) =
+    let same : length (round ∷ next ∷ later) - 1 ≡ suc (length (next ∷ later) - 1) = omega arith in
+    ap (λ n. option_map_or (λ (r : Round). r.table) (slice_get (round ∷ next ∷ later) n) kept) same
+    ∙ inside (length (next ∷ later) - 1) (omega arith)
+  where
+    get : (rs : List Round) (n : ℕ) (one two : List ℕ) → suc n ≤ length rs →
+        option_map_or (λ (r : Round). r.table) (slice_get rs n) one ≡ option_map_or (λ (r : Round). r.table) (slice_get rs n) two
+    get [] n one two h = absurd (omega arith)
+    get (r ∷ rs) zero one two h = refl
+    get (r ∷ rs) (suc n) one two h = get rs n one two (omega arith)
+
+    inside : (n : ℕ) → suc n ≤ length (next ∷ later) →
+        option_map_or (λ (r : Round). r.table) (slice_get (next ∷ later) n) kept
+        ≡ option_map_or (λ (r : Round). r.table) (slice_get (next ∷ later) n) round.table
+    inside n h = get (next ∷ later) n kept round.table h
+
+module _ (layout : Laid) where
+  abbrev First : List ℕ
+  First = first_area layout
+
+  abbrev Page : ℕ
+  Page = layout.geometry.page
+
+  -- ---- a trail that goes on behind its first milestone
+
+  module _ (last : Told) where
+    abbrev Since : ℕ → List (Option (List ℕ)) → Type 0
+    Since = IsCounted layout last
+
+    -- each image that counts since a moment stands for one of these stages
+    abbrev StandSince : ℕ → List Stage → Type 0
+    StandSince when stages =
+        (image : Image) → Counts (Luck layout) Page last when image → StandsAtOne First (Passed layout image) stages
+
+    in_front : (h : List (List ℕ)) (a when : ℕ) (later : List Milestone) → when ≤ moment last →
+        StandSince when (stages_in (milestone_of h a when ∷ later)) → IsTrail Since (moment last) First later →
+        IsTrail Since (moment last) First (milestone_of h a when ∷ later)
+    in_front h a when later past stand trail =
+        let stages = stages_in (milestone_of h a when ∷ later) in
+        let here : IsSince Since (moment last) First stages when = record {
+          past = past;
+          images = λ passed counted. subst (λ p. StandsAtOne First p stages) (sym counted.passes) (stand counted.image counted.counts);
+        } in
+        (λ moment' same. subst (IsSince Since (moment last) First stages) (same_Some when moment' same) here, trail)
+
+    -- what stands for a list stands for it with a table behind it too
+    longer_one : (h : List (List ℕ)) (a : ℕ) (table : List ℕ) (rest : List Stage) (image : Image) →
+        StandsAtOne First (Passed layout image) (stage h a ∷ stage (h ++ table ∷ []) a ∷ rest) →
+        StandsAtOne First (Passed layout image) (stage (h ++ table ∷ []) a ∷ rest)
+    longer_one h a table rest image (inl here) =
+        inl (record { marks = here.marks; stands = longer First (Passed layout image) h (table ∷ []) a here.marks here.stands })
+    longer_one h a table rest image (inr later) = later
+
+    abbrev pub TrailBy : Told → List (List ℕ) → ℕ → List Round → Type 0
+    TrailBy first h a saving =
+        HasTrail layout first last h a (map (λ (round : Round). round.table) saving) (count_by is_made saving)
+
+    none_trail : (first : Told) (h : List (List ℕ)) (a : ℕ) → moment first ≤ moment last →
+        StandSince (moment first) (reached_by h a []) → TrailBy first h a []
+    none_trail first h a past stand = record {
+      later = [];
+      stages = refl;
+      trail = in_front h a (moment first) [] past stand tt;
+    }
+
+    refused_trail : (first : Told) (h : List (List ℕ)) (a : ℕ) (round : Round) → is_refused round.outcome ≡ true →
+        moment first ≤ moment last → StandSince (moment first) (reached_by h a (round ∷ [])) → TrailBy first h a (round ∷ [])
+    refused_trail first h a round refused past stand =
+        let longer_list = h ++ round.table ∷ [] in
+        let stages = refused_stages h a round refused in
+        let stands : StandSince (moment first) (stage h a ∷ stage longer_list a ∷ []) =
+        λ image counts. subst (StandsAtOne First (Passed layout image)) stages (stand image counts) in
+        record {
+          later = milestone_of longer_list a (moment first) ∷ [];
+          stages = sym stages;
+          trail =
+              in_front h a (moment first) (milestone_of longer_list a (moment first) ∷ []) past stands
+              (in_front longer_list a (moment first) [] past (λ image counts. longer_one h a round.table [] image (stands image counts)) tt);
+        }
+
+    made_trail : (first mid : Told) (h : List (List ℕ)) (a : ℕ) (round : Round) (saving : List Round) → is_refused round.outcome ≡ false →
+        moment first ≤ moment last → StandSince (moment first) (reached_by h a (round ∷ saving)) →
+        TrailBy mid (h ++ round.table ∷ []) (a + 1) saving → TrailBy first h a (round ∷ saving)
+    made_trail first mid h a round saving done past stand rest =
+        let longer_list = h ++ round.table ∷ [] in
+        let behind : List Milestone = milestone_of longer_list (a + 1) (moment mid) ∷ rest.later in
+        let stages = made_stages h a round saving done in
+        let whole : stages_in (milestone_of h a (moment first) ∷ milestone_of longer_list a (moment first) ∷ behind) ≡ reached_by h a (round ∷ saving) =
+        ap (λ l. stage h a ∷ stage longer_list a ∷ l) rest.stages ∙ sym stages in
+        let stands : StandSince (moment first) (stages_in (milestone_of h a (moment first) ∷ milestone_of longer_list a (moment first) ∷ behind)) =
+        λ image counts. subst (StandsAtOne First (Passed layout image)) (sym whole) (stand image counts) in
+        record {
+          later = milestone_of longer_list a (moment first) ∷ behind;
+          stages = whole;
+          trail =
+              in_front h a (moment first) (milestone_of longer_list a (moment first) ∷ behind) past stands
+              (in_front longer_list a (moment first) behind past
+              (λ image counts. longer_one h a round.table (stages_in behind) image (stands image counts)) rest.trail);
+        }
+
+  -- ---- the rounds
+
+  abbrev pub Trails : List ℕ → Option ℕ → List Round → Device → Device → Type 0
+  Trails kept used saving from to =
+      EachSettled layout kept used from to (λ first last h a. TrailBy last first h a saving)
+
+  stand_since : (kept : List ℕ) (used : Option ℕ) (saving : List Round) (from to : Device) → to.geometry ≡ layout.geometry →
+      EachCounted (Luck layout) (Reaches layout kept used saving) from to →
+      EachSettled layout kept used from to (λ first last h a. StandSince last (moment first) (reached_by h a saving))
+  stand_since kept used saving from to geometry counted = λ first e last f h a settled image counts.
+      counted.each first e last f image (subst (λ g. Counts (Luck layout) g.page last (moment first) image) (sym geometry) counts) h a settled
+
+  told_order : (from to : Device) (first last : Told) → IsLater from to → from.told ≡ Some first → to.told ≡ Some last → moment first ≤ moment last
+  told_order from to first last later e f = in_order first last (later.continued first e last f)
+
+  module _ (plans : List (Option Plan)) (kept : List ℕ) (used copy : Option ℕ) (round : Round) (later : List Round) (from device to : Device)
+      (geometry : from.geometry ≡ layout.geometry) (run : IsRoundRun layout plans kept used copy round from device)
+      (early : IsLater from device) (late : IsLater device to)
+      (stops : StopsRefused (round ∷ later)) (whole : IsLater from to)
+      (counted : EachCounted (Luck layout) (Reaches layout kept used (saving_rounds kept (round ∷ later))) from to)
+      (rest : Trails round.table copy (saving_rounds round.table later) device to) where
+    stand : EachSettled layout kept used from to
+        (λ first last h a. StandSince last (moment first) (reached_by h a (saving_rounds kept (round ∷ later))))
+    stand = stand_since kept used (saving_rounds kept (round ∷ later)) from to (whole.geometry ∙ geometry) counted
+
+    module _ (first last : Told) (here : from.told ≡ Some first) (there : to.told ≡ Some last) (h : List (List ℕ)) (a : ℕ)
+        (settled : IsSettled layout kept used first.image h a) where
+      past : moment first ≤ moment last
+      past = told_order from to first last whole here there
+
+      next : (mid : Told) × (device.told ≡ Some mid)
+      next = some_of device.told (early.told ∙ ap is_some here)
+
+      same_image : bytes_eq round.table kept ≡ true → next.0.image ≡ first.image
+      same_image e =
+          some_is next.0.image first.image
+          (sym (told_image device next.0 next.1)
+          ∙ idle_content layout plans kept used copy round from device geometry run e ∙ told_image from first here)
+
+      stand_here : StandSince last (moment first) (reached_by h a (saving_rounds kept (round ∷ later)))
+      stand_here = stand first here last there h a settled
+
+      idle_trail : bytes_eq round.table kept ≡ true → TrailBy last first h a (saving_rounds kept (round ∷ later))
+      idle_trail e =
+          let same = idle_saving kept round later e in
+          let behind = rest next.0 next.1 last there h a
+          (idle_settled layout plans kept used copy round from device geometry run e first.image next.0.image h a (same_image e) settled) in
+          let stages = behind.stages ∙ ap (reached_by h a) (sym same) in
+          record {
+            later = behind.later;
+            stages = stages;
+            trail =
+                in_front last h a (moment first) behind.later past
+                (λ image counts. subst (StandsAtOne First (Passed layout image)) (sym stages) (stand_here image counts)) behind.trail.1;
+          }
+
+      refused_one : bytes_eq round.table kept ≡ false → is_refused round.outcome ≡ true →
+          TrailBy last first h a (saving_rounds kept (round ∷ later))
+      refused_one e refused =
+          let alone : saving_rounds kept (round ∷ later) ≡ round ∷ [] =
+          begun_saving kept round later e ∙ ap (λ l. round ∷ saving_rounds round.table l) (stops.0 refused) in
+          subst (TrailBy last first h a) (sym alone)
+          (refused_trail last first h a round refused past (subst (λ rs. StandSince last (moment first) (reached_by h a rs)) alone stand_here))
+
+      made_one : bytes_eq round.table kept ≡ false → is_refused round.outcome ≡ false →
+          TrailBy last first h a (saving_rounds kept (round ∷ later))
+      made_one e done =
+          let begun = begun_saving kept round later e in
+          let holds = made_holds layout plans kept used copy round from device geometry run e done next.0.image (told_image device next.0 next.1) in
+          subst (TrailBy last first h a) (sym begun)
+          (made_trail last first next.0 h a round (saving_rounds round.table later) done past
+          (subst (λ rs. StandSince last (moment first) (reached_by h a rs)) begun stand_here)
+          (rest next.0 next.1 last there (h ++ round.table ∷ []) (a + 1)
+          (settled_more layout kept used round.table copy first.image next.0.image h a settled holds)))
+
+      one_trail : (same : Bool) → bytes_eq round.table kept ≡ same → (refused : Bool) → is_refused round.outcome ≡ refused →
+          TrailBy last first h a (saving_rounds kept (round ∷ later))
+      one_trail true e refused done = idle_trail e
+      one_trail false e true refused = refused_one e refused
+      one_trail false e false done = made_one e done
+
+    pub round_trails : Trails kept used (saving_rounds kept (round ∷ later)) from to
+    round_trails first here last there h a settled =
+        one_trail first last here there h a settled (bytes_eq round.table kept) refl (is_refused round.outcome) refl
+
+  pub rounds_trails : (plans : List (Option Plan)) (rounds : List Round) (kept : List ℕ) (used now : Option ℕ) (from to : Device) →
+      from.geometry ≡ layout.geometry → StopsRefused rounds → AreRun layout plans kept used now rounds from to →
+      Trails kept used (saving_rounds kept rounds) from to
+  unfolding AreRun
+  rounds_trails plans [] kept used now from to geometry stops run = λ first here last there h a settled.
+      let whole = rounds_later layout plans [] kept used now from to run in
+      none_trail last first h a (told_order from to first last whole here there)
+      (stand_since kept used [] from to (whole.geometry ∙ geometry)
+      (rounds_reached layout plans [] kept used now from to geometry stops run) first here last there h a settled)
+  rounds_trails plans (round ∷ later) kept used now from to geometry stops run =
+      let early = round_later layout plans kept used run.copy round from run.device run.before in
+      let late = rounds_later layout plans later round.table run.copy now run.device to run.behind in
+      round_trails plans kept used run.copy round later from run.device to geometry run.before early late stops
+      (rounds_later layout plans (round ∷ later) kept used now from to run)
+      (rounds_reached layout plans (round ∷ later) kept used now from to geometry stops run)
+      (rounds_trails plans later round.table run.copy now run.device to (early.geometry ∙ geometry) stops.1 run.behind)
+
+  -- ---- the end
+
+  abbrev pub LeadsBy : List ℕ → Option ℕ → Told → Told → List (List ℕ) → ℕ → List Round → Type 0
+  LeadsBy kept now first last h a saving =
+      LeadsTo layout kept now first last h a (map (λ (round : Round). round.table) saving) (count_by is_made saving)
+
+  none_leads : (kept : List ℕ) (used now : Option ℕ) (first last : Told) (h : List (List ℕ)) (a : ℕ) → now ≡ used → last.image ≡ first.image →
+      IsSettled layout kept used first.image h a → LeadsBy kept now first last h a []
+  none_leads kept used now first last h a copy same settled =
+      let acked : a + 0 ≡ a = omega arith in
+      let here : IsSettled layout kept now last.image (h ++ []) (a + 0) =
+      subst (λ l. IsSettled layout kept now last.image l (a + 0)) (sym (append-nil h))
+      (subst (λ n. IsSettled layout kept now last.image h n) (sym acked)
+      (subst (λ i. IsSettled layout kept now i h a) (sym same) (subst (λ u. IsSettled layout kept u first.image h a) (sym copy) settled))) in
+      record { stands = λ fair. here.stands; settled = λ all. here }
+
+  abbrev pub Leads : List ℕ → List ℕ → Option ℕ → Option ℕ → List Round → Device → Device → Type 0
+  Leads end kept used now saving from to =
+      EachSettled layout kept used from to (λ first last h a. LeadsBy end now first last h a saving)
+
+  module _ (plans : List (Option Plan)) (kept : List ℕ) (used copy now : Option ℕ) (round : Round) (later : List Round) (from device to : Device)
+      (geometry : from.geometry ≡ layout.geometry) (run : IsRoundRun layout plans kept used copy round from device)
+      (early : IsLater from device) (late : IsLater device to)
+      (stops : StopsRefused (round ∷ later)) (alone : later ≡ [] → to ≡ device)
+      (rest : Leads (table_after round.table later) round.table copy now (saving_rounds round.table later) device to) where
+    abbrev end : List ℕ
+    end = table_after round.table later
+
+    module _ (first last : Told) (here : from.told ≡ Some first) (there : to.told ≡ Some last) (h : List (List ℕ)) (a : ℕ)
+        (settled : IsSettled layout kept used first.image h a) where
+      mid : (middle : Told) × (device.told ≡ Some middle)
+      mid = some_of device.told (early.told ∙ ap is_some here)
+
+      order : moment first ≤ moment mid.0
+      order = told_order from device first mid.0 early here mid.1
+
+      fair_behind : IsFairRun layout first last → IsFairRun layout mid.0 last
+      fair_behind = fair_from (Luck layout) last (moment first) (moment mid.0) order
+
+      idle_leads : bytes_eq round.table kept ≡ true → LeadsBy end now first last h a (saving_rounds kept (round ∷ later))
+      idle_leads e =
+          let image : mid.0.image ≡ first.image =
+          some_is mid.0.image first.image
+          (sym (told_image device mid.0 mid.1)
+          ∙ idle_content layout plans kept used copy round from device geometry run e ∙ told_image from first here) in
+          let behind = rest mid.0 mid.1 last there h a
+          (idle_settled layout plans kept used copy round from device geometry run e first.image mid.0.image h a image settled) in
+          subst (LeadsBy end now first last h a) (sym (idle_saving kept round later e))
+          (record { stands = λ fair. behind.stands (fair_behind fair); settled = behind.settled })
+
+      refused_leads : bytes_eq round.table kept ≡ false → is_refused round.outcome ≡ true →
+          LeadsBy end now first last h a (saving_rounds kept (round ∷ later))
+      refused_leads e refused =
+          let none : later ≡ [] = stops.0 refused in
+          let only : saving_rounds kept (round ∷ later) ≡ round ∷ [] =
+          begun_saving kept round later e ∙ ap (λ l. round ∷ saving_rounds round.table l) none in
+          let at_end : to.told ≡ device.told = ap (λ d. d.told) (alone none) in
+          let made = made_cons round [] true refused in
+          let acked : a + count_by is_made (round ∷ []) ≡ a = omega (arith, made) in
+          subst (LeadsBy end now first last h a) (sym only)
+          (record {
+            stands = λ fair.
+                subst (λ n. StandsIn layout last.image (h ++ round.table ∷ []) n) (sym acked)
+                (longer_stands layout kept used round.table first.image last.image h a settled
+                ((begun_counted layout plans kept used copy round from device geometry run e).each first here last (sym at_end ∙ there) last.image
+                (inl (record { held = refl; fair = fair }))));
+            settled = λ all. absurd (let no : count_by is_made (round ∷ []) ≡ 1 = all in omega (arith, made, no));
+          })
+
+      made_leads : bytes_eq round.table kept ≡ false → is_refused round.outcome ≡ false →
+          LeadsBy end now first last h a (saving_rounds kept (round ∷ later))
+      made_leads e done =
+          let saving = saving_rounds round.table later in
+          let tables = map (λ (r : Round). r.table) saving in
+          let holds = made_holds layout plans kept used copy round from device geometry run e done mid.0.image (told_image device mid.0 mid.1) in
+          let behind = rest mid.0 mid.1 last there (h ++ round.table ∷ []) (a + 1)
+          (settled_more layout kept used round.table copy first.image mid.0.image h a settled holds) in
+          let made = made_cons round saving false done in
+          let acked : a + 1 + count_by is_made saving ≡ a + count_by is_made (round ∷ saving) = omega (arith, made) in
+          let list : (h ++ round.table ∷ []) ++ tables ≡ h ++ (round.table ∷ tables) = append_assoc h (round.table ∷ []) tables in
+          subst (LeadsBy end now first last h a) (sym (begun_saving kept round later e))
+          (record {
+            stands = λ fair.
+                subst (λ n. StandsIn layout last.image (h ++ (round.table ∷ tables)) n) acked
+                (subst (λ l. StandsIn layout last.image l (a + 1 + count_by is_made saving)) list (behind.stands (fair_behind fair)));
+            settled = λ all.
+                let fewer : count_by is_made saving ≡ length tables =
+                let whole : count_by is_made (round ∷ saving) ≡ suc (length tables) = all in omega (arith, made, whole) in
+                subst (λ n. IsSettled layout end now last.image (h ++ (round.table ∷ tables)) n) acked
+                (subst (λ l. IsSettled layout end now last.image l (a + 1 + count_by is_made saving)) list (behind.settled fewer));
+          })
+
+      one_leads : (same : Bool) → bytes_eq round.table kept ≡ same → (refused : Bool) → is_refused round.outcome ≡ refused →
+          LeadsBy end now first last h a (saving_rounds kept (round ∷ later))
+      one_leads true e refused done = idle_leads e
+      one_leads false e true refused = refused_leads e refused
+      one_leads false e false done = made_leads e done
+
+    pub round_leads : Leads (table_after kept (round ∷ later)) kept used now (saving_rounds kept (round ∷ later)) from to
+    round_leads = λ first here last there h a settled.
+        subst (λ t. LeadsBy t now first last h a (saving_rounds kept (round ∷ later))) (sym (table_cons kept round later))
+        (one_leads first last here there h a settled (bytes_eq round.table kept) refl (is_refused round.outcome) refl)
+
+  pub rounds_leads : (plans : List (Option Plan)) (rounds : List Round) (kept : List ℕ) (used now : Option ℕ) (from to : Device) →
+      from.geometry ≡ layout.geometry → StopsRefused rounds → AreRun layout plans kept used now rounds from to →
+      Leads (table_after kept rounds) kept used now (saving_rounds kept rounds) from to
+  unfolding AreRun
+  rounds_leads plans [] kept used now from to geometry stops run = λ first here last there h a settled.
+      let same : last.image ≡ first.image =
+      some_is last.image first.image (sym (told_image to last there) ∙ ap (λ d. content d) run.1 ∙ told_image from first here) in
+      none_leads kept used now first last h a run.0 same settled
+  rounds_leads plans (round ∷ later) kept used now from to geometry stops run =
+      let early = round_later layout plans kept used run.copy round from run.device run.before in
+      let late = rounds_later layout plans later round.table run.copy now run.device to run.behind in
+      round_leads plans kept used run.copy now round later from run.device to geometry run.before early late stops
+      (none_alone layout plans later round.table run.copy now run.device to run.behind)
+      (rounds_leads plans later round.table run.copy now run.device to (early.geometry ∙ geometry) stops.1 run.behind)
+
+-- ---- the words of the contract
+
+pub boot_trail : (layout : Laid) (plans : List (Option Plan)) (rounds : List Round) (kept : List ℕ) (used now : Option ℕ) (from to : Device) →
+    from.geometry ≡ layout.geometry → StopsRefused rounds → AreRun layout plans kept used now rounds from to →
+    KeepsATrail layout kept used rounds from to
+boot_trail layout plans rounds kept used now from to geometry stops run = rounds_trails layout plans rounds kept used now from to geometry stops run
+
+pub boot_exit : (layout : Laid) (plans : List (Option Plan)) (rounds : List Round) (kept : List ℕ) (used now : Option ℕ) (from to : Device) →
+    from.geometry ≡ layout.geometry → StopsRefused rounds → AreRun layout plans kept used now rounds from to →
+    KeepsAtExit layout kept used now rounds from to
+boot_exit layout plans rounds kept used now from to geometry stops run = rounds_leads layout plans rounds kept used now from to geometry stops run
