@@ -5,7 +5,9 @@ use std::alloc::Global;
 use std::process::Abort;
 use std::test::Fail;
 
+mod blocks;
 mod each_fault;
+mod each_fault_in_blocks;
 mod large;
 mod mended;
 mod old_record;

@@ -16,32 +16,32 @@ const WRITE_2_ALWAYS: [&str; 5] = ["raw", "0x12345678", "4", "-s", "02000000"];
 
 // What a session answers and sends that is cut off in a call of the device.
 #[derive(Clone, Copy)]
-struct End {
-    status: Status,
-    line: &'static str,
+pub(super) struct End {
+    pub(super) status: Status,
+    pub(super) line: &'static str,
 }
 
-const READ: End = End {
+pub(super) const READ: End = End {
     status: Status::ReadFault,
     line: "fault 8 ReadFault\n",
 };
 
-const WRITE_0: End = End {
+pub(super) const WRITE_0: End = End {
     status: Status::WriteFault,
     line: "fault 9 WriteFault 0\n",
 };
 
-const WRITE_1: End = End {
+pub(super) const WRITE_1: End = End {
     status: Status::WriteFault,
     line: "fault 9 WriteFault 1\n",
 };
 
-const WRITE_2: End = End {
+pub(super) const WRITE_2: End = End {
     status: Status::WriteFault,
     line: "fault 9 WriteFault 2\n",
 };
 
-const DONE: End = End {
+pub(super) const DONE: End = End {
     status: Status::Done,
     line: "",
 };
