@@ -6,6 +6,7 @@ use std::process::Abort;
 use std::test::Fail;
 
 mod blocks;
+mod cut_log;
 mod each_fault;
 mod each_fault_in_blocks;
 mod large;

@@ -93,27 +93,42 @@ fn with_closing_words(number: Number) -> &'static [u8] {
 
 // A device whose blocks hold these entries, one behind the other.
 pub(super) fn board(alloc: Global, kind: Kind, copies: [&[Number]; 3]) -> Result<MemBoard, Fail> {
-    let Some(geometry) = geometry_of("er:32:256:768") else {
-        return Err(Fail::from("no geometry"));
-    };
     let mut bytes = Bytes::none(alloc);
     for numbers in copies {
-        let block = block_of(alloc, kind, numbers)?;
+        let entries = entries(alloc, kind, numbers)?;
+        let block = block_of(alloc, &[entries.as_slice()])?;
         bytes.add(block.as_slice())?;
     }
-    if bytes.as_slice().len() != geometry.size as usize {
-        return Err(Fail::from("another size"));
-    }
-    Ok(MemBoard::of(alloc, geometry, bytes.as_slice(), 200, 3000)?)
+    board_of(alloc, bytes.as_slice())
 }
 
-fn block_of(alloc: Global, kind: Kind, numbers: &[Number]) -> Result<Bytes, Fail> {
-    let mut block = Bytes::none(alloc);
+fn entries(alloc: Global, kind: Kind, numbers: &[Number]) -> Result<Bytes, Fail> {
+    let mut bytes = Bytes::none(alloc);
     for number in numbers {
-        block.add(entry(kind, *number))?;
+        bytes.add(entry(kind, *number))?;
+    }
+    Ok(bytes)
+}
+
+// A block that begins with these bytes, one piece behind the other, and else is blank.
+pub(super) fn block_of(alloc: Global, pieces: &[&[u8]]) -> Result<Bytes, Fail> {
+    let mut block = Bytes::none(alloc);
+    for piece in pieces {
+        block.add(piece)?;
     }
     for _ in block.as_slice().len()..BLOCK_LEN {
         block.add(b"\xff")?;
     }
     Ok(block)
+}
+
+// A device of these bytes.
+pub(super) fn board_of(alloc: Global, bytes: &[u8]) -> Result<MemBoard, Fail> {
+    let Some(geometry) = geometry_of("er:32:256:768") else {
+        return Err(Fail::from("no geometry"));
+    };
+    if bytes.len() != geometry.size as usize {
+        return Err(Fail::from("another size"));
+    }
+    Ok(MemBoard::of(alloc, geometry, bytes, 200, 3000)?)
 }
