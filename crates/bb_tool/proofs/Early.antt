@@ -9,7 +9,7 @@ use Rattle.bb_tool.specs.Calls.{IsSession, geometry_of}
 use Rattle.bb_tool.specs.Copying.{StopsAtFileFault, StopsBetweenSaves}
 use Rattle.bb_tool.specs.Ending.{IsFollowed}
 use Rattle.bb_tool.specs.Filing.{IsFiled}
-use Rattle.bb_tool.specs.Plan.{Act, FileAnswers, Good, Plan, Show, Work, Write, names_file, planned}
+use Rattle.bb_tool.specs.Plan.{Act, FileAnswers, Good, SessionPlan, Show, Work, Write, names_file, planned}
 use Rattle.bb_tool.specs.Ran.{Ran}
 use Rattle.bb_tool.specs.Session.{Answers, LoadAnswer, SaveAnswer, Session, all_made, followed, loaded_area, saved, saves_behind, saves_of, text_of, unmarked, worked}
 use Rattle.bb_tool.specs.Work.{AreSaved, IsStoreWork, IsWorkOf}
@@ -69,7 +69,7 @@ saves_made layout used text (area ∷ []) (Ok made ∷ (other ∷ saves)) from t
 saves_made layout used text (area ∷ (other ∷ areas)) (Ok made ∷ saves) from to done whole =
     absurd (let e = done.1.0 in cc)
 
-store_made : (plan : Plan) (from to : Device) (found : Option (List ℕ)) (saves : List SaveAnswer) →
+store_made : (plan : SessionPlan) (from to : Device) (found : Option (List ℕ)) (saves : List SaveAnswer) →
     IsStoreWork plan from to (Ok found) saves → (place : Option ℕ) →
     unmarked plan.work (loaded_area plan.layout found) ≡ place →
     HasNoFault (worked plan (Ok found) saves) →
@@ -86,7 +86,7 @@ store_made plan from to found saves done (Some place) marks whole =
     let are = subst (λ areas. AreSaved plan.layout done.used areas done.middle to saves) none done.saved in
     are.0 ∙ ap (λ (s : Session). all_made s.saves) (sym (unmarked_session plan found saves place marks))
 
-work_made : (work : Work) (plan : Plan) (from to : Device) (load : LoadAnswer)
+work_made : (work : Work) (plan : SessionPlan) (from to : Device) (load : LoadAnswer)
     (saves : List SaveAnswer) → plan.work ≡ work → IsWorkOf work plan from to load saves →
     HasNoFault (worked plan load saves) → saves ≡ all_made (worked plan load saves).saves
 work_made work plan from to (Err fault) saves is done whole =
@@ -107,7 +107,7 @@ work_made (Act actions) plan from to (Ok found) saves is done whole =
 work_made (Good targets) plan from to (Ok found) saves is done whole =
     store_made plan from to found saves done (unmarked plan.work (loaded_area plan.layout found)) refl whole
 
-plan_made : (plan : Result Plan Refusal) (from to : Device) (answers : Answers) →
+plan_made : (plan : Result SessionPlan Refusal) (from to : Device) (answers : Answers) →
     IsFollowed plan from to answers → (followed plan answers).refusal ≡ None →
     (to ≡ from) ⊎ (answers.saves ≡ all_made (followed plan answers).saves)
 plan_made (Err refusal) from to answers done whole = inl done

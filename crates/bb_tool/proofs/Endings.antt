@@ -26,7 +26,7 @@ use Rattle.bb_words.specs.declared.command.Command.{Command}
 use Rattle.bb_tool.specs.Calls.{ComesByDevice, ComesByFiles, ComesByOutlet, ComesByPlan, ComesByPlanAlone, ComesByReads, ComesByWords, IsAnswered, IsRefusedWith, IsSession, IsWithoutMemory, NamesACopy, SendsSessionFront, Tells, geometry_of, is_planning, plan_over, session_for}
 use Rattle.bb_tool.specs.Copying.{KeepsATrail, KeepsAtExit, KeepsOthers}
 use Rattle.bb_tool.specs.Ending.{IsFollowed, IsGiven}
-use Rattle.bb_tool.specs.Plan.{Act, FileAnswers, Good, Plan, Show, Work, Write, copies_in, files_for, plan_of, planned}
+use Rattle.bb_tool.specs.Plan.{Act, FileAnswers, Good, SessionPlan, Show, Work, Write, copies_in, files_for, plan_of, planned}
 use Rattle.bb_tool.specs.Ran.{Ran}
 use Rattle.bb_tool.specs.Refusal.{copy_refusal, line_of, status_of}
 use Rattle.bb_tool.specs.Session.{Answers, LoadAnswer, SaveAnswer, Session, ended_status, followed, loaded_area, refused_for, saved, saves_behind, saves_of, sent_of, session_of, text_of, unless_unmarked, unmarked, worked}
@@ -92,7 +92,7 @@ marked_work : (place : Option ℕ) (session : Session) → is_work (ended_status
 marked_work None session h = h
 marked_work (Some place) session h = refl
 
-worked_work : (plan : Plan) (load : LoadAnswer) (saves : List SaveAnswer) → is_work (ended_status (worked plan load saves)) ≡ true
+worked_work : (plan : SessionPlan) (load : LoadAnswer) (saves : List SaveAnswer) → is_work (ended_status (worked plan load saves)) ≡ true
 worked_work plan (Ok found) saves =
     marked_work (unmarked plan.work (loaded_area plan.layout found)) (saved (text_of plan.layout plan.work found) (saves_behind plan (Ok found)) saves)
     (saved_work (text_of plan.layout plan.work found) (saves_behind plan (Ok found)) saves)
@@ -102,19 +102,19 @@ not_work : (status other : Status) → is_work status ≡ true → is_work other
 not_work status other first second = λ e. (let h : true ≡ false = sym first ∙ ap is_work e ∙ second in cc)
 
 -- an answer that the work doesn't have is the refusal of the plan
-plan_only : (plan : Result Plan Refusal) (answers : Answers) (answer : Status) → is_work answer ≡ false → ended_status (followed plan answers) ≡ answer → IsRefusedWith answer plan
+plan_only : (plan : Result SessionPlan Refusal) (answers : Answers) (answer : Status) → is_work answer ≡ false → ended_status (followed plan answers) ≡ answer → IsRefusedWith answer plan
 plan_only (Ok plan) answers answer other e = absurd (not_work (ended_status (worked plan answers.load answers.saves)) answer (worked_work plan answers.load answers.saves) other e)
 plan_only (Err refusal) answers answer other e = e
 
-pub plan_ends : (plan : Result Plan Refusal) (answers : Answers) (answer : Status) → IsRefusedWith answer plan → ended_status (followed plan answers) ≡ answer
+pub plan_ends : (plan : Result SessionPlan Refusal) (answers : Answers) (answer : Status) → IsRefusedWith answer plan → ended_status (followed plan answers) ≡ answer
 plan_ends (Ok plan) answers answer refused = absurd refused
 plan_ends (Err refusal) answers answer refused = refused
 
-refused_one : (a b : Status) (plan : Result Plan Refusal) → IsRefusedWith a plan → IsRefusedWith b plan → a ≡ b
+refused_one : (a b : Status) (plan : Result SessionPlan Refusal) → IsRefusedWith a plan → IsRefusedWith b plan → a ≡ b
 refused_one a b (Ok plan) one two = absurd one
 refused_one a b (Err refusal) one two = sym one ∙ two
 
-refused_memory : (a : Status) (plan : Result Plan Refusal) → plan ≡ Err refusals.NoMemory → IsRefusedWith a plan → a ≡ statuses.NoMemory
+refused_memory : (a : Status) (plan : Result SessionPlan Refusal) → plan ≡ Err refusals.NoMemory → IsRefusedWith a plan → a ≡ statuses.NoMemory
 refused_memory a plan is refused = sym (subst (IsRefusedWith a) is refused)
 
 -- ---- words and plans
@@ -141,7 +141,7 @@ always_planned ran (inl ending) answer files told refused =
         | inl same ↦ inl (own ∙ plan_ends plan ending.answers answer (subst (IsRefusedWith answer) (sym same) refused))
         | inr odd ↦ elim odd [
           | inl fault ↦ inr (inr (inr (own ∙ plan_ends plan ending.answers statuses.FileFault fault)))
-          | inr memory ↦ inr (inr (inl (own ∙ ap (λ (p : Result Plan Refusal). ended_status (followed p ending.answers)) memory)))
+          | inr memory ↦ inr (inr (inl (own ∙ ap (λ (p : Result SessionPlan Refusal). ended_status (followed p ending.answers)) memory)))
         ]
       ]
     ]
@@ -204,12 +204,12 @@ planning_work statuses.NoGood first second = cc
 planning_work statuses.SinkFault first second = cc
 planning_work statuses.NoMemory first second = cc
 
-pub unasked_by : (plan : Result Plan Refusal) (before after : Device) (answers : Answers) → IsFollowed plan before after answers → IsErr plan → after ≡ before
+pub unasked_by : (plan : Result SessionPlan Refusal) (before after : Device) (answers : Answers) → IsFollowed plan before after answers → IsErr plan → after ≡ before
 unasked_by (Ok plan) before after answers followed_so refused = absurd cc
 unasked_by (Err refusal) before after answers followed_so refused = followed_so
 
 -- a refusal of the plan comes without any call of the device
-planning_refused : (plan : Result Plan Refusal) (answers : Answers) → is_planning (ended_status (followed plan answers)) ≡ true → IsErr plan
+planning_refused : (plan : Result SessionPlan Refusal) (answers : Answers) → is_planning (ended_status (followed plan answers)) ≡ true → IsErr plan
 planning_refused (Ok plan) answers h = absurd (planning_work (ended_status (worked plan answers.load answers.saves)) (worked_work plan answers.load answers.saves) h)
 planning_refused (Err refusal) answers h = refl
 
@@ -321,7 +321,7 @@ saved_later layout used [] saves from to saved_so = subst (λ (d : Device). (fro
 saved_later layout used (area ∷ areas) [] from to saved_so = absurd saved_so
 saved_later layout used (area ∷ areas) (answer ∷ saves) from to saved_so = (saved_so.0.runs.later.faults, saved_so.0.runs.later.read_faults)
 
-store_fault : (plan : Plan) (from to : Device) (load : LoadAnswer) (saves : List SaveAnswer) (refusal : Refusal) → is_device_fault (status_of refusal) ≡ true → IsStoreWork plan from to load saves → (worked plan load saves).refusal ≡ Some refusal → IsFault plan.layout from to refusal
+store_fault : (plan : SessionPlan) (from to : Device) (load : LoadAnswer) (saves : List SaveAnswer) (refusal : Refusal) → is_device_fault (status_of refusal) ≡ true → IsStoreWork plan from to load saves → (worked plan load saves).refusal ≡ Some refusal → IsFault plan.layout from to refusal
 store_fault plan from to (Err fault) saves refusal device work h =
     let later = saved_later plan.layout work.used [] saves work.middle to work.saved in
     record {
@@ -340,7 +340,7 @@ store_fault plan from to (Ok found) saves refusal device work h =
       tells = tells_from plan.layout from work.middle to fault.fault fault.tells work.loaded.later.faults work.loaded.later.read_faults;
     }
 
-look_fault : (layout : Laid) (text : Option (List ℕ) → List ℕ) (from to : Device) (load : LoadAnswer) (refusal : Refusal) (plan : Plan) (saves : List SaveAnswer) → is_device_fault (status_of refusal) ≡ true → plan.work ≡ Show → IsLookWork plan from to load saves → (worked plan load saves).refusal ≡ Some refusal → IsFault plan.layout from to refusal
+look_fault : (layout : Laid) (text : Option (List ℕ) → List ℕ) (from to : Device) (load : LoadAnswer) (refusal : Refusal) (plan : SessionPlan) (saves : List SaveAnswer) → is_device_fault (status_of refusal) ≡ true → plan.work ≡ Show → IsLookWork plan from to load saves → (worked plan load saves).refusal ≡ Some refusal → IsFault plan.layout from to refusal
 look_fault layout text from to (Err fault) refusal plan saves device shows work h = record {
   fault = fault;
   is = same_Some refusal (copy_refusal fault) (sym h);
@@ -350,15 +350,15 @@ look_fault layout text from to (Ok found) refusal plan saves device shows work h
     absurd (none_some refusal (sym (ap (λ (w : Work). (saved (text_of plan.layout plan.work found) (saves_of plan.layout w (loaded_area plan.layout found)) saves).refusal) shows)
     ∙ stored_refusal plan found saves refusal device h (unmarked plan.work (loaded_area plan.layout found)) refl))
 
-pub work_fault : (work : Work) (plan : Plan) (from to : Device) (load : LoadAnswer) (saves : List SaveAnswer) (refusal : Refusal) → is_device_fault (status_of refusal) ≡ true → plan.work ≡ work → IsWorkOf work plan from to load saves → (worked plan load saves).refusal ≡ Some refusal → IsFault plan.layout from to refusal
+pub work_fault : (work : Work) (plan : SessionPlan) (from to : Device) (load : LoadAnswer) (saves : List SaveAnswer) (refusal : Refusal) → is_device_fault (status_of refusal) ≡ true → plan.work ≡ work → IsWorkOf work plan from to load saves → (worked plan load saves).refusal ≡ Some refusal → IsFault plan.layout from to refusal
 work_fault Show plan from to load saves refusal device is work h = look_fault plan.layout (text_of plan.layout Show) from to load refusal plan saves device is work h
 work_fault (Write area) plan from to load saves refusal device is work h = store_fault plan from to load saves refusal device work h
 work_fault (Act actions) plan from to load saves refusal device is work h = store_fault plan from to load saves refusal device work h
 work_fault (Good targets) plan from to load saves refusal device is work h = store_fault plan from to load saves refusal device work h
 
 -- a session that ends so was refused by its plan, or by a fault of its device
-record IsFaulted (plan : Result Plan Refusal) (from to : Device) (session : Session) (answer : Status) : Type 0 where
-  planned_as : Plan
+record IsFaulted (plan : Result SessionPlan Refusal) (from to : Device) (session : Session) (answer : Status) : Type 0 where
+  planned_as : SessionPlan
   plan_is : plan ≡ Ok planned_as
   refusal : Refusal
   refusal_is : session.refusal ≡ Some refusal
@@ -369,7 +369,7 @@ some_refusal : (refused : Option Refusal) (answer : Status) → answer ≢ statu
 some_refusal None answer other e = absurd (other (sym e))
 some_refusal (Some refusal) answer other e = (refusal, (refl, e))
 
-plan_fault : (plan : Result Plan Refusal) (from to : Device) (answers : Answers) (answer : Status) → answer ≢ statuses.Done → is_device_fault answer ≡ true → (IsRefusedWith answer plan → ⊥) → IsFollowed plan from to answers → ended_status (followed plan answers) ≡ answer → IsFaulted plan from to (followed plan answers) answer
+plan_fault : (plan : Result SessionPlan Refusal) (from to : Device) (answers : Answers) (answer : Status) → answer ≢ statuses.Done → is_device_fault answer ≡ true → (IsRefusedWith answer plan → ⊥) → IsFollowed plan from to answers → ended_status (followed plan answers) ≡ answer → IsFaulted plan from to (followed plan answers) answer
 plan_fault (Ok plan) from to answers answer other device none work h =
     let some = some_refusal (worked plan answers.load answers.saves).refusal answer other h in
     record {
@@ -432,7 +432,7 @@ copy_of_fault ran s e =
       answers = answers;
       answered = own.ending.answered;
       copy = named.1.copy;
-      inside = subst (λ (p : Result Plan Refusal). named.1.copy < copies_in p) (sym named.0.plan_is) named.1.inside;
+      inside = subst (λ (p : Result SessionPlan Refusal). named.1.copy < copies_in p) (sym named.0.plan_is) named.1.inside;
       refusal = named.0.refusal_is ∙ ap (λ r. Some r) named.1.is;
       told = subst (λ (status : Status). Tells ran (sent_of (session_for ran answers)) status) own.own own.ending.told;
     }
@@ -442,17 +442,17 @@ copy_of_fault ran s e =
 pub at_exit : (ran : Ran) → IsSession ran → KeepsAtExit ran
 at_exit ran session answers plan answered is =
     leads_on plan ran.before.device ran.after.device answers.load answers.saves
-    (subst (λ (p : Result Plan Refusal). IsFollowed p ran.before.device ran.after.device answers) is answered.followed)
+    (subst (λ (p : Result SessionPlan Refusal). IsFollowed p ran.before.device ran.after.device answers) is answered.followed)
 
 pub on_a_trail : (ran : Ran) → IsSession ran → KeepsATrail ran
 on_a_trail ran session answers plan answered is =
     has_trails plan ran.before.device ran.after.device answers.load answers.saves
-    (subst (λ (p : Result Plan Refusal). IsFollowed p ran.before.device ran.after.device answers) is answered.followed)
+    (subst (λ (p : Result SessionPlan Refusal). IsFollowed p ran.before.device ran.after.device answers) is answered.followed)
 
 pub beside : (ran : Ran) → IsSession ran → KeepsOthers ran
 beside ran session answers plan answered is =
     keeps_outside plan ran.before.device ran.after.device answers.load answers.saves
-    (subst (λ (p : Result Plan Refusal). IsFollowed p ran.before.device ran.after.device answers) is answered.followed)
+    (subst (λ (p : Result SessionPlan Refusal). IsFollowed p ran.before.device ran.after.device answers) is answered.followed)
 
 -- ---- want of memory
 
@@ -475,7 +475,7 @@ record IsMemoryPlan (from to : Device) (session : Session) : Type 0 where
   is : session ≡ refused_for refusals.NoMemory
   unasked : to ≡ from
 
-plan_memory : (plan : Result Plan Refusal) (from to : Device) (answers : Answers) → IsFollowed plan from to answers → ended_status (followed plan answers) ≡ statuses.NoMemory → IsMemoryPlan from to (followed plan answers)
+plan_memory : (plan : Result SessionPlan Refusal) (from to : Device) (answers : Answers) → IsFollowed plan from to answers → ended_status (followed plan answers) ≡ statuses.NoMemory → IsMemoryPlan from to (followed plan answers)
 plan_memory (Ok plan) from to answers work h = absurd (not_work (ended_status (worked plan answers.load answers.saves)) statuses.NoMemory (worked_work plan answers.load answers.saves) refl h)
 plan_memory (Err refusal) from to answers work h = record {
   is = ap refused_for (refusal_memory refusal h);
@@ -494,7 +494,7 @@ no_memory_of ran (inl ending) e =
 
 -- ---- an output that failed
 
-plan_sink : (plan : Result Plan Refusal) (answers : Answers) → (IsRefusedWith statuses.SinkFault plan → ⊥) → ended_status (followed plan answers) ≢ statuses.SinkFault
+plan_sink : (plan : Result SessionPlan Refusal) (answers : Answers) → (IsRefusedWith statuses.SinkFault plan → ⊥) → ended_status (followed plan answers) ≢ statuses.SinkFault
 plan_sink plan answers none = λ e. none (plan_only plan answers statuses.SinkFault refl e)
 
 session_sink : (words : List (List ℕ)) (geometry : Geometry) (answers : Answers) → ended_status (session_of words geometry answers) ≢ statuses.SinkFault
@@ -539,13 +539,13 @@ unmarked_memory : (place : Option ℕ) (text : List ℕ) (areas : List (List ℕ
 unmarked_memory None text areas saves refusal h = saved_memory text areas saves refusal h
 unmarked_memory (Some place) text areas saves refusal h = ap takes_memory (same_Some refusal (refusals.NoGood place) (sym h))
 
-worked_memory : (plan : Plan) (load : LoadAnswer) (saves : List SaveAnswer) (refusal : Refusal) → (worked plan load saves).refusal ≡ Some refusal → takes_memory refusal ≡ false
+worked_memory : (plan : SessionPlan) (load : LoadAnswer) (saves : List SaveAnswer) (refusal : Refusal) → (worked plan load saves).refusal ≡ Some refusal → takes_memory refusal ≡ false
 worked_memory plan (Err fault) saves refusal h = ap takes_memory (same_Some refusal (copy_refusal fault) (sym h)) ∙ fault_memory fault
 worked_memory plan (Ok found) saves refusal h =
     unmarked_memory (unmarked plan.work (loaded_area plan.layout found)) (text_of plan.layout plan.work found) (saves_behind plan (Ok found)) saves refusal h
 
 -- so a refusal whose line takes memory is that of a plan
-lined_plan : (plan : Result Plan Refusal) (from to : Device) (answers : Answers) (refusal : Refusal) → takes_memory refusal ≡ true → IsFollowed plan from to answers → (followed plan answers).refusal ≡ Some refusal → to ≡ from
+lined_plan : (plan : Result SessionPlan Refusal) (from to : Device) (answers : Answers) (refusal : Refusal) → takes_memory refusal ≡ true → IsFollowed plan from to answers → (followed plan answers).refusal ≡ Some refusal → to ≡ from
 lined_plan (Ok plan) from to answers refusal takes work h =
     absurd (let e : false ≡ true = sym (worked_memory plan answers.load answers.saves refusal h) ∙ takes in cc)
 lined_plan (Err other) from to answers refusal takes work h = work

@@ -28,7 +28,7 @@ use Rattle.bb_tool.specs.Copying.{MakesAlike, WritesExactly}
 use Rattle.bb_tool.specs.Ending.{IsFollowed}
 use Rattle.bb_tool.specs.Exactly.{EndsAlike, LeavesExactly, LeavesRegions, PassAlike, is_fresh, last_area, last_of, loaded_region, saved_region, stored_region, worked_region}
 use Rattle.bb_tool.specs.Looking.{first_found, passed_in}
-use Rattle.bb_tool.specs.Plan.{Act, Good, Plan, Show, Work, Write, planned}
+use Rattle.bb_tool.specs.Plan.{Act, Good, SessionPlan, Show, Work, Write, planned}
 use Rattle.bb_tool.specs.Ran.{Ran}
 use Rattle.bb_tool.specs.Session.{Answers, LoadAnswer, SaveAnswer, all_made, saves_behind, worked}
 use Rattle.bb_tool.specs.Work.{AreSaved, IsFound, IsLoadedAs, IsStoreWork, IsWork, IsWorkOf, taken}
@@ -209,7 +209,7 @@ saved_alike layout used found (area ∷ (other ∷ areas)) (Ok ok ∷ saves) mid
 
 -- ---- the load and the saves of a plan
 
-module _ (plan : Plan) (from to : Device) (found : Option (List ℕ)) (saves : List SaveAnswer)
+module _ (plan : SessionPlan) (from to : Device) (found : Option (List ℕ)) (saves : List SaveAnswer)
     (work : IsStoreWork plan from to (Ok found) saves)
     (made : saves ≡ all_made (saves_behind plan (Ok found))) (calm : IsUndisturbed from to)
     (x z : Image) (e : content from ≡ Some x) (f : content to ≡ Some z) where
@@ -263,13 +263,13 @@ module _ (plan : Plan) (from to : Device) (found : Option (List ℕ)) (saves : L
 ok_same : (one two : Option (List ℕ)) → ◌≡◌ {A = LoadAnswer} (Ok one) (Ok two) → one ≡ two
 ok_same one two h = cc
 
-record IsDone (work : Work) (plan : Plan) (from : Device) (x z : Image) : Type 0 where
+record IsDone (work : Work) (plan : SessionPlan) (from : Device) (x z : Image) : Type 0 where
   left : LeavesRegions (laid_kinds plan.layout) from.geometry.page
       (worked_region work plan (first_found (passed_in plan.layout from.geometry.page x))) x z
   alike : PassAlike plan.layout from.geometry.page
       (last_area work plan (first_found (passed_in plan.layout from.geometry.page x))) x z
 
-module _ (plan : Plan) (from to : Device) (saves : List SaveAnswer) (calm : IsUndisturbed from to)
+module _ (plan : SessionPlan) (from to : Device) (saves : List SaveAnswer) (calm : IsUndisturbed from to)
     (x z : Image) (e : content from ≡ Some x) (f : content to ≡ Some z) where
   abbrev Found : Option (List ℕ)
   Found = first_found (passed_in plan.layout from.geometry.page x)
@@ -310,7 +310,7 @@ module _ (plan : Plan) (from to : Device) (saves : List SaveAnswer) (calm : IsUn
       let done = store_done load work held in
       record { left = done.left; alike = done.alike }
 
-plan_done : (plan : Plan) (from to : Device) (load : LoadAnswer) (saves : List SaveAnswer) →
+plan_done : (plan : SessionPlan) (from to : Device) (load : LoadAnswer) (saves : List SaveAnswer) →
     IsWork plan from to load saves → IsUndisturbed from to → (x z : Image) →
     content from ≡ Some x → content to ≡ Some z → IsDone plan.work plan from x z
 plan_done plan from to load saves work calm x z e f =
@@ -318,13 +318,13 @@ plan_done plan from to load saves work calm x z e f =
     work_done plan from to saves calm x z e f plan.work load work
     (work_held plan.work plan from to load saves refl work whole x e)
 
-left_by : (plan : Result Plan Refusal) (from to : Device) (answers : Answers) →
+left_by : (plan : Result SessionPlan Refusal) (from to : Device) (answers : Answers) →
     IsFollowed plan from to answers → IsUndisturbed from to → LeavesExactly plan from to
 left_by (Err refusal) from to answers done calm = done
 left_by (Ok plan) from to answers done calm = λ x e z f.
     (plan_done plan from to answers.load answers.saves done calm x z e f).left
 
-alike_by : (plan : Result Plan Refusal) (from to : Device) (answers : Answers) →
+alike_by : (plan : Result SessionPlan Refusal) (from to : Device) (answers : Answers) →
     IsFollowed plan from to answers → IsUndisturbed from to → EndsAlike plan from to
 alike_by (Err refusal) from to answers done calm = done
 alike_by (Ok plan) from to answers done calm = λ x e z f.

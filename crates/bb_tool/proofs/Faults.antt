@@ -22,7 +22,7 @@ use Rattle.bb_tool.specs.Calls.{IsSession, geometry_of}
 use Rattle.bb_tool.specs.Copying.{KnowsWriteFaults, LeavesUnread}
 use Rattle.bb_tool.specs.Ending.{IsFollowed}
 use Rattle.bb_tool.specs.Looking.{first_found, passed_in}
-use Rattle.bb_tool.specs.Plan.{Act, Good, Plan, Show, Work, Write, planned}
+use Rattle.bb_tool.specs.Plan.{Act, Good, SessionPlan, Show, Work, Write, planned}
 use Rattle.bb_tool.specs.Ran.{Ran}
 use Rattle.bb_tool.specs.Refusal.{copy_refusal, status_of}
 use Rattle.bb_tool.specs.Session.{Answers, LoadAnswer, SaveAnswer, followed, loaded_area, saved, saves_behind, saves_of, text_of, unmarked, worked}
@@ -65,7 +65,7 @@ none_found (Some area ∷ passed) none = absurd (let h = none 0 in cc)
 
 -- ---- a copy that was named
 
-module _ (plan : Plan) (from : Device) where
+module _ (plan : SessionPlan) (from : Device) where
   abbrev page : ℕ
   page = from.geometry.page
 
@@ -168,19 +168,19 @@ module _ (plan : Plan) (from : Device) where
 -- ---- what each fault tells
 
 -- the device is as before, or a copy is named for one of its causes
-abbrev Explains : Plan → Device → Device → LoadAnswer → CopyFault → Type 0
+abbrev Explains : SessionPlan → Device → Device → LoadAnswer → CopyFault → Type 0
 Explains plan from to load faults.ReadFault = content to ≡ content from
 Explains plan from to load (faults.WriteFault copy) = IsWriteFault plan from to load copy
 Explains plan from to load faults.Unsure = ⊥
 
-load_explains : (plan : Plan) (used : Option ℕ) (from to : Device) (fault : CopyFault) →
+load_explains : (plan : SessionPlan) (used : Option ℕ) (from to : Device) (fault : CopyFault) →
     IsLoaded plan.layout used from to (Err fault) → Explains plan from to (Err fault) fault
 load_explains plan used from to faults.ReadFault loaded = loaded.fails.fails.content
 load_explains plan used from to (faults.WriteFault copy) loaded =
     loaded_fault plan from used to copy loaded
 load_explains plan used from to faults.Unsure loaded = loaded.fails.fails
 
-save_explains : (plan : Plan) (used : Option ℕ) (from mid to : Device) (found : Option (List ℕ))
+save_explains : (plan : SessionPlan) (used : Option ℕ) (from mid to : Device) (found : Option (List ℕ))
     (area : List ℕ) (fault : CopyFault) → Contains (saves_behind plan (Ok found)) area →
     IsLoaded plan.layout used from mid (Ok found) →
     IsSaved plan.layout used area mid to (Err fault) → Explains plan from to (Ok found) fault
@@ -192,12 +192,12 @@ save_explains plan used from mid to found area faults.Unsure wanted loaded done 
     absurd (done.sure refl)
 
 -- the fault that refused the work of a plan
-record IsExplained (plan : Plan) (from to : Device) (load : LoadAnswer) (refusal : Refusal) : Type 0 where
+record IsExplained (plan : SessionPlan) (from to : Device) (load : LoadAnswer) (refusal : Refusal) : Type 0 where
   fault : CopyFault
   is : refusal ≡ copy_refusal fault
   explains : Explains plan from to load fault
 
-saves_explain : (plan : Plan) (used : Option ℕ) (from mid to : Device) (found : Option (List ℕ))
+saves_explain : (plan : SessionPlan) (used : Option ℕ) (from mid to : Device) (found : Option (List ℕ))
     (text : List ℕ) (areas : List (List ℕ)) (saves : List SaveAnswer) (refusal : Refusal) →
     saves_behind plan (Ok found) ≡ areas → IsLoaded plan.layout used from mid (Ok found) →
     AreSaved plan.layout used areas mid to saves →
@@ -218,7 +218,7 @@ saves_explain plan used from mid to found text (area ∷ []) (Ok made ∷ saves)
 saves_explain plan used from mid to found text (area ∷ (other ∷ areas)) (Ok made ∷ saves) refusal is loaded done h =
     absurd (let e = done.1.0 in cc)
 
-store_explains : (plan : Plan) (from to : Device) (load : LoadAnswer) (saves : List SaveAnswer)
+store_explains : (plan : SessionPlan) (from to : Device) (load : LoadAnswer) (saves : List SaveAnswer)
     (refusal : Refusal) → is_device_fault (status_of refusal) ≡ true →
     IsStoreWork plan from to load saves → (worked plan load saves).refusal ≡ Some refusal →
     IsExplained plan from to load refusal
@@ -236,12 +236,12 @@ store_explains plan from to (Ok found) saves refusal device work h =
     (stored_refusal plan found saves refusal device h
     (unmarked plan.work (loaded_area plan.layout found)) refl)
 
-look_explains : (plan : Plan) (from to : Device) (load : LoadAnswer) (fault : CopyFault) →
+look_explains : (plan : SessionPlan) (from to : Device) (load : LoadAnswer) (fault : CopyFault) →
     fault ≡ faults.ReadFault → content to ≡ content from → Explains plan from to load fault
 look_explains plan from to load fault is same =
     subst (Explains plan from to load) (sym is) same
 
-work_explains : (work : Work) (plan : Plan) (from to : Device) (load : LoadAnswer)
+work_explains : (work : Work) (plan : SessionPlan) (from to : Device) (load : LoadAnswer)
     (saves : List SaveAnswer) (refusal : Refusal) → is_device_fault (status_of refusal) ≡ true →
     plan.work ≡ work → IsWorkOf work plan from to load saves →
     (worked plan load saves).refusal ≡ Some refusal → IsExplained plan from to load refusal
@@ -268,7 +268,7 @@ work_explains (Good targets) plan from to load saves refusal device is work h =
 
 -- ---- in the words of a call
 
-write_fault : (plan : Plan) (from to : Device) (load : LoadAnswer) (fault : CopyFault) (copy : ℕ) →
+write_fault : (plan : SessionPlan) (from to : Device) (load : LoadAnswer) (fault : CopyFault) (copy : ℕ) →
     refusals.WriteFault copy ≡ copy_refusal fault → Explains plan from to load fault →
     IsWriteFault plan from to load copy
 write_fault plan from to load faults.ReadFault copy is explains = absurd cc
@@ -277,14 +277,14 @@ write_fault plan from to load (faults.WriteFault other) copy is explains =
     subst (IsWriteFault plan from to load) same explains
 write_fault plan from to load faults.Unsure copy is explains = absurd explains
 
-read_fault : (plan : Plan) (from to : Device) (load : LoadAnswer) (fault : CopyFault) →
+read_fault : (plan : SessionPlan) (from to : Device) (load : LoadAnswer) (fault : CopyFault) →
     refusals.ReadFault ≡ copy_refusal fault → Explains plan from to load fault →
     content to ≡ content from
 read_fault plan from to load faults.ReadFault is explains = explains
 read_fault plan from to load (faults.WriteFault other) is explains = absurd cc
 read_fault plan from to load faults.Unsure is explains = absurd explains
 
-read_by : (plan : Result Plan Refusal) (from to : Device) (answers : Answers) →
+read_by : (plan : Result SessionPlan Refusal) (from to : Device) (answers : Answers) →
     IsFollowed plan from to answers →
     (followed plan answers).refusal ≡ Some refusals.ReadFault → content to ≡ content from
 read_by (Err refusal) from to answers done h = ap content done
@@ -297,7 +297,7 @@ unread_of ran session = λ answers answered h.
     read_by (planned ran.words (geometry_of ran) answers.files) ran.before.device ran.after.device
     answers answered.followed h
 
-write_by : (given : Result Plan Refusal) (plan : Plan) (from to : Device) (answers : Answers) →
+write_by : (given : Result SessionPlan Refusal) (plan : SessionPlan) (from to : Device) (answers : Answers) →
     given ≡ Ok plan → IsFollowed given from to answers → (copy : ℕ) →
     (followed given answers).refusal ≡ Some (refusals.WriteFault copy) →
     IsWriteFault plan from to answers.load copy
@@ -305,7 +305,7 @@ write_by (Err refusal) plan from to answers is done copy h = absurd cc
 write_by (Ok other) plan from to answers is done copy h =
     let same : other ≡ plan = cc in
     let why = work_explains other.work other from to answers.load answers.saves (refusals.WriteFault copy) refl refl done h in
-    subst (λ (p : Plan). IsWriteFault p from to answers.load copy) same
+    subst (λ (p : SessionPlan). IsWriteFault p from to answers.load copy) same
     (write_fault other from to answers.load why.fault copy why.is why.explains)
 
 pub write_faults_of : (ran : Ran) → IsSession ran → KnowsWriteFaults ran

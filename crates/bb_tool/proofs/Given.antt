@@ -21,7 +21,7 @@ use Rattle.bb_words.specs.declared.error.WordsError.{WordsError}
 use Rattle.bb_words.specs.declared.error.WordsError.TheVariants.{BadWord, NoMemory}
 use Rattle.bb_tool.specs.Ending.{IsAnswer, IsFollowed, IsGiven}
 use Rattle.bb_tool.specs.Filing.{IsAnswerFor, IsFiled, IsFileRead, IsFolderLater}
-use Rattle.bb_tool.specs.Plan.{Act, FileAnswer, FileAnswers, Good, Plan, Role, Settings, Tree, Work, mark_plan, name_for, plan_of, planned, raw_laid, raw_work, state_plan}
+use Rattle.bb_tool.specs.Plan.{Act, FileAnswer, FileAnswers, Good, SessionPlan, Role, Settings, Tree, Work, mark_plan, name_for, plan_of, planned, raw_laid, raw_work, state_plan}
 use Rattle.bb_tool.specs.Refusal.{layout_refusal, words_refusal}
 use Rattle.bb_tool.specs.Session.{Answers, followed}
 use Rattle.bb_tool.specs.Work.{Gives, IsWorkedOut}
@@ -46,11 +46,11 @@ given_refused words folder folder' files device refusal filed refused =
       answered = record {
         filed = filed;
         followed =
-            subst (λ (p : Result Plan Refusal). IsFollowed p device device answers) (sym refused)
+            subst (λ (p : Result SessionPlan Refusal). IsFollowed p device device answers) (sym refused)
             refl;
       };
       gives =
-          subst (λ (p : Result Plan Refusal). Gives (followed p answers) (Err refusal))
+          subst (λ (p : Result SessionPlan Refusal). Gives (followed p answers) (Err refusal))
           (sym refused) (refl, refl);
     }
 
@@ -137,11 +137,11 @@ given_worked words folder folder' files before after layout work given filed is 
       answered = record {
         filed = filed;
         followed =
-            subst (λ (p : Result Plan Refusal). IsFollowed p before after answers) (sym is)
+            subst (λ (p : Result SessionPlan Refusal). IsFollowed p before after answers) (sym is)
             done.work;
       };
       gives =
-          subst (λ (p : Result Plan Refusal). Gives (followed p answers) given) (sym is) done.gives;
+          subst (λ (p : Result SessionPlan Refusal). Gives (followed p answers) given) (sym is) done.gives;
     })
 given_worked words folder folder' files before after layout work given filed is (inr (inl text)) =
     let answers : Answers = record { files = files; load = text.load; saves = text.saves } in
@@ -150,11 +150,11 @@ given_worked words folder folder' files before after layout work given filed is 
       answered = record {
         filed = filed;
         followed =
-            subst (λ (p : Result Plan Refusal). IsFollowed p before after answers) (sym is)
+            subst (λ (p : Result SessionPlan Refusal). IsFollowed p before after answers) (sym is)
             text.work;
       };
       whole =
-          ap (λ (p : Result Plan Refusal). (followed p answers).refusal) is ∙ text.whole;
+          ap (λ (p : Result SessionPlan Refusal). (followed p answers).refusal) is ∙ text.whole;
       is = text.is;
     }))
 given_worked words folder folder' files before after layout work given filed is (inr (inr memory)) =

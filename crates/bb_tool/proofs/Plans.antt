@@ -22,7 +22,7 @@ use Rattle.bb_words.specs.declared.command.RawCommand.{RawCommand}
 use Rattle.bb_words.specs.declared.command.StateCommand.{StateCommand}
 use Rattle.bb_tool.specs.Calls.{IsRefusedWith}
 use Rattle.bb_tool.specs.Filing.{EachNamed, IsAnswerFor, IsFiled}
-use Rattle.bb_tool.specs.Plan.{Act, FileAnswer, FileAnswers, Good, Plan, Role, Settings, Tree, binding_in, bound_in, bytes_in, file_named, files_for, fit_by, has_file, layout_by, layout_in, mark_laid, mark_plan, name_for, plan_of, planned, raw_laid, refused_as, state_laid, state_plan}
+use Rattle.bb_tool.specs.Plan.{Act, FileAnswer, FileAnswers, Good, SessionPlan, Role, Settings, Tree, binding_in, bound_in, bytes_in, file_named, files_for, fit_by, has_file, layout_by, layout_in, mark_laid, mark_plan, name_for, plan_of, planned, raw_laid, refused_as, state_laid, state_plan}
 use Rattle.bb_tool.specs.declared.refusal.Refusal.{Refusal}
 use Rattle.bb_tool.specs.declared.refusal.Refusal.TheVariants as refusals
 use Rattle.bb_tool.specs.Refusal.{status_of}
@@ -102,7 +102,7 @@ module _ (P : Refusal → Type 0) where
     bound_all layout text = as_all refusals.BadSettings (bound_in layout text) holds.settings
 
     marks_all : (layout : Laid) (r : Result Binding Refusal) → IfErr r P →
-        IfErr {T = Plan} (result_and_then (λ binding. Ok (record { layout = layout; work = Good binding })) r) P
+        IfErr {T = SessionPlan} (result_and_then (λ binding. Ok (record { layout = layout; work = Good binding })) r) P
     marks_all layout r here =
         then_all (λ (binding : Binding). Ok (record { layout = layout; work = Good binding })) r here (λ binding. tt)
 
@@ -128,7 +128,7 @@ module _ (P : Refusal → Type 0) where
           (bound_all layout)))
 
 -- a plan isn't refused with a status that none of its refusals has
-unlike : (answer : Status) (plan : Result Plan Refusal) → IfErr plan (λ refusal. status_of refusal ≢ answer) →
+unlike : (answer : Status) (plan : Result SessionPlan Refusal) → IfErr plan (λ refusal. status_of refusal ≢ answer) →
     IsRefusedWith answer plan → ⊥
 unlike answer (Ok plan) other refused = refused
 unlike answer (Err refusal) other refused = other refused
@@ -230,11 +230,11 @@ answer_cases (Err file_fails.Fault) told is = inr (inl refl)
 answer_cases (Err file_fails.NoMemory) told is = inr (inr refl)
 
 -- and so is a plan
-abbrev pub IsPlanOf : Result Plan Refusal → Result Plan Refusal → Type 0
+abbrev pub IsPlanOf : Result SessionPlan Refusal → Result SessionPlan Refusal → Type 0
 IsPlanOf plan told = (plan ≡ told) ⊎ (IsRefusedWith statuses.FileFault plan ⊎ (plan ≡ Err refusals.NoMemory))
 
 -- it is for whatever it makes of an answer
-plan_cases : (make : FileAnswer → Result Plan Refusal) (answer told : FileAnswer) → IsAnswerFor answer told →
+plan_cases : (make : FileAnswer → Result SessionPlan Refusal) (answer told : FileAnswer) → IsAnswerFor answer told →
     IsRefusedWith statuses.FileFault (make (Err file_fails.Fault)) → make (Err file_fails.NoMemory) ≡ Err refusals.NoMemory → IsPlanOf (make answer) (make told)
 plan_cases make answer told is fault memory = elim (answer_cases answer told is) [
   | inl same ↦ inl (ap make (sym same))

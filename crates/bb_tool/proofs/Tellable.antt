@@ -4,7 +4,7 @@ use Rattle.bb_copies.specs.declared.answers.CopyFault.{CopyFault}
 use Rattle.bb_copies.specs.declared.answers.CopyFault.TheVariants as faults
 use Rattle.bb_flash.specs.Device.{Device}
 use Rattle.bb_layout.specs.Layout.{Laid}
-use Rattle.bb_tool.specs.Plan.{Plan, Work}
+use Rattle.bb_tool.specs.Plan.{SessionPlan, Work}
 use Rattle.bb_tool.specs.Refusal.{IsTellable, copy_refusal, status_of}
 use Rattle.bb_tool.specs.Session.{LoadAnswer, SaveAnswer, worked}
 use Rattle.bb_tool.specs.Work.{IsWork, IsWorkedOut}
@@ -35,7 +35,7 @@ other_tellable (refusals.BadSettings e) other = tt
 other_tellable (refusals.NoGood place) other = tt
 other_tellable refusals.NoMemory other = tt
 
-plan_tellable : (plan : Plan) (from to : Device) (load : LoadAnswer) (saves : List SaveAnswer)
+plan_tellable : (plan : SessionPlan) (from to : Device) (load : LoadAnswer) (saves : List SaveAnswer)
     (refusal : Refusal) → plan.layout.copies ≤ 3 → IsWork plan from to load saves →
     (worked plan load saves).refusal ≡ Some refusal → (fault : Bool) →
     is_device_fault (status_of refusal) ≡ fault → IsTellable refusal
@@ -49,7 +49,7 @@ pub tellable_of : (layout : Laid) (work : Work) (from to : Device) (given : Resu
     layout.copies ≤ 3 → IsWorkedOut layout work from to given → IfErr given IsTellable
 tellable_of layout work from to (Ok text) few out = tt
 tellable_of layout work from to (Err refusal) few (inl done) =
-    let plan : Plan = record { layout = layout; work = work } in
+    let plan : SessionPlan = record { layout = layout; work = work } in
     plan_tellable plan from to done.load done.saves refusal few done.work done.gives.1
     (is_device_fault (status_of refusal)) refl
 tellable_of layout work from to (Err refusal) few (inr (inl text)) =

@@ -12,7 +12,7 @@ use Rattle.bb_copies.specs.declared.answers.CopyFault.{CopyFault}
 use Rattle.bb_copies.specs.declared.answers.CopyFault.TheVariants as faults
 use Rattle.bb_layout.specs.Layout.{Laid}
 use Rattle.bb_tool.specs.Marking.{lost_place}
-use Rattle.bb_tool.specs.Plan.{Act, Good, Plan, Show, Work, Write}
+use Rattle.bb_tool.specs.Plan.{Act, Good, SessionPlan, Show, Work, Write}
 use Rattle.bb_tool.specs.Refusal.{copy_refusal, status_of}
 use Rattle.bb_tool.specs.Session.{SaveAnswer, Session, ended_status, loaded_area, refused_for, saved, saved_where, saves_behind, saves_of, text_of, unless_unmarked, unmarked, worked}
 use Rattle.bb_tool.specs.declared.refusal.Refusal.{Refusal}
@@ -21,15 +21,15 @@ use Rattle.bb_tool.specs.declared.status.Status.{Status}
 use Rattle.bb_tool.specs.declared.status.Status.TheVariants as statuses
 
 -- the session that the saves make
-abbrev pub stored : Plan → Option (List ℕ) → List SaveAnswer → Session
+abbrev pub stored : SessionPlan → Option (List ℕ) → List SaveAnswer → Session
 stored plan found saves = saved (text_of plan.layout plan.work found) (saves_behind plan (Ok found)) saves
 
-pub marked_session : (plan : Plan) (found : Option (List ℕ)) (saves : List SaveAnswer) →
+pub marked_session : (plan : SessionPlan) (found : Option (List ℕ)) (saves : List SaveAnswer) →
     unmarked plan.work (loaded_area plan.layout found) ≡ None →
     worked plan (Ok found) saves ≡ stored plan found saves
 marked_session plan found saves h = ap (λ place. unless_unmarked place (stored plan found saves)) h
 
-pub unmarked_session : (plan : Plan) (found : Option (List ℕ)) (saves : List SaveAnswer) (place : ℕ) →
+pub unmarked_session : (plan : SessionPlan) (found : Option (List ℕ)) (saves : List SaveAnswer) (place : ℕ) →
     unmarked plan.work (loaded_area plan.layout found) ≡ Some place →
     worked plan (Ok found) saves ≡ refused_for (NoGood place)
 unmarked_session plan found saves place h = ap (λ place. unless_unmarked place (stored plan found saves)) h
@@ -63,7 +63,7 @@ unmarked_saves layout (Good targets) area place h =
     ∙ ap (λ same. saved_where same area) (same_area area)
 
 -- in either case the areas that are saved are those of the saves that were begun
-pub worked_saves : (plan : Plan) (found : Option (List ℕ)) (saves : List SaveAnswer) (place : Option ℕ) →
+pub worked_saves : (plan : SessionPlan) (found : Option (List ℕ)) (saves : List SaveAnswer) (place : Option ℕ) →
     unmarked plan.work (loaded_area plan.layout found) ≡ place →
     (worked plan (Ok found) saves).saves ≡ (stored plan found saves).saves
 worked_saves plan found saves None h = ap (λ (s : Session). s.saves) (marked_session plan found saves h)
@@ -89,7 +89,7 @@ fault_device (faults.WriteFault copy) = refl
 fault_device faults.Unsure = refl
 
 -- a fault of the device is that of a save
-pub stored_refusal : (plan : Plan) (found : Option (List ℕ)) (saves : List SaveAnswer) (refusal : Refusal) →
+pub stored_refusal : (plan : SessionPlan) (found : Option (List ℕ)) (saves : List SaveAnswer) (refusal : Refusal) →
     is_device_fault (status_of refusal) ≡ true → (worked plan (Ok found) saves).refusal ≡ Some refusal → (place : Option ℕ) →
     unmarked plan.work (loaded_area plan.layout found) ≡ place → (stored plan found saves).refusal ≡ Some refusal
 stored_refusal plan found saves refusal fault h None marks =
@@ -100,7 +100,7 @@ stored_refusal plan found saves refusal fault h (Some place) marks =
     absurd cc
 
 -- a session without one is one whose saves have none
-pub stored_whole : (plan : Plan) (found : Option (List ℕ)) (saves : List SaveAnswer) → unmarked plan.work (loaded_area plan.layout found) ≡ None →
+pub stored_whole : (plan : SessionPlan) (found : Option (List ℕ)) (saves : List SaveAnswer) → unmarked plan.work (loaded_area plan.layout found) ≡ None →
     HasNoFault (worked plan (Ok found) saves) → HasNoFault (stored plan found saves)
 stored_whole plan found saves marks whole = subst HasNoFault (marked_session plan found saves marks) whole
 

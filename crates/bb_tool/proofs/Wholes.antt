@@ -12,7 +12,7 @@ use Rattle.bb_words.specs.Words.{words_of}
 use Rattle.bb_tool.specs.Calls.{IsSession, IsUndisturbed, IsUndisturbedAlone, geometry_of, session_for}
 use Rattle.bb_tool.specs.Ending.{AreAnswers, IsFollowed}
 use Rattle.bb_tool.specs.Looking.{first_found, passed_in}
-use Rattle.bb_tool.specs.Plan.{Act, FileAnswers, Good, Plan, Show, Work, Write, files_for, planned}
+use Rattle.bb_tool.specs.Plan.{Act, FileAnswers, Good, SessionPlan, Show, Work, Write, files_for, planned}
 use Rattle.bb_tool.specs.Ran.{Ran}
 use Rattle.bb_tool.specs.Refusal.{status_of}
 use Rattle.bb_tool.specs.Session.{Answers, LoadAnswer, SaveAnswer, Session, all_made, answers_of, answers_to, ended_status, followed, loaded_area, refused_for, saved, saves_behind, saves_of, sent_of, session_of, text_of, unmarked, worked}
@@ -38,13 +38,13 @@ fault_rose layout from to (faults.WriteFault copy) tells = tells.0
 fault_rose layout from to faults.Unsure tells = absurd tells
 
 -- where no call of the device failed no part of the work was refused
-no_fault_by : (plan : Plan) (from to : Device) (load : LoadAnswer) (saves : List SaveAnswer) → IsWorkOf plan.work plan from to load saves → (Rose from.faults to.faults → ⊥) → (refusal : Refusal) → (worked plan load saves).refusal ≡ Some refusal → (fault : Bool) → is_device_fault (status_of refusal) ≡ fault → HasNoFault (worked plan load saves)
+no_fault_by : (plan : SessionPlan) (from to : Device) (load : LoadAnswer) (saves : List SaveAnswer) → IsWorkOf plan.work plan from to load saves → (Rose from.faults to.faults → ⊥) → (refusal : Refusal) → (worked plan load saves).refusal ≡ Some refusal → (fault : Bool) → is_device_fault (status_of refusal) ≡ fault → HasNoFault (worked plan load saves)
 no_fault_by plan from to load saves work whole refusal is false e = refused_whole (worked plan load saves) refusal is e
 no_fault_by plan from to load saves work whole refusal is true e =
     let fault = work_fault plan.work plan from to load saves refusal e refl work is in
     absurd (whole (fault_rose plan.layout from to fault.fault fault.tells))
 
-pub unrefused : (plan : Plan) (from to : Device) (load : LoadAnswer) (saves : List SaveAnswer) → IsWorkOf plan.work plan from to load saves → (Rose from.faults to.faults → ⊥) → (refusal : Option Refusal) → (worked plan load saves).refusal ≡ refusal → HasNoFault (worked plan load saves)
+pub unrefused : (plan : SessionPlan) (from to : Device) (load : LoadAnswer) (saves : List SaveAnswer) → IsWorkOf plan.work plan from to load saves → (Rose from.faults to.faults → ⊥) → (refusal : Option Refusal) → (worked plan load saves).refusal ≡ refusal → HasNoFault (worked plan load saves)
 unrefused plan from to load saves work whole None is = done_whole (worked plan load saves) is
 unrefused plan from to load saves work whole (Some refusal) is =
     no_fault_by plan from to load saves work whole refusal is (is_device_fault (status_of refusal)) refl
@@ -61,19 +61,19 @@ all_saved layout used text (area ∷ areas) (Ok made ∷ saves) from to saved_so
     ap (λ s. Ok made ∷ s) last ∙ ap (λ a. Ok tt ∷ all_made a) (sym none)
 
 -- what was answered is what the device holds
-pub record IsHeld (plan : Plan) (page : ℕ) (image : Image) (load : LoadAnswer) (saves : List SaveAnswer) : Type 0 where
+pub record IsHeld (plan : SessionPlan) (page : ℕ) (image : Image) (load : LoadAnswer) (saves : List SaveAnswer) : Type 0 where
   pub load_is : load ≡ Ok (first_found (passed_in plan.layout page image))
   pub saves_are : saves ≡ all_made (saves_behind plan load)
 
 -- those behind a load that answered Ok
-store_held : (plan : Plan) (from to : Device) (found : Option (List ℕ)) (saves : List SaveAnswer) → IsStoreWork plan from to (Ok found) saves → (place : Option ℕ) → unmarked plan.work (loaded_area plan.layout found) ≡ place → HasNoFault (worked plan (Ok found) saves) → saves ≡ all_made (saves_behind plan (Ok found))
+store_held : (plan : SessionPlan) (from to : Device) (found : Option (List ℕ)) (saves : List SaveAnswer) → IsStoreWork plan from to (Ok found) saves → (place : Option ℕ) → unmarked plan.work (loaded_area plan.layout found) ≡ place → HasNoFault (worked plan (Ok found) saves) → saves ≡ all_made (saves_behind plan (Ok found))
 store_held plan from to found saves done None marks whole =
     all_saved plan.layout done.used (text_of plan.layout plan.work found) (saves_behind plan (Ok found)) saves done.middle to done.saved (stored_whole plan found saves marks whole)
 store_held plan from to found saves done (Some place) marks whole =
     let none = unmarked_saves plan.layout plan.work (loaded_area plan.layout found) place marks in
     (subst (λ areas. AreSaved plan.layout done.used areas done.middle to saves) none done.saved).0 ∙ ap all_made (sym none)
 
-pub work_held : (work : Work) (plan : Plan) (from to : Device) (load : LoadAnswer) (saves : List SaveAnswer) → plan.work ≡ work → IsWorkOf work plan from to load saves → HasNoFault (worked plan load saves) → (image : Image) → content from ≡ Some image → IsHeld plan from.geometry.page image load saves
+pub work_held : (work : Work) (plan : SessionPlan) (from to : Device) (load : LoadAnswer) (saves : List SaveAnswer) → plan.work ≡ work → IsWorkOf work plan from to load saves → HasNoFault (worked plan load saves) → (image : Image) → content from ≡ Some image → IsHeld plan from.geometry.page image load saves
 work_held work plan from to (Err fault) saves is done none image told =
     absurd (let e : true ≡ false = sym (fault_device fault) ∙ none in cc)
 work_held Show plan from to (Ok found) saves is done none image told = record {
@@ -93,12 +93,12 @@ work_held (Good targets) plan from to (Ok found) saves is done none image told =
   saves_are = store_held plan from to found saves done (unmarked plan.work (loaded_area plan.layout found)) refl none;
 }
 
-held_same : (plan : Plan) (page : ℕ) (image : Image) (load : LoadAnswer) (saves : List SaveAnswer) → IsHeld plan page image load saves → worked plan load saves ≡ worked plan (Ok (first_found (passed_in plan.layout page image))) (all_made (saves_behind plan (Ok (first_found (passed_in plan.layout page image)))))
+held_same : (plan : SessionPlan) (page : ℕ) (image : Image) (load : LoadAnswer) (saves : List SaveAnswer) → IsHeld plan page image load saves → worked plan load saves ≡ worked plan (Ok (first_found (passed_in plan.layout page image))) (all_made (saves_behind plan (Ok (first_found (passed_in plan.layout page image)))))
 held_same plan page image load saves held =
     ap (worked plan load) held.saves_are
     ∙ ap (λ (l : LoadAnswer). worked plan l (all_made (saves_behind plan l))) held.load_is
 
-plan_same : (plan : Result Plan Refusal) (before after : Device) (answers : Answers) (files : FileAnswers) → IsFollowed plan before after answers → (Rose before.faults after.faults → ⊥) → (image : Image) → content before ≡ Some image → followed plan answers ≡ followed plan (answers_to files plan before.geometry image)
+plan_same : (plan : Result SessionPlan Refusal) (before after : Device) (answers : Answers) (files : FileAnswers) → IsFollowed plan before after answers → (Rose before.faults after.faults → ⊥) → (image : Image) → content before ≡ Some image → followed plan answers ≡ followed plan (answers_to files plan before.geometry image)
 plan_same (Err refusal) before after answers files done whole image told = refl
 plan_same (Ok plan) before after answers files done whole image told =
     let none = unrefused plan before after answers.load answers.saves done whole (worked plan answers.load answers.saves).refusal refl in
@@ -110,7 +110,7 @@ session_same : (words : List (List ℕ)) (folder folder' : Folder) (before after
 session_same words folder folder' before after answers answered files same image told whole =
     let read = files_for words files in
     inl (plan_same (planned words before.geometry answers.files) before after answers read answered.followed whole image told
-    ∙ ap (λ (p : Result Plan Refusal). followed p (answers_to read p before.geometry image)) same)
+    ∙ ap (λ (p : Result SessionPlan Refusal). followed p (answers_to read p before.geometry image)) same)
 
 session_told : (words : List (List ℕ)) (folder folder' : Folder) (before after : Device) (answers : Answers) → AreAnswers words folder folder' before after answers → (Rose folder.faults folder'.faults → ⊥) → (files : FileMap) → folder.told ≡ Some files → (image : Image) → content before ≡ Some image → (Rose before.faults after.faults → ⊥) → IsSameOrMemory (session_of words before.geometry answers) (session_of words before.geometry (answers_of words before.geometry files image))
 session_told words folder folder' before after answers answered calm files known image told whole =
@@ -120,7 +120,7 @@ session_told words folder folder' before after answers answered calm files known
         | inl faulty ↦ absurd (
             let named = faulty_words words before.geometry answers.files (words_of words) refl faulty in
             calm (answered.filed.cause named.role named.name named.named named.fault))
-        | inr memory ↦ inr (ap (λ (p : Result Plan Refusal). followed p answers) memory)
+        | inr memory ↦ inr (ap (λ (p : Result SessionPlan Refusal). followed p answers) memory)
       ]
     ]
 

@@ -24,7 +24,7 @@ use Rattle.bb_state.specs.State.{IsDefault, IsRefused, has_changed, is_kept, is_
 use Rattle.bb_state.specs.State.{IsStored}
 use Rattle.bb_state.specs.declared.state.State.{State}
 use Rattle.bb_tool.specs.Looking.{first_found, look_text, passed_in}
-use Rattle.bb_tool.specs.Plan.{Act, Good, Plan, Show, Work, Write}
+use Rattle.bb_tool.specs.Plan.{Act, Good, SessionPlan, Show, Work, Write}
 use Rattle.bb_tool.specs.Refusal.{copy_refusal}
 use Rattle.bb_tool.specs.Session.{LoadAnswer, SaveAnswer, Session, loaded_area, saved, saved_where, saves_behind, saves_of, text_of, unmarked, worked}
 use Rattle.bb_tool.specs.Work.{AreSaved, Gives, IsLoaded, IsLooked, IsSaved, IsStoreWork, IsWorkOf, IsWorkedOut, taken}
@@ -134,7 +134,7 @@ is_store (Write area) = true
 is_store (Act actions) = true
 is_store (Good targets) = true
 
-store_work : (work : Work) (plan : Plan) (from to : Device) (load : LoadAnswer)
+store_work : (work : Work) (plan : SessionPlan) (from to : Device) (load : LoadAnswer)
     (saves : List SaveAnswer) → is_store work ≡ true → IsStoreWork plan from to load saves →
     IsWorkOf work plan from to load saves
 store_work Show plan from to load saves stored done = absurd cc
@@ -147,7 +147,7 @@ pub load_refused : (layout : Laid) (work : Work) (area : List ℕ) (from to : De
     2 ≤ layout.copies → LoadClauses layout area from to (Err fault) →
     given ≡ Err (copy_refusal fault) → IsWorkedOut layout work from to given
 load_refused layout work area from to fault given stored many clauses is =
-    let plan : Plan = record { layout = layout; work = work } in
+    let plan : SessionPlan = record { layout = layout; work = work } in
     subst (IsWorkedOut layout work from to) (sym is)
     (inl (record {
       load = Err fault;
@@ -216,7 +216,7 @@ module _ (layout : Laid) (work : Work) (from mid to : Device) (area : List ℕ) 
     (given : List ℕ → Result (List ℕ) Refusal)
     (begun : IsBegun layout (used_after loaded) (saves_of layout work area) mid to given)
     (marks : unmarked work area ≡ None) where
-  abbrev Whole : Plan
+  abbrev Whole : SessionPlan
   Whole = record { layout = layout; work = work }
 
   same_area : loaded_area layout (taken area loaded) ≡ area
@@ -286,7 +286,7 @@ pub unmarked_out : (layout : Laid) (work : Work) (from to : Device) (area : List
     (given : Result (List ℕ) Refusal) → given ≡ Err (refusals.NoGood place) →
     IsWorkedOut layout work from to given
 unmarked_out layout work from to area loaded place stored many clauses marks given is =
-    let plan : Plan = record { layout = layout; work = work } in
+    let plan : SessionPlan = record { layout = layout; work = work } in
     let found = taken area loaded in
     let same : loaded_area layout found ≡ area =
     load_area layout area loaded from to

@@ -15,7 +15,7 @@ use Rattle.bb_flash.proofs.Moments.{images_joined}
 use Rattle.bb_layout.specs.Layout.{Laid}
 use Rattle.bb_state.specs.Kinds.{laid_kinds}
 use Rattle.bb_tool.specs.Looking.{IsQuiet, passed_in}
-use Rattle.bb_tool.specs.Plan.{Act, Good, Plan, Show, Work, Write}
+use Rattle.bb_tool.specs.Plan.{Act, Good, SessionPlan, Show, Work, Write}
 use Rattle.bb_tool.specs.Session.{LoadAnswer, SaveAnswer, loaded_area, saved, saves_behind, text_of, unmarked}
 use Rattle.bb_tool.specs.Turns.{EachStanding, HasTrail, HasTrails, IsFairRun, LeadsOn, LeadsTo, first_area, load_turn, made_of, work_turn}
 use Rattle.bb_tool.specs.Work.{AreSaved, IsLoaded, IsSaved, IsStoreWork, IsWork, IsWorkOf}
@@ -141,7 +141,7 @@ saves_turned layout used from mid to found text (area ∷ []) (answer ∷ (other
 
 -- ---- the work of a plan
 
-store_turned : (plan : Plan) (from to : Device) (load : LoadAnswer) (saves : List SaveAnswer) →
+store_turned : (plan : SessionPlan) (from to : Device) (load : LoadAnswer) (saves : List SaveAnswer) →
     IsStoreWork plan from to load saves → Turned plan.layout from to (load_turn plan load saves)
 store_turned plan from to (Ok found) saves work =
     let text = text_of plan.layout plan.work found in
@@ -195,7 +195,7 @@ look_turned layout from to quiet = λ first e last f before is stands.
       trail = stays_trail layout page first last before Looked (omega (arith, same)) refl stays;
     }
 
-work_turned : (work : Work) (plan : Plan) (from to : Device) (load : LoadAnswer)
+work_turned : (work : Work) (plan : SessionPlan) (from to : Device) (load : LoadAnswer)
     (saves : List SaveAnswer) → IsWorkOf work plan from to load saves →
     Turned plan.layout from to (work_turn work plan load saves)
 work_turned Show plan from to load saves work = look_turned plan.layout from to work.looked.quiet
@@ -203,12 +203,12 @@ work_turned (Write area) plan from to load saves work = store_turned plan from t
 work_turned (Act actions) plan from to load saves work = store_turned plan from to load saves work
 work_turned (Good targets) plan from to load saves work = store_turned plan from to load saves work
 
-pub leads_on : (plan : Plan) (from to : Device) (load : LoadAnswer) (saves : List SaveAnswer) →
+pub leads_on : (plan : SessionPlan) (from to : Device) (load : LoadAnswer) (saves : List SaveAnswer) →
     IsWork plan from to load saves → LeadsOn plan from to load saves
 leads_on plan from to load saves work = λ first e last f before is stands.
     (work_turned plan.work plan from to load saves work first e last f before is stands).leads
 
-pub has_trails : (plan : Plan) (from to : Device) (load : LoadAnswer) (saves : List SaveAnswer) →
+pub has_trails : (plan : SessionPlan) (from to : Device) (load : LoadAnswer) (saves : List SaveAnswer) →
     IsWork plan from to load saves → HasTrails plan from to load saves
 has_trails plan from to load saves work = λ first e last f before is stands.
     (work_turned plan.work plan from to load saves work first e last f before is stands).trail
@@ -257,7 +257,7 @@ outside_looked layout from to quiet = λ region out. record {
       ];
 }
 
-work_outside : (work : Work) (plan : Plan) (from to : Device) (load : LoadAnswer)
+work_outside : (work : Work) (plan : SessionPlan) (from to : Device) (load : LoadAnswer)
     (saves : List SaveAnswer) → IsWorkOf work plan from to load saves →
     KeepsOutside (laid_kinds plan.layout) from to
 work_outside Show plan from to load saves work = outside_looked plan.layout from to work.looked.quiet
@@ -271,7 +271,7 @@ work_outside (Good targets) plan from to load saves work =
     outside_saved plan.layout work.used from work.middle to load (saves_behind plan load) saves
     work.loaded work.saved
 
-pub keeps_outside : (plan : Plan) (from to : Device) (load : LoadAnswer) (saves : List SaveAnswer) →
+pub keeps_outside : (plan : SessionPlan) (from to : Device) (load : LoadAnswer) (saves : List SaveAnswer) →
     IsWork plan from to load saves → KeepsOutside (laid_kinds plan.layout) from to
 keeps_outside plan from to load saves work =
     work_outside plan.work plan from to load saves work

@@ -30,8 +30,8 @@ abbrev pub IsTold : List ℕ → Status → Outlet → Outlet → Status → Typ
 IsTold text ended before after status =
     IsSent text ended before after status ⊎ IsCutOff text ended before after status
 
--- the line of a refusal takes memory, unless it is that of a refusal behind a call of the device, or of
--- want of memory
+-- the line of a refusal takes memory, unless it is that of a refusal behind a call of the device that
+-- names no target, or of want of memory
 abbrev pub takes_memory : Refusal → Bool
 takes_memory (refusals.BadWords place) = true
 takes_memory (refusals.BadTree e) = true
@@ -42,6 +42,8 @@ takes_memory (refusals.FileFault file) = true
 takes_memory (refusals.FileTooLong file) = true
 takes_memory refusals.ReadFault = false
 takes_memory (refusals.WriteFault copy) = false
+takes_memory refusals.NoTarget = false
+takes_memory (refusals.StartFailed name) = true
 takes_memory (refusals.BadSettings e) = true
 takes_memory (refusals.NoGood place) = false
 takes_memory refusals.NoMemory = false
@@ -55,6 +57,12 @@ abbrev pub IsToldMade : Result (String Global) AllocError → Status → Outlet 
 IsToldMade (Ok line) ended before after status =
     IsTold (string_bytes line) ended before after status
 IsToldMade (Err e) ended before after status = IsToldMemory before after status
+
+-- a text that is known was told, or the memory for it was refused
+abbrev pub IsToldOr : Bool → List ℕ → Status → Outlet → Outlet → Status → Type 0
+IsToldOr needs text ended before after status =
+    IsTold text ended before after status
+    ⊎ ((needs ≡ true) × IsToldMemory before after status)
 
 -- the line of a refusal was told, or the memory for it was refused
 abbrev pub IsToldRefusal : Refusal → Outlet → Outlet → Status → Type 0
