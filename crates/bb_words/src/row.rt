@@ -9,6 +9,7 @@ use crate::option::Valued;
 pub(crate) enum Row {
     State,
     MarkGood,
+    Boot,
 }
 
 impl Row {
@@ -19,6 +20,7 @@ impl Row {
         match name {
             "state" => Some(Row::State),
             "mark-good" => Some(Row::MarkGood),
+            "boot" => Some(Row::Boot),
             _ => None,
         }
     }
@@ -29,9 +31,11 @@ impl Row {
     {
         match (self, valued) {
             (Row::State, Valued::Input | Valued::Name | Valued::Get | Valued::Set) => true,
-            (Row::State, Valued::Settings) => false,
+            (Row::State, Valued::Settings | Valued::Cause) => false,
             (Row::MarkGood, Valued::Input | Valued::Name | Valued::Settings) => true,
-            (Row::MarkGood, Valued::Get | Valued::Set) => false,
+            (Row::MarkGood, Valued::Get | Valued::Set | Valued::Cause) => false,
+            (Row::Boot, Valued::Input | Valued::Name | Valued::Settings | Valued::Cause) => true,
+            (Row::Boot, Valued::Get | Valued::Set) => false,
         }
     }
 
@@ -41,7 +45,7 @@ impl Row {
     {
         match self {
             Row::State => true,
-            Row::MarkGood => false,
+            Row::MarkGood | Row::Boot => false,
         }
     }
 }
