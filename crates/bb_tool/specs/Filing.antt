@@ -1,13 +1,16 @@
 -- What a session reads of the files that its words name, and what a step makes of one.
-use Rattle.std.specs.Prelude.{◌≡◌, ◌≢◌, ◌≤◌, ⊤, ℕ, List, All, Contains, length, map, take, Some, Result, Ok, Err, IsOk}
+use Rattle.std.specs.Prelude.{◌≡◌, ◌≢◌, ◌≤◌, ⊤, ℕ, List, All, Contains, length, map, take, Option, Some, Result, Ok, Err, IsOk}
 use Rattle.std.specs.List.{AllZip}
 use Rattle.std.specs.Option.{ForSome}
 use Rattle.bb_base.specs.Faults.{Rose}
 use Rattle.bb_base.specs.Folder.{Folder, file_of}
+use Rattle.bb_chooser.specs.Binding.{Binding}
 use Rattle.bb_flash.specs.declared.geometry.Geometry.{Geometry}
+use Rattle.bb_flash.specs.declared.plan.Plan.{Plan as StartPlan}
 use Rattle.bb_base.specs.declared.files.FileFail.TheVariants.{Fault, TooLong, NoMemory}
 use Rattle.bb_words.specs.Words.{words_of}
-use Rattle.bb_tool.specs.Plan.{FileAnswer, FileAnswers, Role, entries_for, name_for}
+use Rattle.bb_shell.specs.Plans.{entries_of}
+use Rattle.bb_tool.specs.Plan.{FileAnswer, FileAnswers, Role, entries_for, name_for, plans_in}
 use Rattle.bb_tool.specs.declared.refusal.Refusal.{Refusal}
 use Rattle.bb_tool.specs.declared.refusal.Refusal.TheVariants as refusals
 
@@ -81,3 +84,14 @@ pub record IsReadFor {A B : Type 0} (name : List ℕ) (before after : Folder)
   pub answer : FileAnswer
   pub read : IsFileRead name before after answer
   pub follows : Follows (expected answer) view given
+
+-- ---- the entries of targets
+
+-- the entries of the targets were read, and their plans are given, or the refusal that names a file
+pub record AreRead (targets : Binding) (before after : Folder)
+    (given : Result (List (Option StartPlan)) Refusal) : Type 0 where
+  pub entries : List FileAnswer
+  pub are : AreEntries (entries_of targets) before entries
+  pub cause : Contains entries (Err Fault) → Rose before.faults after.faults
+  pub calm : All IsOk entries → after.faults ≡ before.faults
+  pub follows : Follows (plans_in targets entries) (λ plans. plans) given

@@ -22,7 +22,8 @@ use Rattle.bb_shell.specs.Stages.{KeepsATrail, KeepsAtExit}
 use Rattle.bb_state.specs.Kinds.{laid_form, laid_kinds}
 use Rattle.bb_state.specs.State.{IsDefault, IsRefused, IsStored}
 use Rattle.bb_tool.specs.Looking.{IsQuiet, first_found, passed_in}
-use Rattle.bb_tool.specs.Booting.{SaveAnswer, answer_to}
+use Rattle.bb_shell.specs.declared.boot_end.BootEnd.{BootEnd}
+use Rattle.bb_tool.specs.Booting.{SaveAnswer, answer_to, end_refusal, end_text}
 use Rattle.bb_tool.specs.Plan.{Act, Boot, Good, SessionPlan, Show, Work, Write}
 use Rattle.bb_tool.specs.Session.{LoadAnswer, Session, loaded_area, saves_behind, worked}
 use Rattle.bb_tool.specs.Telling.{takes_memory}
@@ -189,6 +190,22 @@ pub record IsWorkDone (plan : SessionPlan) (from to : Device) (given : Result Re
 abbrev pub SendsByMemory : Option Refusal → Type 0
 SendsByMemory None = ⊤
 SendsByMemory (Some refusal) = takes_memory refusal ≡ true
+
+-- a report that is sent where its refusal, if it has one, takes memory
+abbrev pub IsSendable : Report → Type 0
+IsSendable report = SendsByMemory report.refusal
+
+-- what is given of the end of a boot, unless memory is refused for it
+abbrev pub GivesEnd : Binding → BootEnd → Result Report Refusal → Type 0
+GivesEnd targets end (Ok report) =
+    (end_text targets end ≡ report.text) × (end_refusal targets end ≡ report.refusal)
+GivesEnd targets end (Err refusal) =
+    (end_text targets end ≡ []) × (end_refusal targets end ≡ Some refusal)
+
+abbrev pub IsReportOf : Binding → BootEnd → Result Report Refusal → Type 0
+IsReportOf targets end given =
+    GivesEnd targets end given
+    ⊎ ((given ≡ Err refusals.NoMemory) × SendsByMemory (end_refusal targets end))
 
 -- it was done, no call of the device was refused, and then memory was refused for what was to be sent
 pub record IsTextRefused (plan : SessionPlan) (from to : Device) (given : Result Report Refusal)
