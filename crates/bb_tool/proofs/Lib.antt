@@ -1,6 +1,10 @@
+pub mod Barred
+pub mod BootTurns
+pub mod Booted
 pub mod Copies
 pub mod Early
 pub mod Endings
+pub mod Entries
 pub mod Exact
 mod Examples
 pub mod Faults
@@ -15,7 +19,6 @@ pub mod Tables
 pub mod Tellable
 pub mod Told
 pub mod Turns
-pub mod Unmarked
 pub mod Wholes
 pub mod Worked
 pub mod Works

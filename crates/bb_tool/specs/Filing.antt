@@ -1,5 +1,5 @@
 -- What a session reads of the files that its words name, and what a step makes of one.
-use Rattle.std.specs.Prelude.{◌≡◌, ◌≢◌, ◌≤◌, ⊤, ℕ, List, All, Contains, length, map, take, Option, Some, Result, Ok, Err, IsOk}
+use Rattle.std.specs.Prelude.{◌≡◌, ◌≢◌, ◌≤◌, ℕ, List, All, Contains, length, map, take, Option, Some, Result, Ok, Err, IsOk}
 use Rattle.std.specs.List.{AllZip}
 use Rattle.std.specs.Option.{ForSome}
 use Rattle.bb_base.specs.Faults.{Rose}
@@ -7,19 +7,16 @@ use Rattle.bb_base.specs.Folder.{Folder, file_of}
 use Rattle.bb_chooser.specs.Binding.{Binding}
 use Rattle.bb_flash.specs.declared.geometry.Geometry.{Geometry}
 use Rattle.bb_flash.specs.declared.plan.Plan.{Plan as StartPlan}
-use Rattle.bb_base.specs.declared.files.FileFail.TheVariants.{Fault, TooLong, NoMemory}
+use Rattle.bb_base.specs.declared.files.FileFail.TheVariants.{Fault}
 use Rattle.bb_words.specs.Words.{words_of}
-use Rattle.bb_shell.specs.Plans.{entries_of}
+use Rattle.bb_shell.specs.Plans.{IsAnswerOf, entries_of}
 use Rattle.bb_tool.specs.Plan.{FileAnswer, FileAnswers, Role, entries_for, name_for, plans_in}
 use Rattle.bb_tool.specs.declared.refusal.Refusal.{Refusal}
 use Rattle.bb_tool.specs.declared.refusal.Refusal.TheVariants as refusals
 
 -- where the call met no fault and had memory, the answer is that of the files
 abbrev pub IsAnswerFor : FileAnswer → FileAnswer → Type 0
-IsAnswerFor (Ok found) file = file ≡ Ok found
-IsAnswerFor (Err TooLong) file = file ≡ Err TooLong
-IsAnswerFor (Err Fault) file = ⊤
-IsAnswerFor (Err NoMemory) file = ⊤
+IsAnswerFor = IsAnswerOf
 
 -- This is what reading a name gave. A fault was met only where the files' count of faults rose, and
 -- that count is as before where the file was read, or isn't there.

@@ -157,6 +157,7 @@ pub record IsBootWork (targets : Binding) (cause : Cause) (plans : List (Option 
   -- between the load and the first round
   pub middle : Device
   pub used : Option ℕ
+  pub geometry : from.geometry ≡ plan.layout.geometry
   pub many : 2 ≤ plan.layout.copies
   pub loaded : IsLoaded plan.layout used from middle load
   pub booted : IsBootBehind plan.layout targets cause plans used middle to load saves

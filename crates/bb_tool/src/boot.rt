@@ -2,7 +2,7 @@ ghost use Rattle.std.specs.Prelude.{◌≡◌, ◌<◌, ◌≤◌, List, ℕ, Ok
 ghost use Rattle.bb_flash.specs.Cuts.{IsLater};
 ghost use Rattle.bb_flash.specs.Device.{IsDevice};
 ghost use Rattle.bb_layout.specs.Layout.{laid};
-ghost use Rattle.bb_state.specs.State.{FitsForm, IsOn, IsSized, laid_of};
+ghost use Rattle.bb_state.specs.State.{IsOn, IsSized, laid_of};
 ghost use Rattle.bb_words.specs.Words.{words_of};
 ghost use Rattle.bb_words.specs.declared.command.Command.TheVariants as commands;
 ghost use Rattle.bb_tool.specs.Booting.{start_line, target_name, tries_line};
@@ -121,7 +121,6 @@ fn boot_on<B: Board>(
     cause: Cause,
 ) -> Result<Report, Refusal>
     requires table { IsSized state.old }
-    requires fits { FitsForm state.old }
     requires sized { chooser.now.area_len ≡ (laid_of state.old).area_len }
     requires on { IsOn state.old (B.device board.old) }
     requires many { 2 ≤ (laid_of state.old).copies }
