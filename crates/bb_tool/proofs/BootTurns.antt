@@ -64,20 +64,17 @@ one_more round saving later done (inr but) =
 saves_made : (rounds : List Round) (kept : List ℕ) → StopsRefused rounds → Made (saving_rounds kept rounds) rounds
 saves_made [] kept stops = inl refl
 saves_made (round ∷ later) kept stops =
-    by (bytes_eq round.table kept) refl (is_refused round.outcome) refl
+    by (saves_made later round.table stops.1) (bytes_eq round.table kept) refl (is_refused round.outcome) refl
   where
-    behind : Made (saving_rounds round.table later) later
-    behind = saves_made later round.table stops.1
-
-    by : (same : Bool) → bytes_eq round.table kept ≡ same → (refused : Bool) → is_refused round.outcome ≡ refused →
+    by : Made (saving_rounds round.table later) later → (same : Bool) → bytes_eq round.table kept ≡ same → (refused : Bool) → is_refused round.outcome ≡ refused →
         Made (saving_rounds kept (round ∷ later)) (round ∷ later)
-    by true e refused done =
+    by behind true e refused done =
         subst (λ s. Made s (round ∷ later)) (sym (idle_saving kept round later e))
         (behind_last (saving_rounds round.table later) round later behind)
-    by false e false done =
+    by behind false e false done =
         subst (λ s. Made s (round ∷ later)) (sym (begun_saving kept round later e))
         (one_more round (saving_rounds round.table later) later done behind)
-    by false e true done =
+    by behind false e true done =
         let none = stops.0 done in
         let made = made_cons round [] true done in
         subst (λ s. Made s (round ∷ later)) (sym (begun_saving kept round later e))
@@ -200,7 +197,7 @@ module _ (layout : Laid) (from mid to : Device) (first middle last : Told) (e : 
     where
       by : Made (saving_rounds Table rounds) rounds → Count ≡ length Saves
       by (inl all) = all ∙ sym many
-      by (inr but) = absurd (let none = refused_unstarted rounds but.1 in let h : IsSome {A = ℕ} None = subst IsSome none some in cc)
+      by (inr but) = absurd (let none = refused_unstarted rounds but.1 in let h : false ≡ true = sym (ap is_some none) ∙ some in cc)
 
   order : moment first ≤ moment middle
   order = loads_in_order layout from mid first middle e g before is stands images early

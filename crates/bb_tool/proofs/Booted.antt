@@ -1,7 +1,12 @@
 -- A boot behind a load: the session that its rounds make, and what its call says of the device.
-use Rattle.std.proofs.Common.{◌≡◌, ℕ, suc, ◌-◌, ◌≤◌, Bool, true, false, not, List, [], ◌∷◌, length, map, Option, Some, None, is_none, Result, Ok, Err, refl, sym, ap, subst, ◌∙◌, if◌then◌else◌, inl, inr, arith}
-use Rattle.std.specs.Prelude.{slice_get}
-use Rattle.bb_chooser.specs.Binding.{Binding}
+use Rattle.std.proofs.Common.{◌≡◌, ℕ, suc, ◌+◌, ◌-◌, ◌<◌, ◌≤◌, ◌==◌, ◌&&◌, Bool, cond, get_or, true, false, not, List, [], ◌∷◌, length, map, Option, Some, None, is_none, Result, Ok, Err, refl, sym, ap, subst, ◌∙◌, if◌then◌else◌, inl, inr, arith}
+use Rattle.std.specs.Prelude.{MatchBool, slice_get}
+use Rattle.bb_chooser.specs.Binding.{Binding, IsBinding}
+use Rattle.bb_chooser.specs.Choosing.{number_at, with_number}
+use Rattle.bb_chooser.specs.Counting.{spend_of}
+use Rattle.bb_chooser.specs.Resets.{after_priorities, resets_attempts, resets_priorities}
+use Rattle.bb_chooser.specs.declared.bound_target.BoundTarget.{BoundTarget}
+use Rattle.bb_chooser.proofs.Counts.{disabled_keeps, resets_keep, spend_is, spent, spent_keeps}
 use Rattle.bb_chooser.specs.declared.cause.Cause.{Cause}
 use Rattle.bb_copies.specs.Loading.{KeepsOutside}
 use Rattle.bb_copies.specs.Store.{used_after}
@@ -11,7 +16,7 @@ use Rattle.bb_flash.specs.Cuts.{IsLater}
 use Rattle.bb_flash.specs.Device.{Device}
 use Rattle.bb_flash.specs.declared.plan.Plan.{Plan as StartPlan}
 use Rattle.bb_layout.specs.Layout.{Laid}
-use Rattle.bb_shell.specs.Boot.{AreRounds, NoneQualifies, Round, end_of, first_table, last_round, table_after}
+use Rattle.bb_shell.specs.Boot.{AreRounds, NoneQualifies, Round, all_attempts, end_of, first_table, is_retried, last_round, table_after}
 use Rattle.bb_shell.specs.Ends.{AddsStarts, HasEndCause, IsBooted, StaysStored, is_fault}
 use Rattle.bb_shell.specs.Rounds.{RoundAnswer, answer_of, best_of, is_started, rounds_by}
 use Rattle.bb_shell.specs.Running.{AreRun, refusal_of}
@@ -20,6 +25,7 @@ use Rattle.bb_shell.specs.declared.boot_end.BootEnd.{BootEnd}
 use Rattle.bb_shell.specs.declared.outcome.Outcome.{Outcome}
 use Rattle.bb_shell.specs.declared.outcome.Outcome.TheVariants as outcomes
 use Rattle.bb_shell.proofs.Answering.{best_is, best_none, rounds_are}
+use Rattle.bb_shell.proofs.Attempts.{best_there, target_at, total_some, total_spent}
 use Rattle.bb_state.specs.Kinds.{laid_kinds}
 use Rattle.bb_state.specs.State.{is_sure, kept_of, laid_of, used_of}
 use Rattle.bb_state.specs.declared.state.State.{State}
@@ -114,6 +120,50 @@ boot_is plan targets cause plans found used from to saves is run =
     ap (worked plan (Ok found)) run.answers_are
     ∙ boot_session plan targets cause plans found run.rounds is run.are
 
+-- ---- the rounds are no more than the attempts
+
+spend_length : (b : Binding) (table : List ℕ) (target : ℕ) → IsBinding b → length table ≡ b.area_len → target < length b.targets →
+    length (spend_of b table target) ≡ length table
+spend_length b table target is sized inside =
+    let found = target_at b.targets target inside in
+    let t = found.0 in
+    let left = number_at table t.attempts_at - 1 in
+    ap length (spend_is b table target t inside found.1) ∙ by t left found.1 (b.rules.disable_on_zero_attempts && (left == 0))
+  where
+    by : (t : BoundTarget) (left : ℕ) → t ≡ get_or b.targets target t → (disables : Bool) →
+        length (cond disables (with_number (spent b table t target left) t.priority_at 0) (spent b table t target left)) ≡ length table
+    by t left at true = (disabled_keeps b is table sized target t left inside at).same_length
+    by t left at false = (spent_keeps b is table sized target t left inside at).same_length
+
+reset_length : (b : Binding) (cause : Cause) (table : List ℕ) → IsBinding b → length table ≡ b.area_len →
+    length (first_table b cause true table) ≡ length table
+reset_length b cause table is sized =
+    (resets_keep b (resets_priorities b table) (resets_attempts b cause (after_priorities b table)) table is sized).same_length
+
+few_rounds : (b : Binding) (plans : List (Option StartPlan)) (table : List ℕ) (rounds : List Round) → IsBinding b →
+    length table ≡ b.area_len → AreRounds b plans table rounds → length rounds ≤ all_attempts b table
+unfolding AreRounds
+few_rounds b plans table [] is sized are = omega arith
+few_rounds b plans table (round ∷ later) is sized are =
+    by (λ same more. few_rounds b plans round.table later is same more) (is_retried b round.outcome) refl are.1
+  where
+    by : (length round.table ≡ b.area_len → AreRounds b plans round.table later → length later ≤ all_attempts b round.table) → (t : Bool) → is_retried b round.outcome ≡ t →
+        MatchBool (is_retried b round.outcome) (AreRounds b plans round.table later) (later ≡ []) →
+        length (round ∷ later) ≤ all_attempts b table
+    by again true e h =
+        let more : AreRounds b plans round.table later =
+        subst (λ t. MatchBool t (AreRounds b plans round.table later) (later ≡ [])) e h in
+        let inside = best_there b table round.target are.0.best in
+        let same : length round.table ≡ b.area_len = ap length are.0.spent ∙ spend_length b table round.target is sized inside ∙ sized in
+        let behind = again same more in
+        let spends = subst (λ t. all_attempts b t + 1 ≤ all_attempts b table) (sym are.0.spent) (total_spent b table round.target is sized are.0.best) in
+        omega (arith, behind, spends)
+    by again false e h =
+        let none : later ≡ [] = subst (λ t. MatchBool t (AreRounds b plans round.table later) (later ≡ [])) e h in
+        let some = total_some b table round.target are.0.best in
+        let one : length (round ∷ later) ≡ 1 = ap (λ l. length (round ∷ l)) none in
+        omega (arith, some, one)
+
 -- ---- what the call says
 
 -- what the clauses of a boot say, over the state before and after it
@@ -128,10 +178,10 @@ pub record BootClauses (targets : Binding) (cause : Cause) (plans : List (Option
   pub sure : is_sure after ≡ not (is_fault end)
 
 run_is : (targets : Binding) (cause : Cause) (plans : List (Option StartPlan)) (before after : State) (from to : Device)
-    (end : BootEnd) → kept_of before ≡ before.table →
+    (end : BootEnd) → kept_of before ≡ before.table → IsBinding targets → length before.table ≡ targets.area_len →
     (clauses : BootClauses targets cause plans before after from to end) →
     IsBootRun (laid_of before) targets cause plans before.table (used_of before) from to (answers_to clauses.booted.rounds)
-run_is targets cause plans before after from to end kept clauses =
+run_is targets cause plans before after from to end kept binding sized clauses =
     let booted = clauses.booted in
     let layout = laid_of before in
     let rounds = booted.rounds in
@@ -140,6 +190,9 @@ run_is targets cause plans before after from to end kept clauses =
       now = used_of after;
       answers_are = refl;
       are = booted.are;
+      few =
+          few_rounds targets plans (first_table targets cause true before.table) rounds binding
+          (reset_length targets cause before.table binding sized ∙ sized) booted.are;
       run = subst (λ k. AreRun layout plans k (used_of before) (used_of after) rounds from to) kept booted.run;
       trail = subst (λ k. KeepsATrail layout k (used_of before) rounds from to) kept booted.trail;
       exit = subst (λ k. KeepsAtExit layout k (used_of before) (used_of after) rounds from to) kept booted.exit;
@@ -166,10 +219,10 @@ end_gives targets table rounds (Err refusal) gives = gives
 pub boot_out : (layout : Laid) (targets : Binding) (cause : Cause) (plans : List (Option StartPlan))
     (from mid to : Device) (loaded : Loaded) (before after : State) (end : BootEnd) (given : Result Report Refusal) →
     from.geometry ≡ layout.geometry → 2 ≤ layout.copies → laid_of before ≡ layout → LoadClauses layout before.table from mid (Ok loaded) →
-    used_of before ≡ used_after loaded → kept_of before ≡ before.table →
+    used_of before ≡ used_after loaded → kept_of before ≡ before.table → IsBinding targets → length before.table ≡ targets.area_len →
     BootClauses targets cause plans before after mid to end → IsReportOf targets end given →
     IsWorkedOut layout (Boot targets cause plans) from to given
-boot_out layout targets cause plans from mid to loaded before after end given geometry many laid clauses used kept boot report =
+boot_out layout targets cause plans from mid to loaded before after end given geometry many laid clauses used kept binding sized boot report =
     let found = taken before.table loaded in
     let plan : SessionPlan = record { layout = layout; work = Boot targets cause plans } in
     let same : loaded_area layout found ≡ before.table =
@@ -181,7 +234,7 @@ boot_out layout targets cause plans from mid to loaded before after end given ge
     subst (λ t. IsBootRun layout targets cause plans t (used_after loaded) mid to saves) (sym same)
     (subst (λ l. IsBootRun l targets cause plans before.table (used_after loaded) mid to saves) laid
     (subst (λ u. IsBootRun (laid_of before) targets cause plans before.table u mid to saves) used
-    (run_is targets cause plans before after mid to end kept boot))) in
+    (run_is targets cause plans before after mid to end kept binding sized boot))) in
     let are = subst (λ t. AreRounds targets plans (first_table targets cause true t) rounds) (sym same) boot.booted.are in
     let session : worked plan (Ok found) saves ≡ booted targets (loaded_area layout found) rounds =
     boot_session plan targets cause plans found rounds refl are in

@@ -30,11 +30,12 @@ next_of plan r = result_and_then (λ plans. Ok (plan ∷ plans)) r
 
 ok_all : (n : ℕ) (entries : List FileAnswer) (plans : List (Option StartPlan)) → plans_from n entries ≡ Ok plans → All IsOk entries
 ok_all n [] plans h = All-nil IsOk
-ok_all n (Ok text ∷ entries) plans h = All-cons IsOk (Ok text) entries refl (by (plans_from (n + 1) entries) refl h)
+ok_all n (Ok text ∷ entries) plans h =
+    All-cons IsOk (Ok text) entries refl (by (plans_from (n + 1) entries) (λ behind is. ok_all (n + 1) entries behind is) h)
   where
-    by : (r : Result (List (Option StartPlan)) PlanFault) → plans_from (n + 1) entries ≡ r →
+    by : (r : Result (List (Option StartPlan)) PlanFault) → ((behind : List (Option StartPlan)) → r ≡ Ok behind → All IsOk entries) →
         next_of (plan_by n text) r ≡ Ok plans → All IsOk entries
-    by (Ok behind) is e = ok_all (n + 1) entries behind is
+    by (Ok behind) is e = is behind refl
     by (Err fault) is e = absurd cc
 ok_all n (Err Fault ∷ entries) plans h = absurd cc
 ok_all n (Err TooLong ∷ entries) plans h = absurd cc
@@ -81,12 +82,13 @@ contains_rest first entries answer other at = by at.0 at.1 at.2
 fault_from : (n : ℕ) (entries : List FileAnswer) (target : ℕ) → plans_from n entries ≡ Err (plan_faults.FileFault target) →
     Contains entries (Err Fault)
 fault_from n [] target h = absurd cc
-fault_from n (Ok text ∷ entries) target h = contains_more (Ok text) entries (Err Fault) (by (plans_from (n + 1) entries) refl h)
+fault_from n (Ok text ∷ entries) target h =
+    contains_more (Ok text) entries (Err Fault) (by (plans_from (n + 1) entries) (λ is. fault_from (n + 1) entries target is) h)
   where
-    by : (r : Result (List (Option StartPlan)) PlanFault) → plans_from (n + 1) entries ≡ r →
+    by : (r : Result (List (Option StartPlan)) PlanFault) → (r ≡ Err (plan_faults.FileFault target) → Contains entries (Err Fault)) →
         next_of (plan_by n text) r ≡ Err (plan_faults.FileFault target) → Contains entries (Err Fault)
     by (Ok behind) is e = absurd cc
-    by (Err fault) is e = fault_from (n + 1) entries target (is ∙ e)
+    by (Err fault) is e = is e
 fault_from n (Err Fault ∷ entries) target h = (0, omega arith, refl)
 fault_from n (Err TooLong ∷ entries) target h = absurd cc
 fault_from n (Err NoMemory ∷ entries) target h = absurd cc
@@ -170,12 +172,13 @@ upto_calm : (n : ℕ) (entries : List FileAnswer) (target : ℕ) → plans_from 
 unfolding upto
 upto_calm n [] target h at = absurd cc
 upto_calm n (Ok text ∷ entries) target h at =
-    by (contains_rest (Ok text) (upto entries) (Err Fault) (λ e. cc) at) (plans_from (n + 1) entries) refl h
+    by (plans_from (n + 1) entries)
+    (λ is. upto_calm (n + 1) entries target is (contains_rest (Ok text) (upto entries) (Err Fault) (λ e. cc) at)) h
   where
-    by : Contains (upto entries) (Err Fault) → (r : Result (List (Option StartPlan)) PlanFault) →
-        plans_from (n + 1) entries ≡ r → next_of (plan_by n text) r ≡ Err (plan_faults.FileTooLong target) → ⊥
-    by rest (Ok behind) same e = cc
-    by rest (Err fault) same e = upto_calm (n + 1) entries target (same ∙ e) rest
+    by : (r : Result (List (Option StartPlan)) PlanFault) → (r ≡ Err (plan_faults.FileTooLong target) → ⊥) →
+        next_of (plan_by n text) r ≡ Err (plan_faults.FileTooLong target) → ⊥
+    by (Ok behind) is e = cc
+    by (Err fault) is e = is e
 upto_calm n (Err Fault ∷ entries) target h at = absurd cc
 upto_calm n (Err TooLong ∷ entries) target h at =
     let rest = contains_rest (Err TooLong) [] (Err Fault) (λ e. cc) at in
@@ -183,6 +186,18 @@ upto_calm n (Err TooLong ∷ entries) target h at =
 upto_calm n (Err NoMemory ∷ entries) target h at = absurd cc
 
 -- ---- what was read
+
+-- one for which memory was refused
+abbrev unread_one : List FileAnswer
+unread_one = Err NoMemory ∷ []
+
+one_unread : {X : Type 0} → All IsOk unread_one → X
+one_unread all = absurd (let e : false ≡ true = All-head IsOk (Err NoMemory) [] all in cc)
+
+one_calm : {X : Type 0} → Contains unread_one (Err Fault) → X
+one_calm at =
+    let rest = contains_rest (Err NoMemory) [] (Err Fault) (λ e. cc) at in
+    let inside = rest.1 in absurd (omega (arith, inside))
 
 module _ (targets : Binding) (before after : Folder) where
   names_many : length (entries_of targets) ≡ length targets.targets
@@ -249,14 +264,6 @@ module _ (targets : Binding) (before after : Folder) where
       (entries_of targets ≡ [] → after.faults ≡ before.faults) → AreRead targets before after given
   read_memory given is calm = subst (AreRead targets before after) (sym is) (by (entries_of targets) refl)
     where
-      unread_one : {X : Type 0} → All IsOk {X = FileAnswer} (Err NoMemory ∷ []) → X
-      unread_one all = absurd (let e : false ≡ true = All-head IsOk (Err NoMemory) [] all in cc)
-
-      no_fault : Contains {X = FileAnswer} (Err NoMemory ∷ []) (Err Fault) → Rose before.faults after.faults
-      no_fault at =
-          let rest = contains_rest (Err NoMemory) [] (Err Fault) (λ e. cc) at in
-          let inside = rest.1 in absurd (omega (arith, inside))
-
       by : (names : List (List ℕ)) → entries_of targets ≡ names → AreRead targets before after (Err refusals.NoMemory)
       by [] none = record {
         entries = [];
@@ -275,9 +282,9 @@ module _ (targets : Binding) (before after : Folder) where
           told = λ files told.
               subst (λ n. AllZip IsAnswerFor (Err NoMemory ∷ []) (take 1 (map (file_of files) n))) (sym some) (tt, tt);
           most = subst (λ n. 1 ≤ length n) (sym some) (omega arith);
-          whole = unread_one;
+          whole = λ all. one_unread all;
         };
-        cause = no_fault;
-        calm = unread_one;
+        cause = λ at. one_calm at;
+        calm = λ all. one_unread all;
         follows = λ other. absurd (other refl);
       }

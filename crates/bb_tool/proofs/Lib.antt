@@ -8,6 +8,7 @@ pub mod Entries
 pub mod Exact
 mod Examples
 pub mod Faults
+pub mod Fine
 pub mod Given
 pub mod Kept
 pub mod Lines
@@ -15,6 +16,7 @@ pub mod Plans
 pub mod Quiet
 mod Regions
 pub mod Sources
+pub mod Starting
 pub mod Tables
 pub mod Tellable
 pub mod Told

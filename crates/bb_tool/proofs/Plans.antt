@@ -317,6 +317,13 @@ mark_told command geometry tree tree' settings settings' first second = elim (an
   ]
 ]
 
+-- the plan of a boot by those of its entries
+abbrev planned_of : BootCommand → Laid → Binding → Result (List (Option StartPlan)) PlanFault → Result SessionPlan Refusal
+planned_of command layout targets r =
+    result_and_then
+    (λ plans. Ok (record { layout = layout; work = Boot targets (cause_of command.cause) plans }))
+    (refused_as (refusal_for targets) r)
+
 -- the plans of the entries
 plans_told : (command : BootCommand) (layout : Laid) (targets : Binding) (folder : Folder) (entries : List FileAnswer)
     (files : FileMap) → folder.told ≡ Some files → AreEntries (entries_of targets) folder entries →
@@ -325,20 +332,13 @@ plans_told : (command : BootCommand) (layout : Laid) (targets : Binding) (folder
 plans_told command layout targets folder entries files told are =
     by (same_plans (entries_of targets) folder entries files told are)
   where
-    next : Result (List (Option StartPlan)) PlanFault → Result SessionPlan Refusal
-    next r =
-        result_and_then
-        (λ plans. Ok (record { layout = layout; work = Boot targets (cause_of command.cause) plans }))
-        (refused_as (refusal_for targets) r)
-
     by : SamePlans entries (map (file_of files) (entries_of targets)) →
         IsPlanOf (boot_bound command entries layout targets)
         (boot_bound command (map (file_of files) (entries_of targets)) layout targets)
-    unfolding next
-    by (inl same) = inl (ap next same)
+    by (inl same) = inl (ap (planned_of command layout targets) same)
     by (inr (inl fault)) =
-        inr (inl (subst (λ r. IsRefusedWith statuses.FileFault (next r)) (sym fault.1) refl))
-    by (inr (inr memory)) = inr (inr (ap next memory))
+        inr (inl (subst (λ r. IsRefusedWith statuses.FileFault (planned_of command layout targets r)) (sym fault.1) refl))
+    by (inr (inr memory)) = inr (inr (ap (planned_of command layout targets) memory))
 
 -- the settings, and then the entries of the targets that they name
 bound_told : (command : BootCommand) (layout : Laid) (folder : Folder) (settings : FileAnswer) (entries : List FileAnswer)
@@ -361,6 +361,9 @@ bound_told command layout folder settings entries files told names are_named are
         (plans_told command layout targets folder entries files told
         (subst (λ n. AreEntries n folder entries) (sym (named targets refl)) are))
 
+abbrev names_by : BootCommand → Laid → FileAnswer → List (List ℕ)
+names_by command layout settings = option_map_or entries_of (result_ok (binding_in command.settings layout settings)) []
+
 -- of a layout that is refused there are no settings
 laid_told : (command : BootCommand) (laid : Result Laid Refusal) (folder : Folder) (settings settings' : FileAnswer)
     (entries : List FileAnswer) (files : FileMap) → folder.told ≡ Some files → IsAnswerFor settings settings' →
@@ -379,19 +382,16 @@ laid_told command (Ok layout) folder settings settings' entries files told is ar
       | inl same ↦
           subst
           (λ s. IsPlanOf (boot_laid command settings entries layout)
-          (boot_laid command s (map (file_of files) (names_of s)) layout)) (sym same)
-          (bound_told command layout folder settings entries files told (names_of settings) named are)
+          (boot_laid command s (map (file_of files) (names_by command layout s)) layout)) (sym same)
+          (bound_told command layout folder settings entries files told (names_by command layout settings) named are)
       | inr odd ↦ elim odd [
         | inl e ↦ inr (inl (subst (λ a. IsRefusedWith statuses.FileFault (boot_laid command a entries layout)) (sym e) refl))
         | inr e ↦ inr (inr (ap (λ a. boot_laid command a entries layout) e))
       ]
     ]
   where
-    names_of : FileAnswer → List (List ℕ)
-    names_of s = option_map_or entries_of (result_ok (binding_in command.settings layout s)) []
-
     named : (targets : Binding) → binding_in command.settings layout settings ≡ Ok targets →
-        entries_of targets ≡ names_of settings
+        entries_of targets ≡ names_by command layout settings
     named targets same = sym (ap (λ r. option_map_or entries_of (result_ok r) []) same)
 
 module _ (words : List (List ℕ)) (command : BootCommand) (is : words_of words ≡ Ok (BootWords command))
@@ -529,7 +529,6 @@ laid_faults command layout tree (Ok (Some text)) entries refused =
     by : (r : Result Binding Refusal) → IfErr r OtherThanFault →
         IsRefusedWith statuses.FileFault (result_and_then (boot_bound command entries layout) r) →
         BootFaulty tree (Ok (Some text)) entries
-    unfolding OtherThanFault
     by (Ok targets) other h = InEntries (bound_faults command layout targets entries h)
     by (Err e) other h = absurd (other h)
 laid_faults command layout tree (Ok None) entries refused = absurd cc
@@ -546,7 +545,6 @@ boot_faults command geometry (Ok (Some source)) settings entries refused =
     by : (r : Result Laid Refusal) → IfErr r OtherThanFault →
         IsRefusedWith statuses.FileFault (result_and_then (boot_laid command settings entries) r) →
         BootFaulty (Ok (Some source)) settings entries
-    unfolding OtherThanFault
     by (Ok layout) other h = laid_faults command layout (Ok (Some source)) settings entries h
     by (Err e) other h = absurd (other h)
 boot_faults command geometry (Ok None) settings entries refused = absurd cc

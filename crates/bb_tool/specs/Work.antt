@@ -1,5 +1,5 @@
 -- The work of a session on the copies of a layout: what was answered, and what became of the device.
-use Rattle.std.specs.Prelude.{◌≡◌, ◌≢◌, ◌⊎◌, ℕ, ◌≤◌, List, [], ◌∷◌, map, ⊤, Bool, false, true, Option, Some, None, Result, Ok, Err, IfOk, IfErr, IsErr}
+use Rattle.std.specs.Prelude.{◌≡◌, ◌≢◌, ◌⊎◌, ℕ, ◌≤◌, List, [], ◌∷◌, length, map, ⊤, Bool, false, true, Option, Some, None, Result, Ok, Err, IfOk, IfErr, IsErr}
 use Rattle.std.specs.Option.{ForSome}
 use Rattle.bb_base.specs.Faults.{HasCause}
 use Rattle.bb_copies.specs.Loading.{KeepsOutside, LoadGives, LoadImages, LoadsExactly}
@@ -15,7 +15,7 @@ use Rattle.bb_chooser.specs.declared.cause.Cause.{Cause}
 use Rattle.bb_flash.specs.Device.{Device, LeavesStarts, content}
 use Rattle.bb_flash.specs.declared.plan.Plan.{Plan as StartPlan}
 use Rattle.bb_layout.specs.Layout.{Laid}
-use Rattle.bb_shell.specs.Boot.{AreRounds, Round, end_of, first_table, table_after}
+use Rattle.bb_shell.specs.Boot.{AreRounds, Round, all_attempts, end_of, first_table, table_after}
 use Rattle.bb_shell.specs.Ends.{AddsStarts, HasEndCause, StaysStored, failed_starts, is_fault}
 use Rattle.bb_shell.specs.Running.{AreRun}
 use Rattle.bb_shell.specs.Stages.{KeepsATrail, KeepsAtExit}
@@ -110,6 +110,8 @@ pub record IsBootRun (layout : Laid) (targets : Binding) (cause : Cause)
   pub now : Option ℕ
   pub answers_are : answers ≡ map (λ round. answer_to round.outcome) rounds
   pub are : AreRounds targets plans (first_table targets cause true table) rounds
+  -- each spends an attempt
+  pub few : length rounds ≤ all_attempts targets (first_table targets cause true table)
   pub run : AreRun layout plans table used now rounds from to
   -- what the copies stand for, in each image on the way and at exit, and what they pass then
   pub trail : KeepsATrail layout table used rounds from to

@@ -55,7 +55,8 @@ returns-clause-gives g c =
       exact = c.in_ok-load.ensures.exact;
       fails = tt;
     })
-    c.in_ok-load.ensures.used c.in_ok-load.ensures.kept
+    c.in_ok-load.ensures.used c.in_ok-load.ensures.kept c.count.ensures.binding
+    (c.in_ok-load.ensures.sized ∙ ap (λ (l : Laid). l.area_len) c.in_ok-load.ensures.layout ∙ sym c.requires.sized)
     (record {
       booted = boot.booted;
       end_cause = boot.cause;
