@@ -68,7 +68,7 @@ early_of ran (inr memory) unread = λ rose. elim (memory.work) [
 -- ---- want of memory
 
 -- each save answered Ok
-abbrev AllMade : List SaveAnswer → Type 0
+abbrev pub AllMade : List SaveAnswer → Type 0
 AllMade saves = list_all is_ok saves ≡ true
 
 saves_made : (layout : Laid) (used : Option ℕ) (text : List ℕ) (areas : List (List ℕ))
@@ -104,7 +104,7 @@ rounds_made (round ∷ later) all = by round.outcome all.0 (rounds_made later al
     by outcomes.Failed e rest = rest
     by outcomes.Started e rest = rest
 
-work_made : (work : Work) (plan : SessionPlan) (from to : Device) (load : LoadAnswer)
+pub work_made : (work : Work) (plan : SessionPlan) (from to : Device) (load : LoadAnswer)
     (saves : List SaveAnswer) → plan.work ≡ work → IsWorkOf work plan from to load saves →
     HasNoFault (worked plan load saves) → AllMade saves
 work_made work plan from to (Err fault) saves is done whole =
