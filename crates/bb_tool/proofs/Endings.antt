@@ -391,10 +391,10 @@ look_fault layout text from to (Ok found) refusal plan saves device shows work h
 -- ---- a fault in a boot
 
 -- a boot ends with a fault where its last round was refused for it
-record IsRefusedLast (rounds : List Round) (fault : CopyFault) : Type 0 where
-  last : Round
-  is : last_round rounds ≡ Some last
-  outcome : last.outcome ≡ outcomes.Refused fault
+pub record IsRefusedLast (rounds : List Round) (fault : CopyFault) : Type 0 where
+  pub last : Round
+  pub is : last_round rounds ≡ Some last
+  pub outcome : last.outcome ≡ outcomes.Refused fault
 
 by_fault : (targets : Binding) (tries : ℕ) (round : Round) (outcome : Outcome) (fault : CopyFault) → end_by targets tries round outcome ≡ ends.Fault fault → outcome ≡ outcomes.Refused fault
 by_fault targets tries round (outcomes.Refused other) fault h = let same : other ≡ fault = cc in ap (λ f. outcomes.Refused f) same
@@ -402,7 +402,7 @@ by_fault targets tries round outcomes.Unplanned fault h = absurd cc
 by_fault targets tries round outcomes.Failed fault h = absurd cc
 by_fault targets tries round outcomes.Started fault h = absurd cc
 
-refused_last : (targets : Binding) (rounds : List Round) (fault : CopyFault) → end_of targets rounds ≡ ends.Fault fault → IsRefusedLast rounds fault
+pub refused_last : (targets : Binding) (rounds : List Round) (fault : CopyFault) → end_of targets rounds ≡ ends.Fault fault → IsRefusedLast rounds fault
 refused_last targets rounds fault h = by (last_round rounds) refl h
   where
     by : (o : Option Round) → last_round rounds ≡ o →
@@ -468,7 +468,7 @@ module _ (layout : Laid) (many : 2 ≤ layout.copies) where
       by false e = e
 
 -- the fault that a boot's end brings
-end_fault : (targets : Binding) (end : BootEnd) (refusal : Refusal) → is_device_fault (status_of refusal) ≡ true → end_refusal targets end ≡ Some refusal → (fault : CopyFault) × ((end ≡ ends.Fault fault) × (refusal ≡ copy_refusal fault))
+pub end_fault : (targets : Binding) (end : BootEnd) (refusal : Refusal) → is_device_fault (status_of refusal) ≡ true → end_refusal targets end ≡ Some refusal → (fault : CopyFault) × ((end ≡ ends.Fault fault) × (refusal ≡ copy_refusal fault))
 end_fault targets (ends.Started target left tries) refusal device h = absurd (none_some refusal h)
 end_fault targets ends.NoTarget refusal device h =
     absurd (let e : false ≡ true = ap (λ r. is_device_fault (status_of r)) (same_Some refusals.NoTarget refusal h) ∙ device in cc)

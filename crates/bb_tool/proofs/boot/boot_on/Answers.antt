@@ -27,8 +27,8 @@ returns-in_err-load-clause-gives g c =
     })
     (p.1 ∙ ap (λ e. Err e) p.2)
 
-pub boot_run-requires : goal.boot_run-requires
-boot_run-requires g c = record {
+pub boot_run-end-requires : goal.boot_run-end-requires
+boot_run-end-requires g c = record {
   sized = c.in_ok-load.ensures.sized;
   fits = sized_fits c.load.new.self.backing.layout c.load.new.self.table c.in_ok-load.ensures.sized;
   sure = c.in_ok-load.ensures.sure;
