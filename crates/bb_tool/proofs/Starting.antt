@@ -359,18 +359,21 @@ module _ (ran : Ran) where
   loaded_session answers plan is found load =
       ap (λ (l : LoadAnswer). worked plan l answers.saves) (sym load) ∙ followed_is ran answers plan is
 
-  pub rounds_of : RunsRounds ran
-  rounds_of answers plan answered is found load =
+  pub rounds_of : IsSession ran → RunsRounds ran
+  rounds_of s answers plan answered is found load =
       subst (λ (s : Session). AreRoundsOf plan.work (loaded_area plan.layout found) s.rounds) (loaded_session answers plan is found load)
       (work_rounds plan.work plan From To found answers.saves refl (loaded_work answers plan answered is found load))
 
-  pub starts_of : StartsTheLast ran
-  starts_of answers plan answered is =
+  started : StartsTheLast ran
+  started answers plan answered is =
       subst (λ (s : Session). AddsStart (start_of plan.work s.rounds) From To) (followed_is ran answers plan is)
       (work_start plan.work plan From To answers.load answers.saves refl (work_of ran answers plan answered is))
 
-  pub starts_saved_of : StartsBehindSave ran
-  starts_saved_of answers plan answered is found load some =
+  pub starts_of : IsSession ran → StartsTheLast ran
+  starts_of s = started
+
+  pub starts_saved_of : IsSession ran → StartsBehindSave ran
+  starts_saved_of s answers plan answered is found load some =
       let session = loaded_session answers plan is found load in
       subst
       (λ (s : Session). ForSome (content To)
@@ -379,13 +382,13 @@ module _ (ran : Ran) where
       (work_stored plan.work plan From To found answers.saves refl (loaded_work answers plan answered is found load)
       (subst (λ (s : Session). IsSome (start_of plan.work s.rounds)) (sym session) some))
 
-  pub start_faults_of : CountsFailedStarts ran
-  start_faults_of answers plan answered is =
+  pub start_faults_of : IsSession ran → CountsFailedStarts ran
+  start_faults_of s answers plan answered is =
       subst (λ (s : Session). RoseBy (failed_starts s.rounds) From.start_faults To.start_faults) (followed_is ran answers plan is)
       (work_failed plan.work plan From To answers.load answers.saves refl (work_of ran answers plan answered is))
 
-  pub start_causes_of : KnowsStartFaults ran
-  start_causes_of answers plan answered is name refusal =
+  pub start_causes_of : IsSession ran → KnowsStartFaults ran
+  start_causes_of s answers plan answered is name refusal =
       let session = followed_is ran answers plan is in
       subst (λ (s : Session). FailsBy (plans_of plan.work) (last_round s.rounds) From To) session
       (work_cause plan.work plan From To answers.load answers.saves refl (work_of ran answers plan answered is)
@@ -400,7 +403,7 @@ module _ (ran : Ran) where
   answered_once : (answers : Answers) → MayAnswer ran answers → (plan : Result SessionPlan Refusal) → plan_for ran answers ≡ plan →
       (starts To ≡ starts From) ⊎ ((plan : StartPlan) × StartsOnce From To plan)
   answered_once answers answered (Ok plan) is =
-      one_or_none (start_of plan.work (session_for ran answers).rounds) (starts_of answers plan answered is)
+      one_or_none (start_of plan.work (session_for ran answers).rounds) (started answers plan answered is)
   answered_once answers answered (Err refusal) is =
       inl (ap starts (subst (λ (p : Result SessionPlan Refusal). IsFollowed p From To answers) is answered.followed))
 

@@ -94,19 +94,19 @@ pub returns-clause-write_fault_cause : goal.returns-clause-write_fault_cause
 returns-clause-write_fault_cause g c = write_faults_of _ c.answer.ensures.session
 
 pub returns-clause-rounds : goal.returns-clause-rounds
-returns-clause-rounds g c = rounds_of _
+returns-clause-rounds g c = rounds_of _ c.answer.ensures.session
 
 pub returns-clause-starts : goal.returns-clause-starts
-returns-clause-starts g c = starts_of _
+returns-clause-starts g c = starts_of _ c.answer.ensures.session
 
 pub returns-clause-starts_once : goal.returns-clause-starts_once
 returns-clause-starts_once g c = starts_once_of _ c.answer.ensures.session
 
 pub returns-clause-starts_saved : goal.returns-clause-starts_saved
-returns-clause-starts_saved g c = starts_saved_of _
+returns-clause-starts_saved g c = starts_saved_of _ c.answer.ensures.session
 
 pub returns-clause-start_faults : goal.returns-clause-start_faults
-returns-clause-start_faults g c = start_faults_of _
+returns-clause-start_faults g c = start_faults_of _ c.answer.ensures.session
 
 pub returns-clause-no_target : goal.returns-clause-no_target
 returns-clause-no_target g c = no_target_of _ c.answer.ensures.session
@@ -115,4 +115,4 @@ pub returns-clause-start_failed : goal.returns-clause-start_failed
 returns-clause-start_failed g c = start_failed_of _ c.answer.ensures.session
 
 pub returns-clause-start_failed_cause : goal.returns-clause-start_failed_cause
-returns-clause-start_failed_cause g c = start_causes_of _
+returns-clause-start_failed_cause g c = start_causes_of _ c.answer.ensures.session
