@@ -1,5 +1,5 @@
 -- Why a table that was loaded ends a session before any save, and the session where it doesn't.
-use Rattle.std.proofs.Common.{◌≡◌, ℕ, Bool, true, false, List, [], Option, Some, None, IsSome, Ok, is_none, refl, sym, ap, subst, ◌∙◌, if◌then◌else◌}
+use Rattle.std.proofs.Common.{◌≡◌, ℕ, Bool, true, false, List, [], Option, Some, None, IsSome, Ok, refl, sym, ap, subst, ◌∙◌, if◌then◌else◌}
 use Rattle.std.specs.Option.{option_map_or}
 use Rattle.std.specs.Prelude.{option_map, slice_get}
 use Rattle.std.specs.Str.{bytes_eq}
@@ -15,7 +15,7 @@ use Rattle.bb_tool.specs.Booting.{SaveAnswer, boots, has_no_target}
 use Rattle.bb_tool.specs.Marking.{lost_place}
 use Rattle.bb_tool.specs.Plan.{Act, Boot, Good, SessionPlan, Show, Work, Write}
 use Rattle.bb_tool.specs.Refusal.{copy_refusal, status_of}
-use Rattle.bb_tool.specs.Session.{Session, barred, ended_status, loaded_area, refused_for, saved, saved_where, saves_behind, saves_of, stored, text_of, unless_barred, worked, worked_on}
+use Rattle.bb_tool.specs.Session.{Session, barred, ended_status, loaded_area, refused_for, saved, saved_where, saves_of, stored, text_of, unless_barred, worked, worked_on}
 use Rattle.bb_tool.specs.declared.refusal.Refusal.{Refusal}
 use Rattle.bb_tool.specs.declared.refusal.Refusal.TheVariants.{NoGood, NoTarget}
 use Rattle.bb_tool.specs.declared.status.Status.{Status}

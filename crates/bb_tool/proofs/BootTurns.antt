@@ -1,7 +1,7 @@
 -- The turn of a boot and its trail: the load's, and behind it what the saves of its rounds reached.
-use Rattle.std.proofs.Common.{◌≡◌, ◌⊎◌, ℕ, suc, ◌+◌, ◌≤◌, Bool, true, false, not, List, [], ◌∷◌, ◌++◌, length, map, take, Option, Some, None, IsSome, is_some, cond, refl, sym, ap, subst, ◌∙◌, inl, inr, arith}
+use Rattle.std.proofs.Common.{◌≡◌, ◌⊎◌, ℕ, suc, ◌+◌, ◌≤◌, Bool, true, false, List, [], ◌∷◌, ◌++◌, length, take, Option, Some, None, IsSome, is_some, cond, refl, sym, ap, subst, ◌∙◌, inl, inr, arith}
 use Rattle.std.specs.Option.{option_and_then}
-use Rattle.std.specs.Prelude.{count_by, slice_get, unwrap_or}
+use Rattle.std.specs.Prelude.{count_by, unwrap_or}
 use Rattle.std.specs.Str.{bytes_eq}
 use Rattle.std.proofs.lemmas.List.{length-map}
 use Rattle.bb_copies.specs.Chronicle.{Content, IsStanding, Loaded}
@@ -28,14 +28,14 @@ use Rattle.bb_shell.specs.declared.outcome.Outcome.TheVariants as outcomes
 use Rattle.bb_shell.proofs.Reached.{StopsRefused, begun_saving, idle_saving, is_made, made_cons}
 use Rattle.bb_state.specs.Kinds.{laid_form, laid_kinds, laid_passings}
 use Rattle.bb_tool.specs.Booting.{target_started}
-use Rattle.bb_tool.specs.Looking.{first_found, passed_in}
+use Rattle.bb_tool.specs.Looking.{passed_in}
 use Rattle.bb_tool.specs.Session.{loaded_area}
 use Rattle.bb_tool.specs.Turns.{HasTrail, IsCounted, IsFairRun, LeadsTo, first_area}
 use Rattle.bb_tool.specs.Work.{IsLoadedAs}
 use Rattle.bb_tool.proofs.Booted.{last_behind}
-use Rattle.bb_tool.proofs.Copies.{given, load_stays, loaded_to, loads_in_order}
+use Rattle.bb_tool.proofs.Copies.{loaded_to, loads_in_order}
 use Rattle.bb_tool.proofs.Kept.{found_or, load_found}
-use Rattle.bb_tool.proofs.Turns.{LoadedTo, before_trail, fair_from, in_order, leads, standing_at, told_content}
+use Rattle.bb_tool.proofs.Turns.{before_trail, fair_from, in_order, leads, standing_at, told_content}
 
 -- ---- how many saves were made
 

@@ -16,10 +16,10 @@ use Rattle.bb_flash.specs.Cuts.{IsLater}
 use Rattle.bb_flash.specs.Device.{Device}
 use Rattle.bb_flash.specs.declared.plan.Plan.{Plan as StartPlan}
 use Rattle.bb_layout.specs.Layout.{Laid}
-use Rattle.bb_shell.specs.Boot.{AreRounds, NoneQualifies, Round, all_attempts, end_of, first_table, is_retried, last_round, table_after}
+use Rattle.bb_shell.specs.Boot.{AreRounds, Round, all_attempts, end_of, first_table, is_retried, last_round, table_after}
 use Rattle.bb_shell.specs.Ends.{AddsStarts, HasEndCause, IsBooted, StaysStored, is_fault}
-use Rattle.bb_shell.specs.Rounds.{RoundAnswer, answer_of, best_of, is_started, rounds_by}
-use Rattle.bb_shell.specs.Running.{AreRun, refusal_of}
+use Rattle.bb_shell.specs.Rounds.{RoundAnswer, answer_of, rounds_by}
+use Rattle.bb_shell.specs.Running.{AreRun}
 use Rattle.bb_shell.specs.Stages.{KeepsATrail, KeepsAtExit}
 use Rattle.bb_shell.specs.declared.boot_end.BootEnd.{BootEnd}
 use Rattle.bb_shell.specs.declared.outcome.Outcome.{Outcome}
@@ -29,7 +29,7 @@ use Rattle.bb_shell.proofs.Attempts.{best_there, target_at, total_some, total_sp
 use Rattle.bb_state.specs.Kinds.{laid_kinds}
 use Rattle.bb_state.specs.State.{is_sure, kept_of, laid_of, used_of}
 use Rattle.bb_state.specs.declared.state.State.{State}
-use Rattle.bb_tool.specs.Booting.{SaveAnswer, answer_to, end_refusal, end_text, has_no_target, round_answer, rounds_of}
+use Rattle.bb_tool.specs.Booting.{SaveAnswer, answer_to, end_refusal, has_no_target, round_answer, rounds_of}
 use Rattle.bb_tool.specs.Plan.{Boot, SessionPlan, Work}
 use Rattle.bb_tool.specs.Refusal.{copy_refusal}
 use Rattle.bb_tool.specs.Session.{Session, barred, booted, loaded_area, unless_barred, worked, worked_on}

@@ -1,20 +1,19 @@
 -- What reading the entries of targets gave, and the plans that come of it.
-use Rattle.std.proofs.Common.{◌≡◌, ◌≢◌, ◌⊎◌, ◌<◌, ◌≤◌, ℕ, zero, suc, ◌+◌, Bool, true, false, List, [], ◌∷◌, All, Contains, get_or, length, map, take, Option, Some, Result, Ok, Err, IsErr, IsOk, IsTrue, is_ok, refl, sym, ap, subst, ◌∙◌, inl, inr, arith}
-use Rattle.std.specs.Bool.{OnFalse}
+use Rattle.std.proofs.Common.{◌≡◌, ◌⊎◌, ◌<◌, ◌≤◌, ℕ, zero, suc, ◌+◌, true, false, List, [], ◌∷◌, All, Contains, get_or, length, map, take, Option, Some, Result, Ok, Err, IsErr, IsOk, is_ok, refl, sym, ap, subst, ◌∙◌, inl, inr, arith}
 use Rattle.std.specs.List.{AllZip, enumerate_from}
 use Rattle.std.proofs.lemmas.List.{length-map}
 use Rattle.std.proofs.lemmas.List.Elements.{All-cons, All-contains, All-head, All-nil, All-tail}
-use Rattle.bb_base.specs.Faults.{HasCause, Rose}
+use Rattle.bb_base.specs.Faults.{Rose}
 use Rattle.bb_base.specs.Folder.{FileMap, Folder, file_of}
 use Rattle.bb_base.specs.declared.files.FileFail.TheVariants.{Fault, TooLong, NoMemory}
 use Rattle.bb_chooser.specs.Binding.{Binding}
 use Rattle.bb_flash.specs.declared.plan.Plan.{Plan as StartPlan}
 use Rattle.bb_layout.specs.Results.{all_ok, result_and_then}
-use Rattle.bb_shell.specs.Plans.{IsPlanned, entries_of, is_file_fault, plan_by, plan_for, plans_by}
+use Rattle.bb_shell.specs.Plans.{IsPlanned, entries_of, plan_by, plan_for, plans_by}
 use Rattle.bb_shell.specs.declared.plan_fault.PlanFault.{PlanFault}
 use Rattle.bb_shell.specs.declared.plan_fault.PlanFault.TheVariants as plan_faults
 use Rattle.bb_tool.specs.Filing.{AreEntries, AreRead, IsAnswerFor}
-use Rattle.bb_tool.specs.Plan.{FileAnswer, plan_refusal, plans_in, refused_as}
+use Rattle.bb_tool.specs.Plan.{FileAnswer, plan_refusal, refused_as}
 use Rattle.bb_tool.specs.declared.refusal.Refusal.{Refusal}
 use Rattle.bb_tool.specs.declared.refusal.Refusal.TheVariants as refusals
 

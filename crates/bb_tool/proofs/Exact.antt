@@ -25,12 +25,11 @@ use Rattle.bb_flash.specs.Device.{Device, Told, content}
 use Rattle.bb_flash.specs.Image.{Image}
 use Rattle.bb_chooser.specs.Binding.{Binding}
 use Rattle.bb_chooser.specs.declared.cause.Cause.{Cause}
-use Rattle.bb_copies.specs.declared.answers.CopyFault.{CopyFault}
 use Rattle.bb_flash.specs.declared.plan.Plan.{Plan as StartPlan}
 use Rattle.bb_layout.specs.Layout.{Laid}
 use Rattle.bb_shell.specs.Boot.{Round, first_table, plan_at}
 use Rattle.bb_shell.specs.Running.{AreRun, IsRoundRun, is_refused, refusal_of}
-use Rattle.bb_shell.specs.Stages.{saves_of as tables_of, saving_rounds}
+use Rattle.bb_shell.specs.Stages.{saves_of as tables_of}
 use Rattle.bb_shell.proofs.Reached.{begun_saving, idle_saving, rounds_later}
 use Rattle.bb_shell.proofs.Starts.{round_later, start_content, start_later, unrefused as unrefused_round}
 use Rattle.bb_state.specs.State.{IsStored}

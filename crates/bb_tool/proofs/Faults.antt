@@ -22,11 +22,9 @@ use Rattle.bb_flash.proofs.Moments.{later_joined}
 use Rattle.bb_flash.specs.Cuts.{IsLater}
 use Rattle.bb_flash.specs.Device.{Device, content}
 use Rattle.bb_flash.specs.declared.plan.Plan.{Plan as StartPlan}
-use Rattle.bb_layout.specs.Layout.{Laid}
-use Rattle.bb_shell.specs.Boot.{Round, end_of, last_round, plan_at}
+use Rattle.bb_shell.specs.Boot.{Round, end_of, plan_at}
 use Rattle.bb_shell.specs.Running.{AreRun, IsRoundRun, IsSaveRun, IsTried, is_refused, refusal_of}
 use Rattle.bb_shell.specs.Stages.{saves_of as tables_of}
-use Rattle.bb_shell.specs.declared.outcome.Outcome.{Outcome}
 use Rattle.bb_shell.specs.declared.outcome.Outcome.TheVariants as outcomes
 use Rattle.bb_shell.proofs.Reached.{StopsRefused, begun_saving, idle_saving, stops_refused}
 use Rattle.bb_shell.proofs.Starts.{round_later, unrefused}
@@ -43,7 +41,7 @@ use Rattle.bb_tool.specs.Plan.{Act, Boot, Good, SessionPlan, Show, Work, Write, 
 use Rattle.bb_tool.specs.Ran.{Ran}
 use Rattle.bb_tool.specs.Refusal.{copy_refusal, status_of}
 use Rattle.bb_tool.specs.Session.{Answers, LoadAnswer, Session, barred, followed, loaded_area, saved, saves_behind, saves_of, text_of, worked}
-use Rattle.bb_tool.specs.Work.{AreSaved, IsBootWork, IsLoaded, IsLoadedAs, IsSaved, IsStoreWork, IsWorkOf, taken}
+use Rattle.bb_tool.specs.Work.{AreSaved, IsBootWork, IsLoaded, IsLoadedAs, IsStoreWork, IsWorkOf, taken}
 use Rattle.bb_tool.specs.WriteFault.{IsUsed, IsWanted, IsWriteFault}
 use Rattle.bb_tool.specs.declared.refusal.Refusal.{Refusal}
 use Rattle.bb_tool.specs.declared.refusal.Refusal.TheVariants as refusals

@@ -1,14 +1,13 @@
 -- Rounds of which none was refused and no start failed: they are those of answers without a fault.
-use Rattle.std.proofs.Common.{◌≡◌, ◌⊎◌, ℕ, zero, suc, ◌+◌, ◌≤◌, ◌&&◌, Bool, true, false, List, [], ◌∷◌, length, map, Option, Some, None, Ok, cond, refl, sym, ap, subst, ◌∙◌, inl, inr, arith}
+use Rattle.std.proofs.Common.{◌≡◌, ℕ, zero, suc, ◌+◌, ◌≤◌, Bool, true, false, List, [], ◌∷◌, length, map, Option, Some, None, Ok, cond, refl, sym, ap, subst, ◌∙◌, arith}
 use Rattle.std.specs.Option.{option_map_or}
-use Rattle.std.specs.Prelude.{⊤, MatchBool, count_by, replicate}
+use Rattle.std.specs.Prelude.{⊤, MatchBool, replicate}
 use Rattle.std.proofs.lemmas.List.Sums.{sum_by-cons}
 use Rattle.bb_base.specs.Faults.{Rose}
 use Rattle.bb_chooser.specs.Binding.{Binding}
 use Rattle.bb_copies.specs.Settling.{RoseBy}
-use Rattle.bb_copies.specs.declared.answers.CopyFault.{CopyFault}
 use Rattle.bb_flash.specs.declared.plan.Plan.{Plan as StartPlan}
-use Rattle.bb_shell.specs.Boot.{AreRounds, IsOutcome, IsRound, Round, end_by, end_of, is_retried, last_round, plan_at}
+use Rattle.bb_shell.specs.Boot.{AreRounds, IsOutcome, IsRound, Round, end_by, is_retried, last_round, plan_at}
 use Rattle.bb_shell.specs.Ends.{failed_starts, is_failed_start}
 use Rattle.bb_shell.specs.Rounds.{RoundAnswer, best_of, followed_by, outcome_by, round_by, rounds_by}
 use Rattle.bb_shell.specs.Running.{is_refused}
@@ -17,9 +16,9 @@ use Rattle.bb_shell.specs.declared.outcome.Outcome.{Outcome}
 use Rattle.bb_shell.specs.declared.outcome.Outcome.TheVariants as outcomes
 use Rattle.bb_shell.proofs.Answering.{best_is, best_none}
 use Rattle.bb_shell.proofs.Reached.{StopsRefused, stops_refused}
-use Rattle.bb_tool.specs.Booting.{SaveAnswer, end_refusal, round_answer}
-use Rattle.bb_tool.specs.Refusal.{copy_refusal, status_of}
-use Rattle.bb_tool.specs.Session.{Session, booted, ended_status}
+use Rattle.bb_tool.specs.Booting.{end_refusal, round_answer}
+use Rattle.bb_tool.specs.Refusal.{status_of}
+use Rattle.bb_tool.specs.Session.{booted, ended_status}
 use Rattle.bb_tool.specs.declared.status.Status.TheVariants as statuses
 use Rattle.bb_tool.proofs.Barred.{HasNoFault, fault_device, is_device_fault}
 use Rattle.bb_tool.proofs.BootTurns.{RefusedLast}

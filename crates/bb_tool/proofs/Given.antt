@@ -1,5 +1,5 @@
 -- What a session gave before anything was sent: each way in which its steps end, as answers of the file and the device.
-use Rattle.std.proofs.Common.{◌≡◌, ◌≢◌, ◌⊎◌, ℕ, ◌≤◌, List, [], All, Contains, Option, Some, None, IsOk, length, map, take, Result, Ok, Err, refl, sym, ap, subst, ◌∙◌, inl, inr, arith}
+use Rattle.std.proofs.Common.{◌≡◌, ◌≢◌, ◌⊎◌, ℕ, List, [], All, Contains, Option, Some, None, IsOk, length, map, take, Result, Ok, Err, refl, sym, ap, subst, ◌∙◌, inl, inr, arith}
 use Rattle.std.specs.List.{AllZip}
 use Rattle.std.specs.Option.{ForSome, option_map_or}
 use Rattle.std.specs.Result.{result_ok}

@@ -1,5 +1,5 @@
 -- What a session says of rounds and starts, from its work.
-use Rattle.std.proofs.Common.{◌≡◌, ◌≢◌, ◌⊎◌, ℕ, suc, Bool, true, false, List, [], ◌∷◌, ◌++◌, length, Option, Some, None, IsNone, IsSome, Result, Ok, Err, is_some, cond, refl, sym, ap, subst, ◌∙◌, inl, inr, arith}
+use Rattle.std.proofs.Common.{◌≡◌, ◌⊎◌, ℕ, true, false, List, [], ◌∷◌, ◌++◌, length, Option, Some, None, IsNone, IsSome, Result, Ok, Err, is_some, cond, refl, sym, ap, subst, ◌∙◌, inl, inr, arith}
 use Rattle.std.specs.Prelude.{unwrap_or}
 use Rattle.std.specs.Option.{ForSome, IsSomeAnd, option_and_then, option_map, option_map_or}
 use Rattle.std.proofs.lemmas.Option.{same_Some}
@@ -13,25 +13,23 @@ use Rattle.bb_flash.specs.Image.{Image}
 use Rattle.bb_flash.specs.Device.{Device, LeavesStarts, Start, Told, content, starts}
 use Rattle.bb_flash.specs.declared.plan.Plan.{Plan as StartPlan}
 use Rattle.bb_layout.specs.Layout.{Laid}
-use Rattle.bb_shell.specs.Boot.{Round, end_by, end_of, last_round, plan_at, table_after}
+use Rattle.bb_shell.specs.Boot.{Round, end_by, last_round, plan_at, table_after}
 use Rattle.bb_shell.specs.Ends.{AddsStarts, HasEndCause, StartsOnce, failed_starts, is_fault}
 use Rattle.bb_shell.specs.Rounds.{is_started}
-use Rattle.bb_shell.specs.declared.boot_end.BootEnd.{BootEnd}
 use Rattle.bb_shell.specs.declared.boot_end.BootEnd.TheVariants as ends
 use Rattle.bb_shell.specs.declared.outcome.Outcome.{Outcome}
 use Rattle.bb_shell.specs.declared.outcome.Outcome.TheVariants as outcomes
 use Rattle.bb_shell.proofs.Joins.{there}
 use Rattle.bb_state.specs.Kinds.{laid_passings}
 use Rattle.bb_tool.specs.Booting.{AreRoundsOf, SaveAnswer, boots, end_refusal, plans_of, start_in, start_of}
-use Rattle.bb_tool.specs.Calls.{IsAnswered, IsSession, MayAnswer, Tells, geometry_of, plan_for, session_for}
-use Rattle.bb_tool.specs.Copying.{EachWork}
+use Rattle.bb_tool.specs.Calls.{IsSession, MayAnswer, Tells, plan_for, session_for}
 use Rattle.bb_tool.specs.Ending.{IsFollowed}
 use Rattle.bb_tool.specs.Looking.{passed_in}
-use Rattle.bb_tool.specs.Plan.{Act, Boot, Good, SessionPlan, Show, Work, Write, planned}
+use Rattle.bb_tool.specs.Plan.{Act, Boot, Good, SessionPlan, Show, Work, Write}
 use Rattle.bb_tool.specs.Ran.{Ran}
 use Rattle.bb_tool.specs.Refusal.{copy_refusal, status_of}
-use Rattle.bb_tool.specs.Session.{Answers, LoadAnswer, Session, barred, ended_status, followed, loaded_area, saved, saves_behind, sent_of, text_of, unless_barred, worked, worked_on}
-use Rattle.bb_tool.specs.Starting.{AddsStart, CountsFailedStarts, IsUnplanned, KnowsStartFaults, NamesTheTarget, RunsRounds, StartsAtMostOne, StartsBehindSave, StartsTheLast}
+use Rattle.bb_tool.specs.Session.{Answers, LoadAnswer, Session, barred, followed, loaded_area, saved, saves_behind, sent_of, text_of, unless_barred, worked, worked_on}
+use Rattle.bb_tool.specs.Starting.{AddsStart, CountsFailedStarts, KnowsStartFaults, NamesTheTarget, RunsRounds, StartsAtMostOne, StartsBehindSave, StartsTheLast}
 use Rattle.bb_tool.specs.Turns.{first_area}
 use Rattle.bb_tool.specs.Work.{IsBootWork, IsLoadedAs, IsStoreWork, IsWork, IsWorkOf}
 use Rattle.bb_tool.specs.declared.refusal.Refusal.{Refusal}

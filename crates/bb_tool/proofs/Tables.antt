@@ -26,12 +26,12 @@ use Rattle.bb_tool.specs.Plan.{Act, Boot, Good, SessionPlan, Show, Work, Write, 
 use Rattle.bb_tool.specs.Ran.{Ran}
 use Rattle.bb_tool.specs.Refusal.{copy_refusal, status_of}
 use Rattle.bb_tool.specs.Session.{Answers, LoadAnswer, Session, barred, barred_behind, ended_status, followed, load_for, loaded_area, saved, saves_behind, text_of, unless_barred, worked, worked_on}
-use Rattle.bb_tool.specs.Work.{IsBootWork, IsLoadedAs, IsStoreWork, IsWork, IsWorkOf}
+use Rattle.bb_tool.specs.Work.{IsLoadedAs, IsWork, IsWorkOf}
 use Rattle.bb_tool.specs.declared.refusal.Refusal.{Refusal}
 use Rattle.bb_tool.specs.declared.refusal.Refusal.TheVariants as refusals
 use Rattle.bb_tool.specs.declared.status.Status.{Status}
 use Rattle.bb_tool.specs.declared.status.Status.TheVariants as statuses
-use Rattle.bb_tool.proofs.Barred.{barred_session, fault_device, is_device_fault, stored_on}
+use Rattle.bb_tool.proofs.Barred.{barred_session, stored_on}
 use Rattle.bb_tool.proofs.Booted.{boot_is, later_last}
 use Rattle.bb_tool.proofs.Endings.{own_answer, plan_ends}
 use Rattle.bb_tool.proofs.Kept.{load_found}

@@ -22,7 +22,7 @@ use Rattle.bb_state.specs.Kinds.{laid_kinds}
 use Rattle.bb_tool.specs.Looking.{IsQuiet, passed_in}
 use Rattle.bb_tool.specs.Booting.{SaveAnswer, boots, target_started}
 use Rattle.bb_tool.specs.Plan.{Act, Boot, Good, SessionPlan, Show, Work, Write}
-use Rattle.bb_tool.specs.Session.{LoadAnswer, Session, barred, loaded_area, saved, saves_behind, text_of, worked}
+use Rattle.bb_tool.specs.Session.{LoadAnswer, Session, barred, loaded_area, saved, saves_behind, text_of}
 use Rattle.bb_tool.specs.Turns.{EachStanding, HasTrail, HasTrails, IsFairRun, LeadsOn, LeadsTo, boot_turn, first_area, load_turn, made_of, work_turn}
 use Rattle.bb_tool.specs.Work.{AreSaved, IsBootWork, IsLoaded, IsSaved, IsStoreWork, IsWork, IsWorkOf}
 use Rattle.bb_tool.proofs.Copies.{given, load_stays, loads_in_order, saves_in_order, since_entry, since_load, stored_stands}

@@ -6,7 +6,7 @@ use Rattle.bb_chooser.specs.Binding.{Binding}
 use Rattle.bb_chooser.specs.declared.cause.Cause.{Cause}
 use Rattle.bb_copies.specs.declared.answers.CopyFault.{CopyFault}
 use Rattle.bb_flash.specs.declared.plan.Plan.{Plan as StartPlan}
-use Rattle.bb_shell.specs.Boot.{AreRounds, Round, end_of, first_table, last_round, plan_at}
+use Rattle.bb_shell.specs.Boot.{AreRounds, Round, first_table, last_round, plan_at}
 use Rattle.bb_shell.specs.Rounds.{RoundAnswer, best_of, is_started, rounds_by}
 use Rattle.bb_shell.specs.declared.boot_end.BootEnd.{BootEnd}
 use Rattle.bb_shell.specs.declared.boot_end.BootEnd.TheVariants as ends

@@ -1,5 +1,5 @@
 -- What files and a device may have answered to a session, and what it gave before anything was sent.
-use Rattle.std.specs.Prelude.{◌≡◌, ◌⊎◌, ℕ, List, None, Result, Ok, Err}
+use Rattle.std.specs.Prelude.{◌≡◌, ◌⊎◌, ℕ, List, Result, Ok, Err}
 use Rattle.bb_base.specs.Folder.{Folder}
 use Rattle.bb_flash.specs.Device.{Device}
 use Rattle.bb_tool.specs.Filing.{IsFiled}

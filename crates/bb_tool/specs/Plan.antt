@@ -1,6 +1,6 @@
 -- What a session is to do on the device, or why it is refused before: a function of its words, of the device's geometry,
 -- and of what reading the files gave that the words name.
-use Rattle.std.specs.Prelude.{ℕ, Bool, is_some, List, [], map, Option, Some, None, Result, Ok, Err, option_and_then, slice_get, unwrap_or}
+use Rattle.std.specs.Prelude.{ℕ, Bool, is_some, List, [], map, Option, Some, None, Result, Ok, Err, slice_get, unwrap_or}
 use Rattle.std.specs.Option.{option_map_or}
 use Rattle.std.specs.Result.{result_ok}
 use Rattle.bb_actions.specs.Actions.{misfit_of}
@@ -8,7 +8,7 @@ use Rattle.bb_base.specs.Folder.{FileMap, file_of}
 use Rattle.bb_base.specs.declared.files.FileFail.{FileFail}
 use Rattle.bb_base.specs.declared.files.FileFail.TheVariants as file_fails
 use Rattle.bb_chooser.specs.Binding.{Binding, bind_from}
-use Rattle.bb_chooser.specs.Settings.{Configuration, settings_of}
+use Rattle.bb_chooser.specs.Settings.{settings_of}
 use Rattle.bb_chooser.specs.declared.cause.Cause.{Cause}
 use Rattle.bb_chooser.specs.declared.cause.Cause.TheVariants.{PowerOn, Reset, Other}
 use Rattle.bb_chooser.specs.declared.settings_error.SettingsError.{SettingsError}

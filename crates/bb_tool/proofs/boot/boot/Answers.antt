@@ -1,4 +1,4 @@
-use Rattle.std.proofs.Common.{◌∙◌, ℕ, List, Result, Ok, Err, ap, refl, sym, subst, inl, inr}
+use Rattle.std.proofs.Common.{◌∙◌, Result, Ok, Err, ap, refl, sym, subst, inl, inr}
 use Rattle.std.proofs.lemmas.Result.{err_from_is_err_and}
 use Rattle.bb_chooser.specs.declared.cause.Cause.{Cause}
 use Rattle.bb_layout.specs.Layout.{laid}

@@ -1,4 +1,4 @@
-use Rattle.std.proofs.Common.{◌∙◌, List, ℕ, Result, Err, ap, sym, subst}
+use Rattle.std.proofs.Common.{◌∙◌, Result, Err, ap, sym, subst}
 use Rattle.std.proofs.lemmas.Result.{err_from_is_err_and}
 use Rattle.bb_tool.specs.Ending.{IsGiven}
 use Rattle.bb_tool.specs.declared.refusal.Refusal.{Refusal}
