@@ -99,9 +99,10 @@ weaker_trail : (S T : ℕ → List (Option (List ℕ)) → Type 0) (now : ℕ) (
     ((when : ℕ) (passed : List (Option (List ℕ))) → T when passed → S when passed) →
     IsTrail S now first trail → IsTrail T now first trail
 weaker_trail S T now first [] same h = tt
-weaker_trail S T now first (milestone ∷ later) same h =
-    (λ when is. record { past = (h.0 when is).past; images = λ passed counted. (h.0 when is).images passed (same when passed counted) },
-    weaker_trail S T now first later same h.1)
+weaker_trail S T now first (milestone ∷ later) same h = (
+  λ when is. record { past = (h.0 when is).past; images = λ passed counted. (h.0 when is).images passed (same when passed counted) },
+  weaker_trail S T now first later same h.1,
+)
 
 -- ---- behind a load that answered Ok
 

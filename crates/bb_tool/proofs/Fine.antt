@@ -32,9 +32,10 @@ AllSaved (round ∷ later) = (is_refused round.outcome ≡ false) × AllSaved la
 
 none_refused : (rounds : List Round) → StopsRefused rounds → (RefusedLast rounds → ⊥) → AllSaved rounds
 none_refused [] stops none = tt
-none_refused (round ∷ later) stops none =
-    (by (is_refused round.outcome) refl,
-    none_refused later stops.1 (λ last. none (last.0, (last_behind round later last.0 last.1.0, last.1.1))))
+none_refused (round ∷ later) stops none = (
+  by (is_refused round.outcome) refl,
+  none_refused later stops.1 (λ last. none (last.0, (last_behind round later last.0 last.1.0, last.1.1))),
+)
   where
     alone : (l : List Round) → l ≡ [] → last_round (round ∷ l) ≡ Some round
     alone [] e = refl

@@ -262,7 +262,6 @@ words_refused (Ok (State command)) geometry files refused =
 words_refused (Ok (MarkGood command)) geometry files refused =
     absurd (unlike statuses.BadWords (mark_plan command geometry (files.named Tree) (files.named Settings))
     (mark_all OtherThanWords words_texts words_files command geometry (files.named Tree) (files.named Settings)) refused)
-
 words_refused (Ok (BootWords command)) geometry files refused =
     absurd (unlike statuses.BadWords (boot_plan command geometry (files.named Tree) (files.named Settings) files.entries)
     (boot_all OtherThanWords words_texts words_files command geometry (files.named Tree) (files.named Settings) files.entries) refused)

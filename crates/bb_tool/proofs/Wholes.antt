@@ -202,9 +202,9 @@ session_told words folder folder' before after answers answered calm files known
       | inl same ↦ session_same words folder folder' before after answers answered files same image told whole started
       | inr odd ↦ elim odd [
         | inl faulty ↦ absurd (calm (elim (faulty_words words before.geometry answers.files (words_of words) refl faulty) [
-            | inl named ↦ answered.filed.cause named.role named.name named.named named.fault
-            | inr entry ↦ answered.filed.entry_cause entry
-          ]))
+          | inl named ↦ answered.filed.cause named.role named.name named.named named.fault
+          | inr entry ↦ answered.filed.entry_cause entry
+        ]))
         | inr memory ↦ inr (ap (λ (p : Result SessionPlan Refusal). followed p answers) memory)
       ]
     ]
