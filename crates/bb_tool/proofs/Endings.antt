@@ -542,13 +542,16 @@ read_told layout from to faults.ReadFault h tells = tells.1
 read_told layout from to (faults.WriteFault copy) h tells = absurd cc
 read_told layout from to faults.Unsure h tells = absurd tells
 
+read_fault_told : (layout : Laid) (from to : Device) (refusal : Refusal) → status_of refusal ≡ statuses.ReadFault → IsFault layout from to refusal → Rose from.read_faults to.read_faults
+read_fault_told layout from to refusal status fault = read_told layout from to fault.fault (ap status_of (sym fault.is) ∙ status) fault.tells
+
 pub read_fault_of : (ran : Ran) → IsSession ran → ran.before.device.read_faults ≤ ran.after.device.read_faults → ComesByReads statuses.ReadFault ran
 read_fault_of ran s later = record {
   later = later;
   rose = λ e.
       let own = own_answer ran statuses.ReadFault s (λ h. cc) (λ h. cc) e in
       let fault = faulted ran statuses.ReadFault (λ h. cc) refl own (plan_refusal statuses.ReadFault refl (words_of ran.words) (geometry_of ran) own.ending.answers.files) in
-      read_told fault.planned_as.layout ran.before.device ran.after.device fault.fault.fault (ap status_of (sym fault.fault.is) ∙ fault.status_is) fault.fault.tells;
+      read_fault_told fault.planned_as.layout ran.before.device ran.after.device fault.refusal fault.status_is fault.fault;
 }
 
 -- the copy that a write fault names
