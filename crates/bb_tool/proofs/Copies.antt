@@ -57,7 +57,7 @@ module _ (layout : Laid) (from mid : Device) (first middle : Told) (e : from.tol
 
   module _ (used : Option ℕ) (found : Option (List ℕ))
       (gave : IsLoadedAs layout used from mid found) where
-    loaded_to : (x y : Image) → content from ≡ Some x → content mid ≡ Some y →
+    pub loaded_to : (x y : Image) → content from ≡ Some x → content mid ≡ Some y →
         LoadedTo layout page used x y
     loaded_to x y at_x at_y =
         let left = load_left layout gave.area gave.loaded from mid x y gave.gave at_x at_y in

@@ -1,41 +1,49 @@
 -- What a session gave before anything was sent: each way in which its steps end, as answers of the file and the device.
-use Rattle.std.proofs.Common.{◌≡◌, ◌≢◌, ◌⊎◌, ℕ, List, [], None, Result, Ok, Err, refl, sym, ap, subst, ◌∙◌, inl, inr}
-use Rattle.std.specs.Option.{ForSome}
+use Rattle.std.proofs.Common.{◌≡◌, ◌≢◌, ◌⊎◌, ℕ, List, [], All, Contains, Option, Some, None, IsOk, length, map, take, Result, Ok, Err, refl, sym, ap, subst, ◌∙◌, inl, inr, arith}
+use Rattle.std.specs.List.{AllZip}
+use Rattle.std.specs.Option.{ForSome, option_map_or}
+use Rattle.std.specs.Result.{result_ok}
 use Rattle.bb_base.specs.Faults.{Rose}
 use Rattle.bb_base.specs.Folder.{Folder, file_of}
 use Rattle.bb_base.specs.declared.files.FileFail.TheVariants.{Fault, NoMemory as FileMemory}
 use Rattle.bb_chooser.specs.Binding.{Binding}
 use Rattle.bb_flash.specs.Device.{Device}
+use Rattle.bb_flash.specs.declared.geometry.Geometry.{Geometry}
+use Rattle.bb_flash.specs.declared.plan.Plan.{Plan as StartPlan}
 use Rattle.bb_layout.specs.Layout.{Laid}
+use Rattle.bb_layout.specs.Results.{result_and_then}
 use Rattle.bb_layout.specs.Thirds.{raw_layout}
 use Rattle.bb_layout.specs.declared.layout_error.LayoutError.{LayoutError}
 use Rattle.bb_layout.specs.declared.layout_error.LayoutError.TheVariants as layout_errors
+use Rattle.bb_shell.specs.Plans.{entries_of}
 use Rattle.bb_words.specs.Answer.{Refuses}
 use Rattle.bb_words.specs.Words.{words_of}
 use Rattle.bb_words.specs.declared.command.Command.{Command}
-use Rattle.bb_words.specs.declared.command.Command.TheVariants.{Raw, State, MarkGood}
+use Rattle.bb_words.specs.declared.command.BootCommand.{BootCommand}
+use Rattle.bb_words.specs.declared.command.Command.TheVariants.{Raw, State, MarkGood, Boot as BootWords}
 use Rattle.bb_words.specs.declared.command.MarkGoodCommand.{MarkGoodCommand}
 use Rattle.bb_words.specs.declared.command.RawCommand.{RawCommand}
 use Rattle.bb_words.specs.declared.command.StateCommand.{StateCommand}
 use Rattle.bb_words.specs.declared.error.WordsError.{WordsError}
 use Rattle.bb_words.specs.declared.error.WordsError.TheVariants.{BadWord, NoMemory}
 use Rattle.bb_tool.specs.Ending.{IsAnswer, IsFollowed, IsGiven}
-use Rattle.bb_tool.specs.Filing.{IsAnswerFor, IsFiled, IsFileRead, IsFolderLater}
-use Rattle.bb_tool.specs.Plan.{Act, FileAnswer, FileAnswers, Good, Plan, Role, Settings, Tree, Work, mark_plan, name_for, plan_of, planned, raw_laid, raw_work, state_plan}
+use Rattle.bb_tool.specs.Filing.{AreEntries, AreRead, EachNamed, IsAnswerFor, IsFiled, IsFileRead, IsFolderLater, entries_named}
+use Rattle.bb_tool.specs.Plan.{Act, Boot, FileAnswer, FileAnswers, Good, SessionPlan, Role, Settings, Tree, Work, binding_in, boot_bound, boot_laid, boot_plan, cause_of, entries_for, layout_in, mark_plan, name_for, plan_of, planned, plans_in, raw_laid, raw_work, state_plan}
 use Rattle.bb_tool.specs.Refusal.{layout_refusal, words_refusal}
 use Rattle.bb_tool.specs.Session.{Answers, followed}
-use Rattle.bb_tool.specs.Work.{Gives, IsWorkedOut}
+use Rattle.bb_tool.specs.Work.{Gives, IsWorkedOut, SendsByMemory}
 use Rattle.bb_tool.specs.declared.refusal.Refusal.{Refusal}
 use Rattle.bb_tool.specs.declared.refusal.Refusal.TheVariants as refusals
+use Rattle.bb_tool.specs.declared.report.Report.{Report}
 use Rattle.bb_tool.proofs.Endings.{rose_from, rose_on}
-use Rattle.bb_tool.proofs.Plans.{each_of_mark, each_of_state}
+use Rattle.bb_tool.proofs.Plans.{each_of_boot, each_of_mark, each_of_state}
 
 no_answers : FileAnswers → Answers
 no_answers files = record { files = files; load = Ok None; saves = [] }
 
 -- nothing was asked of the device, since the plan was refused
 given_refused : (words : List (List ℕ)) (folder folder' : Folder) (files : FileAnswers) (device : Device)
-    (refusal : Refusal) → IsFiled words folder folder' files →
+    (refusal : Refusal) → IsFiled words device.geometry folder folder' files →
     planned words device.geometry files ≡ Err refusal →
     IsAnswer words folder folder' device device (Err refusal)
 unfolding no_answers
@@ -46,28 +54,47 @@ given_refused words folder folder' files device refusal filed refused =
       answered = record {
         filed = filed;
         followed =
-            subst (λ (p : Result Plan Refusal). IsFollowed p device device answers) (sym refused)
+            subst (λ (p : Result SessionPlan Refusal). IsFollowed p device device answers) (sym refused)
             refl;
       };
       gives =
-          subst (λ (p : Result Plan Refusal). Gives (followed p answers) (Err refusal))
+          subst (λ (p : Result SessionPlan Refusal). Gives (followed p answers) (Err refusal))
           (sym refused) (refl, refl);
     }
 
--- words that name no file
-unnamed : Role → FileAnswer
-unnamed role = Ok None
-
-no_file : (words : List (List ℕ)) (folder : Folder) (files : FileAnswers) →
-    ((role : Role) → name_for (words_of words) role ≡ None) → IsFiled words folder folder files
-no_file words folder files none = record {
-  told = λ role name is. absurd (let e = sym (none role) ∙ is in cc);
-  cause = λ role name is. absurd (let e = sym (none role) ∙ is in cc);
-  calm = λ each. refl;
+-- where no entry is come to
+none_of : (names : List (List ℕ)) (folder : Folder) → names ≡ [] → AreEntries names folder []
+none_of names folder none = record {
+  told = λ files told. tt;
+  most = omega arith;
+  whole = λ all. sym (ap length none);
 }
 
+no_fault : {X : Type 0} (answer : FileAnswer) → Contains {X = FileAnswer} [] answer → X
+no_fault answer at = absurd (let inside = at.1 in omega (arith, inside))
+
+-- words that name no file
+unnamed : FileAnswers
+unnamed = record { named = λ role. Ok None; entries = [] }
+
+no_file : (words : List (List ℕ)) (geometry : Geometry) (folder : Folder) (command : Result Command ℕ) → words_of words ≡ command →
+    ((role : Role) → name_for command role ≡ None) → entries_for command geometry unnamed.named ≡ [] →
+    IsFiled words geometry folder folder unnamed
+unfolding unnamed
+no_file words geometry folder command is none no_entries =
+    let nowhere : (role : Role) → name_for (words_of words) role ≡ None = λ role. ap (λ (w : Result Command ℕ). name_for w role) is ∙ none role in
+    record {
+      told = λ role name named. absurd (let e = sym (nowhere role) ∙ named in cc);
+      cause = λ role name named. absurd (let e = sym (nowhere role) ∙ named in cc);
+      entries =
+          none_of (entries_named words geometry unnamed) folder
+          (ap (λ (w : Result Command ℕ). entries_for w geometry unnamed.named) is ∙ no_entries);
+      entry_cause = λ at. no_fault (Err Fault) at;
+      calm = λ each all. refl;
+    }
+
 no_memory : (words : List (List ℕ)) (folder folder' : Folder) (device : Device)
-    (given : Result (List ℕ) Refusal) → given ≡ Err refusals.NoMemory →
+    (given : Result Report Refusal) → given ≡ Err refusals.NoMemory →
     IsGiven words folder folder' device device given
 no_memory words folder folder' device given is = inr (inr (record { is = is; unasked = refl }))
 
@@ -77,15 +104,15 @@ pub given_words : (words : List (List ℕ)) (folder : Folder) (device : Device) 
     IsGiven words folder folder device device (Err (words_refusal error))
 given_words words folder device (BadWord place) refused =
     inl (given_refused words folder folder unnamed device (refusals.BadWords place)
-    (no_file words folder unnamed (λ role. ap (λ (w : Result Command ℕ). name_for w role) refused))
+    (no_file words device.geometry folder (Err place) refused (λ role. refl) refl)
     (ap (λ (w : Result Command ℕ). plan_of w device.geometry unnamed) refused))
 given_words words folder device NoMemory refused =
     no_memory words folder folder device (Err refusals.NoMemory) refl
 
-raw_no_file : (words : List (List ℕ)) (folder : Folder) (command : RawCommand) →
-    words_of words ≡ Ok (Raw command) → IsFiled words folder folder unnamed
-raw_no_file words folder command is =
-    no_file words folder unnamed (λ role. ap (λ (w : Result Command ℕ). name_for w role) is)
+raw_no_file : (words : List (List ℕ)) (geometry : Geometry) (folder : Folder) (command : RawCommand) →
+    words_of words ≡ Ok (Raw command) → IsFiled words geometry folder folder unnamed
+raw_no_file words geometry folder command is =
+    no_file words geometry folder (Ok (Raw command)) is (λ role. refl) refl
 
 -- a layout is refused with its own refusal, or memory is
 layout_cases : (e : LayoutError) →
@@ -119,15 +146,15 @@ given_layout words folder device command e is refused = elim (layout_cases e) [
       inl
       (subst (λ (r : Refusal). IsAnswer words folder folder device device (Err r)) (sym other.1)
       (given_refused words folder folder unnamed device (refusals.BadLayout e)
-      (raw_no_file words folder command is)
+      (raw_no_file words device.geometry folder command is)
       (ap (λ (w : Result Command ℕ). plan_of w device.geometry unnamed) is
       ∙ ap (raw_laid command) (refused other.0))))
 ]
 
 -- the work of a plan was done, or memory was refused before it or behind it
 given_worked : (words : List (List ℕ)) (folder folder' : Folder) (files : FileAnswers)
-    (before after : Device) (layout : Laid) (work : Work) (given : Result (List ℕ) Refusal) →
-    IsFiled words folder folder' files →
+    (before after : Device) (layout : Laid) (work : Work) (given : Result Report Refusal) →
+    IsFiled words before.geometry folder folder' files →
     planned words before.geometry files ≡ Ok (record { layout = layout; work = work }) →
     IsWorkedOut layout work before after given → IsGiven words folder folder' before after given
 given_worked words folder folder' files before after layout work given filed is (inl done) =
@@ -137,11 +164,11 @@ given_worked words folder folder' files before after layout work given filed is 
       answered = record {
         filed = filed;
         followed =
-            subst (λ (p : Result Plan Refusal). IsFollowed p before after answers) (sym is)
+            subst (λ (p : Result SessionPlan Refusal). IsFollowed p before after answers) (sym is)
             done.work;
       };
       gives =
-          subst (λ (p : Result Plan Refusal). Gives (followed p answers) given) (sym is) done.gives;
+          subst (λ (p : Result SessionPlan Refusal). Gives (followed p answers) given) (sym is) done.gives;
     })
 given_worked words folder folder' files before after layout work given filed is (inr (inl text)) =
     let answers : Answers = record { files = files; load = text.load; saves = text.saves } in
@@ -150,11 +177,11 @@ given_worked words folder folder' files before after layout work given filed is 
       answered = record {
         filed = filed;
         followed =
-            subst (λ (p : Result Plan Refusal). IsFollowed p before after answers) (sym is)
+            subst (λ (p : Result SessionPlan Refusal). IsFollowed p before after answers) (sym is)
             text.work;
       };
       whole =
-          ap (λ (p : Result Plan Refusal). (followed p answers).refusal) is ∙ text.whole;
+          subst (λ (p : Result SessionPlan Refusal). SendsByMemory (followed p answers).refusal) (sym is) text.whole;
       is = text.is;
     }))
 given_worked words folder folder' files before after layout work given filed is (inr (inr memory)) =
@@ -162,13 +189,13 @@ given_worked words folder folder' files before after layout work given filed is 
 
 -- the work of `raw` was done
 pub given_raw : (words : List (List ℕ)) (folder : Folder) (before after : Device)
-    (command : RawCommand) (layout : Laid) (work : Work) (given : Result (List ℕ) Refusal) →
+    (command : RawCommand) (layout : Laid) (work : Work) (given : Result Report Refusal) →
     words_of words ≡ Ok (Raw command) → raw_work command.action ≡ work →
     raw_layout command.magic command.area_len before.geometry ≡ Ok layout →
     IsWorkedOut layout work before after given → IsGiven words folder folder before after given
 given_raw words folder before after command layout work given is action laid worked =
     given_worked words folder folder unnamed before after layout work given
-    (raw_no_file words folder command is)
+    (raw_no_file words before.geometry folder command is)
     (ap (λ (w : Result Command ℕ). plan_of w before.geometry unnamed) is
     ∙ ap (raw_laid command) laid
     ∙ ap (λ (w : Work). Ok (record { layout = layout; work = w })) action)
@@ -176,17 +203,25 @@ given_raw words folder before after command layout work given is action laid wor
 
 -- ---- commands that read files
 
-state_filed : (words : List (List ℕ)) (folder folder' : Folder) (command : StateCommand)
+-- these files, and no entry
+abbrev files_alone : (Role → FileAnswer) → FileAnswers
+files_alone named = record { named = named; entries = [] }
+
+state_filed : (words : List (List ℕ)) (geometry : Geometry) (folder folder' : Folder) (command : StateCommand)
     (tree : FileAnswer) → words_of words ≡ Ok (State command) →
-    IsFileRead command.file folder folder' tree → IsFiled words folder folder' (λ role. tree)
-state_filed words folder folder' command tree is read = record {
+    IsFileRead command.file folder folder' tree → IsFiled words geometry folder folder' (files_alone (λ role. tree))
+state_filed words geometry folder folder' command tree is read = record {
   told =
       each_of_state words command is
       (λ role name. ForSome folder.told (λ files. IsAnswerFor tree (file_of files name))) read.told;
   cause =
       each_of_state words command is
       (λ role name. tree ≡ Err Fault → Rose folder.faults folder'.faults) read.cause;
-  calm = λ each. read.calm (each Tree command.file (ap (λ (w : Result Command ℕ). name_for w Tree) is));
+  entries =
+      none_of (entries_named words geometry (files_alone (λ role. tree))) folder
+      (ap (λ (w : Result Command ℕ). entries_for w geometry (λ role. tree)) is);
+  entry_cause = λ at. no_fault (Err Fault) at;
+  calm = λ each all. read.calm (each Tree command.file (ap (λ (w : Result Command ℕ). name_for w Tree) is));
 }
 
 -- the file, its tree, its layout or a variable was refused
@@ -197,77 +232,111 @@ pub given_state_refused : (words : List (List ℕ)) (folder folder' : Folder) (d
     IsGiven words folder folder' device device (Err refusal)
 given_state_refused words folder folder' device command tree refusal is read refused =
     inl
-    (given_refused words folder folder' (λ role. tree) device refusal
-    (state_filed words folder folder' command tree is read)
-    (ap (λ (w : Result Command ℕ). plan_of w device.geometry (λ role. tree)) is ∙ refused))
+    (given_refused words folder folder' (files_alone (λ role. tree)) device refusal
+    (state_filed words device.geometry folder folder' command tree is read)
+    (ap (λ (w : Result Command ℕ). plan_of w device.geometry (files_alone (λ role. tree))) is ∙ refused))
 
 -- the actions of `state` were done
 pub given_acted : (words : List (List ℕ)) (folder folder' : Folder) (before after : Device)
-    (command : StateCommand) (tree : FileAnswer) (layout : Laid) (given : Result (List ℕ) Refusal) →
+    (command : StateCommand) (tree : FileAnswer) (layout : Laid) (given : Result Report Refusal) →
     words_of words ≡ Ok (State command) → IsFileRead command.file folder folder' tree →
     state_plan command before.geometry tree
     ≡ Ok (record { layout = layout; work = Act command.actions }) →
     IsWorkedOut layout (Act command.actions) before after given →
     IsGiven words folder folder' before after given
 given_acted words folder folder' before after command tree layout given is read plans worked =
-    given_worked words folder folder' (λ role. tree) before after layout (Act command.actions) given
-    (state_filed words folder folder' command tree is read)
-    (ap (λ (w : Result Command ℕ). plan_of w before.geometry (λ role. tree)) is ∙ plans) worked
+    given_worked words folder folder' (files_alone (λ role. tree)) before after layout (Act command.actions) given
+    (state_filed words before.geometry folder folder' command tree is read)
+    (ap (λ (w : Result Command ℕ). plan_of w before.geometry (files_alone (λ role. tree))) is ∙ plans) worked
 
--- the devicetree and the settings were read
+-- ---- commands that read the devicetree, the settings and entries
+
 both_read : FileAnswer → FileAnswer → Role → FileAnswer
 both_read tree settings Tree = tree
 both_read tree settings Settings = settings
 
-module _ (words : List (List ℕ)) (command : MarkGoodCommand)
-    (is : words_of words ≡ Ok (MarkGood command)) where
-  named_so : (role : Role) →
-      name_for (words_of words) role ≡ name_for (Ok (MarkGood command)) role
-  named_so role = ap (λ (w : Result Command ℕ). name_for w role) is
+-- with these entries
+abbrev all_read : FileAnswer → FileAnswer → List FileAnswer → FileAnswers
+all_read tree settings entries = record { named = both_read tree settings; entries = entries }
 
+module _ (words : List (List ℕ)) (geometry : Geometry) (file second_file : List ℕ)
+    (each_of : (P : Role → List ℕ → Type 0) → P Tree file → P Settings second_file → EachNamed words P)
+    (tree_named : name_for (words_of words) Tree ≡ Some file)
+    (settings_named : name_for (words_of words) Settings ≡ Some second_file) where
+  -- the devicetree alone was read
   unset_filed : (folder folder' : Folder) (tree : FileAnswer) →
-      IsFileRead command.file folder folder' tree →
-      IsFiled words folder folder' (both_read tree (Err FileMemory))
+      entries_named words geometry (all_read tree (Err FileMemory) []) ≡ [] → IsFileRead file folder folder' tree →
+      IsFiled words geometry folder folder' (all_read tree (Err FileMemory) [])
   unfolding both_read
-  unset_filed folder folder' tree read = record {
+  unset_filed folder folder' tree none read = record {
     told =
-        each_of_mark words command is
+        each_of
         (λ role name.
         ForSome folder.told
         (λ files. IsAnswerFor (both_read tree (Err FileMemory) role) (file_of files name)))
         read.told (λ files told. tt);
     cause =
-        each_of_mark words command is
+        each_of
         (λ role name.
         both_read tree (Err FileMemory) role ≡ Err Fault → Rose folder.faults folder'.faults)
         read.cause (λ e. absurd cc);
-    calm = λ each. absurd (let h = each Settings command.settings (named_so Settings) in cc);
+    entries = none_of (entries_named words geometry (all_read tree (Err FileMemory) [])) folder none;
+    entry_cause = λ at. no_fault (Err Fault) at;
+    calm = λ each all. absurd (let h = each Settings second_file settings_named in cc);
   }
 
-  set_filed : (folder mid folder' : Folder) (tree settings : FileAnswer) →
-      IsFileRead command.file folder mid tree → IsFolderLater folder mid →
-      IsFileRead command.settings mid folder' settings → IsFolderLater mid folder' →
-      IsFiled words folder folder' (both_read tree settings)
-  unfolding both_read
-  set_filed folder mid folder' tree settings first early second late = record {
-    told =
-        each_of_mark words command is
-        (λ role name.
-        ForSome folder.told
-        (λ files. IsAnswerFor (both_read tree settings role) (file_of files name)))
-        first.told
-        (subst (λ t. ForSome t (λ files. IsAnswerFor settings (file_of files command.settings)))
-        early.told second.told);
-    cause =
-        each_of_mark words command is
-        (λ role name.
-        both_read tree settings role ≡ Err Fault → Rose folder.faults folder'.faults)
-        (λ e. rose_on folder.faults mid.faults folder'.faults (first.cause e) late.faults)
-        (λ e. rose_from folder.faults mid.faults folder'.faults early.faults (second.cause e));
-    calm = λ each.
-        second.calm (each Settings command.settings (named_so Settings))
-        ∙ first.calm (each Tree command.file (named_so Tree));
-  }
+  module _ (folder mid late : Folder) (tree settings : FileAnswer) (first : IsFileRead file folder mid tree)
+      (early : IsFolderLater folder mid) (second : IsFileRead second_file mid late settings) (behind : IsFolderLater mid late) where
+    -- and these entries behind it
+    set_filed : (last : Folder) (entries : List FileAnswer) → IsFolderLater late last →
+        AreEntries (entries_named words geometry (all_read tree settings entries)) folder entries →
+        (Contains entries (Err Fault) → Rose late.faults last.faults) →
+        (All IsOk entries → last.faults ≡ late.faults) →
+        IsFiled words geometry folder last (all_read tree settings entries)
+    unfolding both_read
+    set_filed last entries end are cause calm = record {
+      told =
+          each_of
+          (λ role name.
+          ForSome folder.told
+          (λ files. IsAnswerFor (both_read tree settings role) (file_of files name)))
+          first.told
+          (subst (λ t. ForSome t (λ files. IsAnswerFor settings (file_of files second_file)))
+          early.told second.told);
+      cause =
+          each_of
+          (λ role name.
+          both_read tree settings role ≡ Err Fault → Rose folder.faults last.faults)
+          (λ e. rose_on folder.faults late.faults last.faults
+          (rose_on folder.faults mid.faults late.faults (first.cause e) behind.faults) end.faults)
+          (λ e. rose_on folder.faults late.faults last.faults
+          (rose_from folder.faults mid.faults late.faults early.faults (second.cause e)) end.faults);
+      entries = are;
+      entry_cause = λ at.
+          rose_from folder.faults mid.faults last.faults early.faults
+          (rose_from mid.faults late.faults last.faults behind.faults (cause at));
+      calm = λ each all.
+          calm all ∙ second.calm (each Settings second_file settings_named)
+          ∙ first.calm (each Tree file tree_named);
+    }
+
+    -- no entry was come to
+    alone_filed : entries_named words geometry (all_read tree settings []) ≡ [] →
+        IsFiled words geometry folder late (all_read tree settings [])
+    alone_filed none =
+        set_filed late [] (record { told = refl; faults = omega arith })
+        (none_of (entries_named words geometry (all_read tree settings [])) folder none)
+        (λ at. no_fault (Err Fault) at) (λ all. refl)
+
+-- ---- `mark-good`
+
+module _ (words : List (List ℕ)) (command : MarkGoodCommand)
+    (is : words_of words ≡ Ok (MarkGood command)) where
+  mark_named : (role : Role) → name_for (words_of words) role ≡ name_for (Ok (MarkGood command)) role
+  mark_named role = ap (λ (w : Result Command ℕ). name_for w role) is
+
+  mark_none : (geometry : Geometry) (named : Role → FileAnswer) → entries_for (words_of words) geometry named ≡ []
+  mark_none geometry named = ap (λ (w : Result Command ℕ). entries_for w geometry named) is
 
   -- the file of the state was refused, its tree or its layout
   pub given_unset : (folder folder' : Folder) (device : Device) (tree : FileAnswer)
@@ -277,16 +346,24 @@ module _ (words : List (List ℕ)) (command : MarkGoodCommand)
   unfolding both_read
   given_unset folder folder' device tree refusal read refused =
       inl
-      (given_refused words folder folder' (both_read tree (Err FileMemory)) device refusal
-      (unset_filed folder folder' tree read)
+      (given_refused words folder folder' (all_read tree (Err FileMemory) []) device refusal
+      (unset_filed words device.geometry command.file command.settings (each_of_mark words command is)
+      (mark_named Tree) (mark_named Settings) folder folder' tree
+      (mark_none device.geometry (both_read tree (Err FileMemory))) read)
       (ap (λ (w : Result Command ℕ).
-      plan_of w device.geometry (both_read tree (Err FileMemory))) is
+      plan_of w device.geometry (all_read tree (Err FileMemory) [])) is
       ∙ refused (Err FileMemory)))
 
   module _ (folder mid folder' : Folder) (tree settings : FileAnswer)
       (first : IsFileRead command.file folder mid tree) (early : IsFolderLater folder mid)
       (second : IsFileRead command.settings mid folder' settings)
       (late : IsFolderLater mid folder') where
+    mark_filed : (geometry : Geometry) → IsFiled words geometry folder folder' (all_read tree settings [])
+    mark_filed geometry =
+        alone_filed words geometry command.file command.settings (each_of_mark words command is)
+        (mark_named Tree) (mark_named Settings) folder mid folder' tree settings first early second late
+        (mark_none geometry (both_read tree settings))
+
     -- the file of the settings was refused, its text or what it is bound to
     pub given_misset : (device : Device) (refusal : Refusal) →
         mark_plan command device.geometry tree settings ≡ Err refusal →
@@ -294,28 +371,154 @@ module _ (words : List (List ℕ)) (command : MarkGoodCommand)
     unfolding both_read
     given_misset device refusal refused =
         inl
-        (given_refused words folder folder' (both_read tree settings) device refusal
-        (set_filed folder mid folder' tree settings first early second late)
-        (ap (λ (w : Result Command ℕ). plan_of w device.geometry (both_read tree settings)) is
+        (given_refused words folder folder' (all_read tree settings []) device refusal
+        (mark_filed device.geometry)
+        (ap (λ (w : Result Command ℕ). plan_of w device.geometry (all_read tree settings [])) is
         ∙ refused))
 
     -- the work of `mark-good` was done
     pub given_marked : (before after : Device) (layout : Laid) (targets : Binding)
-        (given : Result (List ℕ) Refusal) →
+        (given : Result Report Refusal) →
         mark_plan command before.geometry tree settings
         ≡ Ok (record { layout = layout; work = Good targets }) →
         IsWorkedOut layout (Good targets) before after given →
         IsGiven words folder folder' before after given
     unfolding both_read
     given_marked before after layout targets given plans worked =
-        given_worked words folder folder' (both_read tree settings) before after layout
-        (Good targets) given (set_filed folder mid folder' tree settings first early second late)
-        (ap (λ (w : Result Command ℕ). plan_of w before.geometry (both_read tree settings)) is
+        given_worked words folder folder' (all_read tree settings []) before after layout
+        (Good targets) given (mark_filed before.geometry)
+        (ap (λ (w : Result Command ℕ). plan_of w before.geometry (all_read tree settings [])) is
         ∙ plans)
         worked
 
+-- ---- `boot`
+
+module _ (words : List (List ℕ)) (command : BootCommand)
+    (is : words_of words ≡ Ok (BootWords command)) where
+  boot_named : (role : Role) → name_for (words_of words) role ≡ name_for (Ok (BootWords command)) role
+  boot_named role = ap (λ (w : Result Command ℕ). name_for w role) is
+
+  -- the targets that the settings name, where there are some
+  abbrev names_by : Result Laid Refusal → FileAnswer → List (List ℕ)
+  names_by laid settings =
+      option_map_or entries_of
+      (result_ok (result_and_then (λ layout. binding_in command.settings layout settings) laid)) []
+
+  boot_names : (geometry : Geometry) (tree settings : FileAnswer) →
+      entries_for (words_of words) geometry (both_read tree settings)
+      ≡ names_by (layout_in command.file command.name geometry tree) settings
+  unfolding both_read
+  boot_names geometry tree settings =
+      ap (λ (w : Result Command ℕ). entries_for w geometry (both_read tree settings)) is
+
+  -- the file of the state was refused, its tree or its layout
+  pub boot_unset : (folder folder' : Folder) (device : Device) (tree : FileAnswer)
+      (refusal : Refusal) → IsFileRead command.file folder folder' tree →
+      layout_in command.file command.name device.geometry tree ≡ Err refusal →
+      IsGiven words folder folder' device device (Err refusal)
+  unfolding both_read
+  boot_unset folder folder' device tree refusal read refused =
+      inl
+      (given_refused words folder folder' (all_read tree (Err FileMemory) []) device refusal
+      (unset_filed words device.geometry command.file command.settings (each_of_boot words command is)
+      (boot_named Tree) (boot_named Settings) folder folder' tree
+      (boot_names device.geometry tree (Err FileMemory)
+      ∙ ap (λ laid. names_by laid (Err FileMemory)) refused) read)
+      (ap (λ (w : Result Command ℕ).
+      plan_of w device.geometry (all_read tree (Err FileMemory) [])) is
+      ∙ ap (result_and_then (boot_laid command (Err FileMemory) [])) refused))
+
+  module _ (folder mid late : Folder) (tree settings : FileAnswer)
+      (first : IsFileRead command.file folder mid tree) (early : IsFolderLater folder mid)
+      (second : IsFileRead command.settings mid late settings)
+      (behind : IsFolderLater mid late) (layout : Laid) (geometry : Geometry)
+      (laid : layout_in command.file command.name geometry tree ≡ Ok layout) where
+    -- the file of the settings was refused, its text or what it is bound to
+    pub boot_misset : (device : Device) → device.geometry ≡ geometry → (refusal : Refusal) →
+        binding_in command.settings layout settings ≡ Err refusal →
+        IsGiven words folder late device device (Err refusal)
+    unfolding both_read
+    boot_misset device here refusal refused =
+        let bound = ap (λ r. names_by r settings) laid ∙ ap (λ r. option_map_or entries_of (result_ok r) []) refused in
+        inl
+        (given_refused words folder late (all_read tree settings []) device refusal
+        (subst (λ g. IsFiled words g folder late (all_read tree settings [])) (sym here)
+        (alone_filed words geometry command.file command.settings (each_of_boot words command is)
+        (boot_named Tree) (boot_named Settings) folder mid late tree settings first early second behind
+        (boot_names geometry tree settings ∙ bound)))
+        (ap (λ (w : Result Command ℕ). plan_of w device.geometry (all_read tree settings [])) is
+        ∙ ap (λ g. boot_plan command g tree settings []) here
+        ∙ ap (result_and_then (boot_laid command settings [])) laid
+        ∙ ap (result_and_then (boot_bound command [] layout)) refused))
+
+    module _ (targets : Binding) (bound : binding_in command.settings layout settings ≡ Ok targets)
+        (last : Folder) (end : IsFolderLater late last) (given : Result (List (Option StartPlan)) Refusal)
+        (read : AreRead targets late last given) where
+      entries_are : AreEntries (entries_named words geometry (all_read tree settings read.entries)) folder read.entries
+      unfolding both_read
+      entries_are =
+          let names : entries_for (words_of words) geometry (both_read tree settings) ≡ entries_of targets =
+          boot_names geometry tree settings ∙ ap (λ r. names_by r settings) laid
+          ∙ ap (λ r. option_map_or entries_of (result_ok r) []) bound in
+          let here = subst (λ n. AreEntries n late read.entries) (sym names) read.are in
+          record {
+            told =
+                subst
+                (λ t. ForSome t
+                (λ files. AllZip IsAnswerFor read.entries
+                (take (length read.entries) (map (file_of files) (entries_for (words_of words) geometry (both_read tree settings))))))
+                (behind.told ∙ early.told) here.told;
+            most = here.most;
+            whole = here.whole;
+          }
+
+      boot_filed : IsFiled words geometry folder last (all_read tree settings read.entries)
+      boot_filed =
+          set_filed words geometry command.file command.settings (each_of_boot words command is)
+          (boot_named Tree) (boot_named Settings) folder mid late tree settings first early second behind last
+          read.entries end entries_are read.cause read.calm
+
+      -- what the plans of the entries make of it
+      planned_by : (device : Device) → device.geometry ≡ geometry →
+          planned words device.geometry (all_read tree settings read.entries)
+          ≡ boot_bound command read.entries layout targets
+      unfolding both_read
+      planned_by device here =
+          ap (λ (w : Result Command ℕ). plan_of w device.geometry (all_read tree settings read.entries)) is
+          ∙ ap (λ g. boot_plan command g tree settings read.entries) here
+          ∙ ap (result_and_then (boot_laid command settings read.entries)) laid
+          ∙ ap (result_and_then (boot_bound command read.entries layout)) bound
+
+      filed_at : (device : Device) → device.geometry ≡ geometry →
+          IsFiled words device.geometry folder last (all_read tree settings read.entries)
+      filed_at device here =
+          subst (λ g. IsFiled words g folder last (all_read tree settings read.entries)) (sym here) boot_filed
+
+      abbrev planned_as : Result (List (Option StartPlan)) Refusal → Result SessionPlan Refusal
+      planned_as r =
+          result_and_then
+          (λ plans. Ok (record { layout = layout; work = Boot targets (cause_of command.cause) plans })) r
+
+      -- an entry was refused
+      pub boot_unread : (device : Device) → device.geometry ≡ geometry → (refusal : Refusal) →
+          plans_in targets read.entries ≡ Err refusal → IsGiven words folder last device device (Err refusal)
+      boot_unread device here refusal refused =
+          inl
+          (given_refused words folder last (all_read tree settings read.entries) device refusal
+          (filed_at device here) (planned_by device here ∙ ap planned_as refused))
+
+      -- the work of `boot` was done
+      pub given_booted : (before after : Device) → before.geometry ≡ geometry → (plans : List (Option StartPlan)) →
+          plans_in targets read.entries ≡ Ok plans → (answer : Result Report Refusal) →
+          IsWorkedOut layout (Boot targets (cause_of command.cause) plans) before after answer →
+          IsGiven words folder last before after answer
+      given_booted before after here plans planned_ok answer worked =
+          given_worked words folder last (all_read tree settings read.entries) before after layout
+          (Boot targets (cause_of command.cause) plans) answer (filed_at before here)
+          (planned_by before here ∙ ap planned_as planned_ok) worked
+
 -- memory was refused before any call of the device
 pub given_no_memory : (words : List (List ℕ)) (folder folder' : Folder) (device : Device)
-    (given : Result (List ℕ) Refusal) → given ≡ Err refusals.NoMemory →
+    (given : Result Report Refusal) → given ≡ Err refusals.NoMemory →
     IsGiven words folder folder' device device given
 given_no_memory words folder folder' device given is = no_memory words folder folder' device given is

@@ -1,5 +1,7 @@
 -- What a session's plan can be, and of which words and files it comes.
-use Rattle.std.proofs.Common.{◌≡◌, ◌≢◌, ◌⊎◌, ℕ, Bool, true, false, List, Option, Some, None, Result, Ok, Err, IsErr, IsOk, IfErr, refl, sym, ap, subst, ◌∙◌, inl, inr}
+use Rattle.std.proofs.Common.{◌≡◌, ◌≢◌, ◌⊎◌, ℕ, ◌≤◌, Bool, true, false, List, [], All, Contains, length, map, Option, Some, None, Result, Ok, Err, IsErr, IsOk, IfErr, refl, sym, ap, subst, ◌∙◌, inl, inr}
+use Rattle.std.specs.Option.{option_map_or}
+use Rattle.std.specs.Result.{result_ok}
 use Rattle.std.proofs.lemmas.Option.{same_Some}
 use Rattle.bb_base.specs.Folder.{FileMap, Folder, file_of}
 use Rattle.bb_base.specs.declared.files.FileFail.TheVariants as file_fails
@@ -8,24 +10,30 @@ use Rattle.bb_chooser.specs.declared.settings_error.SettingsError.{SettingsError
 use Rattle.bb_dts.specs.Source.{Read, source_of}
 use Rattle.bb_dts.specs.declared.error.DtsError.{DtsError}
 use Rattle.bb_flash.specs.declared.geometry.Geometry.{Geometry}
+use Rattle.bb_flash.specs.declared.plan.Plan.{Plan as StartPlan}
 use Rattle.bb_layout.specs.Layout.{Laid, layout_from}
 use Rattle.bb_layout.specs.Results.{result_and_then}
+use Rattle.bb_shell.specs.Plans.{entries_of, plans_by}
+use Rattle.bb_shell.specs.declared.plan_fault.PlanFault.{PlanFault}
+use Rattle.bb_shell.specs.declared.plan_fault.PlanFault.TheVariants as plan_faults
 use Rattle.bb_layout.specs.Thirds.{raw_layout}
 use Rattle.bb_layout.specs.declared.layout_error.LayoutError.{LayoutError}
 use Rattle.bb_actions.specs.Actions.{misfit_of}
 use Rattle.bb_state.specs.declared.error.StateError.{StateError}
 use Rattle.bb_words.specs.Words.{words_of}
 use Rattle.bb_words.specs.declared.command.Command.{Command}
-use Rattle.bb_words.specs.declared.command.Command.TheVariants.{Raw, State, MarkGood}
+use Rattle.bb_words.specs.declared.command.BootCommand.{BootCommand}
+use Rattle.bb_words.specs.declared.command.Command.TheVariants.{Raw, State, MarkGood, Boot as BootWords}
 use Rattle.bb_words.specs.declared.command.MarkGoodCommand.{MarkGoodCommand}
 use Rattle.bb_words.specs.declared.command.RawCommand.{RawCommand}
 use Rattle.bb_words.specs.declared.command.StateCommand.{StateCommand}
 use Rattle.bb_tool.specs.Calls.{IsRefusedWith}
-use Rattle.bb_tool.specs.Filing.{EachNamed, IsAnswerFor, IsFiled}
-use Rattle.bb_tool.specs.Plan.{Act, FileAnswer, FileAnswers, Good, Plan, Role, Settings, Tree, binding_in, bound_in, bytes_in, file_named, files_for, fit_by, has_file, layout_by, layout_in, mark_laid, mark_plan, name_for, plan_of, planned, raw_laid, refused_as, state_laid, state_plan}
+use Rattle.bb_tool.specs.Filing.{AreEntries, EachNamed, IsAnswerFor, IsFiled}
+use Rattle.bb_tool.specs.Plan.{Act, Boot, FileAnswer, FileAnswers, Good, SessionPlan, Role, Settings, Tree, binding_in, boot_bound, boot_laid, boot_plan, cause_of, bound_in, bytes_in, file_named, files_for, fit_by, has_file, layout_by, layout_in, entries_for, files_of, mark_laid, mark_plan, name_for, plan_of, plan_refusal as refusal_for, planned, plans_in, raw_laid, refused_as, state_laid, state_plan}
 use Rattle.bb_tool.specs.declared.refusal.Refusal.{Refusal}
 use Rattle.bb_tool.specs.declared.refusal.Refusal.TheVariants as refusals
 use Rattle.bb_tool.specs.Refusal.{status_of}
+use Rattle.bb_tool.proofs.Entries.{SamePlans, faulty_entry, no_entries, none_read, same_plans}
 use Rattle.bb_tool.specs.declared.status.Status.{Status}
 use Rattle.bb_tool.specs.declared.status.Status.TheVariants as statuses
 
@@ -43,6 +51,13 @@ pub each_of_mark : (words : List (List ℕ)) (command : MarkGoodCommand) → wor
 each_of_mark words command is P tree settings Tree name named =
     subst (P Tree) (same_Some command.file name (sym (ap (λ c. name_for c Tree) is) ∙ named)) tree
 each_of_mark words command is P tree settings Settings name named =
+    subst (P Settings) (same_Some command.settings name (sym (ap (λ c. name_for c Settings) is) ∙ named)) settings
+
+pub each_of_boot : (words : List (List ℕ)) (command : BootCommand) → words_of words ≡ Ok (BootWords command) →
+    (P : Role → List ℕ → Type 0) → P Tree command.file → P Settings command.settings → EachNamed words P
+each_of_boot words command is P tree settings Tree name named =
+    subst (P Tree) (same_Some command.file name (sym (ap (λ c. name_for c Tree) is) ∙ named)) tree
+each_of_boot words command is P tree settings Settings name named =
     subst (P Settings) (same_Some command.settings name (sym (ap (λ c. name_for c Settings) is) ∙ named)) settings
 
 -- ---- refusals
@@ -102,11 +117,41 @@ module _ (P : Refusal → Type 0) where
     bound_all layout text = as_all refusals.BadSettings (bound_in layout text) holds.settings
 
     marks_all : (layout : Laid) (r : Result Binding Refusal) → IfErr r P →
-        IfErr {T = Plan} (result_and_then (λ binding. Ok (record { layout = layout; work = Good binding })) r) P
+        IfErr {T = SessionPlan} (result_and_then (λ binding. Ok (record { layout = layout; work = Good binding })) r) P
     marks_all layout r here =
         then_all (λ (binding : Binding). Ok (record { layout = layout; work = Good binding })) r here (λ binding. tt)
 
+    boots_all : (layout : Laid) (command : BootCommand) (binding : Binding) (r : Result (List (Option StartPlan)) Refusal) → IfErr r P →
+        IfErr {T = SessionPlan}
+        (result_and_then
+        (λ plans. Ok (record { layout = layout; work = Boot binding (cause_of command.cause) plans })) r) P
+    boots_all layout command binding r here =
+        then_all
+        (λ (plans : List (Option StartPlan)).
+        Ok (record { layout = layout; work = Boot binding (cause_of command.cause) plans })) r here (λ plans. tt)
+
     module _ (files : HoldsForFiles P) where
+      plans_all : (targets : Binding) (entries : List FileAnswer) → IfErr (plans_in targets entries) P
+      plans_all targets entries = as_all (refusal_for targets) (plans_by entries) each
+        where
+          each : (fault : PlanFault) → P (refusal_for targets fault)
+          each (plan_faults.FileFault target) = files.fault _
+          each (plan_faults.FileTooLong target) = files.long _
+          each plan_faults.NoMemory = files.memory
+
+      boot_all : (command : BootCommand) (geometry : Geometry) (tree settings : FileAnswer) (entries : List FileAnswer) →
+          IfErr (boot_plan command geometry tree settings entries) P
+      boot_all command geometry tree settings entries =
+          then_all (boot_laid command settings entries) (layout_in command.file command.name geometry tree)
+          (then_all (layout_by command.name geometry) (bytes_in command.file tree)
+          (bytes_all files command.file tree) (layout_all command.name geometry))
+          (λ layout.
+          then_all (boot_bound command entries layout) (binding_in command.settings layout settings)
+          (then_all (λ text. refused_as refusals.BadSettings (bound_in layout text))
+          (bytes_in command.settings settings) (bytes_all files command.settings settings)
+          (bound_all layout))
+          (λ binding. boots_all layout command binding (plans_in binding entries) (plans_all binding entries)))
+
       state_all : (command : StateCommand) (geometry : Geometry) (tree : FileAnswer) →
           IfErr (state_plan command geometry tree) P
       state_all command geometry tree =
@@ -128,7 +173,7 @@ module _ (P : Refusal → Type 0) where
           (bound_all layout)))
 
 -- a plan isn't refused with a status that none of its refusals has
-unlike : (answer : Status) (plan : Result Plan Refusal) → IfErr plan (λ refusal. status_of refusal ≢ answer) →
+unlike : (answer : Status) (plan : Result SessionPlan Refusal) → IfErr plan (λ refusal. status_of refusal ≢ answer) →
     IsRefusedWith answer plan → ⊥
 unlike answer (Ok plan) other refused = refused
 unlike answer (Err refusal) other refused = other refused
@@ -145,6 +190,8 @@ is_refusal statuses.FileFault = true
 is_refusal statuses.FileTooLong = true
 is_refusal statuses.ReadFault = false
 is_refusal statuses.WriteFault = false
+is_refusal statuses.NoTarget = false
+is_refusal statuses.StartFailed = false
 is_refusal statuses.BadSettings = true
 is_refusal statuses.SinkFault = false
 is_refusal statuses.NoGood = false
@@ -177,11 +224,14 @@ pub plan_refusal : (answer : Status) → is_refusal answer ≡ false → (comman
 plan_refusal answer never (Ok (Raw command)) geometry files refused =
     raw_refusal answer (not_refusal statuses.BadLayout answer refl never) command (raw_layout command.magic command.area_len geometry) refused
 plan_refusal answer never (Ok (State command)) geometry files refused =
-    unlike answer (state_plan command geometry (files Tree))
-    (state_all (λ refusal. status_of refusal ≢ answer) (other_texts answer never) (other_files answer never) command geometry (files Tree)) refused
+    unlike answer (state_plan command geometry (files.named Tree))
+    (state_all (λ refusal. status_of refusal ≢ answer) (other_texts answer never) (other_files answer never) command geometry (files.named Tree)) refused
 plan_refusal answer never (Ok (MarkGood command)) geometry files refused =
-    unlike answer (mark_plan command geometry (files Tree) (files Settings))
-    (mark_all (λ refusal. status_of refusal ≢ answer) (other_texts answer never) (other_files answer never) command geometry (files Tree) (files Settings)) refused
+    unlike answer (mark_plan command geometry (files.named Tree) (files.named Settings))
+    (mark_all (λ refusal. status_of refusal ≢ answer) (other_texts answer never) (other_files answer never) command geometry (files.named Tree) (files.named Settings)) refused
+plan_refusal answer never (Ok (BootWords command)) geometry files refused =
+    unlike answer (boot_plan command geometry (files.named Tree) (files.named Settings) files.entries)
+    (boot_all (λ refusal. status_of refusal ≢ answer) (other_texts answer never) (other_files answer never) command geometry (files.named Tree) (files.named Settings) files.entries) refused
 plan_refusal answer never (Err place) geometry files refused = not_refusal statuses.BadWords answer refl never refused
 
 -- only words that are none are refused as such
@@ -207,17 +257,21 @@ words_refused (Err place) geometry files refused = refl
 words_refused (Ok (Raw command)) geometry files refused =
     absurd (raw_refusal statuses.BadWords (λ h. cc) command (raw_layout command.magic command.area_len geometry) refused)
 words_refused (Ok (State command)) geometry files refused =
-    absurd (unlike statuses.BadWords (state_plan command geometry (files Tree))
-    (state_all OtherThanWords words_texts words_files command geometry (files Tree)) refused)
+    absurd (unlike statuses.BadWords (state_plan command geometry (files.named Tree))
+    (state_all OtherThanWords words_texts words_files command geometry (files.named Tree)) refused)
 words_refused (Ok (MarkGood command)) geometry files refused =
-    absurd (unlike statuses.BadWords (mark_plan command geometry (files Tree) (files Settings))
-    (mark_all OtherThanWords words_texts words_files command geometry (files Tree) (files Settings)) refused)
+    absurd (unlike statuses.BadWords (mark_plan command geometry (files.named Tree) (files.named Settings))
+    (mark_all OtherThanWords words_texts words_files command geometry (files.named Tree) (files.named Settings)) refused)
+words_refused (Ok (BootWords command)) geometry files refused =
+    absurd (unlike statuses.BadWords (boot_plan command geometry (files.named Tree) (files.named Settings) files.entries)
+    (boot_all OtherThanWords words_texts words_files command geometry (files.named Tree) (files.named Settings) files.entries) refused)
 
 -- where no file is named, the plan is the same whatever is answered of one
 pub alone_plan : (command : Result Command ℕ) (geometry : Geometry) (one two : FileAnswers) → has_file command ≡ false → plan_of command geometry one ≡ plan_of command geometry two
 alone_plan (Ok (Raw command)) geometry one two none = refl
 alone_plan (Ok (State command)) geometry one two none = absurd cc
 alone_plan (Ok (MarkGood command)) geometry one two none = absurd cc
+alone_plan (Ok (BootWords command)) geometry one two none = absurd cc
 alone_plan (Err place) geometry one two none = refl
 
 -- ---- files that are told
@@ -230,11 +284,11 @@ answer_cases (Err file_fails.Fault) told is = inr (inl refl)
 answer_cases (Err file_fails.NoMemory) told is = inr (inr refl)
 
 -- and so is a plan
-abbrev pub IsPlanOf : Result Plan Refusal → Result Plan Refusal → Type 0
+abbrev pub IsPlanOf : Result SessionPlan Refusal → Result SessionPlan Refusal → Type 0
 IsPlanOf plan told = (plan ≡ told) ⊎ (IsRefusedWith statuses.FileFault plan ⊎ (plan ≡ Err refusals.NoMemory))
 
 -- it is for whatever it makes of an answer
-plan_cases : (make : FileAnswer → Result Plan Refusal) (answer told : FileAnswer) → IsAnswerFor answer told →
+plan_cases : (make : FileAnswer → Result SessionPlan Refusal) (answer told : FileAnswer) → IsAnswerFor answer told →
     IsRefusedWith statuses.FileFault (make (Err file_fails.Fault)) → make (Err file_fails.NoMemory) ≡ Err refusals.NoMemory → IsPlanOf (make answer) (make told)
 plan_cases make answer told is fault memory = elim (answer_cases answer told is) [
   | inl same ↦ inl (ap make (sym same))
@@ -262,19 +316,135 @@ mark_told command geometry tree tree' settings settings' first second = elim (an
   ]
 ]
 
-named_file : (command : Result Command ℕ) (words : List (List ℕ)) → words_of words ≡ command → (geometry : Geometry) (folder folder' : Folder) (answers : FileAnswers) → IsFiled words folder folder' answers → (files : FileMap) → folder.told ≡ Some files → IsPlanOf (plan_of command geometry answers) (plan_of command geometry (file_named command files))
+-- the plan of a boot by those of its entries
+abbrev planned_of : BootCommand → Laid → Binding → Result (List (Option StartPlan)) PlanFault → Result SessionPlan Refusal
+planned_of command layout targets r =
+    result_and_then
+    (λ plans. Ok (record { layout = layout; work = Boot targets (cause_of command.cause) plans }))
+    (refused_as (refusal_for targets) r)
+
+-- the plans of the entries
+plans_told : (command : BootCommand) (layout : Laid) (targets : Binding) (folder : Folder) (entries : List FileAnswer)
+    (files : FileMap) → folder.told ≡ Some files → AreEntries (entries_of targets) folder entries →
+    IsPlanOf (boot_bound command entries layout targets)
+    (boot_bound command (map (file_of files) (entries_of targets)) layout targets)
+plans_told command layout targets folder entries files told are =
+    by (same_plans (entries_of targets) folder entries files told are)
+  where
+    by : SamePlans entries (map (file_of files) (entries_of targets)) →
+        IsPlanOf (boot_bound command entries layout targets)
+        (boot_bound command (map (file_of files) (entries_of targets)) layout targets)
+    by (inl same) = inl (ap (planned_of command layout targets) same)
+    by (inr (inl fault)) =
+        inr (inl (subst (λ r. IsRefusedWith statuses.FileFault (planned_of command layout targets r)) (sym fault.1) refl))
+    by (inr (inr memory)) = inr (inr (ap (planned_of command layout targets) memory))
+
+-- the settings, and then the entries of the targets that they name
+bound_told : (command : BootCommand) (layout : Laid) (folder : Folder) (settings : FileAnswer) (entries : List FileAnswer)
+    (files : FileMap) → folder.told ≡ Some files → (names : List (List ℕ)) →
+    ((targets : Binding) → binding_in command.settings layout settings ≡ Ok targets → entries_of targets ≡ names) →
+    AreEntries names folder entries →
+    IsPlanOf (boot_laid command settings entries layout)
+    (boot_laid command settings (map (file_of files) names) layout)
+bound_told command layout folder settings entries files told names are_named are =
+    by (binding_in command.settings layout settings) are_named
+  where
+    by : (r : Result Binding Refusal) → ((targets : Binding) → r ≡ Ok targets → entries_of targets ≡ names) →
+        IsPlanOf (result_and_then (boot_bound command entries layout) r)
+        (result_and_then (boot_bound command (map (file_of files) names) layout) r)
+    by (Err e) named = inl refl
+    by (Ok targets) named =
+        subst
+        (λ n. IsPlanOf (boot_bound command entries layout targets)
+        (boot_bound command (map (file_of files) n) layout targets)) (named targets refl)
+        (plans_told command layout targets folder entries files told
+        (subst (λ n. AreEntries n folder entries) (sym (named targets refl)) are))
+
+abbrev names_by : BootCommand → Laid → FileAnswer → List (List ℕ)
+names_by command layout settings = option_map_or entries_of (result_ok (binding_in command.settings layout settings)) []
+
+-- of a layout that is refused there are no settings
+laid_told : (command : BootCommand) (laid : Result Laid Refusal) (folder : Folder) (settings settings' : FileAnswer)
+    (entries : List FileAnswer) (files : FileMap) → folder.told ≡ Some files → IsAnswerFor settings settings' →
+    AreEntries
+    (option_map_or entries_of
+    (result_ok (result_and_then (λ layout. binding_in command.settings layout settings) laid)) []) folder entries →
+    IsPlanOf (result_and_then (boot_laid command settings entries) laid)
+    (result_and_then
+    (boot_laid command settings'
+    (map (file_of files)
+    (option_map_or entries_of
+    (result_ok (result_and_then (λ layout. binding_in command.settings layout settings') laid)) []))) laid)
+laid_told command (Err e) folder settings settings' entries files told is are = inl refl
+laid_told command (Ok layout) folder settings settings' entries files told is are =
+    elim (answer_cases settings settings' is) [
+      | inl same ↦
+          subst
+          (λ s. IsPlanOf (boot_laid command settings entries layout)
+          (boot_laid command s (map (file_of files) (names_by command layout s)) layout)) (sym same)
+          (bound_told command layout folder settings entries files told (names_by command layout settings) named are)
+      | inr odd ↦ elim odd [
+        | inl e ↦ inr (inl (subst (λ a. IsRefusedWith statuses.FileFault (boot_laid command a entries layout)) (sym e) refl))
+        | inr e ↦ inr (inr (ap (λ a. boot_laid command a entries layout) e))
+      ]
+    ]
+  where
+    named : (targets : Binding) → binding_in command.settings layout settings ≡ Ok targets →
+        entries_of targets ≡ names_by command layout settings
+    named targets same = sym (ap (λ r. option_map_or entries_of (result_ok r) []) same)
+
+module _ (words : List (List ℕ)) (command : BootCommand) (is : words_of words ≡ Ok (BootWords command))
+    (geometry : Geometry) (folder folder' : Folder) (answers : FileAnswers)
+    (filed : IsFiled words geometry folder folder' answers) (files : FileMap) (told : folder.told ≡ Some files) where
+  abbrev named_told : Role → FileAnswer
+  named_told = file_named (Ok (BootWords command)) files
+
+  tree_is : IsAnswerFor (answers.named Tree) (file_of files command.file)
+  tree_is = filed.told Tree command.file (ap (λ c. name_for c Tree) is) files told
+
+  settings_is : IsAnswerFor (answers.named Settings) (file_of files command.settings)
+  settings_is = filed.told Settings command.settings (ap (λ c. name_for c Settings) is) files told
+
+  entries_are : AreEntries (entries_for (Ok (BootWords command)) geometry answers.named) folder answers.entries
+  entries_are =
+      subst (λ c. AreEntries (entries_for c geometry answers.named) folder answers.entries) is filed.entries
+
+  boot_told : IsPlanOf (plan_of (Ok (BootWords command)) geometry answers)
+      (plan_of (Ok (BootWords command)) geometry (files_of (Ok (BootWords command)) geometry files))
+  boot_told = elim (answer_cases (answers.named Tree) (file_of files command.file) tree_is) [
+    | inl same ↦
+        subst
+        (λ t. IsPlanOf (plan_of (Ok (BootWords command)) geometry answers)
+        (boot_plan command geometry t (file_of files command.settings)
+        (map (file_of files)
+        (option_map_or entries_of
+        (result_ok
+        (result_and_then (λ layout. binding_in command.settings layout (file_of files command.settings))
+        (layout_in command.file command.name geometry t))) [])))) (sym same)
+        (laid_told command (layout_in command.file command.name geometry (answers.named Tree)) folder (answers.named Settings)
+        (file_of files command.settings) answers.entries files told settings_is entries_are)
+    | inr odd ↦ elim odd [
+      | inl e ↦ inr (inl (subst
+          (λ a. IsRefusedWith statuses.FileFault (boot_plan command geometry a (answers.named Settings) answers.entries)) (sym e) refl))
+      | inr e ↦ inr (inr (ap (λ a. boot_plan command geometry a (answers.named Settings) answers.entries) e))
+    ]
+  ]
+
+named_file : (command : Result Command ℕ) (words : List (List ℕ)) → words_of words ≡ command → (geometry : Geometry) (folder folder' : Folder) (answers : FileAnswers) → IsFiled words geometry folder folder' answers → (files : FileMap) → folder.told ≡ Some files → IsPlanOf (plan_of command geometry answers) (plan_of command geometry (files_of command geometry files))
 named_file (Ok (Raw command)) words is geometry folder folder' answers filed files told = inl refl
 named_file (Err place) words is geometry folder folder' answers filed files told = inl refl
 named_file (Ok (State command)) words is geometry folder folder' answers filed files told =
-    plan_cases (state_plan command geometry) (answers Tree) (file_of files command.file)
+    plan_cases (state_plan command geometry) (answers.named Tree) (file_of files command.file)
     (filed.told Tree command.file (ap (λ c. name_for c Tree) is) files told) refl refl
 named_file (Ok (MarkGood command)) words is geometry folder folder' answers filed files told =
-    mark_told command geometry (answers Tree) (file_of files command.file) (answers Settings) (file_of files command.settings)
+    mark_told command geometry (answers.named Tree) (file_of files command.file) (answers.named Settings) (file_of files command.settings)
     (filed.told Tree command.file (ap (λ c. name_for c Tree) is) files told)
     (filed.told Settings command.settings (ap (λ c. name_for c Settings) is) files told)
+named_file (Ok (BootWords command)) words is geometry folder folder' answers filed files told =
+    boot_told words command is geometry folder folder' answers filed files told
 
 -- the plan is that of the files as they are told, unless a fault was met or memory refused
-pub same_plan : (words : List (List ℕ)) (geometry : Geometry) (folder folder' : Folder) (answers : FileAnswers) → IsFiled words folder folder' answers → (files : FileMap) → folder.told ≡ Some files → IsPlanOf (planned words geometry answers) (planned words geometry (files_for words files))
+pub same_plan : (words : List (List ℕ)) (geometry : Geometry) (folder folder' : Folder) (answers : FileAnswers) → IsFiled words geometry folder folder' answers → (files : FileMap) → folder.told ≡ Some files → IsPlanOf (planned words geometry answers) (planned words geometry (files_for words geometry files))
 same_plan words geometry folder folder' answers filed files told = named_file (words_of words) words refl geometry folder folder' answers filed files told
 
 -- ---- files that met a fault
@@ -328,38 +498,98 @@ mark_faults command geometry (Err file_fails.Fault) settings refused = inl refl
 mark_faults command geometry (Err file_fails.TooLong) settings refused = absurd cc
 mark_faults command geometry (Err file_fails.NoMemory) settings refused = absurd cc
 
+-- of a boot, also one over an entry that met one
+bound_faults : (command : BootCommand) (layout : Laid) (targets : Binding) (entries : List FileAnswer) →
+    IsRefusedWith statuses.FileFault (boot_bound command entries layout targets) → Contains entries (Err file_fails.Fault)
+bound_faults command layout targets entries refused = by (plans_by entries) refl refused
+  where
+    by : (r : Result (List (Option StartPlan)) PlanFault) → plans_by entries ≡ r →
+        IsRefusedWith statuses.FileFault
+        (result_and_then
+        (λ plans. Ok (record { layout = layout; work = Boot targets (cause_of command.cause) plans }))
+        (refused_as (refusal_for targets) r)) → Contains entries (Err file_fails.Fault)
+    by (Ok plans) is h = absurd h
+    by (Err (plan_faults.FileFault target)) is h = faulty_entry entries target is
+    by (Err (plan_faults.FileTooLong target)) is h = absurd cc
+    by (Err plan_faults.NoMemory) is h = absurd cc
+
+-- where a boot's plan is refused for a fault
+pub data BootFaulty (tree settings : FileAnswer) (entries : List FileAnswer) : Type 0 where
+  InTree : tree ≡ Err file_fails.Fault → BootFaulty tree settings entries
+  InSettings : settings ≡ Err file_fails.Fault → BootFaulty tree settings entries
+  InEntries : Contains entries (Err file_fails.Fault) → BootFaulty tree settings entries
+
+laid_faults : (command : BootCommand) (layout : Laid) (tree settings : FileAnswer) (entries : List FileAnswer) →
+    IsRefusedWith statuses.FileFault (boot_laid command settings entries layout) → BootFaulty tree settings entries
+unfolding OtherThanFault
+laid_faults command layout tree (Ok (Some text)) entries refused =
+    by (refused_as refusals.BadSettings (bound_in layout text)) (bound_all OtherThanFault fault_texts layout text) refused
+  where
+    by : (r : Result Binding Refusal) → IfErr r OtherThanFault →
+        IsRefusedWith statuses.FileFault (result_and_then (boot_bound command entries layout) r) →
+        BootFaulty tree (Ok (Some text)) entries
+    by (Ok targets) other h = InEntries (bound_faults command layout targets entries h)
+    by (Err e) other h = absurd (other h)
+laid_faults command layout tree (Ok None) entries refused = absurd cc
+laid_faults command layout tree (Err file_fails.Fault) entries refused = InSettings refl
+laid_faults command layout tree (Err file_fails.TooLong) entries refused = absurd cc
+laid_faults command layout tree (Err file_fails.NoMemory) entries refused = absurd cc
+
+boot_faults : (command : BootCommand) (geometry : Geometry) (tree settings : FileAnswer) (entries : List FileAnswer) →
+    IsRefusedWith statuses.FileFault (boot_plan command geometry tree settings entries) → BootFaulty tree settings entries
+unfolding OtherThanFault
+boot_faults command geometry (Ok (Some source)) settings entries refused =
+    by (layout_by command.name geometry source) (layout_all OtherThanFault fault_texts command.name geometry source) refused
+  where
+    by : (r : Result Laid Refusal) → IfErr r OtherThanFault →
+        IsRefusedWith statuses.FileFault (result_and_then (boot_laid command settings entries) r) →
+        BootFaulty (Ok (Some source)) settings entries
+    by (Ok layout) other h = laid_faults command layout (Ok (Some source)) settings entries h
+    by (Err e) other h = absurd (other h)
+boot_faults command geometry (Ok None) settings entries refused = absurd cc
+boot_faults command geometry (Err file_fails.Fault) settings entries refused = InTree refl
+boot_faults command geometry (Err file_fails.TooLong) settings entries refused = absurd cc
+boot_faults command geometry (Err file_fails.NoMemory) settings entries refused = absurd cc
+
 -- a file that the words name met a fault
 pub record IsNamedFault (words : List (List ℕ)) (answers : FileAnswers) : Type 0 where
   pub role : Role
   pub name : List ℕ
   pub named : name_for (words_of words) role ≡ Some name
-  pub fault : answers role ≡ Err file_fails.Fault
+  pub fault : answers.named role ≡ Err file_fails.Fault
 
-pub faulty_words : (words : List (List ℕ)) (geometry : Geometry) (answers : FileAnswers) (command : Result Command ℕ) → words_of words ≡ command → IsRefusedWith statuses.FileFault (plan_of command geometry answers) → IsNamedFault words answers
+-- or the entry of a target did
+abbrev pub IsFaulty : List (List ℕ) → FileAnswers → Type 0
+IsFaulty words answers = IsNamedFault words answers ⊎ Contains answers.entries (Err file_fails.Fault)
+
+in_tree : (words : List (List ℕ)) (answers : FileAnswers) (file : List ℕ) → name_for (words_of words) Tree ≡ Some file →
+    answers.named Tree ≡ Err file_fails.Fault → IsFaulty words answers
+in_tree words answers file named fault =
+    inl (record { role = Tree; name = file; named = named; fault = fault })
+
+in_settings : (words : List (List ℕ)) (answers : FileAnswers) (file : List ℕ) → name_for (words_of words) Settings ≡ Some file →
+    answers.named Settings ≡ Err file_fails.Fault → IsFaulty words answers
+in_settings words answers file named fault =
+    inl (record { role = Settings; name = file; named = named; fault = fault })
+
+pub faulty_words : (words : List (List ℕ)) (geometry : Geometry) (answers : FileAnswers) (command : Result Command ℕ) → words_of words ≡ command → IsRefusedWith statuses.FileFault (plan_of command geometry answers) → IsFaulty words answers
 faulty_words words geometry answers (Err place) is refused = absurd cc
 faulty_words words geometry answers (Ok (Raw command)) is refused =
     absurd (raw_refusal statuses.FileFault (λ h. cc) command (raw_layout command.magic command.area_len geometry) refused)
-faulty_words words geometry answers (Ok (State command)) is refused = record {
-  role = Tree;
-  name = command.file;
-  named = ap (λ c. name_for c Tree) is;
-  fault = state_faults command geometry (answers Tree) refused;
-}
+faulty_words words geometry answers (Ok (State command)) is refused =
+    in_tree words answers command.file (ap (λ c. name_for c Tree) is) (state_faults command geometry (answers.named Tree) refused)
 faulty_words words geometry answers (Ok (MarkGood command)) is refused =
-    elim (mark_faults command geometry (answers Tree) (answers Settings) refused) [
-      | inl fault ↦ record {
-        role = Tree;
-        name = command.file;
-        named = ap (λ c. name_for c Tree) is;
-        fault = fault;
-      }
-      | inr fault ↦ record {
-        role = Settings;
-        name = command.settings;
-        named = ap (λ c. name_for c Settings) is;
-        fault = fault;
-      }
+    elim (mark_faults command geometry (answers.named Tree) (answers.named Settings) refused) [
+      | inl fault ↦ in_tree words answers command.file (ap (λ c. name_for c Tree) is) fault
+      | inr fault ↦ in_settings words answers command.settings (ap (λ c. name_for c Settings) is) fault
     ]
+faulty_words words geometry answers (Ok (BootWords command)) is refused =
+    by (boot_faults command geometry (answers.named Tree) (answers.named Settings) answers.entries refused)
+  where
+    by : BootFaulty (answers.named Tree) (answers.named Settings) answers.entries → IsFaulty words answers
+    by (InTree fault) = in_tree words answers command.file (ap (λ c. name_for c Tree) is) fault
+    by (InSettings fault) = in_settings words answers command.settings (ap (λ c. name_for c Settings) is) fault
+    by (InEntries fault) = inr fault
 
 -- ---- where no plan comes of files of which one isn't read
 
@@ -383,13 +613,52 @@ mark_needs command geometry (Err file_fails.Fault) settings none = refl
 mark_needs command geometry (Err file_fails.TooLong) settings none = refl
 mark_needs command geometry (Err file_fails.NoMemory) settings none = refl
 
--- where not each file that is named was read, the plan is refused
-pub plan_needs : (command : Result Command ℕ) (words : List (List ℕ)) → words_of words ≡ command → (geometry : Geometry) (answers : FileAnswers) → has_file command ≡ true → (EachNamed words (λ role name. IsOk (answers role)) → ⊥) → IsErr (plan_of command geometry answers)
-plan_needs (Err place) words is geometry answers named none = refl
-plan_needs (Ok (Raw command)) words is geometry answers named none = absurd cc
-plan_needs (Ok (State command)) words is geometry answers named none =
-    state_needs command geometry (answers Tree)
-    (λ tree. none (each_of_state words command is (λ role name. IsOk (answers role)) tree))
-plan_needs (Ok (MarkGood command)) words is geometry answers named none =
-    mark_needs command geometry (answers Tree) (answers Settings)
-    (λ tree settings. none (each_of_mark words command is (λ role name. IsOk (answers role)) tree settings))
+bound_needs : (command : BootCommand) (layout : Laid) (r : Result Binding Refusal) (entries : List FileAnswer) →
+    (All IsOk entries → ⊥) → IsErr (result_and_then (boot_bound command entries layout) r)
+bound_needs command layout (Err e) entries none = refl
+bound_needs command layout (Ok targets) entries none = by (plans_by entries) (none_read entries none)
+  where
+    by : (r : Result (List (Option StartPlan)) PlanFault) → IsErr r →
+        IsErr {T = SessionPlan}
+        (result_and_then
+        (λ plans. Ok (record { layout = layout; work = Boot targets (cause_of command.cause) plans }))
+        (refused_as (refusal_for targets) r))
+    by (Ok plans) h = absurd cc
+    by (Err fault) h = refl
+
+laid_needs : (command : BootCommand) (laid : Result Laid Refusal) (settings : FileAnswer) (entries : List FileAnswer) →
+    (IsOk settings → All IsOk entries → ⊥) → IsErr (result_and_then (boot_laid command settings entries) laid)
+laid_needs command (Err e) settings entries none = refl
+laid_needs command (Ok layout) (Ok found) entries none =
+    bound_needs command layout (binding_in command.settings layout (Ok found)) entries (none refl)
+laid_needs command (Ok layout) (Err file_fails.Fault) entries none = refl
+laid_needs command (Ok layout) (Err file_fails.TooLong) entries none = refl
+laid_needs command (Ok layout) (Err file_fails.NoMemory) entries none = refl
+
+boot_needs : (command : BootCommand) (geometry : Geometry) (tree settings : FileAnswer) (entries : List FileAnswer) →
+    (IsOk tree → IsOk settings → All IsOk entries → ⊥) → IsErr (boot_plan command geometry tree settings entries)
+boot_needs command geometry (Ok found) settings entries none =
+    laid_needs command (layout_in command.file command.name geometry (Ok found)) settings entries (none refl)
+boot_needs command geometry (Err file_fails.Fault) settings entries none = refl
+boot_needs command geometry (Err file_fails.TooLong) settings entries none = refl
+boot_needs command geometry (Err file_fails.NoMemory) settings entries none = refl
+
+-- each file that the words name was read, and each entry that was come to
+abbrev pub AllRead : List (List ℕ) → FileAnswers → Type 0
+AllRead words answers = EachNamed words (λ role name. IsOk (answers.named role)) × All IsOk answers.entries
+
+-- where not each was, the plan is refused; of words that come to no entries there are none
+pub plan_needs : (command : Result Command ℕ) (words : List (List ℕ)) → words_of words ≡ command → (geometry : Geometry) (answers : FileAnswers) →
+    length answers.entries ≤ length (entries_for command geometry answers.named) → has_file command ≡ true → (AllRead words answers → ⊥) →
+    IsErr (plan_of command geometry answers)
+plan_needs (Err place) words is geometry answers few named none = refl
+plan_needs (Ok (Raw command)) words is geometry answers few named none = absurd cc
+plan_needs (Ok (State command)) words is geometry answers few named none =
+    state_needs command geometry (answers.named Tree)
+    (λ tree. none (each_of_state words command is (λ role name. IsOk (answers.named role)) tree, no_entries answers.entries few))
+plan_needs (Ok (MarkGood command)) words is geometry answers few named none =
+    mark_needs command geometry (answers.named Tree) (answers.named Settings)
+    (λ tree settings. none (each_of_mark words command is (λ role name. IsOk (answers.named role)) tree settings, no_entries answers.entries few))
+plan_needs (Ok (BootWords command)) words is geometry answers few named none =
+    boot_needs command geometry (answers.named Tree) (answers.named Settings) answers.entries
+    (λ tree settings entries. none (each_of_boot words command is (λ role name. IsOk (answers.named role)) tree settings, entries))

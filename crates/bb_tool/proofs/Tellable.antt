@@ -1,17 +1,19 @@
 -- A copy that the work of a plan names is one of the three.
-use Rattle.std.proofs.Common.{◌≡◌, ℕ, ◌≤◌, Bool, true, false, List, Some, Result, Ok, Err, IfErr, sym, subst, inl, inr, refl, arith}
+use Rattle.std.proofs.Common.{◌≡◌, ◌≤◌, Bool, true, false, List, Some, Result, Ok, Err, IfErr, sym, subst, inl, inr, refl, arith}
 use Rattle.bb_copies.specs.declared.answers.CopyFault.{CopyFault}
 use Rattle.bb_copies.specs.declared.answers.CopyFault.TheVariants as faults
 use Rattle.bb_flash.specs.Device.{Device}
 use Rattle.bb_layout.specs.Layout.{Laid}
-use Rattle.bb_tool.specs.Plan.{Plan, Work}
+use Rattle.bb_tool.specs.Plan.{SessionPlan, Work}
 use Rattle.bb_tool.specs.Refusal.{IsTellable, copy_refusal, status_of}
-use Rattle.bb_tool.specs.Session.{LoadAnswer, SaveAnswer, worked}
+use Rattle.bb_tool.specs.Booting.{SaveAnswer}
+use Rattle.bb_tool.specs.Session.{LoadAnswer, worked}
 use Rattle.bb_tool.specs.Work.{IsWork, IsWorkedOut}
 use Rattle.bb_tool.specs.declared.refusal.Refusal.{Refusal}
 use Rattle.bb_tool.specs.declared.refusal.Refusal.TheVariants as refusals
+use Rattle.bb_tool.specs.declared.report.Report.{Report}
 use Rattle.bb_tool.proofs.Endings.{FaultTells, work_fault}
-use Rattle.bb_tool.proofs.Unmarked.{is_device_fault}
+use Rattle.bb_tool.proofs.Barred.{is_device_fault}
 
 fault_tellable : (layout : Laid) (from to : Device) (fault : CopyFault) → layout.copies ≤ 3 →
     FaultTells layout from to fault → IsTellable (copy_refusal fault)
@@ -31,11 +33,13 @@ other_tellable (refusals.FileFault file) other = tt
 other_tellable (refusals.FileTooLong file) other = tt
 other_tellable refusals.ReadFault other = tt
 other_tellable (refusals.WriteFault copy) other = absurd cc
+other_tellable refusals.NoTarget other = tt
+other_tellable (refusals.StartFailed name) other = tt
 other_tellable (refusals.BadSettings e) other = tt
 other_tellable (refusals.NoGood place) other = tt
 other_tellable refusals.NoMemory other = tt
 
-plan_tellable : (plan : Plan) (from to : Device) (load : LoadAnswer) (saves : List SaveAnswer)
+plan_tellable : (plan : SessionPlan) (from to : Device) (load : LoadAnswer) (saves : List SaveAnswer)
     (refusal : Refusal) → plan.layout.copies ≤ 3 → IsWork plan from to load saves →
     (worked plan load saves).refusal ≡ Some refusal → (fault : Bool) →
     is_device_fault (status_of refusal) ≡ fault → IsTellable refusal
@@ -45,11 +49,11 @@ plan_tellable plan from to load saves refusal few work h true device =
 plan_tellable plan from to load saves refusal few work h false device =
     other_tellable refusal device
 
-pub tellable_of : (layout : Laid) (work : Work) (from to : Device) (given : Result (List ℕ) Refusal) →
+pub tellable_of : (layout : Laid) (work : Work) (from to : Device) (given : Result Report Refusal) →
     layout.copies ≤ 3 → IsWorkedOut layout work from to given → IfErr given IsTellable
 tellable_of layout work from to (Ok text) few out = tt
 tellable_of layout work from to (Err refusal) few (inl done) =
-    let plan : Plan = record { layout = layout; work = work } in
+    let plan : SessionPlan = record { layout = layout; work = work } in
     plan_tellable plan from to done.load done.saves refusal few done.work done.gives.1
     (is_device_fault (status_of refusal)) refl
 tellable_of layout work from to (Err refusal) few (inr (inl text)) =

@@ -28,7 +28,7 @@ in_order first last continued =
     let e = ap length continued.changes in omega (arith, length-take (moment first) last.changes)
 
 -- a milestone in front of a trail
-before_trail : (Since : ℕ → List (Option (List ℕ)) → Type 0) (now : ℕ) (first : List ℕ)
+pub before_trail : (Since : ℕ → List (Option (List ℕ)) → Type 0) (now : ℕ) (first : List ℕ)
     (h : List (List ℕ)) (a when : ℕ) (later : List Milestone) → when ≤ now →
     ((passed : List (Option (List ℕ))) → Since when passed →
     StandsAtOne first passed (stages_in (milestone_of h a when ∷ later))) →

@@ -24,18 +24,24 @@ use Rattle.bb_state.specs.State.{IsDefault, IsRefused, has_changed, is_kept, is_
 use Rattle.bb_state.specs.State.{IsStored}
 use Rattle.bb_state.specs.declared.state.State.{State}
 use Rattle.bb_tool.specs.Looking.{first_found, look_text, passed_in}
-use Rattle.bb_tool.specs.Plan.{Act, Good, Plan, Show, Work, Write}
+use Rattle.bb_tool.specs.Booting.{SaveAnswer, boots}
+use Rattle.bb_tool.specs.Plan.{Act, Boot, Good, SessionPlan, Show, Work, Write}
 use Rattle.bb_tool.specs.Refusal.{copy_refusal}
-use Rattle.bb_tool.specs.Session.{LoadAnswer, SaveAnswer, Session, loaded_area, saved, saved_where, saves_behind, saves_of, text_of, unmarked, worked}
-use Rattle.bb_tool.specs.Work.{AreSaved, Gives, IsLoaded, IsLooked, IsSaved, IsStoreWork, IsWorkOf, IsWorkedOut, taken}
+use Rattle.bb_tool.specs.Session.{LoadAnswer, Session, barred, loaded_area, saved, saved_where, saves_behind, saves_of, text_of, worked}
+use Rattle.bb_tool.specs.Work.{AreSaved, Gives, IsLoaded, IsLooked, IsSaved, IsStoreWork, IsWorkOf, IsWorkedOut, SendsByMemory, taken}
 use Rattle.bb_tool.specs.declared.refusal.Refusal.{Refusal}
 use Rattle.bb_tool.specs.declared.refusal.Refusal.TheVariants as refusals
+use Rattle.bb_tool.specs.declared.report.Report.{Report}
 use Rattle.bb_tool.proofs.Kept.{found_first, found_none, load_area}
-use Rattle.bb_tool.proofs.Unmarked.{marked_session, unmarked_saves, unmarked_session}
+use Rattle.bb_tool.proofs.Barred.{barred_saves, barred_session, open_session}
+
+-- a report of this text alone
+abbrev pub told_whole : List ℕ → Report
+told_whole text = record { text = text; refusal = None }
 
 -- ---- memory was refused before the device was asked
 
-pub unasked_out : (layout : Laid) (work : Work) (device : Device) (given : Result (List ℕ) Refusal) →
+pub unasked_out : (layout : Laid) (work : Work) (device : Device) (given : Result Report Refusal) →
     given ≡ Err refusals.NoMemory → IsWorkedOut layout work device device given
 unasked_out layout work device given is = inr (inr (record { is = is; unasked = refl }))
 
@@ -51,29 +57,29 @@ look_told layout area true from gives = λ image told.
 look_told layout area false from gives = λ image told.
     found_none (passed_in layout from.geometry.page image) (gives image told)
 
-pub look_done : (layout : Laid) (from to : Device) (found : Option (List ℕ)) (text : List ℕ) →
-    IsLooked layout from to (Ok found) → text ≡ look_text found →
-    IsWorkedOut layout Show from to (Ok text)
-look_done layout from to found text looked is = inl (record {
+pub look_done : (layout : Laid) (from to : Device) (found : Option (List ℕ)) (report : Report) →
+    IsLooked layout from to (Ok found) → report ≡ told_whole (look_text found) →
+    IsWorkedOut layout Show from to (Ok report)
+look_done layout from to found report looked is = inl (record {
   load = Ok found;
   saves = [];
   work = record { looked = looked; none = refl };
-  gives = (sym is, refl);
+  gives = (ap (λ (r : Report). r.text) (sym is), ap (λ (r : Report). r.refusal) (sym is));
 })
 
 pub look_textless : (layout : Laid) (from to : Device) (found : Option (List ℕ))
-    (given : Result (List ℕ) Refusal) → IsLooked layout from to (Ok found) →
+    (given : Result Report Refusal) → IsLooked layout from to (Ok found) →
     given ≡ Err refusals.NoMemory → IsWorkedOut layout Show from to given
 look_textless layout from to found given looked is = inr (inl (record {
   load = Ok found;
   saves = [];
   work = record { looked = looked; none = refl };
-  whole = refl;
+  whole = tt;
   is = is;
 }))
 
 pub look_refused : (layout : Laid) (from to : Device) (fault : CopyFault)
-    (given : Result (List ℕ) Refusal) → IsLooked layout from to (Err fault) →
+    (given : Result Report Refusal) → IsLooked layout from to (Err fault) →
     given ≡ Err (copy_refusal fault) → IsWorkedOut layout Show from to given
 look_refused layout from to fault given looked is =
     subst (IsWorkedOut layout Show from to) (sym is)
@@ -116,7 +122,7 @@ load_ok layout area from to loaded clauses = record {
   fails = tt;
 }
 
-load_err : (layout : Laid) (area : List ℕ) (from to : Device) (fault : CopyFault) →
+pub load_err : (layout : Laid) (area : List ℕ) (from to : Device) (fault : CopyFault) →
     LoadClauses layout area from to (Err fault) → IsLoaded layout None from to (Err fault)
 load_err layout area from to fault clauses = record {
   images = clauses.images;
@@ -133,21 +139,30 @@ is_store Show = false
 is_store (Write area) = true
 is_store (Act actions) = true
 is_store (Good targets) = true
+is_store (Boot targets cause plans) = false
 
-store_work : (work : Work) (plan : Plan) (from to : Device) (load : LoadAnswer)
+store_boots : (work : Work) → is_store work ≡ true → boots work ≡ false
+store_boots Show stored = refl
+store_boots (Write area) stored = refl
+store_boots (Act actions) stored = refl
+store_boots (Good targets) stored = refl
+store_boots (Boot targets cause plans) stored = absurd cc
+
+store_work : (work : Work) (plan : SessionPlan) (from to : Device) (load : LoadAnswer)
     (saves : List SaveAnswer) → is_store work ≡ true → IsStoreWork plan from to load saves →
     IsWorkOf work plan from to load saves
 store_work Show plan from to load saves stored done = absurd cc
 store_work (Write area) plan from to load saves stored done = done
 store_work (Act actions) plan from to load saves stored done = done
 store_work (Good targets) plan from to load saves stored done = done
+store_work (Boot targets cause plans) plan from to load saves stored done = absurd cc
 
 pub load_refused : (layout : Laid) (work : Work) (area : List ℕ) (from to : Device)
-    (fault : CopyFault) (given : Result (List ℕ) Refusal) → is_store work ≡ true →
+    (fault : CopyFault) (given : Result Report Refusal) → is_store work ≡ true →
     2 ≤ layout.copies → LoadClauses layout area from to (Err fault) →
     given ≡ Err (copy_refusal fault) → IsWorkedOut layout work from to given
 load_refused layout work area from to fault given stored many clauses is =
-    let plan : Plan = record { layout = layout; work = work } in
+    let plan : SessionPlan = record { layout = layout; work = work } in
     subst (IsWorkedOut layout work from to) (sym is)
     (inl (record {
       load = Err fault;
@@ -166,16 +181,16 @@ load_refused layout work area from to fault given stored many clauses is =
 
 -- the saves that were begun of these areas, and what they make of the session that has this text
 pub record IsBegun (layout : Laid) (used : Option ℕ) (areas : List (List ℕ)) (mid to : Device)
-    (given : List ℕ → Result (List ℕ) Refusal) : Type 0 where
+    (given : List ℕ → Result Report Refusal) : Type 0 where
   pub saves : List SaveAnswer
   pub are : AreSaved layout used areas mid to saves
   pub gives : (text : List ℕ) → Gives (saved text areas saves) (given text)
 
 pub saved_ok : (layout : Laid) (used : Option ℕ) (area : List ℕ) (mid to : Device) →
-    IsSaved layout used area mid to (Ok tt) →
-    IsBegun layout used (area ∷ []) mid to (λ text. Ok text)
+    IsSaved layout used area mid to (Ok false) →
+    IsBegun layout used (area ∷ []) mid to (λ text. Ok (told_whole text))
 saved_ok layout used area mid to done = record {
-  saves = Ok tt ∷ [];
+  saves = Ok false ∷ [];
   are = (done, (refl, refl));
   gives = λ text. (refl, refl);
 }
@@ -191,8 +206,8 @@ saved_err layout used area mid to fault done = record {
 
 -- an area that is the one that was loaded isn't saved
 pub where_ok : (layout : Laid) (used : Option ℕ) (area : List ℕ) (mid to : Device) (same : Bool) →
-    (same ≡ true → to ≡ mid) → (same ≡ false → IsSaved layout used area mid to (Ok tt)) →
-    IsBegun layout used (saved_where same area) mid to (λ text. Ok text)
+    (same ≡ true → to ≡ mid) → (same ≡ false → IsSaved layout used area mid to (Ok false)) →
+    IsBegun layout used (saved_where same area) mid to (λ text. Ok (told_whole text))
 where_ok layout used area mid to true idle saves = record {
   saves = [];
   are = (refl, idle refl);
@@ -213,10 +228,10 @@ where_err layout used area mid to false fault idle saves =
 module _ (layout : Laid) (work : Work) (from mid to : Device) (area : List ℕ) (loaded : Loaded)
     (stored : is_store work ≡ true) (many : 2 ≤ layout.copies)
     (clauses : LoadClauses layout area from mid (Ok loaded))
-    (given : List ℕ → Result (List ℕ) Refusal)
+    (given : List ℕ → Result Report Refusal)
     (begun : IsBegun layout (used_after loaded) (saves_of layout work area) mid to given)
-    (marks : unmarked work area ≡ None) where
-  abbrev Whole : Plan
+    (free : barred work area ≡ None) where
+  abbrev Whole : SessionPlan
   Whole = record { layout = layout; work = work }
 
   same_area : loaded_area layout (taken area loaded) ≡ area
@@ -234,7 +249,8 @@ module _ (layout : Laid) (work : Work) (from mid to : Device) (area : List ℕ) 
       ≡ saved (text_of layout work (taken area loaded))
       (saves_behind Whole (Ok (taken area loaded))) begun_behind.saves
   session_is =
-      marked_session Whole (taken area loaded) begun_behind.saves (ap (unmarked work) same_area ∙ marks)
+      open_session Whole (taken area loaded) begun_behind.saves (store_boots work stored)
+      (ap (barred work) same_area ∙ free)
 
   store_done : IsWorkOf work Whole from to (Ok (taken area loaded)) begun_behind.saves
   store_done =
@@ -247,7 +263,7 @@ module _ (layout : Laid) (work : Work) (from mid to : Device) (area : List ℕ) 
       })
 
   -- the session answers this
-  pub stored_out : (answer : Result (List ℕ) Refusal) →
+  pub stored_out : (answer : Result Report Refusal) →
       answer ≡ given (text_of layout work (taken area loaded)) →
       IsWorkedOut layout work from to answer
   stored_out answer is =
@@ -262,8 +278,8 @@ module _ (layout : Laid) (work : Work) (from mid to : Device) (area : List ℕ) 
       }))
 
   -- or memory was refused for its text
-  pub stored_textless : ((text : List ℕ) → given text ≡ Ok text) →
-      (answer : Result (List ℕ) Refusal) → answer ≡ Err refusals.NoMemory →
+  pub stored_textless : ((text : List ℕ) → given text ≡ Ok (told_whole text)) →
+      (answer : Result Report Refusal) → answer ≡ Err refusals.NoMemory →
       IsWorkedOut layout work from to answer
   stored_textless whole answer is =
       let text = text_of layout work (taken area loaded) in
@@ -274,24 +290,25 @@ module _ (layout : Laid) (work : Work) (from mid to : Device) (area : List ℕ) 
         load = Ok (taken area loaded);
         saves = begun_behind.saves;
         work = store_done;
-        whole = ap (λ (s : Session). s.refusal) session_is ∙ gives.1;
+        whole =
+            subst SendsByMemory (sym (ap (λ (s : Session). s.refusal) session_is ∙ gives.1)) tt;
         is = is;
       }))
 
--- ---- a load that gave a table in which no target is to be marked good
+-- ---- a load that gave a table which ends the session
 
-pub unmarked_out : (layout : Laid) (work : Work) (from to : Device) (area : List ℕ)
-    (loaded : Loaded) (place : ℕ) → is_store work ≡ true → 2 ≤ layout.copies →
-    LoadClauses layout area from to (Ok loaded) → unmarked work area ≡ Some place →
-    (given : Result (List ℕ) Refusal) → given ≡ Err (refusals.NoGood place) →
+pub barred_out : (layout : Laid) (work : Work) (from to : Device) (area : List ℕ)
+    (loaded : Loaded) (refusal : Refusal) → is_store work ≡ true → 2 ≤ layout.copies →
+    LoadClauses layout area from to (Ok loaded) → barred work area ≡ Some refusal →
+    (given : Result Report Refusal) → given ≡ Err refusal →
     IsWorkedOut layout work from to given
-unmarked_out layout work from to area loaded place stored many clauses marks given is =
-    let plan : Plan = record { layout = layout; work = work } in
+barred_out layout work from to area loaded refusal stored many clauses bars given is =
+    let plan : SessionPlan = record { layout = layout; work = work } in
     let found = taken area loaded in
     let same : loaded_area layout found ≡ area =
     load_area layout area loaded from to
     (record { gives = clauses.gives; defaults = clauses.defaults; exact = clauses.exact }) in
-    let here : unmarked work (loaded_area layout found) ≡ Some place = ap (unmarked work) same ∙ marks in
+    let here : barred work (loaded_area layout found) ≡ Some refusal = ap (barred work) same ∙ bars in
     subst (IsWorkedOut layout work from to) (sym is)
     (inl (record {
       load = Ok found;
@@ -303,11 +320,11 @@ unmarked_out layout work from to area loaded place stored many clauses marks giv
         loaded = load_ok layout area from to loaded clauses;
         saved =
             subst (λ areas. AreSaved layout (used_after loaded) areas to to [])
-            (sym (unmarked_saves layout work (loaded_area layout found) place here)) (refl, refl);
+            (sym (barred_saves layout work (loaded_area layout found) refusal here)) (refl, refl);
       });
       gives =
-          subst (λ (s : Session). Gives s (Err (refusals.NoGood place)))
-          (sym (unmarked_session plan found [] place here)) (refl, refl);
+          subst (λ (s : Session). Gives s (Err refusal))
+          (sym (barred_session plan found [] refusal here)) (refl, refl);
     }))
 
 -- ---- a vector that was filled anew
@@ -383,12 +400,12 @@ module _ (first state : State) (layout : Laid) (new : List ℕ) (loaded : Loaded
       (has_changed state ≡ true → IsUndisturbed mid to →
       EachWritten (laid_kinds (laid_of state)) ((laid_form (laid_of state)).text state.table) mid to) →
       IsBegun layout (used_after loaded) (saved_where (bytes_eq new first.table) new) mid to
-      (λ text. Ok text)
+      (λ text. Ok (told_whole text))
   changed_ok stored exact =
       where_ok layout (used_after loaded) new mid to (bytes_eq new first.table)
       (λ e. idle (changed_so ∙ ap not e))
       (λ e. let changed = changed_so ∙ ap not e in
-      moved (Ok tt) (record {
+      moved (Ok false) (record {
         now = now;
         runs = runs changed;
         stored = stored changed;
@@ -434,7 +451,7 @@ module _ (first state : State) (layout : Laid) (actions : List Action) (loaded :
       (has_changed state ≡ true → IsUndisturbed mid to →
       EachWritten (laid_kinds (laid_of state)) ((laid_form (laid_of state)).text state.table) mid to) →
       IsBegun layout (used_after loaded) (saves_of layout (Act actions) first.table) mid to
-      (λ text. Ok text)
+      (λ text. Ok (told_whole text))
   acted_ok =
       changed_ok first state layout (after_all layout.vars first.table actions) loaded mid to now
       backing made_is layout_is used sure kept runs idle

@@ -1,5 +1,5 @@
 -- The turn of a session and its trail, from what its work made of the device.
-use Rattle.std.proofs.Common.{◌≡◌, ℕ, List, [], ◌∷◌, length, Option, Some, None, Ok, Err, is_some, refl, sym, ap, subst, ◌∙◌, inl, inr, arith}
+use Rattle.std.proofs.Common.{◌≡◌, ℕ, false, List, [], ◌∷◌, length, Option, Some, None, Ok, Err, is_some, refl, sym, ap, subst, ◌∙◌, inl, inr, arith}
 use Rattle.std.specs.Option.{option_map}
 use Rattle.std.proofs.lemmas.Option.{slice_get_within}
 use Rattle.bb_copies.specs.Chronicle.{Content, Loaded, Looked, Turn, Unloaded}
@@ -12,15 +12,23 @@ use Rattle.bb_flash.specs.Cuts.{EachImage, IsLater, IsSameRegion}
 use Rattle.bb_flash.specs.Device.{Device, Told, moment}
 use Rattle.bb_flash.specs.Image.{Image}
 use Rattle.bb_flash.proofs.Moments.{images_joined}
+use Rattle.bb_chooser.specs.Binding.{Binding}
+use Rattle.bb_chooser.specs.declared.cause.Cause.{Cause}
+use Rattle.bb_flash.specs.declared.plan.Plan.{Plan as StartPlan}
 use Rattle.bb_layout.specs.Layout.{Laid}
+use Rattle.bb_shell.specs.Stages.{made_of as made_behind}
+use Rattle.bb_shell.proofs.Reached.{stops_refused}
 use Rattle.bb_state.specs.Kinds.{laid_kinds}
 use Rattle.bb_tool.specs.Looking.{IsQuiet, passed_in}
-use Rattle.bb_tool.specs.Plan.{Act, Good, Plan, Show, Work, Write}
-use Rattle.bb_tool.specs.Session.{LoadAnswer, SaveAnswer, loaded_area, saved, saves_behind, text_of, unmarked}
-use Rattle.bb_tool.specs.Turns.{EachStanding, HasTrail, HasTrails, IsFairRun, LeadsOn, LeadsTo, first_area, load_turn, made_of, work_turn}
-use Rattle.bb_tool.specs.Work.{AreSaved, IsLoaded, IsSaved, IsStoreWork, IsWork, IsWorkOf}
+use Rattle.bb_tool.specs.Booting.{SaveAnswer, boots, target_started}
+use Rattle.bb_tool.specs.Plan.{Act, Boot, Good, SessionPlan, Show, Work, Write}
+use Rattle.bb_tool.specs.Session.{LoadAnswer, Session, barred, loaded_area, saved, saves_behind, text_of}
+use Rattle.bb_tool.specs.Turns.{EachStanding, HasTrail, HasTrails, IsFairRun, LeadsOn, LeadsTo, boot_turn, first_area, load_turn, made_of, work_turn}
+use Rattle.bb_tool.specs.Work.{AreSaved, IsBootWork, IsLoaded, IsSaved, IsStoreWork, IsWork, IsWorkOf}
 use Rattle.bb_tool.proofs.Copies.{given, load_stays, loads_in_order, saves_in_order, since_entry, since_load, stored_stands}
-use Rattle.bb_tool.proofs.Unmarked.{worked_saves}
+use Rattle.bb_tool.proofs.Barred.{worked_saves}
+use Rattle.bb_tool.proofs.BootTurns.{boot_leads, boot_trail}
+use Rattle.bb_tool.proofs.Booted.{boot_is}
 use Rattle.bb_tool.proofs.Turns.{counts_now, fair_from, leads, loaded_leads, loaded_trail, made_leads, made_trail, refused_leads, refused_trail, some_of, standing_at, stays_trail}
 
 -- the turn leads on, in a fair run, and has a trail
@@ -141,19 +149,19 @@ saves_turned layout used from mid to found text (area ∷ []) (answer ∷ (other
 
 -- ---- the work of a plan
 
-store_turned : (plan : Plan) (from to : Device) (load : LoadAnswer) (saves : List SaveAnswer) →
+store_turned : (plan : SessionPlan) (from to : Device) (load : LoadAnswer) (saves : List SaveAnswer) → boots plan.work ≡ false →
     IsStoreWork plan from to load saves → Turned plan.layout from to (load_turn plan load saves)
-store_turned plan from to (Ok found) saves work =
+store_turned plan from to (Ok found) saves store work =
     let text = text_of plan.layout plan.work found in
     let areas = saves_behind plan (Ok found) in
     subst
     (λ (made : List (List ℕ)). Turned plan.layout from to
     (λ marks. Loaded (picked marks) made (made_of saves) None))
-    (sym (worked_saves plan found saves
-    (unmarked plan.work (loaded_area plan.layout found)) refl))
+    (sym (worked_saves plan found saves store
+    (barred plan.work (loaded_area plan.layout found)) refl))
     (saves_turned plan.layout work.used from work.middle to found text areas saves work.loaded
     work.saved)
-store_turned plan from to (Err fault) saves work =
+store_turned plan from to (Err fault) saves store work =
     subst (λ d. Turned plan.layout from d (λ marks. Unloaded)) (sym work.saved.1)
     (unloaded plan.layout work.used from work.middle fault work.loaded)
 
@@ -195,23 +203,51 @@ look_turned layout from to quiet = λ first e last f before is stands.
       trail = stays_trail layout page first last before Looked (omega (arith, same)) refl stays;
     }
 
-work_turned : (work : Work) (plan : Plan) (from to : Device) (load : LoadAnswer)
-    (saves : List SaveAnswer) → IsWorkOf work plan from to load saves →
-    Turned plan.layout from to (work_turn work plan load saves)
-work_turned Show plan from to load saves work = look_turned plan.layout from to work.looked.quiet
-work_turned (Write area) plan from to load saves work = store_turned plan from to load saves work
-work_turned (Act actions) plan from to load saves work = store_turned plan from to load saves work
-work_turned (Good targets) plan from to load saves work = store_turned plan from to load saves work
+boot_turned : (plan : SessionPlan) (targets : Binding) (cause : Cause) (plans : List (Option StartPlan)) (from to : Device)
+    (load : LoadAnswer) (saves : List SaveAnswer) → plan.work ≡ Boot targets cause plans →
+    IsBootWork targets cause plans plan from to load saves → Turned plan.layout from to (boot_turn plan load saves)
+boot_turned plan targets cause plans from to (Err fault) saves is work =
+    subst (λ d. Turned plan.layout from d (λ marks. Unloaded)) (sym work.booted.1)
+    (unloaded plan.layout work.used from work.middle fault work.loaded)
+boot_turned plan targets cause plans from to (Ok found) saves is work =
+    let run = work.booted in
+    let load = work.loaded in
+    let table = loaded_area plan.layout found in
+    let session = boot_is plan targets cause plans found work.used work.middle to saves is run in
+    subst
+    (λ (s : Session). Turned plan.layout from to
+    (λ marks. Loaded (picked marks) s.saves (made_behind table s.rounds) (target_started s.rounds))) (sym session)
+    (λ first e last f before here stands.
+    let there = some_of work.middle.told (load.later.told ∙ ap is_some e) in
+    let stops = stops_refused targets plans _ run.rounds run.are in
+    record {
+      leads =
+          boot_leads plan.layout from work.middle to first there.0 last e there.1 f before work.geometry here stands load.images
+          load.later run.later work.used found load.gives run.rounds run.now stops run.trail run.exit;
+      trail =
+          boot_trail plan.layout from work.middle to first there.0 last e there.1 f before work.geometry here stands load.images
+          load.later run.later work.used found load.gives run.rounds run.now stops run.trail run.exit;
+    })
 
-pub leads_on : (plan : Plan) (from to : Device) (load : LoadAnswer) (saves : List SaveAnswer) →
+work_turned : (work : Work) (plan : SessionPlan) (from to : Device) (load : LoadAnswer)
+    (saves : List SaveAnswer) → plan.work ≡ work → IsWorkOf work plan from to load saves →
+    Turned plan.layout from to (work_turn work plan load saves)
+work_turned Show plan from to load saves is work = look_turned plan.layout from to work.looked.quiet
+work_turned (Write area) plan from to load saves is work = store_turned plan from to load saves (ap boots is) work
+work_turned (Act actions) plan from to load saves is work = store_turned plan from to load saves (ap boots is) work
+work_turned (Good targets) plan from to load saves is work = store_turned plan from to load saves (ap boots is) work
+work_turned (Boot targets cause plans) plan from to load saves is work =
+    boot_turned plan targets cause plans from to load saves is work
+
+pub leads_on : (plan : SessionPlan) (from to : Device) (load : LoadAnswer) (saves : List SaveAnswer) →
     IsWork plan from to load saves → LeadsOn plan from to load saves
 leads_on plan from to load saves work = λ first e last f before is stands.
-    (work_turned plan.work plan from to load saves work first e last f before is stands).leads
+    (work_turned plan.work plan from to load saves refl work first e last f before is stands).leads
 
-pub has_trails : (plan : Plan) (from to : Device) (load : LoadAnswer) (saves : List SaveAnswer) →
+pub has_trails : (plan : SessionPlan) (from to : Device) (load : LoadAnswer) (saves : List SaveAnswer) →
     IsWork plan from to load saves → HasTrails plan from to load saves
 has_trails plan from to load saves work = λ first e last f before is stands.
-    (work_turned plan.work plan from to load saves work first e last f before is stands).trail
+    (work_turned plan.work plan from to load saves refl work first e last f before is stands).trail
 
 -- ---- outside of the copies
 
@@ -257,7 +293,7 @@ outside_looked layout from to quiet = λ region out. record {
       ];
 }
 
-work_outside : (work : Work) (plan : Plan) (from to : Device) (load : LoadAnswer)
+work_outside : (work : Work) (plan : SessionPlan) (from to : Device) (load : LoadAnswer)
     (saves : List SaveAnswer) → IsWorkOf work plan from to load saves →
     KeepsOutside (laid_kinds plan.layout) from to
 work_outside Show plan from to load saves work = outside_looked plan.layout from to work.looked.quiet
@@ -270,8 +306,12 @@ work_outside (Act actions) plan from to load saves work =
 work_outside (Good targets) plan from to load saves work =
     outside_saved plan.layout work.used from work.middle to load (saves_behind plan load) saves
     work.loaded work.saved
+work_outside (Boot targets cause plans) plan from to (Ok found) saves work =
+    outside_joined plan.layout from work.middle to work.loaded.later work.booted.later work.loaded.outside work.booted.outside
+work_outside (Boot targets cause plans) plan from to (Err fault) saves work =
+    subst (λ d. KeepsOutside (laid_kinds plan.layout) from d) (sym work.booted.1) work.loaded.outside
 
-pub keeps_outside : (plan : Plan) (from to : Device) (load : LoadAnswer) (saves : List SaveAnswer) →
+pub keeps_outside : (plan : SessionPlan) (from to : Device) (load : LoadAnswer) (saves : List SaveAnswer) →
     IsWork plan from to load saves → KeepsOutside (laid_kinds plan.layout) from to
 keeps_outside plan from to load saves work =
     work_outside plan.work plan from to load saves work

@@ -1,25 +1,35 @@
 -- What a session is to do on the device, or why it is refused before: a function of its words, of the device's geometry,
 -- and of what reading the files gave that the words name.
-use Rattle.std.specs.Prelude.{ℕ, Bool, is_some, List, Option, Some, None, Result, Ok, Err}
+use Rattle.std.specs.Prelude.{ℕ, Bool, is_some, List, [], map, Option, Some, None, Result, Ok, Err, slice_get, unwrap_or}
 use Rattle.std.specs.Option.{option_map_or}
+use Rattle.std.specs.Result.{result_ok}
 use Rattle.bb_actions.specs.Actions.{misfit_of}
 use Rattle.bb_base.specs.Folder.{FileMap, file_of}
 use Rattle.bb_base.specs.declared.files.FileFail.{FileFail}
 use Rattle.bb_base.specs.declared.files.FileFail.TheVariants as file_fails
 use Rattle.bb_chooser.specs.Binding.{Binding, bind_from}
 use Rattle.bb_chooser.specs.Settings.{settings_of}
+use Rattle.bb_chooser.specs.declared.cause.Cause.{Cause}
+use Rattle.bb_chooser.specs.declared.cause.Cause.TheVariants.{PowerOn, Reset, Other}
 use Rattle.bb_chooser.specs.declared.settings_error.SettingsError.{SettingsError}
 use Rattle.bb_dts.specs.Source.{source_of}
 use Rattle.bb_flash.specs.declared.geometry.Geometry.{Geometry}
+use Rattle.bb_flash.specs.declared.plan.Plan.{Plan as StartPlan}
 use Rattle.bb_layout.specs.Layout.{Laid, layout_from}
 use Rattle.bb_layout.specs.Results.{result_and_then}
 use Rattle.bb_layout.specs.Thirds.{raw_layout}
 use Rattle.bb_layout.specs.declared.layout_error.LayoutError.{LayoutError}
+use Rattle.bb_shell.specs.Plans.{entries_of, plans_by}
+use Rattle.bb_shell.specs.declared.plan_fault.PlanFault.{PlanFault}
+use Rattle.bb_shell.specs.declared.plan_fault.PlanFault.TheVariants as plan_faults
 use Rattle.bb_state.specs.declared.error.StateError.{StateError}
 use Rattle.bb_words.specs.Words.{words_of}
 use Rattle.bb_words.specs.declared.command.Action.{Action}
 use Rattle.bb_words.specs.declared.command.Command.{Command}
-use Rattle.bb_words.specs.declared.command.Command.TheVariants.{Raw, State, MarkGood}
+use Rattle.bb_words.specs.declared.command.BootCommand.{BootCommand}
+use Rattle.bb_words.specs.declared.command.CauseWord.{CauseWord}
+use Rattle.bb_words.specs.declared.command.CauseWord.TheVariants as words_for
+use Rattle.bb_words.specs.declared.command.Command.TheVariants.{Raw, State, MarkGood, Boot as BootWords}
 use Rattle.bb_words.specs.declared.command.MarkGoodCommand.{MarkGoodCommand}
 use Rattle.bb_words.specs.declared.command.RawAction.{RawAction}
 use Rattle.bb_words.specs.declared.command.RawAction.TheVariants as raw_actions
@@ -39,9 +49,10 @@ pub data Role : Type 0 where
   -- `-c`: bootchooser's settings
   Settings : Role
 
--- what reading each of them gave
-abbrev pub FileAnswers : Type 0
-FileAnswers = Role → FileAnswer
+-- what reading each of them gave, and each entry of the targets that the settings name
+pub record FileAnswers : Type 0 where
+  pub named : Role → FileAnswer
+  pub entries : List FileAnswer
 
 -- what is done with the copies of a layout
 pub data Work : Type 0 where
@@ -55,8 +66,11 @@ pub data Work : Type 0 where
   -- to load them, to give the target that was chosen last its default attempts, to save the table
   -- that this makes where it is another, and to send that target
   Good : Binding → Work
+  -- to load them, to reset by this cause, and then round by round to spend an attempt of the best
+  -- target, to save the table, and to start the target by its plan, if it has one
+  Boot : Binding → Cause → List (Option StartPlan) → Work
 
-pub record Plan : Type 0 where
+pub record SessionPlan : Type 0 where
   pub layout : Laid
   pub work : Work
 
@@ -99,6 +113,27 @@ binding_in file layout answer =
     result_and_then (λ text. refused_as refusals.BadSettings (bound_in layout text))
     (bytes_in file answer)
 
+-- the reset of this cause
+abbrev pub cause_of : CauseWord → Cause
+cause_of words_for.PowerOn = PowerOn
+cause_of words_for.Reset = Reset
+cause_of words_for.Other = Other
+
+-- the entry's file of a target
+abbrev pub entry_name : Binding → ℕ → List ℕ
+entry_name binding target = unwrap_or (slice_get (entries_of binding) target) []
+
+-- a refusal of plans names the entry's file
+abbrev pub plan_refusal : Binding → PlanFault → Refusal
+plan_refusal binding (plan_faults.FileFault target) = refusals.FileFault (entry_name binding target)
+plan_refusal binding (plan_faults.FileTooLong target) =
+    refusals.FileTooLong (entry_name binding target)
+plan_refusal binding plan_faults.NoMemory = refusals.NoMemory
+
+-- the plan of each target by what reading its entry's file gave
+abbrev pub plans_in : Binding → List FileAnswer → Result (List (Option StartPlan)) Refusal
+plans_in binding entries = refused_as (plan_refusal binding) (plans_by entries)
+
 -- all variables that are named fit, or this is the first that doesn't
 abbrev pub fit_by : Option (List ℕ × StateError) → Result (Unit {0}) Refusal
 fit_by None = Ok tt
@@ -110,45 +145,66 @@ abbrev pub raw_work : RawAction → Work
 raw_work raw_actions.Look = Show
 raw_work (raw_actions.Write area) = Write area
 
-abbrev pub raw_laid : RawCommand → Result Laid LayoutError → Result Plan Refusal
+abbrev pub raw_laid : RawCommand → Result Laid LayoutError → Result SessionPlan Refusal
 raw_laid command (Ok layout) = Ok (record { layout = layout; work = raw_work command.action })
 raw_laid command (Err e) = Err (refusals.BadLayout e)
 
-abbrev pub raw_plan : RawCommand → Geometry → Result Plan Refusal
+abbrev pub raw_plan : RawCommand → Geometry → Result SessionPlan Refusal
 raw_plan command geometry = raw_laid command (raw_layout command.magic command.area_len geometry)
 
 -- `state`: its layout, and then the variables that are named
-abbrev pub state_laid : StateCommand → Laid → Result Plan Refusal
+abbrev pub state_laid : StateCommand → Laid → Result SessionPlan Refusal
 state_laid command layout =
     result_and_then (λ fit. Ok (record { layout = layout; work = Act command.actions }))
     (fit_by (misfit_of layout.vars command.actions))
 
-abbrev pub state_plan : StateCommand → Geometry → FileAnswer → Result Plan Refusal
+abbrev pub state_plan : StateCommand → Geometry → FileAnswer → Result SessionPlan Refusal
 state_plan command geometry tree =
     result_and_then (state_laid command) (layout_in command.file command.name geometry tree)
 
 -- `mark-good`: its layout, and then its settings
-abbrev pub mark_laid : MarkGoodCommand → FileAnswer → Laid → Result Plan Refusal
+abbrev pub mark_laid : MarkGoodCommand → FileAnswer → Laid → Result SessionPlan Refusal
 mark_laid command settings layout =
     result_and_then (λ binding. Ok (record { layout = layout; work = Good binding }))
     (binding_in command.settings layout settings)
 
-abbrev pub mark_plan : MarkGoodCommand → Geometry → FileAnswer → FileAnswer → Result Plan Refusal
+abbrev pub mark_plan : MarkGoodCommand → Geometry → FileAnswer → FileAnswer → Result SessionPlan Refusal
 mark_plan command geometry tree settings =
     result_and_then (mark_laid command settings)
     (layout_in command.file command.name geometry tree)
 
+-- `boot`: its layout, its settings, and then the entries of its targets
+abbrev pub boot_bound : BootCommand → List FileAnswer → Laid → Binding → Result SessionPlan Refusal
+boot_bound command entries layout binding =
+    result_and_then
+    (λ plans. Ok (record { layout = layout; work = Boot binding (cause_of command.cause) plans }))
+    (plans_in binding entries)
+
+abbrev pub boot_laid :
+    BootCommand → FileAnswer → List FileAnswer → Laid → Result SessionPlan Refusal
+boot_laid command settings entries layout =
+    result_and_then (boot_bound command entries layout)
+    (binding_in command.settings layout settings)
+
+abbrev pub boot_plan :
+    BootCommand → Geometry → FileAnswer → FileAnswer → List FileAnswer → Result SessionPlan Refusal
+boot_plan command geometry tree settings entries =
+    result_and_then (boot_laid command settings entries)
+    (layout_in command.file command.name geometry tree)
+
 -- ---- all commands
 
-abbrev pub plan_of : Result Command ℕ → Geometry → FileAnswers → Result Plan Refusal
+abbrev pub plan_of : Result Command ℕ → Geometry → FileAnswers → Result SessionPlan Refusal
 plan_of (Ok (Raw command)) geometry files = raw_plan command geometry
-plan_of (Ok (State command)) geometry files = state_plan command geometry (files Tree)
+plan_of (Ok (State command)) geometry files = state_plan command geometry (files.named Tree)
 plan_of (Ok (MarkGood command)) geometry files =
-    mark_plan command geometry (files Tree) (files Settings)
+    mark_plan command geometry (files.named Tree) (files.named Settings)
+plan_of (Ok (BootWords command)) geometry files =
+    boot_plan command geometry (files.named Tree) (files.named Settings) files.entries
 plan_of (Err place) geometry files = Err (refusals.BadWords place)
 
 -- the steps that make no device call, in their order. The first refusal decides.
-abbrev pub planned : List (List ℕ) → Geometry → FileAnswers → Result Plan Refusal
+abbrev pub planned : List (List ℕ) → Geometry → FileAnswers → Result SessionPlan Refusal
 planned words geometry files = plan_of (words_of words) geometry files
 
 -- the file that a command names for this
@@ -158,6 +214,8 @@ name_for (Ok (State command)) Tree = Some command.file
 name_for (Ok (State command)) Settings = None
 name_for (Ok (MarkGood command)) Tree = Some command.file
 name_for (Ok (MarkGood command)) Settings = Some command.settings
+name_for (Ok (BootWords command)) Tree = Some command.file
+name_for (Ok (BootWords command)) Settings = Some command.settings
 name_for (Err place) role = None
 
 -- a command names a file
@@ -167,14 +225,35 @@ has_file command = is_some (name_for command Tree)
 abbrev pub names_file : List (List ℕ) → Bool
 names_file words = has_file (words_of words)
 
+-- the targets whose entries a command reads, where it came to them
+abbrev pub bound_by : Result Command ℕ → Geometry → (Role → FileAnswer) → Option Binding
+bound_by (Ok (Raw command)) geometry files = None
+bound_by (Ok (State command)) geometry files = None
+bound_by (Ok (MarkGood command)) geometry files = None
+bound_by (Ok (BootWords command)) geometry files =
+    result_ok
+    (result_and_then (λ layout. binding_in command.settings layout (files Settings))
+    (layout_in command.file command.name geometry (files Tree)))
+bound_by (Err place) geometry files = None
+
+-- the names of their entries' files
+abbrev pub entries_for : Result Command ℕ → Geometry → (Role → FileAnswer) → List (List ℕ)
+entries_for command geometry files = option_map_or entries_of (bound_by command geometry files) []
+
 -- the files that the words name, among these; where they name none, none is read
 abbrev pub file_named : Result Command ℕ → FileMap → Role → FileAnswer
 file_named command files role = option_map_or (file_of files) (name_for command role) (Ok None)
 
-abbrev pub files_for : List (List ℕ) → FileMap → FileAnswers
-files_for words files = file_named (words_of words) files
+-- and with them the entries of the targets
+abbrev pub files_of : Result Command ℕ → Geometry → FileMap → FileAnswers
+files_of command geometry files =
+    let named = file_named command files in
+    record { named = named; entries = map (file_of files) (entries_for command geometry named) }
+
+abbrev pub files_for : List (List ℕ) → Geometry → FileMap → FileAnswers
+files_for words geometry files = files_of (words_of words) geometry files
 
 -- how many copies the layout of a plan has
-abbrev pub copies_in : Result Plan Refusal → ℕ
+abbrev pub copies_in : Result SessionPlan Refusal → ℕ
 copies_in (Ok plan) = plan.layout.copies
 copies_in (Err refusal) = 0

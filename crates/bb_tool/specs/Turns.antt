@@ -11,8 +11,10 @@ use Rattle.bb_flash.specs.Image.{Image}
 use Rattle.bb_layout.specs.Defaults.{defaults_of}
 use Rattle.bb_layout.specs.Layout.{Laid}
 use Rattle.bb_tool.specs.Looking.{passed_in}
-use Rattle.bb_tool.specs.Plan.{Act, Good, Plan, Show, Work, Write}
-use Rattle.bb_tool.specs.Session.{LoadAnswer, SaveAnswer, worked}
+use Rattle.bb_shell.specs.Stages.{made_of as made_behind}
+use Rattle.bb_tool.specs.Booting.{SaveAnswer, target_started}
+use Rattle.bb_tool.specs.Plan.{Act, Boot, Good, SessionPlan, Show, Work, Write}
+use Rattle.bb_tool.specs.Session.{LoadAnswer, loaded_area, worked}
 
 -- the area that an empty device stands for
 abbrev pub first_area : Laid → List ℕ
@@ -24,19 +26,28 @@ first_area layout = defaults_of layout.area_len layout.vars
 abbrev pub made_of : List SaveAnswer → ℕ
 made_of saves = count_by is_ok saves
 
-abbrev pub load_turn : Plan → LoadAnswer → List SaveAnswer → List (Option ℕ) → Turn
+abbrev pub load_turn : SessionPlan → LoadAnswer → List SaveAnswer → List (Option ℕ) → Turn
 load_turn plan (Ok found) saves marks =
     Loaded (picked marks) (worked plan (Ok found) saves).saves (made_of saves) None
 load_turn plan (Err fault) saves marks = Unloaded
 
-abbrev pub work_turn : Work → Plan → LoadAnswer → List SaveAnswer → List (Option ℕ) → Turn
+-- of a boot, in which a save is begun only where a round has another table than the one before
+abbrev pub boot_turn : SessionPlan → LoadAnswer → List SaveAnswer → List (Option ℕ) → Turn
+boot_turn plan (Ok found) saves marks =
+    let session = worked plan (Ok found) saves in
+    Loaded (picked marks) session.saves (made_behind (loaded_area plan.layout found) session.rounds)
+    (target_started session.rounds)
+boot_turn plan (Err fault) saves marks = Unloaded
+
+abbrev pub work_turn : Work → SessionPlan → LoadAnswer → List SaveAnswer → List (Option ℕ) → Turn
 work_turn Show plan load saves marks = Looked
 work_turn (Write area) plan load saves marks = load_turn plan load saves marks
 work_turn (Act actions) plan load saves marks = load_turn plan load saves marks
 work_turn (Good targets) plan load saves marks = load_turn plan load saves marks
+work_turn (Boot targets cause plans) plan load saves marks = boot_turn plan load saves marks
 
 -- of a plan, at copies with these marks
-abbrev pub turn_of : Plan → LoadAnswer → List SaveAnswer → List (Option ℕ) → Turn
+abbrev pub turn_of : SessionPlan → LoadAnswer → List SaveAnswer → List (Option ℕ) → Turn
 turn_of plan load saves marks = work_turn plan.work plan load saves marks
 
 -- the stages that a turn reached: a save that wasn't acknowledged is the last
@@ -95,7 +106,7 @@ IsFairRun layout page first last =
     IsFair (IsLucky (passed_in layout page)) last (moment first) (moment last)
 
 -- at exit, in a fair run, the copies stand for what the session's turn makes of the list
-abbrev pub LeadsOn : Plan → Device → Device → LoadAnswer → List SaveAnswer → Type 0
+abbrev pub LeadsOn : SessionPlan → Device → Device → LoadAnswer → List SaveAnswer → Type 0
 LeadsOn plan from to load saves =
     EachStanding plan.layout from to
     (λ first last before.
@@ -104,7 +115,7 @@ LeadsOn plan from to load saves =
     (passed_in plan.layout from.geometry.page last.image))
 
 -- each image on the way that counts stands for the stage that it reached, or for a later one
-abbrev pub HasTrails : Plan → Device → Device → LoadAnswer → List SaveAnswer → Type 0
+abbrev pub HasTrails : SessionPlan → Device → Device → LoadAnswer → List SaveAnswer → Type 0
 HasTrails plan from to load saves =
     EachStanding plan.layout from to
     (λ first last before.

@@ -2,6 +2,7 @@
 //! stands on it.
 #![tactic(auto)]
 
+mod boot;
 mod described;
 mod file;
 mod law;
@@ -9,6 +10,7 @@ mod line;
 mod mark_good;
 mod raw;
 mod refusal;
+mod report;
 mod session;
 mod state;
 mod status;

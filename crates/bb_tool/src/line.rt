@@ -33,12 +33,13 @@ pub(crate) fn fixed_line(refusal: &Refusal) -> Option<ShortLine>
     match refusal {
         Refusal::ReadFault => Some(short(read_line())),
         Refusal::WriteFault(copy) => Some(short(write_line(*copy))),
+        Refusal::NoTarget => Some(short(no_target_line())),
         Refusal::NoGood(place) => Some(no_good_line(*place)),
         Refusal::NoMemory => Some(short(no_memory_line())),
         Refusal::BadWords(_) | Refusal::BadTree(_) | Refusal::BadLayout(_) => None,
         Refusal::BadVariable(_, _) => None,
         Refusal::FileMissing(_) | Refusal::FileFault(_) | Refusal::FileTooLong(_) => None,
-        Refusal::BadSettings(_) => None,
+        Refusal::StartFailed(_) | Refusal::BadSettings(_) => None,
     }
 }
 
@@ -81,6 +82,13 @@ fn write_line(copy: u32) -> &'static str
     }
 }
 
+fn no_target_line() -> &'static str
+    ensures line { result.now ≡ line_of refusals.NoTarget }
+    ensures short { length result.now ≤ 27 }
+{
+    "fault 10 NoTarget\n"
+}
+
 /// The line that is sent where memory was refused.
 pub(crate) fn no_memory_line() -> &'static str
     ensures line { result.now ≡ line_of refusals.NoMemory }
@@ -107,6 +115,8 @@ fn words(alloc: Global, refusal: &Refusal) -> Result<String, AllocError>
         Refusal::FileTooLong(file) => format!(in alloc; "FileTooLong {}", file.as_str()),
         Refusal::ReadFault => String::from_str(alloc, "ReadFault"),
         Refusal::WriteFault(copy) => format!(in alloc; "WriteFault {copy}"),
+        Refusal::NoTarget => String::from_str(alloc, "NoTarget"),
+        Refusal::StartFailed(name) => format!(in alloc; "StartFailed {}", name.as_str()),
         Refusal::BadSettings(error) => settings_words(alloc, error),
         Refusal::NoGood(place) => format!(in alloc; "NoGood {place}"),
         Refusal::NoMemory => String::from_str(alloc, "NoMemory"),

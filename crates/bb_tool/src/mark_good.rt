@@ -11,10 +11,11 @@ ghost use Rattle.bb_tool.specs.Filing.{IsFolderLater};
 ghost use Rattle.bb_tool.specs.Marking.{chosen_name, good_line, good_text};
 ghost use Rattle.bb_tool.specs.Plan.{Good};
 ghost use Rattle.bb_tool.specs.Refusal.{IsTellable};
-ghost use Rattle.bb_tool.specs.Work.{IsWorkedOut};
+ghost use Rattle.bb_tool.specs.Work.{IsSendable, IsWorkedOut};
 
 use crate::described::read_layout;
 use crate::refusal::Refusal;
+use crate::report::Report;
 use crate::targets::read_targets;
 use bb_base::{Bytes, Files, NoMemory, Text};
 use bb_chooser::Chooser;
@@ -31,11 +32,12 @@ pub(crate) fn mark_good<N: Files, F: Flash>(
     files: &mut N,
     flash: &mut F,
     command: &MarkGoodCommand,
-) -> Result<Bytes, Refusal>
+) -> Result<Report, Refusal>
     ensures gives { (words : List (List ℕ)) → words_of words ≡ Ok (commands.MarkGood command.now)
         → IsGiven words (N.folder files.old) (N.folder files.new)
         (F.device flash.old) (F.device flash.new) result }
     ensures tellable { IfErr result IsTellable }
+    ensures sends { IfOk result IsSendable }
     ensures files { IsFolderLater (N.folder files.old) (N.folder files.new) }
     ensures later { IsLater (F.device flash.old) (F.device flash.new) }
     ensures starts { LeavesStarts (F.device flash.old) (F.device flash.new) }
@@ -53,13 +55,14 @@ fn mark<F: Flash>(
     flash: &mut F,
     layout: Layout,
     chooser: &Chooser,
-) -> Result<Bytes, Refusal>
+) -> Result<Report, Refusal>
     requires geometry { layout.geometry ≡ (F.device flash.old).geometry }
     requires whole { IsDevice (F.device flash.old) }
     requires sized { chooser.now.area_len ≡ layout.area_len }
     ensures gives { IsWorkedOut (laid layout) (Good chooser.now)
         (F.device flash.old) (F.device flash.new) result }
     ensures tellable { IfErr result IsTellable }
+    ensures sends { IfOk result IsSendable }
     ensures later { IsLater (F.device flash.old) (F.device flash.new) }
     ensures starts { LeavesStarts (F.device flash.old) (F.device flash.new) }
 {
@@ -73,13 +76,14 @@ fn mark_on<F: Flash>(
     flash: &mut F,
     state: &mut State,
     chooser: &Chooser,
-) -> Result<Bytes, Refusal>
+) -> Result<Report, Refusal>
     requires table { IsSized state.old }
     requires sized { chooser.now.area_len ≡ (laid_of state.old).area_len }
     requires on { IsOn state.old (F.device flash.old) }
     requires many { 2 ≤ (laid_of state.old).copies }
     ensures gives { IsWorkedOut (laid_of state.old) (Good chooser.now)
         (F.device flash.old) (F.device flash.new) result }
+    ensures sends { IfOk result IsSendable }
     ensures later { IsLater (F.device flash.old) (F.device flash.new) }
     ensures starts { LeavesStarts (F.device flash.old) (F.device flash.new) }
 {
@@ -88,7 +92,7 @@ fn mark_on<F: Flash>(
         return Err(Refusal::NoGood(chooser.last_chosen(&state.table)));
     }
     state.save(flash)?;
-    Ok(good_text(alloc, chooser, &state.table)?)
+    Ok(Report::done(good_text(alloc, chooser, &state.table)?))
 }
 
 fn good_text(alloc: Global, chooser: &Chooser, table: &Table) -> Result<Bytes, NoMemory>

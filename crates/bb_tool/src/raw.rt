@@ -11,9 +11,10 @@ ghost use Rattle.bb_tool.specs.Ending.{IsGiven};
 ghost use Rattle.bb_tool.specs.Looking.{look_text};
 ghost use Rattle.bb_tool.specs.Plan.{Show, Write};
 ghost use Rattle.bb_tool.specs.Refusal.{IsTellable};
-ghost use Rattle.bb_tool.specs.Work.{IsRefusedMemory, IsWorkedOut};
+ghost use Rattle.bb_tool.specs.Work.{IsRefusedMemory, IsSendable, IsWorkedOut};
 
 use crate::refusal::Refusal;
+use crate::report::Report;
 use bb_base::{Bytes, NoMemory};
 use bb_flash::Flash;
 use bb_layout::{Layout, raw_layout};
@@ -26,12 +27,13 @@ pub(crate) fn raw<F: Flash>(
     alloc: Global,
     flash: &mut F,
     command: RawCommand,
-) -> Result<Bytes, Refusal>
+) -> Result<Report, Refusal>
     requires sized { IsSizedRaw command }
     ensures gives { (words : List (List ℕ)) (folder : Folder)
         → words_of words ≡ Ok (commands.Raw command)
         → IsGiven words folder folder (F.device flash.old) (F.device flash.new) result }
     ensures tellable { IfErr result IsTellable }
+    ensures sends { IfOk result IsSendable }
     ensures later { IsLater (F.device flash.old) (F.device flash.new) }
     ensures starts { LeavesStarts (F.device flash.old) (F.device flash.new) }
 {
@@ -43,12 +45,13 @@ pub(crate) fn raw<F: Flash>(
 }
 
 // Looks at the copies of a layout, and gives the text of the first that passes.
-fn look<F: Flash>(alloc: Global, flash: &mut F, layout: Layout) -> Result<Bytes, Refusal>
+fn look<F: Flash>(alloc: Global, flash: &mut F, layout: Layout) -> Result<Report, Refusal>
     requires geometry { layout.geometry ≡ (F.device flash.old).geometry }
     requires whole { IsDevice (F.device flash.old) }
     ensures gives { IsWorkedOut (laid layout) Show
         (F.device flash.old) (F.device flash.new) result }
     ensures tellable { IfErr result IsTellable }
+    ensures sends { IfOk result IsSendable }
     ensures later { IsLater (F.device flash.old) (F.device flash.new) }
     ensures starts { LeavesStarts (F.device flash.old) (F.device flash.new) }
 {
@@ -63,16 +66,17 @@ fn look_at<F: Flash>(
     flash: &mut F,
     state: &mut State,
     mut area: Vec<u8>,
-) -> Result<Bytes, Refusal>
+) -> Result<Report, Refusal>
     requires sized { vec_len area ≡ (laid_of state.old).area_len }
     requires on { IsOn state.old (F.device flash.old) }
     ensures gives { IsWorkedOut (laid_of state.old) Show
         (F.device flash.old) (F.device flash.new) result }
+    ensures sends { IfOk result IsSendable }
     ensures later { IsLater (F.device flash.old) (F.device flash.new) }
     ensures starts { LeavesStarts (F.device flash.old) (F.device flash.new) }
 {
     let found = state.look(flash, &mut area)?;
-    Ok(look_text(alloc, found.then_some(area))?)
+    Ok(Report::done(look_text(alloc, found.then_some(area))?))
 }
 
 // The text of a look: the area in hexadecimal, or `none`.
@@ -97,13 +101,14 @@ fn save<F: Flash>(
     flash: &mut F,
     layout: Layout,
     area: &[u8],
-) -> Result<Bytes, Refusal>
+) -> Result<Report, Refusal>
     requires sized { length area.now ≡ layout.area_len }
     requires geometry { layout.geometry ≡ (F.device flash.old).geometry }
     requires whole { IsDevice (F.device flash.old) }
     ensures gives { IsWorkedOut (laid layout) (Write area.now)
         (F.device flash.old) (F.device flash.new) result }
     ensures tellable { IfErr result IsTellable }
+    ensures sends { IfOk result IsSendable }
     ensures later { IsLater (F.device flash.old) (F.device flash.new) }
     ensures starts { LeavesStarts (F.device flash.old) (F.device flash.new) }
 {
@@ -117,18 +122,19 @@ fn save_on<F: Flash>(
     flash: &mut F,
     state: &mut State,
     area: &[u8],
-) -> Result<Bytes, Refusal>
+) -> Result<Report, Refusal>
     requires table { IsSized state.old }
     requires sized { length area.now ≡ (laid_of state.old).area_len }
     requires on { IsOn state.old (F.device flash.old) }
     requires many { 2 ≤ (laid_of state.old).copies }
     ensures gives { IsWorkedOut (laid_of state.old) (Write area.now)
         (F.device flash.old) (F.device flash.new) result }
+    ensures sends { IfOk result IsSendable }
     ensures later { IsLater (F.device flash.old) (F.device flash.new) }
     ensures starts { LeavesStarts (F.device flash.old) (F.device flash.new) }
 {
     state.load(flash)?;
     state.table.put(0, area);
     state.save_always(flash)?;
-    Ok(Bytes::none(alloc))
+    Ok(Report::done(Bytes::none(alloc)))
 }

@@ -25,6 +25,10 @@ pub enum Refusal {
     ReadFault,
     /// This copy, counted from 0, couldn't be written.
     WriteFault(u32),
+    /// No target has a priority and attempts left.
+    NoTarget,
+    /// The target of this name couldn't be started, and no other is tried.
+    StartFailed(Text),
     BadSettings(SettingsError),
     /// The table has this place as the one that was chosen last, and it is 0 or above the number of targets.
     NoGood(u32),
@@ -141,6 +145,8 @@ impl Refusal {
             Refusal::FileTooLong(_) => Status::FileTooLong,
             Refusal::ReadFault => Status::ReadFault,
             Refusal::WriteFault(_) => Status::WriteFault,
+            Refusal::NoTarget => Status::NoTarget,
+            Refusal::StartFailed(_) => Status::StartFailed,
             Refusal::BadSettings(_) => Status::BadSettings,
             Refusal::NoGood(_) => Status::NoGood,
             Refusal::NoMemory => Status::NoMemory,

@@ -1,4 +1,4 @@
-ghost use Rattle.std.specs.Prelude.{◌≡◌, ◌≤◌, List, ℕ, Ok, IfErr};
+ghost use Rattle.std.specs.Prelude.{◌≡◌, ◌≤◌, List, ℕ, Ok, IfErr, IfOk};
 ghost use Rattle.bb_flash.specs.Cuts.{IsLater};
 ghost use Rattle.bb_flash.specs.Device.{IsDevice, LeavesStarts};
 ghost use Rattle.bb_actions.specs.Actions.{misfit_of};
@@ -10,12 +10,13 @@ ghost use Rattle.bb_tool.specs.Ending.{IsGiven};
 ghost use Rattle.bb_tool.specs.Filing.{Follows, IsFolderLater};
 ghost use Rattle.bb_tool.specs.Plan.{Act, fit_by};
 ghost use Rattle.bb_tool.specs.Refusal.{IsTellable};
-ghost use Rattle.bb_tool.specs.Work.{IsWorkedOut};
+ghost use Rattle.bb_tool.specs.Work.{IsSendable, IsWorkedOut};
 
 use crate::described::read_layout;
 use crate::refusal::Refusal;
+use crate::report::Report;
 use bb_actions::{actions_text, first_misfit, make_sets};
-use bb_base::{Bytes, Files};
+use bb_base::Files;
 use bb_flash::Flash;
 use bb_layout::Layout;
 use bb_state::State;
@@ -29,11 +30,12 @@ pub(crate) fn state<N: Files, F: Flash>(
     files: &mut N,
     flash: &mut F,
     command: &StateCommand,
-) -> Result<Bytes, Refusal>
+) -> Result<Report, Refusal>
     ensures gives { (words : List (List ℕ)) → words_of words ≡ Ok (commands.State command.now)
         → IsGiven words (N.folder files.old) (N.folder files.new)
         (F.device flash.old) (F.device flash.new) result }
     ensures tellable { IfErr result IsTellable }
+    ensures sends { IfOk result IsSendable }
     ensures files { IsFolderLater (N.folder files.old) (N.folder files.new) }
     ensures later { IsLater (F.device flash.old) (F.device flash.new) }
     ensures starts { LeavesStarts (F.device flash.old) (F.device flash.new) }
@@ -62,12 +64,13 @@ fn act<F: Flash>(
     flash: &mut F,
     layout: Layout,
     actions: &ActionList,
-) -> Result<Bytes, Refusal>
+) -> Result<Report, Refusal>
     requires geometry { layout.geometry ≡ (F.device flash.old).geometry }
     requires whole { IsDevice (F.device flash.old) }
     ensures gives { IsWorkedOut (laid layout) (Act actions.now)
         (F.device flash.old) (F.device flash.new) result }
     ensures tellable { IfErr result IsTellable }
+    ensures sends { IfOk result IsSendable }
     ensures later { IsLater (F.device flash.old) (F.device flash.new) }
     ensures starts { LeavesStarts (F.device flash.old) (F.device flash.new) }
 {
@@ -81,17 +84,19 @@ fn act_on<F: Flash>(
     flash: &mut F,
     state: &mut State,
     actions: &ActionList,
-) -> Result<Bytes, Refusal>
+) -> Result<Report, Refusal>
     requires sized { IsSized state.old }
     requires on { IsOn state.old (F.device flash.old) }
     requires many { 2 ≤ (laid_of state.old).copies }
     ensures gives { IsWorkedOut (laid_of state.old) (Act actions.now)
         (F.device flash.old) (F.device flash.new) result }
+    ensures sends { IfOk result IsSendable }
     ensures later { IsLater (F.device flash.old) (F.device flash.new) }
     ensures starts { LeavesStarts (F.device flash.old) (F.device flash.new) }
 {
     state.load(flash)?;
     make_sets(state, actions);
     state.save(flash)?;
-    Ok(actions_text(alloc, state.layout(), state.table.bytes(), actions)?)
+    let text = actions_text(alloc, state.layout(), state.table.bytes(), actions)?;
+    Ok(Report::done(text))
 }

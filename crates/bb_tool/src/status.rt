@@ -23,6 +23,10 @@ pub enum Status {
     ReadFault,
     /// A copy couldn't be written.
     WriteFault,
+    /// No target has a priority and attempts left.
+    NoTarget,
+    /// The target that was tried last couldn't be started.
+    StartFailed,
     /// The settings aren't settings, or the layout hasn't their variables.
     BadSettings,
     /// The text couldn't be sent whole. It takes the place of any other status but `NoMemory`.
@@ -51,6 +55,8 @@ impl Status {
             Status::FileTooLong => 7,
             Status::ReadFault => 8,
             Status::WriteFault => 9,
+            Status::NoTarget => 10,
+            Status::StartFailed => 11,
             Status::BadSettings => 13,
             Status::SinkFault => 14,
             Status::NoGood => 18,

@@ -1,4 +1,4 @@
-use Rattle.std.proofs.Common.{◌∙◌, ℕ, List, Result, Ok, Err, ap, sym, subst, inl, inr}
+use Rattle.std.proofs.Common.{◌∙◌, Result, Ok, Err, ap, sym, subst, inl, inr}
 use Rattle.std.proofs.lemmas.Result.{err_from_is_err_and}
 use Rattle.bb_chooser.specs.Binding.{Binding}
 use Rattle.bb_layout.specs.Layout.{laid}
@@ -6,6 +6,7 @@ use Rattle.bb_layout.specs.Results.{result_and_then}
 use Rattle.bb_tool.specs.Ending.{IsGiven}
 use Rattle.bb_tool.specs.Plan.{Good, mark_laid}
 use Rattle.bb_tool.specs.declared.refusal.Refusal.{Refusal}
+use Rattle.bb_tool.specs.declared.report.Report.{Report}
 use Rattle.bb_tool.proofs.Given.{given_marked, given_misset, given_no_memory, given_unset}
 use Rattle.bb_tool.proofs.Sources.{laid_as, memory_or_not}
 use Rattle.bb_tool.proofs.mark_good.mark_good.Goals as goal
@@ -20,7 +21,7 @@ returns-in_err-layout-clause-gives g c = λ words is.
     let given = p.1 ∙ ap (λ e. Err e) p.2 in
     let refusal : Refusal = c.in_err-layout.field-0.0 in
     let read = c.in_err-layout.ensures.read in
-    subst (λ (r : Result (List ℕ) Refusal). IsGiven words before after device device r) (sym given)
+    subst (λ (r : Result Report Refusal). IsGiven words before after device device r) (sym given)
     (elim (memory_or_not refusal) [
       | inl memory ↦ given_no_memory words before after device (Err refusal) (ap (λ (e : Refusal). Err e) memory)
       | inr other ↦
@@ -43,7 +44,7 @@ returns-in_err-chooser-clause-gives g c = λ words is.
     let refusal : Refusal = c.in_err-chooser.field-0.0 in
     let tree = c.in_ok-layout.ensures.read in
     let settings = c.in_err-chooser.ensures.read in
-    subst (λ (r : Result (List ℕ) Refusal). IsGiven words before after device device r) (sym given)
+    subst (λ (r : Result Report Refusal). IsGiven words before after device device r) (sym given)
     (elim (memory_or_not refusal) [
       | inl memory ↦ given_no_memory words before after device (Err refusal) (ap (λ (e : Refusal). Err e) memory)
       | inr other ↦

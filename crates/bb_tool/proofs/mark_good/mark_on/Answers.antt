@@ -6,15 +6,15 @@ use Rattle.bb_copies.specs.Store.{used_after}
 use Rattle.bb_state.specs.State.{laid_of}
 use Rattle.bb_state.specs.declared.state.State.{State}
 use Rattle.bb_state.proofs.Mounting.{sized_fits}
-use Rattle.bb_tool.specs.Marking.{good_text, lost_place}
+use Rattle.bb_tool.specs.Marking.{good_text}
 use Rattle.bb_tool.specs.Plan.{Good}
 use Rattle.bb_tool.specs.Refusal.{copy_refusal}
-use Rattle.bb_tool.specs.Session.{loaded_area}
+use Rattle.bb_tool.specs.Session.{barred, loaded_area}
 use Rattle.bb_tool.specs.Work.{IsFound, taken}
 use Rattle.bb_tool.specs.declared.refusal.Refusal.TheVariants as refusals
 use Rattle.bb_tool.proofs.Kept.{load_area}
-use Rattle.bb_tool.proofs.Unmarked.{kept_is_found, lost_is, lost_unchanged}
-use Rattle.bb_tool.proofs.Worked.{begun_later, begun_starts, changed_err, changed_ok, load_refused, stored_out, stored_textless, unmarked_out}
+use Rattle.bb_tool.proofs.Barred.{kept_is_found, lost_is, lost_unchanged}
+use Rattle.bb_tool.proofs.Worked.{begun_later, begun_starts, changed_err, changed_ok, load_refused, stored_out, stored_textless, told_whole, barred_out}
 use Rattle.bb_tool.proofs.mark_good.mark_on.Goals as goal
 
 pub returns-in_err-load-clause-gives : goal.returns-in_err-load-clause-gives
@@ -46,7 +46,7 @@ returns-then-not-mark_good-clause-gives g c =
     let first = c.load.new.self in
     let loaded = c.in_ok-load.field-0 in
     let not : IsSome (chosen_target targets first.table) → ⊥ = λ some. (let is = c.mark_good.ensures.good.1 some in cc) in
-    unmarked_out (laid_of c.args.state.now) (Good targets) from to first.table loaded (last_chosen_of targets first.table) refl c.requires.many
+    barred_out (laid_of c.args.state.now) (Good targets) from to first.table loaded (refusals.NoGood (last_chosen_of targets first.table)) refl c.requires.many
     (record {
       images = c.in_ok-load.ensures.images;
       outside = c.in_ok-load.ensures.outside;
@@ -84,7 +84,7 @@ returns-in_err-save-clause-gives g c =
     (λ is. (let unsure = c.in_err-save.ensures.unsure.0 (ap (λ f. Err f) is) in let sure = c.in_ok-load.ensures.sure in cc))
     c.in_err-save.ensures.fails in
     let p = err_from_is_err_and c.from_residual-in_err-save.result c.from_residual-in_err-save.ensures.1 in
-    let marks : lost_place targets first.table ≡ None =
+    let marks : barred (Good targets) first.table ≡ None =
     kept_is_found targets first.table (c.mark_good.ensures.good.0 (cc)) in
     stored_out layout (Good targets) from mid to first.table loaded refl c.requires.many
     (record {
@@ -152,7 +152,7 @@ returns-in_err-good_text-clause-gives g c =
     c.in_ok-load.ensures.layout c.in_ok-load.ensures.used c.in_ok-load.ensures.sure c.in_ok-load.ensures.kept
     c.in_ok-save.ensures.runs c.in_ok-save.ensures.idle c.in_ok-save.ensures.saved c.in_ok-save.ensures.exact in
     let p = err_from_is_err_and c.from_residual-in_err-good_text.result c.from_residual-in_err-good_text.ensures.1 in
-    let marks : lost_place targets first.table ≡ None =
+    let marks : barred (Good targets) first.table ≡ None =
     kept_is_found targets first.table (c.mark_good.ensures.good.0 (cc)) in
     stored_textless layout (Good targets) from mid to first.table loaded refl c.requires.many
     (record {
@@ -165,7 +165,7 @@ returns-in_err-good_text-clause-gives g c =
       exact = c.in_ok-load.ensures.exact;
       fails = tt;
     })
-    (λ text. Ok text) begun marks (λ text. refl) c.from_residual-in_err-good_text.result (p.1 ∙ ap (λ e. Err e) p.2)
+    (λ text. Ok (told_whole text)) begun marks (λ text. refl) c.from_residual-in_err-good_text.result (p.1 ∙ ap (λ e. Err e) p.2)
 
 pub returns-in_err-good_text-clause-later : goal.returns-in_err-good_text-clause-later
 returns-in_err-good_text-clause-later g c =
@@ -213,7 +213,7 @@ returns-clause-gives g c =
     let begun = changed_ok first marked layout new loaded mid to c.save.new.self.backing.used refl c.mark_good.ensures.marked
     c.in_ok-load.ensures.layout c.in_ok-load.ensures.used c.in_ok-load.ensures.sure c.in_ok-load.ensures.kept
     c.in_ok-save.ensures.runs c.in_ok-save.ensures.idle c.in_ok-save.ensures.saved c.in_ok-save.ensures.exact in
-    let marks : lost_place targets first.table ≡ None =
+    let marks : barred (Good targets) first.table ≡ None =
     kept_is_found targets first.table (c.mark_good.ensures.good.0 (cc)) in
     let found : IsFound layout first.table loaded from mid =
     record { gives = c.in_ok-load.ensures.gives; defaults = c.in_ok-load.ensures.defaults; exact = c.in_ok-load.ensures.exact } in
@@ -229,8 +229,8 @@ returns-clause-gives g c =
       exact = c.in_ok-load.ensures.exact;
       fails = tt;
     })
-    (λ text. Ok text) begun marks (Ok c.in_ok-good_text.field-0)
-    (ap (λ (t : List ℕ). Ok t)
+    (λ text. Ok (told_whole text)) begun marks (Ok c.done.result)
+    (ap (λ r. Ok r) c.done.ensures ∙ ap (λ (t : List ℕ). Ok (told_whole t))
     (c.in_ok-good_text.ensures
     ∙ ap (good_text targets)
     (c.in_ok-save.ensures.table ∙ c.mark_good.ensures.marked ∙ ap (mark_good_of targets) (sym whole))))

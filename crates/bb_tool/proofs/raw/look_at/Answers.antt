@@ -4,7 +4,7 @@ use Rattle.std.specs.Bool.{then_some}
 use Rattle.std.specs.Vec.{with_items}
 use Rattle.bb_state.specs.State.{laid_of}
 use Rattle.bb_tool.specs.Looking.{look_text}
-use Rattle.bb_tool.proofs.Worked.{look_done, look_refused, look_textless, look_told, refilled, take-refill}
+use Rattle.bb_tool.proofs.Worked.{look_done, look_refused, look_textless, look_told, refilled, take-refill, told_whole}
 use Rattle.bb_tool.proofs.raw.look_at.Goals as goal
 
 pub returns-in_err-found-clause-gives : goal.returns-in_err-found-clause-gives
@@ -65,5 +65,6 @@ returns-clause-gives g c =
         starts = record { starts = keeps.starts; start_faults = keeps.start_faults };
       };
     })
-    (c.in_ok-look_text.ensures ∙ ap look_text (ap (option_map (λ area. area.items)) c.then_some.ensures
-    ∙ refilled c.in_ok-found.found filled c.look.new.area items))
+    (c.done.ensures ∙ ap told_whole (c.in_ok-look_text.ensures
+    ∙ ap look_text (ap (option_map (λ area. area.items)) c.then_some.ensures
+    ∙ refilled c.in_ok-found.found filled c.look.new.area items)))

@@ -1,4 +1,4 @@
-use Rattle.std.proofs.Common.{◌≡◌, ◌∙◌, ℕ, List, Option, Ok, Err, ap, sym, subst, refl}
+use Rattle.std.proofs.Common.{◌≡◌, ◌∙◌, ℕ, false, List, Option, Ok, Err, ap, sym, subst, refl}
 use Rattle.std.proofs.lemmas.Result.{err_from_is_err_and}
 use Rattle.bb_copies.specs.Store.{used_after}
 use Rattle.bb_flash.proofs.Moments.{later_joined}
@@ -8,7 +8,7 @@ use Rattle.bb_state.proofs.Mounting.{sized_fits}
 use Rattle.bb_tool.specs.Plan.{Write}
 use Rattle.bb_tool.specs.Refusal.{copy_refusal}
 use Rattle.bb_tool.specs.Work.{IsSaved}
-use Rattle.bb_tool.proofs.Worked.{load_refused, put_whole, saved_err, saved_ok, stored_out}
+use Rattle.bb_tool.proofs.Worked.{load_refused, put_whole, saved_err, saved_ok, stored_out, told_whole}
 use Rattle.bb_tool.proofs.raw.save_on.Goals as goal
 
 pub returns-in_err-load-clause-gives : goal.returns-in_err-load-clause-gives
@@ -86,7 +86,7 @@ returns-clause-gives g c =
     let loaded = c.in_ok-load.field-0 in
     let same = c.in_ok-load.ensures.layout in
     let new : c.put.new.self ≡ c.args.area.now = c.put.ensures.replaced ∙ put_whole table c.args.area.now (c.requires.sized ∙ sym (c.in_ok-load.ensures.sized ∙ ap (λ (l : Laid). l.area_len) same)) in
-    let done : IsSaved c.load.new.self.backing.layout c.load.new.self.backing.used c.put.new.self mid to (Ok tt) = record {
+    let done : IsSaved c.load.new.self.backing.layout c.load.new.self.backing.used c.put.new.self mid to (Ok false) = record {
       now = c.save_always.new.self.backing.used;
       runs = c.in_ok-save_always.ensures.runs;
       stored = c.in_ok-save_always.ensures.saved;
@@ -105,13 +105,13 @@ returns-clause-gives g c =
       exact = c.in_ok-load.ensures.exact;
       fails = tt;
     })
-    (λ text. Ok text)
+    (λ text. Ok (told_whole text))
     (saved_ok layout (used_after loaded) c.args.area.now mid to
-    (subst (λ (l : Laid). IsSaved l (used_after loaded) c.args.area.now mid to (Ok tt)) same
-    (subst (λ (u : Option ℕ). IsSaved c.load.new.self.backing.layout u c.args.area.now mid to (Ok tt)) c.in_ok-load.ensures.used
-    (subst (λ (a : List ℕ). IsSaved c.load.new.self.backing.layout c.load.new.self.backing.used a mid to (Ok tt)) new done))))
-    refl (Ok c.none.result)
-    (ap (λ (t : List ℕ). Ok t) c.none.ensures)
+    (subst (λ (l : Laid). IsSaved l (used_after loaded) c.args.area.now mid to (Ok false)) same
+    (subst (λ (u : Option ℕ). IsSaved c.load.new.self.backing.layout u c.args.area.now mid to (Ok false)) c.in_ok-load.ensures.used
+    (subst (λ (a : List ℕ). IsSaved c.load.new.self.backing.layout c.load.new.self.backing.used a mid to (Ok false)) new done))))
+    refl (Ok c.done.result)
+    (ap (λ r. Ok r) c.done.ensures ∙ ap (λ (t : List ℕ). Ok (told_whole t)) c.none.ensures)
 
 pub returns-in_err-save_always-clause-later : goal.returns-in_err-save_always-clause-later
 returns-in_err-save_always-clause-later g c =

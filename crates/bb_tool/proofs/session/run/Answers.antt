@@ -4,7 +4,8 @@ use Rattle.bb_tool.proofs.Endings.{at_exit, bad_words_of, beside, comes_alone, c
 use Rattle.bb_tool.proofs.Early.{early_memory_of, early_of}
 use Rattle.bb_tool.proofs.Exact.{alike_of, written_of}
 use Rattle.bb_tool.proofs.Faults.{unread_of, write_faults_of}
-use Rattle.bb_tool.proofs.Tables.{no_good_of}
+use Rattle.bb_tool.proofs.Starting.{rounds_of, start_causes_of, start_failed_of, start_faults_of, starts_of, starts_once_of, starts_saved_of}
+use Rattle.bb_tool.proofs.Tables.{no_good_of, no_target_of}
 use Rattle.bb_tool.proofs.Wholes.{undisturbed_alone_of, undisturbed_of}
 use Rattle.bb_tool.proofs.session.run.Goals as goal
 
@@ -91,3 +92,27 @@ returns-clause-read_fault_content g c = unread_of _ c.answer.ensures.session
 
 pub returns-clause-write_fault_cause : goal.returns-clause-write_fault_cause
 returns-clause-write_fault_cause g c = write_faults_of _ c.answer.ensures.session
+
+pub returns-clause-rounds : goal.returns-clause-rounds
+returns-clause-rounds g c = rounds_of _ c.answer.ensures.session
+
+pub returns-clause-starts : goal.returns-clause-starts
+returns-clause-starts g c = starts_of _ c.answer.ensures.session
+
+pub returns-clause-starts_once : goal.returns-clause-starts_once
+returns-clause-starts_once g c = starts_once_of _ c.answer.ensures.session
+
+pub returns-clause-starts_saved : goal.returns-clause-starts_saved
+returns-clause-starts_saved g c = starts_saved_of _ c.answer.ensures.session
+
+pub returns-clause-start_faults : goal.returns-clause-start_faults
+returns-clause-start_faults g c = start_faults_of _ c.answer.ensures.session
+
+pub returns-clause-no_target : goal.returns-clause-no_target
+returns-clause-no_target g c = no_target_of _ c.answer.ensures.session
+
+pub returns-clause-start_failed : goal.returns-clause-start_failed
+returns-clause-start_failed g c = start_failed_of _ c.answer.ensures.session
+
+pub returns-clause-start_failed_cause : goal.returns-clause-start_failed_cause
+returns-clause-start_failed_cause g c = start_causes_of _ c.answer.ensures.session

@@ -11,7 +11,7 @@ use Rattle.bb_tool.specs.Refusal.{copy_refusal}
 use Rattle.bb_tool.specs.Session.{loaded_area}
 use Rattle.bb_tool.specs.Work.{IsFound, taken}
 use Rattle.bb_tool.proofs.Kept.{load_area}
-use Rattle.bb_tool.proofs.Worked.{acted_err, acted_ok, begun_later, begun_starts, load_refused, stored_out, stored_textless}
+use Rattle.bb_tool.proofs.Worked.{acted_err, acted_ok, begun_later, begun_starts, load_refused, stored_out, stored_textless, told_whole}
 use Rattle.bb_tool.proofs.state.act_on.Goals as goal
 
 pub returns-in_err-load-clause-gives : goal.returns-in_err-load-clause-gives
@@ -105,15 +105,15 @@ returns-in_err-save-clause-starts g c =
     c.in_err-save.ensures.fails in
     begun_starts layout (used_after loaded) _ begun.saves from mid to begun.are c.in_ok-load.ensures.starts
 
-pub returns-in_err-actions_text-clause-gives : goal.returns-in_err-actions_text-clause-gives
-returns-in_err-actions_text-clause-gives g c =
+pub returns-in_err-text-clause-gives : goal.returns-in_err-text-clause-gives
+returns-in_err-text-clause-gives g c =
     let from = g.F.Flash.device c.args.flash.now in
     let mid = g.F.Flash.device c.load.new.flash in
     let to = g.F.Flash.device c.save.new.flash in
     let first = c.load.new.self in
     let loaded = c.in_ok-load.field-0 in
     let layout = laid_of c.args.state.now in
-    let p = err_from_is_err_and c.from_residual-in_err-actions_text.result c.from_residual-in_err-actions_text.ensures.1 in
+    let p = err_from_is_err_and c.from_residual-in_err-text.result c.from_residual-in_err-text.ensures.1 in
     let begun = acted_ok first c.make_sets.new.state layout c.args.actions.now loaded mid to c.save.new.self.backing.used c.make_sets.ensures.backing c.make_sets.ensures.table
     c.in_ok-load.ensures.layout c.in_ok-load.ensures.used c.in_ok-load.ensures.sure c.in_ok-load.ensures.kept
     c.in_ok-save.ensures.runs c.in_ok-save.ensures.idle c.in_ok-save.ensures.saved c.in_ok-save.ensures.exact in
@@ -128,10 +128,10 @@ returns-in_err-actions_text-clause-gives g c =
       exact = c.in_ok-load.ensures.exact;
       fails = tt;
     })
-    (λ text. Ok text) begun refl (λ text. refl) c.from_residual-in_err-actions_text.result (p.1 ∙ ap (λ e. Err e) p.2)
+    (λ text. Ok (told_whole text)) begun refl (λ text. refl) c.from_residual-in_err-text.result (p.1 ∙ ap (λ e. Err e) p.2)
 
-pub returns-in_err-actions_text-clause-later : goal.returns-in_err-actions_text-clause-later
-returns-in_err-actions_text-clause-later g c =
+pub returns-in_err-text-clause-later : goal.returns-in_err-text-clause-later
+returns-in_err-text-clause-later g c =
     let from = g.F.Flash.device c.args.flash.now in
     let mid = g.F.Flash.device c.load.new.flash in
     let to = g.F.Flash.device c.save.new.flash in
@@ -143,8 +143,8 @@ returns-in_err-actions_text-clause-later g c =
     c.in_ok-save.ensures.runs c.in_ok-save.ensures.idle c.in_ok-save.ensures.saved c.in_ok-save.ensures.exact in
     begun_later layout (used_after loaded) _ begun.saves from mid to begun.are c.in_ok-load.ensures.later
 
-pub returns-in_err-actions_text-clause-starts : goal.returns-in_err-actions_text-clause-starts
-returns-in_err-actions_text-clause-starts g c =
+pub returns-in_err-text-clause-starts : goal.returns-in_err-text-clause-starts
+returns-in_err-text-clause-starts g c =
     let from = g.F.Flash.device c.args.flash.now in
     let mid = g.F.Flash.device c.load.new.flash in
     let to = g.F.Flash.device c.save.new.flash in
@@ -182,9 +182,9 @@ returns-clause-gives g c =
       exact = c.in_ok-load.ensures.exact;
       fails = tt;
     })
-    (λ text. Ok text) begun refl (Ok c.in_ok-actions_text.field-0)
-    (ap (λ (t : List ℕ). Ok t)
-    (c.in_ok-actions_text.ensures
+    (λ text. Ok (told_whole text)) begun refl (Ok c.done.result)
+    (ap (λ r. Ok r) c.done.ensures ∙ ap (λ (t : List ℕ). Ok (told_whole t))
+    (c.in_ok-text.ensures
     ∙ ap (λ (l : Laid). actions_text l c.bytes.result.now c.args.actions.now)
     (c.layout.ensures ∙ (c.in_ok-save.ensures.layout ∙ ap laid_of c.make_sets.ensures.backing ∙ same))
     ∙ ap (λ (a : List ℕ). actions_text layout a c.args.actions.now)

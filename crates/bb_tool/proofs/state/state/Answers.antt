@@ -1,10 +1,11 @@
-use Rattle.std.proofs.Common.{◌∙◌, ℕ, List, Result, Ok, Err, ap, sym, subst, inl, inr}
+use Rattle.std.proofs.Common.{◌∙◌, Result, Ok, Err, ap, sym, subst, inl, inr}
 use Rattle.std.proofs.lemmas.Result.{err_from_is_err_and}
 use Rattle.bb_layout.specs.Layout.{laid}
 use Rattle.bb_layout.specs.Results.{result_and_then}
 use Rattle.bb_tool.specs.Ending.{IsGiven}
 use Rattle.bb_tool.specs.Plan.{Act, state_laid}
 use Rattle.bb_tool.specs.declared.refusal.Refusal.{Refusal}
+use Rattle.bb_tool.specs.declared.report.Report.{Report}
 use Rattle.bb_tool.proofs.Given.{given_acted, given_no_memory, given_state_refused}
 use Rattle.bb_tool.proofs.Sources.{laid_as, memory_or_not}
 use Rattle.bb_tool.proofs.state.state.Goals as goal
@@ -19,7 +20,7 @@ returns-in_err-layout-clause-gives g c = λ words is.
     let given = p.1 ∙ ap (λ e. Err e) p.2 in
     let refusal : Refusal = c.in_err-layout.field-0.0 in
     let read = c.in_err-layout.ensures.read in
-    subst (λ (r : Result (List ℕ) Refusal). IsGiven words before after device device r) (sym given)
+    subst (λ (r : Result Report Refusal). IsGiven words before after device device r) (sym given)
     (elim (memory_or_not refusal) [
       | inl memory ↦ given_no_memory words before after device (Err refusal) (ap (λ (e : Refusal). Err e) memory)
       | inr other ↦
@@ -39,7 +40,7 @@ returns-in_err-check_actions-clause-gives g c = λ words is.
     let given = p.1 ∙ ap (λ e. Err e) p.2 in
     let refusal : Refusal = c.in_err-check_actions.field-0.0 in
     let read = c.in_ok-layout.ensures.read in
-    subst (λ (r : Result (List ℕ) Refusal). IsGiven words before after device device r) (sym given)
+    subst (λ (r : Result Report Refusal). IsGiven words before after device device r) (sym given)
     (elim (memory_or_not refusal) [
       | inl memory ↦ given_no_memory words before after device (Err refusal) (ap (λ (e : Refusal). Err e) memory)
       | inr other ↦
