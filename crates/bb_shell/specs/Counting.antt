@@ -1,6 +1,6 @@
 -- How often a board starts a system: over power-ons in each of which it boots by the same files, with
--- cuts and decays in between, the starts are no more than the attempts that the first table gave
--- (barebox User Manual, Bootchooser).
+-- cuts and decays in between, and where no reset gives attempts back, the starts are no more than the
+-- attempts that the first table gave (barebox User Manual, Bootchooser).
 use Rattle.std.specs.Prelude.{◌≡◌, ◌≤◌, ℕ, Bool, false, true, List, [], ◌∷◌, map, Option, Some, None, is_some, count_by, length, nat_lt, slice_get, sum_by, option_and_then, if◌then◌else◌}
 use Rattle.std.specs.Option.{option_map_or}
 use Rattle.bb_chooser.specs.Binding.{Binding, IsBinding}
