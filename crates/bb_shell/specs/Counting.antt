@@ -1,13 +1,13 @@
 -- How often a board starts a system: over power-ons in each of which it boots by the same files, with
 -- cuts and decays in between, and where no reset gives attempts back, the starts are no more than the
 -- attempts that the first table gave (barebox User Manual, Bootchooser).
-use Rattle.std.specs.Prelude.{◌≡◌, ◌≤◌, ℕ, Bool, false, true, List, [], ◌∷◌, map, Option, Some, None, is_some, count_by, length, nat_lt, slice_get, sum_by, option_and_then, if◌then◌else◌}
+use Rattle.std.specs.Prelude.{◌≡◌, ◌≤◌, ℕ, Bool, false, true, List, [], ◌∷◌, Option, Some, None, is_some, count_by, length, nat_lt, slice_get, sum_by, option_and_then, if◌then◌else◌}
 use Rattle.std.specs.Option.{option_map_or}
 use Rattle.bb_chooser.specs.Binding.{Binding, IsBinding}
 use Rattle.bb_chooser.specs.Choosing.{number_at}
 use Rattle.bb_chooser.specs.Resets.{reset_of}
 use Rattle.bb_chooser.specs.declared.cause.Cause.{Cause}
-use Rattle.bb_copies.specs.Chronicle.{Chronicle, Content, CutOff, Decayed, Entry, Event, Finished, IsStanding, Loaded, Looked, Turn, Unloaded, Untouched, contents_of, loaded_in}
+use Rattle.bb_copies.specs.Chronicle.{Chronicle, Content, CutOff, Decayed, Entry, Event, Finished, IsStanding, Loaded, Looked, Turn, Unloaded, Untouched, loaded_in}
 use Rattle.bb_flash.specs.declared.plan.Plan.{Plan}
 use Rattle.bb_shell.specs.Boot.{Round, first_table, last_round}
 use Rattle.bb_shell.specs.Rounds.{RoundAnswer, is_started, rounds_by}
