@@ -1,6 +1,6 @@
--- How often a board starts a system: over power-ons in each of which it boots by the same files, with
--- cuts and decays in between, and where no reset gives attempts back, the starts are no more than the
--- attempts that the first table gave (barebox User Manual, Bootchooser).
+-- How often a board starts a system: over power-ons in each of which it boots by the same files,
+-- with cuts and decays in between, and where no reset gives attempts back, the starts are no more
+-- than the attempts that the first table gave (barebox User Manual, Bootchooser).
 use Rattle.std.specs.Prelude.{◌≡◌, ◌≤◌, ℕ, Bool, false, true, List, [], ◌∷◌, Option, Some, None, is_some, count_by, length, nat_lt, slice_get, sum_by, option_and_then, if◌then◌else◌}
 use Rattle.std.specs.Option.{option_map_or}
 use Rattle.bb_chooser.specs.Binding.{Binding, IsBinding}
@@ -28,8 +28,8 @@ turn_of_rounds place table rounds =
     Loaded place (saves_of table rounds) (made_of table rounds) (target_started rounds)
 
 -- A boot by these files did this with a content: no load answered Ok; or one did, and the rounds
--- behind it came of some answers. Of a boot that was cut they are those that it had had by then, and
--- a save that it had begun is one that was refused.
+-- behind it came of some answers. Of a boot that was cut they are those that it had had by then,
+-- and a save that it had begun is one that was refused.
 pub record IsBootBehind (b : Binding) (cause : Cause) (plans : List (Option Plan))
     (before : Content) (place : ℕ) (saves : List (List ℕ)) (ok : ℕ) (started : Option ℕ)
     : Type 0 where
@@ -101,7 +101,8 @@ first_loaded before (entry ∷ later) =
 
 -- ---- the law
 
--- the starts are no more than the attempts of the enabled targets in the first table that a load gave
+-- the starts are no more than the attempts of the enabled targets in the first table that a load
+-- gave
 abbrev pub AttemptsLaw : Type 0
 AttemptsLaw =
     (b : Binding) (cause : Cause) (plans : List (Option Plan)) (first table : List ℕ)
