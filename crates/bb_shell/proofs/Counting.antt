@@ -259,38 +259,38 @@ module _ (b : Binding) (cause : Cause) (plans : List (Option Plan)) (before : Co
 starts_cons : (entry : Entry) (later : List Entry) → starts_of (entry ∷ later) ≡ one_if (starts_in entry.event) + starts_of later
 starts_cons entry later = sum_by-cons (λ (e : Entry). one_if (starts_in e.event)) entry later
 
-module _ (b : Binding) (is : IsBinding b) (cause : Cause) (plans : List (Option Plan)) (first : List ℕ) where
+module _ (b : Binding) (is : IsBinding b) (plans : List (Option Plan)) (first : List ℕ) where
   starts_left : (before : Content) (entries : List Entry) → IsStanding first before → Chronicle first before entries →
-      AreBoots b cause plans before entries → Falls (enabled_attempts b) before.areas before.acked →
+      AreBoots b plans before entries → Falls (enabled_attempts b) before.areas before.acked →
       starts_of entries ≤ number_of (enabled_attempts b) before.areas before.acked
   unfolding AreBoots
   starts_left before [] stands chronicle boots falls = omega arith
   starts_left before (entry ∷ later) stands chronicle boots falls =
-      let leaves = event_leaves b is cause plans before first stands falls entry.event entry.content chronicle.0 boots.0 boots.1 in
+      let leaves = event_leaves b is boots.0.cause plans before first stands falls entry.event entry.content chronicle.0 boots.0.boots boots.0.stays in
       let behind = stands_after first before stands entry.event entry.content chronicle.0 in
-      let rest = starts_left entry.content later behind chronicle.1 boots.2 leaves.falls in
+      let rest = starts_left entry.content later behind chronicle.1 boots.1 leaves.falls in
       omega (arith, starts_cons entry later, leaves.less, rest)
 
   starts_bounded : (table : List ℕ) (before : Content) (entries : List Entry) → IsStanding first before → Chronicle first before entries →
-      AreBoots b cause plans before entries → first_loaded before entries ≡ Some table → starts_of entries ≤ enabled_attempts b table
+      AreBoots b plans before entries → first_loaded before entries ≡ Some table → starts_of entries ≤ enabled_attempts b table
   unfolding AreBoots first_loaded
   starts_bounded table before [] stands chronicle boots given = absurd (none-some table given)
   starts_bounded table before (entry ∷ later) stands chronicle boots given =
       let behind = stands_after first before stands entry.event entry.content chronicle.0 in
       let bounded =
-      event_bounded b is cause plans before entry.content (starts_of later)
-      (λ falls. starts_left entry.content later behind chronicle.1 boots.2 falls) table (first_loaded entry.content later)
-      (λ more. starts_bounded table entry.content later behind chronicle.1 boots.2 more) first entry.event chronicle.0 boots.0 boots.1 given in
+      event_bounded b is boots.0.cause plans before entry.content (starts_of later)
+      (λ falls. starts_left entry.content later behind chronicle.1 boots.1 falls) table (first_loaded entry.content later)
+      (λ more. starts_bounded table entry.content later behind chronicle.1 boots.1 more) first entry.event chronicle.0 boots.0.boots boots.0.stays given in
       omega (arith, starts_cons entry later, bounded)
 
 pub attempts_bound : AttemptsLaw
-attempts_bound b cause plans first table before entries is stands chronicle boots given =
-    starts_bounded b is cause plans first table before entries stands chronicle boots given
+attempts_bound b plans first table before entries is stands chronicle boots given =
+    starts_bounded b is plans first table before entries stands chronicle boots given
 
 pub no_load_starts : NoLoadLaw
 unfolding AreBoots first_loaded
-no_load_starts b cause plans before [] boots none = refl
-no_load_starts b cause plans before (entry ∷ later) boots none =
+no_load_starts b plans before [] boots none = refl
+no_load_starts b plans before (entry ∷ later) boots none =
     starts_cons entry later
-    ∙ event_quiet b cause plans before (starts_of later) (first_loaded entry.content later)
-    (no_load_starts b cause plans entry.content later boots.2) entry.event boots.0 none
+    ∙ event_quiet b boots.0.cause plans before (starts_of later) (first_loaded entry.content later)
+    (no_load_starts b plans entry.content later boots.1) entry.event boots.0.boots none

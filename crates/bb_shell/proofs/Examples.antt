@@ -222,12 +222,17 @@ last_boot : IsBootBehind b Other both worn 2 (system0_has 0 ∷ []) 1 (Some 0)
 unfolding rounds_by
 last_boot = record { table = system0_has 1; table_is = refl; sized = refl; answers = made ∷ []; turn = refl }
 
-boots : AreBoots b Other both at_first power_ons
+boots : AreBoots b both at_first power_ons
 unfolding AreBoots
 boots = (
-  first_boot,
-  (λ place table at here. refl),
-  (cut_boot, (λ place table at here. refl), (tt, (λ place table at here. refl), (last_boot, (λ place table at here. refl), tt))),
+  record { cause = Other; boots = first_boot; stays = λ place table at here. refl },
+  (
+    record { cause = Other; boots = cut_boot; stays = λ place table at here. refl },
+    (
+      record { cause = Other; boots = tt; stays = λ place table at here. refl },
+      (record { cause = Other; boots = last_boot; stays = λ place table at here. refl }, tt),
+    ),
+  ),
 )
 
 -- ---- they are a chronicle

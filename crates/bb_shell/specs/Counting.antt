@@ -61,14 +61,18 @@ StaysReset b cause before event =
     (place : ℕ) (table : List ℕ) → loaded_in event ≡ Some place →
     slice_get before.areas place ≡ Some table → reset_of b cause table ≡ table
 
--- each session is such a boot, and no reset changes a table that a load gave
-unfoldable pub AreBoots :
-    Binding → Cause → List (Option Plan) → Content → List Entry → Type 0
-AreBoots b cause plans before [] = Unit {0}
-AreBoots b cause plans before (entry ∷ later) =
-    IsBootEvent b cause plans before entry.event
-    × StaysReset b cause before entry.event
-    × AreBoots b cause plans entry.content later
+-- a session is such a boot, for whatever cause, and its reset leaves a table that its load gave
+pub record IsPowerOn (b : Binding) (plans : List (Option Plan)) (before : Content) (event : Event)
+    : Type 0 where
+  pub cause : Cause
+  pub boots : IsBootEvent b cause plans before event
+  pub stays : StaysReset b cause before event
+
+-- so is each, one after another
+unfoldable pub AreBoots : Binding → List (Option Plan) → Content → List Entry → Type 0
+AreBoots b plans before [] = Unit {0}
+AreBoots b plans before (entry ∷ later) =
+    IsPowerOn b plans before entry.event × AreBoots b plans entry.content later
 
 -- ---- counts
 
@@ -105,20 +109,19 @@ first_loaded before (entry ∷ later) =
 -- gave
 abbrev pub AttemptsLaw : Type 0
 AttemptsLaw =
-    (b : Binding) (cause : Cause) (plans : List (Option Plan)) (first table : List ℕ)
+    (b : Binding) (plans : List (Option Plan)) (first table : List ℕ)
     (before : Content) (entries : List Entry) →
     IsBinding b →
     IsStanding first before →
     Chronicle first before entries →
-    AreBoots b cause plans before entries →
+    AreBoots b plans before entries →
     first_loaded before entries ≡ Some table →
     starts_of entries ≤ enabled_attempts b table
 
 -- and where no load answered Ok, no system is started
 abbrev pub NoLoadLaw : Type 0
 NoLoadLaw =
-    (b : Binding) (cause : Cause) (plans : List (Option Plan)) (before : Content)
-    (entries : List Entry) →
-    AreBoots b cause plans before entries →
+    (b : Binding) (plans : List (Option Plan)) (before : Content) (entries : List Entry) →
+    AreBoots b plans before entries →
     first_loaded before entries ≡ None →
     starts_of entries ≡ 0
