@@ -1,0 +1,4 @@
+mod areas;
+mod boots;
+mod each_fault;
+mod rig;
