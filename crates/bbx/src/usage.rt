@@ -13,7 +13,7 @@ DEVICE
 
 GEOMETRY
   ov:SIZE              overwritten in place, of SIZE bytes, up to 268435456
-  er:PAGE:BLOCK:SIZE   written in pages and erased in blocks; state alone works on one
+  er:PAGE:BLOCK:SIZE   written in pages and erased in blocks; raw works on none
 
 COMMAND
   raw MAGIC LEN -g     prints the first area that passes, in hexadecimal, or `none`;
@@ -36,6 +36,12 @@ COMMAND
                        the target that was chosen last its default attempts, saves where
                        that changed them, and prints `good` with its name and attempts
      -c FILE           the settings, up to 1048576 bytes
+  boot -i FILE -c FILE [-n NAME] [--cause WORD]
+                       reads both as `mark-good` does, and the entry of each target; loads the
+                       state, resets what the settings say, takes the best target, spends one
+                       of its attempts, saves that, and starts the target: DEVICE.plan has its
+                       plan then; prints `start`, its name, and the attempts left and tried
+     --cause WORD      why the machine starts: power-on, reset or other, which it is without
 
 Numbers are decimal, or hexadecimal behind 0x.
 
@@ -52,6 +58,9 @@ STATUS
    7 FileTooLong a file is longer than 1048576 bytes
    8 ReadFault   the device can't be opened or read, or is no device
    9 WriteFault  a copy can't be written; the line has its number, from 0
+  10 NoTarget    no target has a priority and attempts left; nothing is saved
+  11 StartFailed no target could be started; the line has the last one, the line before it
+                 how many were tried
   13 BadSettings the settings aren't settings, or a variable of theirs isn't in the layout or
                  is no uint32; the line has the cause, and its line or the variable
   14 SinkFault   the output can't be written
