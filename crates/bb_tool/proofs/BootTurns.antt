@@ -27,7 +27,7 @@ use Rattle.bb_shell.specs.declared.outcome.Outcome.{Outcome}
 use Rattle.bb_shell.specs.declared.outcome.Outcome.TheVariants as outcomes
 use Rattle.bb_shell.proofs.Reached.{StopsRefused, begun_saving, idle_saving, is_made, made_cons}
 use Rattle.bb_state.specs.Kinds.{laid_form, laid_kinds, laid_passings}
-use Rattle.bb_tool.specs.Booting.{target_started}
+use Rattle.bb_shell.specs.Counting.{target_started}
 use Rattle.bb_tool.specs.Looking.{passed_in}
 use Rattle.bb_tool.specs.Session.{loaded_area}
 use Rattle.bb_tool.specs.Turns.{HasTrail, IsCounted, IsFairRun, LeadsTo, first_area}

@@ -20,7 +20,8 @@ use Rattle.bb_shell.specs.Stages.{made_of as made_behind}
 use Rattle.bb_shell.proofs.Reached.{stops_refused}
 use Rattle.bb_state.specs.Kinds.{laid_kinds}
 use Rattle.bb_tool.specs.Looking.{IsQuiet, passed_in}
-use Rattle.bb_tool.specs.Booting.{SaveAnswer, boots, target_started}
+use Rattle.bb_tool.specs.Booting.{SaveAnswer, boots}
+use Rattle.bb_shell.specs.Counting.{turn_of_rounds}
 use Rattle.bb_tool.specs.Plan.{Act, Boot, Good, SessionPlan, Show, Work, Write}
 use Rattle.bb_tool.specs.Session.{LoadAnswer, Session, barred, loaded_area, saved, saves_behind, text_of}
 use Rattle.bb_tool.specs.Turns.{EachStanding, HasTrail, HasTrails, IsFairRun, LeadsOn, LeadsTo, boot_turn, first_area, load_turn, made_of, work_turn}
@@ -216,7 +217,7 @@ boot_turned plan targets cause plans from to (Ok found) saves is work =
     let session = boot_is plan targets cause plans found work.used work.middle to saves is run in
     subst
     (λ (s : Session). Turned plan.layout from to
-    (λ marks. Loaded (picked marks) s.saves (made_behind table s.rounds) (target_started s.rounds))) (sym session)
+    (λ marks. turn_of_rounds (picked marks) table s.rounds)) (sym session)
     (λ first e last f before here stands.
     let there = some_of work.middle.told (load.later.told ∙ ap is_some e) in
     let stops = stops_refused targets plans _ run.rounds run.are in

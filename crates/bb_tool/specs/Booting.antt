@@ -73,13 +73,6 @@ start_in plans round =
 abbrev pub start_of : Work → List Round → Option StartPlan
 start_of work rounds = option_and_then (start_in (plans_of work)) (last_round rounds)
 
--- the target that was started, counted from 0
-abbrev pub target_started : List Round → Option ℕ
-target_started rounds =
-    option_and_then
-    (λ round. if is_started round.outcome then Some round.target else None)
-    (last_round rounds)
-
 -- A boot behind a load of this table has rounds by the rules: each is of the best target in the table
 -- that it starts from, one attempt of it is spent, and no start comes before its save answered Ok.
 -- No other work has rounds.

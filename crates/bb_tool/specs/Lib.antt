@@ -12,6 +12,7 @@ pub use Rattle.bb_copies.specs.Saving
 pub use Rattle.bb_copies.specs.StandsFor
 pub use Rattle.bb_copies.specs.Trail
 pub use Rattle.bb_shell.specs.Boot
+pub use Rattle.bb_shell.specs.Counting
 pub use Rattle.bb_shell.specs.Ends
 pub use Rattle.bb_shell.specs.Rounds
 pub use Rattle.bb_shell.specs.Stages

@@ -11,8 +11,8 @@ use Rattle.bb_flash.specs.Image.{Image}
 use Rattle.bb_layout.specs.Defaults.{defaults_of}
 use Rattle.bb_layout.specs.Layout.{Laid}
 use Rattle.bb_tool.specs.Looking.{passed_in}
-use Rattle.bb_shell.specs.Stages.{made_of as made_behind}
-use Rattle.bb_tool.specs.Booting.{SaveAnswer, target_started}
+use Rattle.bb_shell.specs.Counting.{turn_of_rounds}
+use Rattle.bb_tool.specs.Booting.{SaveAnswer}
 use Rattle.bb_tool.specs.Plan.{Act, Boot, Good, SessionPlan, Show, Work, Write}
 use Rattle.bb_tool.specs.Session.{LoadAnswer, loaded_area, worked}
 
@@ -34,9 +34,7 @@ load_turn plan (Err fault) saves marks = Unloaded
 -- of a boot, in which a save is begun only where a round has another table than the one before
 abbrev pub boot_turn : SessionPlan → LoadAnswer → List SaveAnswer → List (Option ℕ) → Turn
 boot_turn plan (Ok found) saves marks =
-    let session = worked plan (Ok found) saves in
-    Loaded (picked marks) session.saves (made_behind (loaded_area plan.layout found) session.rounds)
-    (target_started session.rounds)
+    turn_of_rounds (picked marks) (loaded_area plan.layout found) (worked plan (Ok found) saves).rounds
 boot_turn plan (Err fault) saves marks = Unloaded
 
 abbrev pub work_turn : Work → SessionPlan → LoadAnswer → List SaveAnswer → List (Option ℕ) → Turn
