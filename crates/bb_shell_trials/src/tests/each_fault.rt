@@ -22,12 +22,7 @@ fn fills() -> [Fill; 4] {
 
 // A board with all attempts that meets a fault at a call, and where `first_fails` says so, at its
 // first start.
-fn faulty(
-    alloc: Global,
-    first_fails: bool,
-    call: u32,
-    fault: Fault,
-) -> Result<MemBoard, NoMemory>
+fn faulty(alloc: Global, first_fails: bool, call: u32, fault: Fault) -> Result<MemBoard, NoMemory>
     ensures geometry { IfOk result (λ board.
         board.geometry ≡ record { page = 1; block = 0; size = 192 }) }
     ensures whole { IfOk result (λ board. IsDevice (device_of board)) }

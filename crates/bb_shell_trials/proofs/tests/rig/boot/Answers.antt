@@ -16,6 +16,6 @@ boot_run-requires c =
       on = c.load.ensures.on;
       bound = record {
         area_len = c.in_ok-chooser.ensures ∙ sym c.in_ok-state.ensures.area_len
-          ∙ ap (λ l. l.area_len) (sym c.load.ensures.layout)
-      }
+            ∙ ap (λ l. l.area_len) (sym c.load.ensures.layout);
+      };
     }
