@@ -178,9 +178,9 @@ pub fn boot(
     let Ok(plans) = read_plans(alloc, &chooser, &mut files) else {
         return Err(Fail::from("the plans are refused"));
     };
-    if state.load(board).is_err() {
+    let Ok(_) = state.load(board) else {
         return Ok(None);
-    }
+    };
     let cause = Cause::Other;
     Ok(Some(boot_run(&mut state, &chooser, &plans, cause, first, board)))
 }
