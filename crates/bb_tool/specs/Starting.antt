@@ -38,9 +38,9 @@ abbrev pub RunsRounds : Ran → Type 0
 RunsRounds ran =
     EachLoaded ran (λ plan answers table. AreRoundsOf plan.work table (session_for ran answers).rounds)
 
--- A boot did one of the turns that the law of starts counts: the table that its load gave stands at
--- the turn's place of the list, has the length of the area, and the rounds behind it came of some
--- answers. No other work is a boot.
+-- A boot did what the law of starts takes for a boot: where its load answered Ok, the table that it
+-- gave stands at the turn's place of the list and has the area's length, and the turn is that of the
+-- rounds that come of some answers. No other work is a boot.
 abbrev pub IsTurnOf : Work → Content → Turn → Type 0
 IsTurnOf Show before turn = ⊤
 IsTurnOf (Write area) before turn = ⊤
@@ -48,7 +48,7 @@ IsTurnOf (Act actions) before turn = ⊤
 IsTurnOf (Good targets) before turn = ⊤
 IsTurnOf (Boot targets cause plans) before turn = IsBootTurn targets cause plans before turn
 
--- the turn that `exit` and `trail` speak of is such a one, at whatever content its copies stood for
+-- so is the turn of a session, at each content that its copies stood for at entry
 abbrev pub BootsInTurn : Ran → Type 0
 BootsInTurn ran =
     EachWork ran
