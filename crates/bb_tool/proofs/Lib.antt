@@ -10,11 +10,13 @@ mod Examples
 pub mod Faults
 pub mod Fine
 pub mod Given
+pub mod InTurn
 pub mod Kept
 pub mod Lines
 pub mod Plans
 pub mod Quiet
 mod Regions
+pub mod Sizes
 pub mod Sources
 pub mod Starting
 pub mod Tables

@@ -16,7 +16,6 @@ use Rattle.bb_chooser.specs.Binding.{Binding}
 use Rattle.bb_chooser.specs.declared.cause.Cause.{Cause}
 use Rattle.bb_flash.specs.declared.plan.Plan.{Plan as StartPlan}
 use Rattle.bb_layout.specs.Layout.{Laid}
-use Rattle.bb_shell.specs.Stages.{made_of as made_behind}
 use Rattle.bb_shell.proofs.Reached.{stops_refused}
 use Rattle.bb_state.specs.Kinds.{laid_kinds}
 use Rattle.bb_tool.specs.Looking.{IsQuiet, passed_in}

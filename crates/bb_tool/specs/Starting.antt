@@ -1,21 +1,24 @@
 -- What `run` says of starts: at most one, of the best target, by its plan, behind the save of the
 -- attempt that it spends. None of these facts names a command.
-use Rattle.std.specs.Prelude.{◌≡◌, ◌⊎◌, ℕ, List, Option, Some, None, Ok, IsNone, IsSome, option_and_then}
+use Rattle.std.specs.Prelude.{◌≡◌, ◌⊎◌, ℕ, ⊤, List, Option, Some, None, Ok, IsNone, IsSome, option_and_then}
 use Rattle.std.specs.Option.{ForSome}
 use Rattle.bb_base.specs.Faults.{Rose}
+use Rattle.bb_copies.specs.Chronicle.{Content, Turn}
 use Rattle.bb_copies.specs.Settling.{RoseBy}
 use Rattle.bb_copies.specs.StandsFor.{EachPassesOrNothing}
 use Rattle.bb_flash.specs.Device.{Device, content, starts}
 use Rattle.bb_flash.specs.declared.plan.Plan.{Plan as StartPlan}
 use Rattle.bb_shell.specs.Boot.{last_round, plan_at, table_after}
+use Rattle.bb_shell.specs.Counting.{IsBootTurn}
 use Rattle.bb_shell.specs.Ends.{StartsOnce, failed_starts}
 use Rattle.bb_tool.specs.Booting.{AreRoundsOf, plans_of, start_of}
 use Rattle.bb_tool.specs.Calls.{MayAnswer, Tells, session_for}
 use Rattle.bb_tool.specs.Copying.{EachWork}
 use Rattle.bb_tool.specs.Looking.{passed_in}
-use Rattle.bb_tool.specs.Plan.{SessionPlan, Work}
+use Rattle.bb_tool.specs.Plan.{Act, Boot, Good, SessionPlan, Show, Work, Write}
 use Rattle.bb_tool.specs.Ran.{Ran}
 use Rattle.bb_tool.specs.Session.{Answers, loaded_area, sent_of}
+use Rattle.bb_tool.specs.Turns.{EachStanding, turn_of}
 use Rattle.bb_tool.specs.declared.refusal.Refusal.TheVariants as refusals
 use Rattle.bb_tool.specs.declared.status.Status.TheVariants as statuses
 
@@ -34,6 +37,25 @@ EachLoaded ran P =
 abbrev pub RunsRounds : Ran → Type 0
 RunsRounds ran =
     EachLoaded ran (λ plan answers table. AreRoundsOf plan.work table (session_for ran answers).rounds)
+
+-- A boot did what the law of starts takes for a boot: where its load answered Ok, the table that it
+-- gave stands at the turn's place of the list and has the area's length, and the turn is that of the
+-- rounds that come of some answers. No other work is a boot.
+abbrev pub IsTurnOf : Work → Content → Turn → Type 0
+IsTurnOf Show before turn = ⊤
+IsTurnOf (Write area) before turn = ⊤
+IsTurnOf (Act actions) before turn = ⊤
+IsTurnOf (Good targets) before turn = ⊤
+IsTurnOf (Boot targets cause plans) before turn = IsBootTurn targets cause plans before turn
+
+-- so is the turn of a session, at each content that its copies stood for at entry
+abbrev pub BootsInTurn : Ran → Type 0
+BootsInTurn ran =
+    EachWork ran
+    (λ plan answers.
+    EachStanding plan.layout ran.before.device ran.after.device
+    (λ first last before.
+    IsTurnOf plan.work before (turn_of plan answers.load answers.saves before.marks)))
 
 -- ---- starts
 

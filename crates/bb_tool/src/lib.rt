@@ -17,6 +17,6 @@ mod status;
 mod targets;
 mod tell;
 
-pub use law::{law_chronicle, law_wear};
+pub use law::{law_attempts, law_chronicle, law_wear};
 pub use session::run;
 pub use status::Status;

@@ -7,7 +7,7 @@ ghost use Rattle.bb_tool.specs.Filing.{IsFolderLater};
 ghost use Rattle.bb_tool.specs.Plan.{names_file};
 ghost use Rattle.bb_tool.specs.Ran.{ran_by};
 ghost use Rattle.bb_tool.specs.Refusal.{IsTellable};
-ghost use Rattle.bb_tool.specs.Starting.{CountsFailedStarts, KnowsStartFaults, NamesTheTarget, RunsRounds, StartsAtMostOne, StartsBehindSave, StartsTheLast};
+ghost use Rattle.bb_tool.specs.Starting.{BootsInTurn, CountsFailedStarts, KnowsStartFaults, NamesTheTarget, RunsRounds, StartsAtMostOne, StartsBehindSave, StartsTheLast};
 ghost use Rattle.bb_tool.specs.Work.{IsSendable};
 
 use crate::Status;
@@ -62,9 +62,12 @@ pub fn run<F: Files, B: Board, K: Sink>(
     ensures outside { KeepsOthers (ran_by F.folder B.device K.outlet words.now
         files.old files.new board.old board.new out.old out.new result) }
 
-    // A boot's rounds are of the best target each. At most one start is made, by the plan of the last
-    // round's target, behind the save of the attempt that it spends.
+    // A boot's rounds are of the best target each, and its turn is one of those whose starts
+    // `law_attempts` bounds. At most one start is made, by the plan of the last round's target,
+    // behind the save of the attempt that it spends.
     ensures rounds { RunsRounds (ran_by F.folder B.device K.outlet words.now
+        files.old files.new board.old board.new out.old out.new result) }
+    ensures boots { BootsInTurn (ran_by F.folder B.device K.outlet words.now
         files.old files.new board.old board.new out.old out.new result) }
     ensures starts { StartsTheLast (ran_by F.folder B.device K.outlet words.now
         files.old files.new board.old board.new out.old out.new result) }

@@ -4,6 +4,7 @@ use Rattle.bb_tool.proofs.Endings.{at_exit, bad_words_of, beside, comes_alone, c
 use Rattle.bb_tool.proofs.Early.{early_memory_of, early_of}
 use Rattle.bb_tool.proofs.Exact.{alike_of, written_of}
 use Rattle.bb_tool.proofs.Faults.{unread_of, write_faults_of}
+use Rattle.bb_tool.proofs.InTurn.{boots_of}
 use Rattle.bb_tool.proofs.Starting.{rounds_of, start_causes_of, start_failed_of, start_faults_of, starts_of, starts_once_of, starts_saved_of}
 use Rattle.bb_tool.proofs.Tables.{no_good_of, no_target_of}
 use Rattle.bb_tool.proofs.Wholes.{undisturbed_alone_of, undisturbed_of}
@@ -95,6 +96,9 @@ returns-clause-write_fault_cause g c = write_faults_of _ c.answer.ensures.sessio
 
 pub returns-clause-rounds : goal.returns-clause-rounds
 returns-clause-rounds g c = rounds_of _ c.answer.ensures.session
+
+pub returns-clause-boots : goal.returns-clause-boots
+returns-clause-boots g c = boots_of _ c.answer.ensures.session
 
 pub returns-clause-starts : goal.returns-clause-starts
 returns-clause-starts g c = starts_of _ c.answer.ensures.session
