@@ -1,4 +1,5 @@
-ghost use Rattle.std.specs.Prelude.{◌≡◌, IfOk};
+ghost use Rattle.std.specs.Prelude.{◌≡◌, IfOk, false};
+ghost use Rattle.bb_layout.specs.Formats.{takes_key};
 
 use super::*;
 use bb_base::{Bytes, NoMemory, Text, TextList};
@@ -12,7 +13,8 @@ use std::test::Fail;
 
 // A layout of one variable, `a.n`, in one byte.
 fn one_byte(alloc: Global) -> Result<Layout, NoMemory>
-    ensures { IfOk result (λ layout. layout.area_len ≡ 1) }
+    ensures area_len { IfOk result (λ layout. layout.area_len ≡ 1) }
+    ensures format { IfOk result (λ layout. takes_key layout.format ≡ false) }
 {
     let mut default = Bytes::none(alloc);
     default.add(b"\x03")?;
@@ -60,7 +62,7 @@ fn actions_come_in_their_order(rt: HostRuntime) -> Result<(), Fail> {
     actions.push(set(rt.alloc(), "a.n", "8")?)?;
     actions.push(Action::Dump)?;
     assert!(rt; first_misfit(&layout, &actions).is_none());
-    let mut state = State::mount(rt.alloc(), layout)?;
+    let mut state = State::mount(rt.alloc(), layout, None)?;
     make_sets(&mut state, &actions);
     let text = actions_text(rt.alloc(), state.layout(), state.table.bytes(), &actions)?;
     let lines = b"state_a_n=\"8\"\n8\na.n=8\n".as_slice();

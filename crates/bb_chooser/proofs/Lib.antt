@@ -6,8 +6,10 @@ pub mod Counts
 mod Examples
 pub mod Following
 pub mod GivenSteps
+pub mod Named
 pub mod Reading
 pub mod Refusing
 pub mod Resetting
+pub mod Results
 pub mod Texts
 pub mod Writing

@@ -18,7 +18,8 @@ use Rattle.bb_layout.specs.Fields.{base_name}
 use Rattle.bb_layout.specs.Layout.{Laid, layout_at, layout_from}
 use Rattle.bb_layout.specs.StateNode.{counting, is_wanted}
 use Rattle.bb_layout.specs.Steps.{result_then}
-use Rattle.bb_layout.specs.declared.format_kind.FormatKind.TheVariants.{Raw}
+use Rattle.bb_layout.specs.declared.format_kind.FormatKind.{FormatKind}
+use Rattle.bb_layout.specs.declared.format_kind.FormatKind.TheVariants.{Raw, RawHmac}
 use Rattle.bb_layout.specs.declared.layout_error.LayoutError.{LayoutError}
 use Rattle.bb_layout.specs.declared.layout_error.LayoutError.TheVariants.{NoState, Missing, BadProp, BadType, BadReg, Overlap, NoBackend, TooSmall, Unaligned, OutOfDevice, AreaTooLong, NameTwice}
 use Rattle.bb_layout.specs.declared.storage.Storage.TheVariants.{Stride, OneBlock, Circular}
@@ -59,6 +60,9 @@ magic = (codes "magic", cells (0x4d433230 ∷ []))
 
 abbrev raw : Value
 raw = (codes "backend-type", text (codes "raw"))
+
+abbrev algo : List ℕ → Value
+algo name = (codes "algo", text name)
 
 abbrev backend : Value
 backend = (codes "backend", cells (1 ∷ []))
@@ -168,8 +172,8 @@ no_reg = refl
 dtb_records : refused (tree (compatible ∷ magic ∷ (codes "backend-type", text (codes "dtb")) ∷ backend ∷ []) [] (partition 0 96)) small ≡ Err (BadProp (codes "backend-type"))
 dtb_records = refl
 
-a_key : refused (tree (compatible ∷ (codes "algo", text (codes "hmac(sha256)")) ∷ magic ∷ raw ∷ backend ∷ []) [] (partition 0 96)) small ≡ Err (BadProp (codes "algo"))
-a_key = refl
+other_key : refused (tree (compatible ∷ algo (codes "hmac(sha1)") ∷ magic ∷ raw ∷ backend ∷ []) [] (partition 0 96)) small ≡ Err (BadProp (codes "algo"))
+other_key = refl
 
 stride_of_zero : refused (tree (stride 0 ∷ good) [] (partition 0 96)) small ≡ Err (BadProp (codes "backend-stridesize"))
 stride_of_zero = refl
@@ -272,6 +276,21 @@ entry_of_two_pages = refl
 
 entry_of_three_pages : refused (area_to 105) blocks ≡ Err TooSmall
 entry_of_three_pages = refl
+
+-- ---- records with a key
+
+abbrev kept_in : Node → Option (FormatKind × Storage)
+kept_in t = option_map (λ l. (l.format, l.storage)) (result_ok (layout_from t None small))
+
+abbrev keyed : ℕ → Node
+keyed size = tree (algo (codes "hmac(sha256)") ∷ good) [] (partition 0 size)
+
+-- three strides of 55 bytes hold no front, record and HMAC of an empty area, three of 56 do
+strides_of_55 : refused (keyed 167) small ≡ Err TooSmall
+strides_of_55 = refl
+
+strides_of_56 : kept_in (keyed 168) ≡ Some (RawHmac, Stride 56)
+strides_of_56 = refl
 
 -- a region in cells of 64 bits
 abbrev far : List ℕ → Node

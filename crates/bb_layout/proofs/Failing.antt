@@ -12,12 +12,13 @@ use Rattle.bb_layout.specs.Copies.{copies_of, room_for, spacing}
 use Rattle.bb_layout.specs.Fields.{cell_of, string_of, texts_of, two_cells_of}
 use Rattle.bb_layout.specs.Ranges.{area_of, greatest_end, has_same_name, shares_byte, some_pair}
 use Rattle.bb_layout.specs.Results.{all_ok, option_filter, result_and_then}
-use Rattle.bb_layout.specs.StateProps.{algo_of, checked, circular_in, is_circular_of, is_string, magic_of, needed, props_of, some_cell, stride_of}
+use Rattle.bb_layout.specs.StateProps.{circular_in, format_of, is_circular_of, keyed_in, magic_of, needed, props_of, some_cell, stride_of, type_in}
 use Rattle.bb_layout.specs.StateProps
 use Rattle.bb_layout.specs.Steps.{result_then}
 use Rattle.bb_layout.specs.Storage.{fitted, is_aligned, placed}
 use Rattle.bb_layout.specs.Variables.{default_in, default_of, dotted, filled, fits_type, is_variable, kind_of, names_of, range_of, type_of, variable_at, variable_of, variables_of, ways_of}
 use Rattle.bb_layout.specs.VarType.{type_named}
+use Rattle.bb_layout.specs.declared.format_kind.FormatKind.{FormatKind}
 use Rattle.bb_layout.specs.declared.layout_error.LayoutError.{LayoutError}
 use Rattle.bb_layout.specs.declared.layout_error.LayoutError.TheVariants.{Missing, BadProp, BadType, BadReg, Overlap, NoBackend, TooSmall, Unaligned, OutOfDevice, AreaTooLong, NameTwice}
 use Rattle.bb_layout.specs.declared.storage.Storage.{Storage}
@@ -105,17 +106,18 @@ module _ (b : Branch (List ℕ)) where
   fails_needed : {p : LayoutError → Bool} (name : List ℕ) → p (Missing name) ≡ true → Fails p (needed b name)
   fails_needed name h = fails_or (prop_of name b) (Missing name) h
 
-  fails_checked : (name : List ℕ) (good : List ℕ → Bool) → Fails of_props (checked b name good)
-  fails_checked name good =
-      let look : List ℕ → Result (Unit {0}) LayoutError = λ value. cond (good value) (Ok tt) (Err (BadProp name)) in
-      fails_map_or look (prop_of name b) (Ok tt) (λ value. fails_if (good value) (Ok tt) (Err (BadProp name)) (fails_ok tt) (fails_err (BadProp name) refl)) (fails_ok tt)
-
   fails_magic : Fails of_props (magic_of b)
   fails_magic =
       fails_then (needed b (codes "magic")) _ (fails_needed (codes "magic") refl) (λ v. fails_or (cell_of v) (BadProp (codes "magic")) refl)
 
   fails_type : Fails of_props (StateProps.type_of b)
-  fails_type = fails_then (needed b (codes "backend-type")) _ (fails_needed (codes "backend-type") refl) (λ v. fails_checked (codes "backend-type") (λ value. is_string value (codes "raw")))
+  fails_type =
+      fails_then (needed b (codes "backend-type")) _ (fails_needed (codes "backend-type") refl) (λ v. fails_or (type_in v) (BadProp (codes "backend-type")) refl)
+
+  fails_format : (type : FormatKind) → Fails of_props (format_of b type)
+  fails_format type =
+      let bad = BadProp (codes "algo") in
+      fails_map_or (λ v. ok_or (keyed_in type v) bad) (prop_of (codes "algo") b) (Ok type) (λ v. fails_or (keyed_in type v) bad refl) (fails_ok type)
 
   fails_circular : Fails of_props (is_circular_of b)
   fails_circular =
@@ -133,10 +135,10 @@ module _ (b : Branch (List ℕ)) where
   pub fails_props : Fails of_props (props_of b)
   fails_props =
       fails_then (magic_of b) _ fails_magic (λ magic.
-      fails_then (StateProps.type_of b) _ fails_type (λ _.
-      fails_then (algo_of b) _ (fails_checked (codes "algo") (λ _. false)) (λ _.
+      fails_then (StateProps.type_of b) _ fails_type (λ type.
+      fails_then (format_of b type) _ (fails_format type) (λ format.
       fails_then (is_circular_of b) _ fails_circular (λ is_circular.
-      fails_then (stride_of b) _ fails_stride (λ stride. fails_ok (record { magic = magic; is_circular = is_circular; stride = stride }))))))
+      fails_then (stride_of b) _ fails_stride (λ stride. fails_ok (record { magic = magic; format = format; is_circular = is_circular; stride = stride }))))))
 
 fails_range : (type : VarType) (value : Option (List ℕ)) → Fails of_vars (range_of type value)
 fails_range type None = fails_err (Missing (codes "reg")) refl

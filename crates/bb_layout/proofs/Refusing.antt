@@ -4,16 +4,16 @@ use Rattle.std.specs.Prelude.{ok_or}
 use Rattle.bb_flash.specs.declared.geometry.Geometry.{Geometry}
 use Rattle.bb_tree.specs.Node.{Branch}
 use Rattle.bb_layout.specs.Backend.{backend_of}
-use Rattle.bb_layout.specs.Copies.{copies_of, raw_len}
+use Rattle.bb_layout.specs.Copies.{copies_of}
+use Rattle.bb_layout.specs.Formats.{record_len}
 use Rattle.bb_layout.specs.Layout.{Laid, laid, layout_at, layout_from}
 use Rattle.bb_layout.specs.Ranges.{area_of}
-use Rattle.bb_layout.specs.Refusals.{storage_at, AtArea, AtBackend, AtPlace, AtProps, AtRoom, AtVars, ComesExactly, HasArea, HasPlace, HasProps, HasRegion, HasState, HasVars}
+use Rattle.bb_layout.specs.Refusals.{len_at, storage_at, AtArea, AtBackend, AtPlace, AtProps, AtRoom, AtVars, ComesExactly, HasArea, HasPlace, HasProps, HasRegion, HasState, HasVars}
 use Rattle.bb_layout.specs.StateNode.{state_of}
 use Rattle.bb_layout.specs.StateProps.{props_of}
 use Rattle.bb_layout.specs.Steps.{result_then}
 use Rattle.bb_layout.specs.Storage.{fitted, placed, stored}
 use Rattle.bb_layout.specs.Variables.{variables_of}
-use Rattle.bb_layout.specs.declared.format_kind.FormatKind.TheVariants.{Raw}
 use Rattle.bb_layout.specs.declared.layout.Layout.{Layout}
 use Rattle.bb_layout.specs.declared.layout_error.LayoutError.{LayoutError}
 use Rattle.bb_layout.specs.declared.layout_error.LayoutError.TheVariants.{NoState, Missing, BadProp, BadType, BadReg, Overlap, NoBackend, TooSmall, Unaligned, OutOfDevice, AreaTooLong, NameTwice, NoMemory}
@@ -54,12 +54,12 @@ module _ {tree : Branch (List ℕ)} {name : Option (List ℕ)} (geometry : Geome
   -- what is left to do
   abbrev after_region : HasRegion tree name → Result Laid LayoutError
   after_region s =
-      result_then (stored geometry s.region s.measured.listed.read.props (raw_len s.measured.area_len)) (λ storage.
+      result_then (stored geometry s.region s.measured.listed.read.props (len_at s.measured)) (λ storage.
       Ok (record {
         name = s.measured.listed.read.found.called;
         node = s.measured.listed.read.found.state.name;
         magic = s.measured.listed.read.props.magic;
-        format = Raw;
+        format = s.measured.listed.read.props.format;
         storage = storage;
         geometry = geometry;
         region = s.region;
@@ -72,12 +72,12 @@ module _ {tree : Branch (List ℕ)} {name : Option (List ℕ)} (geometry : Geome
   after_vars s =
       result_then (area_of s.vars) (λ area_len.
       result_then (backend_of tree s.read.found.state) (λ region.
-      result_then (stored geometry region s.read.props (raw_len area_len)) (λ storage.
+      result_then (stored geometry region s.read.props (record_len s.read.props.format area_len)) (λ storage.
       Ok (record {
         name = s.read.found.called;
         node = s.read.found.state.name;
         magic = s.read.props.magic;
-        format = Raw;
+        format = s.read.props.format;
         storage = storage;
         geometry = geometry;
         region = region;
@@ -104,16 +104,16 @@ module _ {tree : Branch (List ℕ)} {name : Option (List ℕ)} (geometry : Geome
   may e (at_backend h) = (fails_backend tree h.0.listed.read.found.state).passes e h.1
   may e (at_place h) = (fails_place geometry h.0.region).passes e h.1
   may e (at_room h) =
-      (fails_room geometry (storage_at h.0) h.0.backed.region (raw_len h.0.backed.measured.area_len)).passes e h.1
+      (fails_room geometry (storage_at h.0) h.0.backed.region (len_at h.0.backed.measured)).passes e h.1
 
   -- the first step that refuses, from each step on
-  from_region : (s : HasRegion tree name) (e : LayoutError) → stored geometry s.region s.measured.listed.read.props (raw_len s.measured.area_len) ≡ Err e → Refuses tree name geometry e
+  from_region : (s : HasRegion tree name) (e : LayoutError) → stored geometry s.region s.measured.listed.read.props (len_at s.measured) ≡ Err e → Refuses tree name geometry e
   from_region s e h =
       elim (then_cases (placed geometry s.region) _ e h) [
         | inl q ↦ at_place (s, q)
         | inr q ↦
             let there : HasPlace tree name geometry = record { backed = s; placed_is = q.1 } in
-            elim (then_cases (fitted geometry (storage_at there) s.region (raw_len s.measured.area_len)) _ e q.2) [
+            elim (then_cases (fitted geometry (storage_at there) s.region (len_at s.measured)) _ e q.2) [
               | inl r ↦ at_room (there, r)
               | inr r ↦ absurd (ok_err r.2)
             ]
@@ -132,7 +132,7 @@ module _ {tree : Branch (List ℕ)} {name : Option (List ℕ)} (geometry : Geome
               | inl r ↦ at_backend (m, r)
               | inr r ↦
                   let b : HasRegion tree name = record { measured = m; region = r.0; region_is = r.1 } in
-                  elim (then_cases (stored geometry r.0 s.read.props (raw_len q.0)) _ e r.2) [
+                  elim (then_cases (stored geometry r.0 s.read.props (len_at m)) _ e r.2) [
                     | inl t ↦ from_region b e t
                     | inr t ↦ absurd (ok_err t.2)
                   ]
@@ -192,7 +192,7 @@ module _ {tree : Branch (List ℕ)} {name : Option (List ℕ)} (geometry : Geome
       to_region h.0.backed
       ∙ then_err _ _ e
       (then_ok (placed geometry h.0.backed.region) _ tt h.0.placed_is
-      ∙ then_err (fitted geometry (storage_at h.0) h.0.backed.region (raw_len h.0.backed.measured.area_len)) _ e h.1)
+      ∙ then_err (fitted geometry (storage_at h.0) h.0.backed.region (len_at h.0.backed.measured)) _ e h.1)
 
 -- ---- each answer
 

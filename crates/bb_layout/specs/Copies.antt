@@ -22,10 +22,6 @@ region_of geometry storage partition copy =
 abbrev pub copies_of : Geometry → Storage → Region → ℕ
 copies_of geometry storage partition = min 3 (partition.size / spacing geometry storage)
 
--- a raw record is 16 bytes and the area
-abbrev pub raw_len : ℕ → ℕ
-raw_len area_len = 16 + area_len
-
 -- how many bytes a copy with a record of that length takes: 8 bytes stand before the record, or
 -- behind it where an entry of whole pages ends with them
 abbrev pub room_for : Geometry → Storage → ℕ → ℕ

@@ -3,7 +3,7 @@ use Rattle.std.specs.Prelude.{◌≡◌, ◌≢◌, ℕ, ◌+◌, ◌%◌, ◌<�
 use Rattle.bb_flash.specs.Geometry.{IsGeometry}
 use Rattle.bb_flash.specs.declared.geometry.Geometry.{Geometry}
 use Rattle.bb_flash.specs.declared.region.Region.{Region}
-use Rattle.bb_layout.specs.Copies.{raw_len, region_of, room_for, spacing}
+use Rattle.bb_layout.specs.Copies.{region_of, room_for, spacing}
 use Rattle.bb_layout.specs.declared.storage.Storage.{Storage}
 use Rattle.bb_layout.specs.declared.storage.Storage.TheVariants.{Stride, OneBlock, Circular}
 use Rattle.bb_layout.specs.declared.var.Var.{Var}
@@ -67,8 +67,9 @@ pub record HasCopies (geometry : Geometry) (partition : Region) (storage : Stora
       → EndsBefore (region_of geometry storage partition first) (region_of geometry storage partition second)
   pub room : room_for geometry storage len ≤ spacing geometry storage
 
-pub record IsLayout (geometry : Geometry) (partition : Region) (storage : Storage) (copies area_len : ℕ) (vars : List Var) : Type 0 where
+-- a layout with records of that length
+pub record IsLayout (geometry : Geometry) (partition : Region) (storage : Storage) (copies len area_len : ℕ) (vars : List Var) : Type 0 where
   pub geometry_is : IsGeometry geometry
-  pub copied : HasCopies geometry partition storage copies (raw_len area_len)
+  pub copied : HasCopies geometry partition storage copies len
   pub area_most : area_len ≤ 65535
   pub vars_are : AreVars area_len vars

@@ -5,7 +5,8 @@ use Rattle.bb_flash.specs.declared.geometry.Geometry.{Geometry}
 use Rattle.bb_flash.specs.declared.region.Region.{Region}
 use Rattle.bb_tree.specs.Node.{Branch}
 use Rattle.bb_layout.specs.Backend.{backend_of}
-use Rattle.bb_layout.specs.Copies.{copies_of, raw_len}
+use Rattle.bb_layout.specs.Copies.{copies_of}
+use Rattle.bb_layout.specs.Formats.{record_len}
 use Rattle.bb_layout.specs.Ranges.{area_of}
 use Rattle.bb_layout.specs.StateNode.{state_of}
 use Rattle.bb_layout.specs.StateProps.{props_of}
@@ -13,7 +14,6 @@ use Rattle.bb_layout.specs.Steps.{result_then}
 use Rattle.bb_layout.specs.Storage.{stored}
 use Rattle.bb_layout.specs.Variables.{variables_of}
 use Rattle.bb_layout.specs.declared.format_kind.FormatKind.{FormatKind}
-use Rattle.bb_layout.specs.declared.format_kind.FormatKind.TheVariants.{Raw}
 use Rattle.bb_layout.specs.declared.layout.Layout.{Layout}
 use Rattle.bb_layout.specs.declared.layout_error.LayoutError.{LayoutError}
 use Rattle.bb_layout.specs.declared.layout_error.LayoutError.TheVariants.{NoState}
@@ -47,6 +47,10 @@ laid l = record {
   vars = l.vars;
 }
 
+-- how many bytes a record of it has
+abbrev pub laid_len : Laid → ℕ
+laid_len l = record_len l.format l.area_len
+
 -- the layout of a state node, by a name
 abbrev pub layout_at : Branch (List ℕ) → List ℕ → Branch (List ℕ) → Geometry → Result Laid LayoutError
 layout_at tree name state geometry =
@@ -54,12 +58,12 @@ layout_at tree name state geometry =
     result_then (variables_of state) (λ vars.
     result_then (area_of vars) (λ area_len.
     result_then (backend_of tree state) (λ region.
-    result_then (stored geometry region props (raw_len area_len)) (λ storage.
+    result_then (stored geometry region props (record_len props.format area_len)) (λ storage.
     Ok (record {
       name = name;
       node = state.name;
       magic = props.magic;
-      format = Raw;
+      format = props.format;
       storage = storage;
       geometry = geometry;
       region = region;

@@ -4,6 +4,7 @@ pub mod Copies
 pub mod Defaults
 pub mod Facts
 pub mod Fields
+pub mod Formats
 pub mod Layout
 pub mod Ranges
 pub mod Record

@@ -4,7 +4,7 @@ use Rattle.bb_flash.specs.declared.geometry.Geometry.{Geometry}
 use Rattle.bb_flash.specs.declared.region.Region.{Region}
 use Rattle.bb_tree.specs.Node.{Branch}
 use Rattle.bb_layout.specs.Backend.{backend_of}
-use Rattle.bb_layout.specs.Copies.{raw_len}
+use Rattle.bb_layout.specs.Formats.{record_len}
 use Rattle.bb_layout.specs.Ranges.{area_of}
 use Rattle.bb_layout.specs.StateNode.{state_of}
 use Rattle.bb_layout.specs.StateProps.{props_of}
@@ -43,6 +43,10 @@ pub record HasArea (tree : Branch (List ℕ)) (name : Option (List ℕ)) : Type 
   pub area_len : ℕ
   pub area_is : area_of listed.vars ≡ Ok area_len
 
+-- how many bytes a record of it has
+abbrev pub len_at : {tree : Branch (List ℕ)} {name : Option (List ℕ)} → HasArea tree name → ℕ
+len_at s = record_len s.listed.read.props.format s.area_len
+
 -- and its partition is found
 pub record HasRegion (tree : Branch (List ℕ)) (name : Option (List ℕ)) : Type 0 where
   pub measured : HasArea tree name
@@ -78,7 +82,7 @@ AtPlace tree name geometry e = (s : HasRegion tree name) × (placed geometry s.r
 abbrev pub AtRoom : Branch (List ℕ) → Option (List ℕ) → Geometry → LayoutError → Type 0
 AtRoom tree name geometry e =
     (s : HasPlace tree name geometry)
-    × (fitted geometry (storage_at s) s.backed.region (raw_len s.backed.measured.area_len) ≡ Err e)
+    × (fitted geometry (storage_at s) s.backed.region (len_at s.backed.measured) ≡ Err e)
 
 -- ---- an answer
 

@@ -7,6 +7,8 @@ use Rattle.bb_tree.specs.Node.{Branch}
 use Rattle.bb_tree.specs.Paths.{prop_of}
 use Rattle.bb_layout.specs.Fields.{cell_of}
 use Rattle.bb_layout.specs.Steps.{result_then}
+use Rattle.bb_layout.specs.declared.format_kind.FormatKind.{FormatKind}
+use Rattle.bb_layout.specs.declared.format_kind.FormatKind.TheVariants.{Raw, RawHmac}
 use Rattle.bb_layout.specs.declared.layout_error.LayoutError.{LayoutError}
 use Rattle.bb_layout.specs.declared.layout_error.LayoutError.TheVariants.{Missing, BadProp}
 use Rattle.bb_layout.specs.declared.state_props.Props.{Props}
@@ -23,17 +25,22 @@ is_string value text = bytes_eq value (text ++ 0 ∷ [])
 abbrev pub magic_of : Branch (List ℕ) → Result ℕ LayoutError
 magic_of b = result_then (needed b (codes "magic")) (λ value. ok_or (cell_of value) (BadProp (codes "magic")))
 
--- what a property must be, if it is there
-abbrev pub checked : Branch (List ℕ) → List ℕ → (List ℕ → Bool) → Result (Unit {0}) LayoutError
-checked b name is_good = option_map_or (λ value. if is_good value then Ok tt else Err (BadProp name)) (prop_of name b) (Ok tt)
+-- `backend-type` is `raw`, the one type of records so far
+abbrev pub type_in : List ℕ → Option FormatKind
+type_in value = if is_string value (codes "raw") then Some Raw else None
 
--- `backend-type` is `raw`, the one format so far
-abbrev pub type_of : Branch (List ℕ) → Result (Unit {0}) LayoutError
-type_of b = result_then (needed b (codes "backend-type")) (λ _. checked b (codes "backend-type") (λ value. is_string value (codes "raw")))
+abbrev pub type_of : Branch (List ℕ) → Result FormatKind LayoutError
+type_of b =
+    result_then (needed b (codes "backend-type")) (λ value. ok_or (type_in value) (BadProp (codes "backend-type")))
 
--- `algo` asks for a key, which no format takes so far
-abbrev pub algo_of : Branch (List ℕ) → Result (Unit {0}) LayoutError
-algo_of b = checked b (codes "algo") (λ _. false)
+-- `algo` is `hmac(sha256)`, which a raw record alone takes
+abbrev pub keyed_in : FormatKind → List ℕ → Option FormatKind
+keyed_in Raw value = if is_string value (codes "hmac(sha256)") then Some RawHmac else None
+keyed_in RawHmac value = None
+
+abbrev pub format_of : Branch (List ℕ) → FormatKind → Result FormatKind LayoutError
+format_of b type =
+    option_map_or (λ value. ok_or (keyed_in type value) (BadProp (codes "algo"))) (prop_of (codes "algo") b) (Ok type)
 
 -- whether `backend-storage-type` asks for a circular log, if it is one of its three strings
 abbrev pub circular_in : List ℕ → Option Bool
@@ -60,7 +67,8 @@ stride_of b =
 abbrev pub props_of : Branch (List ℕ) → Result Props LayoutError
 props_of b =
     result_then (magic_of b) (λ magic.
-    result_then (type_of b) (λ _.
-    result_then (algo_of b) (λ _.
+    result_then (type_of b) (λ type.
+    result_then (format_of b type) (λ format.
     result_then (is_circular_of b) (λ is_circular.
-    result_then (stride_of b) (λ stride. Ok (record { magic = magic; is_circular = is_circular; stride = stride }))))))
+    result_then (stride_of b) (λ stride.
+    Ok (record { magic = magic; format = format; is_circular = is_circular; stride = stride }))))))

@@ -2,7 +2,8 @@
 use Rattle.std.specs.Prelude.{ℕ, ◌/◌, ◌==◌, [], Result, Ok, Err, if◌then◌else◌, codes}
 use Rattle.bb_flash.specs.declared.geometry.Geometry.{Geometry}
 use Rattle.bb_flash.specs.declared.region.Region.{Region}
-use Rattle.bb_layout.specs.Copies.{copies_of, raw_len}
+use Rattle.bb_layout.specs.Copies.{copies_of}
+use Rattle.bb_layout.specs.Formats.{raw_len}
 use Rattle.bb_layout.specs.Layout.{Laid}
 use Rattle.bb_layout.specs.Steps.{result_then}
 use Rattle.bb_layout.specs.Storage.{fitted}

@@ -1,6 +1,23 @@
+ghost use Rattle.std.specs.Prelude.{◌≡◌};
+ghost use Rattle.bb_layout.specs.Formats.{takes_key};
+
 /// What a copy's record is.
 #[derive(Clone, Copy, Debug, PartialEq, Eq)]
 pub enum FormatKind {
     /// A raw record without a key.
     Raw,
+    /// A raw record that ends in the HMAC-SHA256 of all bytes before it.
+    RawHmac,
+}
+
+impl FormatKind {
+    /// Whether such a record is written and read under a key.
+    pub fn takes_key(self) -> bool
+        ensures { result ≡ takes_key self }
+    {
+        match self {
+            FormatKind::Raw => false,
+            FormatKind::RawHmac => true,
+        }
+    }
 }

@@ -8,12 +8,13 @@ ghost use Rattle.bb_layout.specs.StateNode.{state_of};
 
 use crate::backend::backend;
 use crate::fields::base_name;
-use crate::placing::{copies, raw_len, stored};
+use crate::placing::{copies, stored};
 use crate::ranges::area_len;
+use crate::record_len::record_len;
 use crate::state_node::{aliased, first_wanted};
 use crate::state_props::state_props;
 use crate::variables::variables;
-use crate::{FormatKind, Layout, LayoutError};
+use crate::{Layout, LayoutError};
 use bb_base::Text;
 use bb_flash::Geometry;
 use bb_tree::{Node, Tree};
@@ -89,12 +90,12 @@ fn layout_at(
     let vars = variables(alloc, state)?;
     let area_len = area_len(alloc, &vars)?;
     let region = backend(alloc, tree, state)?;
-    let storage = stored(geometry, region, props, raw_len(area_len))?;
+    let storage = stored(geometry, region, props, record_len(props.format, area_len))?;
     Ok(Layout {
         name: Text::of(alloc, name)?,
         node: state.name.copy()?,
         magic: props.magic,
-        format: FormatKind::Raw,
+        format: props.format,
         storage,
         geometry,
         region,

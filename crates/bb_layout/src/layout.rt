@@ -1,4 +1,5 @@
 ghost use Rattle.bb_layout.specs.Facts.{HasFewNames-prop, IsLayout};
+ghost use Rattle.bb_layout.specs.Formats.{record_len};
 ghost use Rattle.std.proofs.Props.{props};
 
 use crate::defaults::fill_defaults;
@@ -33,16 +34,16 @@ pub struct Layout {
     pub area_len: u32,
     /// The variables, in the order of the devicetree.
     pub vars: VarList,
-    pub ghost facts: { IsLayout geometry region storage copies area_len vars } by { Prim.hlevel (props, HasFewNames-prop) },
+    pub ghost facts: { IsLayout geometry region storage copies (record_len format area_len) area_len vars } by { Prim.hlevel (props, HasFewNames-prop) },
 }
 
 impl Layout {
     ghost use Rattle.std.specs.Prelude.{◌≡◌, ◌≤◌, ◌<◌, [], IfOk, length};
     ghost use Rattle.bb_tree.specs.NodeViews.{branch_of};
-    ghost use Rattle.bb_layout.specs.Copies.{raw_len, region_of, room_for};
+    ghost use Rattle.bb_layout.specs.Copies.{region_of, room_for};
     ghost use Rattle.bb_layout.specs.Defaults.{defaults_of};
     ghost use Rattle.bb_layout.specs.Facts.{IsAligned, IsWithin};
-    ghost use Rattle.bb_layout.specs.Layout.{laid};
+    ghost use Rattle.bb_layout.specs.Layout.{laid, laid_len};
     ghost use Rattle.bb_layout.specs.Record.{record_tree_of};
     ghost use Rattle.bb_layout.specs.VarNames.{place_of};
 
@@ -52,7 +53,7 @@ impl Layout {
         ensures value { result ≡ region_of self.now.geometry self.now.storage self.now.region copy }
         ensures within { IsWithin self.now.region result }
         ensures aligned { IsAligned self.now.geometry result }
-        ensures room { room_for self.now.geometry self.now.storage (raw_len self.now.area_len)
+        ensures room { room_for self.now.geometry self.now.storage (laid_len (laid self.now))
             ≤ result.size }
     {
         let size = spacing(self.geometry, self.storage);

@@ -11,6 +11,7 @@ mod layout;
 mod layout_error;
 mod placing;
 mod ranges;
+mod record_len;
 mod record_nodes;
 mod record_tree;
 mod record_value;
@@ -32,8 +33,3 @@ pub use storage::Storage;
 pub use thirds::raw_layout;
 pub use var::Var;
 pub use var_list::VarList;
-
-#[cfg(test)]
-mod board_tests;
-#[cfg(test)]
-mod tests;

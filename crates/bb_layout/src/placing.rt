@@ -76,13 +76,6 @@ pub(crate) fn check_room(
     Ok(())
 }
 
-/// How many bytes a raw record has.
-pub(crate) fn raw_len(area_len: u32) -> u64
-    ensures { result ≡ copy.raw_len area_len }
-{
-    16 + u64::from(area_len)
-}
-
 /// How many copies fit, at most 3.
 pub(crate) fn copies(geometry: Geometry, storage: Storage, partition: Region) -> u32
     ensures { result ≡ copy.copies_of geometry storage partition }

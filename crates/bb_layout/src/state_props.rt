@@ -3,8 +3,8 @@ ghost use Rattle.bb_tree.specs.NodeViews.{branch_of};
 ghost use Rattle.bb_layout.specs.StateProps as spec;
 ghost use Rattle.bb_layout.specs.Steps.{Gives, result_copied};
 
-use crate::LayoutError;
 use crate::fields::cell;
+use crate::{FormatKind, LayoutError};
 use bb_tree::Node;
 use std::alloc::Global;
 
@@ -13,6 +13,8 @@ use std::alloc::Global;
 pub(crate) struct Props {
     /// The magic word of a copy's record.
     pub magic: u32,
+    /// What a copy's record is.
+    pub format: FormatKind,
     /// Whether an erase block holds a log of records, and not one record alone.
     pub is_circular: bool,
     /// How many bytes lie between the starts of two copies, if that is said.
@@ -25,12 +27,13 @@ pub(crate) fn state_props(alloc: Global, state: &Node) -> Result<Props, LayoutEr
     ensures { Gives (spec.props_of (branch_of state.now)) result }
 {
     let magic = magic(alloc, state)?;
-    check_type(alloc, state)?;
-    check_algo(alloc, state)?;
+    let kind = record_type(alloc, state)?;
+    let format = format_of(alloc, state, kind)?;
     let is_circular = is_circular(alloc, state)?;
     let stride = stride(alloc, state)?;
     Ok(Props {
         magic,
+        format,
         is_circular,
         stride,
     })
@@ -55,23 +58,44 @@ fn magic(alloc: Global, state: &Node) -> Result<u32, LayoutError>
     }
 }
 
-fn check_type(alloc: Global, state: &Node) -> Result<(), LayoutError>
+fn record_type(alloc: Global, state: &Node) -> Result<FormatKind, LayoutError>
     ensures { Gives (spec.type_of (branch_of state.now)) result }
 {
-    let value = needed(alloc, state, "backend-type")?;
-    if value != b"raw\0".as_slice() {
-        return Err(LayoutError::bad_prop(alloc, "backend-type"));
+    match type_in(needed(alloc, state, "backend-type")?) {
+        Some(kind) => Ok(kind),
+        None => Err(LayoutError::bad_prop(alloc, "backend-type")),
     }
-    Ok(())
 }
 
-fn check_algo(alloc: Global, state: &Node) -> Result<(), LayoutError>
-    ensures { Gives (spec.algo_of (branch_of state.now)) result }
+fn type_in(value: &[u8]) -> Option<FormatKind>
+    ensures { result ≡ spec.type_in value.now }
 {
-    if state.prop("algo").is_some() {
-        return Err(LayoutError::bad_prop(alloc, "algo"));
+    (value == b"raw\0".as_slice()).then_some(FormatKind::Raw)
+}
+
+// The format of records of that type, with a key where `algo` asks for one.
+fn format_of(alloc: Global, state: &Node, kind: FormatKind) -> Result<FormatKind, LayoutError>
+    ensures { Gives (spec.format_of (branch_of state.now) kind) result }
+{
+    let Some(value) = state.prop("algo") else {
+        return Ok(kind);
+    };
+    match keyed_in(kind, value) {
+        Some(keyed) => Ok(keyed),
+        None => Err(LayoutError::bad_prop(alloc, "algo")),
     }
-    Ok(())
+}
+
+fn keyed_in(kind: FormatKind, value: &[u8]) -> Option<FormatKind>
+    ensures { result ≡ spec.keyed_in kind value.now }
+{
+    match kind {
+        FormatKind::Raw => {
+            let asks = value == b"hmac(sha256)\0".as_slice();
+            asks.then_some(FormatKind::RawHmac)
+        }
+        FormatKind::RawHmac => None,
+    }
 }
 
 fn is_circular(alloc: Global, state: &Node) -> Result<bool, LayoutError>

@@ -1,11 +1,12 @@
 ghost use Rattle.std.specs.Prelude.{◌≡◌, ◌≢◌, ◌≤◌, ◌<◌, ◌+◌, ◌/◌, Ok, Err, IfOk, IfErr, codes};
 ghost use Rattle.bb_flash.specs.Geometry.{IsGeometry};
-ghost use Rattle.bb_layout.specs.Copies.{raw_len};
+ghost use Rattle.bb_layout.specs.Formats.{raw_len};
 ghost use Rattle.bb_layout.specs.Layout.{laid};
 ghost use Rattle.bb_layout.specs.Refusals.{ComesExactly};
 ghost use Rattle.bb_layout.specs.Thirds.{raw_layout};
 
-use crate::placing::{check_room, copies, raw_len};
+use crate::placing::{check_room, copies};
+use crate::record_len::raw_len;
 use crate::{FormatKind, Layout, LayoutError, Storage, VarList};
 use bb_base::Text;
 use bb_flash::{Geometry, Region};
@@ -27,6 +28,7 @@ pub fn raw_layout(
         → raw_layout magic area_len geometry ≡ Err e) }
     ensures device { IfOk result (λ layout. layout.geometry ≡ geometry) }
     ensures three { IfOk result (λ layout. layout.copies ≡ 3) }
+    ensures format { IfOk result (λ layout. layout.format ≡ FormatKind.Raw) }
 
     // Each refusal, and where it comes.
     ensures bad_prop { ComesExactly result (LayoutError.BadProp (codes "backend-storage-type"))

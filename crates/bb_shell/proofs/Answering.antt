@@ -1,6 +1,7 @@
 -- The rounds of a boot are those that their answers make.
 use Rattle.std.proofs.Common.{◌≡◌, ℕ, zero, suc, ◌+◌, ◌<◌, ◌≤◌, ◌||◌, Bool, true, false, not, List, [], ◌∷◌, Option, Some, None, ap, arith, cond, inl, inr, length, map, refl, subst, sym, ◌∙◌}
 use Rattle.std.proofs.lemmas.Bool.{and_from, and_parts, cases_lt, false_from_ne_true, false≢true, le-leb, leb-true, lt-ltb, ltb-true, or_left, or_right}
+use Rattle.std.proofs.lemmas.Option.{none-some, same_Some}
 use Rattle.std.specs.List.{list_all, range_with_len}
 use Rattle.std.specs.Option.{option_map_or}
 use Rattle.std.specs.Prelude.{MatchBool, find, nat_le, nat_lt}
@@ -106,6 +107,21 @@ best_none b table none =
     find_none (is_highest b table) 0 (length b.targets)
     (λ k. false_from_ne_true (is_highest b table k)
     (λ h. none k (qualifies_is b table k (and_parts (qualifies b table k) (list_all (is_not_better b table k) (targets_of b)) h).0)))
+
+-- what is found holds
+found_holds : (p : ℕ → Bool) (xs : List ℕ) (x : ℕ) → find p xs ≡ Some x → p x ≡ true
+found_holds p [] x found = absurd (none-some x found)
+found_holds p (y ∷ ys) x found = by (p y) refl (found_holds p ys x)
+  where
+    by : (flag : Bool) → p y ≡ flag → (find p ys ≡ Some x → p x ≡ true) → p x ≡ true
+    by true e rest = subst (λ z. p z ≡ true) (same_Some y x (ap (λ c. cond c (Some y) (find p ys)) (sym e) ∙ found)) e
+    by false e rest = rest (ap (λ c. cond c (Some y) (find p ys)) (sym e) ∙ found)
+
+pub found_qualifies : (b : Binding) (table : List ℕ) (target : ℕ) → best_of b table ≡ Some target → Qualifies b table target
+unfolding is_not_better
+found_qualifies b table target found =
+    let highest : is_highest b table target ≡ true = found_holds (is_highest b table) (targets_of b) target found in
+    qualifies_is b table target (and_parts (qualifies b table target) (list_all (is_not_better b table target) (targets_of b)) highest).0
 
 -- ---- the rounds
 

@@ -1,30 +1,34 @@
--- An attempt that is spent lowers the sum of all attempts.
+-- An attempt that is spent lowers the sum of all attempts, and that of the enabled targets.
 use Rattle.std.proofs.Common.{◌≡◌, ℕ, zero, suc, ◌+◌, ◌-◌, ◌*◌, ◌/◌, ◌%◌, ◌<◌, ◌≤◌, ◌==◌, ◌&&◌, ◌⊎◌, Bool, true, false, List, [], ◌∷◌, arith, ap, cond, get_or, inl, inr, length, refl, sym, subst, take, ◌∙◌}
 use Rattle.std.proofs.Math.Nat as nat
-use Rattle.std.proofs.lemmas.Bool.{cases_lt}
+use Rattle.std.proofs.lemmas.Bool.{cases_lt, lt-ltb}
 use Rattle.std.proofs.lemmas.List.{length-map}
 use Rattle.std.proofs.lemmas.List.Sums.{sum_by-cons, sum_by_push}
 use Rattle.std.proofs.lemmas.Option.{slice_get_read}
-use Rattle.std.specs.Prelude.{sum_by}
+use Rattle.std.specs.Prelude.{nat_lt, sum_by}
 use Rattle.bb_chooser.proofs.Best.{count_at, qualifies_within}
-use Rattle.bb_chooser.proofs.Counts.{spend_is, spent}
+use Rattle.bb_chooser.proofs.Counts.{disabled_keeps, spend_is, spent, spent_keeps}
 use Rattle.bb_chooser.proofs.Writing.{flip, number_length, number_other, number_same}
 use Rattle.bb_chooser.specs.After.{as_word}
 use Rattle.bb_chooser.specs.Binding.{Binding, IsBinding, IsInside, ShareNothing, StandApart, StandsAlone}
-use Rattle.bb_chooser.specs.Choosing.{IsBest, attempts_of, count_in, counts_of, number_at, with_number}
+use Rattle.bb_chooser.specs.Choosing.{IsBest, Qualifies, attempts_of, count_in, counts_of, number_at, priority_of, with_number}
 use Rattle.bb_chooser.specs.Counting.{spend_of}
 use Rattle.bb_state.proofs.Lists.{take_next}
 use Rattle.bb_shell.specs.Boot.{all_attempts}
+use Rattle.bb_shell.specs.Counting.{enabled_attempts}
 use Rattle.bb_chooser.specs.declared.bound_target.BoundTarget.{BoundTarget}
 
 -- the best target is there, and has an attempt
 pub best_left : (b : Binding) (table : List ℕ) (target : ℕ) → IsBest b table target → 0 < attempts_of b table target
 best_left b table target best = best.qualifies.attempts
 
-pub best_there : (b : Binding) (table : List ℕ) (target : ℕ) → IsBest b table target → target < length b.targets
-best_there b table target best =
-    let within = qualifies_within (counts_of b table) target best.qualifies in
+pub qualifies_there : (b : Binding) (table : List ℕ) (target : ℕ) → Qualifies b table target → target < length b.targets
+qualifies_there b table target qualifies =
+    let within = qualifies_within (counts_of b table) target qualifies in
     omega (arith, within, length-map b.targets (count_in table))
+
+pub best_there : (b : Binding) (table : List ℕ) (target : ℕ) → IsBest b table target → target < length b.targets
+best_there b table target best = qualifies_there b table target best.qualifies
 
 -- ---- sums
 
@@ -75,6 +79,29 @@ pub attempts_is : (b : Binding) (table : List ℕ) (target : ℕ) (t : BoundTarg
     attempts_of b table target ≡ number_at table t.attempts_at
 attempts_is b table target t inside at =
     let same = count_at (count_in table) b.targets target t inside at in λ i. (same i).attempts
+
+priority_is : (b : Binding) (table : List ℕ) (target : ℕ) (t : BoundTarget) → target < length b.targets → t ≡ get_or b.targets target t →
+    priority_of b table target ≡ number_at table t.priority_at
+priority_is b table target t inside at =
+    let same = count_at (count_in table) b.targets target t inside at in λ i. (same i).priority
+
+-- the attempts of a target that is enabled
+abbrev enabled_in : List ℕ → BoundTarget → ℕ
+enabled_in table t = cond (nat_lt 0 (number_at table t.priority_at)) (number_at table t.attempts_at) 0
+
+enabled-le : (table : List ℕ) (t : BoundTarget) → enabled_in table t ≤ number_at table t.attempts_at
+enabled-le table t = by (nat_lt 0 (number_at table t.priority_at))
+  where
+    by : (flag : Bool) → cond flag (number_at table t.attempts_at) 0 ≤ number_at table t.attempts_at
+    by true = omega arith
+    by false = omega arith
+
+enabled_all : (table : List ℕ) (t : BoundTarget) → 0 < number_at table t.priority_at → enabled_in table t ≡ number_at table t.attempts_at
+enabled_all table t some = ap (λ flag. cond flag (number_at table t.attempts_at) 0) (lt-ltb 0 (number_at table t.priority_at) some)
+
+enabled_same : (table other : List ℕ) (t : BoundTarget) → number_at table t.attempts_at ≡ number_at other t.attempts_at →
+    number_at table t.priority_at ≡ number_at other t.priority_at → enabled_in table t ≡ enabled_in other t
+enabled_same table other t attempts priority = λ i. cond (nat_lt 0 (priority i)) (attempts i) 0
 
 module _ (b : Binding) (is : IsBinding b) (table : List ℕ) (sized : length table ≡ b.area_len) (target : ℕ) (t : BoundTarget)
     (inside : target < length b.targets) (at : t ≡ get_or b.targets target t) where
@@ -166,6 +193,57 @@ module _ (b : Binding) (is : IsBinding b) (table : List ℕ) (sized : length tab
       let sums = sum_less (λ u. number_at (spend_of b table target) u.attempts_at) (λ u. number_at table u.attempts_at) t b.targets target below inside own in
       omega (arith, sums)
 
+  -- ---- the enabled targets
+
+  same_length : (flag : Bool) → length (after flag) ≡ length table
+  same_length true = (disabled_keeps b is table sized target t left inside at).same_length
+  same_length false = (spent_keeps b is table sized target t left inside at).same_length
+
+  keeps_length : length (spend_of b table target) ≡ length table
+  unfolding flag
+  keeps_length = ap length (spend_is b table target t inside at) ∙ same_length flag
+
+  own_enabled : 0 < number_at table t.priority_at → 0 < attempts_of b table target →
+      enabled_in (spend_of b table target) t + 1 ≤ enabled_in table t
+  own_enabled priority some =
+      omega (arith, enabled-le (spend_of b table target) t, own_lower, enabled_all table t priority, attempts_is b table target t inside at, some)
+
+  other_enabled : (u : BoundTarget) → StandsAlone b.last_chosen_at u → ShareNothing u.attempts_at t.attempts_at → ShareNothing u.attempts_at t.priority_at →
+      ShareNothing u.priority_at t.attempts_at → ShareNothing u.priority_at t.priority_at → enabled_in (spend_of b table target) u ≡ enabled_in table u
+  other_enabled u single attempts from_priority from_attempts priorities =
+      enabled_same (spend_of b table target) table u (other_same u.attempts_at attempts single.attempts from_priority)
+      (other_same u.priority_at from_attempts single.priority priorities)
+
+  enabled_below : 0 < number_at table t.priority_at → 0 < attempts_of b table target →
+      IsBelow (enabled_in (spend_of b table target)) (enabled_in table) t b.targets
+  enabled_below priority some i within = by (cases_lt i target) (cases_lt target i)
+    where
+      by : (i < target) ⊎ (target ≤ i) → (target < i) ⊎ (i ≤ target) → enabled_in (spend_of b table target) (get_or b.targets i t) ≤ enabled_in table (get_or b.targets i t)
+      by (inl before) other =
+          let apart : StandApart (get_or b.targets i t) t =
+          subst (λ (x : BoundTarget). StandApart (get_or b.targets i t) x) (sym at) (is.pairs_apart i target t before inside) in
+          let same =
+          other_enabled (get_or b.targets i t) (is.each_alone i t within) apart.attempts apart.first_attempts (flip t.attempts_at (get_or b.targets i t).priority_at apart.second_attempts) apart.priorities in
+          omega (arith, same)
+      by (inr past) (inl behind) =
+          let apart : StandApart t (get_or b.targets i t) =
+          subst (λ (x : BoundTarget). StandApart x (get_or b.targets i t)) (sym at) (is.pairs_apart target i t behind within) in
+          let same =
+          other_enabled (get_or b.targets i t) (is.each_alone i t within) (flip t.attempts_at (get_or b.targets i t).attempts_at apart.attempts) apart.second_attempts
+          (flip t.attempts_at (get_or b.targets i t).priority_at apart.first_attempts) (flip t.priority_at (get_or b.targets i t).priority_at apart.priorities) in
+          omega (arith, same)
+      by (inr past) (inr most) =
+          let here : i ≡ target = omega (arith, past, most) in
+          let is_t : get_or b.targets i t ≡ t = ap (λ k. get_or b.targets k t) here ∙ sym at in
+          subst (λ (x : BoundTarget). enabled_in (spend_of b table target) x ≤ enabled_in table x) (sym is_t) (omega (arith, own_enabled priority some))
+
+  enabled_less : 0 < number_at table t.priority_at → 0 < attempts_of b table target →
+      enabled_attempts b (spend_of b table target) + 1 ≤ enabled_attempts b table
+  enabled_less priority some =
+      let own : enabled_in (spend_of b table target) (get_or b.targets target t) + 1 ≤ enabled_in table (get_or b.targets target t) =
+      subst (λ (x : BoundTarget). enabled_in (spend_of b table target) x + 1 ≤ enabled_in table x) at (own_enabled priority some) in
+      sum_less (enabled_in (spend_of b table target)) (enabled_in table) t b.targets target (enabled_below priority some) inside own
+
 -- a round spends one attempt at least
 pub total_spent : (b : Binding) (table : List ℕ) (target : ℕ) → IsBinding b → length table ≡ b.area_len → IsBest b table target →
     all_attempts b (spend_of b table target) + 1 ≤ all_attempts b table
@@ -173,6 +251,24 @@ total_spent b table target is sized best =
     let inside = best_there b table target best in
     let found = target_at b.targets target inside in
     less b is table sized target found.0 inside found.1 (best_left b table target best)
+
+-- and one of the enabled targets
+pub enabled_spent : (b : Binding) (table : List ℕ) (target : ℕ) → IsBinding b → length table ≡ b.area_len → Qualifies b table target →
+    enabled_attempts b (spend_of b table target) + 1 ≤ enabled_attempts b table
+enabled_spent b table target is sized qualifies =
+    let inside = qualifies_there b table target qualifies in
+    let found = target_at b.targets target inside in
+    let priority = priority_is b table target found.0 inside found.1 in
+    let enabled : 0 < number_at table found.0.priority_at = subst (λ n. 0 < n) priority qualifies.priority in
+    enabled_less b is table sized target found.0 inside found.1 enabled qualifies.attempts
+
+-- the table stays as long as it was
+pub spent_sized : (b : Binding) (table : List ℕ) (target : ℕ) → IsBinding b → length table ≡ b.area_len → Qualifies b table target →
+    length (spend_of b table target) ≡ b.area_len
+spent_sized b table target is sized qualifies =
+    let inside = qualifies_there b table target qualifies in
+    let found = target_at b.targets target inside in
+    keeps_length b is table sized target found.0 inside found.1 ∙ sized
 
 -- where a target is best there is an attempt
 pub total_some : (b : Binding) (table : List ℕ) (target : ℕ) → IsBest b table target → 1 ≤ all_attempts b table

@@ -1,12 +1,15 @@
 -- Worked boots, by computation alone: two systems of priority 20 and 10, with three attempts each.
-use Rattle.std.proofs.Common.{◌≡◌, ℕ, Bool, true, false, List, [], ◌∷◌, Option, Some, None, Ok, Err, codes, refl}
+use Rattle.std.proofs.Common.{◌≡◌, ℕ, Bool, true, false, List, [], ◌∷◌, Option, Some, None, Ok, Err, arith, codes, inl, inr, refl}
 use Rattle.bb_chooser.specs.Binding.{Binding}
 use Rattle.bb_chooser.specs.declared.cause.Cause.TheVariants.{Other}
 use Rattle.bb_chooser.specs.declared.rules.Rules.{Rules}
 use Rattle.bb_chooser.specs.declared.target.Target.{Target}
+use Rattle.bb_copies.specs.Chronicle.{Chronicle, Content, CutOff, Decayed, Entry, Finished, IsStanding, Loaded, Step}
+use Rattle.bb_copies.specs.StandsFor.{Decay, IsAt}
 use Rattle.bb_copies.specs.declared.answers.CopyFault.TheVariants.{WriteFault}
 use Rattle.bb_flash.specs.declared.plan.Plan.{Plan}
 use Rattle.bb_shell.specs.Boot.{end_of, first_table, table_after}
+use Rattle.bb_shell.specs.Counting.{AreBoots, IsBootBehind, StaysReset, enabled_attempts, first_loaded, starts_of}
 use Rattle.bb_shell.specs.Plans.{plan_by, plans_by}
 use Rattle.bb_shell.specs.Rounds.{RoundAnswer, best_of, rounds_by}
 use Rattle.bb_shell.specs.Stages.{made_of, saves_of, stages_reached}
@@ -156,6 +159,146 @@ stages_refused = refl
 -- without a save it is at entry alone
 stages_none : stages_reached ((1 ∷ []) ∷ []) 0 [] 0 ≡ record { areas = (1 ∷ []) ∷ []; acked = 0 } ∷ []
 stages_none = refl
+
+-- ---- power-ons of a fresh board with two copies: a start, a boot that is cut in its save, a decay of the copy with the
+-- older table, and another start, from the table of the save that was cut
+
+abbrev b : Binding
+b = bound false false
+
+abbrev system0_has : ℕ → List ℕ
+system0_has attempts = table attempts 20 3 10 1
+
+abbrev at_first : Content
+at_first = record { passed = None ∷ None ∷ []; areas = table 3 20 3 10 0 ∷ []; acked = 0; marks = None ∷ None ∷ [] }
+
+abbrev once_started : Content
+once_started = record {
+  passed = Some (system0_has 2) ∷ Some (system0_has 2) ∷ [];
+  areas = table 3 20 3 10 0 ∷ system0_has 2 ∷ [];
+  acked = 1;
+  marks = Some 1 ∷ Some 1 ∷ [];
+}
+
+abbrev with_cut : List (List ℕ)
+with_cut = table 3 20 3 10 0 ∷ system0_has 2 ∷ system0_has 1 ∷ []
+
+abbrev cut : Content
+cut = record {
+  passed = Some (system0_has 2) ∷ Some (system0_has 1) ∷ [];
+  areas = with_cut;
+  acked = 1;
+  marks = Some 1 ∷ Some 2 ∷ [];
+}
+
+abbrev worn : Content
+worn = record { passed = None ∷ Some (system0_has 1) ∷ []; areas = with_cut; acked = 1; marks = None ∷ Some 2 ∷ [] }
+
+abbrev twice_started : Content
+twice_started = record {
+  passed = Some (system0_has 0) ∷ Some (system0_has 0) ∷ [];
+  areas = table 3 20 3 10 0 ∷ system0_has 2 ∷ system0_has 1 ∷ system0_has 0 ∷ [];
+  acked = 3;
+  marks = Some 3 ∷ Some 3 ∷ [];
+}
+
+abbrev power_ons : List Entry
+power_ons =
+    record { event = Finished (Loaded 0 (system0_has 2 ∷ []) 1 (Some 0)); content = once_started }
+    ∷ record { event = CutOff (Loaded 1 (system0_has 1 ∷ []) 0 None); content = cut }
+    ∷ record { event = Decayed; content = worn }
+    ∷ record { event = Finished (Loaded 2 (system0_has 0 ∷ []) 1 (Some 0)); content = twice_started } ∷ []
+
+first_boot : IsBootBehind b Other both at_first 0 (system0_has 2 ∷ []) 1 (Some 0)
+unfolding rounds_by
+first_boot = record { table = table 3 20 3 10 0; table_is = refl; sized = refl; answers = made ∷ []; turn = refl }
+
+-- a save that was cut is one that was refused
+cut_boot : IsBootBehind b Other both once_started 1 (system0_has 1 ∷ []) 0 None
+unfolding rounds_by
+cut_boot = record { table = system0_has 2; table_is = refl; sized = refl; answers = refused ∷ []; turn = refl }
+
+last_boot : IsBootBehind b Other both worn 2 (system0_has 0 ∷ []) 1 (Some 0)
+unfolding rounds_by
+last_boot = record { table = system0_has 1; table_is = refl; sized = refl; answers = made ∷ []; turn = refl }
+
+boots : AreBoots b both at_first power_ons
+unfolding AreBoots
+boots = (
+  record { cause = Other; boots = first_boot; stays = λ place table at here. refl },
+  (
+    record { cause = Other; boots = cut_boot; stays = λ place table at here. refl },
+    (
+      record { cause = Other; boots = tt; stays = λ place table at here. refl },
+      (record { cause = Other; boots = last_boot; stays = λ place table at here. refl }, tt),
+    ),
+  ),
+)
+
+-- ---- they are a chronicle
+
+stands_at_first : IsStanding (table 3 20 3 10 0) at_first
+stands_at_first = record { begins = refl; marked = (refl, (refl, tt)); some = inr refl }
+
+stands_once : IsStanding (table 3 20 3 10 0) once_started
+stands_once =
+    let one : IsAt once_started.areas 1 (Some (system0_has 2)) 1 = record { acked = omega arith; inside = omega arith; area = refl } in
+    record { begins = refl; marked = (one, (one, tt)); some = inl refl }
+
+stands_cut : IsStanding (table 3 20 3 10 0) cut
+stands_cut =
+    let old : IsAt with_cut 1 (Some (system0_has 2)) 1 = record { acked = omega arith; inside = omega arith; area = refl } in
+    let new : IsAt with_cut 1 (Some (system0_has 1)) 2 = record { acked = omega arith; inside = omega arith; area = refl } in
+    record { begins = refl; marked = (old, (new, tt)); some = inl refl }
+
+stands_twice : IsStanding (table 3 20 3 10 0) twice_started
+stands_twice =
+    let last : IsAt twice_started.areas 3 (Some (system0_has 0)) 3 = record { acked = omega arith; inside = omega arith; area = refl } in
+    record { begins = refl; marked = (last, (last, tt)); some = inl refl }
+
+starts_once : Step at_first (Loaded 0 (system0_has 2 ∷ []) 1 (Some 0)) once_started.areas 1
+starts_once = record { given = refl; areas = refl; acked = refl; most = omega arith; least = omega arith; start = λ some. refl }
+
+cuts : Step once_started (Loaded 1 (system0_has 1 ∷ []) 0 None) with_cut 1
+cuts = record { given = refl; areas = refl; acked = refl; most = omega arith; least = omega arith; start = λ some. grind arith }
+
+starts_again : Step worn (Loaded 2 (system0_has 0 ∷ []) 1 (Some 0)) twice_started.areas 3
+starts_again = record { given = refl; areas = refl; acked = refl; most = omega arith; least = omega arith; start = λ some. refl }
+
+decays : Decay cut.passed worn.passed
+decays = record { each = (inr refl, (inl refl, tt)); spares = λ some. refl }
+
+four_events : Chronicle (table 3 20 3 10 0) at_first power_ons
+four_events = (
+  record { step = starts_once; stands = stands_once },
+  (
+    record { step = cuts; stands = stands_cut },
+    (
+      record { decay = decays; areas = refl; acked = refl; marks = refl },
+      (record { step = starts_again; stands = stands_twice }, tt),
+    ),
+  ),
+)
+
+-- ---- the starts, and the attempts that bound them
+
+-- a target of priority 0 isn't enabled
+three_starts_allowed : enabled_attempts b (table 3 0 3 10 0) ≡ 3
+three_starts_allowed = refl
+
+six_starts_allowed : enabled_attempts b (table 3 20 3 10 0) ≡ 6
+six_starts_allowed = refl
+
+two_starts : starts_of power_ons ≡ 2
+two_starts = refl
+
+first_table_given : first_loaded at_first power_ons ≡ Some (table 3 20 3 10 0)
+unfolding first_loaded
+first_table_given = refl
+
+-- a reset that gives attempts back changes the table that the load gave
+gives_back : StaysReset (bound true false) Other (record at_first { areas = table 0 20 0 10 2 ∷ [] }) (Finished (Loaded 0 [] 0 None)) → ⊥
+gives_back stays = let same = stays 0 (table 0 20 0 10 2) refl refl in cc
 
 -- ---- plans
 

@@ -12,7 +12,7 @@ use Rattle.bb_flash.proofs.Moments.{images_same_joined, images_weaker}
 use Rattle.bb_flash.specs.Calls.{IsUntouched}
 use Rattle.bb_flash.specs.Cuts.{EachImage, IsLater, IsSameRegion}
 use Rattle.bb_flash.specs.Device.{Device, Told, changes, content}
-use Rattle.bb_layout.specs.Layout.{Laid}
+use Rattle.bb_state.specs.Keyed.{Keyed}
 use Rattle.bb_state.specs.Kinds.{laid_passings}
 use Rattle.bb_shell.specs.Ends.{StaysStored}
 
@@ -57,13 +57,13 @@ still_outside kinds from to same history = same_outside kinds from to (images_un
 
 -- ---- what the copies hold
 
-pub stored_refl : (layout : Laid) (kept : List ℕ) (from to : Device) → content to ≡ content from → StaysStored layout kept kept from to
-stored_refl layout kept from to same before h after k held =
-    subst (λ image. EachPassesOrNothing kept (laid_passings layout image)) (some_is before after (sym h ∙ sym same ∙ k)) held
+pub stored_refl : (keyed : Keyed) (kept : List ℕ) (from to : Device) → content to ≡ content from → StaysStored keyed kept kept from to
+stored_refl keyed kept from to same before h after k held =
+    subst (λ image. EachPassesOrNothing kept (laid_passings keyed image)) (some_is before after (sym h ∙ sym same ∙ k)) held
 
-pub stored_joined : (layout : Laid) (a b c : List ℕ) (one two three : Device) → IsLater one two →
-    StaysStored layout a b one two → StaysStored layout b c two three → StaysStored layout a c one three
-stored_joined layout a b c one two three later first second before h after k held =
+pub stored_joined : (keyed : Keyed) (a b c : List ℕ) (one two three : Device) → IsLater one two →
+    StaysStored keyed a b one two → StaysStored keyed b c two three → StaysStored keyed a c one three
+stored_joined keyed a b c one two three later first second before h after k held =
     let middle = there (λ (told : Told). told.image) one.told two.told before later.told h in
     second middle.0 middle.1 after k (first before h middle.0 middle.1 held)
 

@@ -2,8 +2,10 @@
 pub mod Answering
 pub mod Attempts
 pub mod Booted
+pub mod Counting
 pub mod Ends
 mod Examples
+pub mod Falling
 pub mod Joins
 pub mod Reached
 pub mod Reading

@@ -22,7 +22,7 @@ use Rattle.bb_flash.specs.Counted.{EachCounted}
 use Rattle.bb_flash.specs.Cuts.{EachImage, IsLater}
 use Rattle.bb_flash.specs.Device.{Change, Device, Told, content}
 use Rattle.bb_flash.specs.Image.{Image}
-use Rattle.bb_layout.specs.Layout.{Laid}
+use Rattle.bb_state.specs.Keyed.{Keyed}
 use Rattle.bb_state.specs.Kinds.{laid_form, laid_kinds, laid_passings}
 use Rattle.bb_state.specs.State.{IsStored}
 use Rattle.bb_shell.proofs.Ends.{retried_saved}
@@ -112,12 +112,12 @@ passes_some (Some other ∷ passed) copy area is = refl
 passes_some (None ∷ passed) zero area is = absurd cc
 passes_some (None ∷ passed) (suc copy) area is = passes_some passed copy area is
 
-module _ (layout : Laid) where
+module _ (keyed : Keyed) where
   abbrev pub Passed : Image → List (Option (List ℕ))
-  Passed image = laid_passings layout image
+  Passed image = laid_passings keyed image
 
   abbrev pub Luck : Change → Image → Type 0
-  Luck = IsLucky (laid_passings layout)
+  Luck = IsLucky (laid_passings keyed)
 
   -- behind a save that answered Ok
   pub record HoldsNow (table : List ℕ) (now : Option ℕ) (image : Image) : Type 0 where
@@ -125,28 +125,28 @@ module _ (layout : Laid) where
     pub some : SomePasses (Passed image)
     pub uses : KeepsUsed now (Passed image)
 
-  pub stored_holds : (table : List ℕ) (now : Option ℕ) (from to : Device) (image : Image) → from.geometry ≡ layout.geometry →
-      IsStored layout table now from to → content to ≡ Some image → HoldsNow table now image
+  pub stored_holds : (table : List ℕ) (now : Option ℕ) (from to : Device) (image : Image) → from.geometry ≡ keyed.layout.geometry →
+      IsStored keyed table now from to → content to ≡ Some image → HoldsNow table now image
   stored_holds table now from to image geometry stored here =
       let saved = stored.saved in
       let page = from.geometry.page in
-      subst (λ g. EachPassesOrNothing table (passings (laid_form layout) g.page (laid_kinds layout) image)
-      → SomePasses (passings (laid_form layout) g.page (laid_kinds layout) image)
-      → KeepsUsed now (passings (laid_form layout) g.page (laid_kinds layout) image) → HoldsNow table now image) (sym geometry)
+      subst (λ g. EachPassesOrNothing table (passings (laid_form keyed) g.page (laid_kinds keyed.layout) image)
+      → SomePasses (passings (laid_form keyed) g.page (laid_kinds keyed.layout) image)
+      → KeepsUsed now (passings (laid_form keyed) g.page (laid_kinds keyed.layout) image) → HoldsNow table now image) (sym geometry)
       (λ each some uses. record { each = each; some = some; uses = uses })
       (saved.exit.kept image here).each
-      (passes_some (passings (laid_form layout) page (laid_kinds layout) image) saved.used table (saved.exit.kept image here).passes)
-      (subst (λ u. KeepsUsed u (passings (laid_form layout) page (laid_kinds layout) image)) (sym saved.is)
+      (passes_some (passings (laid_form keyed) page (laid_kinds keyed.layout) image) saved.used table (saved.exit.kept image here).passes)
+      (subst (λ u. KeepsUsed u (passings (laid_form keyed) page (laid_kinds keyed.layout) image)) (sym saved.is)
       (ap is_some (saved.exit.kept image here).passes))
 
   -- a table that was saved goes behind the list, and is acknowledged
   pub settled_more : (kept : List ℕ) (used : Option ℕ) (table : List ℕ) (now : Option ℕ) (x y : Image) (h : List (List ℕ)) (a : ℕ) →
-      IsSettled layout kept used x h a → HoldsNow table now y → IsSettled layout table now y (h ++ table ∷ []) (a + 1)
+      IsSettled keyed kept used x h a → HoldsNow table now y → IsSettled keyed table now y (h ++ table ∷ []) (a + 1)
   settled_more kept used table now x y h a settled holds =
-      let more = save_done (first_area layout) (Passed x) h a settled.stands.marks table settled.stands.stands (Passed y) holds.each holds.some in
+      let more = save_done (first_area keyed.layout) (Passed x) h a settled.stands.marks table settled.stands.stands (Passed y) holds.each holds.some in
       let last = settled.last in
       record {
-        stands = subst (λ n. StandsIn layout y (h ++ table ∷ []) n) (sym last) more;
+        stands = subst (λ n. StandsIn keyed y (h ++ table ∷ []) n) (sym last) more;
         last = ap (λ n. n + 1) last ∙ save_last h table;
         area = ap (slice_get (h ++ table ∷ [])) last ∙ get_seam h table [];
         uses = holds.uses;
@@ -166,32 +166,32 @@ module _ (layout : Laid) where
   abbrev pub Reaches : List ℕ → Option ℕ → List Round → Image → Image → Type 0
   Reaches kept used saving x z =
       (h : List (List ℕ)) (a : ℕ) →
-      IsSettled layout kept used x h a → StandsAtOne (first_area layout) (Passed z) (reached_by h a saving)
+      IsSettled keyed kept used x h a → StandsAtOne (first_area keyed.layout) (Passed z) (reached_by h a saving)
 
   -- what stands for the list at entry stands for the first stage
-  pub at_entry : (z : Image) (h : List (List ℕ)) (a : ℕ) (saving : List Round) → StandsIn layout z h a →
-      StandsAtOne (first_area layout) (Passed z) (reached_by h a saving)
+  pub at_entry : (z : Image) (h : List (List ℕ)) (a : ℕ) (saving : List Round) → StandsIn keyed z h a →
+      StandsAtOne (first_area keyed.layout) (Passed z) (reached_by h a saving)
   at_entry z h a saving stands =
       let tables = map (λ (round : Round). round.table) saving in
       let many : 1 + length tables + count_by is_made saving ≡ suc (length tables + count_by is_made saving) = omega arith in
-      subst (λ (n : ℕ). StandsAtOne (first_area layout) (Passed z) (take n (stage h a ∷ stages_of h a tables))) (sym many) (inl stands)
+      subst (λ (n : ℕ). StandsAtOne (first_area keyed.layout) (Passed z) (take n (stage h a ∷ stages_of h a tables))) (sym many) (inl stands)
 
-  save_counted : (used : Option ℕ) (table : List ℕ) (from to : Device) → from.geometry ≡ layout.geometry →
-      SaveImages (laid_form layout) (laid_kinds layout) used table from to → EachCounted Luck (Longer used table) from to
+  save_counted : (used : Option ℕ) (table : List ℕ) (from to : Device) → from.geometry ≡ keyed.layout.geometry →
+      SaveImages (laid_form keyed) (laid_kinds keyed.layout) used table from to → EachCounted Luck (Longer used table) from to
   save_counted used table from to geometry images =
-      subst (λ g. EachCounted (IsLucky (passings (laid_form layout) g.page (laid_kinds layout)))
-      (λ before image. StandsLonger used table (passings (laid_form layout) g.page (laid_kinds layout) before)
-      (passings (laid_form layout) g.page (laid_kinds layout) image)) from to) geometry images
+      subst (λ g. EachCounted (IsLucky (passings (laid_form keyed) g.page (laid_kinds keyed.layout)))
+      (λ before image. StandsLonger used table (passings (laid_form keyed) g.page (laid_kinds keyed.layout) before)
+      (passings (laid_form keyed) g.page (laid_kinds keyed.layout) image)) from to) geometry images
 
   pub longer_stands : (kept : List ℕ) (used : Option ℕ) (table : List ℕ) (x y : Image) (h : List (List ℕ)) (a : ℕ) →
-      IsSettled layout kept used x h a → Longer used table x y → StandsIn layout y (h ++ table ∷ []) a
+      IsSettled keyed kept used x h a → Longer used table x y → StandsIn keyed y (h ++ table ∷ []) a
   longer_stands kept used table x y h a settled longer =
-      longer settled.uses (first_area layout) h a settled.stands.marks settled.stands.stands
+      longer settled.uses (first_area keyed.layout) h a settled.stands.marks settled.stands.stands
 
   module _ (plans : List (Option Plan)) (kept : List ℕ) (used copy : Option ℕ) (round : Round) (from device : Device)
-      (geometry : from.geometry ≡ layout.geometry) (run : IsRoundRun layout plans kept used copy round from device) where
+      (geometry : from.geometry ≡ keyed.layout.geometry) (run : IsRoundRun keyed plans kept used copy round from device) where
     to_middle : IsLater from run.middle
-    to_middle = save_later layout kept used copy round.table (refusal_of round.outcome) from run.middle run.saved
+    to_middle = save_later keyed kept used copy round.table (refusal_of round.outcome) from run.middle run.saved
 
     to_next : IsLater run.middle device
     to_next = start_later (plan_at plans round.target) round.outcome run.middle device run.tried
@@ -215,12 +215,12 @@ module _ (layout : Laid) where
 
     -- so what was settled still is
     pub idle_settled : bytes_eq round.table kept ≡ true → (x y : Image) (h : List (List ℕ)) (a : ℕ) → y ≡ x →
-        IsSettled layout kept used x h a → IsSettled layout round.table copy y h a
+        IsSettled keyed kept used x h a → IsSettled keyed round.table copy y h a
     idle_settled e x y h a same settled =
         let tables : round.table ≡ kept = (bytes_eq-Decides round.table kept).0 e in
-        subst (λ i. IsSettled layout round.table copy i h a) (sym same)
-        (subst (λ u. IsSettled layout round.table u x h a) (sym (idle_copy e))
-        (subst (λ t. IsSettled layout t used x h a) (sym tables) settled))
+        subst (λ i. IsSettled keyed round.table copy i h a) (sym same)
+        (subst (λ u. IsSettled keyed round.table u x h a) (sym (idle_copy e))
+        (subst (λ t. IsSettled keyed t used x h a) (sym tables) settled))
 
     pub begun_counted : bytes_eq round.table kept ≡ false → EachCounted Luck (Longer used round.table) from device
     begun_counted e =
@@ -234,7 +234,7 @@ module _ (layout : Laid) where
     pub made_holds : bytes_eq round.table kept ≡ false → is_refused round.outcome ≡ false → (image : Image) →
         content device ≡ Some image → HoldsNow round.table copy image
     made_holds e done image here =
-        let stored = subst (λ r. IfNone r (IsStored layout round.table copy from run.middle)) (unrefused round.outcome done)
+        let stored = subst (λ r. IfNone r (IsStored keyed round.table copy from run.middle)) (unrefused round.outcome done)
         (run.saved.begun e).stored in
         stored_holds round.table copy from run.middle image geometry stored
         (sym (start_content (plan_at plans round.target) round.outcome run.middle device run.tried) ∙ here)
@@ -248,7 +248,7 @@ module _ (layout : Laid) where
           let saving = saving_rounds round.table later in
           subst (λ rs. EachCounted Luck (Reaches kept used rs) from to) (sym (idle_saving kept round later e))
           (counted_joined Luck (λ x y. y ≡ x) (Reaches round.table copy saving) (Reaches kept used saving) from device to
-          (λ x y is h a settled. at_entry y h a saving (subst (λ i. StandsIn layout i h a) (sym is) settled.stands))
+          (λ x y is h a settled. at_entry y h a saving (subst (λ i. StandsIn keyed i h a) (sym is) settled.stands))
           (λ x y z is reaches h a settled. reaches h a (idle_settled e x y h a is settled))
           early late (idle_counted e) rest)
 
@@ -260,7 +260,7 @@ module _ (layout : Laid) where
           (subst (λ d. EachCounted Luck (Reaches kept used (round ∷ [])) from d) (sym (alone none))
           (counted_weaker Luck (Longer used round.table) (Reaches kept used (round ∷ [])) from device
           (λ x y longer h a settled.
-          subst (StandsAtOne (first_area layout) (Passed y)) (sym (refused_stages h a round refused))
+          subst (StandsAtOne (first_area keyed.layout) (Passed y)) (sym (refused_stages h a round refused))
           (inr (inl (longer_stands kept used round.table x y h a settled longer))))
           (begun_counted e)))
 
@@ -271,10 +271,10 @@ module _ (layout : Laid) where
           counted_joined_at Luck (Longer used round.table) (Reaches round.table copy saving) (Reaches kept used (round ∷ saving))
           (λ x y. HoldsNow round.table copy y) from device to
           (λ x y longer h a settled.
-          subst (StandsAtOne (first_area layout) (Passed y)) (sym (made_stages h a round saving done))
+          subst (StandsAtOne (first_area keyed.layout) (Passed y)) (sym (made_stages h a round saving done))
           (inr (inl (longer_stands kept used round.table x y h a settled longer))))
           (λ x y z holds longer reaches h a settled.
-          subst (StandsAtOne (first_area layout) (Passed z)) (sym (made_stages h a round saving done))
+          subst (StandsAtOne (first_area keyed.layout) (Passed z)) (sym (made_stages h a round saving done))
           (inr (inr (reaches (h ++ round.table ∷ []) (a + 1) (settled_more kept used round.table copy x y h a settled holds)))))
           early late
           (λ first here mid there. made_holds e done mid.image (told_image device mid there))
@@ -297,32 +297,32 @@ module _ (layout : Laid) where
   -- ---- all rounds
 
   pub rounds_later : (plans : List (Option Plan)) (rounds : List Round) (kept : List ℕ) (used now : Option ℕ) (from to : Device) →
-      AreRun layout plans kept used now rounds from to → IsLater from to
+      AreRun keyed plans kept used now rounds from to → IsLater from to
   unfolding AreRun
   rounds_later plans [] kept used now from to run = subst (IsLater from) (sym run.1) (later_refl from)
   rounds_later plans (round ∷ later) kept used now from to run =
       later_joined from run.device to
-      (round_later layout plans kept used run.copy round from run.device run.before)
+      (round_later keyed plans kept used run.copy round from run.device run.before)
       (rounds_later plans later round.table run.copy now run.device to run.behind)
 
   pub none_alone : (plans : List (Option Plan)) (later : List Round) (kept : List ℕ) (used now : Option ℕ) (from to : Device) →
-      AreRun layout plans kept used now later from to → later ≡ [] → to ≡ from
+      AreRun keyed plans kept used now later from to → later ≡ [] → to ≡ from
   unfolding AreRun
   none_alone plans [] kept used now from to run none = run.1
   none_alone plans (round ∷ later) kept used now from to run none =
       absurd (let more : round ∷ later ≡ [] = none in cc)
 
   pub rounds_reached : (plans : List (Option Plan)) (rounds : List Round) (kept : List ℕ) (used now : Option ℕ) (from to : Device) →
-      from.geometry ≡ layout.geometry → StopsRefused rounds → AreRun layout plans kept used now rounds from to →
+      from.geometry ≡ keyed.layout.geometry → StopsRefused rounds → AreRun keyed plans kept used now rounds from to →
       EachCounted Luck (Reaches kept used (saving_rounds kept rounds)) from to
   unfolding AreRun
   rounds_reached plans [] kept used now from to geometry stops run =
       subst (EachCounted Luck (Reaches kept used []) from) (sym run.1)
       (counted_weaker Luck (λ x y. y ≡ x) (Reaches kept used []) from from
-      (λ x y is h a settled. at_entry y h a [] (subst (λ i. StandsIn layout i h a) (sym is) settled.stands))
+      (λ x y is h a settled. at_entry y h a [] (subst (λ i. StandsIn keyed i h a) (sym is) settled.stands))
       (counted_of_images Luck (λ x y. y ≡ x) from from (same_images from)))
   rounds_reached plans (round ∷ later) kept used now from to geometry stops run =
-      let early = round_later layout plans kept used run.copy round from run.device run.before in
+      let early = round_later keyed plans kept used run.copy round from run.device run.before in
       round_reached plans kept used run.copy round from run.device geometry run.before later to early
       (rounds_later plans later round.table run.copy now run.device to run.behind) stops
       (none_alone plans later round.table run.copy now run.device to run.behind)

@@ -15,9 +15,9 @@ use Rattle.bb_copies.specs.declared.answers.CopyFault.TheVariants.{ReadFault, Wr
 use Rattle.bb_copies.proofs.Runs.{later_refl}
 use Rattle.bb_flash.specs.Cuts.{IsLater}
 use Rattle.bb_flash.specs.Device.{Device, IsDevice, LeavesStarts, content}
-use Rattle.bb_layout.specs.Layout.{Laid}
+use Rattle.bb_state.specs.Keyed.{Keyed}
 use Rattle.bb_state.specs.Kinds.{laid_form, laid_kinds}
-use Rattle.bb_state.specs.State.{IsStored, form_of, has_changed, is_kept, is_sure, kept_of, kinds_of, laid_of, used_of}
+use Rattle.bb_state.specs.State.{IsStored, form_of, has_changed, is_kept, is_sure, kept_of, keyed_of, kinds_of, used_of}
 use Rattle.bb_state.specs.declared.state.State.{State}
 use Rattle.bb_shell.proofs.Joins.{outside_refl, stored_refl}
 use Rattle.bb_shell.specs.Ends.{IsWriteFault, StaysStored}
@@ -35,10 +35,10 @@ kept_is state sure e = ap (λ s. s && bytes_eq state.table (kept_of state)) sure
 pub saved_ok : (state : State) (now : Option ℕ) (from to : Device) → is_sure state ≡ true →
     (has_changed state ≡ false → to ≡ from) →
     (has_changed state ≡ true → SaveRuns (form_of state) (kinds_of state) (used_of state) state.table from to) →
-    (has_changed state ≡ true → IsStored (laid_of state) state.table now from to) →
+    (has_changed state ≡ true → IsStored (keyed_of state) state.table now from to) →
     (has_changed state ≡ true → IsUndisturbed from to → EachWritten (kinds_of state) ((form_of state).text state.table) from to) →
     (is_kept state ≡ true → now ≡ used_of state) →
-    IsSaveRun (laid_of state) (kept_of state) (used_of state) now state.table None from to
+    IsSaveRun (keyed_of state) (kept_of state) (used_of state) now state.table None from to
 saved_ok state now from to sure idle runs stored exact used = record {
   idle = λ same. record { device = idle (changed_is state true sure same); copy = used (kept_is state sure same); done = refl };
   begun = λ other. record {
@@ -55,7 +55,7 @@ pub saved_err : (state : State) (now : Option ℕ) (fault : CopyFault) (from to 
     (is_kept state ≡ true → ⊥) → fault ≢ Unsure →
     (has_changed state ≡ true → SaveRuns (form_of state) (kinds_of state) (used_of state) state.table from to) →
     SaveFails (form_of state) (kinds_of state) (used_of state) state.table from to fault →
-    IsSaveRun (laid_of state) (kept_of state) (used_of state) now state.table (Some fault) from to
+    IsSaveRun (keyed_of state) (kept_of state) (used_of state) now state.table (Some fault) from to
 saved_err state now fault from to sure other known runs fails = record {
   idle = λ same. absurd (other (kept_is state sure same));
   begun = λ changed. record {
@@ -69,9 +69,9 @@ saved_err state now fault from to sure other known runs fails = record {
 
 -- ---- what follows of a save
 
-module _ (layout : Laid) (kept : List ℕ) (used now : Option ℕ) (table : List ℕ) (refusal : Option CopyFault) (from to : Device)
-    (run : IsSaveRun layout kept used now table refusal from to) where
-  by_same : (P : Device → Type 0) → P from → (SaveRuns (laid_form layout) (laid_kinds layout) used table from to → P to) → P to
+module _ (keyed : Keyed) (kept : List ℕ) (used now : Option ℕ) (table : List ℕ) (refusal : Option CopyFault) (from to : Device)
+    (run : IsSaveRun keyed kept used now table refusal from to) where
+  by_same : (P : Device → Type 0) → P from → (SaveRuns (laid_form keyed) (laid_kinds keyed.layout) used table from to → P to) → P to
   by_same P here there = at (bytes_eq table kept) refl
     where
       at : (same : Bool) → bytes_eq table kept ≡ same → P to
@@ -81,8 +81,8 @@ module _ (layout : Laid) (kept : List ℕ) (used now : Option ℕ) (table : List
   pub save_later : IsLater from to
   save_later = by_same (IsLater from) (later_refl from) (λ runs. runs.later)
 
-  pub save_outside : KeepsOutside (laid_kinds layout) from to
-  save_outside = by_same (KeepsOutside (laid_kinds layout) from) (outside_refl (laid_kinds layout) from) (λ runs. runs.outside)
+  pub save_outside : KeepsOutside (laid_kinds keyed.layout) from to
+  save_outside = by_same (KeepsOutside (laid_kinds keyed.layout) from) (outside_refl (laid_kinds keyed.layout) from) (λ runs. runs.outside)
 
   pub save_starts : LeavesStarts from to
   save_starts = by_same (LeavesStarts from) (record { starts = refl; start_faults = refl }) (λ runs. runs.starts)
@@ -90,28 +90,28 @@ module _ (layout : Laid) (kept : List ℕ) (used now : Option ℕ) (table : List
   pub save_whole : IsDevice from → IsDevice to
   save_whole whole = by_same IsDevice whole (λ runs. runs.whole)
 
-  same_stored : bytes_eq table kept ≡ true → StaysStored layout kept table from to
+  same_stored : bytes_eq table kept ≡ true → StaysStored keyed kept table from to
   same_stored same =
       let tables : table ≡ kept = (bytes_eq-Decides table kept).0 same in
-      subst (λ t. StaysStored layout kept t from to) (sym tables) (stored_refl layout kept from to (ap (λ d. content d) (run.idle same).device))
+      subst (λ t. StaysStored keyed kept t from to) (sym tables) (stored_refl keyed kept from to (ap (λ d. content d) (run.idle same).device))
 
-  new_stored : from.geometry ≡ layout.geometry → IsStored layout table now from to → StaysStored layout kept table from to
+  new_stored : from.geometry ≡ keyed.layout.geometry → IsStored keyed table now from to → StaysStored keyed kept table from to
   new_stored geometry stored before h after k held =
-      subst (λ g. EachPassesOrNothing table (passings (laid_form layout) g.page (laid_kinds layout) after)) geometry (stored.saved.exit.kept after k).each
+      subst (λ g. EachPassesOrNothing table (passings (laid_form keyed) g.page (laid_kinds keyed.layout) after)) geometry (stored.saved.exit.kept after k).each
 
-  pub save_stored : from.geometry ≡ layout.geometry → refusal ≡ None → StaysStored layout kept table from to
+  pub save_stored : from.geometry ≡ keyed.layout.geometry → refusal ≡ None → StaysStored keyed kept table from to
   save_stored geometry done = at (bytes_eq table kept) refl
     where
-      at : (same : Bool) → bytes_eq table kept ≡ same → StaysStored layout kept table from to
+      at : (same : Bool) → bytes_eq table kept ≡ same → StaysStored keyed kept table from to
       at true e = same_stored e
-      at false e = new_stored geometry (subst (λ r. IfNone r (IsStored layout table now from to)) done (run.begun e).stored)
+      at false e = new_stored geometry (subst (λ r. IfNone r (IsStored keyed table now from to)) done (run.begun e).stored)
 
 -- a save is refused by a write alone
-pub write_fault : (layout : Laid) (kept : List ℕ) (used now : Option ℕ) (table : List ℕ) (fault : CopyFault) (from to : Device) →
-    IsSaveRun layout kept used now table (Some fault) from to → IsWriteFault fault
-write_fault layout kept used now table fault from to run = at (bytes_eq table kept) refl
+pub write_fault : (keyed : Keyed) (kept : List ℕ) (used now : Option ℕ) (table : List ℕ) (fault : CopyFault) (from to : Device) →
+    IsSaveRun keyed kept used now table (Some fault) from to → IsWriteFault fault
+write_fault keyed kept used now table fault from to run = at (bytes_eq table kept) refl
   where
-    by : (f : CopyFault) → SaveFails (laid_form layout) (laid_kinds layout) used table from to f → f ≢ Unsure → IsWriteFault f
+    by : (f : CopyFault) → SaveFails (laid_form keyed) (laid_kinds keyed.layout) used table from to f → f ≢ Unsure → IsWriteFault f
     by ReadFault fails sure = absurd fails
     by (WriteFault copy) fails sure = record { copy = copy; is = refl }
     by Unsure fails sure = absurd (sure refl)

@@ -13,7 +13,7 @@ use Rattle.bb_flash.specs.declared.plan.Plan.{Plan}
 use Rattle.bb_flash.specs.Calls.{started}
 use Rattle.bb_flash.specs.Cuts.{IsLater}
 use Rattle.bb_flash.specs.Device.{Device, IsDevice, Start, Told, content, starts}
-use Rattle.bb_layout.specs.Layout.{Laid}
+use Rattle.bb_state.specs.Keyed.{Keyed}
 use Rattle.bb_state.specs.Kinds.{laid_kinds}
 use Rattle.bb_shell.proofs.Joins.{outside_joined, outside_refl, some_is, still_outside, stored_joined, stored_refl}
 use Rattle.bb_shell.proofs.Saves.{save_later, save_outside, save_starts, save_stored}
@@ -64,10 +64,10 @@ start_agrees holding buckets plan outcome from to tried agree copy bucket e =
           (sym (start_geometry plan outcome from to tried)) (here image (sym (start_content plan outcome from to tried) ∙ told));
     }
 
-pub start_outside : (layout : Laid) (plan : Option Plan) (outcome : Outcome) (from to : Device) → IsTried plan outcome from to → KeepsOutside (laid_kinds layout) from to
-start_outside layout plan outcome from to =
-    by_start from to (KeepsOutside (laid_kinds layout) from) (outside_refl (laid_kinds layout) from)
-    (λ made runs. still_outside (laid_kinds layout) from to runs.keeps.content runs.keeps.changes) plan outcome
+pub start_outside : (keyed : Keyed) (plan : Option Plan) (outcome : Outcome) (from to : Device) → IsTried plan outcome from to → KeepsOutside (laid_kinds keyed.layout) from to
+start_outside keyed plan outcome from to =
+    by_start from to (KeepsOutside (laid_kinds keyed.layout) from) (outside_refl (laid_kinds keyed.layout) from)
+    (λ made runs. still_outside (laid_kinds keyed.layout) from to runs.keeps.content runs.keeps.changes) plan outcome
 
 -- a device's own count rose by nothing
 rose_same : (n : ℕ) → RoseBy 0 n n
@@ -129,46 +129,46 @@ unrefused Failed h = refl
 unrefused Started h = refl
 
 -- a round whose save answered Ok
-pub round_ok : (layout : Laid) (plans : List (Option Plan)) (kept : List ℕ) (used now : Option ℕ) (target : ℕ)
+pub round_ok : (keyed : Keyed) (plans : List (Option Plan)) (kept : List ℕ) (used now : Option ℕ) (target : ℕ)
     (spent table : List ℕ) (outcome : Outcome) (from middle to : Device) →
-    IsSaveRun layout kept used now spent None from middle → table ≡ spent → is_refused outcome ≡ false →
+    IsSaveRun keyed kept used now spent None from middle → table ≡ spent → is_refused outcome ≡ false →
     IsTried (plan_at plans target) outcome middle to →
-    IsRoundRun layout plans kept used now (record { target = target; table = table; outcome = outcome }) from to
-round_ok layout plans kept used now target spent table outcome from middle to saved same done tried = record {
+    IsRoundRun keyed plans kept used now (record { target = target; table = table; outcome = outcome }) from to
+round_ok keyed plans kept used now target spent table outcome from middle to saved same done tried = record {
   middle = middle;
   saved =
-      subst (λ refusal. IsSaveRun layout kept used now table refusal from middle) (sym (unrefused outcome done))
-      (subst (λ t. IsSaveRun layout kept used now t None from middle) (sym same) saved);
+      subst (λ refusal. IsSaveRun keyed kept used now table refusal from middle) (sym (unrefused outcome done))
+      (subst (λ t. IsSaveRun keyed kept used now t None from middle) (sym same) saved);
   tried = tried;
 }
 
-module _ (layout : Laid) (plans : List (Option Plan)) (kept : List ℕ) (used now : Option ℕ) (round : Round) (from to : Device)
-    (run : IsRoundRun layout plans kept used now round from to) where
+module _ (keyed : Keyed) (plans : List (Option Plan)) (kept : List ℕ) (used now : Option ℕ) (round : Round) (from to : Device)
+    (run : IsRoundRun keyed plans kept used now round from to) where
   to_middle : IsLater from run.middle
-  to_middle = save_later layout kept used now round.table (refusal_of round.outcome) from run.middle run.saved
+  to_middle = save_later keyed kept used now round.table (refusal_of round.outcome) from run.middle run.saved
 
   pub round_later : IsLater from to
   round_later = later_joined from run.middle to to_middle (start_later (plan_at plans round.target) round.outcome run.middle to run.tried)
 
-  pub round_outside : KeepsOutside (laid_kinds layout) from to
+  pub round_outside : KeepsOutside (laid_kinds keyed.layout) from to
   round_outside =
-      outside_joined (laid_kinds layout) from run.middle to to_middle (start_later (plan_at plans round.target) round.outcome run.middle to run.tried)
-      (save_outside layout kept used now round.table (refusal_of round.outcome) from run.middle run.saved)
-      (start_outside layout (plan_at plans round.target) round.outcome run.middle to run.tried)
+      outside_joined (laid_kinds keyed.layout) from run.middle to to_middle (start_later (plan_at plans round.target) round.outcome run.middle to run.tried)
+      (save_outside keyed kept used now round.table (refusal_of round.outcome) from run.middle run.saved)
+      (start_outside keyed (plan_at plans round.target) round.outcome run.middle to run.tried)
 
   pub round_adds : AddsStart (plan_at plans round.target) round.outcome from to
   round_adds =
-      let saved = save_starts layout kept used now round.table (refusal_of round.outcome) from run.middle run.saved in
+      let saved = save_starts keyed kept used now round.table (refusal_of round.outcome) from run.middle run.saved in
       start_adds (plan_at plans round.target) round.outcome from run.middle to saved.starts to_middle run.tried
 
   pub round_rose : RoseBy (failed_start round.outcome) from.start_faults to.start_faults
   round_rose =
-      let saved = save_starts layout kept used now round.table (refusal_of round.outcome) from run.middle run.saved in
+      let saved = save_starts keyed kept used now round.table (refusal_of round.outcome) from run.middle run.saved in
       subst (λ n. RoseBy (failed_start round.outcome) n to.start_faults) saved.start_faults
       (start_rose (plan_at plans round.target) round.outcome run.middle to run.tried)
 
-  pub round_stored : from.geometry ≡ layout.geometry → is_refused round.outcome ≡ false → StaysStored layout kept round.table from to
+  pub round_stored : from.geometry ≡ keyed.layout.geometry → is_refused round.outcome ≡ false → StaysStored keyed kept round.table from to
   round_stored geometry done =
-      stored_joined layout kept round.table round.table from run.middle to to_middle
-      (save_stored layout kept used now round.table (refusal_of round.outcome) from run.middle run.saved geometry (unrefused round.outcome done))
-      (stored_refl layout round.table run.middle to (start_content (plan_at plans round.target) round.outcome run.middle to run.tried))
+      stored_joined keyed kept round.table round.table from run.middle to to_middle
+      (save_stored keyed kept used now round.table (refusal_of round.outcome) from run.middle run.saved geometry (unrefused round.outcome done))
+      (stored_refl keyed round.table run.middle to (start_content (plan_at plans round.target) round.outcome run.middle to run.tried))

@@ -12,7 +12,7 @@ use Rattle.bb_flash.specs.Counted.{Counts, EachCounted, IsFair}
 use Rattle.bb_flash.specs.Cuts.{IsContinued, IsLater}
 use Rattle.bb_flash.specs.Device.{Change, Device, Told, content, moment}
 use Rattle.bb_flash.specs.Image.{Image}
-use Rattle.bb_layout.specs.Layout.{Laid}
+use Rattle.bb_state.specs.Keyed.{Keyed}
 use Rattle.bb_shell.proofs.Reached.{Luck, Passed, Reaches, StopsRefused, begun_counted, begun_saving, idle_content, idle_saving, idle_settled, is_made, longer_stands, made_cons, made_holds, made_stages, none_alone, reached_by, refused_stages, rounds_later, rounds_reached, settled_more, stage, told_image}
 use Rattle.bb_shell.proofs.Joins.{some_is}
 use Rattle.bb_shell.proofs.Starts.{round_later}
@@ -52,23 +52,23 @@ table_cons kept round (next ∷ later) =
         ≡ option_map_or (λ (r : Round). r.table) (slice_get (next ∷ later) n) round.table
     inside n h = get (next ∷ later) n kept round.table h
 
-module _ (layout : Laid) where
+module _ (keyed : Keyed) where
   abbrev First : List ℕ
-  First = first_area layout
+  First = first_area keyed.layout
 
   abbrev Page : ℕ
-  Page = layout.geometry.page
+  Page = keyed.layout.geometry.page
 
   -- ---- a trail that goes on behind its first milestone
 
   module _ (last : Told) where
     abbrev Since : ℕ → List (Option (List ℕ)) → Type 0
-    Since = IsCounted layout last
+    Since = IsCounted keyed last
 
     -- each image that counts since a moment stands for one of these stages
     abbrev StandSince : ℕ → List Stage → Type 0
     StandSince when stages =
-        (image : Image) → Counts (Luck layout) Page last when image → StandsAtOne First (Passed layout image) stages
+        (image : Image) → Counts (Luck keyed) Page last when image → StandsAtOne First (Passed keyed image) stages
 
     in_front : (h : List (List ℕ)) (a when : ℕ) (later : List Milestone) → when ≤ moment last →
         StandSince when (stages_in (milestone_of h a when ∷ later)) → IsTrail Since (moment last) First later →
@@ -83,15 +83,15 @@ module _ (layout : Laid) where
 
     -- what stands for a list stands for it with a table behind it too
     longer_one : (h : List (List ℕ)) (a : ℕ) (table : List ℕ) (rest : List Stage) (image : Image) →
-        StandsAtOne First (Passed layout image) (stage h a ∷ stage (h ++ table ∷ []) a ∷ rest) →
-        StandsAtOne First (Passed layout image) (stage (h ++ table ∷ []) a ∷ rest)
+        StandsAtOne First (Passed keyed image) (stage h a ∷ stage (h ++ table ∷ []) a ∷ rest) →
+        StandsAtOne First (Passed keyed image) (stage (h ++ table ∷ []) a ∷ rest)
     longer_one h a table rest image (inl here) =
-        inl (record { marks = here.marks; stands = longer First (Passed layout image) h (table ∷ []) a here.marks here.stands })
+        inl (record { marks = here.marks; stands = longer First (Passed keyed image) h (table ∷ []) a here.marks here.stands })
     longer_one h a table rest image (inr later) = later
 
     abbrev pub TrailBy : Told → List (List ℕ) → ℕ → List Round → Type 0
     TrailBy first h a saving =
-        HasTrail layout first last h a (map (λ (round : Round). round.table) saving) (count_by is_made saving)
+        HasTrail keyed first last h a (map (λ (round : Round). round.table) saving) (count_by is_made saving)
 
     none_trail : (first : Told) (h : List (List ℕ)) (a : ℕ) → moment first ≤ moment last →
         StandSince (moment first) (reached_by h a []) → TrailBy first h a []
@@ -107,7 +107,7 @@ module _ (layout : Laid) where
         let longer_list = h ++ round.table ∷ [] in
         let stages = refused_stages h a round refused in
         let stands : StandSince (moment first) (stage h a ∷ stage longer_list a ∷ []) =
-        λ image counts. subst (StandsAtOne First (Passed layout image)) stages (stand image counts) in
+        λ image counts. subst (StandsAtOne First (Passed keyed image)) stages (stand image counts) in
         record {
           later = milestone_of longer_list a (moment first) ∷ [];
           stages = sym stages;
@@ -126,7 +126,7 @@ module _ (layout : Laid) where
         let whole : stages_in (milestone_of h a (moment first) ∷ milestone_of longer_list a (moment first) ∷ behind) ≡ reached_by h a (round ∷ saving) =
         ap (λ l. stage h a ∷ stage longer_list a ∷ l) rest.stages ∙ sym stages in
         let stands : StandSince (moment first) (stages_in (milestone_of h a (moment first) ∷ milestone_of longer_list a (moment first) ∷ behind)) =
-        λ image counts. subst (StandsAtOne First (Passed layout image)) (sym whole) (stand image counts) in
+        λ image counts. subst (StandsAtOne First (Passed keyed image)) (sym whole) (stand image counts) in
         record {
           later = milestone_of longer_list a (moment first) ∷ behind;
           stages = whole;
@@ -140,29 +140,29 @@ module _ (layout : Laid) where
 
   abbrev pub Trails : List ℕ → Option ℕ → List Round → Device → Device → Type 0
   Trails kept used saving from to =
-      EachSettled layout kept used from to (λ first last h a. TrailBy last first h a saving)
+      EachSettled keyed kept used from to (λ first last h a. TrailBy last first h a saving)
 
-  stand_since : (kept : List ℕ) (used : Option ℕ) (saving : List Round) (from to : Device) → to.geometry ≡ layout.geometry →
-      EachCounted (Luck layout) (Reaches layout kept used saving) from to →
-      EachSettled layout kept used from to (λ first last h a. StandSince last (moment first) (reached_by h a saving))
+  stand_since : (kept : List ℕ) (used : Option ℕ) (saving : List Round) (from to : Device) → to.geometry ≡ keyed.layout.geometry →
+      EachCounted (Luck keyed) (Reaches keyed kept used saving) from to →
+      EachSettled keyed kept used from to (λ first last h a. StandSince last (moment first) (reached_by h a saving))
   stand_since kept used saving from to geometry counted = λ first e last f h a settled image counts.
-      counted.each first e last f image (subst (λ g. Counts (Luck layout) g.page last (moment first) image) (sym geometry) counts) h a settled
+      counted.each first e last f image (subst (λ g. Counts (Luck keyed) g.page last (moment first) image) (sym geometry) counts) h a settled
 
   told_order : (from to : Device) (first last : Told) → IsLater from to → from.told ≡ Some first → to.told ≡ Some last → moment first ≤ moment last
   told_order from to first last later e f = in_order first last (later.continued first e last f)
 
   module _ (plans : List (Option Plan)) (kept : List ℕ) (used copy : Option ℕ) (round : Round) (later : List Round) (from device to : Device)
-      (geometry : from.geometry ≡ layout.geometry) (run : IsRoundRun layout plans kept used copy round from device)
+      (geometry : from.geometry ≡ keyed.layout.geometry) (run : IsRoundRun keyed plans kept used copy round from device)
       (early : IsLater from device) (late : IsLater device to)
       (stops : StopsRefused (round ∷ later)) (whole : IsLater from to)
-      (counted : EachCounted (Luck layout) (Reaches layout kept used (saving_rounds kept (round ∷ later))) from to)
+      (counted : EachCounted (Luck keyed) (Reaches keyed kept used (saving_rounds kept (round ∷ later))) from to)
       (rest : Trails round.table copy (saving_rounds round.table later) device to) where
-    stand : EachSettled layout kept used from to
+    stand : EachSettled keyed kept used from to
         (λ first last h a. StandSince last (moment first) (reached_by h a (saving_rounds kept (round ∷ later))))
     stand = stand_since kept used (saving_rounds kept (round ∷ later)) from to (whole.geometry ∙ geometry) counted
 
     module _ (first last : Told) (here : from.told ≡ Some first) (there : to.told ≡ Some last) (h : List (List ℕ)) (a : ℕ)
-        (settled : IsSettled layout kept used first.image h a) where
+        (settled : IsSettled keyed kept used first.image h a) where
       past : moment first ≤ moment last
       past = told_order from to first last whole here there
 
@@ -173,7 +173,7 @@ module _ (layout : Laid) where
       same_image e =
           some_is next.0.image first.image
           (sym (told_image device next.0 next.1)
-          ∙ idle_content layout plans kept used copy round from device geometry run e ∙ told_image from first here)
+          ∙ idle_content keyed plans kept used copy round from device geometry run e ∙ told_image from first here)
 
       stand_here : StandSince last (moment first) (reached_by h a (saving_rounds kept (round ∷ later)))
       stand_here = stand first here last there h a settled
@@ -182,14 +182,14 @@ module _ (layout : Laid) where
       idle_trail e =
           let same = idle_saving kept round later e in
           let behind = rest next.0 next.1 last there h a
-          (idle_settled layout plans kept used copy round from device geometry run e first.image next.0.image h a (same_image e) settled) in
+          (idle_settled keyed plans kept used copy round from device geometry run e first.image next.0.image h a (same_image e) settled) in
           let stages = behind.stages ∙ ap (reached_by h a) (sym same) in
           record {
             later = behind.later;
             stages = stages;
             trail =
                 in_front last h a (moment first) behind.later past
-                (λ image counts. subst (StandsAtOne First (Passed layout image)) (sym stages) (stand_here image counts)) behind.trail.1;
+                (λ image counts. subst (StandsAtOne First (Passed keyed image)) (sym stages) (stand_here image counts)) behind.trail.1;
           }
 
       refused_one : bytes_eq round.table kept ≡ false → is_refused round.outcome ≡ true →
@@ -204,12 +204,12 @@ module _ (layout : Laid) where
           TrailBy last first h a (saving_rounds kept (round ∷ later))
       made_one e done =
           let begun = begun_saving kept round later e in
-          let holds = made_holds layout plans kept used copy round from device geometry run e done next.0.image (told_image device next.0 next.1) in
+          let holds = made_holds keyed plans kept used copy round from device geometry run e done next.0.image (told_image device next.0 next.1) in
           subst (TrailBy last first h a) (sym begun)
           (made_trail last first next.0 h a round (saving_rounds round.table later) done past
           (subst (λ rs. StandSince last (moment first) (reached_by h a rs)) begun stand_here)
           (rest next.0 next.1 last there (h ++ round.table ∷ []) (a + 1)
-          (settled_more layout kept used round.table copy first.image next.0.image h a settled holds)))
+          (settled_more keyed kept used round.table copy first.image next.0.image h a settled holds)))
 
       one_trail : (same : Bool) → bytes_eq round.table kept ≡ same → (refused : Bool) → is_refused round.outcome ≡ refused →
           TrailBy last first h a (saving_rounds kept (round ∷ later))
@@ -222,44 +222,44 @@ module _ (layout : Laid) where
         one_trail first last here there h a settled (bytes_eq round.table kept) refl (is_refused round.outcome) refl
 
   pub rounds_trails : (plans : List (Option Plan)) (rounds : List Round) (kept : List ℕ) (used now : Option ℕ) (from to : Device) →
-      from.geometry ≡ layout.geometry → StopsRefused rounds → AreRun layout plans kept used now rounds from to →
+      from.geometry ≡ keyed.layout.geometry → StopsRefused rounds → AreRun keyed plans kept used now rounds from to →
       Trails kept used (saving_rounds kept rounds) from to
   unfolding AreRun
   rounds_trails plans [] kept used now from to geometry stops run = λ first here last there h a settled.
-      let whole = rounds_later layout plans [] kept used now from to run in
+      let whole = rounds_later keyed plans [] kept used now from to run in
       none_trail last first h a (told_order from to first last whole here there)
       (stand_since kept used [] from to (whole.geometry ∙ geometry)
-      (rounds_reached layout plans [] kept used now from to geometry stops run) first here last there h a settled)
+      (rounds_reached keyed plans [] kept used now from to geometry stops run) first here last there h a settled)
   rounds_trails plans (round ∷ later) kept used now from to geometry stops run =
-      let early = round_later layout plans kept used run.copy round from run.device run.before in
-      let late = rounds_later layout plans later round.table run.copy now run.device to run.behind in
+      let early = round_later keyed plans kept used run.copy round from run.device run.before in
+      let late = rounds_later keyed plans later round.table run.copy now run.device to run.behind in
       round_trails plans kept used run.copy round later from run.device to geometry run.before early late stops
-      (rounds_later layout plans (round ∷ later) kept used now from to run)
-      (rounds_reached layout plans (round ∷ later) kept used now from to geometry stops run)
+      (rounds_later keyed plans (round ∷ later) kept used now from to run)
+      (rounds_reached keyed plans (round ∷ later) kept used now from to geometry stops run)
       (rounds_trails plans later round.table run.copy now run.device to (early.geometry ∙ geometry) stops.1 run.behind)
 
   -- ---- the end
 
   abbrev pub LeadsBy : List ℕ → Option ℕ → Told → Told → List (List ℕ) → ℕ → List Round → Type 0
   LeadsBy kept now first last h a saving =
-      LeadsTo layout kept now first last h a (map (λ (round : Round). round.table) saving) (count_by is_made saving)
+      LeadsTo keyed kept now first last h a (map (λ (round : Round). round.table) saving) (count_by is_made saving)
 
   none_leads : (kept : List ℕ) (used now : Option ℕ) (first last : Told) (h : List (List ℕ)) (a : ℕ) → now ≡ used → last.image ≡ first.image →
-      IsSettled layout kept used first.image h a → LeadsBy kept now first last h a []
+      IsSettled keyed kept used first.image h a → LeadsBy kept now first last h a []
   none_leads kept used now first last h a copy same settled =
       let acked : a + 0 ≡ a = omega arith in
-      let here : IsSettled layout kept now last.image (h ++ []) (a + 0) =
-      subst (λ l. IsSettled layout kept now last.image l (a + 0)) (sym (append-nil h))
-      (subst (λ n. IsSettled layout kept now last.image h n) (sym acked)
-      (subst (λ i. IsSettled layout kept now i h a) (sym same) (subst (λ u. IsSettled layout kept u first.image h a) (sym copy) settled))) in
+      let here : IsSettled keyed kept now last.image (h ++ []) (a + 0) =
+      subst (λ l. IsSettled keyed kept now last.image l (a + 0)) (sym (append-nil h))
+      (subst (λ n. IsSettled keyed kept now last.image h n) (sym acked)
+      (subst (λ i. IsSettled keyed kept now i h a) (sym same) (subst (λ u. IsSettled keyed kept u first.image h a) (sym copy) settled))) in
       record { stands = λ fair. here.stands; settled = λ all. here }
 
   abbrev pub Leads : List ℕ → List ℕ → Option ℕ → Option ℕ → List Round → Device → Device → Type 0
   Leads end kept used now saving from to =
-      EachSettled layout kept used from to (λ first last h a. LeadsBy end now first last h a saving)
+      EachSettled keyed kept used from to (λ first last h a. LeadsBy end now first last h a saving)
 
   module _ (plans : List (Option Plan)) (kept : List ℕ) (used copy now : Option ℕ) (round : Round) (later : List Round) (from device to : Device)
-      (geometry : from.geometry ≡ layout.geometry) (run : IsRoundRun layout plans kept used copy round from device)
+      (geometry : from.geometry ≡ keyed.layout.geometry) (run : IsRoundRun keyed plans kept used copy round from device)
       (early : IsLater from device) (late : IsLater device to)
       (stops : StopsRefused (round ∷ later)) (alone : later ≡ [] → to ≡ device)
       (rest : Leads (table_after round.table later) round.table copy now (saving_rounds round.table later) device to) where
@@ -267,24 +267,24 @@ module _ (layout : Laid) where
     end = table_after round.table later
 
     module _ (first last : Told) (here : from.told ≡ Some first) (there : to.told ≡ Some last) (h : List (List ℕ)) (a : ℕ)
-        (settled : IsSettled layout kept used first.image h a) where
+        (settled : IsSettled keyed kept used first.image h a) where
       mid : (middle : Told) × (device.told ≡ Some middle)
       mid = some_of device.told (early.told ∙ ap is_some here)
 
       order : moment first ≤ moment mid.0
       order = told_order from device first mid.0 early here mid.1
 
-      fair_behind : IsFairRun layout first last → IsFairRun layout mid.0 last
-      fair_behind = fair_from (Luck layout) last (moment first) (moment mid.0) order
+      fair_behind : IsFairRun keyed first last → IsFairRun keyed mid.0 last
+      fair_behind = fair_from (Luck keyed) last (moment first) (moment mid.0) order
 
       idle_leads : bytes_eq round.table kept ≡ true → LeadsBy end now first last h a (saving_rounds kept (round ∷ later))
       idle_leads e =
           let image : mid.0.image ≡ first.image =
           some_is mid.0.image first.image
           (sym (told_image device mid.0 mid.1)
-          ∙ idle_content layout plans kept used copy round from device geometry run e ∙ told_image from first here) in
+          ∙ idle_content keyed plans kept used copy round from device geometry run e ∙ told_image from first here) in
           let behind = rest mid.0 mid.1 last there h a
-          (idle_settled layout plans kept used copy round from device geometry run e first.image mid.0.image h a image settled) in
+          (idle_settled keyed plans kept used copy round from device geometry run e first.image mid.0.image h a image settled) in
           subst (LeadsBy end now first last h a) (sym (idle_saving kept round later e))
           (record { stands = λ fair. behind.stands (fair_behind fair); settled = behind.settled })
 
@@ -300,9 +300,9 @@ module _ (layout : Laid) where
           subst (LeadsBy end now first last h a) (sym only)
           (record {
             stands = λ fair.
-                subst (λ n. StandsIn layout last.image (h ++ round.table ∷ []) n) (sym acked)
-                (longer_stands layout kept used round.table first.image last.image h a settled
-                ((begun_counted layout plans kept used copy round from device geometry run e).each first here last (sym at_end ∙ there) last.image
+                subst (λ n. StandsIn keyed last.image (h ++ round.table ∷ []) n) (sym acked)
+                (longer_stands keyed kept used round.table first.image last.image h a settled
+                ((begun_counted keyed plans kept used copy round from device geometry run e).each first here last (sym at_end ∙ there) last.image
                 (inl (record { held = refl; fair = fair }))));
             settled = λ all. absurd (let no : count_by is_made (round ∷ []) ≡ 1 = all in omega (arith, made, no));
           })
@@ -312,22 +312,22 @@ module _ (layout : Laid) where
       made_leads e done =
           let saving = saving_rounds round.table later in
           let tables = map (λ (r : Round). r.table) saving in
-          let holds = made_holds layout plans kept used copy round from device geometry run e done mid.0.image (told_image device mid.0 mid.1) in
+          let holds = made_holds keyed plans kept used copy round from device geometry run e done mid.0.image (told_image device mid.0 mid.1) in
           let behind = rest mid.0 mid.1 last there (h ++ round.table ∷ []) (a + 1)
-          (settled_more layout kept used round.table copy first.image mid.0.image h a settled holds) in
+          (settled_more keyed kept used round.table copy first.image mid.0.image h a settled holds) in
           let made = made_cons round saving false done in
           let acked : a + 1 + count_by is_made saving ≡ a + count_by is_made (round ∷ saving) = omega (arith, made) in
           let list : (h ++ round.table ∷ []) ++ tables ≡ h ++ (round.table ∷ tables) = append_assoc h (round.table ∷ []) tables in
           subst (LeadsBy end now first last h a) (sym (begun_saving kept round later e))
           (record {
             stands = λ fair.
-                subst (λ n. StandsIn layout last.image (h ++ (round.table ∷ tables)) n) acked
-                (subst (λ l. StandsIn layout last.image l (a + 1 + count_by is_made saving)) list (behind.stands (fair_behind fair)));
+                subst (λ n. StandsIn keyed last.image (h ++ (round.table ∷ tables)) n) acked
+                (subst (λ l. StandsIn keyed last.image l (a + 1 + count_by is_made saving)) list (behind.stands (fair_behind fair)));
             settled = λ all.
                 let fewer : count_by is_made saving ≡ length tables =
                 let whole : count_by is_made (round ∷ saving) ≡ suc (length tables) = all in omega (arith, made, whole) in
-                subst (λ n. IsSettled layout end now last.image (h ++ (round.table ∷ tables)) n) acked
-                (subst (λ l. IsSettled layout end now last.image l (a + 1 + count_by is_made saving)) list (behind.settled fewer));
+                subst (λ n. IsSettled keyed end now last.image (h ++ (round.table ∷ tables)) n) acked
+                (subst (λ l. IsSettled keyed end now last.image l (a + 1 + count_by is_made saving)) list (behind.settled fewer));
           })
 
       one_leads : (same : Bool) → bytes_eq round.table kept ≡ same → (refused : Bool) → is_refused round.outcome ≡ refused →
@@ -342,7 +342,7 @@ module _ (layout : Laid) where
         (one_leads first last here there h a settled (bytes_eq round.table kept) refl (is_refused round.outcome) refl)
 
   pub rounds_leads : (plans : List (Option Plan)) (rounds : List Round) (kept : List ℕ) (used now : Option ℕ) (from to : Device) →
-      from.geometry ≡ layout.geometry → StopsRefused rounds → AreRun layout plans kept used now rounds from to →
+      from.geometry ≡ keyed.layout.geometry → StopsRefused rounds → AreRun keyed plans kept used now rounds from to →
       Leads (table_after kept rounds) kept used now (saving_rounds kept rounds) from to
   unfolding AreRun
   rounds_leads plans [] kept used now from to geometry stops run = λ first here last there h a settled.
@@ -350,20 +350,20 @@ module _ (layout : Laid) where
       some_is last.image first.image (sym (told_image to last there) ∙ ap (λ d. content d) run.1 ∙ told_image from first here) in
       none_leads kept used now first last h a run.0 same settled
   rounds_leads plans (round ∷ later) kept used now from to geometry stops run =
-      let early = round_later layout plans kept used run.copy round from run.device run.before in
-      let late = rounds_later layout plans later round.table run.copy now run.device to run.behind in
+      let early = round_later keyed plans kept used run.copy round from run.device run.before in
+      let late = rounds_later keyed plans later round.table run.copy now run.device to run.behind in
       round_leads plans kept used run.copy now round later from run.device to geometry run.before early late stops
-      (none_alone layout plans later round.table run.copy now run.device to run.behind)
+      (none_alone keyed plans later round.table run.copy now run.device to run.behind)
       (rounds_leads plans later round.table run.copy now run.device to (early.geometry ∙ geometry) stops.1 run.behind)
 
 -- ---- the words of the contract
 
-pub boot_trail : (layout : Laid) (plans : List (Option Plan)) (rounds : List Round) (kept : List ℕ) (used now : Option ℕ) (from to : Device) →
-    from.geometry ≡ layout.geometry → StopsRefused rounds → AreRun layout plans kept used now rounds from to →
-    KeepsATrail layout kept used rounds from to
-boot_trail layout plans rounds kept used now from to geometry stops run = rounds_trails layout plans rounds kept used now from to geometry stops run
+pub boot_trail : (keyed : Keyed) (plans : List (Option Plan)) (rounds : List Round) (kept : List ℕ) (used now : Option ℕ) (from to : Device) →
+    from.geometry ≡ keyed.layout.geometry → StopsRefused rounds → AreRun keyed plans kept used now rounds from to →
+    KeepsATrail keyed kept used rounds from to
+boot_trail keyed plans rounds kept used now from to geometry stops run = rounds_trails keyed plans rounds kept used now from to geometry stops run
 
-pub boot_exit : (layout : Laid) (plans : List (Option Plan)) (rounds : List Round) (kept : List ℕ) (used now : Option ℕ) (from to : Device) →
-    from.geometry ≡ layout.geometry → StopsRefused rounds → AreRun layout plans kept used now rounds from to →
-    KeepsAtExit layout kept used now rounds from to
-boot_exit layout plans rounds kept used now from to geometry stops run = rounds_leads layout plans rounds kept used now from to geometry stops run
+pub boot_exit : (keyed : Keyed) (plans : List (Option Plan)) (rounds : List Round) (kept : List ℕ) (used now : Option ℕ) (from to : Device) →
+    from.geometry ≡ keyed.layout.geometry → StopsRefused rounds → AreRun keyed plans kept used now rounds from to →
+    KeepsAtExit keyed kept used now rounds from to
+boot_exit keyed plans rounds kept used now from to geometry stops run = rounds_leads keyed plans rounds kept used now from to geometry stops run

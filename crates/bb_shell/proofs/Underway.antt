@@ -6,7 +6,7 @@ use Rattle.bb_chooser.specs.Binding.{Binding}
 use Rattle.bb_copies.specs.Settling.{RoseBy}
 use Rattle.bb_flash.specs.declared.plan.Plan.{Plan}
 use Rattle.bb_flash.specs.Device.{Device}
-use Rattle.bb_layout.specs.Layout.{Laid}
+use Rattle.bb_state.specs.Keyed.{Keyed}
 use Rattle.bb_shell.specs.Boot.{AreRounds, IsRound, NoneQualifies, Round, is_retried, last_round}
 use Rattle.bb_shell.specs.Ends.{failed_start, failed_starts}
 use Rattle.bb_shell.specs.Running.{AreRun, IsRoundRun}
@@ -14,7 +14,7 @@ use Rattle.bb_shell.specs.Running.{AreRun, IsRoundRun}
 -- From a table, a copy and a device on some rounds were run, each of which failed; whatever rounds
 -- come from where they led to follow them.
 pub record IsUnderway
-    (b : Binding) (plans : List (Option Plan)) (layout : Laid)
+    (b : Binding) (plans : List (Option Plan)) (keyed : Keyed)
     (first kept : List ℕ) (used : Option ℕ) (from : Device)
     (done : ℕ) (table kept' : List ℕ) (used' : Option ℕ) (now : Device) : Type 0 where
   pub earlier : List Round
@@ -22,7 +22,7 @@ pub record IsUnderway
   pub are : (later : List Round) → AreRounds b plans table later → AreRounds b plans first (earlier ++ later)
   pub run :
       (later : List Round) (end : Option ℕ) (to : Device) →
-      AreRun layout plans kept' used' end later now to → AreRun layout plans kept used end (earlier ++ later) from to
+      AreRun keyed plans kept' used' end later now to → AreRun keyed plans kept used end (earlier ++ later) from to
   pub rose : RoseBy (failed_starts earlier) from.start_faults now.start_faults
 
 rose_none : (n : ℕ) → RoseBy 0 n n
@@ -31,9 +31,9 @@ rose_none n = omega arith
 rose_more : (x y one two three : ℕ) → RoseBy x one two → RoseBy y two three → RoseBy (x + y) one three
 rose_more x y one two three h k = omega arith
 
-pub underway_none : (b : Binding) (plans : List (Option Plan)) (layout : Laid) (first kept : List ℕ) (used : Option ℕ) (from : Device) →
-    IsUnderway b plans layout first kept used from 0 first kept used from
-underway_none b plans layout first kept used from = record {
+pub underway_none : (b : Binding) (plans : List (Option Plan)) (keyed : Keyed) (first kept : List ℕ) (used : Option ℕ) (from : Device) →
+    IsUnderway b plans keyed first kept used from 0 first kept used from
+underway_none b plans keyed first kept used from = record {
   earlier = [];
   many = refl;
   are = λ later h. h;
@@ -47,18 +47,18 @@ failed_more earlier round = sum_by_push (λ (r : Round). failed_start r.outcome)
 abbrev no_rounds : List Round
 no_rounds = []
 
-module _ (b : Binding) (plans : List (Option Plan)) (layout : Laid) (first kept : List ℕ) (used : Option ℕ) (from : Device)
+module _ (b : Binding) (plans : List (Option Plan)) (keyed : Keyed) (first kept : List ℕ) (used : Option ℕ) (from : Device)
     (done : ℕ) (table kept' : List ℕ) (used' : Option ℕ) (now : Device)
-    (underway : IsUnderway b plans layout first kept used from done table kept' used' now)
+    (underway : IsUnderway b plans keyed first kept used from done table kept' used' now)
     (round : Round) (used'' : Option ℕ) (next : Device)
-    (is : IsRound b plans table round) (runs : IsRoundRun layout plans kept' used' used'' round now next)
+    (is : IsRound b plans table round) (runs : IsRoundRun keyed plans kept' used' used'' round now next)
     (rose : RoseBy (failed_start round.outcome) now.start_faults next.start_faults) where
   rose_all : RoseBy (failed_starts (underway.earlier ++ round ∷ [])) from.start_faults next.start_faults
   rose_all =
       subst (λ n. RoseBy n from.start_faults next.start_faults) (sym (failed_more underway.earlier round))
       (rose_more (failed_starts underway.earlier) (failed_start round.outcome) from.start_faults now.start_faults next.start_faults underway.rose rose)
 
-  pub underway_next : is_retried b round.outcome ≡ true → IsUnderway b plans layout first kept used from (done + 1) round.table round.table used'' next
+  pub underway_next : is_retried b round.outcome ≡ true → IsUnderway b plans keyed first kept used from (done + 1) round.table round.table used'' next
   unfolding AreRounds AreRun
   underway_next retried = record {
     earlier = underway.earlier ++ round ∷ [];
@@ -67,7 +67,7 @@ module _ (b : Binding) (plans : List (Option Plan)) (layout : Laid) (first kept 
         subst (AreRounds b plans first) (sym (append_assoc underway.earlier (round ∷ []) later))
         (underway.are (round ∷ later) (is, subst (λ t. MatchBool t (AreRounds b plans round.table later) (later ≡ [])) (sym retried) h));
     run = λ later end to h.
-        subst (λ rounds. AreRun layout plans kept used end rounds from to) (sym (append_assoc underway.earlier (round ∷ []) later))
+        subst (λ rounds. AreRun keyed plans kept used end rounds from to) (sym (append_assoc underway.earlier (round ∷ []) later))
         (underway.run (round ∷ later) end to (record { copy = used''; device = next; before = runs; behind = h }));
     rose = rose_all;
   }
@@ -80,7 +80,7 @@ module _ (b : Binding) (plans : List (Option Plan)) (layout : Laid) (first kept 
       at true e = subst (λ t. MatchBool t (NoneQualifies b round.table) (no_rounds ≡ [])) (sym e) (none e)
       at false e = subst (λ t. MatchBool t (NoneQualifies b round.table) (no_rounds ≡ [])) (sym e) refl
 
-  pub ended_run : AreRun layout plans kept used used'' (underway.earlier ++ round ∷ []) from next
+  pub ended_run : AreRun keyed plans kept used used'' (underway.earlier ++ round ∷ []) from next
   unfolding AreRun
   ended_run = underway.run (round ∷ []) used'' next (record { copy = used''; device = next; before = runs; behind = (refl, refl) })
 

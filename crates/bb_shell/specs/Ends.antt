@@ -10,8 +10,9 @@ use Rattle.bb_copies.specs.declared.answers.CopyFault.TheVariants.{WriteFault}
 use Rattle.bb_flash.specs.declared.plan.Plan.{Plan}
 use Rattle.bb_flash.specs.Device.{Device, content, starts}
 use Rattle.bb_layout.specs.Layout.{Laid}
+use Rattle.bb_state.specs.Keyed.{Keyed}
 use Rattle.bb_state.specs.Kinds.{laid_passings}
-use Rattle.bb_state.specs.State.{FitsForm, IsOn, IsSized, is_sure, kept_of, laid_of, used_of}
+use Rattle.bb_state.specs.State.{FitsForm, IsOn, IsSized, is_sure, kept_of, keyed_of, laid_of, used_of}
 use Rattle.bb_state.specs.declared.state.State.{State}
 use Rattle.bb_shell.specs.Boot.{AreRounds, Round, end_by, end_of, plan_at, table_after}
 use Rattle.bb_shell.specs.Running.{AreRun}
@@ -60,7 +61,7 @@ pub record HaveRun
   pub last : Round
   pub are : AreRounds b plans before.table (earlier ++ last ∷ [])
   pub run :
-      AreRun (laid_of before) plans (kept_of before) (used_of before) (used_of after)
+      AreRun (keyed_of before) plans (kept_of before) (used_of before) (used_of after)
       (earlier ++ last ∷ []) from to
   pub end_is : end ≡ end_by b (length earlier + 1) last last.outcome
   pub table : after.table ≡ last.table
@@ -75,14 +76,14 @@ pub record IsBooted
   pub rounds : List Round
   pub are : AreRounds b plans first rounds
   pub run :
-      AreRun (laid_of before) plans (kept_of before) (used_of before) (used_of after) rounds from to
+      AreRun (keyed_of before) plans (kept_of before) (used_of before) (used_of after) rounds from to
   pub end_is : end ≡ end_of b rounds
   pub table : after.table ≡ table_after before.table rounds
   pub kept : is_sure after ≡ true → kept_of after ≡ table_after (kept_of before) rounds
   -- what the copies stand for, in each image on the way and at exit
-  pub trail : KeepsATrail (laid_of before) (kept_of before) (used_of before) rounds from to
+  pub trail : KeepsATrail (keyed_of before) (kept_of before) (used_of before) rounds from to
   pub exit :
-      KeepsAtExit (laid_of before) (kept_of before) (used_of before) (used_of after) rounds from to
+      KeepsAtExit (keyed_of before) (kept_of before) (used_of before) (used_of after) rounds from to
   pub start_faults : RoseBy (failed_starts rounds) from.start_faults to.start_faults
 
 -- nothing was saved or started, and the table is the one before any reset
@@ -115,14 +116,14 @@ AddsStarts plans from to (ends.StartFailed target tries) = starts to ≡ starts 
 AddsStarts plans from to (ends.Fault fault) = starts to ≡ starts from
 
 -- where every copy passed the table that was last loaded or saved, or nothing, it is so afterwards
-abbrev pub StaysStored : Laid → List ℕ → List ℕ → Device → Device → Type 0
-StaysStored layout kept now from to =
+abbrev pub StaysStored : Keyed → List ℕ → List ℕ → Device → Device → Type 0
+StaysStored keyed kept now from to =
     ForSome (content from)
     (λ before.
     ForSome (content to)
     (λ after.
-    EachPassesOrNothing kept (laid_passings layout before) →
-    EachPassesOrNothing now (laid_passings layout after)))
+    EachPassesOrNothing kept (laid_passings keyed before) →
+    EachPassesOrNothing now (laid_passings keyed after)))
 
 abbrev pub is_fault : BootEnd → Bool
 is_fault (ends.Started target left tries) = false

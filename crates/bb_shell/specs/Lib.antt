@@ -7,6 +7,7 @@ pub use Rattle.bb_copies.specs.Saving
 pub use Rattle.bb_chooser.specs.Choosing
 pub use Rattle.bb_state.specs.State
 pub mod Boot
+pub mod Counting
 pub mod Ends
 pub mod Plans
 pub mod Rounds

@@ -10,7 +10,7 @@ use Rattle.bb_flash.specs.declared.plan.Plan.{Plan}
 use Rattle.bb_flash.specs.Calls.{started}
 use Rattle.bb_flash.specs.Cuts.{IsLater}
 use Rattle.bb_flash.specs.Device.{Device, IsDevice, StartKeeps}
-use Rattle.bb_layout.specs.Layout.{Laid}
+use Rattle.bb_state.specs.Keyed.{Keyed}
 use Rattle.bb_state.specs.Kinds.{laid_form, laid_kinds}
 use Rattle.bb_state.specs.State.{IsStored}
 use Rattle.bb_shell.specs.Boot.{Round, plan_at}
@@ -39,22 +39,22 @@ pub record IsIdle
 -- It is another one, and is saved to the copies, of which `used` is the first that passes the last
 -- one, and `now` the first that passes this one.
 pub record IsBegun
-    (layout : Laid) (used now : Option ℕ) (table : List ℕ) (refusal : Option CopyFault)
+    (keyed : Keyed) (used now : Option ℕ) (table : List ℕ) (refusal : Option CopyFault)
     (from to : Device) : Type 0 where
-  pub runs : SaveRuns (laid_form layout) (laid_kinds layout) used table from to
-  pub stored : IfNone refusal (IsStored layout table now from to)
-  pub fails : IfSome refusal (SaveFails (laid_form layout) (laid_kinds layout) used table from to)
+  pub runs : SaveRuns (laid_form keyed) (laid_kinds keyed.layout) used table from to
+  pub stored : IfNone refusal (IsStored keyed table now from to)
+  pub fails : IfSome refusal (SaveFails (laid_form keyed) (laid_kinds keyed.layout) used table from to)
   pub sure : IfSome refusal (λ fault. fault ≢ Unsure)
   pub exact :
       IsUndisturbed from to →
-      IfNone refusal (EachWritten (laid_kinds layout) ((laid_form layout).text table) from to)
+      IfNone refusal (EachWritten (laid_kinds keyed.layout) ((laid_form keyed).text table) from to)
 
 -- a table was to be saved where `kept` was last loaded or saved
 pub record IsSaveRun
-    (layout : Laid) (kept : List ℕ) (used now : Option ℕ) (table : List ℕ)
+    (keyed : Keyed) (kept : List ℕ) (used now : Option ℕ) (table : List ℕ)
     (refusal : Option CopyFault) (from to : Device) : Type 0 where
   pub idle : bytes_eq table kept ≡ true → IsIdle used now refusal from to
-  pub begun : bytes_eq table kept ≡ false → IsBegun layout used now table refusal from to
+  pub begun : bytes_eq table kept ≡ false → IsBegun keyed used now table refusal from to
 
 -- ---- the start of a round
 
@@ -85,11 +85,11 @@ IsTried plan Started from to = IsSomeAnd plan (IsStartMade from to)
 
 -- a round was run: its save, and then its start
 pub record IsRoundRun
-    (layout : Laid) (plans : List (Option Plan)) (kept : List ℕ) (used now : Option ℕ)
+    (keyed : Keyed) (plans : List (Option Plan)) (kept : List ℕ) (used now : Option ℕ)
     (round : Round) (from to : Device) : Type 0 where
   -- between the two
   pub middle : Device
-  pub saved : IsSaveRun layout kept used now round.table (refusal_of round.outcome) from middle
+  pub saved : IsSaveRun keyed kept used now round.table (refusal_of round.outcome) from middle
   pub tried : IsTried (plan_at plans round.target) round.outcome middle to
 
 -- P holds up to some device and the copy that is used then, and Q from them on
@@ -102,9 +102,9 @@ pub record Between (P Q : Option ℕ → Device → Type 0) : Type 0 where
 -- The rounds were run one after another. `kept` was last loaded or saved before them, and `used` is
 -- the copy that is used before them, `now` the one behind them.
 unfoldable pub AreRun :
-    Laid → List (Option Plan) → List ℕ → Option ℕ → Option ℕ → List Round → Device → Device → Type 0
-AreRun layout plans kept used now [] from to = (now ≡ used) × (to ≡ from)
-AreRun layout plans kept used now (round ∷ later) from to =
+    Keyed → List (Option Plan) → List ℕ → Option ℕ → Option ℕ → List Round → Device → Device → Type 0
+AreRun keyed plans kept used now [] from to = (now ≡ used) × (to ≡ from)
+AreRun keyed plans kept used now (round ∷ later) from to =
     Between
-    (λ copy device. IsRoundRun layout plans kept used copy round from device)
-    (λ copy device. AreRun layout plans round.table copy now later device to)
+    (λ copy device. IsRoundRun keyed plans kept used copy round from device)
+    (λ copy device. AreRun keyed plans round.table copy now later device to)

@@ -13,6 +13,7 @@ use Rattle.bb_flash.specs.Device.{Device, Told, moment}
 use Rattle.bb_flash.specs.Image.{Image}
 use Rattle.bb_layout.specs.Defaults.{defaults_of}
 use Rattle.bb_layout.specs.Layout.{Laid}
+use Rattle.bb_state.specs.Keyed.{Keyed}
 use Rattle.bb_state.specs.Kinds.{laid_passings}
 use Rattle.bb_shell.specs.Boot.{Round, table_after}
 use Rattle.bb_shell.specs.Running.{is_refused}
@@ -49,78 +50,78 @@ stages_reached h a saves ok =
 abbrev pub first_area : Laid → List ℕ
 first_area layout = defaults_of layout.area_len layout.vars
 
-abbrev pub StandsIn : Laid → Image → List (List ℕ) → ℕ → Type 0
-StandsIn layout image h a = Stands (first_area layout) (laid_passings layout image) h a
+abbrev pub StandsIn : Keyed → Image → List (List ℕ) → ℕ → Type 0
+StandsIn keyed image h a = Stands (first_area keyed.layout) (laid_passings keyed image) h a
 
 -- As behind a load or a save that answered Ok: an image stands for a list whose last area is
 -- acknowledged, and is the one that is kept, and the copy that is used passes.
-pub record IsSettled (layout : Laid) (kept : List ℕ) (used : Option ℕ) (image : Image)
+pub record IsSettled (keyed : Keyed) (kept : List ℕ) (used : Option ℕ) (image : Image)
     (h : List (List ℕ)) (a : ℕ) : Type 0 where
-  pub stands : StandsIn layout image h a
+  pub stands : StandsIn keyed image h a
   pub last : a + 1 ≡ length h
   pub area : slice_get h a ≡ Some kept
-  pub uses : KeepsUsed used (laid_passings layout image)
+  pub uses : KeepsUsed used (laid_passings keyed image)
 
 -- P holds of what a device told and tells, and of each list that its content stood for behind a load
 -- or a save that answered Ok
 abbrev pub EachSettled :
-    Laid → List ℕ → Option ℕ → Device → Device → (Told → Told → List (List ℕ) → ℕ → Type 0) → Type 0
-EachSettled layout kept used from to P =
+    Keyed → List ℕ → Option ℕ → Device → Device → (Told → Told → List (List ℕ) → ℕ → Type 0) → Type 0
+EachSettled keyed kept used from to P =
     ForSome from.told
     (λ first.
     ForSome to.told
     (λ last.
-    (h : List (List ℕ)) (a : ℕ) → IsSettled layout kept used first.image h a → P first last h a))
+    (h : List (List ℕ)) (a : ℕ) → IsSettled keyed kept used first.image h a → P first last h a))
 
 -- ---- trails
 
 -- of an image that the copies have at the end, or that a cut left since a moment: what they pass
-pub record IsCounted (layout : Laid) (told : Told) (since : ℕ) (passed : List (Option (List ℕ)))
+pub record IsCounted (keyed : Keyed) (told : Told) (since : ℕ) (passed : List (Option (List ℕ)))
     : Type 0 where
   pub image : Image
-  pub counts : Counts (IsLucky (laid_passings layout)) layout.geometry.page told since image
-  pub passes : passed ≡ laid_passings layout image
+  pub counts : Counts (IsLucky (laid_passings keyed)) keyed.layout.geometry.page told since image
+  pub passes : passed ≡ laid_passings keyed image
 
 -- The trail of the stages that saves reached, from the moment of entry on: each image that counts
 -- since a milestone's moment stands for its stage, or for a later one. So another call's trail goes
 -- before it, whose last moment is that of entry.
-pub record HasTrail (layout : Laid) (first last : Told) (h : List (List ℕ)) (a : ℕ)
+pub record HasTrail (keyed : Keyed) (first last : Told) (h : List (List ℕ)) (a : ℕ)
     (saves : List (List ℕ)) (ok : ℕ) : Type 0 where
   pub later : List Milestone
   pub stages :
       stages_in (milestone_of h a (moment first) ∷ later) ≡ stages_reached h a saves ok
   pub trail :
-      IsTrail (IsCounted layout last) (moment last) (first_area layout)
+      IsTrail (IsCounted keyed last) (moment last) (first_area keyed.layout)
       (milestone_of h a (moment first) ∷ later)
 
 -- ---- at exit
 
 -- no call that failed left a copy that passes by luck
-abbrev pub IsFairRun : Laid → Told → Told → Type 0
-IsFairRun layout first last =
-    IsFair (IsLucky (laid_passings layout)) last (moment first) (moment last)
+abbrev pub IsFairRun : Keyed → Told → Told → Type 0
+IsFairRun keyed first last =
+    IsFair (IsLucky (laid_passings keyed)) last (moment first) (moment last)
 
 -- In a fair run the copies stand for the list with the saves behind it. Where each of these answered
 -- Ok the last table is acknowledged, and another save may go on behind it.
-pub record LeadsTo (layout : Laid) (kept : List ℕ) (used : Option ℕ) (first last : Told)
+pub record LeadsTo (keyed : Keyed) (kept : List ℕ) (used : Option ℕ) (first last : Told)
     (h : List (List ℕ)) (a : ℕ) (saves : List (List ℕ)) (ok : ℕ) : Type 0 where
-  pub stands : IsFairRun layout first last → StandsIn layout last.image (h ++ saves) (a + ok)
+  pub stands : IsFairRun keyed first last → StandsIn keyed last.image (h ++ saves) (a + ok)
   pub settled :
-      ok ≡ length saves → IsSettled layout kept used last.image (h ++ saves) (a + ok)
+      ok ≡ length saves → IsSettled keyed kept used last.image (h ++ saves) (a + ok)
 
 -- ---- of a boot
 
 -- Each image that counts since the boot began stands for a stage that its saves had reached by then,
 -- or for a later one. `kept` was loaded or saved last before it, and `used` is the copy that passed it.
-abbrev pub KeepsATrail : Laid → List ℕ → Option ℕ → List Round → Device → Device → Type 0
-KeepsATrail layout kept used rounds from to =
-    EachSettled layout kept used from to
-    (λ first last h a. HasTrail layout first last h a (saves_of kept rounds) (made_of kept rounds))
+abbrev pub KeepsATrail : Keyed → List ℕ → Option ℕ → List Round → Device → Device → Type 0
+KeepsATrail keyed kept used rounds from to =
+    EachSettled keyed kept used from to
+    (λ first last h a. HasTrail keyed first last h a (saves_of kept rounds) (made_of kept rounds))
 
 -- at exit the copies stand for the list with the tables of its rounds behind it; `now` is the copy
 -- that is used then
-abbrev pub KeepsAtExit : Laid → List ℕ → Option ℕ → Option ℕ → List Round → Device → Device → Type 0
-KeepsAtExit layout kept used now rounds from to =
-    EachSettled layout kept used from to
-    (λ first last h a. LeadsTo layout (table_after kept rounds) now first last h a
+abbrev pub KeepsAtExit : Keyed → List ℕ → Option ℕ → Option ℕ → List Round → Device → Device → Type 0
+KeepsAtExit keyed kept used now rounds from to =
+    EachSettled keyed kept used from to
+    (λ first last h a. LeadsTo keyed (table_after kept rounds) now first last h a
     (saves_of kept rounds) (made_of kept rounds))

@@ -5,7 +5,7 @@ ghost use Rattle.bb_copies.specs.Loading.{KeepsOutside};
 ghost use Rattle.bb_flash.specs.Cuts.{IsLater};
 ghost use Rattle.bb_shell.specs.Boot.{NoneQualifies, all_attempts, end_by, first_table, is_retried};
 ghost use Rattle.bb_shell.specs.Ends.{AddsStarts, HasEndCause, HaveRun, IsBooted, IsReady, IsUnchanged, StaysStored, is_fault};
-ghost use Rattle.bb_state.specs.State.{FitsForm, IsOn, IsSized, is_sure, kept_of, kinds_of, laid_of};
+ghost use Rattle.bb_state.specs.State.{FitsForm, IsOn, IsSized, is_sure, kept_of, keyed_of, kinds_of};
 
 use crate::boot_end::BootEnd;
 use crate::outcome::Outcome;
@@ -43,13 +43,13 @@ pub fn boot_run<B: Board>(
     // At most one start, and what the copies then hold.
     ensures starts { AddsStarts plans.now (B.device board.old) (B.device board.new) result }
     ensures stored { is_sure state.new ≡ true
-        → StaysStored (laid_of state.old) (kept_of state.old) (kept_of state.new)
+        → StaysStored (keyed_of state.old) (kept_of state.old) (kept_of state.new)
         (B.device board.old) (B.device board.new) }
 
     // What stays.
     ensures outside { KeepsOutside (kinds_of state.old) (B.device board.old) (B.device board.new) }
     ensures later { IsLater (B.device board.old) (B.device board.new) }
-    ensures layout { laid_of state.new ≡ laid_of state.old }
+    ensures keyed { keyed_of state.new ≡ keyed_of state.old }
     ensures sure { is_sure state.new ≡ not (is_fault result) }
     ensures sized { IsSized state.new }
     ensures fits { FitsForm state.new }
@@ -115,11 +115,11 @@ fn run_rounds<B: Board>(
     ensures cause { HasEndCause plans.now (B.device board.old) (B.device board.new) result }
     ensures starts { AddsStarts plans.now (B.device board.old) (B.device board.new) result }
     ensures stored { is_sure state.new ≡ true
-        → StaysStored (laid_of state.old) (kept_of state.old) (kept_of state.new)
+        → StaysStored (keyed_of state.old) (kept_of state.old) (kept_of state.new)
         (B.device board.old) (B.device board.new) }
     ensures outside { KeepsOutside (kinds_of state.old) (B.device board.old) (B.device board.new) }
     ensures later { IsLater (B.device board.old) (B.device board.new) }
-    ensures layout { laid_of state.new ≡ laid_of state.old }
+    ensures keyed { keyed_of state.new ≡ keyed_of state.old }
     ensures sure { is_sure state.new ≡ not (is_fault result) }
     ensures sized { IsSized state.new }
     ensures fits { FitsForm state.new }

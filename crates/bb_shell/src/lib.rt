@@ -12,6 +12,6 @@ mod round;
 
 pub use boot::boot_run;
 pub use boot_end::BootEnd;
-pub use law::law_rounds;
+pub use law::{law_attempts, law_rounds};
 pub use plan_fault::PlanFault;
 pub use plans::read_plans;

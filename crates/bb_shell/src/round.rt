@@ -7,7 +7,7 @@ ghost use Rattle.bb_flash.specs.Device.{IsDevice};
 ghost use Rattle.bb_shell.specs.Boot.{IsOutcome, IsRound, plan_at};
 ghost use Rattle.bb_shell.specs.Ends.{AddsStart, IsReady, StaysStored, failed_start};
 ghost use Rattle.bb_shell.specs.Running.{IsRoundRun, IsTried, is_refused};
-ghost use Rattle.bb_state.specs.State.{FitsForm, IsOn, IsSized, is_sure, kept_of, kinds_of, laid_of, used_of};
+ghost use Rattle.bb_state.specs.State.{FitsForm, IsOn, IsSized, is_sure, kept_of, keyed_of, kinds_of, used_of};
 
 use crate::outcome::Outcome;
 use bb_chooser::Chooser;
@@ -26,7 +26,7 @@ pub(crate) fn run_round<B: Board>(
     requires best { IsBest chooser.now state.old.table target }
     ensures round { IsRound chooser.now plans.now state.old.table
         (record { target = target; table = state.new.table; outcome = result }) }
-    ensures run { IsRoundRun (laid_of state.old) plans.now (kept_of state.old) (used_of state.old)
+    ensures run { IsRoundRun (keyed_of state.old) plans.now (kept_of state.old) (used_of state.old)
         (used_of state.new)
         (record { target = target; table = state.new.table; outcome = result })
         (B.device board.old) (B.device board.new) }
@@ -35,11 +35,11 @@ pub(crate) fn run_round<B: Board>(
     ensures start_faults { RoseBy (failed_start result)
         (B.device board.old).start_faults (B.device board.new).start_faults }
     ensures stored { is_refused result ≡ false
-        → StaysStored (laid_of state.old) (kept_of state.old) state.new.table
+        → StaysStored (keyed_of state.old) (kept_of state.old) state.new.table
         (B.device board.old) (B.device board.new) }
     ensures outside { KeepsOutside (kinds_of state.old) (B.device board.old) (B.device board.new) }
     ensures later { IsLater (B.device board.old) (B.device board.new) }
-    ensures layout { laid_of state.new ≡ laid_of state.old }
+    ensures keyed { keyed_of state.new ≡ keyed_of state.old }
     ensures kept { is_sure state.new ≡ true → kept_of state.new ≡ state.new.table }
     ensures sure { is_sure state.new ≡ not (is_refused result) }
     ensures sized { IsSized state.new }

@@ -1,12 +1,18 @@
 -- The lines of a state by computation.
-use Rattle.std.proofs.Common.{◌≡◌, ℕ, List, [], ◌∷◌, Some, None, Ok, Err, codes, refl}
+use Rattle.std.proofs.Common.{◌≡◌, ℕ, List, [], ◌∷◌, ◌++◌, Option, Some, None, Ok, Err, codes, refl, replicate}
 use Rattle.std.specs.List.{flat_map}
 use Rattle.std.specs.Fmt.{digits}
 use Rattle.bb_vars.specs.Mac.{pair_text}
 use Rattle.bb_vars.specs.declared.kind.Kind.{Kind}
 use Rattle.bb_vars.specs.declared.kind.Kind.TheVariants.{Uint8, Enum32, Mac, Chars}
+use Rattle.bb_flash.specs.Geometry.{in_place_of}
+use Rattle.bb_layout.specs.declared.format_kind.FormatKind.{FormatKind}
+use Rattle.bb_layout.specs.declared.format_kind.FormatKind.TheVariants.{Raw, RawHmac}
+use Rattle.bb_layout.specs.declared.storage.Storage.TheVariants.{Stride}
 use Rattle.bb_layout.specs.declared.var.Var.{Var}
 use Rattle.bb_vars.specs.declared.value_error.ValueError.TheVariants.{TooLarge, TooLong, NoSuchName, NotMac}
+use Rattle.bb_state.specs.Keyed.{FitsKey, Keyed}
+use Rattle.bb_state.specs.Kinds.{laid_form}
 use Rattle.bb_state.specs.Lines.{dump_line, shell_line, shell_name, shell_value}
 use Rattle.bb_state.specs.Named.{after_set, refusal_for, text_for}
 use Rattle.bb_state.specs.declared.error.StateError.TheVariants as states
@@ -85,3 +91,45 @@ nope_set = refl
 
 empty_name_set : refusal_for two_vars [] (codes "1") ≡ Some states.NoSuchVariable
 empty_name_set = refl
+
+-- ---- with a key
+
+-- an area of one byte in three strides, under a key or none
+abbrev in_strides : FormatKind → Option (List ℕ) → Keyed
+in_strides format key = record {
+  layout = record {
+    name = codes "state";
+    node = codes "state";
+    magic = 1;
+    format = format;
+    storage = Stride 64;
+    geometry = in_place_of 192;
+    region = record { at = 0; size = 192 };
+    copies = 3;
+    area_len = 1;
+    vars = [];
+  };
+  key = key;
+}
+
+-- the block of the key `4a656665`
+abbrev jefe : List ℕ
+jefe = codes "Jefe" ++ replicate 60 0
+
+no_hmac : (laid_form (in_strides Raw None)).length ≡ 17
+no_hmac = refl
+
+an_hmac : (laid_form (in_strides RawHmac (Some jefe))).length ≡ 49
+an_hmac = refl
+
+key_there : FitsKey RawHmac (Some jefe)
+key_there = refl
+
+no_key_there : FitsKey Raw None
+no_key_there = refl
+
+key_missing : FitsKey RawHmac None → ⊥
+key_missing h = absurd cc
+
+key_too_many : FitsKey Raw (Some jefe) → ⊥
+key_too_many h = absurd cc

@@ -14,6 +14,7 @@ use Rattle.bb_copies.specs.declared.answers.Loaded.{Loaded}
 use Rattle.bb_layout.specs.Layout.{Laid}
 use Rattle.bb_vars.specs.Table.{table_with}
 use Rattle.bb_state.specs.Backed.{Backed, form_in, kinds_in}
+use Rattle.bb_state.specs.Keyed.{Keyed}
 use Rattle.bb_state.specs.Kinds.{laid_form, laid_kinds}
 use Rattle.bb_state.specs.State.{IsRefused, IsStored}
 
@@ -25,59 +26,59 @@ raised P (Err y) e h p = subst P (sym h) p
 pub outside_of : (kinds : List Kind) (layout : Laid) (from to : Device) → kinds ≡ laid_kinds layout → KeepsOutside kinds from to → KeepsOutside (laid_kinds layout) from to
 outside_of kinds layout from to e h = subst (λ kinds. KeepsOutside kinds from to) e h
 
-pub refused_of : (form : Form) (kinds : List Kind) (layout : Laid) (area : List ℕ) (from to : Device) (fault : CopyFault) →
-    form ≡ laid_form layout → kinds ≡ laid_kinds layout → LoadFails form kinds area from to fault → IsRefused layout from to fault
-refused_of form kinds layout area from to fault ef ek h = record {
+pub refused_of : (form : Form) (kinds : List Kind) (keyed : Keyed) (area : List ℕ) (from to : Device) (fault : CopyFault) →
+    form ≡ laid_form keyed → kinds ≡ laid_kinds keyed.layout → LoadFails form kinds area from to fault → IsRefused keyed from to fault
+refused_of form kinds keyed area from to fault ef ek h = record {
   area = area;
   fails =
-      subst (λ form. LoadFails form (laid_kinds layout) area from to fault) ef
+      subst (λ form. LoadFails form (laid_kinds keyed.layout) area from to fault) ef
       (subst (λ kinds. LoadFails form kinds area from to fault) ek h);
 }
 
-pub stored_of : (form : Form) (kinds : List Kind) (layout : Laid) (table : List ℕ) (used : Option ℕ) (live : ℕ) (from to : Device) →
-    form ≡ laid_form layout → kinds ≡ laid_kinds layout → IsSaved form kinds table used live from to → IsStored layout table used from to
-stored_of form kinds layout table used live from to ef ek h = record {
+pub stored_of : (form : Form) (kinds : List Kind) (keyed : Keyed) (table : List ℕ) (used : Option ℕ) (live : ℕ) (from to : Device) →
+    form ≡ laid_form keyed → kinds ≡ laid_kinds keyed.layout → IsSaved form kinds table used live from to → IsStored keyed table used from to
+stored_of form kinds keyed table used live from to ef ek h = record {
   live = live;
   saved =
-      subst (λ form. IsSaved form (laid_kinds layout) table used live from to) ef
+      subst (λ form. IsSaved form (laid_kinds keyed.layout) table used live from to) ef
       (subst (λ kinds. IsSaved form kinds table used live from to) ek h);
 }
 
-pub exact_of : (form : Form) (kinds : List Kind) (layout : Laid) (area table : List ℕ) (from to : Device) (loaded : Loaded) →
-    form ≡ laid_form layout → kinds ≡ laid_kinds layout → table ≡ area → LoadsExactly form kinds area from to loaded →
-    LoadsExactly (laid_form layout) (laid_kinds layout) table from to loaded
-exact_of form kinds layout area table from to loaded ef ek et h =
-    subst (λ table. LoadsExactly (laid_form layout) (laid_kinds layout) table from to loaded) (sym et)
-    (subst (λ form. LoadsExactly form (laid_kinds layout) area from to loaded) ef
+pub exact_of : (form : Form) (kinds : List Kind) (keyed : Keyed) (area table : List ℕ) (from to : Device) (loaded : Loaded) →
+    form ≡ laid_form keyed → kinds ≡ laid_kinds keyed.layout → table ≡ area → LoadsExactly form kinds area from to loaded →
+    LoadsExactly (laid_form keyed) (laid_kinds keyed.layout) table from to loaded
+exact_of form kinds keyed area table from to loaded ef ek et h =
+    subst (λ table. LoadsExactly (laid_form keyed) (laid_kinds keyed.layout) table from to loaded) (sym et)
+    (subst (λ form. LoadsExactly form (laid_kinds keyed.layout) area from to loaded) ef
     (subst (λ kinds. LoadsExactly form kinds area from to loaded) ek h))
 
-pub erasing_of : (form : Form) (kinds : List Kind) (layout : Laid) (area table : List ℕ) (from to : Device) (loaded : Loaded) →
-    form ≡ laid_form layout → kinds ≡ laid_kinds layout → table ≡ area → LoadsErasing form kinds area from to loaded →
-    LoadsErasing (laid_form layout) (laid_kinds layout) table from to loaded
-erasing_of form kinds layout area table from to loaded ef ek et h =
-    subst (λ table. LoadsErasing (laid_form layout) (laid_kinds layout) table from to loaded) (sym et)
-    (subst (λ form. LoadsErasing form (laid_kinds layout) area from to loaded) ef
+pub erasing_of : (form : Form) (kinds : List Kind) (keyed : Keyed) (area table : List ℕ) (from to : Device) (loaded : Loaded) →
+    form ≡ laid_form keyed → kinds ≡ laid_kinds keyed.layout → table ≡ area → LoadsErasing form kinds area from to loaded →
+    LoadsErasing (laid_form keyed) (laid_kinds keyed.layout) table from to loaded
+erasing_of form kinds keyed area table from to loaded ef ek et h =
+    subst (λ table. LoadsErasing (laid_form keyed) (laid_kinds keyed.layout) table from to loaded) (sym et)
+    (subst (λ form. LoadsErasing form (laid_kinds keyed.layout) area from to loaded) ef
     (subst (λ kinds. LoadsErasing form kinds area from to loaded) ek h))
 
-pub images_of : (form : Form) (kinds : List Kind) (layout : Laid) (from to : Device) →
-    form ≡ laid_form layout → kinds ≡ laid_kinds layout → LoadImages form kinds from to → LoadImages (laid_form layout) (laid_kinds layout) from to
-images_of form kinds layout from to ef ek h =
-    subst (λ form. LoadImages form (laid_kinds layout) from to) ef
+pub images_of : (form : Form) (kinds : List Kind) (keyed : Keyed) (from to : Device) →
+    form ≡ laid_form keyed → kinds ≡ laid_kinds keyed.layout → LoadImages form kinds from to → LoadImages (laid_form keyed) (laid_kinds keyed.layout) from to
+images_of form kinds keyed from to ef ek h =
+    subst (λ form. LoadImages form (laid_kinds keyed.layout) from to) ef
     (subst (λ kinds. LoadImages form kinds from to) ek h)
 
-pub gives_of : (form : Form) (kinds : List Kind) (layout : Laid) (area table : List ℕ) (from to : Device) (loaded : Loaded) →
-    form ≡ laid_form layout → kinds ≡ laid_kinds layout → table ≡ area → LoadGives form kinds area from to loaded →
-    LoadGives (laid_form layout) (laid_kinds layout) table from to loaded
-gives_of form kinds layout area table from to loaded ef ek et h =
-    subst (λ table. LoadGives (laid_form layout) (laid_kinds layout) table from to loaded) (sym et)
-    (subst (λ form. LoadGives form (laid_kinds layout) area from to loaded) ef
+pub gives_of : (form : Form) (kinds : List Kind) (keyed : Keyed) (area table : List ℕ) (from to : Device) (loaded : Loaded) →
+    form ≡ laid_form keyed → kinds ≡ laid_kinds keyed.layout → table ≡ area → LoadGives form kinds area from to loaded →
+    LoadGives (laid_form keyed) (laid_kinds keyed.layout) table from to loaded
+gives_of form kinds keyed area table from to loaded ef ek et h =
+    subst (λ table. LoadGives (laid_form keyed) (laid_kinds keyed.layout) table from to loaded) (sym et)
+    (subst (λ form. LoadGives form (laid_kinds keyed.layout) area from to loaded) ef
     (subst (λ kinds. LoadGives form kinds area from to loaded) ek h))
 
-pub look_of : (form : Form) (kinds : List Kind) (layout : Laid) (area : List ℕ) (from : Device) (E : Type 0) (answer : Result Bool E) →
-    form ≡ laid_form layout → kinds ≡ laid_kinds layout → IfOk answer (LookGives form kinds area from) →
-    IfOk answer (LookGives (laid_form layout) (laid_kinds layout) area from)
-look_of form kinds layout area from E answer ef ek h =
-    subst (λ form. IfOk answer (LookGives form (laid_kinds layout) area from)) ef
+pub look_of : (form : Form) (kinds : List Kind) (keyed : Keyed) (area : List ℕ) (from : Device) (E : Type 0) (answer : Result Bool E) →
+    form ≡ laid_form keyed → kinds ≡ laid_kinds keyed.layout → IfOk answer (LookGives form kinds area from) →
+    IfOk answer (LookGives (laid_form keyed) (laid_kinds keyed.layout) area from)
+look_of form kinds keyed area from E answer ef ek h =
+    subst (λ form. IfOk answer (LookGives form (laid_kinds keyed.layout) area from)) ef
     (subst (λ kinds. IfOk answer (LookGives form kinds area from)) ek h)
 
 pub fails_of : (form : Form) (kinds : List Kind) (used : Option ℕ) (seen : Backed) (table : List ℕ) (from to : Device) (fault : CopyFault) →
@@ -88,18 +89,18 @@ fails_of form kinds used seen table from to fault ef ek eu h =
     (subst (λ kinds. SaveFails form kinds seen.used table from to fault) ek
     (subst (λ used. SaveFails form kinds used table from to fault) eu h))
 
-pub written_of : (form : Form) (kinds : List Kind) (layout : Laid) (table : List ℕ) (from to : Device) →
-    form ≡ laid_form layout → kinds ≡ laid_kinds layout → EachWritten kinds (form.text table) from to →
-    EachWritten (laid_kinds layout) ((laid_form layout).text table) from to
-written_of form kinds layout table from to ef ek h =
-    subst (λ (form : Form). EachWritten (laid_kinds layout) (form.text table) from to) ef
+pub written_of : (form : Form) (kinds : List Kind) (keyed : Keyed) (table : List ℕ) (from to : Device) →
+    form ≡ laid_form keyed → kinds ≡ laid_kinds keyed.layout → EachWritten kinds (form.text table) from to →
+    EachWritten (laid_kinds keyed.layout) ((laid_form keyed).text table) from to
+written_of form kinds keyed table from to ef ek h =
+    subst (λ (form : Form). EachWritten (laid_kinds keyed.layout) (form.text table) from to) ef
     (subst (λ kinds. EachWritten kinds (form.text table) from to) ek h)
 
-pub erased_of : (form : Form) (kinds : List Kind) (layout : Laid) (table : List ℕ) (from to : Device) →
-    form ≡ laid_form layout → kinds ≡ laid_kinds layout → ErasesBy kinds (form.text table) from to →
-    ErasesBy (laid_kinds layout) ((laid_form layout).text table) from to
-erased_of form kinds layout table from to ef ek h =
-    subst (λ (form : Form). ErasesBy (laid_kinds layout) (form.text table) from to) ef
+pub erased_of : (form : Form) (kinds : List Kind) (keyed : Keyed) (table : List ℕ) (from to : Device) →
+    form ≡ laid_form keyed → kinds ≡ laid_kinds keyed.layout → ErasesBy kinds (form.text table) from to →
+    ErasesBy (laid_kinds keyed.layout) ((laid_form keyed).text table) from to
+erased_of form kinds keyed table from to ef ek h =
+    subst (λ (form : Form). ErasesBy (laid_kinds keyed.layout) (form.text table) from to) ef
     (subst (λ kinds. ErasesBy kinds (form.text table) from to) ek h)
 
 pub runs_of : (form : Form) (kinds : List Kind) (used : Option ℕ) (seen : Backed) (table : List ℕ) (from to : Device) →

@@ -1,5 +1,5 @@
 -- The buckets that a layout has.
-use Rattle.std.proofs.Common.{◌≡◌, ℕ, zero, suc, ◌+◌, ◌*◌, ◌/◌, ◌%◌, ◌<◌, ◌≤◌, eqb, false, List, [], ◌∷◌, ◌++◌, Some, length, map, slice_get, refl, sym, ap, ◌∙◌, subst, arith, IsTrue, inl, inr, ◌≢◌}
+use Rattle.std.proofs.Common.{◌≡◌, ℕ, zero, suc, ◌+◌, ◌*◌, ◌/◌, ◌%◌, ◌<◌, ◌≤◌, eqb, false, List, [], ◌∷◌, ◌++◌, Option, None, Some, is_some, length, map, slice_get, refl, sym, ap, ◌∙◌, subst, arith, IsTrue, inl, inr, ◌≢◌}
 use Rattle.std.specs.List.{range_with_len}
 use Rattle.std.proofs.lemmas.List.FromFn.{length-map-range_with_len, get_or-map-range_with_len, map-range_with_len_more}
 use Rattle.std.proofs.lemmas.Simd.{map-map}
@@ -16,17 +16,19 @@ use Rattle.bb_flash.specs.Device.{Device}
 use Rattle.bb_bucket.specs.Calls.{Agrees}
 use Rattle.bb_bucket.specs.Kind.{Kind}
 use Rattle.bb_bucket.specs.Blocks.{is_block_of}
-use Rattle.bb_copies.specs.Buckets.{AllAgree, AllServe, AreApart, HaveRoom, IsApart, kinds_of}
-use Rattle.bb_layout.specs.Copies.{raw_len, region_of, room_for, spacing}
-use Rattle.bb_layout.specs.Facts.{EndsBefore, HasCopies, IsLayout, IsWithin, is_stride}
-use Rattle.bb_layout.specs.Layout.{Laid}
+use Rattle.bb_copies.specs.Buckets.{AllAgree, AllServe, HaveRoom, IsApart}
+use Rattle.bb_raw.specs.Raw.{code_len}
+use Rattle.bb_layout.specs.Copies.{region_of, spacing}
+use Rattle.bb_layout.specs.Facts.{HasCopies, IsLayout, is_stride}
+use Rattle.bb_layout.specs.Formats.{record_len}
+use Rattle.bb_layout.specs.Layout.{Laid, laid_len}
 use Rattle.bb_layout.specs.declared.format_kind.FormatKind.{FormatKind}
-use Rattle.bb_layout.specs.declared.format_kind.FormatKind.TheVariants.{Raw}
+use Rattle.bb_layout.specs.declared.format_kind.FormatKind.TheVariants.{Raw, RawHmac}
 use Rattle.bb_layout.specs.declared.storage.Storage.{Storage}
 use Rattle.bb_layout.specs.declared.storage.Storage.TheVariants.{Stride, OneBlock, Circular}
-use Rattle.bb_state.specs.Kinds.{any_form, any_holding, block_at, bucket_at, format_of, laid_buckets, laid_form, laid_kinds}
+use Rattle.bb_state.specs.Keyed.{FitsKey, Keyed}
+use Rattle.bb_state.specs.Kinds.{any_form, any_holding, block_at, bucket_at, format_for, format_of, key_in, laid_buckets, laid_form, laid_kinds, raw_under}
 use Rattle.bb_state.specs.declared.any_bucket.AnyBucket.{AnyBucket}
-use Rattle.bb_state.specs.declared.any_bucket.AnyBucket.TheVariants as any
 
 -- one bucket more
 pub buckets_more : (geometry : Geometry) (storage : Storage) (partition : Region) (copy : ℕ) →
@@ -118,11 +120,21 @@ serves_block storage geometry partition copies area_len copy is has below blocks
     let aligned = at.aligned in
     grind (arith, nat_tests)
 
-fit_of : (storage : Storage) (format : FormatKind) (geometry : Geometry) (partition : Region) (copies area_len magic copy : ℕ) → IsGeometry geometry →
-    HasCopies geometry partition storage copies (raw_len area_len) → copy < copies →
-    IsFit (any_form (format_of format magic area_len)) geometry (region_of geometry storage partition copy) (kind_at geometry storage partition copy)
+-- how many bytes a code has at most
+code_short : (key : Option (List ℕ)) → code_len key ≤ 32
+code_short None = omega arith
+code_short (Some _) = omega arith
+
+-- a record has no more bytes than its layout counts
+record_short : (format : FormatKind) (keyed : Keyed) → (any_form (format_for format keyed)).length ≤ record_len format keyed.layout.area_len
+record_short Raw keyed = omega arith
+record_short RawHmac keyed = let code = code_short keyed.key in omega arith
+
+fit_of : (storage : Storage) (form : Form) (geometry : Geometry) (partition : Region) (copies len copy : ℕ) → form.length ≤ len → IsGeometry geometry →
+    HasCopies geometry partition storage copies len → copy < copies →
+    IsFit form geometry (region_of geometry storage partition copy) (kind_at geometry storage partition copy)
 unfolding kind_at any_holding
-fit_of (Stride stride) Raw geometry partition copies area_len magic copy is has below =
+fit_of (Stride stride) form geometry partition copies len copy short is has below =
     let within = has.inside copy below in
     let room = has.room in
     let none : geometry.block ≡ 0 = eqb-true geometry.block 0 (sym has.strides) in
@@ -135,24 +147,25 @@ fit_of (Stride stride) Raw geometry partition copies area_len magic copy is has 
       room = omega arith;
       serves = grind (arith, nat_tests);
     }
-fit_of OneBlock Raw geometry partition copies area_len magic copy is has below =
+fit_of OneBlock form geometry partition copies len copy short is has below =
     let room = has.room in
-    record { region_is = refl; room = omega arith; serves = serves_block OneBlock geometry partition copies (raw_len area_len) copy is has below refl refl }
-fit_of Circular Raw geometry partition copies area_len magic copy is has below =
+    record { region_is = refl; room = omega arith; serves = serves_block OneBlock geometry partition copies len copy is has below refl refl }
+fit_of Circular form geometry partition copies len copy short is has below =
     let room = has.room in
-    record { region_is = refl; room = omega arith; serves = serves_block Circular geometry partition copies (raw_len area_len) copy is has below refl refl }
+    record { region_is = refl; room = omega arith; serves = serves_block Circular geometry partition copies len copy is has below refl refl }
 
 -- what the facts of a layout say of a copy
 abbrev pub AreFacts : Laid → Type 0
-AreFacts layout = IsLayout layout.geometry layout.region layout.storage layout.copies layout.area_len layout.vars
+AreFacts layout = IsLayout layout.geometry layout.region layout.storage layout.copies (laid_len layout) layout.area_len layout.vars
 
-kind_fit : (layout : Laid) (copy : ℕ) (kind : Kind) → AreFacts layout → slice_get (laid_kinds layout) copy ≡ Some kind →
-    (copy < layout.copies) × IsFit (laid_form layout) layout.geometry (region_of layout.geometry layout.storage layout.region copy) kind
-kind_fit layout copy kind facts h =
+kind_fit : (keyed : Keyed) (copy : ℕ) (kind : Kind) → AreFacts keyed.layout → slice_get (laid_kinds keyed.layout) copy ≡ Some kind →
+    (copy < keyed.layout.copies) × IsFit (laid_form keyed) keyed.layout.geometry (region_of keyed.layout.geometry keyed.layout.storage keyed.layout.region copy) kind
+kind_fit keyed copy kind facts h =
+    let layout = keyed.layout in
     let at = kind_there layout copy kind h in (
       at.inside,
-      subst (IsFit (laid_form layout) layout.geometry (region_of layout.geometry layout.storage layout.region copy)) at.kind_is
-          (fit_of layout.storage layout.format layout.geometry layout.region layout.copies layout.area_len layout.magic copy facts.geometry_is facts.copied at.inside),
+      subst (IsFit (laid_form keyed) layout.geometry (region_of layout.geometry layout.storage layout.region copy)) at.kind_is
+          (fit_of layout.storage (laid_form keyed) layout.geometry layout.region layout.copies (laid_len layout) copy (record_short layout.format keyed) facts.geometry_is facts.copied at.inside),
     )
 
 apart_of : (layout : Laid) (one two : ℕ) → AreFacts layout → one ≢ two →
@@ -176,18 +189,18 @@ apart_of layout one two facts differ =
 regions_apart : (one two a b : Region) → one ≡ a → two ≡ b → IsApart a b → IsApart one two
 regions_apart one two a b ea eb h = subst (λ r. IsApart r two) (sym ea) (subst (IsApart a) (sym eb) h)
 
-pub have_room : (layout : Laid) → AreFacts layout → HaveRoom (laid_form layout) (laid_kinds layout)
-have_room layout facts = record {
-  room = λ copy kind there. (kind_fit layout copy kind facts there).1.room;
+pub have_room : (keyed : Keyed) → AreFacts keyed.layout → HaveRoom (laid_form keyed) (laid_kinds keyed.layout)
+have_room keyed facts = record {
+  room = λ copy kind there. (kind_fit keyed copy kind facts there).1.room;
   apart = λ copy kind there other beside found differ.
-      let one = kind_fit layout copy kind facts there in
-      let two = kind_fit layout other beside facts found in
+      let one = kind_fit keyed copy kind facts there in
+      let two = kind_fit keyed other beside facts found in
       regions_apart kind.region beside.region _ _ one.1.region_is two.1.region_is
-      (apart_of layout copy other facts (λ same. differ (sym same)));
+      (apart_of keyed.layout copy other facts (λ same. differ (sym same)));
 }
 
-pub all_serve : (layout : Laid) → AreFacts layout → AllServe (laid_kinds layout) layout.geometry
-all_serve layout facts copy kind there = (kind_fit layout copy kind facts there).1.serves
+pub all_serve : (keyed : Keyed) → AreFacts keyed.layout → AllServe (laid_kinds keyed.layout) keyed.layout.geometry
+all_serve keyed facts copy kind there = (kind_fit keyed copy kind facts there).1.serves
 
 -- ---- what holds of a fresh state
 
@@ -207,8 +220,31 @@ all_agree layout device copy bucket there =
     let is : make copy ≡ bucket = sym (get_or-map-range_with_len make 0 layout.copies copy copy bucket inside (omega arith)) ∙ get_or_from_slice_get (laid_buckets layout) copy bucket bucket there in
     subst (λ (b : AnyBucket). Agrees (any_holding b) device) is (bucket_agrees layout.geometry layout.storage layout.region copy device)
 
-fits_at : (format : FormatKind) (magic area_len : ℕ) (table : List ℕ) → length table ≡ area_len → IsTrue ((any_form (format_of format magic area_len)).fits table)
-fits_at Raw magic area_len table sized = eq-eqb _ _ sized
+fits_at : (format : FormatKind) (keyed : Keyed) (table : List ℕ) → length table ≡ keyed.layout.area_len → IsTrue ((any_form (format_for format keyed)).fits table)
+fits_at Raw keyed table sized = eq-eqb _ _ sized
+fits_at RawHmac keyed table sized = eq-eqb _ _ sized
 
-pub sized_fits : (layout : Laid) (table : List ℕ) → length table ≡ layout.area_len → IsTrue ((laid_form layout).fits table)
-sized_fits layout table sized = fits_at layout.format layout.magic layout.area_len table sized
+pub sized_fits : (keyed : Keyed) (table : List ℕ) → length table ≡ keyed.layout.area_len → IsTrue ((laid_form keyed).fits table)
+sized_fits keyed table sized = fits_at keyed.layout.format keyed table sized
+
+-- ---- the key of a format
+
+none_of : (key : Option (List ℕ)) → is_some key ≡ false → None ≡ key
+none_of None h = refl
+none_of (Some _) h = absurd cc
+
+key_at : (format : FormatKind) (keyed : Keyed) → FitsKey format keyed.key → key_in (format_for format keyed) ≡ keyed.key
+key_at Raw keyed fits = none_of keyed.key fits
+key_at RawHmac keyed fits = refl
+
+-- records under a layout's key have that key
+pub key_is : (keyed : Keyed) → FitsKey keyed.layout.format keyed.key → key_in (format_of keyed) ≡ keyed.key
+key_is keyed fits = key_at keyed.layout.format keyed fits
+
+same_at : (format : FormatKind) (keyed : Keyed) → FitsKey format keyed.key → raw_under keyed.key keyed.layout ≡ format_for format keyed
+same_at Raw keyed fits = ap (λ key. raw_under key keyed.layout) (sym (none_of keyed.key fits))
+same_at RawHmac keyed fits = refl
+
+-- its raw records are under the key that is given, if there is one
+pub raw_is : (keyed : Keyed) → FitsKey keyed.layout.format keyed.key → raw_under keyed.key keyed.layout ≡ format_of keyed
+raw_is keyed fits = same_at keyed.layout.format keyed fits

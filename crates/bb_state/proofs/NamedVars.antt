@@ -1,5 +1,5 @@
 -- The variable of a name, and its line.
-use Rattle.std.proofs.Common.{◌≡◌, ℕ, List, Some, None, [], ◌++◌, codes, ap, ◌∙◌, find, slice_get}
+use Rattle.std.proofs.Common.{◌≡◌, ℕ, List, Some, None, [], ◌++◌, codes, ap, ◌∙◌, slice_get}
 use Rattle.std.specs.Option.{option_and_then}
 use Rattle.std.specs.Str.{bytes_eq}
 use Rattle.bb_layout.specs.VarNames.{place_of}

@@ -3,13 +3,13 @@ use Rattle.std.specs.Prelude.{◌≡◌, ℕ, Bool, List, Option, length}
 use Rattle.bb_base.specs.Form.{Form}
 use Rattle.bb_bucket.specs.Kind.{Kind}
 use Rattle.bb_copies.specs.Buckets.{AllServe, kinds_of}
-use Rattle.bb_layout.specs.Layout.{Laid}
+use Rattle.bb_state.specs.Keyed.{Keyed}
 use Rattle.bb_state.specs.Kinds.{any_holding, format_of, laid_form, laid_kinds}
 use Rattle.bb_state.specs.declared.any_bucket.AnyBucket.{AnyBucket}
 use Rattle.bb_state.specs.declared.any_format.AnyFormat.{AnyFormat}
 
 pub record Backed : Type 0 where
-  pub layout : Laid
+  pub keyed : Keyed
   -- one bucket a copy
   pub buckets : List AnyBucket
   -- the first copy that passed the table that was last loaded or saved, if any did
@@ -21,15 +21,15 @@ pub record Backed : Type 0 where
 
 -- the format of its copies, and their kinds
 abbrev pub form_in : Backed → Form
-form_in backed = laid_form backed.layout
+form_in backed = laid_form backed.keyed
 
 abbrev pub kinds_in : Backed → List Kind
-kinds_in backed = laid_kinds backed.layout
+kinds_in backed = laid_kinds backed.keyed.layout
 
--- the buckets and the format are those of the layout, and a table of it is at hand
+-- the buckets and the format are those of the layout and its key, and a table of it is at hand
 pub record IsBacked
-    (layout : Laid) (buckets : List AnyBucket) (format : AnyFormat) (kept : List ℕ) : Type 0 where
-  pub kinds : kinds_of any_holding buckets ≡ laid_kinds layout
-  pub format_is : format ≡ format_of layout.format layout.magic layout.area_len
-  pub serves : AllServe (laid_kinds layout) layout.geometry
-  pub sized : length kept ≡ layout.area_len
+    (keyed : Keyed) (buckets : List AnyBucket) (format : AnyFormat) (kept : List ℕ) : Type 0 where
+  pub kinds : kinds_of any_holding buckets ≡ laid_kinds keyed.layout
+  pub format_is : format ≡ format_of keyed
+  pub serves : AllServe (laid_kinds keyed.layout) keyed.layout.geometry
+  pub sized : length kept ≡ keyed.layout.area_len

@@ -1,4 +1,4 @@
--- The kinds of buckets and of formats, and which of them the copies of a layout have.
+-- The kinds of buckets and of formats, and which of them the copies of a layout have under its key.
 use Rattle.std.specs.Prelude.{ℕ, List, Option, None, map}
 use Rattle.std.specs.List.{range_with_len}
 use Rattle.bb_base.specs.Form.{Form, IsForm}
@@ -23,6 +23,7 @@ use Rattle.bb_layout.specs.declared.storage.Storage.{Storage}
 use Rattle.bb_layout.specs.declared.storage.Storage.TheVariants as storages
 use Rattle.bb_copies.specs.Buckets.{kinds_of}
 use Rattle.bb_copies.specs.Passing.{passings}
+use Rattle.bb_state.specs.Keyed.{Keyed}
 use Rattle.bb_state.specs.declared.any_bucket.AnyBucket.{AnyBucket}
 use Rattle.bb_state.specs.declared.any_bucket.AnyBucket.TheVariants.{Stride, OneBlock, Circular}
 use Rattle.bb_state.specs.declared.any_format.AnyFormat.{AnyFormat}
@@ -70,14 +71,29 @@ laid_buckets layout = map (bucket_at layout.geometry layout.storage layout.regio
 abbrev pub laid_kinds : Laid → List Kind
 laid_kinds layout = kinds_of any_holding (laid_buckets layout)
 
--- the format of their records
-abbrev pub format_of : FormatKind → ℕ → ℕ → AnyFormat
-format_of formats.Raw magic area_len = Raw (record { magic = magic; area_len = area_len; key = None })
+-- ---- of a layout with its key
 
-abbrev pub laid_form : Laid → Form
-laid_form layout = any_form (format_of layout.format layout.magic layout.area_len)
+-- raw records of its magic and area, under a key or none
+abbrev pub raw_under : Option (List ℕ) → Laid → AnyFormat
+raw_under key layout = Raw (record { magic = layout.magic; area_len = layout.area_len; key = key })
 
--- what each copy of a layout passes in an image: an area, or nothing
-abbrev pub laid_passings : Laid → Image → List (Option (List ℕ))
-laid_passings layout image =
-    passings (laid_form layout) layout.geometry.page (laid_kinds layout) image
+-- records of that format
+abbrev pub format_for : FormatKind → Keyed → AnyFormat
+format_for formats.Raw keyed = raw_under None keyed.layout
+format_for formats.RawHmac keyed = raw_under keyed.key keyed.layout
+
+-- its records, and what they are to the copies
+abbrev pub format_of : Keyed → AnyFormat
+format_of keyed = format_for keyed.layout.format keyed
+
+abbrev pub laid_form : Keyed → Form
+laid_form keyed = any_form (format_of keyed)
+
+-- the block of the key of such records, if they stand under one
+abbrev pub key_in : AnyFormat → Option (List ℕ)
+key_in (Raw kind) = kind.key
+
+-- what each of its copies passes in an image: an area, or nothing
+abbrev pub laid_passings : Keyed → Image → List (Option (List ℕ))
+laid_passings keyed image =
+    passings (laid_form keyed) keyed.layout.geometry.page (laid_kinds keyed.layout) image

@@ -14,12 +14,16 @@ use Rattle.bb_copies.specs.declared.answers.Loaded.TheVariants.{Copy, NoCopy}
 use Rattle.bb_layout.specs.Defaults.{defaults_of}
 use Rattle.bb_layout.specs.Layout.{Laid}
 use Rattle.bb_state.specs.Backed.{form_in, kinds_in}
+use Rattle.bb_state.specs.Keyed.{Keyed}
 use Rattle.bb_state.specs.Kinds.{any_holding, laid_form, laid_kinds}
 use Rattle.bb_state.specs.declared.state.State.{State}
 
--- its layout
+-- its layout with its key, and the layout alone
+abbrev pub keyed_of : State → Keyed
+keyed_of state = state.backing.keyed
+
 abbrev pub laid_of : State → Laid
-laid_of state = state.backing.layout
+laid_of state = (keyed_of state).layout
 
 -- the format of its copies, and their kinds
 abbrev pub form_of : State → Form
@@ -77,12 +81,12 @@ IsDefault layout table (Copy used live) = ⊤
 IsDefault layout table NoCopy = table ≡ defaults_of layout.area_len layout.vars
 
 -- a load was refused, as the copies refuse it over the area that they found, if they did
-pub record IsRefused (layout : Laid) (from to : Device) (fault : CopyFault) : Type 0 where
+pub record IsRefused (keyed : Keyed) (from to : Device) (fault : CopyFault) : Type 0 where
   pub area : List ℕ
-  pub fails : LoadFails (laid_form layout) (laid_kinds layout) area from to fault
+  pub fails : LoadFails (laid_form keyed) (laid_kinds keyed.layout) area from to fault
 
 -- all copies pass the table or nothing, and the first that passes it is used
 pub record IsStored
-    (layout : Laid) (table : List ℕ) (used : Option ℕ) (from to : Device) : Type 0 where
+    (keyed : Keyed) (table : List ℕ) (used : Option ℕ) (from to : Device) : Type 0 where
   pub live : ℕ
-  pub saved : IsSaved (laid_form layout) (laid_kinds layout) table used live from to
+  pub saved : IsSaved (laid_form keyed) (laid_kinds keyed.layout) table used live from to

@@ -16,6 +16,7 @@ ghost use Rattle.bb_copies.specs.Store.{used_after};
 ghost use Rattle.bb_copies.specs.declared.answers.CopyFault.TheVariants.{ReadFault, Unsure};
 ghost use Rattle.bb_layout.specs.Layout.{laid};
 ghost use Rattle.bb_state.specs.Backed.{form_in, kinds_in};
+ghost use Rattle.bb_state.specs.Keyed.{FitsKey};
 ghost use Rattle.bb_state.specs.Kinds.{any_holding, bucket_at, format_of, laid_buckets};
 ghost use Rattle.bb_state.specs.State.{IsDefault, IsRefused, IsStored};
 
@@ -25,6 +26,7 @@ use bb_bucket::{OneBlock, Stride};
 use bb_circular::Circular;
 use bb_copies::{BucketList, Copies, CopyFault, Loaded};
 use bb_flash::Flash;
+use bb_hmac::Key;
 use bb_layout::{FormatKind, Layout, Storage};
 use bb_raw::Raw;
 use std::alloc::Global;
@@ -41,11 +43,12 @@ pub(crate) struct Backing {
 impl Model for Backing {
     ghost use Rattle.bb_layout.specs.Layout.{laid};
     ghost use Rattle.bb_state.specs.Backed.{Backed, IsBacked};
+    ghost use Rattle.bb_state.specs.Kinds.{key_in};
 
     ghost Value = { Backed };
 
     ghost view = { λ b. record {
-      layout = laid b.layout;
+      keyed = record { layout = laid b.layout; key = key_in b.copies.format };
       buckets = b.copies.buckets;
       used = b.copies.used;
       sure = b.copies.sure;
@@ -53,20 +56,27 @@ impl Model for Backing {
     } };
 
     ghost invariant = { λ b.
-        IsBacked (laid b.layout) b.copies.buckets b.copies.format b.kept.items };
+        IsBacked (record { layout = laid b.layout; key = key_in b.copies.format })
+        b.copies.buckets b.copies.format b.kept.items };
 }
 
 impl Backing {
     /// Copies of which nothing is known yet.
-    pub(crate) fn mount(alloc: Global, layout: Layout) -> Result<Backing, NoMemory>
-        ensures layout { IfOk result (λ b. b.layout ≡ laid layout) }
+    pub(crate) fn mount(
+        alloc: Global,
+        layout: Layout,
+        key: Option<Key>,
+    ) -> Result<Backing, NoMemory>
+        requires { FitsKey layout.format key }
+        ensures keyed { IfOk result (λ b. b.keyed ≡ record { layout = laid layout; key = key }) }
         ensures buckets { IfOk result (λ b. b.buckets ≡ laid_buckets (laid layout)) }
         ensures agrees { IfOk result (λ b.
             (device : Device) → AllAgree any_holding device b.buckets) }
         ensures sure { IfOk result (λ b. b.sure ≡ false) }
     {
         let kept = vec![in alloc; 0u8; layout.area_len as usize]?;
-        let copies = Copies::mount(alloc, buckets_of(alloc, &layout)?, format_of(&layout))?;
+        let buckets = buckets_of(alloc, &layout)?;
+        let copies = Copies::mount(alloc, buckets, format_of(&layout, key))?;
         Ok(Backing {
             layout,
             copies,
@@ -76,7 +86,7 @@ impl Backing {
 
     /// The layout.
     pub(crate) fn layout(&self) -> &Layout
-        ensures { laid result.now ≡ self.now.layout }
+        ensures { laid result.now ≡ self.now.keyed.layout }
     {
         &self.layout
     }
@@ -84,7 +94,7 @@ impl Backing {
     /// The table that was last loaded or saved.
     pub(crate) fn kept_table(&self) -> &[u8]
         ensures kept { result.now ≡ self.now.kept }
-        ensures sized { length result.now ≡ self.now.layout.area_len }
+        ensures sized { length result.now ≡ self.now.keyed.layout.area_len }
     {
         self.kept.as_slice()
     }
@@ -92,15 +102,15 @@ impl Backing {
     /// Loads the copies. The table that they have, or the defaults where no copy passes, is then at
     /// hand.
     pub(crate) fn load<F: Flash>(&mut self, flash: &mut F) -> Result<Loaded, CopyFault>
-        requires geometry { (F.device flash.old).geometry ≡ self.old.layout.geometry }
+        requires geometry { (F.device flash.old).geometry ≡ self.old.keyed.layout.geometry }
         requires agreed { AllAgree any_holding (F.device flash.old) self.old.buckets }
         requires whole { IsDevice (F.device flash.old) }
         ensures images { LoadImages (form_in self.old) (kinds_in self.old)
             (F.device flash.old) (F.device flash.new) }
         ensures gives { IfOk result (LoadGives (form_in self.old) (kinds_in self.old) self.new.kept
             (F.device flash.old) (F.device flash.new)) }
-        ensures defaults { IfOk result (IsDefault self.old.layout self.new.kept) }
-        ensures fails { IfErr result (IsRefused self.old.layout
+        ensures defaults { IfOk result (IsDefault self.old.keyed.layout self.new.kept) }
+        ensures fails { IfErr result (IsRefused self.old.keyed
             (F.device flash.old) (F.device flash.new)) }
         ensures exact { IfOk result (LoadsExactly (form_in self.old) (kinds_in self.old)
             self.new.kept (F.device flash.old) (F.device flash.new)) }
@@ -111,7 +121,7 @@ impl Backing {
         ensures later { IsLater (F.device flash.old) (F.device flash.new) }
         ensures starts { LeavesStarts (F.device flash.old) (F.device flash.new) }
         ensures whole { IsDevice (F.device flash.new) }
-        ensures layout { self.new.layout ≡ self.old.layout }
+        ensures keyed { self.new.keyed ≡ self.old.keyed }
         ensures agrees { AllAgree any_holding (F.device flash.new) self.new.buckets }
         ensures placed { OnOk result (AllPlaced any_holding self.new.buckets) }
         ensures used { IfOk result (λ loaded. self.new.used ≡ used_after loaded) }
@@ -126,17 +136,17 @@ impl Backing {
 
     /// Saves a table, which is then at hand.
     pub(crate) fn save<F: Flash>(&mut self, flash: &mut F, table: &[u8]) -> Result<(), CopyFault>
-        requires geometry { (F.device flash.old).geometry ≡ self.old.layout.geometry }
+        requires geometry { (F.device flash.old).geometry ≡ self.old.keyed.layout.geometry }
         requires agreed { AllAgree any_holding (F.device flash.old) self.old.buckets }
         requires whole { IsDevice (F.device flash.old) }
-        requires sized { length table.now ≡ self.old.layout.area_len }
+        requires sized { length table.now ≡ self.old.keyed.layout.area_len }
         requires fits { IsTrue ((form_in self.old).fits table.now) }
         ensures unsure { IsErrOf result Unsure ↔ (self.old.sure ≡ false) }
         ensures idle { self.old.sure ≡ false → F.device flash.new ≡ F.device flash.old }
         ensures unchanged { self.old.sure ≡ false → self.new ≡ self.old }
         ensures runs { SaveRuns (form_in self.old) (kinds_in self.old) self.old.used table.now
             (F.device flash.old) (F.device flash.new) }
-        ensures saved { OnOk result (IsStored self.old.layout table.now self.new.used
+        ensures saved { OnOk result (IsStored self.old.keyed table.now self.new.used
             (F.device flash.old) (F.device flash.new)) }
         ensures fails { IfErr result (SaveFails (form_in self.old) (kinds_in self.old) self.old.used
             table.now (F.device flash.old) (F.device flash.new)) }
@@ -146,7 +156,7 @@ impl Backing {
         ensures erases { IsUndisturbed (F.device flash.old) (F.device flash.new)
             → OnOk result (ErasesBy (kinds_in self.old) ((form_in self.old).text table.now)
             (F.device flash.old) (F.device flash.new)) }
-        ensures layout { self.new.layout ≡ self.old.layout }
+        ensures keyed { self.new.keyed ≡ self.old.keyed }
         ensures agrees { AllAgree any_holding (F.device flash.new) self.new.buckets }
         ensures placed { OnOk result (AllPlaced any_holding self.new.buckets) }
         ensures reads { AllPlaced any_holding self.old.buckets
@@ -165,10 +175,10 @@ impl Backing {
         flash: &mut F,
         area: &mut [u8],
     ) -> Result<bool, CopyFault>
-        requires geometry { (F.device flash.old).geometry ≡ self.old.layout.geometry }
+        requires geometry { (F.device flash.old).geometry ≡ self.old.keyed.layout.geometry }
         requires agreed { AllAgree any_holding (F.device flash.old) self.old.buckets }
         requires whole { IsDevice (F.device flash.old) }
-        requires sized { length area.old ≡ self.old.layout.area_len }
+        requires sized { length area.old ≡ self.old.keyed.layout.area_len }
         ensures gives { IfOk result (LookGives (form_in self.old) (kinds_in self.old) area.new
             (F.device flash.old)) }
         ensures fails { IfErr result (λ fault. fault ≡ ReadFault) }
@@ -180,7 +190,7 @@ impl Backing {
             (IsErr result) }
         ensures read_faults { HasCause (F.device flash.old).read_faults
             (F.device flash.new).read_faults (IsErr result) }
-        ensures layout { self.new.layout ≡ self.old.layout }
+        ensures keyed { self.new.keyed ≡ self.old.keyed }
         ensures agrees { AllAgree any_holding (F.device flash.new) self.new.buckets }
         ensures placed { OnOk result
             (AllPlaced any_holding self.old.buckets → AllPlaced any_holding self.new.buckets) }
@@ -224,10 +234,14 @@ fn bucket_at(alloc: Global, layout: &Layout, copy: u32) -> Result<AnyBucket, NoM
     }
 }
 
-fn format_of(layout: &Layout) -> AnyFormat
-    ensures { result ≡ format_of layout.now.format layout.now.magic layout.now.area_len }
+#[tactic(auto, using(crate::proofs::Mounting::raw_is))]
+fn format_of(layout: &Layout, key: Option<Key>) -> AnyFormat
+    requires { FitsKey layout.now.format key }
+    ensures { result ≡ format_of (record { layout = laid layout.now; key = key }) }
 {
     match layout.format {
-        FormatKind::Raw => AnyFormat::Raw(Raw::of(layout.magic, layout.area_len, None)),
+        FormatKind::Raw | FormatKind::RawHmac => {
+            AnyFormat::Raw(Raw::of(layout.magic, layout.area_len, key))
+        }
     }
 }

@@ -20,6 +20,3 @@ pub use error::StateError;
 pub use lines::{add_dump, add_shell_dump, add_value_line};
 pub use named::{check_value, get_value, set_value};
 pub use state::State;
-
-#[cfg(test)]
-mod tests;

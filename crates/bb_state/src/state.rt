@@ -15,11 +15,12 @@ ghost use Rattle.bb_copies.specs.Store.{used_after};
 ghost use Rattle.bb_copies.specs.declared.answers.CopyFault.TheVariants.{ReadFault, Unsure};
 ghost use Rattle.bb_layout.specs.Defaults.{defaults_of};
 ghost use Rattle.bb_layout.specs.Layout.{laid};
+ghost use Rattle.bb_state.specs.Keyed.{FitsKey};
 ghost use Rattle.bb_state.specs.Named.{after_set, refusal_for, text_for};
 ghost use Rattle.bb_state.specs.State.{FitsForm, form_of, kinds_of, IsDefault, IsFresh, IsOn};
 ghost use Rattle.bb_state.specs.State.{IsPlaced};
 ghost use Rattle.bb_state.specs.State.{IsRefused, IsSized, IsStored, has_changed, is_kept, is_sure};
-ghost use Rattle.bb_state.specs.State.{kept_of, laid_of, used_of};
+ghost use Rattle.bb_state.specs.State.{kept_of, keyed_of, laid_of, used_of};
 ghost use Rattle.bb_state.specs.declared.error.StateError.TheVariants as states;
 
 use crate::backing::Backing;
@@ -27,6 +28,7 @@ use crate::{StateError, get_value, set_value};
 use bb_base::{Bytes, NoMemory};
 use bb_copies::{CopyFault, Loaded};
 use bb_flash::Flash;
+use bb_hmac::Key;
 use bb_layout::Layout;
 use bb_vars::Table;
 use std::alloc::Global;
@@ -40,10 +42,13 @@ pub struct State {
 }
 
 impl State {
-    /// The state of a layout, of which no copy was looked at yet. The table has the defaults.
+    /// The state of a layout, of which no copy was looked at yet. The table has the defaults. A key
+    /// is given exactly where the layout's records are kept under one.
     #[tactic(auto, using(crate::proofs::Mounting::sized_fits))]
-    pub fn mount(alloc: Global, layout: Layout) -> Result<State, NoMemory>
-        ensures layout { IfOk result (λ state. laid_of state ≡ laid layout) }
+    pub fn mount(alloc: Global, layout: Layout, key: Option<Key>) -> Result<State, NoMemory>
+        requires { FitsKey layout.format key }
+        ensures keyed { IfOk result (λ state.
+            keyed_of state ≡ record { layout = laid layout; key = key }) }
         ensures table { IfOk result (λ state.
             state.table ≡ defaults_of layout.area_len layout.vars) }
         ensures sure { IfOk result (λ state. is_sure state ≡ false) }
@@ -52,7 +57,7 @@ impl State {
         ensures fresh { IfOk result IsFresh }
     {
         let table = defaults(alloc, &layout)?;
-        let backing = Backing::mount(alloc, layout)?;
+        let backing = Backing::mount(alloc, layout, key)?;
         Ok(State { table, backing })
     }
 
@@ -75,7 +80,7 @@ impl State {
         ensures gives { IfOk result (LoadGives (form_of self.old) (kinds_of self.old) self.new.table
             (F.device flash.old) (F.device flash.new)) }
         ensures defaults { IfOk result (IsDefault (laid_of self.old) self.new.table) }
-        ensures fails { IfErr result (IsRefused (laid_of self.old)
+        ensures fails { IfErr result (IsRefused (keyed_of self.old)
             (F.device flash.old) (F.device flash.new)) }
         ensures exact { IfOk result (LoadsExactly (form_of self.old) (kinds_of self.old)
             self.new.table (F.device flash.old) (F.device flash.new)) }
@@ -86,7 +91,7 @@ impl State {
         ensures later { IsLater (F.device flash.old) (F.device flash.new) }
         ensures starts { LeavesStarts (F.device flash.old) (F.device flash.new) }
         ensures unchanged { OnErr result (self.new.table ≡ self.old.table) }
-        ensures layout { laid_of self.new ≡ laid_of self.old }
+        ensures keyed { keyed_of self.new ≡ keyed_of self.old }
         ensures kept { OnOk result (kept_of self.new ≡ self.new.table) }
         ensures used { IfOk result (λ loaded. used_of self.new ≡ used_after loaded) }
         ensures sure { is_sure self.new ≡ is_ok result }
@@ -117,7 +122,7 @@ impl State {
             → SaveRuns (form_of self.old) (kinds_of self.old) (used_of self.old) self.old.table
             (F.device flash.old) (F.device flash.new) }
         ensures saved { OnOk result (has_changed self.old ≡ true
-            → IsStored (laid_of self.old) self.old.table (used_of self.new)
+            → IsStored (keyed_of self.old) self.old.table (used_of self.new)
             (F.device flash.old) (F.device flash.new)) }
         ensures fails { IfErr result (SaveFails (form_of self.old) (kinds_of self.old)
             (used_of self.old) self.old.table (F.device flash.old) (F.device flash.new)) }
@@ -130,7 +135,7 @@ impl State {
             → OnOk result (ErasesBy (kinds_of self.old) ((form_of self.old).text self.old.table)
             (F.device flash.old) (F.device flash.new)) }
         ensures table { self.new.table ≡ self.old.table }
-        ensures layout { laid_of self.new ≡ laid_of self.old }
+        ensures keyed { keyed_of self.new ≡ keyed_of self.old }
         ensures kept { OnOk result (kept_of self.new ≡ self.new.table) }
         ensures used { is_kept self.old ≡ true → used_of self.new ≡ used_of self.old }
         ensures sure { is_sure self.new ≡ is_ok result }
@@ -156,7 +161,7 @@ impl State {
         ensures runs { SaveRuns (form_of self.old) (kinds_of self.old) (used_of self.old)
             self.old.table (F.device flash.old) (F.device flash.new) }
         ensures saved { OnOk result
-            (IsStored (laid_of self.old) self.old.table (used_of self.new)
+            (IsStored (keyed_of self.old) self.old.table (used_of self.new)
             (F.device flash.old) (F.device flash.new)) }
         ensures fails { IfErr result (SaveFails (form_of self.old) (kinds_of self.old)
             (used_of self.old) self.old.table (F.device flash.old) (F.device flash.new)) }
@@ -167,7 +172,7 @@ impl State {
             → OnOk result (ErasesBy (kinds_of self.old) ((form_of self.old).text self.old.table)
             (F.device flash.old) (F.device flash.new)) }
         ensures table { self.new.table ≡ self.old.table }
-        ensures layout { laid_of self.new ≡ laid_of self.old }
+        ensures keyed { keyed_of self.new ≡ keyed_of self.old }
         ensures kept { OnOk result (kept_of self.new ≡ self.new.table) }
         ensures sure { is_sure self.new ≡ is_ok result }
         ensures on { IsOn self.new (F.device flash.new) }
@@ -194,7 +199,7 @@ impl State {
         ensures read_faults { HasCause (F.device flash.old).read_faults
             (F.device flash.new).read_faults (IsErr result) }
         ensures table { self.new.table ≡ self.old.table }
-        ensures layout { laid_of self.new ≡ laid_of self.old }
+        ensures keyed { keyed_of self.new ≡ keyed_of self.old }
         ensures kept { kept_of self.new ≡ kept_of self.old }
         ensures used { used_of self.new ≡ used_of self.old }
         ensures sure { is_sure self.new ≡ is_sure self.old }

@@ -12,7 +12,7 @@ use Rattle.bb_flash.specs.Cuts.{IsLater}
 use Rattle.bb_flash.specs.Device.{Change, Device, Told, content, moment}
 use Rattle.bb_flash.specs.Image.{Image}
 use Rattle.bb_flash.proofs.Counting.{counted_joined_at}
-use Rattle.bb_layout.specs.Layout.{Laid}
+use Rattle.bb_state.specs.Keyed.{Keyed}
 use Rattle.bb_state.specs.Kinds.{laid_form, laid_kinds}
 use Rattle.bb_state.specs.State.{IsStored}
 use Rattle.bb_tool.specs.Looking.{passed_in}
@@ -26,17 +26,17 @@ pub counts_page : (L : Change → Image → Type 0) (p q : ℕ) (told : Told) (s
 counts_page L p q told since image same counts =
     subst (λ r. Counts L r told since image) same counts
 
-module _ (layout : Laid) (from mid : Device) (first middle : Told) (e : from.told ≡ Some first)
+module _ (keyed : Keyed) (from mid : Device) (first middle : Told) (e : from.told ≡ Some first)
     (g : mid.told ≡ Some middle) (before : Content)
-    (is : before.passed ≡ passed_in layout from.geometry.page first.image)
-    (stands : IsStanding (first_area layout) before)
-    (images : LoadImages (laid_form layout) (laid_kinds layout) from mid)
+    (is : before.passed ≡ passed_in keyed from.geometry.page first.image)
+    (stands : IsStanding (first_area keyed.layout) before)
+    (images : LoadImages (laid_form keyed) (laid_kinds keyed.layout) from mid)
     (run : IsLater from mid) where
   abbrev page : ℕ
   page = from.geometry.page
 
   abbrev Luck : Change → Image → Type 0
-  Luck = IsLucky (passed_in layout page)
+  Luck = IsLucky (passed_in keyed page)
 
   mid_page : mid.geometry.page ≡ page
   mid_page = ap (λ geometry. geometry.page) run.geometry
@@ -44,38 +44,38 @@ module _ (layout : Laid) (from mid : Device) (first middle : Told) (e : from.tol
   pub loads_in_order : moment first ≤ moment middle
   loads_in_order = in_order first middle (run.continued first e middle g)
 
-  pub start : StandsFor (first_area layout) (passed_in layout page first.image) before.areas
+  pub start : StandsFor (first_area keyed.layout) (passed_in keyed page first.image) before.areas
       before.acked before.marks
-  start = standing_at layout page before first.image is stands
+  start = standing_at keyed page before first.image is stands
 
   -- until the load answers the copies stand for the list at entry
-  pub load_stays : Stays layout page before first middle
+  pub load_stays : Stays keyed page before first middle
   load_stays image counts =
       images.each first e middle g image
       (counts_page Luck page mid.geometry.page middle (moment first) image (sym mid_page) counts)
-      (first_area layout) before.areas before.acked before.marks start
+      (first_area keyed.layout) before.areas before.acked before.marks start
 
   module _ (used : Option ℕ) (found : Option (List ℕ))
-      (gave : IsLoadedAs layout used from mid found) where
-    loaded_to : (x y : Image) → content from ≡ Some x → content mid ≡ Some y →
-        LoadedTo layout page used x y
+      (gave : IsLoadedAs keyed used from mid found) where
+    pub loaded_to : (x y : Image) → content from ≡ Some x → content mid ≡ Some y →
+        LoadedTo keyed page used x y
     loaded_to x y at_x at_y =
-        let left = load_left layout gave.area gave.loaded from mid x y gave.gave at_x at_y in
-        left_stands layout page used x y
-        (subst (λ u. IsLeft (first_area layout) u (passed_in layout page x)
-        (passed_in layout page y)) (sym gave.used_is) left)
+        let left = load_left keyed gave.area gave.loaded from mid x y gave.gave at_x at_y in
+        left_stands keyed page used x y
+        (subst (λ u. IsLeft (first_area keyed.layout) u (passed_in keyed page x)
+        (passed_in keyed page y)) (sym gave.used_is) left)
 
-    loaded : LoadedTo layout page used first.image middle.image
+    loaded : LoadedTo keyed page used first.image middle.image
     loaded =
         loaded_to first.image middle.image (told_content from first e) (told_content mid middle g)
 
-    pub given : Stands (first_area layout) (passed_in layout page middle.image)
+    pub given : Stands (first_area keyed.layout) (passed_in keyed page middle.image)
         (take (picked before.marks + 1) before.areas) (picked before.marks)
     given = loaded.stands before.areas before.acked before.marks start
 
     module _ (to : Device) (last : Told) (f : to.told ≡ Some last) (later : IsLater mid to)
         (area : List ℕ)
-        (saves : SaveImages (laid_form layout) (laid_kinds layout) used area mid to) where
+        (saves : SaveImages (laid_form keyed) (laid_kinds keyed.layout) used area mid to) where
       to_page : to.geometry.page ≡ page
       to_page = ap (λ geometry. geometry.page) later.geometry ∙ mid_page
 
@@ -83,53 +83,53 @@ module _ (layout : Laid) (from mid : Device) (first middle : Told) (e : from.tol
       saves_in_order = in_order middle last (later.continued middle g last f)
 
       saves_here : EachCounted Luck
-          (λ x y. StandsLonger used area (passed_in layout page x) (passed_in layout page y)) mid to
+          (λ x y. StandsLonger used area (passed_in keyed page x) (passed_in keyed page y)) mid to
       saves_here =
           subst
-          (λ p. EachCounted (IsLucky (passings (laid_form layout) p (laid_kinds layout)))
-          (λ x y. StandsLonger used area (passings (laid_form layout) p (laid_kinds layout) x)
-          (passings (laid_form layout) p (laid_kinds layout) y)) mid to)
+          (λ p. EachCounted (IsLucky (passings (laid_form keyed) p (laid_kinds keyed.layout)))
+          (λ x y. StandsLonger used area (passings (laid_form keyed) p (laid_kinds keyed.layout) x)
+          (passings (laid_form keyed) p (laid_kinds keyed.layout) y)) mid to)
           mid_page saves
 
-      joined : EachCounted Luck (Begun layout page area) from to
+      joined : EachCounted Luck (Begun keyed page area) from to
       joined =
           counted_joined_at Luck
-          (λ x y. StandsStill (passed_in layout page x) (passed_in layout page y))
-          (λ x y. StandsLonger used area (passed_in layout page x) (passed_in layout page y))
-          (Begun layout page area) (LoadedTo layout page used) from mid to
-          (still_begun layout page area) (longer_begun layout page used area) run later
+          (λ x y. StandsStill (passed_in keyed page x) (passed_in keyed page y))
+          (λ x y. StandsLonger used area (passed_in keyed page x) (passed_in keyed page y))
+          (Begun keyed page area) (LoadedTo keyed page used) from mid to
+          (still_begun keyed page area) (longer_begun keyed page used area) run later
           (λ one at_one two at_two. loaded_to one.image two.image (told_content from one at_one)
           (told_content mid two at_two)) images saves_here
 
-      pub since_entry : SinceEntry layout page first middle last before area loads_in_order saves_in_order
+      pub since_entry : SinceEntry keyed page first middle last before area loads_in_order saves_in_order
       since_entry image counts =
           joined.each first e last f image
           (counts_page Luck page to.geometry.page last (moment first) image (sym to_page) counts)
           before.areas before.acked before.marks start
 
-      pub since_load : SinceLoad layout page first middle last before area loads_in_order saves_in_order
+      pub since_load : SinceLoad keyed page first middle last before area loads_in_order saves_in_order
       since_load image counts =
           saves_here.each middle g last f image
           (counts_page Luck page to.geometry.page last (moment middle) image (sym to_page) counts)
-          loaded.uses (first_area layout) (take (picked before.marks + 1) before.areas)
+          loaded.uses (first_area keyed.layout) (take (picked before.marks + 1) before.areas)
           (picked before.marks) given.marks given.stands
 
-      pub stored_stands : (now : Option ℕ) → IsStored layout area now mid to →
-          Stands (first_area layout) (passed_in layout page last.image)
+      pub stored_stands : (now : Option ℕ) → IsStored keyed area now mid to →
+          Stands (first_area keyed.layout) (passed_in keyed page last.image)
           (take (picked before.marks + 1) before.areas ++ area ∷ []) (picked before.marks + 1)
       stored_stands now stored =
-          let kept : IsKept area stored.saved.used stored.live (passed_in layout page last.image) =
+          let kept : IsKept area stored.saved.used stored.live (passed_in keyed page last.image) =
           subst (λ p. IsKept area stored.saved.used stored.live
-          (passings (laid_form layout) p (laid_kinds layout) last.image)) mid_page
+          (passings (laid_form keyed) p (laid_kinds keyed.layout) last.image)) mid_page
           (stored.saved.exit.kept last.image (told_content to last f)) in
           let given_list = take (picked before.marks + 1) before.areas in
-          let len = load_last (first_area layout) (passed_in layout page first.image) before.areas
+          let len = load_last (first_area keyed.layout) (passed_in keyed page first.image) before.areas
           before.acked before.marks start in
           subst
-          (λ a. Stands (first_area layout) (passed_in layout page last.image)
+          (λ a. Stands (first_area keyed.layout) (passed_in keyed page last.image)
           (given_list ++ area ∷ []) a)
           (sym len)
-          (save_done (first_area layout) (passed_in layout page middle.image) given_list
-          (picked before.marks) given.marks area given.stands (passed_in layout page last.image)
+          (save_done (first_area keyed.layout) (passed_in keyed page middle.image) given_list
+          (picked before.marks) given.marks area given.stands (passed_in keyed page last.image)
           kept.each
-          (passes_some (passed_in layout page last.image) stored.saved.used area kept.passes))
+          (passes_some (passed_in keyed page last.image) stored.saved.used area kept.passes))

@@ -1,22 +1,33 @@
 -- Sessions that end early: a file that met a fault, and want of memory.
-use Rattle.std.proofs.Common.{◌≡◌, ◌⊎◌, ℕ, ◌<◌, Bool, true, false, List, [], ◌∷◌, Option, None, Some, Result, Ok, Err, IsErr, refl, sym, ap, subst, ◌∙◌, inl, inr, arith}
+use Rattle.std.proofs.Common.{◌≡◌, ◌⊎◌, ℕ, ◌<◌, is_ok, Bool, true, false, List, [], ◌∷◌, Option, None, Some, Result, Ok, Err, IsErr, refl, sym, ap, subst, ◌∙◌, inl, inr, arith}
+use Rattle.std.specs.List.{list_all}
 use Rattle.bb_base.specs.Folder.{Folder}
 use Rattle.bb_flash.specs.Device.{Device}
 use Rattle.bb_flash.specs.declared.geometry.Geometry.{Geometry}
-use Rattle.bb_layout.specs.Layout.{Laid}
+use Rattle.bb_state.specs.Keyed.{Keyed}
 use Rattle.bb_words.specs.Words.{words_of}
 use Rattle.bb_tool.specs.Calls.{IsSession, geometry_of}
 use Rattle.bb_tool.specs.Copying.{StopsAtFileFault, StopsBetweenSaves}
 use Rattle.bb_tool.specs.Ending.{IsFollowed}
 use Rattle.bb_tool.specs.Filing.{IsFiled}
-use Rattle.bb_tool.specs.Plan.{Act, FileAnswers, Good, Plan, Show, Work, Write, names_file, planned}
+use Rattle.bb_shell.specs.Boot.{Round, first_table}
+use Rattle.bb_shell.specs.Running.{is_refused}
+use Rattle.bb_shell.specs.declared.outcome.Outcome.{Outcome}
+use Rattle.bb_shell.specs.declared.outcome.Outcome.TheVariants as outcomes
+use Rattle.bb_tool.specs.Booting.{SaveAnswer, answer_to, boots}
+use Rattle.bb_tool.specs.Plan.{Act, Boot, FileAnswers, Good, SessionPlan, Show, Work, Write, names_file, planned}
 use Rattle.bb_tool.specs.Ran.{Ran}
-use Rattle.bb_tool.specs.Session.{Answers, LoadAnswer, SaveAnswer, Session, all_made, followed, loaded_area, saved, saves_behind, saves_of, text_of, unmarked, worked}
-use Rattle.bb_tool.specs.Work.{AreSaved, IsStoreWork, IsWorkOf}
+use Rattle.bb_tool.specs.Session.{Answers, LoadAnswer, Session, barred, followed, loaded_area, saved, saves_behind, text_of, worked}
+use Rattle.bb_tool.specs.Refusal.{status_of}
+use Rattle.bb_tool.specs.Telling.{takes_memory}
+use Rattle.bb_tool.specs.Work.{AreSaved, IsStoreWork, IsWorkOf, SendsByMemory}
 use Rattle.bb_tool.specs.declared.refusal.Refusal.{Refusal}
+use Rattle.bb_tool.specs.declared.refusal.Refusal.TheVariants as refusals
 use Rattle.bb_tool.proofs.Endings.{no_memory_of, unasked_by}
 use Rattle.bb_tool.proofs.Plans.{plan_needs}
-use Rattle.bb_tool.proofs.Unmarked.{HasNoFault, done_whole, fault_device, marked_session, stored_whole, unmarked_saves, unmarked_session}
+use Rattle.bb_tool.proofs.Barred.{HasNoFault, barred_saves, done_whole, fault_device, is_device_fault, refused_whole, stored_whole}
+use Rattle.bb_tool.proofs.Booted.{answers_to, boot_is}
+use Rattle.bb_tool.proofs.Fine.{AllSaved, all_saved}
 
 -- ---- a file that met a fault
 
@@ -25,17 +36,17 @@ risen before after rose same = omega arith
 
 -- where the count of faults rose the plan is refused
 plan_risen : (words : List (List ℕ)) (geometry : Geometry) (before after : Folder)
-    (answers : FileAnswers) → IsFiled words before after answers →
+    (answers : FileAnswers) → IsFiled words geometry before after answers →
     (names_file words ≡ false → after ≡ before) → before.faults < after.faults →
     (named : Bool) → names_file words ≡ named → IsErr (planned words geometry answers)
 plan_risen words geometry before after answers filed unread rose false e =
     absurd (risen before.faults after.faults rose (ap (λ (f : Folder). f.faults) (unread e)))
 plan_risen words geometry before after answers filed unread rose true e =
-    plan_needs (words_of words) words refl geometry answers e
-    (λ each. risen before.faults after.faults rose (filed.calm each))
+    plan_needs (words_of words) words refl geometry answers filed.entries.most e
+    (λ all. risen before.faults after.faults rose (filed.calm all.0 all.1))
 
 risen_by : (ran : Ran) (answers : Answers) →
-    IsFiled ran.words ran.before.folder ran.after.folder answers.files →
+    IsFiled ran.words (geometry_of ran) ran.before.folder ran.after.folder answers.files →
     IsFollowed (planned ran.words (geometry_of ran) answers.files) ran.before.device
     ran.after.device answers →
     (names_file ran.words ≡ false → ran.after.folder ≡ ran.before.folder) → StopsAtFileFault ran
@@ -56,64 +67,93 @@ early_of ran (inr memory) unread = λ rose. elim (memory.work) [
 
 -- ---- want of memory
 
-saves_made : (layout : Laid) (used : Option ℕ) (text : List ℕ) (areas : List (List ℕ))
-    (saves : List SaveAnswer) (from to : Device) → AreSaved layout used areas from to saves →
-    HasNoFault (saved text areas saves) → saves ≡ all_made (saved text areas saves).saves
-saves_made layout used text [] saves from to done whole = done.0
-saves_made layout used text (area ∷ areas) [] from to done whole = absurd done
-saves_made layout used text (area ∷ areas) (Err fault ∷ saves) from to done whole =
+-- each save answered Ok
+abbrev pub AllMade : List SaveAnswer → Type 0
+AllMade saves = list_all is_ok saves ≡ true
+
+saves_made : (keyed : Keyed) (used : Option ℕ) (text : List ℕ) (areas : List (List ℕ))
+    (saves : List SaveAnswer) (from to : Device) → AreSaved keyed used areas from to saves →
+    HasNoFault (saved text areas saves) → AllMade saves
+saves_made keyed used text [] saves from to done whole = subst AllMade (sym done.0) refl
+saves_made keyed used text (area ∷ areas) [] from to done whole = absurd done
+saves_made keyed used text (area ∷ areas) (Err fault ∷ saves) from to done whole =
     absurd (let e : true ≡ false = sym (fault_device fault) ∙ whole in cc)
-saves_made layout used text (area ∷ []) (Ok made ∷ []) from to done whole = refl
-saves_made layout used text (area ∷ []) (Ok made ∷ (other ∷ saves)) from to done whole =
-    absurd (let e = done.1.1 in cc)
-saves_made layout used text (area ∷ (other ∷ areas)) (Ok made ∷ saves) from to done whole =
-    absurd (let e = done.1.0 in cc)
+saves_made keyed used text (area ∷ areas) (Ok made ∷ saves) from to done whole =
+    subst (λ s. AllMade (Ok made ∷ s)) (sym done.1.1) refl
 
-store_made : (plan : Plan) (from to : Device) (found : Option (List ℕ)) (saves : List SaveAnswer) →
-    IsStoreWork plan from to (Ok found) saves → (place : Option ℕ) →
-    unmarked plan.work (loaded_area plan.layout found) ≡ place →
-    HasNoFault (worked plan (Ok found) saves) →
-    saves ≡ all_made (worked plan (Ok found) saves).saves
-store_made plan from to found saves done None marks whole =
-    let text = text_of plan.layout plan.work found in
-    let areas = saves_behind plan (Ok found) in
-    let same = marked_session plan found saves marks in
-    saves_made plan.layout done.used text areas saves done.middle to done.saved
-    (stored_whole plan found saves marks whole)
-    ∙ ap (λ (s : Session). all_made s.saves) (sym same)
-store_made plan from to found saves done (Some place) marks whole =
-    let none = unmarked_saves plan.layout plan.work (loaded_area plan.layout found) place marks in
-    let are = subst (λ areas. AreSaved plan.layout done.used areas done.middle to saves) none done.saved in
-    are.0 ∙ ap (λ (s : Session). all_made s.saves) (sym (unmarked_session plan found saves place marks))
+store_made : (plan : SessionPlan) (from to : Device) (found : Option (List ℕ)) (saves : List SaveAnswer) →
+    boots plan.work ≡ false → IsStoreWork plan from to (Ok found) saves → (bars : Option Refusal) →
+    barred plan.work (loaded_area plan.keyed.layout found) ≡ bars →
+    HasNoFault (worked plan (Ok found) saves) → AllMade saves
+store_made plan from to found saves store done None bars whole =
+    saves_made plan.keyed done.used (text_of plan.keyed.layout plan.work found) (saves_behind plan (Ok found)) saves done.middle to
+    done.saved (stored_whole plan found saves store bars whole)
+store_made plan from to found saves store done (Some refusal) bars whole =
+    let none = barred_saves plan.keyed.layout plan.work (loaded_area plan.keyed.layout found) refusal bars in
+    let are = subst (λ areas. AreSaved plan.keyed done.used areas done.middle to saves) none done.saved in
+    subst AllMade (sym are.0) refl
 
-work_made : (work : Work) (plan : Plan) (from to : Device) (load : LoadAnswer)
+-- the rounds of a boot, of which none was refused
+rounds_made : (rounds : List Round) → AllSaved rounds → AllMade (answers_to rounds)
+rounds_made [] all = refl
+rounds_made (round ∷ later) all = by round.outcome all.0 (rounds_made later all.1)
+  where
+    by : (outcome : Outcome) → is_refused outcome ≡ false → AllMade (answers_to later) → AllMade (answer_to outcome ∷ answers_to later)
+    by (outcomes.Refused fault) e rest = absurd cc
+    by outcomes.Unplanned e rest = rest
+    by outcomes.Failed e rest = rest
+    by outcomes.Started e rest = rest
+
+pub work_made : (work : Work) (plan : SessionPlan) (from to : Device) (load : LoadAnswer)
     (saves : List SaveAnswer) → plan.work ≡ work → IsWorkOf work plan from to load saves →
-    HasNoFault (worked plan load saves) → saves ≡ all_made (worked plan load saves).saves
+    HasNoFault (worked plan load saves) → AllMade saves
 work_made work plan from to (Err fault) saves is done whole =
     absurd (let e : true ≡ false = sym (fault_device fault) ∙ whole in cc)
-work_made Show plan from to (Ok found) saves is done whole =
-    let area = loaded_area plan.layout found in
-    let text = text_of plan.layout plan.work found in
-    let none : saves_behind plan (Ok found) ≡ [] = ap (λ (w : Work). saves_of plan.layout w area) is in
-    let sent : (worked plan (Ok found) saves).saves ≡ [] =
-    ap (λ (s : Session). s.saves)
-    (marked_session plan found saves (ap (λ (w : Work). unmarked w area) is))
-    ∙ ap (λ (areas : List (List ℕ)). (saved text areas saves).saves) none in
-    done.none ∙ ap all_made (sym sent)
+work_made Show plan from to (Ok found) saves is done whole = subst AllMade (sym done.none) refl
 work_made (Write area) plan from to (Ok found) saves is done whole =
-    store_made plan from to found saves done (unmarked plan.work (loaded_area plan.layout found)) refl whole
+    store_made plan from to found saves (ap boots is) done (barred plan.work (loaded_area plan.keyed.layout found)) refl whole
 work_made (Act actions) plan from to (Ok found) saves is done whole =
-    store_made plan from to found saves done (unmarked plan.work (loaded_area plan.layout found)) refl whole
+    store_made plan from to found saves (ap boots is) done (barred plan.work (loaded_area plan.keyed.layout found)) refl whole
 work_made (Good targets) plan from to (Ok found) saves is done whole =
-    store_made plan from to found saves done (unmarked plan.work (loaded_area plan.layout found)) refl whole
+    store_made plan from to found saves (ap boots is) done (barred plan.work (loaded_area plan.keyed.layout found)) refl whole
+work_made (Boot targets cause plans) plan from to (Ok found) saves is done whole =
+    let run = done.booted in
+    let session = boot_is plan targets cause plans found done.used done.middle to saves is run in
+    subst AllMade (sym run.answers_are)
+    (rounds_made run.rounds (all_saved targets plans (loaded_area plan.keyed.layout found) run.rounds
+    (first_table targets cause true (loaded_area plan.keyed.layout found)) run.are (subst HasNoFault session whole)))
 
-plan_made : (plan : Result Plan Refusal) (from to : Device) (answers : Answers) →
-    IsFollowed plan from to answers → (followed plan answers).refusal ≡ None →
-    (to ≡ from) ⊎ (answers.saves ≡ all_made (followed plan answers).saves)
+-- a refusal whose line takes memory is no fault of the device
+line_whole : (refusal : Refusal) → takes_memory refusal ≡ true → is_device_fault (status_of refusal) ≡ false
+line_whole (refusals.BadWords place) h = refl
+line_whole (refusals.BadTree e) h = refl
+line_whole (refusals.BadBlob e) h = refl
+line_whole (refusals.BadLayout e) h = refl
+line_whole (refusals.BadVariable name cause) h = refl
+line_whole (refusals.FileMissing file) h = refl
+line_whole (refusals.FileFault file) h = refl
+line_whole (refusals.FileTooLong file) h = refl
+line_whole refusals.ReadFault h = absurd cc
+line_whole (refusals.WriteFault copy) h = absurd cc
+line_whole refusals.NoTarget h = refl
+line_whole (refusals.StartFailed name) h = refl
+line_whole (refusals.BadSettings e) h = refl
+line_whole refusals.NoKey h = refl
+line_whole (refusals.BadKey e) h = refl
+line_whole (refusals.NoGood place) h = refl
+line_whole refusals.NoMemory h = refl
+
+sent_whole : (session : Session) (refusal : Option Refusal) → session.refusal ≡ refusal → SendsByMemory refusal → HasNoFault session
+sent_whole session None is sends = done_whole session is
+sent_whole session (Some refusal) is sends = refused_whole session refusal is (line_whole refusal sends)
+
+plan_made : (plan : Result SessionPlan Refusal) (from to : Device) (answers : Answers) →
+    IsFollowed plan from to answers → SendsByMemory (followed plan answers).refusal →
+    (to ≡ from) ⊎ AllMade answers.saves
 plan_made (Err refusal) from to answers done whole = inl done
 plan_made (Ok plan) from to answers done whole =
     inr (work_made plan.work plan from to answers.load answers.saves refl done
-    (done_whole (worked plan answers.load answers.saves) whole))
+    (sent_whole (worked plan answers.load answers.saves) (worked plan answers.load answers.saves).refusal refl whole))
 
 pub early_memory_of : (ran : Ran) → IsSession ran → StopsBetweenSaves ran
 early_memory_of ran s = λ e. elim ((no_memory_of ran s e).work) [

@@ -1,5 +1,5 @@
 -- Worked sessions, by computation alone.
-use Rattle.std.proofs.Common.{◌≡◌, ℕ, List, [], ◌∷◌, false, refl, codes, Some, None, Ok, Err}
+use Rattle.std.proofs.Common.{◌≡◌, ℕ, Bool, List, [], ◌∷◌, true, false, refl, codes, Option, Some, None, Ok, Err}
 use Rattle.bb_copies.specs.declared.answers.CopyFault.TheVariants as faults
 use Rattle.bb_flash.specs.declared.geometry.Geometry.{Geometry}
 use Rattle.bb_words.specs.Words.{words_from}
@@ -8,17 +8,29 @@ use Rattle.std.specs.Fmt.{digits}
 use Rattle.bb_layout.specs.declared.layout_error.LayoutError.TheVariants.{BadProp}
 use Rattle.bb_state.specs.declared.error.StateError.TheVariants as state_errors
 use Rattle.bb_vars.specs.declared.value_error.ValueError.TheVariants as value_errors
+use Rattle.bb_base.specs.declared.files.FileFail.TheVariants as file_fails
 use Rattle.bb_chooser.specs.Binding.{Binding}
+use Rattle.bb_chooser.specs.declared.cause.Cause.TheVariants.{Other, PowerOn}
+use Rattle.bb_copies.specs.Chronicle.{Loaded}
+use Rattle.bb_flash.specs.declared.plan.Plan.{Plan as StartPlan}
+use Rattle.bb_state.specs.Keyed.{Keyed}
+use Rattle.bb_shell.specs.Rounds.{rounds_by}
 use Rattle.bb_chooser.specs.Counting.{mark_good_of}
 use Rattle.bb_chooser.specs.declared.settings_error.SettingsError.TheVariants as settings_errors
 use Rattle.bb_tool.specs.Looking.{first_found, look_text}
 use Rattle.bb_tool.specs.Marking.{good_text, lost_place}
+use Rattle.bb_tool.specs.Plan.{Boot, FileAnswers, SessionPlan, plans_in}
 use Rattle.bb_tool.specs.Refusal.{line_of}
-use Rattle.bb_tool.specs.Session.{done_with, refused_for, sent_of, session_of}
-use Rattle.bb_tool.specs.declared.refusal.Refusal.TheVariants.{BadSettings, BadWords, BadLayout, BadVariable, FileMissing, NoGood, ReadFault, WriteFault}
+use Rattle.bb_tool.specs.Session.{done_with, refused_for, sent_of, session_of, worked}
+use Rattle.bb_tool.specs.Turns.{boot_turn}
+use Rattle.bb_tool.specs.declared.refusal.Refusal.TheVariants.{BadSettings, BadWords, BadLayout, BadVariable, FileFault, FileMissing, FileTooLong, NoGood, NoTarget, ReadFault, StartFailed, WriteFault}
 
 in_place : Geometry
 in_place = record { page = 1; block = 0; size = 192 }
+
+-- no file is there
+abbrev no_files : FileAnswers
+no_files = record { named = λ role. Ok None; entries = [] }
 
 with_blocks : Geometry
 with_blocks = record { page = 256; block = 65536; size = 1048576 }
@@ -40,34 +52,34 @@ save : List (List ℕ)
 save = codes "raw" ∷ codes "0x12345678" ∷ codes "9" ∷ codes "-s" ∷ codes "313233343536373839" ∷ []
 
 -- a session for what the device answered
-found : session_of look in_place (record { files = λ role. Ok None; load = Ok (Some (codes "123456789")); saves = [] }) ≡ done_with (codes "313233343536373839\n")
+found : session_of look in_place (record { files = no_files; load = Ok (Some (codes "123456789")); saves = [] }) ≡ done_with (codes "313233343536373839\n")
 unfolding look in_place words_from encode_with
 found = refl
 
-unread : session_of look in_place (record { files = λ role. Ok None; load = Err faults.ReadFault; saves = [] }) ≡ refused_for ReadFault
+unread : session_of look in_place (record { files = no_files; load = Err faults.ReadFault; saves = [] }) ≡ refused_for ReadFault
 unfolding look in_place words_from
 unread = refl
 
 -- a save is begun of the area that was loaded too, and sends nothing
-saved_anew : session_of save in_place (record { files = λ role. Ok None; load = Ok (Some (codes "123456789")); saves = Ok tt ∷ [] }) ≡ record { text = []; refusal = None; saves = codes "123456789" ∷ [] }
+saved_anew : session_of save in_place (record { files = no_files; load = Ok (Some (codes "123456789")); saves = Ok false ∷ [] }) ≡ record { text = []; refusal = None; saves = codes "123456789" ∷ []; rounds = [] }
 unfolding save in_place words_from decode_pairs
 saved_anew = refl
 
-second_copy_not_written : session_of save in_place (record { files = λ role. Ok None; load = Ok None; saves = Err (faults.WriteFault 1) ∷ [] }) ≡ record { text = []; refusal = Some (WriteFault 1); saves = codes "123456789" ∷ [] }
+second_copy_not_written : session_of save in_place (record { files = no_files; load = Ok None; saves = Err (faults.WriteFault 1) ∷ [] }) ≡ record { text = []; refusal = Some (WriteFault 1); saves = codes "123456789" ∷ []; rounds = [] }
 unfolding save in_place words_from decode_pairs
 second_copy_not_written = refl
 
 -- where the load is refused no save is begun
-load_not_settled : session_of save in_place (record { files = λ role. Ok None; load = Err (faults.WriteFault 2); saves = [] }) ≡ refused_for (WriteFault 2)
+load_not_settled : session_of save in_place (record { files = no_files; load = Err (faults.WriteFault 2); saves = [] }) ≡ refused_for (WriteFault 2)
 unfolding save in_place words_from decode_pairs
 load_not_settled = refl
 
-save_on_blocks : session_of save with_blocks (record { files = λ role. Ok None; load = Ok None; saves = Ok tt ∷ [] }) ≡ refused_for (BadLayout (BadProp (codes "backend-storage-type")))
+save_on_blocks : session_of save with_blocks (record { files = no_files; load = Ok None; saves = Ok false ∷ [] }) ≡ refused_for (BadLayout (BadProp (codes "backend-storage-type")))
 unfolding save with_blocks words_from decode_pairs
 save_on_blocks = refl
 
 -- the third word is missing
-missing_word : session_of (codes "raw" ∷ codes "1" ∷ []) in_place (record { files = λ role. Ok None; load = Ok None; saves = Ok tt ∷ [] }) ≡ refused_for (BadWords 2)
+missing_word : session_of (codes "raw" ∷ codes "1" ∷ []) in_place (record { files = no_files; load = Ok None; saves = Ok false ∷ [] }) ≡ refused_for (BadWords 2)
 unfolding in_place words_from
 missing_word = refl
 
@@ -88,13 +100,13 @@ unfolding digits
 line_of_copy_2 = refl
 
 -- the line of a refusal stands behind the text
-line_behind_the_text : sent_of (record { text = codes "a\n"; refusal = Some ReadFault; saves = [] }) ≡ codes "a\nfault 8 ReadFault\n"
+line_behind_the_text : sent_of (record { text = codes "a\n"; refusal = Some ReadFault; saves = []; rounds = [] }) ≡ codes "a\nfault 8 ReadFault\n"
 unfolding digits
 line_behind_the_text = refl
 
 -- ---- `mark-good`
 
-no_tree : session_of (codes "mark-good" ∷ codes "-i" ∷ codes "b.dts" ∷ codes "-c" ∷ codes "set.txt" ∷ []) in_place (record { files = λ role. Ok None; load = Ok None; saves = [] }) ≡ refused_for (FileMissing (codes "b.dts"))
+no_tree : session_of (codes "mark-good" ∷ codes "-i" ∷ codes "b.dts" ∷ codes "-c" ∷ codes "set.txt" ∷ []) in_place (record { files = no_files; load = Ok None; saves = [] }) ≡ refused_for (FileMissing (codes "b.dts"))
 unfolding in_place words_from
 no_tree = refl
 
@@ -152,3 +164,115 @@ place_0 = refl
 place_behind : lost_place one_target (table 3 2) ≡ Some 2
 unfolding one_target table
 place_behind = refl
+
+-- ---- `boot`
+
+no_tree_to_boot : session_of (codes "boot" ∷ codes "-i" ∷ codes "b.dts" ∷ codes "-c" ∷ codes "set.txt" ∷ []) in_place (record { files = no_files; load = Ok None; saves = [] }) ≡ refused_for (FileMissing (codes "b.dts"))
+unfolding in_place words_from
+no_tree_to_boot = refl
+
+-- two systems: where another is tried behind one that failed, and where attempts are reset at power-on
+abbrev two_targets : Bool → Bool → Binding
+two_targets retry power_on = record {
+  targets =
+      record {
+        target = record { name = codes "a"; entry = codes "a.conf"; default_attempts = 3; default_priority = 20 };
+        attempts_at = 0;
+        priority_at = 4;
+      }
+      ∷ record {
+        target = record { name = codes "b"; entry = codes "b.conf"; default_attempts = 3; default_priority = 10 };
+        attempts_at = 8;
+        priority_at = 12;
+      } ∷ [];
+  rules = record {
+    reset_attempts = record { power_on = power_on; reset = false; all_zero = false };
+    reset_priorities = false;
+    retry = retry;
+    disable_on_zero_attempts = false;
+  };
+  last_chosen_at = 16;
+  area_len = 20;
+}
+
+-- attempts and priority of the first, then of the second, then the place that was chosen last
+abbrev two : ℕ → ℕ → ℕ → List ℕ
+two a b last = a ∷ 0 ∷ 0 ∷ 0 ∷ 20 ∷ 0 ∷ 0 ∷ 0 ∷ b ∷ 0 ∷ 0 ∷ 0 ∷ 10 ∷ 0 ∷ 0 ∷ 0 ∷ last ∷ 0 ∷ 0 ∷ 0 ∷ []
+
+abbrev kernel : ℕ → StartPlan
+kernel place = record { place = place; linux = codes "/zImage"; initrds = []; options = []; devicetree = [] }
+
+abbrev both : List (Option StartPlan)
+both = Some (kernel 1) ∷ Some (kernel 2) ∷ []
+
+module _ (keyed : Keyed) where
+  abbrev booting : Binding → List (Option StartPlan) → SessionPlan
+  booting targets plans = record { keyed = keyed; work = Boot targets Other plans }
+
+  -- the first start spends an attempt of the best target, and saves that
+  starts : worked (booting (two_targets false false) both) (Ok (Some (two 3 3 0))) (Ok true ∷ [])
+      ≡ record {
+        text = codes "start a left 2 tries 1\n";
+        refusal = None;
+        saves = two 2 3 1 ∷ [];
+        rounds = (worked (booting (two_targets false false) both) (Ok (Some (two 3 3 0))) (Ok true ∷ [])).rounds;
+      }
+  unfolding rounds_by digits
+  starts = refl
+
+  -- its turn: one save, which is acknowledged, and the first target is started
+  turn_of_a_start : boot_turn (booting (two_targets false false) both) (Ok (Some (two 3 3 0))) (Ok true ∷ []) (Some 0 ∷ [])
+      ≡ Loaded 0 (two 2 3 1 ∷ []) 1 (Some 0)
+  unfolding rounds_by digits
+  turn_of_a_start = refl
+
+  -- where the start fails the target is named behind the text
+  fails : sent_of (worked (booting (two_targets false false) both) (Ok (Some (two 3 3 0))) (Ok false ∷ []))
+      ≡ codes "tries 1\nfault 11 StartFailed a\n"
+  unfolding rounds_by digits
+  fails = refl
+
+  -- no entry has a kernel: each attempt is tried
+  tries_all : worked (booting (two_targets true false) (None ∷ None ∷ [])) (Ok (Some (two 3 3 0)))
+      (Ok false ∷ Ok false ∷ Ok false ∷ Ok false ∷ Ok false ∷ Ok false ∷ [])
+      ≡ record {
+        text = codes "tries 6\n";
+        refusal = Some (StartFailed (codes "b"));
+        saves = two 2 3 1 ∷ two 1 3 1 ∷ two 0 3 1 ∷ two 0 2 2 ∷ two 0 1 2 ∷ two 0 0 2 ∷ [];
+        rounds = (worked (booting (two_targets true false) (None ∷ None ∷ [])) (Ok (Some (two 3 3 0)))
+            (Ok false ∷ Ok false ∷ Ok false ∷ Ok false ∷ Ok false ∷ Ok false ∷ [])).rounds;
+      }
+  unfolding rounds_by digits
+  tries_all = refl
+
+  -- no attempt is left, and nothing is saved
+  none_left : worked (booting (two_targets true false) both) (Ok (Some (two 0 0 2))) [] ≡ refused_for NoTarget
+  unfolding rounds_by
+  none_left = refl
+
+  line_of_none_left : sent_of (worked (booting (two_targets true false) both) (Ok (Some (two 0 0 2))) []) ≡ codes "fault 10 NoTarget\n"
+  unfolding rounds_by digits
+  line_of_none_left = refl
+
+  -- a save that is refused comes before its start
+  not_saved : sent_of (worked (booting (two_targets true false) both) (Ok (Some (two 3 3 0))) (Err (faults.WriteFault 1) ∷ []))
+      ≡ codes "fault 9 WriteFault 1\n"
+  unfolding rounds_by digits
+  not_saved = refl
+
+  turn_of_one_not_saved : boot_turn (booting (two_targets true false) both) (Ok (Some (two 3 3 0))) (Err (faults.WriteFault 1) ∷ []) (Some 0 ∷ [])
+      ≡ Loaded 0 (two 2 3 1 ∷ []) 0 None
+  unfolding rounds_by digits
+  turn_of_one_not_saved = refl
+
+  -- the reset gives back what the last start spent, so that the spent table is stored already
+  nothing_to_save : (worked (record { keyed = keyed; work = Boot (two_targets false true) PowerOn both }) (Ok (Some (two 2 3 1))) (Ok true ∷ [])).saves ≡ []
+  unfolding rounds_by digits
+  nothing_to_save = refl
+
+-- an entry that can't be read is named
+entry_too_long : plans_in (two_targets false false) (Ok None ∷ Err file_fails.TooLong ∷ []) ≡ Err (FileTooLong (codes "b.conf"))
+entry_too_long = refl
+
+entry_with_a_fault : plans_in (two_targets false false) (Err file_fails.Fault ∷ []) ≡ Err (FileFault (codes "a.conf"))
+entry_with_a_fault = refl

@@ -10,7 +10,7 @@ use Rattle.bb_copies.specs.declared.answers.Loaded.TheVariants.{Copy, NoCopy}
 use Rattle.bb_copies.proofs.Marks.{none_each}
 use Rattle.bb_flash.specs.Device.{Device, content}
 use Rattle.bb_flash.specs.Image.{Image}
-use Rattle.bb_layout.specs.Layout.{Laid}
+use Rattle.bb_state.specs.Keyed.{Keyed}
 use Rattle.bb_tool.specs.Looking.{first_found, passed_in}
 use Rattle.bb_tool.specs.Session.{loaded_area}
 use Rattle.bb_tool.specs.Turns.{first_area}
@@ -48,28 +48,28 @@ pub record IsLeft (first : List ℕ) (used : Option ℕ) (before after : List (O
   pub spares : SomeIsSpared before after
   pub uses : KeepsUsed used after
 
-pub load_left : (layout : Laid) (area : List ℕ) (loaded : Loaded) (from to : Device) (x y : Image) →
-    IsFound layout area loaded from to → content from ≡ Some x → content to ≡ Some y →
-    IsLeft (first_area layout) (used_after loaded)
-    (passed_in layout from.geometry.page x) (passed_in layout from.geometry.page y)
-load_left layout area (Copy used live) from to x y found e f =
-    let after = passed_in layout from.geometry.page y in
+pub load_left : (keyed : Keyed) (area : List ℕ) (loaded : Loaded) (from to : Device) (x y : Image) →
+    IsFound keyed area loaded from to → content from ≡ Some x → content to ≡ Some y →
+    IsLeft (first_area keyed.layout) (used_after loaded)
+    (passed_in keyed from.geometry.page x) (passed_in keyed from.geometry.page y)
+load_left keyed area (Copy used live) from to x y found e f =
+    let after = passed_in keyed from.geometry.page y in
     let entry = found.gives.entry x e in
     let kept = found.gives.exit.kept y f in
     record {
       each =
-          subst (λ a. EachPassesOrNothing a after) (sym (entry.first (first_area layout))) kept.each;
+          subst (λ a. EachPassesOrNothing a after) (sym (entry.first (first_area keyed.layout))) kept.each;
       spares = λ some. passes_some after used area kept.passes;
       uses = ap is_some kept.passes;
     }
-load_left layout area NoCopy from to x y found e f =
+load_left keyed area NoCopy from to x y found e f =
     let page = from.geometry.page in
     let same : Some y ≡ Some x = sym f ∙ found.gives.content ∙ e in
     let is : x ≡ y = cc in
     let none = found.gives.none x e in
-    let before = passed_in layout page x in
-    let first = first_passed (first_area layout) before in
-    subst (λ z. IsLeft (first_area layout) None before (passed_in layout page z)) is
+    let before = passed_in keyed page x in
+    let first = first_passed (first_area keyed.layout) before in
+    subst (λ z. IsLeft (first_area keyed.layout) None before (passed_in keyed page z)) is
     (record {
       each = All-from_recursion (IsAreaOrNone first) before (none_each first before none);
       spares = λ some. absurd (none some);
@@ -77,18 +77,18 @@ load_left layout area NoCopy from to x y found e f =
     })
 
 -- what it took is what the first copy passes that passes one
-pub load_found : (layout : Laid) (area : List ℕ) (loaded : Loaded) (from to : Device) (x : Image) →
-    IsFound layout area loaded from to → content from ≡ Some x →
-    taken area loaded ≡ first_found (passed_in layout from.geometry.page x)
-load_found layout area (Copy used live) from to x found e =
+pub load_found : (keyed : Keyed) (area : List ℕ) (loaded : Loaded) (from to : Device) (x : Image) →
+    IsFound keyed area loaded from to → content from ≡ Some x →
+    taken area loaded ≡ first_found (passed_in keyed from.geometry.page x)
+load_found keyed area (Copy used live) from to x found e =
     let entry = found.gives.entry x e in
-    found_first (first_area layout) area (passed_in layout from.geometry.page x) entry.some
-    (entry.first (first_area layout))
-load_found layout area NoCopy from to x found e =
-    found_none (passed_in layout from.geometry.page x) (found.gives.none x e)
+    found_first (first_area keyed.layout) area (passed_in keyed from.geometry.page x) entry.some
+    (entry.first (first_area keyed.layout))
+load_found keyed area NoCopy from to x found e =
+    found_none (passed_in keyed from.geometry.page x) (found.gives.none x e)
 
 -- and the area is what the answer makes of the defaults
-pub load_area : (layout : Laid) (area : List ℕ) (loaded : Loaded) (from to : Device) →
-    IsFound layout area loaded from to → loaded_area layout (taken area loaded) ≡ area
-load_area layout area (Copy used live) from to found = refl
-load_area layout area NoCopy from to found = sym found.defaults
+pub load_area : (keyed : Keyed) (area : List ℕ) (loaded : Loaded) (from to : Device) →
+    IsFound keyed area loaded from to → loaded_area keyed.layout (taken area loaded) ≡ area
+load_area keyed area (Copy used live) from to found = refl
+load_area keyed area NoCopy from to found = sym found.defaults

@@ -7,12 +7,12 @@ use Rattle.bb_bucket.specs.Stride.{stride_kind}
 use Rattle.bb_flash.specs.declared.health.Health.{Health}
 use Rattle.bb_flash.specs.declared.health.Health.TheVariants.{Fine, Worn}
 use Rattle.bb_flash.specs.Image.{Image}
-use Rattle.bb_layout.specs.declared.format_kind.FormatKind.TheVariants as formats
-use Rattle.bb_state.specs.Kinds.{any_form, format_of}
+use Rattle.bb_state.specs.Kinds.{any_form}
+use Rattle.bb_state.specs.declared.any_format.AnyFormat.TheVariants.{Raw}
 use Rattle.bb_tool.specs.Exactly.{last_of, loaded_region, saved_region}
 
 form : Form
-form = any_form (format_of formats.Raw 0x12345678 9)
+form = any_form (Raw (record { magic = 0x12345678; area_len = 9; key = None }))
 
 kind : Kind
 kind = stride_kind (record { at = 0; size = 64 })

@@ -10,10 +10,13 @@ use Rattle.bb_chooser.specs.declared.settings_error.SettingsError.TheVariants as
 use Rattle.bb_dts.specs.Source.{Read}
 use Rattle.bb_dts.specs.declared.error.DtsError.{DtsError}
 use Rattle.bb_dts.specs.declared.error.DtsError.TheVariants as tree_errors
+use Rattle.bb_fdt.specs.declared.error.FdtError.{FdtError}
+use Rattle.bb_fdt.specs.declared.error.FdtError.TheVariants as blob_errors
 use Rattle.bb_flash.specs.declared.geometry.Geometry.{Geometry}
+use Rattle.bb_tree.specs.Blob.{Devicetree}
 use Rattle.bb_tree.specs.Node.{Branch}
 use Rattle.bb_layout.specs.Backend.{backend_of}
-use Rattle.bb_layout.specs.Copies.{raw_len}
+use Rattle.bb_layout.specs.Formats.{record_len}
 use Rattle.bb_layout.specs.Layout.{Laid, layout_at, layout_from}
 use Rattle.bb_layout.specs.Ranges.{area_of}
 use Rattle.bb_layout.specs.Results.{result_and_then}
@@ -26,7 +29,7 @@ use Rattle.bb_layout.specs.declared.layout_error.LayoutError.{LayoutError}
 use Rattle.bb_layout.specs.declared.layout_error.LayoutError.TheVariants as layout_errors
 use Rattle.bb_tool.specs.Filing.{Follows, IsReadFor}
 use Rattle.bb_tool.specs.Plan.{FileAnswer, bytes_in, layout_in, refused_as}
-use Rattle.bb_tool.specs.Refusal.{layout_refusal, settings_refusal, tree_refusal}
+use Rattle.bb_tool.specs.Refusal.{blob_refusal, layout_refusal, settings_refusal, tree_refusal}
 use Rattle.bb_tool.specs.declared.refusal.Refusal.{Refusal}
 use Rattle.bb_tool.specs.declared.refusal.Refusal.TheVariants as refusals
 
@@ -105,6 +108,16 @@ tree_refused read (tree_errors.DuplicatePhandle at) refused some = ap (refused_a
 tree_refused read (tree_errors.NoSuchLabel at) refused some = ap (refused_as refusals.BadTree) (refused (λ h. cc))
 tree_refused read tree_errors.NoMemory refused some = absurd (some refl)
 
+pub blob_refused : (read : Result Devicetree FdtError) (e : FdtError) → (e ≢ blob_errors.NoMemory → read ≡ Err e) → blob_refusal e ≢ refusals.NoMemory →
+    refused_as refusals.BadBlob read ≡ Err (blob_refusal e)
+blob_refused read blob_errors.NotBlob refused some = ap (refused_as refusals.BadBlob) (refused (λ h. cc))
+blob_refused read blob_errors.Version refused some = ap (refused_as refusals.BadBlob) (refused (λ h. cc))
+blob_refused read (blob_errors.OutOfBounds field) refused some = ap (refused_as refusals.BadBlob) (refused (λ h. cc))
+blob_refused read (blob_errors.BadToken at) refused some = ap (refused_as refusals.BadBlob) (refused (λ h. cc))
+blob_refused read (blob_errors.BadName at) refused some = ap (refused_as refusals.BadBlob) (refused (λ h. cc))
+blob_refused read (blob_errors.TooDeep at) refused some = ap (refused_as refusals.BadBlob) (refused (λ h. cc))
+blob_refused read blob_errors.NoMemory refused some = absurd (some refl)
+
 pub layout_refused : (laid : Result Laid LayoutError) (e : LayoutError) → (e ≢ layout_errors.NoMemory → laid ≡ Err e) → layout_refusal e ≢ refusals.NoMemory → refused_as refusals.BadLayout laid ≡ Err (layout_refusal e)
 layout_refused laid layout_errors.NoState refused some = ap (refused_as refusals.BadLayout) (refused (λ h. cc))
 layout_refused laid (layout_errors.Missing prop) refused some = ap (refused_as refusals.BadLayout) (refused (λ h. cc))
@@ -134,14 +147,19 @@ settings_refused bound settings_errors.NoMemory refused some = absurd (some refl
 pub memory_or_not : (e : Refusal) → (e ≡ refusals.NoMemory) ⊎ (e ≢ refusals.NoMemory)
 memory_or_not (refusals.BadWords place) = inr (λ h. cc)
 memory_or_not (refusals.BadTree e) = inr (λ h. cc)
+memory_or_not (refusals.BadBlob e) = inr (λ h. cc)
 memory_or_not (refusals.BadLayout e) = inr (λ h. cc)
 memory_or_not (refusals.BadVariable name cause) = inr (λ h. cc)
 memory_or_not (refusals.FileMissing file) = inr (λ h. cc)
 memory_or_not (refusals.FileFault file) = inr (λ h. cc)
 memory_or_not (refusals.FileTooLong file) = inr (λ h. cc)
+memory_or_not refusals.NoTarget = inr (λ h. cc)
+memory_or_not (refusals.StartFailed name) = inr (λ h. cc)
 memory_or_not refusals.ReadFault = inr (λ h. cc)
 memory_or_not (refusals.WriteFault copy) = inr (λ h. cc)
 memory_or_not (refusals.BadSettings e) = inr (λ h. cc)
+memory_or_not refusals.NoKey = inr (λ h. cc)
+memory_or_not (refusals.BadKey e) = inr (λ h. cc)
 memory_or_not (refusals.NoGood place) = inr (λ h. cc)
 memory_or_not refusals.NoMemory = inl refl
 
@@ -165,7 +183,7 @@ layout_geometry tree name state geometry found e =
     let vars = step_of (variables_of state) _ found props.next_is in
     let area = step_of (area_of vars.value) _ found vars.next_is in
     let region = step_of (backend_of tree state) _ found area.next_is in
-    let storage = step_of (stored geometry region.value props.value (raw_len area.value)) _ found region.next_is in
+    let storage = step_of (stored geometry region.value props.value (record_len props.value.format area.value)) _ found region.next_is in
     ap (λ (l : Laid). l.geometry) (sym (ok_is _ found _ refl storage.next_is))
 
 pub laid_geometry : (tree : Branch (List ℕ)) (name : Option (List ℕ)) (geometry : Geometry) (found : Laid) → layout_from tree name geometry ≡ Ok found → found.geometry ≡ geometry

@@ -1,149 +1,268 @@
--- The answer that a table brings: no target has the place that is to be marked good.
-use Rattle.std.proofs.Common.{◌≡◌, ◌≢◌, ◌⊎◌, ℕ, true, false, List, [], ◌∷◌, Option, Some, None, Result, Ok, Err, IsSome, refl, sym, ap, subst, ◌∙◌, inl, inr}
+-- The answers that a table brings: no target has the place that is to be marked good, or none
+-- qualifies.
+use Rattle.std.proofs.Common.{◌≡◌, ◌≢◌, ◌⊎◌, ℕ, Bool, true, false, List, [], ◌∷◌, length, Option, Some, None, Result, Ok, Err, is_none, refl, sym, ap, subst, ◌∙◌, if◌then◌else◌, inl, inr}
+use Rattle.std.specs.Option.{option_map_or}
+use Rattle.std.specs.Prelude.{option_map}
+use Rattle.std.proofs.lemmas.Option.{same_Some}
+use Rattle.bb_chooser.specs.Binding.{Binding}
+use Rattle.bb_chooser.specs.declared.cause.Cause.{Cause}
 use Rattle.bb_copies.specs.declared.answers.CopyFault.{CopyFault}
 use Rattle.bb_copies.specs.declared.answers.CopyFault.TheVariants as faults
 use Rattle.bb_flash.specs.Device.{Device, content}
 use Rattle.bb_flash.specs.Image.{Image}
+use Rattle.bb_flash.specs.declared.plan.Plan.{Plan as StartPlan}
+use Rattle.bb_state.specs.Keyed.{Keyed}
+use Rattle.bb_shell.specs.Boot.{AreRounds, Round, end_by, end_of, first_table, last_round}
+use Rattle.bb_shell.specs.declared.boot_end.BootEnd.TheVariants as ends
+use Rattle.bb_shell.specs.declared.outcome.Outcome.{Outcome}
+use Rattle.bb_shell.specs.declared.outcome.Outcome.TheVariants as outcomes
+use Rattle.bb_shell.proofs.Answering.{best_none}
 use Rattle.bb_words.specs.Words.{words_of}
+use Rattle.bb_tool.specs.Booting.{SaveAnswer, boots, end_refusal, has_no_target}
 use Rattle.bb_tool.specs.Calls.{ComesByTable, IsRefusedWith, IsSession, geometry_of, is_fault, session_for}
 use Rattle.bb_tool.specs.Ending.{IsFollowed}
 use Rattle.bb_tool.specs.Looking.{first_found, passed_in}
-use Rattle.bb_tool.specs.Plan.{Act, Good, Plan, Show, Work, Write, planned}
+use Rattle.bb_tool.specs.Plan.{Act, Boot, Good, SessionPlan, Show, Work, Write, planned}
 use Rattle.bb_tool.specs.Ran.{Ran}
 use Rattle.bb_tool.specs.Refusal.{copy_refusal, status_of}
-use Rattle.bb_tool.specs.Session.{Answers, LoadAnswer, SaveAnswer, ended_status, followed, load_for, loaded_area, saved, saves_behind, text_of, unmarked, unmarked_behind, worked}
-use Rattle.bb_tool.specs.Work.{IsStoreWork, IsWork, IsWorkOf}
+use Rattle.bb_tool.specs.Session.{Answers, LoadAnswer, Session, barred, barred_behind, ended_status, followed, load_for, loaded_area, saved, saves_behind, text_of, unless_barred, worked, worked_on}
+use Rattle.bb_tool.specs.Work.{IsLoadedAs, IsWork, IsWorkOf}
 use Rattle.bb_tool.specs.declared.refusal.Refusal.{Refusal}
+use Rattle.bb_tool.specs.declared.refusal.Refusal.TheVariants as refusals
 use Rattle.bb_tool.specs.declared.status.Status.{Status}
 use Rattle.bb_tool.specs.declared.status.Status.TheVariants as statuses
+use Rattle.bb_tool.proofs.Barred.{barred_session, stored_on}
+use Rattle.bb_tool.proofs.Booted.{boot_is, later_last}
 use Rattle.bb_tool.proofs.Endings.{own_answer, plan_ends}
 use Rattle.bb_tool.proofs.Kept.{load_found}
 use Rattle.bb_tool.proofs.Plans.{plan_refusal, same_plan}
 use Rattle.bb_tool.proofs.Told.{told_cases}
-use Rattle.bb_tool.proofs.Unmarked.{fault_device, is_device_fault, marked_session, unmarked_session}
 
--- ---- a session that is so refused
+-- the two answers
+abbrev is_bar : Status → Bool
+is_bar statuses.NoGood = true
+is_bar statuses.NoTarget = true
+is_bar _ = false
 
-not_fault : (fault : CopyFault) → status_of (copy_refusal fault) ≢ statuses.NoGood
-not_fault fault e = let h : true ≡ false = sym (fault_device fault) ∙ ap is_device_fault e in cc
+not_bar : {X : Type 0} (status answer : Status) → is_bar answer ≡ true → is_bar status ≡ false → status ≡ answer → X
+not_bar status answer bar other e = absurd (let h : true ≡ false = sym bar ∙ ap is_bar (sym e) ∙ other in cc)
 
-saved_else : (text : List ℕ) (areas : List (List ℕ)) (saves : List SaveAnswer) → ended_status (saved text areas saves) ≢ statuses.NoGood
-saved_else text [] saves = λ h. cc
-saved_else text (area ∷ areas) [] = λ h. cc
-saved_else text (area ∷ areas) (Err fault ∷ saves) = not_fault fault
+-- ---- a session that so ends is one that is barred
+
+fault_else : (fault : CopyFault) → is_bar (status_of (copy_refusal fault)) ≡ false
+fault_else faults.ReadFault = refl
+fault_else (faults.WriteFault copy) = refl
+fault_else faults.Unsure = refl
+
+saved_else : (text : List ℕ) (areas : List (List ℕ)) (saves : List SaveAnswer) → is_bar (ended_status (saved text areas saves)) ≡ false
+saved_else text [] saves = refl
+saved_else text (area ∷ areas) [] = refl
+saved_else text (area ∷ areas) (Err fault ∷ saves) = fault_else fault
 saved_else text (area ∷ areas) (Ok made ∷ saves) = saved_else text areas saves
 
-lost_behind : (plan : Plan) (found : Option (List ℕ)) (saves : List SaveAnswer) (place : Option ℕ) →
-    unmarked plan.work (loaded_area plan.layout found) ≡ place → ended_status (worked plan (Ok found) saves) ≡ statuses.NoGood → IsSome place
-lost_behind plan found saves (Some place) marks e = refl
-lost_behind plan found saves None marks e =
-    absurd (saved_else (text_of plan.layout plan.work found) (saves_behind plan (Ok found)) saves
-    (sym (ap ended_status (marked_session plan found saves marks)) ∙ e))
+store_else : (plan : SessionPlan) (found : Option (List ℕ)) (saves : List SaveAnswer) → boots plan.work ≡ false →
+    is_bar (ended_status (worked_on plan.work plan found saves)) ≡ false
+store_else plan found saves store =
+    ap (λ (s : Session). is_bar (ended_status s)) (stored_on plan.work plan found saves store)
+    ∙ saved_else (text_of plan.keyed.layout plan.work found) (saves_behind plan (Ok found)) saves
 
-lost_work : (plan : Plan) (load : LoadAnswer) (saves : List SaveAnswer) → ended_status (worked plan load saves) ≡ statuses.NoGood → IsSome (unmarked_behind (Ok plan) load)
-lost_work plan (Ok found) saves e = lost_behind plan found saves (unmarked plan.work (loaded_area plan.layout found)) refl e
-lost_work plan (Err fault) saves e = absurd (not_fault fault e)
+-- a boot with a round ends otherwise
+round_else : (targets : Binding) (tries : ℕ) (round : Round) (outcome : Outcome) →
+    is_bar (option_map_or status_of (end_refusal targets (end_by targets tries round outcome)) statuses.Done) ≡ false
+round_else targets tries round (outcomes.Refused fault) = fault_else fault
+round_else targets tries round outcomes.Unplanned = refl
+round_else targets tries round outcomes.Failed = refl
+round_else targets tries round outcomes.Started = refl
 
-lost_plan : (plan : Result Plan Refusal) (answers : Answers) → (IsRefusedWith statuses.NoGood plan → ⊥) → ended_status (followed plan answers) ≡ statuses.NoGood → IsSome (unmarked_behind plan answers.load)
-lost_plan (Ok plan) answers none e = lost_work plan answers.load answers.saves e
-lost_plan (Err refusal) answers none e = absurd (none e)
+last_there : (round : Round) (later : List Round) → (last : Round) × (last_round (round ∷ later) ≡ Some last)
+last_there round [] = (round, refl)
+last_there round (next ∷ later) = let last = last_there next later in (last.0, later_last round next later ∙ last.1)
+
+rounds_else : (targets : Binding) (round : Round) (later : List Round) →
+    is_bar (option_map_or status_of (end_refusal targets (end_of targets (round ∷ later))) statuses.Done) ≡ false
+rounds_else targets round later =
+    let last = last_there round later in
+    ap
+    (λ (o : Option Round). is_bar (option_map_or status_of
+    (end_refusal targets (option_map_or (λ (r : Round). end_by targets (length (round ∷ later)) r r.outcome) o ends.NoTarget))
+    statuses.Done)) last.1
+    ∙ round_else targets (length (round ∷ later)) last.0 last.0.outcome
+
+-- without one no target qualifies
+none_target : (targets : Binding) (cause : Cause) (plans : List (Option StartPlan)) (table : List ℕ) (rounds : List Round) → rounds ≡ [] →
+    AreRounds targets plans (first_table targets cause true table) rounds → has_no_target targets cause table ≡ true
+unfolding AreRounds
+none_target targets cause plans table rounds none are =
+    ap is_none
+    (best_none targets (first_table targets cause true table)
+    (subst (AreRounds targets plans (first_table targets cause true table)) none are))
+
+-- of a boot that isn't barred
+boot_else : (targets : Binding) (cause : Cause) (plans : List (Option StartPlan)) (table : List ℕ) (rounds : List Round) →
+    AreRounds targets plans (first_table targets cause true table) rounds → barred (Boot targets cause plans) table ≡ None →
+    is_bar (option_map_or status_of (end_refusal targets (end_of targets rounds)) statuses.Done) ≡ false
+boot_else targets cause plans table [] are free =
+    absurd (let none = none_target targets cause plans table [] refl are in
+    let h : Some refusals.NoTarget ≡ None = sym (ap (λ t. if t then Some refusals.NoTarget else None) none) ∙ free in cc)
+boot_else targets cause plans table (round ∷ later) are free = rounds_else targets round later
+
+open_else : (work : Work) (plan : SessionPlan) (from to : Device) (found : Option (List ℕ)) (saves : List SaveAnswer) → plan.work ≡ work →
+    IsWorkOf work plan from to (Ok found) saves → barred plan.work (loaded_area plan.keyed.layout found) ≡ None →
+    is_bar (ended_status (worked plan (Ok found) saves)) ≡ false
+open_else work plan from to found saves is done free = by work is done
+  where
+    by_store : boots plan.work ≡ false → is_bar (ended_status (worked plan (Ok found) saves)) ≡ false
+    by_store store =
+        ap (λ bars. is_bar (ended_status (unless_barred bars (worked_on plan.work plan found saves)))) free
+        ∙ store_else plan found saves store
+
+    by : (w : Work) → plan.work ≡ w → IsWorkOf w plan from to (Ok found) saves → is_bar (ended_status (worked plan (Ok found) saves)) ≡ false
+    by Show here d = by_store (ap boots here)
+    by (Write area) here d = by_store (ap boots here)
+    by (Act actions) here d = by_store (ap boots here)
+    by (Good targets) here d = by_store (ap boots here)
+    by (Boot targets cause plans) here d =
+        ap (λ (s : Session). is_bar (ended_status s)) (boot_is plan targets cause plans found d.used d.middle to saves here d.booted)
+        ∙ boot_else targets cause plans (loaded_area plan.keyed.layout found) d.booted.rounds d.booted.are
+        (sym (ap (λ (w' : Work). barred w' (loaded_area plan.keyed.layout found)) here) ∙ free)
+
+bars_behind : (plan : SessionPlan) (from to : Device) (found : Option (List ℕ)) (saves : List SaveAnswer) → IsWork plan from to (Ok found) saves →
+    (answer : Status) → is_bar answer ≡ true → (bars : Option Refusal) → barred plan.work (loaded_area plan.keyed.layout found) ≡ bars →
+    ended_status (worked plan (Ok found) saves) ≡ answer → option_map status_of bars ≡ Some answer
+bars_behind plan from to found saves done answer bar (Some refusal) is e =
+    ap (λ s. Some s) (sym (ap ended_status (barred_session plan found saves refusal is)) ∙ e)
+bars_behind plan from to found saves done answer bar None is e =
+    not_bar (ended_status (worked plan (Ok found) saves)) answer bar (open_else plan.work plan from to found saves refl done is) e
+
+bars_work : (plan : SessionPlan) (from to : Device) (load : LoadAnswer) (saves : List SaveAnswer) → IsWork plan from to load saves →
+    (answer : Status) → is_bar answer ≡ true → ended_status (worked plan load saves) ≡ answer →
+    option_map status_of (barred_behind (Ok plan) load) ≡ Some answer
+bars_work plan from to (Ok found) saves done answer bar e =
+    bars_behind plan from to found saves done answer bar (barred plan.work (loaded_area plan.keyed.layout found)) refl e
+bars_work plan from to (Err fault) saves done answer bar e = not_bar (status_of (copy_refusal fault)) answer bar (fault_else fault) e
+
+bars_plan : (plan : Result SessionPlan Refusal) (from to : Device) (answers : Answers) → IsFollowed plan from to answers → (answer : Status) →
+    is_bar answer ≡ true → (IsRefusedWith answer plan → ⊥) → ended_status (followed plan answers) ≡ answer →
+    option_map status_of (barred_behind plan answers.load) ≡ Some answer
+bars_plan (Ok plan) from to answers done answer bar none e = bars_work plan from to answers.load answers.saves done answer bar e
+bars_plan (Err refusal) from to answers done answer bar none e = absurd (none e)
 
 -- ---- what a load gives is what the device holds
 
-store_gives : (plan : Plan) (from to : Device) (found : Option (List ℕ)) (saves : List SaveAnswer) → IsStoreWork plan from to (Ok found) saves → (image : Image) → content from ≡ Some image → found ≡ first_found (passed_in plan.layout from.geometry.page image)
-store_gives plan from to found saves done image held =
-    done.loaded.gives.taken ∙ load_found plan.layout done.loaded.gives.area done.loaded.gives.loaded from done.middle image done.loaded.gives.gave held
+loaded_gives : (keyed : Keyed) (used : Option ℕ) (from mid : Device) (found : Option (List ℕ)) → IsLoadedAs keyed used from mid found →
+    (image : Image) → content from ≡ Some image → found ≡ first_found (passed_in keyed from.geometry.page image)
+loaded_gives keyed used from mid found gave image held =
+    gave.taken ∙ load_found keyed gave.area gave.loaded from mid image gave.gave held
 
-work_gives : (work : Work) (plan : Plan) (from to : Device) (found : Option (List ℕ)) (saves : List SaveAnswer) → IsWorkOf work plan from to (Ok found) saves → (image : Image) → content from ≡ Some image → found ≡ first_found (passed_in plan.layout from.geometry.page image)
+pub work_gives : (work : Work) (plan : SessionPlan) (from to : Device) (found : Option (List ℕ)) (saves : List SaveAnswer) → IsWorkOf work plan from to (Ok found) saves → (image : Image) → content from ≡ Some image → found ≡ first_found (passed_in plan.keyed from.geometry.page image)
 work_gives Show plan from to found saves done image held = done.looked.told image held
-work_gives (Write area) plan from to found saves done image held = store_gives plan from to found saves done image held
-work_gives (Act actions) plan from to found saves done image held = store_gives plan from to found saves done image held
-work_gives (Good targets) plan from to found saves done image held = store_gives plan from to found saves done image held
+work_gives (Write area) plan from to found saves done image held = loaded_gives plan.keyed done.used from done.middle found done.loaded.gives image held
+work_gives (Act actions) plan from to found saves done image held = loaded_gives plan.keyed done.used from done.middle found done.loaded.gives image held
+work_gives (Good targets) plan from to found saves done image held = loaded_gives plan.keyed done.used from done.middle found done.loaded.gives image held
+work_gives (Boot targets cause plans) plan from to found saves done image held = loaded_gives plan.keyed done.used from done.middle found done.loaded.gives image held
 
-abbrev place_in : Result Plan Refusal → Device → Image → Option ℕ
-place_in plan device image = unmarked_behind plan (load_for plan device.geometry image)
+-- what bars a session over this content ends it so
+abbrev BarsWith : Status → Option Refusal → Type 0
+BarsWith answer bars = option_map status_of bars ≡ Some answer
 
-work_place : (plan : Plan) (from to : Device) (load : LoadAnswer) (saves : List SaveAnswer) → IsWork plan from to load saves → (image : Image) → content from ≡ Some image →
-    IsSome (unmarked_behind (Ok plan) load) → IsSome (place_in (Ok plan) from image)
-work_place plan from to (Ok found) saves done image held some =
-    subst (λ f. IsSome (unmarked plan.work (loaded_area plan.layout f))) (work_gives plan.work plan from to found saves done image held) some
-work_place plan from to (Err fault) saves done image held some = absurd cc
+abbrev bars_in : Result SessionPlan Refusal → Device → Image → Option Refusal
+bars_in plan device image = barred_behind plan (load_for plan device.geometry image)
 
-plan_place : (plan : Result Plan Refusal) (from to : Device) (answers : Answers) → IsFollowed plan from to answers → (image : Image) → content from ≡ Some image →
-    IsSome (unmarked_behind plan answers.load) → IsSome (place_in plan from image)
-plan_place (Ok plan) from to answers done image held some = work_place plan from to answers.load answers.saves done image held some
-plan_place (Err refusal) from to answers done image held some = absurd cc
+work_place : (answer : Status) (plan : SessionPlan) (from to : Device) (load : LoadAnswer) (saves : List SaveAnswer) → IsWork plan from to load saves → (image : Image) → content from ≡ Some image →
+    BarsWith answer (barred_behind (Ok plan) load) → BarsWith answer (bars_in (Ok plan) from image)
+work_place answer plan from to (Ok found) saves done image held some =
+    subst (λ f. BarsWith answer (barred plan.work (loaded_area plan.keyed.layout f))) (work_gives plan.work plan from to found saves done image held) some
+work_place answer plan from to (Err fault) saves done image held some = absurd cc
 
--- ---- where the table has such a place, that is the answer, or a fault
+plan_place : (answer : Status) (plan : Result SessionPlan Refusal) (from to : Device) (answers : Answers) → IsFollowed plan from to answers → (image : Image) → content from ≡ Some image →
+    BarsWith answer (barred_behind plan answers.load) → BarsWith answer (bars_in plan from image)
+plan_place answer (Ok plan) from to answers done image held some = work_place answer plan from to answers.load answers.saves done image held some
+plan_place answer (Err refusal) from to answers done image held some = absurd cc
+
+-- ---- where the table bars the session, that is the answer, or a fault
 
 fault_is : (fault : CopyFault) → is_fault (status_of (copy_refusal fault)) ≡ true
 fault_is faults.ReadFault = refl
 fault_is (faults.WriteFault copy) = refl
 fault_is faults.Unsure = refl
 
-abbrev IsLostOrFault : Status → Type 0
-IsLostOrFault status = (status ≡ statuses.NoGood) ⊎ (is_fault status ≡ true)
+abbrev IsBarOrFault : Status → Status → Type 0
+IsBarOrFault answer status = (status ≡ answer) ⊎ (is_fault status ≡ true)
 
-found_ends : (plan : Plan) (found : Option (List ℕ)) (saves : List SaveAnswer) (place : Option ℕ) → unmarked plan.work (loaded_area plan.layout found) ≡ place → IsSome place →
-    ended_status (worked plan (Ok found) saves) ≡ statuses.NoGood
-found_ends plan found saves (Some place) marks some = ap ended_status (unmarked_session plan found saves place marks)
-found_ends plan found saves None marks some = absurd cc
+found_ends : (answer : Status) (plan : SessionPlan) (found : Option (List ℕ)) (saves : List SaveAnswer) (bars : Option Refusal) → barred plan.work (loaded_area plan.keyed.layout found) ≡ bars → BarsWith answer bars →
+    ended_status (worked plan (Ok found) saves) ≡ answer
+found_ends answer plan found saves (Some refusal) is some =
+    ap ended_status (barred_session plan found saves refusal is) ∙ same_Some (status_of refusal) answer some
+found_ends answer plan found saves None is some = absurd cc
 
-work_ends : (plan : Plan) (from to : Device) (load : LoadAnswer) (saves : List SaveAnswer) → IsWork plan from to load saves → (image : Image) → content from ≡ Some image →
-    IsSome (place_in (Ok plan) from image) → IsLostOrFault (ended_status (worked plan load saves))
-work_ends plan from to (Err fault) saves done image held some = inr (fault_is fault)
-work_ends plan from to (Ok found) saves done image held some =
-    inl (found_ends plan found saves (unmarked plan.work (loaded_area plan.layout found)) refl
-    (subst (λ f. IsSome (unmarked plan.work (loaded_area plan.layout f))) (sym (work_gives plan.work plan from to found saves done image held)) some))
+work_ends : (answer : Status) (plan : SessionPlan) (from to : Device) (load : LoadAnswer) (saves : List SaveAnswer) → IsWork plan from to load saves → (image : Image) → content from ≡ Some image →
+    BarsWith answer (bars_in (Ok plan) from image) → IsBarOrFault answer (ended_status (worked plan load saves))
+work_ends answer plan from to (Err fault) saves done image held some = inr (fault_is fault)
+work_ends answer plan from to (Ok found) saves done image held some =
+    inl (found_ends answer plan found saves (barred plan.work (loaded_area plan.keyed.layout found)) refl
+    (subst (λ f. BarsWith answer (barred plan.work (loaded_area plan.keyed.layout f))) (sym (work_gives plan.work plan from to found saves done image held)) some))
 
-lost_ends : (plan : Result Plan Refusal) (from to : Device) (answers : Answers) → IsFollowed plan from to answers → (image : Image) → content from ≡ Some image →
-    IsSome (place_in plan from image) → IsLostOrFault (ended_status (followed plan answers))
-lost_ends (Ok plan) from to answers done image held some = work_ends plan from to answers.load answers.saves done image held some
-lost_ends (Err refusal) from to answers done image held some = absurd cc
+lost_ends : (answer : Status) (plan : Result SessionPlan Refusal) (from to : Device) (answers : Answers) → IsFollowed plan from to answers → (image : Image) → content from ≡ Some image →
+    BarsWith answer (bars_in plan from image) → IsBarOrFault answer (ended_status (followed plan answers))
+lost_ends answer (Ok plan) from to answers done image held some = work_ends answer plan from to answers.load answers.saves done image held some
+lost_ends answer (Err refusal) from to answers done image held some = absurd cc
 
 -- ---- in the words of a call
 
-abbrev Comes : Ran → Type 0
-Comes ran = (ran.status ≡ statuses.NoGood) ⊎ ((ran.status ≡ statuses.NoMemory) ⊎ (is_fault ran.status ≡ true))
+abbrev Comes : Status → Ran → Type 0
+Comes answer ran = (ran.status ≡ answer) ⊎ ((ran.status ≡ statuses.NoMemory) ⊎ (is_fault ran.status ≡ true))
 
-comes_by : (ran : Ran) (ended : Status) → (ran.status ≡ ended) ⊎ ((ran.status ≡ statuses.SinkFault) ⊎ (ran.status ≡ statuses.NoMemory)) →
-    (ended ≡ statuses.NoMemory) ⊎ IsLostOrFault ended → Comes ran
-comes_by ran ended (inr (inl sink)) ends = inr (inr (ap is_fault sink))
-comes_by ran ended (inr (inr memory)) ends = inr (inl memory)
-comes_by ran ended (inl own) (inl memory) = inr (inl (own ∙ memory))
-comes_by ran ended (inl own) (inr (inl lost)) = inl (own ∙ lost)
-comes_by ran ended (inl own) (inr (inr fault)) = inr (inr (ap is_fault own ∙ fault))
+comes_by : (answer : Status) (ran : Ran) (ended : Status) → (ran.status ≡ ended) ⊎ ((ran.status ≡ statuses.SinkFault) ⊎ (ran.status ≡ statuses.NoMemory)) →
+    (ended ≡ statuses.NoMemory) ⊎ IsBarOrFault answer ended → Comes answer ran
+comes_by answer ran ended (inr (inl sink)) ends = inr (inr (ap is_fault sink))
+comes_by answer ran ended (inr (inr memory)) ends = inr (inl memory)
+comes_by answer ran ended (inl own) (inl memory) = inr (inl (own ∙ memory))
+comes_by answer ran ended (inl own) (inr (inl lost)) = inl (own ∙ lost)
+comes_by answer ran ended (inl own) (inr (inr fault)) = inr (inr (ap is_fault own ∙ fault))
 
-pub no_good_of : (ran : Ran) → IsSession ran → ComesByTable statuses.NoGood ran
-no_good_of ran s = λ files told image held. record {
+pub barred_of : (answer : Status) → is_bar answer ≡ true → answer ≢ statuses.SinkFault → answer ≢ statuses.NoMemory → answer ≢ statuses.FileFault →
+    ((ran : Ran) (answers : Answers) → IsRefusedWith answer (planned ran.words (geometry_of ran) answers.files) → ⊥) →
+    (ran : Ran) → IsSession ran → ComesByTable answer ran
+barred_of answer bar first second third unplanned ran s = λ files told image held. record {
   only = λ e.
-      let own = own_answer ran statuses.NoGood s (λ h. cc) (λ h. cc) e in
+      let own = own_answer ran answer s first second e in
       let answers = own.ending.answers in
       let plan = planned ran.words (geometry_of ran) answers.files in
-      let none = plan_refusal statuses.NoGood refl (words_of ran.words) (geometry_of ran) answers.files in
-      let here = plan_place plan ran.before.device ran.after.device answers own.ending.answered.followed image held (lost_plan plan answers none own.own) in
+      let none = unplanned ran answers in
+      let here = plan_place answer plan ran.before.device ran.after.device answers own.ending.answered.followed image held
+      (bars_plan plan ran.before.device ran.after.device answers own.ending.answered.followed answer bar none own.own) in
       elim (same_plan ran.words (geometry_of ran) ran.before.folder ran.after.folder answers.files own.ending.answered.filed files told) [
-        | inl same ↦ subst (λ (p : Result Plan Refusal). IsSome (place_in p ran.before.device image)) same here
+        | inl same ↦ subst (λ (p : Result SessionPlan Refusal). BarsWith answer (bars_in p ran.before.device image)) same here
         | inr odd ↦ elim odd [
-          | inl fault ↦ absurd (let h : statuses.FileFault ≡ statuses.NoGood = sym (plan_ends plan answers statuses.FileFault fault) ∙ own.own in cc)
-          | inr memory ↦ absurd (let h : statuses.NoMemory ≡ statuses.NoGood = sym (ap (λ (p : Result Plan Refusal). ended_status (followed p answers)) memory) ∙ own.own in cc)
+          | inl fault ↦ absurd (third (sym own.own ∙ plan_ends plan answers statuses.FileFault fault))
+          | inr memory ↦ absurd (second (sym own.own ∙ ap (λ (p : Result SessionPlan Refusal). ended_status (followed p answers)) memory))
         ]
       ];
   always = λ some. elim s [
     | inr memory ↦
-        comes_by ran statuses.NoMemory (told_cases _ statuses.NoMemory ran.before.outlet ran.after.outlet ran.status memory.told) (inl refl)
+        comes_by answer ran statuses.NoMemory (told_cases _ statuses.NoMemory ran.before.outlet ran.after.outlet ran.status memory.told) (inl refl)
     | inl ending ↦
         let answers = ending.answers in
         let plan = planned ran.words (geometry_of ran) answers.files in
-        comes_by ran (ended_status (session_for ran answers)) (told_cases _ _ ran.before.outlet ran.after.outlet ran.status ending.told)
+        comes_by answer ran (ended_status (session_for ran answers)) (told_cases _ _ ran.before.outlet ran.after.outlet ran.status ending.told)
         (elim (same_plan ran.words (geometry_of ran) ran.before.folder ran.after.folder answers.files ending.answered.filed files told) [
           | inl same ↦
-              inr (lost_ends plan ran.before.device ran.after.device answers ending.answered.followed image held
-              (subst (λ (p : Result Plan Refusal). IsSome (place_in p ran.before.device image)) (sym same) some))
+              inr (lost_ends answer plan ran.before.device ran.after.device answers ending.answered.followed image held
+              (subst (λ (p : Result SessionPlan Refusal). BarsWith answer (bars_in p ran.before.device image)) (sym same) some))
           | inr odd ↦ elim odd [
             | inl fault ↦ inr (inr (ap is_fault (plan_ends plan answers statuses.FileFault fault)))
-            | inr memory ↦ inl (ap (λ (p : Result Plan Refusal). ended_status (followed p answers)) memory)
+            | inr memory ↦ inl (ap (λ (p : Result SessionPlan Refusal). ended_status (followed p answers)) memory)
           ]
         ])
   ];
 }
+
+pub no_good_of : (ran : Ran) → IsSession ran → ComesByTable statuses.NoGood ran
+no_good_of =
+    barred_of statuses.NoGood refl (λ h. cc) (λ h. cc) (λ h. cc)
+    (λ ran answers. plan_refusal statuses.NoGood refl (words_of ran.words) (geometry_of ran) answers.files)
+
+pub no_target_of : (ran : Ran) → IsSession ran → ComesByTable statuses.NoTarget ran
+no_target_of =
+    barred_of statuses.NoTarget refl (λ h. cc) (λ h. cc) (λ h. cc)
+    (λ ran answers. plan_refusal statuses.NoTarget refl (words_of ran.words) (geometry_of ran) answers.files)

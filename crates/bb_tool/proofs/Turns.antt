@@ -14,7 +14,7 @@ use Rattle.bb_flash.specs.Counted.{Counts, IsFair}
 use Rattle.bb_flash.specs.Cuts.{IsContinued}
 use Rattle.bb_flash.specs.Device.{Change, Device, Told, content, moment}
 use Rattle.bb_flash.specs.Image.{Image}
-use Rattle.bb_layout.specs.Layout.{Laid}
+use Rattle.bb_state.specs.Keyed.{Keyed}
 use Rattle.bb_tool.specs.Looking.{passed_in}
 use Rattle.bb_tool.specs.Turns.{HasTrail, IsCounted, LeadsTo, first_area, turn_stages}
 use Rattle.bb_tool.proofs.Kept.{IsLeft}
@@ -28,7 +28,7 @@ in_order first last continued =
     let e = ap length continued.changes in omega (arith, length-take (moment first) last.changes)
 
 -- a milestone in front of a trail
-before_trail : (Since : ℕ → List (Option (List ℕ)) → Type 0) (now : ℕ) (first : List ℕ)
+pub before_trail : (Since : ℕ → List (Option (List ℕ)) → Type 0) (now : ℕ) (first : List ℕ)
     (h : List (List ℕ)) (a when : ℕ) (later : List Milestone) → when ≤ now →
     ((passed : List (Option (List ℕ))) → Since when passed →
     StandsAtOne first passed (stages_in (milestone_of h a when ∷ later))) →
@@ -55,12 +55,12 @@ pub told_content : (device : Device) (told : Told) → device.told ≡ Some told
     content device ≡ Some told.image
 told_content device told e = ap (option_map (λ (t : Told). t.image)) e
 
-module _ (layout : Laid) (page : ℕ) where
+module _ (keyed : Keyed) (page : ℕ) where
   abbrev Passed : Image → List (Option (List ℕ))
-  Passed image = passed_in layout page image
+  Passed image = passed_in keyed page image
 
   abbrev First : List ℕ
-  First = first_area layout
+  First = first_area keyed.layout
 
   -- what a load that answered Ok leaves of whatever list a content stood for
   pub record LoadedTo (used : Option ℕ) (x y : Image) : Type 0 where
@@ -123,13 +123,13 @@ module _ (layout : Laid) (page : ℕ) where
 
   pub stays_trail : (first last : Told) (before : Content) (turn : Turn) → moment first ≤ moment last →
       turn_stages before turn ≡ record { areas = before.areas; acked = before.acked } ∷ [] →
-      Stays before first last → HasTrail layout page first last before turn
+      Stays before first last → HasTrail keyed page first last before turn
   stays_trail first last before turn past stages stays = record {
     entry = record { areas = before.areas; acked = before.acked };
     later = [];
     stages = sym stages;
     trail =
-        before_trail (IsCounted layout page last) (moment last) First before.areas before.acked
+        before_trail (IsCounted keyed page last) (moment last) First before.areas before.acked
         (moment first) [] past
         (λ passed counted. inl (subst (λ p. Stands First p before.areas before.acked)
         (sym counted.passes) (stays counted.image counted.counts))) tt;
@@ -143,9 +143,9 @@ module _ (layout : Laid) (page : ℕ) where
     Loaded0 = take (picked before.marks + 1) before.areas
 
     pub loaded_trail : Stands First (Passed last.image) Loaded0 (picked before.marks) →
-        HasTrail layout page first last before (Loaded (picked before.marks) [] 0 None)
+        HasTrail keyed page first last before (Loaded (picked before.marks) [] 0 None)
     loaded_trail stands =
-        let Since = IsCounted layout page last in
+        let Since = IsCounted keyed page last in
         let now = moment last in
         let end = before_trail Since now First Loaded0 (picked before.marks) now [] (omega arith)
         (λ passed counted. inl (subst (λ p. Stands First p Loaded0 (picked before.marks))
@@ -202,7 +202,7 @@ module _ (layout : Laid) (page : ℕ) where
 
     module _ (entry : SinceEntry) (load : SinceLoad) where
       abbrev Since : ℕ → List (Option (List ℕ)) → Type 0
-      Since = IsCounted layout page last
+      Since = IsCounted keyed page last
 
       -- the milestones from the load on, before those of `later`
       abbrev from_load : List Milestone → List Milestone
@@ -241,7 +241,7 @@ module _ (layout : Laid) (page : ℕ) where
             | inr new ↦ inr (inr (inl new))
           ]) loaded
 
-      pub refused_trail : HasTrail layout page first last before
+      pub refused_trail : HasTrail keyed page first last before
           (Loaded (picked before.marks) (area ∷ []) 0 None)
       refused_trail = record {
         entry = record { areas = before.areas; acked = before.acked };
@@ -251,7 +251,7 @@ module _ (layout : Laid) (page : ℕ) where
       }
 
       pub made_trail : Stands First (Passed last.image) Longer (picked before.marks + 1) →
-          HasTrail layout page first last before
+          HasTrail keyed page first last before
           (Loaded (picked before.marks) (area ∷ []) 1 None)
       made_trail stands =
           let now = moment last in

@@ -1,5 +1,6 @@
 -- A session where nothing failed: what was answered is what the files and the device hold.
-use Rattle.std.proofs.Common.{◌≡◌, ◌⊎◌, ℕ, Bool, true, false, List, [], ◌∷◌, Option, Some, None, Result, Ok, Err, refl, sym, ap, subst, ◌∙◌, inl, inr}
+use Rattle.std.proofs.Common.{◌≡◌, ◌⊎◌, ℕ, ◌≤◌, Bool, true, false, List, [], ◌∷◌, length, Option, Some, None, is_none, Result, Ok, Err, if◌then◌else◌, refl, sym, ap, subst, ◌∙◌, inl, inr, arith}
+use Rattle.std.specs.Prelude.{replicate}
 use Rattle.bb_base.specs.Faults.{Rose}
 use Rattle.bb_base.specs.Folder.{FileMap, Folder}
 use Rattle.bb_base.specs.Outlet.{Outlet}
@@ -7,15 +8,24 @@ use Rattle.bb_copies.specs.declared.answers.CopyFault.{CopyFault}
 use Rattle.bb_copies.specs.declared.answers.CopyFault.TheVariants as faults
 use Rattle.bb_flash.specs.Device.{Device, content}
 use Rattle.bb_flash.specs.Image.{Image}
-use Rattle.bb_layout.specs.Layout.{Laid}
+use Rattle.bb_chooser.specs.Binding.{Binding}
+use Rattle.bb_chooser.specs.declared.cause.Cause.{Cause}
+use Rattle.bb_copies.specs.Settling.{RoseBy}
+use Rattle.bb_flash.specs.declared.plan.Plan.{Plan as StartPlan}
+use Rattle.bb_state.specs.Keyed.{Keyed}
+use Rattle.bb_shell.specs.Boot.{AreRounds, Round, all_attempts, first_table}
+use Rattle.bb_shell.specs.Ends.{failed_starts}
+use Rattle.bb_shell.specs.Rounds.{best_of, rounds_by}
+use Rattle.bb_shell.proofs.Answering.{best_is, best_none}
 use Rattle.bb_words.specs.Words.{words_of}
 use Rattle.bb_tool.specs.Calls.{IsSession, IsUndisturbed, IsUndisturbedAlone, geometry_of, session_for}
 use Rattle.bb_tool.specs.Ending.{AreAnswers, IsFollowed}
 use Rattle.bb_tool.specs.Looking.{first_found, passed_in}
-use Rattle.bb_tool.specs.Plan.{Act, FileAnswers, Good, Plan, Show, Work, Write, files_for, planned}
+use Rattle.bb_tool.specs.Booting.{SaveAnswer, boots, has_no_target, rounds_of}
+use Rattle.bb_tool.specs.Plan.{Act, Boot, FileAnswers, Good, SessionPlan, Show, Work, Write, files_for, planned}
 use Rattle.bb_tool.specs.Ran.{Ran}
 use Rattle.bb_tool.specs.Refusal.{status_of}
-use Rattle.bb_tool.specs.Session.{Answers, LoadAnswer, SaveAnswer, Session, all_made, answers_of, answers_to, ended_status, followed, loaded_area, refused_for, saved, saves_behind, saves_of, sent_of, session_of, text_of, unmarked, worked}
+use Rattle.bb_tool.specs.Session.{Answers, LoadAnswer, Session, all_made, answers_behind, answers_of, answers_to, barred, booted, ended_status, followed, loaded_area, refused_for, saved, saves_behind, saves_of, sent_of, session_of, text_of, unless_barred, worked, worked_on}
 use Rattle.bb_tool.specs.Telling.{IsSent, IsTold}
 use Rattle.bb_tool.specs.Work.{AreSaved, IsStoreWork, IsWorkOf}
 use Rattle.bb_tool.specs.declared.refusal.Refusal.{Refusal}
@@ -23,104 +33,179 @@ use Rattle.bb_tool.specs.declared.refusal.Refusal.TheVariants as refusals
 use Rattle.bb_tool.specs.declared.status.Status.{Status}
 use Rattle.bb_tool.specs.declared.status.Status.TheVariants as statuses
 use Rattle.bb_tool.proofs.Endings.{FaultTells, work_fault}
-use Rattle.bb_tool.proofs.Kept.{load_found}
 use Rattle.bb_tool.proofs.Plans.{alone_plan, faulty_words, same_plan}
 use Rattle.bb_tool.proofs.Told.{told_whole}
-use Rattle.bb_tool.proofs.Unmarked.{HasNoFault, done_whole, fault_device, is_device_fault, refused_whole, stored_whole, unmarked_saves}
+use Rattle.bb_tool.proofs.Barred.{HasNoFault, barred_session, done_whole, fault_device, is_device_fault, open_session, refused_whole, stored_whole}
+use Rattle.bb_tool.proofs.Booted.{boot_is}
+use Rattle.bb_tool.proofs.Fine.{all_saved, good_rounds, goods, goods_are, none_failed, round_there}
+use Rattle.bb_tool.proofs.Tables.{work_gives}
 
 -- one session is the other, or that of want of memory
 abbrev IsSameOrMemory : Session → Session → Type 0
 IsSameOrMemory given other = (given ≡ other) ⊎ (given ≡ refused_for refusals.NoMemory)
 
-fault_rose : (layout : Laid) (from to : Device) (fault : CopyFault) → FaultTells layout from to fault → Rose from.faults to.faults
-fault_rose layout from to faults.ReadFault tells = tells.0
-fault_rose layout from to (faults.WriteFault copy) tells = tells.0
-fault_rose layout from to faults.Unsure tells = absurd tells
+fault_rose : (keyed : Keyed) (from to : Device) (fault : CopyFault) → FaultTells keyed from to fault → Rose from.faults to.faults
+fault_rose keyed from to faults.ReadFault tells = tells.0
+fault_rose keyed from to (faults.WriteFault copy) tells = tells.0
+fault_rose keyed from to faults.Unsure tells = absurd tells
 
 -- where no call of the device failed no part of the work was refused
-no_fault_by : (plan : Plan) (from to : Device) (load : LoadAnswer) (saves : List SaveAnswer) → IsWorkOf plan.work plan from to load saves → (Rose from.faults to.faults → ⊥) → (refusal : Refusal) → (worked plan load saves).refusal ≡ Some refusal → (fault : Bool) → is_device_fault (status_of refusal) ≡ fault → HasNoFault (worked plan load saves)
+no_fault_by : (plan : SessionPlan) (from to : Device) (load : LoadAnswer) (saves : List SaveAnswer) → IsWorkOf plan.work plan from to load saves → (Rose from.faults to.faults → ⊥) → (refusal : Refusal) → (worked plan load saves).refusal ≡ Some refusal → (fault : Bool) → is_device_fault (status_of refusal) ≡ fault → HasNoFault (worked plan load saves)
 no_fault_by plan from to load saves work whole refusal is false e = refused_whole (worked plan load saves) refusal is e
 no_fault_by plan from to load saves work whole refusal is true e =
     let fault = work_fault plan.work plan from to load saves refusal e refl work is in
-    absurd (whole (fault_rose plan.layout from to fault.fault fault.tells))
+    absurd (whole (fault_rose plan.keyed from to fault.fault fault.tells))
 
-pub unrefused : (plan : Plan) (from to : Device) (load : LoadAnswer) (saves : List SaveAnswer) → IsWorkOf plan.work plan from to load saves → (Rose from.faults to.faults → ⊥) → (refusal : Option Refusal) → (worked plan load saves).refusal ≡ refusal → HasNoFault (worked plan load saves)
+pub unrefused : (plan : SessionPlan) (from to : Device) (load : LoadAnswer) (saves : List SaveAnswer) → IsWorkOf plan.work plan from to load saves → (Rose from.faults to.faults → ⊥) → (refusal : Option Refusal) → (worked plan load saves).refusal ≡ refusal → HasNoFault (worked plan load saves)
 unrefused plan from to load saves work whole None is = done_whole (worked plan load saves) is
 unrefused plan from to load saves work whole (Some refusal) is =
     no_fault_by plan from to load saves work whole refusal is (is_device_fault (status_of refusal)) refl
 
 -- so each save that is to be made was made
-all_saved : (layout : Laid) (used : Option ℕ) (text : List ℕ) (areas : List (List ℕ)) (saves : List SaveAnswer) (from to : Device) → AreSaved layout used areas from to saves → HasNoFault (saved text areas saves) → saves ≡ all_made areas
-all_saved layout used text [] saves from to saved_so is = saved_so.0
-all_saved layout used text (area ∷ areas) [] from to saved_so is = absurd saved_so
-all_saved layout used text (area ∷ areas) (Err fault ∷ saves) from to saved_so is =
+saved_same : (keyed : Keyed) (used : Option ℕ) (text : List ℕ) (areas : List (List ℕ)) (saves : List SaveAnswer) (from to : Device) → AreSaved keyed used areas from to saves → HasNoFault (saved text areas saves) → saved text areas saves ≡ saved text areas (all_made areas)
+saved_same keyed used text [] saves from to saved_so is = refl
+saved_same keyed used text (area ∷ areas) [] from to saved_so is = absurd saved_so
+saved_same keyed used text (area ∷ areas) (Err fault ∷ saves) from to saved_so is =
     absurd (let e : true ≡ false = sym (fault_device fault) ∙ is in cc)
-all_saved layout used text (area ∷ areas) (Ok made ∷ saves) from to saved_so is =
-    let none = saved_so.1.0 in
-    let last = saved_so.1.1 in
-    ap (λ s. Ok made ∷ s) last ∙ ap (λ a. Ok tt ∷ all_made a) (sym none)
+saved_same keyed used text (area ∷ []) (Ok made ∷ saves) from to saved_so is = refl
+saved_same keyed used text (area ∷ (other ∷ areas)) (Ok made ∷ saves) from to saved_so is =
+    absurd (let e = saved_so.1.0 in cc)
 
--- what was answered is what the device holds
-pub record IsHeld (plan : Plan) (page : ℕ) (image : Image) (load : LoadAnswer) (saves : List SaveAnswer) : Type 0 where
-  pub load_is : load ≡ Ok (first_found (passed_in plan.layout page image))
-  pub saves_are : saves ≡ all_made (saves_behind plan load)
+store_same : (plan : SessionPlan) (from to : Device) (found : Option (List ℕ)) (saves : List SaveAnswer) → boots plan.work ≡ false → IsStoreWork plan from to (Ok found) saves → (bars : Option Refusal) → barred plan.work (loaded_area plan.keyed.layout found) ≡ bars → HasNoFault (worked plan (Ok found) saves) → worked plan (Ok found) saves ≡ worked plan (Ok found) (all_made (saves_behind plan (Ok found)))
+store_same plan from to found saves store done None bars whole =
+    let made = all_made (saves_behind plan (Ok found)) in
+    open_session plan found saves store bars
+    ∙ saved_same plan.keyed done.used (text_of plan.keyed.layout plan.work found) (saves_behind plan (Ok found)) saves done.middle to done.saved (stored_whole plan found saves store bars whole)
+    ∙ sym (open_session plan found made store bars)
+store_same plan from to found saves store done (Some refusal) bars whole =
+    barred_session plan found saves refusal bars
+    ∙ sym (barred_session plan found (all_made (saves_behind plan (Ok found))) refusal bars)
 
--- those behind a load that answered Ok
-store_held : (plan : Plan) (from to : Device) (found : Option (List ℕ)) (saves : List SaveAnswer) → IsStoreWork plan from to (Ok found) saves → (place : Option ℕ) → unmarked plan.work (loaded_area plan.layout found) ≡ place → HasNoFault (worked plan (Ok found) saves) → saves ≡ all_made (saves_behind plan (Ok found))
-store_held plan from to found saves done None marks whole =
-    all_saved plan.layout done.used (text_of plan.layout plan.work found) (saves_behind plan (Ok found)) saves done.middle to done.saved (stored_whole plan found saves marks whole)
-store_held plan from to found saves done (Some place) marks whole =
-    let none = unmarked_saves plan.layout plan.work (loaded_area plan.layout found) place marks in
-    (subst (λ areas. AreSaved plan.layout done.used areas done.middle to saves) none done.saved).0 ∙ ap all_made (sym none)
+-- what is answered to other work than a boot
+made_behind : (work : Work) (plan : SessionPlan) (load : LoadAnswer) → boots work ≡ false → answers_behind work plan load ≡ all_made (saves_behind plan load)
+made_behind Show plan load store = refl
+made_behind (Write area) plan load store = refl
+made_behind (Act actions) plan load store = refl
+made_behind (Good targets) plan load store = refl
+made_behind (Boot targets cause plans) plan load store = absurd cc
 
-pub work_held : (work : Work) (plan : Plan) (from to : Device) (load : LoadAnswer) (saves : List SaveAnswer) → plan.work ≡ work → IsWorkOf work plan from to load saves → HasNoFault (worked plan load saves) → (image : Image) → content from ≡ Some image → IsHeld plan from.geometry.page image load saves
-work_held work plan from to (Err fault) saves is done none image told =
+-- no start of a session failed
+abbrev IsCalm : Device → Device → Session → Type 0
+IsCalm from to session = (session.rounds ≡ []) ⊎ (Rose from.start_faults to.start_faults → ⊥)
+
+-- ---- a boot
+
+module _ (targets : Binding) (cause : Cause) (plans : List (Option StartPlan)) (table : List ℕ) where
+  abbrev Table : List ℕ
+  Table = first_table targets cause true table
+
+  -- the rounds that are made where nothing fails
+  abbrev Ideal : ℕ → List Round
+  Ideal n = rounds_of targets cause plans table (replicate n (Ok true))
+
+  good_is : (n : ℕ) → Ideal n ≡ rounds_by targets plans Table (goods n)
+  good_is n = ap (rounds_by targets plans Table) (goods_are n)
+
+  -- the session that has so many answers
+  abbrev Ends : ℕ → Session
+  Ends n =
+      unless_barred (if has_no_target targets cause table then Some refusals.NoTarget else None) (booted targets table (Ideal n))
+
+  some_target : (round : Round) (later : List Round) → AreRounds targets plans Table (round ∷ later) → has_no_target targets cause table ≡ false
+  unfolding AreRounds
+  some_target round later are = ap is_none (best_is targets Table round.target are.0.best)
+
+  no_target : AreRounds targets plans Table [] → has_no_target targets cause table ≡ true
+  unfolding AreRounds
+  no_target are = ap is_none (best_none targets Table are)
+
+  best_there : (round : Round) (later : List Round) → AreRounds targets plans Table (round ∷ later) → best_of targets Table ≡ Some round.target
+  unfolding AreRounds
+  best_there round later are = best_is targets Table round.target are.0.best
+
+  open_ends : (n : ℕ) (round : Round) (later : List Round) → AreRounds targets plans Table (round ∷ later) → Ends n ≡ booted targets table (Ideal n)
+  open_ends n round later are =
+      ap (λ t. unless_barred (if t then Some refusals.NoTarget else None) (booted targets table (Ideal n))) (some_target round later are)
+
+  boot_same : (from to : Device) (mid : Device) (rounds : List Round) (n : ℕ) → AreRounds targets plans Table rounds → length rounds ≤ n →
+      HasNoFault (booted targets table rounds) → mid.start_faults ≡ from.start_faults → RoseBy (failed_starts rounds) mid.start_faults to.start_faults →
+      IsCalm from to (Ends n) → booted targets table rounds ≡ Ends n
+  boot_same from to mid [] n are few whole same rose calm =
+      sym (ap (λ t. unless_barred (if t then Some refusals.NoTarget else None) (booted targets table (Ideal n))) (no_target are))
+  boot_same from to mid (round ∷ later) n are few whole same rose calm =
+      let none_rose : Rose from.start_faults to.start_faults → ⊥ = elim calm [
+        | inl none ↦ λ r.
+            round_there targets plans Table round.target n (best_there round later are) (omega (arith, few))
+            (sym (good_is n) ∙ sym (ap (λ (s : Session). s.rounds) (open_ends n round later are)) ∙ none)
+        | inr calm ↦ calm
+      ] in
+      let saved = all_saved targets plans table (round ∷ later) Table are whole in
+      let started = none_failed (round ∷ later) mid.start_faults to.start_faults rose (λ r. none_rose (subst (λ k. Rose k to.start_faults) same r)) in
+      ap (booted targets table) (sym (good_is n ∙ good_rounds targets plans Table (round ∷ later) n few are saved started))
+      ∙ sym (open_ends n round later are)
+
+-- ---- the work of a plan
+
+work_same : (work : Work) (plan : SessionPlan) (from to : Device) (found : Option (List ℕ)) (saves : List SaveAnswer) → plan.work ≡ work → IsWorkOf work plan from to (Ok found) saves → HasNoFault (worked plan (Ok found) saves) → IsCalm from to (worked plan (Ok found) (answers_behind plan.work plan (Ok found))) → worked plan (Ok found) saves ≡ worked plan (Ok found) (answers_behind plan.work plan (Ok found))
+work_same Show plan from to found saves is done none calm =
+    let empty : saves_behind plan (Ok found) ≡ [] = ap (λ (w : Work). saves_of plan.keyed.layout w (loaded_area plan.keyed.layout found)) is in
+    ap (worked plan (Ok found)) (done.none ∙ sym (ap all_made empty) ∙ sym (made_behind plan.work plan (Ok found) (ap boots is)))
+work_same (Write area) plan from to found saves is done none calm =
+    store_same plan from to found saves (ap boots is) done (barred plan.work (loaded_area plan.keyed.layout found)) refl none
+    ∙ ap (worked plan (Ok found)) (sym (made_behind plan.work plan (Ok found) (ap boots is)))
+work_same (Act actions) plan from to found saves is done none calm =
+    store_same plan from to found saves (ap boots is) done (barred plan.work (loaded_area plan.keyed.layout found)) refl none
+    ∙ ap (worked plan (Ok found)) (sym (made_behind plan.work plan (Ok found) (ap boots is)))
+work_same (Good targets) plan from to found saves is done none calm =
+    store_same plan from to found saves (ap boots is) done (barred plan.work (loaded_area plan.keyed.layout found)) refl none
+    ∙ ap (worked plan (Ok found)) (sym (made_behind plan.work plan (Ok found) (ap boots is)))
+work_same (Boot targets cause plans) plan from to found saves is done none calm =
+    let run = done.booted in
+    let table = loaded_area plan.keyed.layout found in
+    let n = all_attempts targets (first_table targets cause true table) in
+    let session = boot_is plan targets cause plans found done.used done.middle to saves is run in
+    let ideal : worked plan (Ok found) (answers_behind plan.work plan (Ok found)) ≡ Ends targets cause plans table n =
+    ap (λ (w : Work). unless_barred (barred w table) (worked_on w plan found (answers_behind w plan (Ok found)))) is in
+    session
+    ∙ boot_same targets cause plans table from to done.middle run.rounds n run.are run.few (subst HasNoFault session none)
+    done.loaded.starts.start_faults run.start_faults (subst (IsCalm from to) ideal calm)
+    ∙ sym ideal
+
+load_same : (plan : SessionPlan) (from to : Device) (load : LoadAnswer) (saves : List SaveAnswer) → IsWorkOf plan.work plan from to load saves → HasNoFault (worked plan load saves) → (image : Image) → content from ≡ Some image →
+    let held : LoadAnswer = Ok (first_found (passed_in plan.keyed from.geometry.page image)) in
+    IsCalm from to (worked plan held (answers_behind plan.work plan held)) → worked plan load saves ≡ worked plan held (answers_behind plan.work plan held)
+load_same plan from to (Err fault) saves done none image told calm =
     absurd (let e : true ≡ false = sym (fault_device fault) ∙ none in cc)
-work_held Show plan from to (Ok found) saves is done none image told = record {
-  load_is = ap (λ f. Ok f) (done.looked.told image told);
-  saves_are = done.none ∙ ap (λ (w : Work). all_made (saves_of plan.layout w (loaded_area plan.layout found))) (sym is);
-}
-work_held (Write area) plan from to (Ok found) saves is done none image told = record {
-  load_is = ap (λ f. Ok f) (done.loaded.gives.taken ∙ load_found plan.layout done.loaded.gives.area done.loaded.gives.loaded from done.middle image done.loaded.gives.gave told);
-  saves_are = store_held plan from to found saves done (unmarked plan.work (loaded_area plan.layout found)) refl none;
-}
-work_held (Act actions) plan from to (Ok found) saves is done none image told = record {
-  load_is = ap (λ f. Ok f) (done.loaded.gives.taken ∙ load_found plan.layout done.loaded.gives.area done.loaded.gives.loaded from done.middle image done.loaded.gives.gave told);
-  saves_are = store_held plan from to found saves done (unmarked plan.work (loaded_area plan.layout found)) refl none;
-}
-work_held (Good targets) plan from to (Ok found) saves is done none image told = record {
-  load_is = ap (λ f. Ok f) (done.loaded.gives.taken ∙ load_found plan.layout done.loaded.gives.area done.loaded.gives.loaded from done.middle image done.loaded.gives.gave told);
-  saves_are = store_held plan from to found saves done (unmarked plan.work (loaded_area plan.layout found)) refl none;
-}
+load_same plan from to (Ok found) saves done none image told calm =
+    let same = work_gives plan.work plan from to found saves done image told in
+    work_same plan.work plan from to found saves refl done none
+    (subst (λ f. IsCalm from to (worked plan (Ok f) (answers_behind plan.work plan (Ok f)))) (sym same) calm)
+    ∙ ap (λ f. worked plan (Ok f) (answers_behind plan.work plan (Ok f))) same
 
-held_same : (plan : Plan) (page : ℕ) (image : Image) (load : LoadAnswer) (saves : List SaveAnswer) → IsHeld plan page image load saves → worked plan load saves ≡ worked plan (Ok (first_found (passed_in plan.layout page image))) (all_made (saves_behind plan (Ok (first_found (passed_in plan.layout page image)))))
-held_same plan page image load saves held =
-    ap (worked plan load) held.saves_are
-    ∙ ap (λ (l : LoadAnswer). worked plan l (all_made (saves_behind plan l))) held.load_is
-
-plan_same : (plan : Result Plan Refusal) (before after : Device) (answers : Answers) (files : FileAnswers) → IsFollowed plan before after answers → (Rose before.faults after.faults → ⊥) → (image : Image) → content before ≡ Some image → followed plan answers ≡ followed plan (answers_to files plan before.geometry image)
-plan_same (Err refusal) before after answers files done whole image told = refl
-plan_same (Ok plan) before after answers files done whole image told =
-    let none = unrefused plan before after answers.load answers.saves done whole (worked plan answers.load answers.saves).refusal refl in
-    held_same plan before.geometry.page image answers.load answers.saves
-    (work_held plan.work plan before after answers.load answers.saves refl done none image told)
+plan_same : (plan : Result SessionPlan Refusal) (before after : Device) (answers : Answers) (files : FileAnswers) → IsFollowed plan before after answers → (Rose before.faults after.faults → ⊥) → (image : Image) → content before ≡ Some image → IsCalm before after (followed plan (answers_to files plan before.geometry image)) → followed plan answers ≡ followed plan (answers_to files plan before.geometry image)
+plan_same (Err refusal) before after answers files done whole image told calm = refl
+plan_same (Ok plan) before after answers files done whole image told calm =
+    load_same plan before after answers.load answers.saves done
+    (unrefused plan before after answers.load answers.saves done whole (worked plan answers.load answers.saves).refusal refl) image told calm
 
 -- the session is that of what is held, where the plan is
-session_same : (words : List (List ℕ)) (folder folder' : Folder) (before after : Device) (answers : Answers) → AreAnswers words folder folder' before after answers → (files : FileMap) → planned words before.geometry answers.files ≡ planned words before.geometry (files_for words files) → (image : Image) → content before ≡ Some image → (Rose before.faults after.faults → ⊥) → IsSameOrMemory (session_of words before.geometry answers) (session_of words before.geometry (answers_of words before.geometry files image))
-session_same words folder folder' before after answers answered files same image told whole =
-    let read = files_for words files in
+session_same : (words : List (List ℕ)) (folder folder' : Folder) (before after : Device) (answers : Answers) → AreAnswers words folder folder' before after answers → (files : FileMap) → planned words before.geometry answers.files ≡ planned words before.geometry (files_for words before.geometry files) → (image : Image) → content before ≡ Some image → (Rose before.faults after.faults → ⊥) → IsCalm before after (session_of words before.geometry (answers_of words before.geometry files image)) → IsSameOrMemory (session_of words before.geometry answers) (session_of words before.geometry (answers_of words before.geometry files image))
+session_same words folder folder' before after answers answered files same image told whole calm =
+    let read = files_for words before.geometry files in
     inl (plan_same (planned words before.geometry answers.files) before after answers read answered.followed whole image told
-    ∙ ap (λ (p : Result Plan Refusal). followed p (answers_to read p before.geometry image)) same)
+    (subst (λ (p : Result SessionPlan Refusal). IsCalm before after (followed p (answers_to read p before.geometry image))) (sym same) calm)
+    ∙ ap (λ (p : Result SessionPlan Refusal). followed p (answers_to read p before.geometry image)) same)
 
-session_told : (words : List (List ℕ)) (folder folder' : Folder) (before after : Device) (answers : Answers) → AreAnswers words folder folder' before after answers → (Rose folder.faults folder'.faults → ⊥) → (files : FileMap) → folder.told ≡ Some files → (image : Image) → content before ≡ Some image → (Rose before.faults after.faults → ⊥) → IsSameOrMemory (session_of words before.geometry answers) (session_of words before.geometry (answers_of words before.geometry files image))
-session_told words folder folder' before after answers answered calm files known image told whole =
+session_told : (words : List (List ℕ)) (folder folder' : Folder) (before after : Device) (answers : Answers) → AreAnswers words folder folder' before after answers → (Rose folder.faults folder'.faults → ⊥) → (files : FileMap) → folder.told ≡ Some files → (image : Image) → content before ≡ Some image → (Rose before.faults after.faults → ⊥) → IsCalm before after (session_of words before.geometry (answers_of words before.geometry files image)) → IsSameOrMemory (session_of words before.geometry answers) (session_of words before.geometry (answers_of words before.geometry files image))
+session_told words folder folder' before after answers answered calm files known image told whole started =
     elim (same_plan words before.geometry folder folder' answers.files answered.filed files known) [
-      | inl same ↦ session_same words folder folder' before after answers answered files same image told whole
+      | inl same ↦ session_same words folder folder' before after answers answered files same image told whole started
       | inr odd ↦ elim odd [
-        | inl faulty ↦ absurd (
-            let named = faulty_words words before.geometry answers.files (words_of words) refl faulty in
-            calm (answered.filed.cause named.role named.name named.named named.fault))
-        | inr memory ↦ inr (ap (λ (p : Result Plan Refusal). followed p answers) memory)
+        | inl faulty ↦ absurd (calm (elim (faulty_words words before.geometry answers.files (words_of words) refl faulty) [
+          | inl named ↦ answered.filed.cause named.role named.name named.named named.fault
+          | inr entry ↦ answered.filed.entry_cause entry
+        ]))
+        | inr memory ↦ inr (ap (λ (p : Result SessionPlan Refusal). followed p answers) memory)
       ]
     ]
 
@@ -131,14 +216,14 @@ told_same given other before after status told sent (inl same) =
 told_same given other before after status told sent (inr memory) = inr ((told_whole _ _ before after status told sent).status_is ∙ ap ended_status memory)
 
 pub undisturbed_of : (ran : Ran) → IsSession ran → IsUndisturbed ran
-undisturbed_of ran (inr memory) = λ calm files known image told whole sent. inr (told_whole _ _ ran.before.outlet ran.after.outlet ran.status memory.told sent).status_is
-undisturbed_of ran (inl ending) = λ calm files known image told whole sent.
+undisturbed_of ran (inr memory) = λ calm files known image told whole started sent. inr (told_whole _ _ ran.before.outlet ran.after.outlet ran.status memory.told sent).status_is
+undisturbed_of ran (inl ending) = λ calm files known image told whole started sent.
     told_same (session_for ran ending.answers) (session_for ran (answers_of ran.words (geometry_of ran) files image)) ran.before.outlet ran.after.outlet ran.status ending.told sent
-    (session_told ran.words ran.before.folder ran.after.folder ran.before.device ran.after.device ending.answers ending.answered calm files known image told whole)
+    (session_told ran.words ran.before.folder ran.after.folder ran.before.device ran.after.device ending.answers ending.answered calm files known image told whole started)
 
 pub undisturbed_alone_of : (ran : Ran) → IsSession ran → IsUndisturbedAlone ran
-undisturbed_alone_of ran (inr memory) = λ none files image told whole sent. inr (told_whole _ _ ran.before.outlet ran.after.outlet ran.status memory.told sent).status_is
-undisturbed_alone_of ran (inl ending) = λ none files image told whole sent.
+undisturbed_alone_of ran (inr memory) = λ none files image told whole started sent. inr (told_whole _ _ ran.before.outlet ran.after.outlet ran.status memory.told sent).status_is
+undisturbed_alone_of ran (inl ending) = λ none files image told whole started sent.
     told_same (session_for ran ending.answers) (session_for ran (answers_of ran.words (geometry_of ran) files image)) ran.before.outlet ran.after.outlet ran.status ending.told sent
     (session_same ran.words ran.before.folder ran.after.folder ran.before.device ran.after.device ending.answers ending.answered files
-    (alone_plan (words_of ran.words) (geometry_of ran) ending.answers.files (files_for ran.words files) none) image told whole)
+    (alone_plan (words_of ran.words) (geometry_of ran) ending.answers.files (files_for ran.words (geometry_of ran) files) none) image told whole started)

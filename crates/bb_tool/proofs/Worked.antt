@@ -17,66 +17,72 @@ use Rattle.bb_flash.proofs.Moments.{later_joined}
 use Rattle.bb_actions.specs.Actions.{after_all}
 use Rattle.bb_words.specs.declared.command.Action.{Action}
 use Rattle.bb_tool.proofs.Quiet.{starts_joined}
-use Rattle.bb_layout.specs.Layout.{Laid}
+use Rattle.bb_state.specs.Keyed.{Keyed}
 use Rattle.bb_vars.specs.Table.{table_with}
 use Rattle.bb_state.specs.Kinds.{laid_form, laid_kinds}
-use Rattle.bb_state.specs.State.{IsDefault, IsRefused, has_changed, is_kept, is_sure, kept_of, laid_of, used_of}
+use Rattle.bb_state.specs.State.{IsDefault, IsRefused, has_changed, is_kept, is_sure, kept_of, keyed_of, used_of}
 use Rattle.bb_state.specs.State.{IsStored}
 use Rattle.bb_state.specs.declared.state.State.{State}
 use Rattle.bb_tool.specs.Looking.{first_found, look_text, passed_in}
-use Rattle.bb_tool.specs.Plan.{Act, Good, Plan, Show, Work, Write}
+use Rattle.bb_tool.specs.Booting.{SaveAnswer, boots}
+use Rattle.bb_tool.specs.Plan.{Act, Boot, Good, SessionPlan, Show, Work, Write}
 use Rattle.bb_tool.specs.Refusal.{copy_refusal}
-use Rattle.bb_tool.specs.Session.{LoadAnswer, SaveAnswer, Session, loaded_area, saved, saved_where, saves_behind, saves_of, text_of, unmarked, worked}
-use Rattle.bb_tool.specs.Work.{AreSaved, Gives, IsLoaded, IsLooked, IsSaved, IsStoreWork, IsWorkOf, IsWorkedOut, taken}
+use Rattle.bb_tool.specs.Session.{LoadAnswer, Session, barred, loaded_area, saved, saved_where, saves_behind, saves_of, text_of, worked}
+use Rattle.bb_tool.specs.Work.{AreSaved, Gives, IsLoaded, IsLooked, IsSaved, IsStoreWork, IsWorkOf, IsWorkedOut, SendsByMemory, taken}
 use Rattle.bb_tool.specs.declared.refusal.Refusal.{Refusal}
 use Rattle.bb_tool.specs.declared.refusal.Refusal.TheVariants as refusals
+use Rattle.bb_tool.specs.declared.report.Report.{Report}
 use Rattle.bb_tool.proofs.Kept.{found_first, found_none, load_area}
-use Rattle.bb_tool.proofs.Unmarked.{marked_session, unmarked_saves, unmarked_session}
+use Rattle.bb_tool.proofs.Barred.{barred_saves, barred_session, open_session}
+
+-- a report of this text alone
+abbrev pub told_whole : List ℕ → Report
+told_whole text = record { text = text; refusal = None }
 
 -- ---- memory was refused before the device was asked
 
-pub unasked_out : (layout : Laid) (work : Work) (device : Device) (given : Result (List ℕ) Refusal) →
-    given ≡ Err refusals.NoMemory → IsWorkedOut layout work device device given
-unasked_out layout work device given is = inr (inr (record { is = is; unasked = refl }))
+pub unasked_out : (keyed : Keyed) (work : Work) (device : Device) (given : Result Report Refusal) →
+    given ≡ Err refusals.NoMemory → IsWorkedOut keyed work device device given
+unasked_out keyed work device given is = inr (inr (record { is = is; unasked = refl }))
 
 -- ---- a look
 
-pub look_told : (layout : Laid) (area : List ℕ) (found : Bool) (from : Device) →
-    LookGives (laid_form layout) (laid_kinds layout) area from found →
+pub look_told : (keyed : Keyed) (area : List ℕ) (found : Bool) (from : Device) →
+    LookGives (laid_form keyed) (laid_kinds keyed.layout) area from found →
     ForSome (content from)
-    (λ image. then_some found area ≡ first_found (passed_in layout from.geometry.page image))
-look_told layout area true from gives = λ image told.
+    (λ image. then_some found area ≡ first_found (passed_in keyed from.geometry.page image))
+look_told keyed area true from gives = λ image told.
     let first = gives image told in
-    found_first [] area (passed_in layout from.geometry.page image) first.some (first.first [])
-look_told layout area false from gives = λ image told.
-    found_none (passed_in layout from.geometry.page image) (gives image told)
+    found_first [] area (passed_in keyed from.geometry.page image) first.some (first.first [])
+look_told keyed area false from gives = λ image told.
+    found_none (passed_in keyed from.geometry.page image) (gives image told)
 
-pub look_done : (layout : Laid) (from to : Device) (found : Option (List ℕ)) (text : List ℕ) →
-    IsLooked layout from to (Ok found) → text ≡ look_text found →
-    IsWorkedOut layout Show from to (Ok text)
-look_done layout from to found text looked is = inl (record {
+pub look_done : (keyed : Keyed) (from to : Device) (found : Option (List ℕ)) (report : Report) →
+    IsLooked keyed from to (Ok found) → report ≡ told_whole (look_text found) →
+    IsWorkedOut keyed Show from to (Ok report)
+look_done keyed from to found report looked is = inl (record {
   load = Ok found;
   saves = [];
   work = record { looked = looked; none = refl };
-  gives = (sym is, refl);
+  gives = (ap (λ (r : Report). r.text) (sym is), ap (λ (r : Report). r.refusal) (sym is));
 })
 
-pub look_textless : (layout : Laid) (from to : Device) (found : Option (List ℕ))
-    (given : Result (List ℕ) Refusal) → IsLooked layout from to (Ok found) →
-    given ≡ Err refusals.NoMemory → IsWorkedOut layout Show from to given
-look_textless layout from to found given looked is = inr (inl (record {
+pub look_textless : (keyed : Keyed) (from to : Device) (found : Option (List ℕ))
+    (given : Result Report Refusal) → IsLooked keyed from to (Ok found) →
+    given ≡ Err refusals.NoMemory → IsWorkedOut keyed Show from to given
+look_textless keyed from to found given looked is = inr (inl (record {
   load = Ok found;
   saves = [];
   work = record { looked = looked; none = refl };
-  whole = refl;
+  whole = tt;
   is = is;
 }))
 
-pub look_refused : (layout : Laid) (from to : Device) (fault : CopyFault)
-    (given : Result (List ℕ) Refusal) → IsLooked layout from to (Err fault) →
-    given ≡ Err (copy_refusal fault) → IsWorkedOut layout Show from to given
-look_refused layout from to fault given looked is =
-    subst (IsWorkedOut layout Show from to) (sym is)
+pub look_refused : (keyed : Keyed) (from to : Device) (fault : CopyFault)
+    (given : Result Report Refusal) → IsLooked keyed from to (Err fault) →
+    given ≡ Err (copy_refusal fault) → IsWorkedOut keyed Show from to given
+look_refused keyed from to fault given looked is =
+    subst (IsWorkedOut keyed Show from to) (sym is)
     (inl (record {
       load = Err fault;
       saves = [];
@@ -87,21 +93,21 @@ look_refused layout from to fault given looked is =
 -- ---- a load
 
 -- what the clauses of a load say, over the area that it leaves
-pub record LoadClauses (layout : Laid) (area : List ℕ) (from to : Device)
+pub record LoadClauses (keyed : Keyed) (area : List ℕ) (from to : Device)
     (answer : Result Loaded CopyFault) : Type 0 where
-  pub images : LoadImages (laid_form layout) (laid_kinds layout) from to
-  pub outside : KeepsOutside (laid_kinds layout) from to
+  pub images : LoadImages (laid_form keyed) (laid_kinds keyed.layout) from to
+  pub outside : KeepsOutside (laid_kinds keyed.layout) from to
   pub later : IsLater from to
   pub starts : LeavesStarts from to
-  pub gives : IfOk answer (LoadGives (laid_form layout) (laid_kinds layout) area from to)
-  pub defaults : IfOk answer (IsDefault layout area)
-  pub exact : IfOk answer (LoadsExactly (laid_form layout) (laid_kinds layout) area from to)
-  pub fails : IfErr answer (IsRefused layout from to)
+  pub gives : IfOk answer (LoadGives (laid_form keyed) (laid_kinds keyed.layout) area from to)
+  pub defaults : IfOk answer (IsDefault keyed.layout area)
+  pub exact : IfOk answer (LoadsExactly (laid_form keyed) (laid_kinds keyed.layout) area from to)
+  pub fails : IfErr answer (IsRefused keyed from to)
 
-pub load_ok : (layout : Laid) (area : List ℕ) (from to : Device) (loaded : Loaded) →
-    LoadClauses layout area from to (Ok loaded) →
-    IsLoaded layout (used_after loaded) from to (Ok (taken area loaded))
-load_ok layout area from to loaded clauses = record {
+pub load_ok : (keyed : Keyed) (area : List ℕ) (from to : Device) (loaded : Loaded) →
+    LoadClauses keyed area from to (Ok loaded) →
+    IsLoaded keyed (used_after loaded) from to (Ok (taken area loaded))
+load_ok keyed area from to loaded clauses = record {
   images = clauses.images;
   outside = clauses.outside;
   later = clauses.later;
@@ -116,9 +122,9 @@ load_ok layout area from to loaded clauses = record {
   fails = tt;
 }
 
-load_err : (layout : Laid) (area : List ℕ) (from to : Device) (fault : CopyFault) →
-    LoadClauses layout area from to (Err fault) → IsLoaded layout None from to (Err fault)
-load_err layout area from to fault clauses = record {
+pub load_err : (keyed : Keyed) (area : List ℕ) (from to : Device) (fault : CopyFault) →
+    LoadClauses keyed area from to (Err fault) → IsLoaded keyed None from to (Err fault)
+load_err keyed area from to fault clauses = record {
   images = clauses.images;
   outside = clauses.outside;
   later = clauses.later;
@@ -133,22 +139,31 @@ is_store Show = false
 is_store (Write area) = true
 is_store (Act actions) = true
 is_store (Good targets) = true
+is_store (Boot targets cause plans) = false
 
-store_work : (work : Work) (plan : Plan) (from to : Device) (load : LoadAnswer)
+store_boots : (work : Work) → is_store work ≡ true → boots work ≡ false
+store_boots Show stored = refl
+store_boots (Write area) stored = refl
+store_boots (Act actions) stored = refl
+store_boots (Good targets) stored = refl
+store_boots (Boot targets cause plans) stored = absurd cc
+
+store_work : (work : Work) (plan : SessionPlan) (from to : Device) (load : LoadAnswer)
     (saves : List SaveAnswer) → is_store work ≡ true → IsStoreWork plan from to load saves →
     IsWorkOf work plan from to load saves
 store_work Show plan from to load saves stored done = absurd cc
 store_work (Write area) plan from to load saves stored done = done
 store_work (Act actions) plan from to load saves stored done = done
 store_work (Good targets) plan from to load saves stored done = done
+store_work (Boot targets cause plans) plan from to load saves stored done = absurd cc
 
-pub load_refused : (layout : Laid) (work : Work) (area : List ℕ) (from to : Device)
-    (fault : CopyFault) (given : Result (List ℕ) Refusal) → is_store work ≡ true →
-    2 ≤ layout.copies → LoadClauses layout area from to (Err fault) →
-    given ≡ Err (copy_refusal fault) → IsWorkedOut layout work from to given
-load_refused layout work area from to fault given stored many clauses is =
-    let plan : Plan = record { layout = layout; work = work } in
-    subst (IsWorkedOut layout work from to) (sym is)
+pub load_refused : (keyed : Keyed) (work : Work) (area : List ℕ) (from to : Device)
+    (fault : CopyFault) (given : Result Report Refusal) → is_store work ≡ true →
+    2 ≤ keyed.layout.copies → LoadClauses keyed area from to (Err fault) →
+    given ≡ Err (copy_refusal fault) → IsWorkedOut keyed work from to given
+load_refused keyed work area from to fault given stored many clauses is =
+    let plan : SessionPlan = record { keyed = keyed; work = work } in
+    subst (IsWorkedOut keyed work from to) (sym is)
     (inl (record {
       load = Err fault;
       saves = [];
@@ -156,7 +171,7 @@ load_refused layout work area from to fault given stored many clauses is =
         middle = to;
         used = None;
         many = many;
-        loaded = load_err layout area from to fault clauses;
+        loaded = load_err keyed area from to fault clauses;
         saved = (refl, refl);
       });
       gives = (refl, refl);
@@ -165,76 +180,77 @@ load_refused layout work area from to fault given stored many clauses is =
 -- ---- saves
 
 -- the saves that were begun of these areas, and what they make of the session that has this text
-pub record IsBegun (layout : Laid) (used : Option ℕ) (areas : List (List ℕ)) (mid to : Device)
-    (given : List ℕ → Result (List ℕ) Refusal) : Type 0 where
+pub record IsBegun (keyed : Keyed) (used : Option ℕ) (areas : List (List ℕ)) (mid to : Device)
+    (given : List ℕ → Result Report Refusal) : Type 0 where
   pub saves : List SaveAnswer
-  pub are : AreSaved layout used areas mid to saves
+  pub are : AreSaved keyed used areas mid to saves
   pub gives : (text : List ℕ) → Gives (saved text areas saves) (given text)
 
-pub saved_ok : (layout : Laid) (used : Option ℕ) (area : List ℕ) (mid to : Device) →
-    IsSaved layout used area mid to (Ok tt) →
-    IsBegun layout used (area ∷ []) mid to (λ text. Ok text)
-saved_ok layout used area mid to done = record {
-  saves = Ok tt ∷ [];
+pub saved_ok : (keyed : Keyed) (used : Option ℕ) (area : List ℕ) (mid to : Device) →
+    IsSaved keyed used area mid to (Ok false) →
+    IsBegun keyed used (area ∷ []) mid to (λ text. Ok (told_whole text))
+saved_ok keyed used area mid to done = record {
+  saves = Ok false ∷ [];
   are = (done, (refl, refl));
   gives = λ text. (refl, refl);
 }
 
-pub saved_err : (layout : Laid) (used : Option ℕ) (area : List ℕ) (mid to : Device)
-    (fault : CopyFault) → IsSaved layout used area mid to (Err fault) →
-    IsBegun layout used (area ∷ []) mid to (λ text. Err (copy_refusal fault))
-saved_err layout used area mid to fault done = record {
+pub saved_err : (keyed : Keyed) (used : Option ℕ) (area : List ℕ) (mid to : Device)
+    (fault : CopyFault) → IsSaved keyed used area mid to (Err fault) →
+    IsBegun keyed used (area ∷ []) mid to (λ text. Err (copy_refusal fault))
+saved_err keyed used area mid to fault done = record {
   saves = Err fault ∷ [];
   are = (done, (refl, refl));
   gives = λ text. (refl, refl);
 }
 
 -- an area that is the one that was loaded isn't saved
-pub where_ok : (layout : Laid) (used : Option ℕ) (area : List ℕ) (mid to : Device) (same : Bool) →
-    (same ≡ true → to ≡ mid) → (same ≡ false → IsSaved layout used area mid to (Ok tt)) →
-    IsBegun layout used (saved_where same area) mid to (λ text. Ok text)
-where_ok layout used area mid to true idle saves = record {
+pub where_ok : (keyed : Keyed) (used : Option ℕ) (area : List ℕ) (mid to : Device) (same : Bool) →
+    (same ≡ true → to ≡ mid) → (same ≡ false → IsSaved keyed used area mid to (Ok false)) →
+    IsBegun keyed used (saved_where same area) mid to (λ text. Ok (told_whole text))
+where_ok keyed used area mid to true idle saves = record {
   saves = [];
   are = (refl, idle refl);
   gives = λ text. (refl, refl);
 }
-where_ok layout used area mid to false idle saves = saved_ok layout used area mid to (saves refl)
+where_ok keyed used area mid to false idle saves = saved_ok keyed used area mid to (saves refl)
 
-pub where_err : (layout : Laid) (used : Option ℕ) (area : List ℕ) (mid to : Device) (same : Bool)
+pub where_err : (keyed : Keyed) (used : Option ℕ) (area : List ℕ) (mid to : Device) (same : Bool)
     (fault : CopyFault) → (same ≡ true → ⊥) →
-    (same ≡ false → IsSaved layout used area mid to (Err fault)) →
-    IsBegun layout used (saved_where same area) mid to (λ text. Err (copy_refusal fault))
-where_err layout used area mid to true fault idle saves = absurd (idle refl)
-where_err layout used area mid to false fault idle saves =
-    saved_err layout used area mid to fault (saves refl)
+    (same ≡ false → IsSaved keyed used area mid to (Err fault)) →
+    IsBegun keyed used (saved_where same area) mid to (λ text. Err (copy_refusal fault))
+where_err keyed used area mid to true fault idle saves = absurd (idle refl)
+where_err keyed used area mid to false fault idle saves =
+    saved_err keyed used area mid to fault (saves refl)
 
 -- ---- the work behind a load that answered Ok
 
-module _ (layout : Laid) (work : Work) (from mid to : Device) (area : List ℕ) (loaded : Loaded)
-    (stored : is_store work ≡ true) (many : 2 ≤ layout.copies)
-    (clauses : LoadClauses layout area from mid (Ok loaded))
-    (given : List ℕ → Result (List ℕ) Refusal)
-    (begun : IsBegun layout (used_after loaded) (saves_of layout work area) mid to given)
-    (marks : unmarked work area ≡ None) where
-  abbrev Whole : Plan
-  Whole = record { layout = layout; work = work }
+module _ (keyed : Keyed) (work : Work) (from mid to : Device) (area : List ℕ) (loaded : Loaded)
+    (stored : is_store work ≡ true) (many : 2 ≤ keyed.layout.copies)
+    (clauses : LoadClauses keyed area from mid (Ok loaded))
+    (given : List ℕ → Result Report Refusal)
+    (begun : IsBegun keyed (used_after loaded) (saves_of keyed.layout work area) mid to given)
+    (free : barred work area ≡ None) where
+  abbrev Whole : SessionPlan
+  Whole = record { keyed = keyed; work = work }
 
-  same_area : loaded_area layout (taken area loaded) ≡ area
+  same_area : loaded_area keyed.layout (taken area loaded) ≡ area
   same_area =
-      load_area layout area loaded from mid
+      load_area keyed area loaded from mid
       (record { gives = clauses.gives; defaults = clauses.defaults; exact = clauses.exact })
 
-  begun_behind : IsBegun layout (used_after loaded) (saves_behind Whole (Ok (taken area loaded)))
+  begun_behind : IsBegun keyed (used_after loaded) (saves_behind Whole (Ok (taken area loaded)))
       mid to given
   begun_behind =
-      subst (λ a. IsBegun layout (used_after loaded) (saves_of layout work a) mid to given)
+      subst (λ a. IsBegun keyed (used_after loaded) (saves_of keyed.layout work a) mid to given)
       (sym same_area) begun
 
   session_is : worked Whole (Ok (taken area loaded)) begun_behind.saves
-      ≡ saved (text_of layout work (taken area loaded))
+      ≡ saved (text_of keyed.layout work (taken area loaded))
       (saves_behind Whole (Ok (taken area loaded))) begun_behind.saves
   session_is =
-      marked_session Whole (taken area loaded) begun_behind.saves (ap (unmarked work) same_area ∙ marks)
+      open_session Whole (taken area loaded) begun_behind.saves (store_boots work stored)
+      (ap (barred work) same_area ∙ free)
 
   store_done : IsWorkOf work Whole from to (Ok (taken area loaded)) begun_behind.saves
   store_done =
@@ -242,31 +258,31 @@ module _ (layout : Laid) (work : Work) (from mid to : Device) (area : List ℕ) 
         middle = mid;
         used = used_after loaded;
         many = many;
-        loaded = load_ok layout area from mid loaded clauses;
+        loaded = load_ok keyed area from mid loaded clauses;
         saved = begun_behind.are;
       })
 
   -- the session answers this
-  pub stored_out : (answer : Result (List ℕ) Refusal) →
-      answer ≡ given (text_of layout work (taken area loaded)) →
-      IsWorkedOut layout work from to answer
+  pub stored_out : (answer : Result Report Refusal) →
+      answer ≡ given (text_of keyed.layout work (taken area loaded)) →
+      IsWorkedOut keyed work from to answer
   stored_out answer is =
-      subst (IsWorkedOut layout work from to) (sym is)
+      subst (IsWorkedOut keyed work from to) (sym is)
       (inl (record {
         load = Ok (taken area loaded);
         saves = begun_behind.saves;
         work = store_done;
         gives =
-            subst (λ (s : Session). Gives s (given (text_of layout work (taken area loaded))))
-            (sym session_is) (begun_behind.gives (text_of layout work (taken area loaded)));
+            subst (λ (s : Session). Gives s (given (text_of keyed.layout work (taken area loaded))))
+            (sym session_is) (begun_behind.gives (text_of keyed.layout work (taken area loaded)));
       }))
 
   -- or memory was refused for its text
-  pub stored_textless : ((text : List ℕ) → given text ≡ Ok text) →
-      (answer : Result (List ℕ) Refusal) → answer ≡ Err refusals.NoMemory →
-      IsWorkedOut layout work from to answer
+  pub stored_textless : ((text : List ℕ) → given text ≡ Ok (told_whole text)) →
+      (answer : Result Report Refusal) → answer ≡ Err refusals.NoMemory →
+      IsWorkedOut keyed work from to answer
   stored_textless whole answer is =
-      let text = text_of layout work (taken area loaded) in
+      let text = text_of keyed.layout work (taken area loaded) in
       let gives = subst
       (Gives (saved text (saves_behind Whole (Ok (taken area loaded))) begun_behind.saves))
       (whole text) (begun_behind.gives text) in
@@ -274,25 +290,26 @@ module _ (layout : Laid) (work : Work) (from mid to : Device) (area : List ℕ) 
         load = Ok (taken area loaded);
         saves = begun_behind.saves;
         work = store_done;
-        whole = ap (λ (s : Session). s.refusal) session_is ∙ gives.1;
+        whole =
+            subst SendsByMemory (sym (ap (λ (s : Session). s.refusal) session_is ∙ gives.1)) tt;
         is = is;
       }))
 
--- ---- a load that gave a table in which no target is to be marked good
+-- ---- a load that gave a table which ends the session
 
-pub unmarked_out : (layout : Laid) (work : Work) (from to : Device) (area : List ℕ)
-    (loaded : Loaded) (place : ℕ) → is_store work ≡ true → 2 ≤ layout.copies →
-    LoadClauses layout area from to (Ok loaded) → unmarked work area ≡ Some place →
-    (given : Result (List ℕ) Refusal) → given ≡ Err (refusals.NoGood place) →
-    IsWorkedOut layout work from to given
-unmarked_out layout work from to area loaded place stored many clauses marks given is =
-    let plan : Plan = record { layout = layout; work = work } in
+pub barred_out : (keyed : Keyed) (work : Work) (from to : Device) (area : List ℕ)
+    (loaded : Loaded) (refusal : Refusal) → is_store work ≡ true → 2 ≤ keyed.layout.copies →
+    LoadClauses keyed area from to (Ok loaded) → barred work area ≡ Some refusal →
+    (given : Result Report Refusal) → given ≡ Err refusal →
+    IsWorkedOut keyed work from to given
+barred_out keyed work from to area loaded refusal stored many clauses bars given is =
+    let plan : SessionPlan = record { keyed = keyed; work = work } in
     let found = taken area loaded in
-    let same : loaded_area layout found ≡ area =
-    load_area layout area loaded from to
+    let same : loaded_area keyed.layout found ≡ area =
+    load_area keyed area loaded from to
     (record { gives = clauses.gives; defaults = clauses.defaults; exact = clauses.exact }) in
-    let here : unmarked work (loaded_area layout found) ≡ Some place = ap (unmarked work) same ∙ marks in
-    subst (IsWorkedOut layout work from to) (sym is)
+    let here : barred work (loaded_area keyed.layout found) ≡ Some refusal = ap (barred work) same ∙ bars in
+    subst (IsWorkedOut keyed work from to) (sym is)
     (inl (record {
       load = Ok found;
       saves = [];
@@ -300,14 +317,14 @@ unmarked_out layout work from to area loaded place stored many clauses marks giv
         middle = to;
         used = used_after loaded;
         many = many;
-        loaded = load_ok layout area from to loaded clauses;
+        loaded = load_ok keyed area from to loaded clauses;
         saved =
-            subst (λ areas. AreSaved layout (used_after loaded) areas to to [])
-            (sym (unmarked_saves layout work (loaded_area layout found) place here)) (refl, refl);
+            subst (λ areas. AreSaved keyed (used_after loaded) areas to to [])
+            (sym (barred_saves keyed.layout work (loaded_area keyed.layout found) refusal here)) (refl, refl);
       });
       gives =
-          subst (λ (s : Session). Gives s (Err (refusals.NoGood place)))
-          (sym (unmarked_session plan found [] place here)) (refl, refl);
+          subst (λ (s : Session). Gives s (Err refusal))
+          (sym (barred_session plan found [] refusal here)) (refl, refl);
     }))
 
 -- ---- a vector that was filled anew
@@ -350,14 +367,14 @@ is_kept_is state area new sure table kept =
 
 -- ---- the save of a table that was changed
 
-module _ (first state : State) (layout : Laid) (new : List ℕ) (loaded : Loaded)
+module _ (first state : State) (keyed : Keyed) (new : List ℕ) (loaded : Loaded)
     (mid to : Device) (now : Option ℕ)
     (backing : state ≡ record first { table = state.table })
     (new_is : state.table ≡ new)
-    (layout_is : laid_of first ≡ layout) (used : used_of first ≡ used_after loaded)
+    (layout_is : keyed_of first ≡ keyed) (used : used_of first ≡ used_after loaded)
     (sure : is_sure first ≡ true) (kept : kept_of first ≡ first.table)
     (runs : has_changed state ≡ true →
-    SaveRuns (laid_form (laid_of state)) (laid_kinds (laid_of state)) (used_of state) state.table mid
+    SaveRuns (laid_form (keyed_of state)) (laid_kinds (keyed_of state).layout) (used_of state) state.table mid
     to)
     (idle : has_changed state ≡ false → to ≡ mid) where
   sure_is : is_sure state ≡ true
@@ -369,26 +386,26 @@ module _ (first state : State) (layout : Laid) (new : List ℕ) (loaded : Loaded
   changed_so : has_changed state ≡ not (bytes_eq new first.table)
   changed_so = has_changed_is state first.table new sure_is new_is kept_so
 
-  moved : (answer : SaveAnswer) → IsSaved (laid_of state) (used_of state) state.table mid to answer →
-      IsSaved layout (used_after loaded) new mid to answer
+  moved : (answer : SaveAnswer) → IsSaved (keyed_of state) (used_of state) state.table mid to answer →
+      IsSaved keyed (used_after loaded) new mid to answer
   moved answer done =
-      subst (λ (l : Laid). IsSaved l (used_after loaded) new mid to answer)
-      (ap laid_of backing ∙ layout_is)
-      (subst (λ (u : Option ℕ). IsSaved (laid_of state) u new mid to answer)
+      subst (λ (l : Keyed). IsSaved l (used_after loaded) new mid to answer)
+      (ap keyed_of backing ∙ layout_is)
+      (subst (λ (u : Option ℕ). IsSaved (keyed_of state) u new mid to answer)
       (ap used_of backing ∙ used)
-      (subst (λ (a : List ℕ). IsSaved (laid_of state) (used_of state) a mid to answer) new_is done))
+      (subst (λ (a : List ℕ). IsSaved (keyed_of state) (used_of state) a mid to answer) new_is done))
 
   pub changed_ok :
-      (has_changed state ≡ true → IsStored (laid_of state) state.table now mid to) →
+      (has_changed state ≡ true → IsStored (keyed_of state) state.table now mid to) →
       (has_changed state ≡ true → IsUndisturbed mid to →
-      EachWritten (laid_kinds (laid_of state)) ((laid_form (laid_of state)).text state.table) mid to) →
-      IsBegun layout (used_after loaded) (saved_where (bytes_eq new first.table) new) mid to
-      (λ text. Ok text)
+      EachWritten (laid_kinds (keyed_of state).layout) ((laid_form (keyed_of state)).text state.table) mid to) →
+      IsBegun keyed (used_after loaded) (saved_where (bytes_eq new first.table) new) mid to
+      (λ text. Ok (told_whole text))
   changed_ok stored exact =
-      where_ok layout (used_after loaded) new mid to (bytes_eq new first.table)
+      where_ok keyed (used_after loaded) new mid to (bytes_eq new first.table)
       (λ e. idle (changed_so ∙ ap not e))
       (λ e. let changed = changed_so ∙ ap not e in
-      moved (Ok tt) (record {
+      moved (Ok false) (record {
         now = now;
         runs = runs changed;
         stored = stored changed;
@@ -398,12 +415,12 @@ module _ (first state : State) (layout : Laid) (new : List ℕ) (loaded : Loaded
       }))
 
   pub changed_err : (fault : CopyFault) → (is_kept state ≡ true → ⊥) → fault ≢ Unsure →
-      SaveFails (laid_form (laid_of state)) (laid_kinds (laid_of state)) (used_of state) state.table
+      SaveFails (laid_form (keyed_of state)) (laid_kinds (keyed_of state).layout) (used_of state) state.table
       mid to fault →
-      IsBegun layout (used_after loaded) (saved_where (bytes_eq new first.table) new) mid to
+      IsBegun keyed (used_after loaded) (saved_where (bytes_eq new first.table) new) mid to
       (λ text. Err (copy_refusal fault))
   changed_err fault same other fails =
-      where_err layout (used_after loaded) new mid to (bytes_eq new first.table) fault
+      where_err keyed (used_after loaded) new mid to (bytes_eq new first.table) fault
       (λ e. same (is_kept_is state first.table new sure_is new_is kept_so ∙ e))
       (λ e. moved (Err fault) (record {
         now = now;
@@ -416,51 +433,51 @@ module _ (first state : State) (layout : Laid) (new : List ℕ) (loaded : Loaded
 
 -- ---- the save behind all sets
 
-module _ (first state : State) (layout : Laid) (actions : List Action) (loaded : Loaded)
+module _ (first state : State) (keyed : Keyed) (actions : List Action) (loaded : Loaded)
     (mid to : Device) (now : Option ℕ)
     (backing : state ≡ record first { table = state.table })
-    (table : state.table ≡ after_all (laid_of first).vars first.table actions)
-    (layout_is : laid_of first ≡ layout) (used : used_of first ≡ used_after loaded)
+    (table : state.table ≡ after_all (keyed_of first).layout.vars first.table actions)
+    (layout_is : keyed_of first ≡ keyed) (used : used_of first ≡ used_after loaded)
     (sure : is_sure first ≡ true) (kept : kept_of first ≡ first.table)
     (runs : has_changed state ≡ true →
-    SaveRuns (laid_form (laid_of state)) (laid_kinds (laid_of state)) (used_of state) state.table mid
+    SaveRuns (laid_form (keyed_of state)) (laid_kinds (keyed_of state).layout) (used_of state) state.table mid
     to)
     (idle : has_changed state ≡ false → to ≡ mid) where
-  made_is : state.table ≡ after_all layout.vars first.table actions
-  made_is = table ∙ ap (λ (l : Laid). after_all l.vars first.table actions) layout_is
+  made_is : state.table ≡ after_all keyed.layout.vars first.table actions
+  made_is = table ∙ ap (λ (l : Keyed). after_all l.layout.vars first.table actions) layout_is
 
   pub acted_ok :
-      (has_changed state ≡ true → IsStored (laid_of state) state.table now mid to) →
+      (has_changed state ≡ true → IsStored (keyed_of state) state.table now mid to) →
       (has_changed state ≡ true → IsUndisturbed mid to →
-      EachWritten (laid_kinds (laid_of state)) ((laid_form (laid_of state)).text state.table) mid to) →
-      IsBegun layout (used_after loaded) (saves_of layout (Act actions) first.table) mid to
-      (λ text. Ok text)
+      EachWritten (laid_kinds (keyed_of state).layout) ((laid_form (keyed_of state)).text state.table) mid to) →
+      IsBegun keyed (used_after loaded) (saves_of keyed.layout (Act actions) first.table) mid to
+      (λ text. Ok (told_whole text))
   acted_ok =
-      changed_ok first state layout (after_all layout.vars first.table actions) loaded mid to now
+      changed_ok first state keyed (after_all keyed.layout.vars first.table actions) loaded mid to now
       backing made_is layout_is used sure kept runs idle
 
   pub acted_err : (fault : CopyFault) → (is_kept state ≡ true → ⊥) → fault ≢ Unsure →
-      SaveFails (laid_form (laid_of state)) (laid_kinds (laid_of state)) (used_of state) state.table
+      SaveFails (laid_form (keyed_of state)) (laid_kinds (keyed_of state).layout) (used_of state) state.table
       mid to fault →
-      IsBegun layout (used_after loaded) (saves_of layout (Act actions) first.table) mid to
+      IsBegun keyed (used_after loaded) (saves_of keyed.layout (Act actions) first.table) mid to
       (λ text. Err (copy_refusal fault))
   acted_err =
-      changed_err first state layout (after_all layout.vars first.table actions) loaded mid to now
+      changed_err first state keyed (after_all keyed.layout.vars first.table actions) loaded mid to now
       backing made_is layout_is used sure kept runs idle
 
-pub begun_later : (layout : Laid) (used : Option ℕ) (areas : List (List ℕ)) (saves : List SaveAnswer)
-    (from mid to : Device) → AreSaved layout used areas mid to saves → IsLater from mid →
+pub begun_later : (keyed : Keyed) (used : Option ℕ) (areas : List (List ℕ)) (saves : List SaveAnswer)
+    (from mid to : Device) → AreSaved keyed used areas mid to saves → IsLater from mid →
     IsLater from to
-begun_later layout used [] saves from mid to are later = subst (IsLater from) (sym are.1) later
-begun_later layout used (area ∷ areas) [] from mid to are later = absurd are
-begun_later layout used (area ∷ areas) (answer ∷ saves) from mid to are later =
+begun_later keyed used [] saves from mid to are later = subst (IsLater from) (sym are.1) later
+begun_later keyed used (area ∷ areas) [] from mid to are later = absurd are
+begun_later keyed used (area ∷ areas) (answer ∷ saves) from mid to are later =
     later_joined from mid to later are.0.runs.later
 
-pub begun_starts : (layout : Laid) (used : Option ℕ) (areas : List (List ℕ))
-    (saves : List SaveAnswer) (from mid to : Device) → AreSaved layout used areas mid to saves →
+pub begun_starts : (keyed : Keyed) (used : Option ℕ) (areas : List (List ℕ))
+    (saves : List SaveAnswer) (from mid to : Device) → AreSaved keyed used areas mid to saves →
     LeavesStarts from mid → LeavesStarts from to
-begun_starts layout used [] saves from mid to are starts =
+begun_starts keyed used [] saves from mid to are starts =
     subst (LeavesStarts from) (sym are.1) starts
-begun_starts layout used (area ∷ areas) [] from mid to are starts = absurd are
-begun_starts layout used (area ∷ areas) (answer ∷ saves) from mid to are starts =
+begun_starts keyed used (area ∷ areas) [] from mid to are starts = absurd are
+begun_starts keyed used (area ∷ areas) (answer ∷ saves) from mid to are starts =
     starts_joined from mid to starts are.0.runs.starts

@@ -1,21 +1,22 @@
 -- What `run` says of each call: every clause of its contract is one of these facts, and none of them
 -- names a command.
-use Rattle.std.specs.Prelude.{◌≡◌, ◌⊎◌, ◌<◌, ℕ, Bool, true, false, List, Option, Some, None, Result, Ok, Err, IsErr, IsSome}
+use Rattle.std.specs.Prelude.{◌≡◌, ◌⊎◌, ◌<◌, ℕ, Bool, true, false, List, [], Option, Some, Result, Ok, Err, IsErr, option_map}
 use Rattle.std.specs.Option.{ForSome}
 use Rattle.bb_base.specs.Faults.{HasCause, Rose}
 use Rattle.bb_base.specs.Folder.{FileMap}
 use Rattle.bb_base.specs.Outlet.{SendsFront}
 use Rattle.bb_flash.specs.Cuts.{IsLater}
-use Rattle.bb_flash.specs.Device.{LeavesStarts, content}
+use Rattle.bb_flash.specs.Device.{content}
 use Rattle.bb_flash.specs.declared.geometry.Geometry.{Geometry}
 use Rattle.bb_words.specs.Words.{words_of}
 use Rattle.bb_tool.specs.Ending.{AreAnswers}
 use Rattle.bb_tool.specs.Filing.{IsFolderLater}
-use Rattle.bb_tool.specs.Plan.{Plan, copies_in, files_for, names_file, planned}
+use Rattle.bb_tool.specs.Plan.{SessionPlan, copies_in, files_for, names_file, planned}
 use Rattle.bb_tool.specs.Ran.{Ran}
 use Rattle.bb_tool.specs.Refusal.{line_of, status_of}
-use Rattle.bb_tool.specs.Session.{Answers, Session, answers_of, ended_status, load_for, sent_of, session_of, unmarked_behind}
+use Rattle.bb_tool.specs.Session.{Answers, Session, answers_of, barred_behind, ended_status, load_for, sent_of, session_of}
 use Rattle.bb_tool.specs.Telling.{IsSent, IsTold}
+use Rattle.bb_tool.specs.Work.{SendsByMemory}
 use Rattle.bb_tool.specs.declared.refusal.Refusal.{Refusal}
 use Rattle.bb_tool.specs.declared.refusal.Refusal.TheVariants as refusals
 use Rattle.bb_tool.specs.declared.status.Status.{Status}
@@ -37,11 +38,12 @@ abbrev pub session_for : Ran → Answers → Session
 session_for ran answers = session_of ran.words (geometry_of ran) answers
 
 -- the plan, where reading the files that the words name gave what these files hold
-abbrev pub plan_over : Ran → FileMap → Result Plan Refusal
-plan_over ran files = planned ran.words (geometry_of ran) (files_for ran.words files)
+abbrev pub plan_over : Ran → FileMap → Result SessionPlan Refusal
+plan_over ran files =
+    planned ran.words (geometry_of ran) (files_for ran.words (geometry_of ran) files)
 
 -- the plan for what reading the files answered
-abbrev pub plan_for : Ran → Answers → Result Plan Refusal
+abbrev pub plan_for : Ran → Answers → Result SessionPlan Refusal
 plan_for ran answers = planned ran.words (geometry_of ran) answers.files
 
 -- the words name no file
@@ -60,11 +62,11 @@ pub record IsAnswered (ran : Ran) : Type 0 where
   pub answered : MayAnswer ran answers
   pub told : Tells ran (sent_of (session_for ran answers)) (ended_status (session_for ran answers))
 
--- memory was refused behind all work on the device, of which no part was refused
+-- memory was refused behind all work on the device, for what was to be sent of it
 pub record IsWithoutText (ran : Ran) : Type 0 where
   pub answers : Answers
   pub answered : MayAnswer ran answers
-  pub whole : (session_for ran answers).refusal ≡ None
+  pub whole : SendsByMemory (session_for ran answers).refusal
 
 -- memory was refused, before any call of the device or behind all work on it, and only that one line
 -- was told
@@ -77,10 +79,17 @@ IsSession ran = IsAnswered ran ⊎ IsWithoutMemory ran
 
 -- ---- where nothing failed
 
--- unless the device or the output failed, this session was sent whole, or memory was refused
+-- no start failed that the session tried
+abbrev pub FailsNoStart : Ran → Session → Type 0
+FailsNoStart ran session =
+    (session.rounds ≡ [])
+    ⊎ (Rose ran.before.device.start_faults ran.after.device.start_faults → ⊥)
+
+-- unless the device, a start or the output failed, this session was sent whole, or memory was refused
 abbrev pub IsWhole : Ran → Session → Type 0
 IsWhole ran session =
     (Rose ran.before.device.faults ran.after.device.faults → ⊥)
+    → FailsNoStart ran session
     → (Rose ran.before.outlet.faults ran.after.outlet.faults → ⊥)
     → IsSent (sent_of session) (ended_status session) ran.before.outlet ran.after.outlet ran.status
     ⊎ (ran.status ≡ statuses.NoMemory)
@@ -113,10 +122,6 @@ KeepsFiles ran = IsFolderLater ran.before.folder ran.after.folder
 abbrev pub KeepsHistory : Ran → Type 0
 KeepsHistory ran = IsLater ran.before.device ran.after.device
 
--- no command starts a system so far
-abbrev pub StartsNothing : Ran → Type 0
-StartsNothing ran = LeavesStarts ran.before.device ran.after.device
-
 -- the statuses of refusals that come before the work on the device
 abbrev pub is_planning : Status → Bool
 is_planning statuses.Done = false
@@ -129,9 +134,12 @@ is_planning statuses.FileFault = true
 is_planning statuses.FileTooLong = true
 is_planning statuses.ReadFault = false
 is_planning statuses.WriteFault = false
+is_planning statuses.NoTarget = false
+is_planning statuses.StartFailed = false
 is_planning statuses.BadSettings = true
 is_planning statuses.NoGood = false
 is_planning statuses.SinkFault = false
+is_planning statuses.BadKey = true
 is_planning statuses.NoMemory = false
 
 -- such a refusal comes without any call of the device
@@ -160,12 +168,12 @@ abbrev pub ComesByWords : Status → Ran → Type 0
 ComesByWords answer ran = ComesExactly ran answer (IsErr (words_of ran.words))
 
 -- a plan is refused with this status
-abbrev pub IsRefusedWith : Status → Result Plan Refusal → Type 0
+abbrev pub IsRefusedWith : Status → Result SessionPlan Refusal → Type 0
 IsRefusedWith answer (Ok plan) = ⊥
 IsRefusedWith answer (Err refusal) = status_of refusal ≡ answer
 
 -- an answer comes exactly where the plan is so refused; a fault of the files comes before it too
-pub record ComesPlanned (ran : Ran) (answer : Status) (plan : Result Plan Refusal) : Type 0 where
+pub record ComesPlanned (ran : Ran) (answer : Status) (plan : Result SessionPlan Refusal) : Type 0 where
   pub only : ran.status ≡ answer → IsRefusedWith answer plan
   pub always : IsRefusedWith answer plan
       → (ran.status ≡ answer)
@@ -183,11 +191,11 @@ ComesByPlanAlone answer ran =
     NamesNoFile ran → (files : FileMap)
     → ComesExactly ran answer (IsRefusedWith answer (plan_over ran files))
 
--- An answer comes exactly where the table of a plan's copies at entry has, as the place that is to be
--- marked good, one that no target has. Each fault comes before it.
-pub record ComesUnmarked (ran : Ran) (answer : Status) (place : Option ℕ) : Type 0 where
-  pub only : ran.status ≡ answer → IsSome place
-  pub always : IsSome place
+-- An answer comes exactly where the table of a plan's copies at entry ends the session before any
+-- save, with this refusal. Each fault comes before it.
+pub record ComesBarred (ran : Ran) (answer : Status) (refusal : Option Refusal) : Type 0 where
+  pub only : ran.status ≡ answer → option_map status_of refusal ≡ Some answer
+  pub always : option_map status_of refusal ≡ Some answer
       → (ran.status ≡ answer)
       ⊎ ((ran.status ≡ statuses.NoMemory) ⊎ (is_fault ran.status ≡ true))
 
@@ -199,7 +207,7 @@ ComesByTable answer ran =
     ForSome (content ran.before.device)
     (λ image.
     let plan = plan_over ran files in
-    ComesUnmarked ran answer (unmarked_behind plan (load_for plan (geometry_of ran) image))))
+    ComesBarred ran answer (barred_behind plan (load_for plan (geometry_of ran) image))))
 
 -- an answer comes only where a count rose: that of the files, the device, its reads, or the output
 abbrev pub ComesByFiles : Status → Ran → Type 0

@@ -1,15 +1,17 @@
 -- What `run` says of the copies: how they stand at exit and on the way, to the byte where nothing
 -- failed, and why one of them couldn't be written. None of these facts names a command.
-use Rattle.std.specs.Prelude.{◌≡◌, ◌<◌, ◌⊎◌, ℕ, Some, Result, Ok}
+use Rattle.std.specs.Prelude.{◌≡◌, ◌<◌, ◌⊎◌, ℕ, true, List, Some, Result, Ok, is_ok}
+use Rattle.std.specs.List.{list_all}
 use Rattle.bb_copies.specs.Loading.{KeepsOutside}
 use Rattle.bb_copies.specs.Settling.{IsUndisturbed}
 use Rattle.bb_flash.specs.Device.{Device, content}
 use Rattle.bb_state.specs.Kinds.{laid_kinds}
 use Rattle.bb_tool.specs.Calls.{MayAnswer, plan_for, session_for}
 use Rattle.bb_tool.specs.Exactly.{EndsAlike, LeavesExactly}
-use Rattle.bb_tool.specs.Plan.{Plan}
+use Rattle.bb_tool.specs.Plan.{SessionPlan}
 use Rattle.bb_tool.specs.Ran.{Ran}
-use Rattle.bb_tool.specs.Session.{Answers, all_made}
+use Rattle.bb_tool.specs.Booting.{SaveAnswer}
+use Rattle.bb_tool.specs.Session.{Answers}
 use Rattle.bb_tool.specs.Turns.{HasTrails, LeadsOn}
 use Rattle.bb_tool.specs.WriteFault.{IsWriteFault}
 use Rattle.bb_tool.specs.declared.refusal.Refusal.{Refusal}
@@ -19,9 +21,9 @@ use Rattle.bb_tool.specs.declared.status.Status.TheVariants as statuses
 -- ---- whatever happened
 
 -- the work of a plan was done, for these answers
-abbrev pub EachWork : Ran → (Plan → Answers → Type 0) → Type 0
+abbrev pub EachWork : Ran → (SessionPlan → Answers → Type 0) → Type 0
 EachWork ran P =
-    (answers : Answers) (plan : Plan) → MayAnswer ran answers →
+    (answers : Answers) (plan : SessionPlan) → MayAnswer ran answers →
     plan_for ran answers ≡ Ok plan → P plan answers
 
 -- For whatever answers the session is told: at exit, where no call that failed left a copy that
@@ -44,15 +46,16 @@ abbrev pub KeepsOthers : Ran → Type 0
 KeepsOthers ran =
     EachWork ran
     (λ plan answers.
-    KeepsOutside (laid_kinds plan.layout) ran.before.device ran.after.device)
+    KeepsOutside (laid_kinds plan.keyed.layout) ran.before.device ran.after.device)
 
 -- ---- where no call of the device failed
 
 -- a fact about what was left, for whatever answers the session is told
-abbrev pub EachCalm : Ran → (Result Plan Refusal → Device → Device → Type 0) → Type 0
+abbrev pub EachCalm :
+    Ran → (Result SessionPlan Refusal → List SaveAnswer → Device → Device → Type 0) → Type 0
 EachCalm ran P =
     IsUndisturbed ran.before.device ran.after.device → (answers : Answers) → MayAnswer ran answers →
-    P (plan_for ran answers) ran.before.device ran.after.device
+    P (plan_for ran answers) answers.saves ran.before.device ran.after.device
 
 -- Each copy holds exactly what the load and the saves make of it: a save writes every copy; a load
 -- that took one writes those that don't pass its area, or have a Worn page in their record. A look,
@@ -79,7 +82,7 @@ StopsAtFileFault ran = ran.before.folder.faults < ran.after.folder.faults → Le
 pub record MakesItsSaves (ran : Ran) : Type 0 where
   pub answers : Answers
   pub answered : MayAnswer ran answers
-  pub made : answers.saves ≡ all_made (session_for ran answers).saves
+  pub made : list_all is_ok answers.saves ≡ true
 
 -- where memory was refused that was before any call of the device, or behind saves that were made
 abbrev pub StopsBetweenSaves : Ran → Type 0
@@ -100,4 +103,4 @@ KnowsWriteFaults ran =
     EachWork ran
     (λ plan answers.
     (copy : ℕ) → (session_for ran answers).refusal ≡ Some (refusals.WriteFault copy) →
-    IsWriteFault plan ran.before.device ran.after.device answers.load copy)
+    IsWriteFault plan ran.before.device ran.after.device answers.load answers.saves copy)

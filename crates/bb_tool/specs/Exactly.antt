@@ -8,11 +8,12 @@ use Rattle.bb_bucket.specs.Kind.{Kind, part_of}
 use Rattle.bb_copies.specs.Buckets.{EachCopy}
 use Rattle.bb_flash.specs.Device.{Device, content}
 use Rattle.bb_flash.specs.Image.{Image}
-use Rattle.bb_layout.specs.Layout.{Laid}
+use Rattle.bb_state.specs.Keyed.{Keyed}
 use Rattle.bb_state.specs.Kinds.{laid_form, laid_kinds}
 use Rattle.bb_tool.specs.Looking.{first_found, passed_in}
-use Rattle.bb_tool.specs.Plan.{Act, Good, Plan, Show, Work, Write}
-use Rattle.bb_tool.specs.Session.{saves_behind}
+use Rattle.bb_tool.specs.Booting.{SaveAnswer}
+use Rattle.bb_tool.specs.Plan.{Act, Boot, Good, SessionPlan, Show, Work, Write}
+use Rattle.bb_tool.specs.Session.{saves_behind, worked}
 use Rattle.bb_tool.specs.declared.refusal.Refusal.{Refusal}
 
 -- ---- the region of one copy
@@ -38,18 +39,22 @@ saved_region form kind (area ∷ areas) region =
 
 -- ---- the work of a plan, where the first copy that passed had this area, or none passed
 
--- after the load, and the saves behind it
-abbrev pub stored_region : Plan → Option (List ℕ) → Kind → Image → Image
-stored_region plan found kind region =
-    let form = laid_form plan.layout in
-    saved_region form kind (saves_behind plan (Ok found)) (loaded_region form kind found region)
+-- the areas that are saved behind the load: those of a boot hang on the answers of its starts
+abbrev pub saves_made : Work → SessionPlan → Option (List ℕ) → List SaveAnswer → List (List ℕ)
+saves_made Show plan found answers = saves_behind plan (Ok found)
+saves_made (Write area) plan found answers = saves_behind plan (Ok found)
+saves_made (Act actions) plan found answers = saves_behind plan (Ok found)
+saves_made (Good targets) plan found answers = saves_behind plan (Ok found)
+saves_made (Boot targets cause plans) plan found answers = (worked plan (Ok found) answers).saves
 
--- a look changes nothing
-abbrev pub worked_region : Work → Plan → Option (List ℕ) → Kind → Image → Image
-worked_region Show plan found kind region = region
-worked_region (Write area) plan found kind region = stored_region plan found kind region
-worked_region (Act actions) plan found kind region = stored_region plan found kind region
-worked_region (Good targets) plan found kind region = stored_region plan found kind region
+-- after the load, and the saves behind it; a look changes nothing
+abbrev pub worked_region :
+    Work → SessionPlan → Option (List ℕ) → List SaveAnswer → Kind → Image → Image
+worked_region Show plan found answers kind region = region
+worked_region work plan found answers kind region =
+    let form = laid_form plan.keyed in
+    saved_region form kind (saves_made work plan found answers)
+    (loaded_region form kind found region)
 
 -- the area that was loaded or saved last, if one was
 abbrev pub last_of : Option (List ℕ) → List (List ℕ) → Option (List ℕ)
@@ -57,11 +62,10 @@ last_of found [] = found
 last_of found (area ∷ areas) = last_of (Some area) areas
 
 -- a look loads none
-abbrev pub last_area : Work → Plan → Option (List ℕ) → Option (List ℕ)
-last_area Show plan found = None
-last_area (Write area) plan found = last_of found (saves_behind plan (Ok found))
-last_area (Act actions) plan found = last_of found (saves_behind plan (Ok found))
-last_area (Good targets) plan found = last_of found (saves_behind plan (Ok found))
+abbrev pub last_area :
+    Work → SessionPlan → Option (List ℕ) → List SaveAnswer → Option (List ℕ)
+last_area Show plan found answers = None
+last_area work plan found answers = last_of found (saves_made work plan found answers)
 
 -- ---- what it leaves of all copies
 
@@ -72,35 +76,36 @@ LeavesRegions kinds page f before after =
     (λ copy kind. part_of page kind.region after ≡ f kind (part_of page kind.region before))
 
 -- every copy passes this area; where there is none the copies are as before
-abbrev pub PassAlike : Laid → ℕ → Option (List ℕ) → Image → Image → Type 0
-PassAlike layout page None before after =
-    LeavesRegions (laid_kinds layout) page (λ kind region. region) before after
-PassAlike layout page (Some area) before after =
-    All (λ passed. passed ≡ Some area) (passed_in layout page after)
+abbrev pub PassAlike : Keyed → ℕ → Option (List ℕ) → Image → Image → Type 0
+PassAlike keyed page None before after =
+    LeavesRegions (laid_kinds keyed.layout) page (λ kind region. region) before after
+PassAlike keyed page (Some area) before after =
+    All (λ passed. passed ≡ Some area) (passed_in keyed page after)
 
 -- P holds of what the first copy passed at entry that passed, and of the contents at entry and exit
-abbrev pub EachContent : Plan → Device → Device → (Option (List ℕ) → Image → Image → Type 0)
+abbrev pub EachContent : SessionPlan → Device → Device → (Option (List ℕ) → Image → Image → Type 0)
     → Type 0
 EachContent plan from to P =
     ForSome (content from)
     (λ before.
     ForSome (content to)
-    (λ after. P (first_found (passed_in plan.layout from.geometry.page before)) before after))
+    (λ after. P (first_found (passed_in plan.keyed from.geometry.page before)) before after))
 
 -- at exit each copy is exactly what the load and the saves of the plan make of it; a plan that was
 -- refused leaves the device
-abbrev pub LeavesExactly : Result Plan Refusal → Device → Device → Type 0
-LeavesExactly (Err refusal) from to = to ≡ from
-LeavesExactly (Ok plan) from to =
+abbrev pub LeavesExactly : Result SessionPlan Refusal → List SaveAnswer → Device → Device → Type 0
+LeavesExactly (Err refusal) answers from to = to ≡ from
+LeavesExactly (Ok plan) answers from to =
     EachContent plan from to
     (λ found before after.
-    LeavesRegions (laid_kinds plan.layout) from.geometry.page (worked_region plan.work plan found)
-    before after)
+    LeavesRegions (laid_kinds plan.keyed.layout) from.geometry.page
+    (worked_region plan.work plan found answers) before after)
 
 -- at exit every copy passes the area that was loaded or saved last
-abbrev pub EndsAlike : Result Plan Refusal → Device → Device → Type 0
-EndsAlike (Err refusal) from to = to ≡ from
-EndsAlike (Ok plan) from to =
+abbrev pub EndsAlike : Result SessionPlan Refusal → List SaveAnswer → Device → Device → Type 0
+EndsAlike (Err refusal) answers from to = to ≡ from
+EndsAlike (Ok plan) answers from to =
     EachContent plan from to
     (λ found before after.
-    PassAlike plan.layout from.geometry.page (last_area plan.work plan found) before after)
+    PassAlike plan.keyed from.geometry.page (last_area plan.work plan found answers)
+    before after)

@@ -11,9 +11,15 @@ pub use Rattle.bb_copies.specs.Loading
 pub use Rattle.bb_copies.specs.Saving
 pub use Rattle.bb_copies.specs.StandsFor
 pub use Rattle.bb_copies.specs.Trail
+pub use Rattle.bb_shell.specs.Boot
+pub use Rattle.bb_shell.specs.Counting
+pub use Rattle.bb_shell.specs.Ends
+pub use Rattle.bb_shell.specs.Rounds
+pub use Rattle.bb_shell.specs.Stages
 pub use Rattle.bb_state.specs.Kinds
 pub use Rattle.bb_state.specs.State
 pub use Rattle.bb_words.specs.Words
+pub mod Booting
 pub mod Calls
 pub mod Copying
 pub mod Ending
@@ -25,6 +31,7 @@ pub mod Plan
 pub mod Ran
 pub mod Refusal
 pub mod Session
+pub mod Starting
 pub mod Status
 pub mod Telling
 pub mod Turns

@@ -6,12 +6,12 @@ use Rattle.bb_copies.specs.Passing.{passings}
 use Rattle.bb_flash.specs.Cuts.{IsLater}
 use Rattle.bb_flash.specs.Device.{Device, LeavesStarts}
 use Rattle.bb_flash.specs.Image.{Image}
-use Rattle.bb_layout.specs.Layout.{Laid}
+use Rattle.bb_state.specs.Keyed.{Keyed}
 use Rattle.bb_state.specs.Kinds.{laid_form, laid_kinds}
 
--- what each copy of a layout passes as in an image of a device with pages of this size
-abbrev pub passed_in : Laid → ℕ → Image → List (Option (List ℕ))
-passed_in layout page image = passings (laid_form layout) page (laid_kinds layout) image
+-- what each copy of a layout passes as under its key, in an image of a device with pages of this size
+abbrev pub passed_in : Keyed → ℕ → Image → List (Option (List ℕ))
+passed_in keyed page image = passings (laid_form keyed) page (laid_kinds keyed.layout) image
 
 -- the area of the first that passes, if one does
 abbrev pub first_found : List (Option (List ℕ)) → Option (List ℕ)

@@ -4,6 +4,12 @@ use Rattle.bb_chooser.specs.declared.settings_error.SettingsError.{SettingsError
 use Rattle.bb_chooser.specs.declared.settings_error.SettingsError.TheVariants as settings_errors
 use Rattle.bb_dts.specs.declared.error.DtsError.{DtsError}
 use Rattle.bb_dts.specs.declared.error.DtsError.TheVariants as tree_errors
+use Rattle.bb_fdt.specs.declared.error.FdtError.{FdtError}
+use Rattle.bb_fdt.specs.declared.error.FdtError.TheVariants as blob_errors
+use Rattle.bb_fdt.specs.declared.error.Field.{Field}
+use Rattle.bb_fdt.specs.declared.error.Field.TheVariants as fields
+use Rattle.bb_hmac.specs.declared.error.KeyError.{KeyError}
+use Rattle.bb_hmac.specs.declared.error.KeyError.TheVariants as key_errors
 use Rattle.bb_layout.specs.declared.layout_error.LayoutError.{LayoutError}
 use Rattle.bb_layout.specs.declared.layout_error.LayoutError.TheVariants as layout_errors
 use Rattle.bb_vars.specs.declared.value_error.ValueError.{ValueError}
@@ -23,6 +29,7 @@ use Rattle.bb_tool.specs.declared.status.Status.TheVariants as statuses
 abbrev pub status_of : Refusal → Status
 status_of (refusals.BadWords place) = statuses.BadWords
 status_of (refusals.BadTree e) = statuses.BadTree
+status_of (refusals.BadBlob e) = statuses.BadTree
 status_of (refusals.BadLayout e) = statuses.BadLayout
 status_of (refusals.BadVariable name cause) = statuses.BadVariable
 status_of (refusals.FileMissing file) = statuses.FileMissing
@@ -30,7 +37,11 @@ status_of (refusals.FileFault file) = statuses.FileFault
 status_of (refusals.FileTooLong file) = statuses.FileTooLong
 status_of refusals.ReadFault = statuses.ReadFault
 status_of (refusals.WriteFault copy) = statuses.WriteFault
+status_of refusals.NoTarget = statuses.NoTarget
+status_of (refusals.StartFailed name) = statuses.StartFailed
 status_of (refusals.BadSettings e) = statuses.BadSettings
+status_of refusals.NoKey = statuses.BadKey
+status_of (refusals.BadKey e) = statuses.BadKey
 status_of (refusals.NoGood place) = statuses.NoGood
 status_of refusals.NoMemory = statuses.NoMemory
 
@@ -46,6 +57,23 @@ tree_words (tree_errors.DuplicateLabel at) = codes "DuplicateLabel " ++ decimal 
 tree_words (tree_errors.DuplicatePhandle at) = codes "DuplicatePhandle " ++ decimal at
 tree_words (tree_errors.NoSuchLabel at) = codes "NoSuchLabel " ++ decimal at
 tree_words tree_errors.NoMemory = codes "NoMemory"
+
+-- the words for bytes that are no blob: the refusal's name, and the field that is out of bounds, or
+-- the token's offset
+abbrev pub field_name : Field → List ℕ
+field_name fields.Total = codes "Total"
+field_name fields.Struct = codes "Struct"
+field_name fields.Strings = codes "Strings"
+field_name fields.Reserve = codes "Reserve"
+
+abbrev pub blob_words : FdtError → List ℕ
+blob_words blob_errors.NotBlob = codes "NotBlob"
+blob_words blob_errors.Version = codes "Version"
+blob_words (blob_errors.OutOfBounds field) = codes "OutOfBounds " ++ field_name field
+blob_words (blob_errors.BadToken at) = codes "BadToken " ++ decimal at
+blob_words (blob_errors.BadName at) = codes "BadName " ++ decimal at
+blob_words (blob_errors.TooDeep at) = codes "TooDeep " ++ decimal at
+blob_words blob_errors.NoMemory = codes "NoMemory"
 
 -- the words for a tree that gives no layout: the refusal's name, and a property where it is one's
 abbrev pub layout_words : LayoutError → List ℕ
@@ -88,10 +116,16 @@ settings_words (settings_errors.NoSuchVariable name) = codes "NoSuchVariable " +
 settings_words (settings_errors.NotUint32 name) = codes "NotUint32 " ++ name
 settings_words settings_errors.NoMemory = codes "NoMemory"
 
+-- the words for a text that is no key: nothing of what stands in it, nor where
+abbrev pub key_words : KeyError → List ℕ
+key_words key_errors.Empty = codes "Empty"
+key_words (key_errors.BadHex place) = codes "BadHex"
+
 -- what the line says behind the number of the status: words are counted from 1, copies from 0
 abbrev pub refusal_words : Refusal → List ℕ
 refusal_words (refusals.BadWords place) = codes "BadWords " ++ decimal (place + 1)
 refusal_words (refusals.BadTree e) = codes "BadTree " ++ tree_words e
+refusal_words (refusals.BadBlob e) = codes "BadTree " ++ blob_words e
 refusal_words (refusals.BadLayout e) = codes "BadLayout " ++ layout_words e
 refusal_words (refusals.BadVariable name cause) =
     codes "BadVariable " ++ name ++ codes " " ++ variable_words cause
@@ -100,7 +134,11 @@ refusal_words (refusals.FileFault file) = codes "FileFault " ++ file
 refusal_words (refusals.FileTooLong file) = codes "FileTooLong " ++ file
 refusal_words refusals.ReadFault = codes "ReadFault"
 refusal_words (refusals.WriteFault copy) = codes "WriteFault " ++ decimal copy
+refusal_words refusals.NoTarget = codes "NoTarget"
+refusal_words (refusals.StartFailed name) = codes "StartFailed " ++ name
 refusal_words (refusals.BadSettings e) = codes "BadSettings " ++ settings_words e
+refusal_words refusals.NoKey = codes "BadKey None"
+refusal_words (refusals.BadKey e) = codes "BadKey " ++ key_words e
 refusal_words (refusals.NoGood place) = codes "NoGood " ++ decimal place
 refusal_words refusals.NoMemory = codes "NoMemory"
 
@@ -115,13 +153,18 @@ abbrev pub IsTellable : Refusal → Type 0
 IsTellable (refusals.WriteFault copy) = copy < 3
 IsTellable (refusals.BadWords place) = ⊤
 IsTellable (refusals.BadTree e) = ⊤
+IsTellable (refusals.BadBlob e) = ⊤
 IsTellable (refusals.BadLayout e) = ⊤
 IsTellable (refusals.BadVariable name cause) = ⊤
 IsTellable (refusals.FileMissing file) = ⊤
 IsTellable (refusals.FileFault file) = ⊤
 IsTellable (refusals.FileTooLong file) = ⊤
 IsTellable refusals.ReadFault = ⊤
+IsTellable refusals.NoTarget = ⊤
+IsTellable (refusals.StartFailed name) = ⊤
 IsTellable (refusals.BadSettings e) = ⊤
+IsTellable refusals.NoKey = ⊤
+IsTellable (refusals.BadKey e) = ⊤
 IsTellable (refusals.NoGood place) = ⊤
 IsTellable refusals.NoMemory = ⊤
 
@@ -136,7 +179,7 @@ copy_refusal copy_faults.ReadFault = refusals.ReadFault
 copy_refusal (copy_faults.WriteFault copy) = refusals.WriteFault copy
 copy_refusal copy_faults.Unsure = refusals.ReadFault
 
--- want of memory while a text is read is the session's, and says nothing of the text
+-- want of memory while a file is read is the session's, and says nothing of what the file holds
 abbrev pub tree_refusal : DtsError → Refusal
 tree_refusal (tree_errors.NotText at) = refusals.BadTree (tree_errors.NotText at)
 tree_refusal (tree_errors.BadToken at) = refusals.BadTree (tree_errors.BadToken at)
@@ -148,6 +191,15 @@ tree_refusal (tree_errors.DuplicateLabel at) = refusals.BadTree (tree_errors.Dup
 tree_refusal (tree_errors.DuplicatePhandle at) = refusals.BadTree (tree_errors.DuplicatePhandle at)
 tree_refusal (tree_errors.NoSuchLabel at) = refusals.BadTree (tree_errors.NoSuchLabel at)
 tree_refusal tree_errors.NoMemory = refusals.NoMemory
+
+abbrev pub blob_refusal : FdtError → Refusal
+blob_refusal blob_errors.NotBlob = refusals.BadBlob blob_errors.NotBlob
+blob_refusal blob_errors.Version = refusals.BadBlob blob_errors.Version
+blob_refusal (blob_errors.OutOfBounds field) = refusals.BadBlob (blob_errors.OutOfBounds field)
+blob_refusal (blob_errors.BadToken at) = refusals.BadBlob (blob_errors.BadToken at)
+blob_refusal (blob_errors.BadName at) = refusals.BadBlob (blob_errors.BadName at)
+blob_refusal (blob_errors.TooDeep at) = refusals.BadBlob (blob_errors.TooDeep at)
+blob_refusal blob_errors.NoMemory = refusals.NoMemory
 
 abbrev pub layout_refusal : LayoutError → Refusal
 layout_refusal layout_errors.NoState = refusals.BadLayout layout_errors.NoState

@@ -1,11 +1,12 @@
--- What a session answers: the text that its work gathered, the refusal that ended it, if one did, and
--- the areas of the saves that it began. It is a function of the words, the device's geometry, and what
--- the files and the device answered.
-use Rattle.std.specs.Prelude.{ℕ, Bool, true, false, List, [], ◌∷◌, ◌++◌, map, Option, Some, None, Result, Ok, Err, unwrap_or}
+-- What a session answers: the text that its work gathered, the refusal that ended it, if one did, the
+-- areas of the saves that it began, and the rounds of its boot, if it boots. It is a function of the
+-- words, the device's geometry, and what the files and the device answered.
+use Rattle.std.specs.Prelude.{ℕ, Bool, true, false, List, [], ◌∷◌, ◌++◌, map, Option, Some, None, Result, Ok, Err, option_map, replicate, unwrap_or, if◌then◌else◌}
 use Rattle.std.specs.Option.{option_map_or}
 use Rattle.std.specs.Str.{bytes_eq}
 use Rattle.bb_actions.specs.Actions.{actions_text, after_all}
 use Rattle.bb_base.specs.Folder.{FileMap}
+use Rattle.bb_chooser.specs.Binding.{Binding}
 use Rattle.bb_chooser.specs.Counting.{mark_good_of}
 use Rattle.bb_copies.specs.declared.answers.CopyFault.{CopyFault}
 use Rattle.bb_flash.specs.declared.geometry.Geometry.{Geometry}
@@ -14,10 +15,13 @@ use Rattle.bb_layout.specs.Defaults.{defaults_of}
 use Rattle.bb_layout.specs.Layout.{Laid}
 use Rattle.bb_tool.specs.Looking.{first_found, look_text, passed_in}
 use Rattle.bb_tool.specs.Marking.{good_text, lost_place}
-use Rattle.bb_tool.specs.Plan.{Act, FileAnswers, Good, Plan, Show, Work, Write, files_for, planned}
+use Rattle.bb_shell.specs.Boot.{Round, all_attempts, end_of, first_table}
+use Rattle.bb_shell.specs.Stages.{saves_of as tables_of}
+use Rattle.bb_tool.specs.Booting.{SaveAnswer, end_refusal, end_text, has_no_target, rounds_of}
+use Rattle.bb_tool.specs.Plan.{Act, Boot, FileAnswers, Good, SessionPlan, Show, Work, Write, files_for, planned}
 use Rattle.bb_tool.specs.Refusal.{copy_refusal, line_of, status_of}
 use Rattle.bb_tool.specs.declared.refusal.Refusal.{Refusal}
-use Rattle.bb_tool.specs.declared.refusal.Refusal.TheVariants.{NoGood}
+use Rattle.bb_tool.specs.declared.refusal.Refusal.TheVariants.{NoGood, NoTarget}
 use Rattle.bb_tool.specs.declared.status.Status.{Status}
 use Rattle.bb_tool.specs.declared.status.Status.TheVariants.{Done}
 
@@ -27,12 +31,8 @@ use Rattle.bb_tool.specs.declared.status.Status.TheVariants.{Done}
 abbrev pub LoadAnswer : Type 0
 LoadAnswer = Result (Option (List ℕ)) CopyFault
 
--- of a save that was begun
-abbrev pub SaveAnswer : Type 0
-SaveAnswer = Result (Unit {0}) CopyFault
-
 -- what was answered: by the files that were read, by the load or the look, and by each save that was
--- begun, in their order
+-- begun, in their order; of a boot by each round
 pub record Answers : Type 0 where
   pub files : FileAnswers
   pub load : LoadAnswer
@@ -44,13 +44,14 @@ pub record Session : Type 0 where
   pub text : List ℕ
   pub refusal : Option Refusal
   pub saves : List (List ℕ)
+  pub rounds : List Round
 
 -- a session that saves nothing, and is done with this text, or refused before it gathered any
 abbrev pub done_with : List ℕ → Session
-done_with text = record { text = text; refusal = None; saves = [] }
+done_with text = record { text = text; refusal = None; saves = []; rounds = [] }
 
 abbrev pub refused_for : Refusal → Session
-refused_for refusal = record { text = []; refusal = Some refusal; saves = [] }
+refused_for refusal = record { text = []; refusal = Some refusal; saves = []; rounds = [] }
 
 -- all that is sent: the text, and the line of the refusal behind it
 abbrev pub sent_of : Session → List ℕ
@@ -71,7 +72,7 @@ abbrev pub saved_where : Bool → List ℕ → List (List ℕ)
 saved_where true area = []
 saved_where false area = area ∷ []
 
--- the areas that are saved behind a load, in their order
+-- the areas that are saved behind a load, in their order, where no start is behind a save
 abbrev pub saves_of : Laid → Work → List ℕ → List (List ℕ)
 saves_of layout Show area = []
 saves_of layout (Write new) area = new ∷ []
@@ -79,6 +80,7 @@ saves_of layout (Act actions) area =
     let new = after_all layout.vars area actions in saved_where (bytes_eq new area) new
 saves_of layout (Good targets) area =
     let new = mark_good_of targets area in saved_where (bytes_eq new area) new
+saves_of layout (Boot targets cause plans) area = []
 
 -- the text that is sent where no save was refused
 abbrev pub text_of : Laid → Work → Option (List ℕ) → List ℕ
@@ -88,6 +90,7 @@ text_of layout (Act actions) found =
     actions_text layout (after_all layout.vars (loaded_area layout found) actions) actions
 text_of layout (Good targets) found =
     good_text targets (mark_good_of targets (loaded_area layout found))
+text_of layout (Boot targets cause plans) found = []
 
 -- the saves are begun one after another, and the first that is refused ends them, before any text
 -- is gathered
@@ -95,40 +98,65 @@ abbrev pub saved : List ℕ → List (List ℕ) → List SaveAnswer → Session
 saved text [] answers = done_with text
 saved text (area ∷ areas) [] = done_with text
 saved text (area ∷ areas) (Err fault ∷ answers) =
-    record { text = []; refusal = Some (copy_refusal fault); saves = area ∷ [] }
+    record { text = []; refusal = Some (copy_refusal fault); saves = area ∷ []; rounds = [] }
 saved text (area ∷ areas) (Ok made ∷ answers) =
     let rest = saved text areas answers in record rest { saves = area ∷ rest.saves }
 
--- the areas that are saved behind the answer of the load
-abbrev pub saves_behind : Plan → LoadAnswer → List (List ℕ)
-saves_behind plan (Ok found) = saves_of plan.layout plan.work (loaded_area plan.layout found)
+-- the areas that are saved behind the answer of the load, where no start is behind a save
+abbrev pub saves_behind : SessionPlan → LoadAnswer → List (List ℕ)
+saves_behind plan (Ok found) = saves_of plan.keyed.layout plan.work (loaded_area plan.keyed.layout found)
 saves_behind plan (Err fault) = []
 
--- the place that is to be marked good in a table, where no target has it
-abbrev pub unmarked : Work → List ℕ → Option ℕ
-unmarked Show table = None
-unmarked (Write new) table = None
-unmarked (Act actions) table = None
-unmarked (Good targets) table = lost_place targets table
+-- a boot that has these rounds behind a load of this table
+abbrev pub booted : Binding → List ℕ → List Round → Session
+booted targets table rounds = record {
+  text = end_text targets (end_of targets rounds);
+  refusal = end_refusal targets (end_of targets rounds);
+  saves = tables_of table rounds;
+  rounds = rounds;
+}
 
--- where there is one the session is refused behind the load
-abbrev pub unless_unmarked : Option ℕ → Session → Session
-unless_unmarked None session = session
-unless_unmarked (Some place) session = refused_for (NoGood place)
+-- why a table that was loaded ends the session before any save, where it does: no target has the
+-- place that is to be marked good, or none qualifies
+abbrev pub barred : Work → List ℕ → Option Refusal
+barred Show table = None
+barred (Write new) table = None
+barred (Act actions) table = None
+barred (Good targets) table = option_map NoGood (lost_place targets table)
+barred (Boot targets cause plans) table =
+    if has_no_target targets cause table then Some NoTarget else None
 
--- that place behind the answer of the load
-abbrev pub unmarked_behind : Result Plan Refusal → LoadAnswer → Option ℕ
-unmarked_behind (Ok plan) (Ok found) = unmarked plan.work (loaded_area plan.layout found)
-unmarked_behind (Ok plan) (Err fault) = None
-unmarked_behind (Err refusal) load = None
+-- so it is behind the answer of the load
+abbrev pub barred_behind : Result SessionPlan Refusal → LoadAnswer → Option Refusal
+barred_behind (Ok plan) (Ok found) = barred plan.work (loaded_area plan.keyed.layout found)
+barred_behind (Ok plan) (Err fault) = None
+barred_behind (Err refusal) load = None
 
-abbrev pub worked : Plan → LoadAnswer → List SaveAnswer → Session
+abbrev pub unless_barred : Option Refusal → Session → Session
+unless_barred None session = session
+unless_barred (Some refusal) session = refused_for refusal
+
+-- work behind a load that answered Ok, by what its saves were answered: saves alone, or a boot
+abbrev pub stored : SessionPlan → Option (List ℕ) → List SaveAnswer → Session
+stored plan found saves =
+    saved (text_of plan.keyed.layout plan.work found) (saves_behind plan (Ok found)) saves
+
+abbrev pub worked_on : Work → SessionPlan → Option (List ℕ) → List SaveAnswer → Session
+worked_on Show plan found saves = stored plan found saves
+worked_on (Write area) plan found saves = stored plan found saves
+worked_on (Act actions) plan found saves = stored plan found saves
+worked_on (Good targets) plan found saves = stored plan found saves
+worked_on (Boot targets cause plans) plan found saves =
+    let table = loaded_area plan.keyed.layout found in
+    booted targets table (rounds_of targets cause plans table saves)
+
+abbrev pub worked : SessionPlan → LoadAnswer → List SaveAnswer → Session
 worked plan (Ok found) saves =
-    unless_unmarked (unmarked plan.work (loaded_area plan.layout found))
-    (saved (text_of plan.layout plan.work found) (saves_behind plan (Ok found)) saves)
+    unless_barred (barred plan.work (loaded_area plan.keyed.layout found))
+    (worked_on plan.work plan found saves)
 worked plan (Err fault) saves = refused_for (copy_refusal fault)
 
-abbrev pub followed : Result Plan Refusal → Answers → Session
+abbrev pub followed : Result SessionPlan Refusal → Answers → Session
 followed (Ok plan) answers = worked plan answers.load answers.saves
 followed (Err refusal) answers = refused_for refusal
 
@@ -139,20 +167,33 @@ session_of words geometry answers = followed (planned words geometry answers.fil
 -- ---- where nothing fails
 
 -- what the load or the look of a plan gives at a device with this content
-abbrev pub load_for : Result Plan Refusal → Geometry → Image → LoadAnswer
-load_for (Ok plan) geometry image = Ok (first_found (passed_in plan.layout geometry.page image))
+abbrev pub load_for : Result SessionPlan Refusal → Geometry → Image → LoadAnswer
+load_for (Ok plan) geometry image = Ok (first_found (passed_in plan.keyed geometry.page image))
 load_for (Err refusal) geometry image = Ok None
 
 -- each save of a plan is made
 abbrev pub all_made : List (List ℕ) → List SaveAnswer
-all_made areas = map (λ area. Ok tt) areas
+all_made areas = map (λ area. Ok false) areas
 
-abbrev pub saves_for : Result Plan Refusal → LoadAnswer → List SaveAnswer
-saves_for (Ok plan) load = all_made (saves_behind plan load)
+-- so is each start of a boot, of which no round is behind the last attempt
+abbrev pub starts_made : Binding → List ℕ → List SaveAnswer
+starts_made targets table = replicate (all_attempts targets table) (Ok true)
+
+abbrev pub answers_behind : Work → SessionPlan → LoadAnswer → List SaveAnswer
+answers_behind Show plan load = all_made (saves_behind plan load)
+answers_behind (Write area) plan load = all_made (saves_behind plan load)
+answers_behind (Act actions) plan load = all_made (saves_behind plan load)
+answers_behind (Good targets) plan load = all_made (saves_behind plan load)
+answers_behind (Boot targets cause plans) plan (Ok found) =
+    starts_made targets (first_table targets cause true (loaded_area plan.keyed.layout found))
+answers_behind (Boot targets cause plans) plan (Err fault) = []
+
+abbrev pub saves_for : Result SessionPlan Refusal → LoadAnswer → List SaveAnswer
+saves_for (Ok plan) load = answers_behind plan.work plan load
 saves_for (Err refusal) load = []
 
 -- what is answered to a plan at a device with this content
-abbrev pub answers_to : FileAnswers → Result Plan Refusal → Geometry → Image → Answers
+abbrev pub answers_to : FileAnswers → Result SessionPlan Refusal → Geometry → Image → Answers
 answers_to files plan geometry image =
     let load = load_for plan geometry image in
     record { files = files; load = load; saves = saves_for plan load }
@@ -160,5 +201,5 @@ answers_to files plan geometry image =
 -- what these files and a device with this content answer
 abbrev pub answers_of : List (List ℕ) → Geometry → FileMap → Image → Answers
 answers_of words geometry files image =
-    let read = files_for words files in
+    let read = files_for words geometry files in
     answers_to read (planned words geometry read) geometry image

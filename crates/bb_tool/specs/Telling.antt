@@ -1,11 +1,12 @@
 -- How a text was told: what an output was sent of it, and with which status the session ends.
-use Rattle.std.specs.Prelude.{◌≡◌, ◌⊎◌, ℕ, Bool, true, false, List, Result, Ok, Err, String, string_bytes}
+use Rattle.std.specs.Prelude.{◌≡◌, ◌⊎◌, ℕ, ◌++◌, Bool, true, false, List, Option, Some, None, Result, Ok, Err, String, string_bytes}
 use Rattle.std.specs.declared.alloc.AllocError.{AllocError}
 use Rattle.std.specs.declared.alloc.Global.{Global}
 use Rattle.bb_base.specs.Faults.{Rose}
 use Rattle.bb_base.specs.Outlet.{Outlet, Sends, SendsFront}
 use Rattle.bb_tool.specs.Refusal.{status_of, line_of}
 use Rattle.bb_tool.specs.declared.refusal.Refusal.{Refusal}
+use Rattle.bb_tool.specs.declared.report.Report.{Report}
 use Rattle.bb_tool.specs.declared.refusal.Refusal.TheVariants as refusals
 use Rattle.bb_tool.specs.declared.status.Status.{Status}
 use Rattle.bb_tool.specs.declared.status.Status.TheVariants as statuses
@@ -30,11 +31,12 @@ abbrev pub IsTold : List ℕ → Status → Outlet → Outlet → Status → Typ
 IsTold text ended before after status =
     IsSent text ended before after status ⊎ IsCutOff text ended before after status
 
--- the line of a refusal takes memory, unless it is that of a refusal behind a call of the device, or of
--- want of memory
+-- the line of a refusal takes memory, unless it is that of a refusal behind a call of the device that
+-- names no target, or of want of memory
 abbrev pub takes_memory : Refusal → Bool
 takes_memory (refusals.BadWords place) = true
 takes_memory (refusals.BadTree e) = true
+takes_memory (refusals.BadBlob e) = true
 takes_memory (refusals.BadLayout e) = true
 takes_memory (refusals.BadVariable name cause) = true
 takes_memory (refusals.FileMissing file) = true
@@ -42,7 +44,11 @@ takes_memory (refusals.FileFault file) = true
 takes_memory (refusals.FileTooLong file) = true
 takes_memory refusals.ReadFault = false
 takes_memory (refusals.WriteFault copy) = false
+takes_memory refusals.NoTarget = false
+takes_memory (refusals.StartFailed name) = true
 takes_memory (refusals.BadSettings e) = true
+takes_memory refusals.NoKey = true
+takes_memory (refusals.BadKey e) = true
 takes_memory (refusals.NoGood place) = false
 takes_memory refusals.NoMemory = false
 
@@ -55,6 +61,22 @@ abbrev pub IsToldMade : Result (String Global) AllocError → Status → Outlet 
 IsToldMade (Ok line) ended before after status =
     IsTold (string_bytes line) ended before after status
 IsToldMade (Err e) ended before after status = IsToldMemory before after status
+
+-- a text that is known was told, or the memory for it was refused
+abbrev pub IsToldOr : Bool → List ℕ → Status → Outlet → Outlet → Status → Type 0
+IsToldOr needs text ended before after status =
+    IsTold text ended before after status
+    ⊎ ((needs ≡ true) × IsToldMemory before after status)
+
+-- a text was told, and behind it the line of a refusal, if there is one
+abbrev pub IsToldBehind : List ℕ → Option Refusal → Outlet → Outlet → Status → Type 0
+IsToldBehind text None before after status = IsTold text statuses.Done before after status
+IsToldBehind text (Some refusal) before after status =
+    IsToldOr (takes_memory refusal) (text ++ line_of refusal) (status_of refusal) before after status
+
+abbrev pub IsToldReport : Report → Outlet → Outlet → Status → Type 0
+IsToldReport report before after status =
+    IsToldBehind report.text report.refusal before after status
 
 -- the line of a refusal was told, or the memory for it was refused
 abbrev pub IsToldRefusal : Refusal → Outlet → Outlet → Status → Type 0

@@ -10,9 +10,12 @@ use Rattle.bb_flash.specs.Device.{Device, Told, moment}
 use Rattle.bb_flash.specs.Image.{Image}
 use Rattle.bb_layout.specs.Defaults.{defaults_of}
 use Rattle.bb_layout.specs.Layout.{Laid}
+use Rattle.bb_state.specs.Keyed.{Keyed}
 use Rattle.bb_tool.specs.Looking.{passed_in}
-use Rattle.bb_tool.specs.Plan.{Act, Good, Plan, Show, Work, Write}
-use Rattle.bb_tool.specs.Session.{LoadAnswer, SaveAnswer, worked}
+use Rattle.bb_shell.specs.Counting.{turn_of_rounds}
+use Rattle.bb_tool.specs.Booting.{SaveAnswer}
+use Rattle.bb_tool.specs.Plan.{Act, Boot, Good, SessionPlan, Show, Work, Write}
+use Rattle.bb_tool.specs.Session.{LoadAnswer, loaded_area, worked}
 
 -- the area that an empty device stands for
 abbrev pub first_area : Laid → List ℕ
@@ -24,19 +27,26 @@ first_area layout = defaults_of layout.area_len layout.vars
 abbrev pub made_of : List SaveAnswer → ℕ
 made_of saves = count_by is_ok saves
 
-abbrev pub load_turn : Plan → LoadAnswer → List SaveAnswer → List (Option ℕ) → Turn
+abbrev pub load_turn : SessionPlan → LoadAnswer → List SaveAnswer → List (Option ℕ) → Turn
 load_turn plan (Ok found) saves marks =
     Loaded (picked marks) (worked plan (Ok found) saves).saves (made_of saves) None
 load_turn plan (Err fault) saves marks = Unloaded
 
-abbrev pub work_turn : Work → Plan → LoadAnswer → List SaveAnswer → List (Option ℕ) → Turn
+-- of a boot, in which a save is begun only where a round has another table than the one before
+abbrev pub boot_turn : SessionPlan → LoadAnswer → List SaveAnswer → List (Option ℕ) → Turn
+boot_turn plan (Ok found) saves marks =
+    turn_of_rounds (picked marks) (loaded_area plan.keyed.layout found) (worked plan (Ok found) saves).rounds
+boot_turn plan (Err fault) saves marks = Unloaded
+
+abbrev pub work_turn : Work → SessionPlan → LoadAnswer → List SaveAnswer → List (Option ℕ) → Turn
 work_turn Show plan load saves marks = Looked
 work_turn (Write area) plan load saves marks = load_turn plan load saves marks
 work_turn (Act actions) plan load saves marks = load_turn plan load saves marks
 work_turn (Good targets) plan load saves marks = load_turn plan load saves marks
+work_turn (Boot targets cause plans) plan load saves marks = boot_turn plan load saves marks
 
 -- of a plan, at copies with these marks
-abbrev pub turn_of : Plan → LoadAnswer → List SaveAnswer → List (Option ℕ) → Turn
+abbrev pub turn_of : SessionPlan → LoadAnswer → List SaveAnswer → List (Option ℕ) → Turn
 turn_of plan load saves marks = work_turn plan.work plan load saves marks
 
 -- the stages that a turn reached: a save that wasn't acknowledged is the last
@@ -50,11 +60,11 @@ turn_stages before (Loaded place saves ok started) =
 -- ---- what it leaves
 
 -- of an image that the copies have at the end, or that a cut left since a moment: what they pass as
-pub record IsCounted (layout : Laid) (page : ℕ) (told : Told) (since : ℕ)
+pub record IsCounted (keyed : Keyed) (page : ℕ) (told : Told) (since : ℕ)
     (passed : List (Option (List ℕ))) : Type 0 where
   pub image : Image
-  pub counts : Counts (IsLucky (passed_in layout page)) page told since image
-  pub passes : passed ≡ passed_in layout page image
+  pub counts : Counts (IsLucky (passed_in keyed page)) page told since image
+  pub passes : passed ≡ passed_in keyed page image
 
 -- the turn leads from a content to the one at the end
 pub record LeadsTo (first : List ℕ) (before : Content) (turn : Turn)
@@ -65,7 +75,7 @@ pub record LeadsTo (first : List ℕ) (before : Content) (turn : Turn)
 
 -- The trail of the turn's stages, from the moment of entry on: each image that counts since a
 -- milestone's moment stands for its stage, or for a later one.
-pub record HasTrail (layout : Laid) (page : ℕ) (first last : Told) (before : Content) (turn : Turn)
+pub record HasTrail (keyed : Keyed) (page : ℕ) (first last : Told) (before : Content) (turn : Turn)
     : Type 0 where
   pub entry : Stage
   pub later : List Milestone
@@ -73,40 +83,40 @@ pub record HasTrail (layout : Laid) (page : ℕ) (first last : Told) (before : C
       stages_in (record { stage = entry; since = Some (moment first) } ∷ later)
       ≡ turn_stages before turn
   pub trail :
-      IsTrail (IsCounted layout page last) (moment last) (first_area layout)
+      IsTrail (IsCounted keyed page last) (moment last) (first_area keyed.layout)
       (record { stage = entry; since = Some (moment first) } ∷ later)
 
 -- P holds of what a device told and tells, and of each content of its copies at entry that stands
 -- for a list of areas
-abbrev pub EachStanding : Laid → Device → Device → (Told → Told → Content → Type 0) → Type 0
-EachStanding layout from to P =
+abbrev pub EachStanding : Keyed → Device → Device → (Told → Told → Content → Type 0) → Type 0
+EachStanding keyed from to P =
     ForSome from.told
     (λ first.
     ForSome to.told
     (λ last.
     (before : Content) →
-    before.passed ≡ passed_in layout from.geometry.page first.image →
-    IsStanding (first_area layout) before →
+    before.passed ≡ passed_in keyed from.geometry.page first.image →
+    IsStanding (first_area keyed.layout) before →
     P first last before))
 
 -- no call that failed left a copy that passes by luck
-abbrev pub IsFairRun : Laid → ℕ → Told → Told → Type 0
-IsFairRun layout page first last =
-    IsFair (IsLucky (passed_in layout page)) last (moment first) (moment last)
+abbrev pub IsFairRun : Keyed → ℕ → Told → Told → Type 0
+IsFairRun keyed page first last =
+    IsFair (IsLucky (passed_in keyed page)) last (moment first) (moment last)
 
 -- at exit, in a fair run, the copies stand for what the session's turn makes of the list
-abbrev pub LeadsOn : Plan → Device → Device → LoadAnswer → List SaveAnswer → Type 0
+abbrev pub LeadsOn : SessionPlan → Device → Device → LoadAnswer → List SaveAnswer → Type 0
 LeadsOn plan from to load saves =
-    EachStanding plan.layout from to
+    EachStanding plan.keyed from to
     (λ first last before.
-    IsFairRun plan.layout from.geometry.page first last →
-    LeadsTo (first_area plan.layout) before (turn_of plan load saves before.marks)
-    (passed_in plan.layout from.geometry.page last.image))
+    IsFairRun plan.keyed from.geometry.page first last →
+    LeadsTo (first_area plan.keyed.layout) before (turn_of plan load saves before.marks)
+    (passed_in plan.keyed from.geometry.page last.image))
 
 -- each image on the way that counts stands for the stage that it reached, or for a later one
-abbrev pub HasTrails : Plan → Device → Device → LoadAnswer → List SaveAnswer → Type 0
+abbrev pub HasTrails : SessionPlan → Device → Device → LoadAnswer → List SaveAnswer → Type 0
 HasTrails plan from to load saves =
-    EachStanding plan.layout from to
+    EachStanding plan.keyed from to
     (λ first last before.
-    HasTrail plan.layout from.geometry.page first last before
+    HasTrail plan.keyed from.geometry.page first last before
     (turn_of plan load saves before.marks))

@@ -1,21 +1,57 @@
-ghost use Rattle.std.specs.Prelude.{◌≡◌, IfErr, IfOk};
+ghost use Rattle.std.specs.Prelude.{◌≡◌, ◌≤◌, IfErr, IfOk, length};
 ghost use Rattle.std.specs.Option.{option_copied};
 ghost use Rattle.bb_flash.specs.Geometry.{IsGeometry};
 ghost use Rattle.bb_layout.specs.Layout.{laid};
-ghost use Rattle.bb_tool.specs.Filing.{IsFolderLater, IsReadFor};
-ghost use Rattle.bb_tool.specs.Plan.{layout_in};
+ghost use Rattle.bb_state.specs.Keyed.{FitsKey};
+ghost use Rattle.bb_tree.specs.NodeViews.{branch_of};
+ghost use Rattle.bb_tool.specs.Filing.{Follows, IsFolderLater, IsKeyedFor, IsReadFor, keyed_as};
+ghost use Rattle.bb_tool.specs.Plan.{blob_root, described, layout_in, source_root, tree_in};
 ghost use Rattle.bb_tool.specs.Refusal.{IsTellable};
 
 use crate::file::read_file;
+use crate::key::read_key;
 use crate::refusal::Refusal;
 use bb_base::{Files, Text};
 use bb_dts::read_source;
+use bb_fdt::read_blob;
 use bb_flash::Geometry;
+use bb_hmac::Key;
 use bb_layout::{Layout, layout_of};
+use bb_tree::Tree;
 use std::alloc::Global;
 
-/// The layout of the state of that name, or of the first without one, that the devicetree in a file describes.
-pub(crate) fn read_layout<N: Files>(
+/// A layout, and the key of its records, if they stand under one. It is never printed or copied.
+#[derive(Drop)]
+pub(crate) struct KeyedLayout {
+    pub layout: Layout,
+    pub key: Option<Key>,
+}
+
+/// The layout that words describe, with the key of its records, where they stand under one.
+pub(crate) fn read_keyed<N: Files>(
+    alloc: Global,
+    files: &mut N,
+    file: &Text,
+    name: Option<&Text>,
+    key: Option<&Text>,
+    geometry: Geometry,
+) -> Result<KeyedLayout, Refusal>
+    requires { IsGeometry geometry }
+    ensures read { IsKeyedFor
+        (described file.now (option_copied name.entry) (option_copied key.entry)) geometry
+        (N.folder files.old) (N.folder files.new) keyed_as result }
+    ensures fits { IfOk result (λ keyed. FitsKey keyed.layout.format keyed.key) }
+    ensures same_geometry { IfOk result (λ keyed. keyed.layout.geometry ≡ geometry) }
+    ensures tellable { IfErr result IsTellable }
+    ensures files { IsFolderLater (N.folder files.old) (N.folder files.new) }
+{
+    let layout = read_layout(alloc, files, file, name, geometry)?;
+    let key = read_key(alloc, files, key, layout.format)?;
+    Ok(KeyedLayout { layout, key })
+}
+
+// The layout of the state of that name, or of the first without one, that the devicetree in a file describes.
+fn read_layout<N: Files>(
     alloc: Global,
     files: &mut N,
     file: &Text,
@@ -29,9 +65,36 @@ pub(crate) fn read_layout<N: Files>(
     ensures same_geometry { IfOk result (λ layout. layout.geometry ≡ geometry) }
     ensures files { IsFolderLater (N.folder files.old) (N.folder files.new) }
 {
-    let source = read_file(alloc, files, file)?;
-    let tree = read_source(alloc, source.as_slice())?;
+    let bytes = read_file(alloc, files, file)?;
+    let tree = read_tree(alloc, bytes.as_slice())?;
     Ok(layout_of(alloc, &tree, text_of(name), geometry)?)
+}
+
+// The tree that bytes hold: as a blob where they begin as one, else as a source.
+fn read_tree(alloc: Global, bytes: &[u8]) -> Result<Tree, Refusal>
+    requires { length bytes.now ≤ 4294967295 }
+    ensures read { Follows (tree_in bytes.now) (λ tree. branch_of tree.root) result }
+    ensures tellable { IfErr result IsTellable }
+{
+    if bytes.starts_with(&[0xd0, 0x0d, 0xfe, 0xed]) {
+        return read_blob_tree(alloc, bytes);
+    }
+    read_source_tree(alloc, bytes)
+}
+
+fn read_blob_tree(alloc: Global, blob: &[u8]) -> Result<Tree, Refusal>
+    ensures read { Follows (blob_root blob.now) (λ tree. branch_of tree.root) result }
+    ensures tellable { IfErr result IsTellable }
+{
+    Ok(read_blob(alloc, blob)?)
+}
+
+fn read_source_tree(alloc: Global, source: &[u8]) -> Result<Tree, Refusal>
+    requires { length source.now ≤ 4294967295 }
+    ensures read { Follows (source_root source.now) (λ tree. branch_of tree.root) result }
+    ensures tellable { IfErr result IsTellable }
+{
+    Ok(read_source(alloc, source)?)
 }
 
 fn text_of(name: Option<&Text>) -> Option<&str>

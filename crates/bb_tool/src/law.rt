@@ -1,5 +1,6 @@
 ghost use Rattle.bb_circular.specs.Wear.{WearLaw};
 ghost use Rattle.bb_copies.specs.Chronicle.{BlankLaw, ChronicleLaw};
+ghost use Rattle.bb_shell.specs.Counting.{AttemptsLaw, NoLoadLaw};
 
 /// Over every list of sessions, of sessions that were cut and of decays: the number of the area that is
 /// acknowledged never falls, all that was acknowledged stays, and each load that answers Ok gives the last
@@ -7,6 +8,14 @@ ghost use Rattle.bb_copies.specs.Chronicle.{BlankLaw, ChronicleLaw};
 pub fn law_chronicle()
     ensures kept { ChronicleLaw }
     ensures blank { BlankLaw }
+{}
+
+/// Over power-ons in each of which a board boots by the same files, with cuts and decays in between, and where no
+/// reset changes a table that a load gave: the starts are no more than the attempts that the enabled targets have in
+/// the first of these tables. Where no load answers Ok nothing is started.
+pub fn law_attempts()
+    ensures attempts { AttemptsLaw }
+    ensures no_load { NoLoadLaw }
 {}
 
 /// Over every history of a block that is written as a log, in which all calls answered Ok and nothing

@@ -1,5 +1,5 @@
 ghost use Rattle.std.specs.Prelude.{◌≡◌, ◌<◌, ◌≤◌, ◌++◌, true, IfOk, IfSome, None, codes, length, string_bytes};
-ghost use Rattle.bb_tool.specs.Refusal.{IsTellable, layout_words, line_of, refusal_words, settings_words, tree_words, value_words, variable_words};
+ghost use Rattle.bb_tool.specs.Refusal.{IsTellable, blob_words, field_name, key_words, layout_words, line_of, refusal_words, settings_words, tree_words, value_words, variable_words};
 ghost use Rattle.bb_tool.specs.Telling.{takes_memory};
 ghost use Rattle.bb_tool.specs.declared.refusal.Refusal.TheVariants as refusals;
 
@@ -7,6 +7,8 @@ use crate::refusal::Refusal;
 use arrayvec::ArrayString;
 use bb_chooser::SettingsError;
 use bb_dts::DtsError;
+use bb_fdt::{FdtError, Field};
+use bb_hmac::KeyError;
 use bb_layout::LayoutError;
 use bb_state::StateError;
 use bb_vars::ValueError;
@@ -33,12 +35,15 @@ pub(crate) fn fixed_line(refusal: &Refusal) -> Option<ShortLine>
     match refusal {
         Refusal::ReadFault => Some(short(read_line())),
         Refusal::WriteFault(copy) => Some(short(write_line(*copy))),
+        Refusal::NoTarget => Some(short(no_target_line())),
         Refusal::NoGood(place) => Some(no_good_line(*place)),
         Refusal::NoMemory => Some(short(no_memory_line())),
-        Refusal::BadWords(_) | Refusal::BadTree(_) | Refusal::BadLayout(_) => None,
+        Refusal::BadWords(_) | Refusal::BadTree(_) | Refusal::BadBlob(_) => None,
+        Refusal::BadLayout(_) => None,
         Refusal::BadVariable(_, _) => None,
         Refusal::FileMissing(_) | Refusal::FileFault(_) | Refusal::FileTooLong(_) => None,
-        Refusal::BadSettings(_) => None,
+        Refusal::StartFailed(_) | Refusal::BadSettings(_) => None,
+        Refusal::NoKey | Refusal::BadKey(_) => None,
     }
 }
 
@@ -81,6 +86,13 @@ fn write_line(copy: u32) -> &'static str
     }
 }
 
+fn no_target_line() -> &'static str
+    ensures line { result.now ≡ line_of refusals.NoTarget }
+    ensures short { length result.now ≤ 27 }
+{
+    "fault 10 NoTarget\n"
+}
+
 /// The line that is sent where memory was refused.
 pub(crate) fn no_memory_line() -> &'static str
     ensures line { result.now ≡ line_of refusals.NoMemory }
@@ -96,6 +108,7 @@ fn words(alloc: Global, refusal: &Refusal) -> Result<String, AllocError>
     match refusal {
         Refusal::BadWords(place) => format!(in alloc; "BadWords {}", *place as u128 + 1),
         Refusal::BadTree(error) => tree_words(alloc, *error),
+        Refusal::BadBlob(error) => blob_words(alloc, *error),
         Refusal::BadLayout(error) => layout_words(alloc, error),
         Refusal::BadVariable(name, cause) => format!(in alloc;
             "BadVariable {} {}",
@@ -107,7 +120,11 @@ fn words(alloc: Global, refusal: &Refusal) -> Result<String, AllocError>
         Refusal::FileTooLong(file) => format!(in alloc; "FileTooLong {}", file.as_str()),
         Refusal::ReadFault => String::from_str(alloc, "ReadFault"),
         Refusal::WriteFault(copy) => format!(in alloc; "WriteFault {copy}"),
+        Refusal::NoTarget => String::from_str(alloc, "NoTarget"),
+        Refusal::StartFailed(name) => format!(in alloc; "StartFailed {}", name.as_str()),
         Refusal::BadSettings(error) => settings_words(alloc, error),
+        Refusal::NoKey => String::from_str(alloc, "BadKey None"),
+        Refusal::BadKey(error) => key_words(alloc, *error),
         Refusal::NoGood(place) => format!(in alloc; "NoGood {place}"),
         Refusal::NoMemory => String::from_str(alloc, "NoMemory"),
     }
@@ -154,6 +171,33 @@ fn tree_words(alloc: Global, error: DtsError) -> Result<String, AllocError>
     }
 }
 
+fn blob_words(alloc: Global, error: FdtError) -> Result<String, AllocError>
+    ensures { IfOk result (λ words. string_bytes words ≡ codes "BadTree " ++ blob_words error) }
+{
+    match error {
+        FdtError::NotBlob => String::from_str(alloc, "BadTree NotBlob"),
+        FdtError::Version => String::from_str(alloc, "BadTree Version"),
+        FdtError::OutOfBounds(field) => {
+            format!(in alloc; "BadTree OutOfBounds {}", field_name(field))
+        }
+        FdtError::BadToken(at) => format!(in alloc; "BadTree BadToken {at}"),
+        FdtError::BadName(at) => format!(in alloc; "BadTree BadName {at}"),
+        FdtError::TooDeep(at) => format!(in alloc; "BadTree TooDeep {at}"),
+        FdtError::NoMemory => String::from_str(alloc, "BadTree NoMemory"),
+    }
+}
+
+fn field_name(field: Field) -> &'static str
+    ensures { result.now ≡ field_name field }
+{
+    match field {
+        Field::Total => "Total",
+        Field::Struct => "Struct",
+        Field::Strings => "Strings",
+        Field::Reserve => "Reserve",
+    }
+}
+
 fn layout_words(alloc: Global, error: &LayoutError) -> Result<String, AllocError>
     ensures { IfOk result (λ words.
         string_bytes words ≡ codes "BadLayout " ++ layout_words error.now) }
@@ -194,5 +238,14 @@ fn settings_words(alloc: Global, error: &SettingsError) -> Result<String, AllocE
             name.as_str()
         ),
         SettingsError::NoMemory => String::from_str(alloc, "BadSettings NoMemory"),
+    }
+}
+
+fn key_words(alloc: Global, error: KeyError) -> Result<String, AllocError>
+    ensures { IfOk result (λ words. string_bytes words ≡ codes "BadKey " ++ key_words error) }
+{
+    match error {
+        KeyError::Empty => String::from_str(alloc, "BadKey Empty"),
+        KeyError::BadHex(_) => String::from_str(alloc, "BadKey BadHex"),
     }
 }

@@ -2,24 +2,24 @@ ghost use Rattle.std.specs.Prelude.{◌≡◌, ◌≤◌, List, ℕ, Ok, IfErr, 
 ghost use Rattle.std.specs.Option.{option_map};
 ghost use Rattle.bb_flash.specs.Cuts.{IsLater};
 ghost use Rattle.bb_flash.specs.Device.{IsDevice, LeavesStarts};
-ghost use Rattle.bb_layout.specs.Layout.{laid};
-ghost use Rattle.bb_state.specs.State.{IsOn, IsSized, laid_of};
+ghost use Rattle.bb_state.specs.Keyed.{FitsKey};
+ghost use Rattle.bb_state.specs.State.{IsOn, IsSized, keyed_of, laid_of};
 ghost use Rattle.bb_words.specs.Words.{words_of};
 ghost use Rattle.bb_words.specs.declared.command.Command.TheVariants as commands;
 ghost use Rattle.bb_tool.specs.Ending.{IsGiven};
-ghost use Rattle.bb_tool.specs.Filing.{IsFolderLater};
+ghost use Rattle.bb_tool.specs.Filing.{keyed_as, IsFolderLater};
 ghost use Rattle.bb_tool.specs.Marking.{chosen_name, good_line, good_text};
 ghost use Rattle.bb_tool.specs.Plan.{Good};
 ghost use Rattle.bb_tool.specs.Refusal.{IsTellable};
-ghost use Rattle.bb_tool.specs.Work.{IsWorkedOut};
+ghost use Rattle.bb_tool.specs.Work.{IsSendable, IsWorkedOut};
 
-use crate::described::read_layout;
+use crate::described::{KeyedLayout, read_keyed};
 use crate::refusal::Refusal;
+use crate::report::Report;
 use crate::targets::read_targets;
 use bb_base::{Bytes, Files, NoMemory, Text};
 use bb_chooser::Chooser;
 use bb_flash::Flash;
-use bb_layout::Layout;
 use bb_state::State;
 use bb_vars::Table;
 use bb_words::MarkGoodCommand;
@@ -31,19 +31,21 @@ pub(crate) fn mark_good<N: Files, F: Flash>(
     files: &mut N,
     flash: &mut F,
     command: &MarkGoodCommand,
-) -> Result<Bytes, Refusal>
+) -> Result<Report, Refusal>
     ensures gives { (words : List (List ℕ)) → words_of words ≡ Ok (commands.MarkGood command.now)
         → IsGiven words (N.folder files.old) (N.folder files.new)
         (F.device flash.old) (F.device flash.new) result }
     ensures tellable { IfErr result IsTellable }
+    ensures sends { IfOk result IsSendable }
     ensures files { IsFolderLater (N.folder files.old) (N.folder files.new) }
     ensures later { IsLater (F.device flash.old) (F.device flash.new) }
     ensures starts { LeavesStarts (F.device flash.old) (F.device flash.new) }
 {
     let name = command.name.as_ref();
-    let layout = read_layout(alloc, files, &command.file, name, flash.geometry())?;
-    let chooser = read_targets(alloc, files, &command.settings, &layout)?;
-    mark(alloc, flash, layout, &chooser)
+    let key = command.key.as_ref();
+    let keyed = read_keyed(alloc, files, &command.file, name, key, flash.geometry())?;
+    let chooser = read_targets(alloc, files, &command.settings, &keyed.layout)?;
+    mark(alloc, flash, keyed, &chooser)
 }
 
 // Loads the copies of a layout, gives the target that was chosen last its default attempts, saves the table where it is
@@ -51,19 +53,22 @@ pub(crate) fn mark_good<N: Files, F: Flash>(
 fn mark<F: Flash>(
     alloc: Global,
     flash: &mut F,
-    layout: Layout,
+    keyed: KeyedLayout,
     chooser: &Chooser,
-) -> Result<Bytes, Refusal>
-    requires geometry { layout.geometry ≡ (F.device flash.old).geometry }
+) -> Result<Report, Refusal>
+    requires fits { FitsKey keyed.layout.format keyed.key }
+    requires geometry { keyed.layout.geometry ≡ (F.device flash.old).geometry }
     requires whole { IsDevice (F.device flash.old) }
-    requires sized { chooser.now.area_len ≡ layout.area_len }
-    ensures gives { IsWorkedOut (laid layout) (Good chooser.now)
+    requires sized { chooser.now.area_len ≡ keyed.layout.area_len }
+    ensures gives { IsWorkedOut (keyed_as keyed)
+        (Good chooser.now)
         (F.device flash.old) (F.device flash.new) result }
     ensures tellable { IfErr result IsTellable }
+    ensures sends { IfOk result IsSendable }
     ensures later { IsLater (F.device flash.old) (F.device flash.new) }
     ensures starts { LeavesStarts (F.device flash.old) (F.device flash.new) }
 {
-    let mut state = State::mount(alloc, layout)?;
+    let mut state = State::mount(alloc, keyed.layout, keyed.key)?;
     mark_on(alloc, flash, &mut state, chooser)
 }
 
@@ -73,13 +78,14 @@ fn mark_on<F: Flash>(
     flash: &mut F,
     state: &mut State,
     chooser: &Chooser,
-) -> Result<Bytes, Refusal>
+) -> Result<Report, Refusal>
     requires table { IsSized state.old }
     requires sized { chooser.now.area_len ≡ (laid_of state.old).area_len }
     requires on { IsOn state.old (F.device flash.old) }
     requires many { 2 ≤ (laid_of state.old).copies }
-    ensures gives { IsWorkedOut (laid_of state.old) (Good chooser.now)
+    ensures gives { IsWorkedOut (keyed_of state.old) (Good chooser.now)
         (F.device flash.old) (F.device flash.new) result }
+    ensures sends { IfOk result IsSendable }
     ensures later { IsLater (F.device flash.old) (F.device flash.new) }
     ensures starts { LeavesStarts (F.device flash.old) (F.device flash.new) }
 {
@@ -88,7 +94,7 @@ fn mark_on<F: Flash>(
         return Err(Refusal::NoGood(chooser.last_chosen(&state.table)));
     }
     state.save(flash)?;
-    Ok(good_text(alloc, chooser, &state.table)?)
+    Ok(Report::done(good_text(alloc, chooser, &state.table)?))
 }
 
 fn good_text(alloc: Global, chooser: &Chooser, table: &Table) -> Result<Bytes, NoMemory>

@@ -1,9 +1,9 @@
-ghost use Rattle.std.specs.Prelude.{◌≡◌, ◌⊎◌, ◌≤◌, List, ℕ, Ok, IfErr, IfOk, length, option_map, vec_len};
+ghost use Rattle.std.specs.Prelude.{◌≡◌, ◌⊎◌, ◌≤◌, List, ℕ, None, Ok, IfErr, IfOk, length, option_map, vec_len};
 ghost use Rattle.bb_base.specs.Folder.{Folder};
 ghost use Rattle.bb_flash.specs.Cuts.{IsLater};
 ghost use Rattle.bb_flash.specs.Device.{IsDevice, LeavesStarts};
 ghost use Rattle.bb_layout.specs.Layout.{laid};
-ghost use Rattle.bb_state.specs.State.{IsOn, IsSized, laid_of};
+ghost use Rattle.bb_state.specs.State.{IsOn, IsSized, keyed_of, laid_of};
 ghost use Rattle.bb_words.specs.Answer.{IsSizedRaw};
 ghost use Rattle.bb_words.specs.Words.{words_of};
 ghost use Rattle.bb_words.specs.declared.command.Command.TheVariants as commands;
@@ -11,12 +11,13 @@ ghost use Rattle.bb_tool.specs.Ending.{IsGiven};
 ghost use Rattle.bb_tool.specs.Looking.{look_text};
 ghost use Rattle.bb_tool.specs.Plan.{Show, Write};
 ghost use Rattle.bb_tool.specs.Refusal.{IsTellable};
-ghost use Rattle.bb_tool.specs.Work.{IsRefusedMemory, IsWorkedOut};
+ghost use Rattle.bb_tool.specs.Work.{IsRefusedMemory, IsSendable, IsWorkedOut};
 
 use crate::refusal::Refusal;
+use crate::report::Report;
 use bb_base::{Bytes, NoMemory};
 use bb_flash::Flash;
-use bb_layout::{Layout, raw_layout};
+use bb_layout::{FormatKind, Layout, raw_layout};
 use bb_state::State;
 use bb_words::{RawAction, RawCommand};
 use std::alloc::Global;
@@ -26,12 +27,13 @@ pub(crate) fn raw<F: Flash>(
     alloc: Global,
     flash: &mut F,
     command: RawCommand,
-) -> Result<Bytes, Refusal>
+) -> Result<Report, Refusal>
     requires sized { IsSizedRaw command }
     ensures gives { (words : List (List ℕ)) (folder : Folder)
         → words_of words ≡ Ok (commands.Raw command)
         → IsGiven words folder folder (F.device flash.old) (F.device flash.new) result }
     ensures tellable { IfErr result IsTellable }
+    ensures sends { IfOk result IsSendable }
     ensures later { IsLater (F.device flash.old) (F.device flash.new) }
     ensures starts { LeavesStarts (F.device flash.old) (F.device flash.new) }
 {
@@ -43,17 +45,20 @@ pub(crate) fn raw<F: Flash>(
 }
 
 // Looks at the copies of a layout, and gives the text of the first that passes.
-fn look<F: Flash>(alloc: Global, flash: &mut F, layout: Layout) -> Result<Bytes, Refusal>
+fn look<F: Flash>(alloc: Global, flash: &mut F, layout: Layout) -> Result<Report, Refusal>
+    requires unkeyed { layout.format ≡ FormatKind.Raw }
     requires geometry { layout.geometry ≡ (F.device flash.old).geometry }
     requires whole { IsDevice (F.device flash.old) }
-    ensures gives { IsWorkedOut (laid layout) Show
+    ensures gives { IsWorkedOut (record { layout = laid layout; key = None })
+        Show
         (F.device flash.old) (F.device flash.new) result }
     ensures tellable { IfErr result IsTellable }
+    ensures sends { IfOk result IsSendable }
     ensures later { IsLater (F.device flash.old) (F.device flash.new) }
     ensures starts { LeavesStarts (F.device flash.old) (F.device flash.new) }
 {
     let area = vec![in alloc; 0u8; layout.area_len as usize]?;
-    let mut state = State::mount(alloc, layout)?;
+    let mut state = State::mount(alloc, layout, None)?;
     look_at(alloc, flash, &mut state, area)
 }
 
@@ -63,16 +68,17 @@ fn look_at<F: Flash>(
     flash: &mut F,
     state: &mut State,
     mut area: Vec<u8>,
-) -> Result<Bytes, Refusal>
+) -> Result<Report, Refusal>
     requires sized { vec_len area ≡ (laid_of state.old).area_len }
     requires on { IsOn state.old (F.device flash.old) }
-    ensures gives { IsWorkedOut (laid_of state.old) Show
+    ensures gives { IsWorkedOut (keyed_of state.old) Show
         (F.device flash.old) (F.device flash.new) result }
+    ensures sends { IfOk result IsSendable }
     ensures later { IsLater (F.device flash.old) (F.device flash.new) }
     ensures starts { LeavesStarts (F.device flash.old) (F.device flash.new) }
 {
     let found = state.look(flash, &mut area)?;
-    Ok(look_text(alloc, found.then_some(area))?)
+    Ok(Report::done(look_text(alloc, found.then_some(area))?))
 }
 
 // The text of a look: the area in hexadecimal, or `none`.
@@ -97,17 +103,20 @@ fn save<F: Flash>(
     flash: &mut F,
     layout: Layout,
     area: &[u8],
-) -> Result<Bytes, Refusal>
+) -> Result<Report, Refusal>
     requires sized { length area.now ≡ layout.area_len }
+    requires unkeyed { layout.format ≡ FormatKind.Raw }
     requires geometry { layout.geometry ≡ (F.device flash.old).geometry }
     requires whole { IsDevice (F.device flash.old) }
-    ensures gives { IsWorkedOut (laid layout) (Write area.now)
+    ensures gives { IsWorkedOut (record { layout = laid layout; key = None })
+        (Write area.now)
         (F.device flash.old) (F.device flash.new) result }
     ensures tellable { IfErr result IsTellable }
+    ensures sends { IfOk result IsSendable }
     ensures later { IsLater (F.device flash.old) (F.device flash.new) }
     ensures starts { LeavesStarts (F.device flash.old) (F.device flash.new) }
 {
-    let mut state = State::mount(alloc, layout)?;
+    let mut state = State::mount(alloc, layout, None)?;
     save_on(alloc, flash, &mut state, area)
 }
 
@@ -117,18 +126,19 @@ fn save_on<F: Flash>(
     flash: &mut F,
     state: &mut State,
     area: &[u8],
-) -> Result<Bytes, Refusal>
+) -> Result<Report, Refusal>
     requires table { IsSized state.old }
     requires sized { length area.now ≡ (laid_of state.old).area_len }
     requires on { IsOn state.old (F.device flash.old) }
     requires many { 2 ≤ (laid_of state.old).copies }
-    ensures gives { IsWorkedOut (laid_of state.old) (Write area.now)
+    ensures gives { IsWorkedOut (keyed_of state.old) (Write area.now)
         (F.device flash.old) (F.device flash.new) result }
+    ensures sends { IfOk result IsSendable }
     ensures later { IsLater (F.device flash.old) (F.device flash.new) }
     ensures starts { LeavesStarts (F.device flash.old) (F.device flash.new) }
 {
     state.load(flash)?;
     state.table.put(0, area);
     state.save_always(flash)?;
-    Ok(Bytes::none(alloc))
+    Ok(Report::done(Bytes::none(alloc)))
 }

@@ -4,6 +4,8 @@ use crate::Status;
 use bb_base::{NoMemory, Text};
 use bb_chooser::SettingsError;
 use bb_dts::DtsError;
+use bb_fdt::FdtError;
+use bb_hmac::KeyError;
 use bb_layout::LayoutError;
 use bb_state::{CopyFault, StateError};
 use bb_words::WordsError;
@@ -14,7 +16,10 @@ use std::alloc::AllocError;
 pub enum Refusal {
     /// The word at this place, counted from 0, doesn't fit.
     BadWords(usize),
+    /// The file isn't a devicetree source.
     BadTree(DtsError),
+    /// The file begins as a devicetree blob, and isn't one.
+    BadBlob(FdtError),
     /// The copies can't stand on the device, or the devicetree gives no layout for it.
     BadLayout(LayoutError),
     /// The layout has no variable of this name, or a text is no value of it.
@@ -25,7 +30,15 @@ pub enum Refusal {
     ReadFault,
     /// This copy, counted from 0, couldn't be written.
     WriteFault(u32),
+    /// No target has a priority and attempts left.
+    NoTarget,
+    /// The target of this name couldn't be started, and no other is tried.
+    StartFailed(Text),
     BadSettings(SettingsError),
+    /// The state's records stand under a key, and no word names its file.
+    NoKey,
+    /// What the key's file holds is none. Nothing of it is told.
+    BadKey(KeyError),
     /// The table has this place as the one that was chosen last, and it is 0 or above the number of targets.
     NoGood(u32),
     NoMemory,
@@ -96,6 +109,20 @@ impl From<DtsError> for Refusal {
     }
 }
 
+impl From<FdtError> for Refusal {
+    ghost use Rattle.std.specs.Prelude.{◌≡◌};
+    ghost use Rattle.bb_tool.specs.Refusal.{blob_refusal};
+
+    ghost from_gives = { λ error e. e ≡ blob_refusal error };
+
+    fn from(error: FdtError) -> Self {
+        match error {
+            FdtError::NoMemory => Refusal::NoMemory,
+            other => Refusal::BadBlob(other),
+        }
+    }
+}
+
 impl From<LayoutError> for Refusal {
     ghost use Rattle.std.specs.Prelude.{◌≡◌};
     ghost use Rattle.bb_tool.specs.Refusal.{layout_refusal};
@@ -124,6 +151,17 @@ impl From<SettingsError> for Refusal {
     }
 }
 
+impl From<KeyError> for Refusal {
+    ghost use Rattle.std.specs.Prelude.{◌≡◌};
+    ghost use Rattle.bb_tool.specs.declared.refusal.Refusal.TheVariants as refusals;
+
+    ghost from_gives = { λ error e. e ≡ refusals.BadKey error };
+
+    fn from(error: KeyError) -> Self {
+        Refusal::BadKey(error)
+    }
+}
+
 impl Refusal {
     ghost use Rattle.bb_tool.specs.Refusal.{status_of};
 
@@ -133,7 +171,7 @@ impl Refusal {
     {
         match self {
             Refusal::BadWords(_) => Status::BadWords,
-            Refusal::BadTree(_) => Status::BadTree,
+            Refusal::BadTree(_) | Refusal::BadBlob(_) => Status::BadTree,
             Refusal::BadLayout(_) => Status::BadLayout,
             Refusal::BadVariable(_, _) => Status::BadVariable,
             Refusal::FileMissing(_) => Status::FileMissing,
@@ -141,7 +179,10 @@ impl Refusal {
             Refusal::FileTooLong(_) => Status::FileTooLong,
             Refusal::ReadFault => Status::ReadFault,
             Refusal::WriteFault(_) => Status::WriteFault,
+            Refusal::NoTarget => Status::NoTarget,
+            Refusal::StartFailed(_) => Status::StartFailed,
             Refusal::BadSettings(_) => Status::BadSettings,
+            Refusal::NoKey | Refusal::BadKey(_) => Status::BadKey,
             Refusal::NoGood(_) => Status::NoGood,
             Refusal::NoMemory => Status::NoMemory,
         }

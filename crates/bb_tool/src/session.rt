@@ -1,22 +1,25 @@
-ghost use Rattle.std.specs.Prelude.{◌≡◌, ◌≤◌, false, IfErr};
+ghost use Rattle.std.specs.Prelude.{◌≡◌, ◌≤◌, false, IfErr, IfOk};
 ghost use Rattle.bb_flash.specs.Cuts.{IsLater};
-ghost use Rattle.bb_flash.specs.Device.{LeavesStarts};
-ghost use Rattle.bb_tool.specs.Calls.{AsksNothing, ComesByDevice, ComesByFiles, ComesByOutlet, ComesByPlan, ComesByPlanAlone, ComesByReads, ComesByTable, ComesByWords, CutsTheText, IsSession, IsUndisturbed, IsUndisturbedAlone, KeepsFiles, KeepsHistory, LeavesUnnamedFiles, NamesTheCopy, StartsNothing, WantsMemory};
+ghost use Rattle.bb_tool.specs.Calls.{AsksNothing, ComesByDevice, ComesByFiles, ComesByOutlet, ComesByPlan, ComesByPlanAlone, ComesByReads, ComesByTable, ComesByWords, CutsTheText, IsSession, IsUndisturbed, IsUndisturbedAlone, KeepsFiles, KeepsHistory, LeavesUnnamedFiles, NamesTheCopy, WantsMemory};
 ghost use Rattle.bb_tool.specs.Copying.{KeepsATrail, KeepsAtExit, KeepsOthers, KnowsWriteFaults, LeavesUnread, MakesAlike, StopsAtFileFault, StopsBetweenSaves, WritesExactly};
 ghost use Rattle.bb_tool.specs.Ending.{IsGiven};
 ghost use Rattle.bb_tool.specs.Filing.{IsFolderLater};
 ghost use Rattle.bb_tool.specs.Plan.{names_file};
 ghost use Rattle.bb_tool.specs.Ran.{ran_by};
 ghost use Rattle.bb_tool.specs.Refusal.{IsTellable};
+ghost use Rattle.bb_tool.specs.Starting.{BootsInTurn, CountsFailedStarts, KnowsStartFaults, NamesTheTarget, RunsRounds, StartsAtMostOne, StartsBehindSave, StartsTheLast};
+ghost use Rattle.bb_tool.specs.Work.{IsSendable};
 
 use crate::Status;
+use crate::boot::boot;
 use crate::mark_good::mark_good;
 use crate::raw::raw;
 use crate::refusal::Refusal;
+use crate::report::Report;
 use crate::state::state;
-use crate::tell::{tell, tell_refusal};
-use bb_base::{Bytes, Files, Sink, TextList};
-use bb_flash::{Board, Flash};
+use crate::tell::{tell_refusal, tell_report};
+use bb_base::{Files, Sink, TextList};
+use bb_flash::Board;
 use bb_words::{Command, read_words};
 use std::alloc::Global;
 
@@ -50,8 +53,6 @@ pub fn run<F: Files, B: Board, K: Sink>(
         files.old files.new board.old board.new out.old out.new result) }
     ensures later { KeepsHistory (ran_by F.folder B.device K.outlet words.now
         files.old files.new board.old board.new out.old out.new result) }
-    ensures starts { StartsNothing (ran_by F.folder B.device K.outlet words.now
-        files.old files.new board.old board.new out.old out.new result) }
 
     // What became of the copies: at exit, in each image on the way, and outside of them.
     ensures exit { KeepsAtExit (ran_by F.folder B.device K.outlet words.now
@@ -59,6 +60,22 @@ pub fn run<F: Files, B: Board, K: Sink>(
     ensures trail { KeepsATrail (ran_by F.folder B.device K.outlet words.now
         files.old files.new board.old board.new out.old out.new result) }
     ensures outside { KeepsOthers (ran_by F.folder B.device K.outlet words.now
+        files.old files.new board.old board.new out.old out.new result) }
+
+    // A boot's rounds are of the best target each, and its turn is one of those whose starts
+    // `law_attempts` bounds. At most one start is made, by the plan of the last round's target,
+    // behind the save of the attempt that it spends.
+    ensures rounds { RunsRounds (ran_by F.folder B.device K.outlet words.now
+        files.old files.new board.old board.new out.old out.new result) }
+    ensures boots { BootsInTurn (ran_by F.folder B.device K.outlet words.now
+        files.old files.new board.old board.new out.old out.new result) }
+    ensures starts { StartsTheLast (ran_by F.folder B.device K.outlet words.now
+        files.old files.new board.old board.new out.old out.new result) }
+    ensures starts_once { StartsAtMostOne (ran_by F.folder B.device K.outlet words.now
+        files.old files.new board.old board.new out.old out.new result) }
+    ensures starts_saved { StartsBehindSave (ran_by F.folder B.device K.outlet words.now
+        files.old files.new board.old board.new out.old out.new result) }
+    ensures start_faults { CountsFailedStarts (ran_by F.folder B.device K.outlet words.now
         files.old files.new board.old board.new out.old out.new result) }
 
     // Where no call of the device failed: to the byte, and what they pass then.
@@ -106,8 +123,16 @@ pub fn run<F: Files, B: Board, K: Sink>(
         files.old files.new board.old board.new out.old out.new result) }
     ensures write_fault_cause { KnowsWriteFaults (ran_by F.folder B.device K.outlet words.now
         files.old files.new board.old board.new out.old out.new result) }
+    ensures no_target { ComesByTable Status.NoTarget (ran_by F.folder B.device K.outlet words.now
+        files.old files.new board.old board.new out.old out.new result) }
+    ensures start_failed { NamesTheTarget (ran_by F.folder B.device K.outlet words.now
+        files.old files.new board.old board.new out.old out.new result) }
+    ensures start_failed_cause { KnowsStartFaults (ran_by F.folder B.device K.outlet words.now
+        files.old files.new board.old board.new out.old out.new result) }
     ensures bad_settings { ComesByPlan Status.BadSettings
         (ran_by F.folder B.device K.outlet words.now
+        files.old files.new board.old board.new out.old out.new result) }
+    ensures bad_key { ComesByPlan Status.BadKey (ran_by F.folder B.device K.outlet words.now
         files.old files.new board.old board.new out.old out.new result) }
     ensures no_good { ComesByTable Status.NoGood (ran_by F.folder B.device K.outlet words.now
         files.old files.new board.old board.new out.old out.new result) }
@@ -125,45 +150,45 @@ pub fn run<F: Files, B: Board, K: Sink>(
     answer(alloc, words, files, board, out)
 }
 
-fn answer<N: Files, F: Flash, K: Sink>(
+fn answer<N: Files, B: Board, K: Sink>(
     alloc: Global,
     words: &TextList,
     files: &mut N,
-    flash: &mut F,
+    board: &mut B,
     out: &mut K,
 ) -> Status
-    ensures session { IsSession (ran_by N.folder F.device K.outlet words.now
-        files.old files.new flash.old flash.new out.old out.new result) }
+    ensures session { IsSession (ran_by N.folder B.device K.outlet words.now
+        files.old files.new board.old board.new out.old out.new result) }
     ensures files { IsFolderLater (N.folder files.old) (N.folder files.new) }
     ensures unread { names_file words.now ≡ false → N.folder files.new ≡ N.folder files.old }
-    ensures later { IsLater (F.device flash.old) (F.device flash.new) }
-    ensures starts { LeavesStarts (F.device flash.old) (F.device flash.new) }
+    ensures later { IsLater (B.device board.old) (B.device board.new) }
     ensures faults { (K.outlet out.old).faults ≤ (K.outlet out.new).faults }
 {
-    match session(alloc, words, files, flash) {
-        Ok(text) => tell(text.as_slice(), Status::Done, out),
+    match session(alloc, words, files, board) {
+        Ok(report) => tell_report(alloc, report, out),
         Err(refusal) => tell_refusal(alloc, &refusal, out),
     }
 }
 
-// The text of a session, or its refusal.
-fn session<N: Files, F: Flash>(
+// What is sent of a session, or its refusal.
+fn session<N: Files, B: Board>(
     alloc: Global,
     words: &TextList,
     files: &mut N,
-    flash: &mut F,
-) -> Result<Bytes, Refusal>
+    board: &mut B,
+) -> Result<Report, Refusal>
     ensures gives { IsGiven words.now (N.folder files.old) (N.folder files.new)
-        (F.device flash.old) (F.device flash.new) result }
+        (B.device board.old) (B.device board.new) result }
     ensures tellable { IfErr result IsTellable }
+    ensures sends { IfOk result IsSendable }
     ensures files { IsFolderLater (N.folder files.old) (N.folder files.new) }
     ensures unread { names_file words.now ≡ false → N.folder files.new ≡ N.folder files.old }
-    ensures later { IsLater (F.device flash.old) (F.device flash.new) }
-    ensures starts { LeavesStarts (F.device flash.old) (F.device flash.new) }
+    ensures later { IsLater (B.device board.old) (B.device board.new) }
 {
     match read_words(alloc, words)? {
-        Command::Raw(command) => raw(alloc, flash, command),
-        Command::State(command) => state(alloc, files, flash, &command),
-        Command::MarkGood(command) => mark_good(alloc, files, flash, &command),
+        Command::Raw(command) => raw(alloc, board, command),
+        Command::State(command) => state(alloc, files, board, &command),
+        Command::MarkGood(command) => mark_good(alloc, files, board, &command),
+        Command::Boot(command) => boot(alloc, files, board, &command),
     }
 }

@@ -1,21 +1,22 @@
-ghost use Rattle.std.specs.Prelude.{◌≡◌, ◌≤◌, List, ℕ, Ok, IfErr};
+ghost use Rattle.std.specs.Prelude.{◌≡◌, ◌≤◌, List, ℕ, Ok, IfErr, IfOk};
 ghost use Rattle.bb_flash.specs.Cuts.{IsLater};
 ghost use Rattle.bb_flash.specs.Device.{IsDevice, LeavesStarts};
 ghost use Rattle.bb_actions.specs.Actions.{misfit_of};
-ghost use Rattle.bb_layout.specs.Layout.{laid};
-ghost use Rattle.bb_state.specs.State.{IsOn, IsSized, laid_of};
+ghost use Rattle.bb_state.specs.Keyed.{FitsKey};
+ghost use Rattle.bb_state.specs.State.{IsOn, IsSized, keyed_of, laid_of};
 ghost use Rattle.bb_words.specs.Words.{words_of};
 ghost use Rattle.bb_words.specs.declared.command.Command.TheVariants as commands;
 ghost use Rattle.bb_tool.specs.Ending.{IsGiven};
-ghost use Rattle.bb_tool.specs.Filing.{Follows, IsFolderLater};
+ghost use Rattle.bb_tool.specs.Filing.{keyed_as, Follows, IsFolderLater};
 ghost use Rattle.bb_tool.specs.Plan.{Act, fit_by};
 ghost use Rattle.bb_tool.specs.Refusal.{IsTellable};
-ghost use Rattle.bb_tool.specs.Work.{IsWorkedOut};
+ghost use Rattle.bb_tool.specs.Work.{IsSendable, IsWorkedOut};
 
-use crate::described::read_layout;
+use crate::described::{KeyedLayout, read_keyed};
 use crate::refusal::Refusal;
+use crate::report::Report;
 use bb_actions::{actions_text, first_misfit, make_sets};
-use bb_base::{Bytes, Files};
+use bb_base::Files;
 use bb_flash::Flash;
 use bb_layout::Layout;
 use bb_state::State;
@@ -29,19 +30,21 @@ pub(crate) fn state<N: Files, F: Flash>(
     files: &mut N,
     flash: &mut F,
     command: &StateCommand,
-) -> Result<Bytes, Refusal>
+) -> Result<Report, Refusal>
     ensures gives { (words : List (List ℕ)) → words_of words ≡ Ok (commands.State command.now)
         → IsGiven words (N.folder files.old) (N.folder files.new)
         (F.device flash.old) (F.device flash.new) result }
     ensures tellable { IfErr result IsTellable }
+    ensures sends { IfOk result IsSendable }
     ensures files { IsFolderLater (N.folder files.old) (N.folder files.new) }
     ensures later { IsLater (F.device flash.old) (F.device flash.new) }
     ensures starts { LeavesStarts (F.device flash.old) (F.device flash.new) }
 {
     let name = command.name.as_ref();
-    let layout = read_layout(alloc, files, &command.file, name, flash.geometry())?;
-    check_actions(&layout, &command.actions)?;
-    act(alloc, flash, layout, &command.actions)
+    let key = command.key.as_ref();
+    let keyed = read_keyed(alloc, files, &command.file, name, key, flash.geometry())?;
+    check_actions(&keyed.layout, &command.actions)?;
+    act(alloc, flash, keyed, &command.actions)
 }
 
 // All variables that the actions name are in the layout, and all values fit.
@@ -60,18 +63,21 @@ fn check_actions(layout: &Layout, actions: &ActionList) -> Result<(), Refusal>
 fn act<F: Flash>(
     alloc: Global,
     flash: &mut F,
-    layout: Layout,
+    keyed: KeyedLayout,
     actions: &ActionList,
-) -> Result<Bytes, Refusal>
-    requires geometry { layout.geometry ≡ (F.device flash.old).geometry }
+) -> Result<Report, Refusal>
+    requires fits { FitsKey keyed.layout.format keyed.key }
+    requires geometry { keyed.layout.geometry ≡ (F.device flash.old).geometry }
     requires whole { IsDevice (F.device flash.old) }
-    ensures gives { IsWorkedOut (laid layout) (Act actions.now)
+    ensures gives { IsWorkedOut (keyed_as keyed)
+        (Act actions.now)
         (F.device flash.old) (F.device flash.new) result }
     ensures tellable { IfErr result IsTellable }
+    ensures sends { IfOk result IsSendable }
     ensures later { IsLater (F.device flash.old) (F.device flash.new) }
     ensures starts { LeavesStarts (F.device flash.old) (F.device flash.new) }
 {
-    let mut state = State::mount(alloc, layout)?;
+    let mut state = State::mount(alloc, keyed.layout, keyed.key)?;
     act_on(alloc, flash, &mut state, actions)
 }
 
@@ -81,17 +87,19 @@ fn act_on<F: Flash>(
     flash: &mut F,
     state: &mut State,
     actions: &ActionList,
-) -> Result<Bytes, Refusal>
+) -> Result<Report, Refusal>
     requires sized { IsSized state.old }
     requires on { IsOn state.old (F.device flash.old) }
     requires many { 2 ≤ (laid_of state.old).copies }
-    ensures gives { IsWorkedOut (laid_of state.old) (Act actions.now)
+    ensures gives { IsWorkedOut (keyed_of state.old) (Act actions.now)
         (F.device flash.old) (F.device flash.new) result }
+    ensures sends { IfOk result IsSendable }
     ensures later { IsLater (F.device flash.old) (F.device flash.new) }
     ensures starts { LeavesStarts (F.device flash.old) (F.device flash.new) }
 {
     state.load(flash)?;
     make_sets(state, actions);
     state.save(flash)?;
-    Ok(actions_text(alloc, state.layout(), state.table.bytes(), actions)?)
+    let text = actions_text(alloc, state.layout(), state.table.bytes(), actions)?;
+    Ok(Report::done(text))
 }

@@ -7,7 +7,7 @@ pub enum Status {
     Done,
     /// The words aren't a command.
     BadWords,
-    /// The file isn't a devicetree source.
+    /// The file is neither a devicetree source nor a blob.
     BadTree,
     /// The copies can't stand on this device, or the devicetree gives no layout for it.
     BadLayout,
@@ -23,10 +23,16 @@ pub enum Status {
     ReadFault,
     /// A copy couldn't be written.
     WriteFault,
+    /// No target has a priority and attempts left.
+    NoTarget,
+    /// The target that was tried last couldn't be started.
+    StartFailed,
     /// The settings aren't settings, or the layout hasn't their variables.
     BadSettings,
     /// The text couldn't be sent whole. It takes the place of any other status but `NoMemory`.
     SinkFault,
+    /// The state's records stand under a key, and none is given, or its file holds none.
+    BadKey,
     /// No target was chosen last that could be marked good.
     NoGood,
     /// Memory was refused.
@@ -51,8 +57,11 @@ impl Status {
             Status::FileTooLong => 7,
             Status::ReadFault => 8,
             Status::WriteFault => 9,
+            Status::NoTarget => 10,
+            Status::StartFailed => 11,
             Status::BadSettings => 13,
             Status::SinkFault => 14,
+            Status::BadKey => 17,
             Status::NoGood => 18,
             Status::NoMemory => 20,
         }

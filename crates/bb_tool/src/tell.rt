@@ -1,11 +1,13 @@
-ghost use Rattle.std.specs.Prelude.{◌≡◌, ◌≤◌};
-ghost use Rattle.bb_tool.specs.Refusal.{IsTellable};
-ghost use Rattle.bb_tool.specs.Telling.{IsTold, IsToldMade, IsToldMemory, IsToldRefusal, overruled};
+ghost use Rattle.std.specs.Prelude.{◌≡◌, ◌≤◌, ◌++◌, OnOk, true};
+ghost use Rattle.bb_tool.specs.Refusal.{IsTellable, line_of, status_of};
+ghost use Rattle.bb_tool.specs.Telling.{IsTold, IsToldMade, IsToldMemory, IsToldOr, IsToldRefusal, IsToldReport, overruled, takes_memory};
+ghost use Rattle.bb_tool.specs.Work.{IsSendable};
 
 use crate::Status;
 use crate::line::{fixed_line, line, no_memory_line};
 use crate::refusal::Refusal;
-use bb_base::Sink;
+use crate::report::Report;
+use bb_base::{Bytes, NoMemory, Sink};
 use std::alloc::{AllocError, Global};
 
 /// Sends a text, and gives the status with which the session ends.
@@ -26,6 +28,39 @@ fn overruled(ended: Status) -> Status
         Status::NoMemory => Status::NoMemory,
         _ => Status::SinkFault,
     }
+}
+
+/// Sends what a session's work gave, and gives the status with which the session ends. The line of a refusal goes out in
+/// one piece with the text before it, which takes memory; where that is refused, so is the session.
+pub(crate) fn tell_report<K: Sink>(alloc: Global, report: Report, out: &mut K) -> Status
+    requires { IsSendable report }
+    ensures told { IsToldReport report (K.outlet out.old) (K.outlet out.new) result }
+    ensures later { (K.outlet out.old).faults ≤ (K.outlet out.new).faults }
+{
+    let Report { text, refusal } = report;
+    match refusal {
+        None => tell(text.as_slice(), Status::Done, out),
+        Some(refusal) => tell_behind(alloc, text, &refusal, out),
+    }
+}
+
+fn tell_behind<K: Sink>(alloc: Global, mut text: Bytes, refusal: &Refusal, out: &mut K) -> Status
+    requires { takes_memory refusal.now ≡ true }
+    ensures told { IsToldOr (takes_memory refusal.now) (text ++ line_of refusal.now)
+        (status_of refusal.now) (K.outlet out.old) (K.outlet out.new) result }
+    ensures later { (K.outlet out.old).faults ≤ (K.outlet out.new).faults }
+{
+    match add_line(alloc, &mut text, refusal) {
+        Ok(()) => tell(text.as_slice(), refusal.status(), out),
+        Err(NoMemory) => tell_no_memory(out),
+    }
+}
+
+fn add_line(alloc: Global, text: &mut Bytes, refusal: &Refusal) -> Result<(), NoMemory>
+    ensures { OnOk result (text.new ≡ text.old ++ line_of refusal.now) }
+{
+    let line = line(alloc, refusal)?;
+    text.add(line.as_bytes())
 }
 
 /// Sends the one line of a refusal before which no text was gathered, and gives the status with which

@@ -1,8 +1,10 @@
 -- Words by computation.
 use Rattle.std.proofs.Common.{◌≡◌, ℕ, List, [], ◌∷◌, Option, Some, None, Ok, Err, codes, refl}
 use Rattle.hex.specs.Hex.{decode_pairs}
+use Rattle.bb_words.specs.declared.command.CauseWord.{CauseWord}
+use Rattle.bb_words.specs.declared.command.CauseWord.TheVariants.{PowerOn, Reset, Other}
 use Rattle.bb_words.specs.declared.command.Command.{Command}
-use Rattle.bb_words.specs.declared.command.Command.TheVariants.{State, MarkGood}
+use Rattle.bb_words.specs.declared.command.Command.TheVariants.{State, MarkGood, Boot}
 use Rattle.bb_words.specs.declared.command.Action.{Action}
 use Rattle.bb_words.specs.declared.command.Action.TheVariants.{Set, Get, Dump, DumpShell}
 use Rattle.bb_words.specs.declared.command.RawAction.TheVariants.{Look, Write}
@@ -67,7 +69,7 @@ no_long_form = refl
 -- ---- `state`
 
 abbrev state : List ℕ → Option (List ℕ) → List Action → Command
-state file name actions = State (record { file = file; name = name; actions = actions })
+state file name actions = State (record { file = file; name = name; key = None; actions = actions })
 
 all_options : words_of (codes "state" ∷ codes "-d" ∷ codes "-n" ∷ codes "boot" ∷ codes "--get=a" ∷ codes "--input" ∷ codes "x.dts" ∷ codes "--dump-shell" ∷ codes "-g" ∷ codes "-d" ∷ codes "--dump" ∷ [])
     ≡ Ok (state (codes "x.dts") (Some (codes "boot")) (Dump ∷ Get (codes "a") ∷ DumpShell ∷ Get (codes "-d") ∷ Dump ∷ []))
@@ -127,14 +129,35 @@ long_set_without_sign : words_of (codes "state" ∷ codes "-i" ∷ codes "f" ∷
 unfolding words_from
 long_set_without_sign = refl
 
-no_key : words_of (codes "state" ∷ codes "-k" ∷ codes "key" ∷ []) ≡ Err 1
+state_key : words_of (codes "state" ∷ codes "-k" ∷ codes "a=b" ∷ codes "-i" ∷ codes "-k" ∷ [])
+    ≡ Ok (State (record { file = codes "-k"; name = None; key = Some (codes "a=b"); actions = [] }))
+unfolding words_from
+state_key = refl
+
+no_key : words_of (codes "state" ∷ codes "-i" ∷ codes "f" ∷ codes "-k" ∷ []) ≡ Err 4
 unfolding words_from
 no_key = refl
+
+key_without_file : words_of (codes "state" ∷ codes "-k" ∷ codes "key" ∷ []) ≡ Err 3
+unfolding words_from
+key_without_file = refl
+
+second_key : words_of (codes "state" ∷ codes "-k" ∷ codes "a" ∷ codes "-k" ∷ codes "a" ∷ []) ≡ Err 3
+unfolding words_from
+second_key = refl
+
+key_joined : words_of (codes "state" ∷ codes "-k=a" ∷ []) ≡ Err 1
+unfolding words_from
+key_joined = refl
+
+long_key : words_of (codes "state" ∷ codes "--key" ∷ codes "a" ∷ []) ≡ Err 1
+unfolding words_from
+long_key = refl
 
 -- ---- `mark-good`
 
 abbrev mark : List ℕ → List ℕ → Option (List ℕ) → Command
-mark file settings name = MarkGood (record { file = file; settings = settings; name = name })
+mark file settings name = MarkGood (record { file = file; settings = settings; name = name; key = None })
 
 good : words_of (codes "mark-good" ∷ codes "-i" ∷ codes "b.dts" ∷ codes "-c" ∷ codes "set.txt" ∷ [])
     ≡ Ok (mark (codes "b.dts") (codes "set.txt") None)
@@ -145,6 +168,11 @@ good_any_order : words_of (codes "mark-good" ∷ codes "-c" ∷ codes "-i" ∷ c
     ≡ Ok (mark (codes "-c") (codes "-i") (Some (codes "a")))
 unfolding words_from
 good_any_order = refl
+
+good_key : words_of (codes "mark-good" ∷ codes "-k" ∷ codes "-c" ∷ codes "-c" ∷ codes "-k" ∷ codes "-i" ∷ codes "f" ∷ [])
+    ≡ Ok (MarkGood (record { file = codes "f"; settings = codes "-k"; name = None; key = Some (codes "-c") }))
+unfolding words_from
+good_key = refl
 
 good_without_settings : words_of (codes "mark-good" ∷ codes "-i" ∷ codes "b.dts" ∷ []) ≡ Err 3
 unfolding words_from
@@ -173,3 +201,69 @@ good_gets_nothing = refl
 good_dumps_nothing : words_of (codes "mark-good" ∷ codes "-d" ∷ []) ≡ Err 1
 unfolding words_from
 good_dumps_nothing = refl
+
+-- ---- `boot`
+
+abbrev boot : List ℕ → List ℕ → Option (List ℕ) → CauseWord → Command
+boot file settings name cause = Boot (record { file = file; settings = settings; name = name; key = None; cause = cause })
+
+boot_alone : words_of (codes "boot" ∷ codes "-i" ∷ codes "b.dts" ∷ codes "-c" ∷ codes "set.txt" ∷ [])
+    ≡ Ok (boot (codes "b.dts") (codes "set.txt") None Other)
+unfolding words_from
+boot_alone = refl
+
+boot_any_order : words_of (codes "boot" ∷ codes "--cause" ∷ codes "power-on" ∷ codes "-c" ∷ codes "--cause" ∷ codes "--name=a" ∷ codes "--input" ∷ codes "reset" ∷ [])
+    ≡ Ok (boot (codes "reset") (codes "--cause") (Some (codes "a")) PowerOn)
+unfolding words_from
+boot_any_order = refl
+
+boot_reset : words_of (codes "boot" ∷ codes "-c" ∷ codes "a" ∷ codes "--cause" ∷ codes "reset" ∷ codes "-i" ∷ codes "b" ∷ [])
+    ≡ Ok (boot (codes "b") (codes "a") None Reset)
+unfolding words_from
+boot_reset = refl
+
+boot_other : words_of (codes "boot" ∷ codes "-c" ∷ codes "a" ∷ codes "-i" ∷ codes "b" ∷ codes "--cause" ∷ codes "other" ∷ [])
+    ≡ Ok (boot (codes "b") (codes "a") None Other)
+unfolding words_from
+boot_other = refl
+
+boot_key : words_of (codes "boot" ∷ codes "-c" ∷ codes "a" ∷ codes "-i" ∷ codes "b" ∷ codes "-k" ∷ codes "c" ∷ [])
+    ≡ Ok (Boot (record { file = codes "b"; settings = codes "a"; name = None; key = Some (codes "c"); cause = Other }))
+unfolding words_from
+boot_key = refl
+
+boot_without_settings : words_of (codes "boot" ∷ codes "-i" ∷ codes "a" ∷ []) ≡ Err 3
+unfolding words_from
+boot_without_settings = refl
+
+no_cause : words_of (codes "boot" ∷ codes "-i" ∷ codes "a" ∷ codes "-c" ∷ codes "b" ∷ codes "--cause" ∷ []) ≡ Err 6
+unfolding words_from
+no_cause = refl
+
+cause_joined : words_of (codes "boot" ∷ codes "-i" ∷ codes "a" ∷ codes "-c" ∷ codes "b" ∷ codes "--cause=reset" ∷ []) ≡ Err 5
+unfolding words_from
+cause_joined = refl
+
+other_cause : words_of (codes "boot" ∷ codes "-i" ∷ codes "a" ∷ codes "-c" ∷ codes "b" ∷ codes "--cause" ∷ codes "warm" ∷ []) ≡ Err 6
+unfolding words_from
+other_cause = refl
+
+second_cause : words_of (codes "boot" ∷ codes "--cause" ∷ codes "reset" ∷ codes "--cause" ∷ codes "reset" ∷ []) ≡ Err 3
+unfolding words_from
+second_cause = refl
+
+boot_settings_twice : words_of (codes "boot" ∷ codes "-c" ∷ codes "a" ∷ codes "-c" ∷ codes "a" ∷ []) ≡ Err 3
+unfolding words_from
+boot_settings_twice = refl
+
+cause_of_state : words_of (codes "state" ∷ codes "-i" ∷ codes "a" ∷ codes "--cause" ∷ codes "reset" ∷ []) ≡ Err 3
+unfolding words_from
+cause_of_state = refl
+
+cause_of_good : words_of (codes "mark-good" ∷ codes "--cause" ∷ codes "reset" ∷ []) ≡ Err 1
+unfolding words_from
+cause_of_good = refl
+
+boot_dumps_nothing : words_of (codes "boot" ∷ codes "-d" ∷ []) ≡ Err 1
+unfolding words_from
+boot_dumps_nothing = refl

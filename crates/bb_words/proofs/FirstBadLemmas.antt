@@ -2,19 +2,22 @@
 use Rattle.std.proofs.Common.{◌≡◌, ℕ, zero, suc, ◌+◌, ◌<◌, ◌≤◌, List, [], ◌∷◌, ◌++◌, Option, Some, None, Result, Ok, Err, codes, length, take, replicate, refl, ap, sym, subst, ◌∙◌, arith}
 use Rattle.std.proofs.lemmas.List.{length-replicate}
 use Rattle.std.specs.Option.{ok_or, option_map, option_map_or}
+use Rattle.std.specs.Prelude.{unwrap_or}
 use Rattle.std.specs.Result.{result_ok}
 use Rattle.hex.specs.Hex.{IsBytes, encode_lower}
 use Rattle.hex.proofs.HexLemmas.{decode_sized-encode_lower}
 use Rattle.bb_words.specs.declared.command.Action.{Action}
 use Rattle.bb_words.specs.declared.command.Action.TheVariants.{Set, Get}
+use Rattle.bb_words.specs.declared.command.CauseWord.{CauseWord}
+use Rattle.bb_words.specs.declared.command.CauseWord.TheVariants.{Other}
 use Rattle.bb_words.specs.declared.command.Command.{Command}
-use Rattle.bb_words.specs.declared.command.Command.TheVariants.{State, MarkGood}
+use Rattle.bb_words.specs.declared.command.Command.TheVariants.{State, MarkGood, Boot}
 use Rattle.bb_words.specs.declared.command.RawAction.TheVariants.{Look, Write}
 use Rattle.bb_words.specs.declared.given.Given.{Given}
 use Rattle.bb_words.specs.declared.option.Valued.{Valued}
-use Rattle.bb_words.specs.declared.option.Valued.TheVariants.{Input, Name, Get as GetOption, Set as SetOption, Settings}
+use Rattle.bb_words.specs.declared.option.Valued.TheVariants.{Input, Name, Get as GetOption, Set as SetOption, Settings, Key, Cause}
 use Rattle.bb_words.specs.declared.row.Row.{Row}
-use Rattle.bb_words.specs.declared.row.Row.TheVariants.{State as StateRow, MarkGood as MarkGoodRow}
+use Rattle.bb_words.specs.declared.row.Row.TheVariants.{State as StateRow, MarkGood as MarkGoodRow, Boot as BootRow}
 use Rattle.bb_words.specs.FirstBad.{Begins}
 use Rattle.bb_words.specs.Options.{with_action}
 use Rattle.bb_words.specs.Words.{Stage, Start, Magic, Length, Mode, Area, Options, Whole, raw_of, next, command_at, words_from, words_of}
@@ -49,27 +52,41 @@ area_completed start magic len =
     )
 
 -- a row of the table: what must be there can come
-state_completed : (start : ℕ) (file name settings : Option (List ℕ)) (actions : List Action) →
-    Continues start (Options StateRow None (record { file = file; name = name; settings = settings; actions = actions })) []
+state_completed : (start : ℕ) (file name settings key : Option (List ℕ)) (cause : Option CauseWord) (actions : List Action) →
+    Continues start (Options StateRow None (record { file = file; name = name; settings = settings; key = key; cause = cause; actions = actions })) []
 unfolding words_from
-state_completed start None name settings actions = (codes "-i" ∷ [] ∷ [], State (record { file = []; name = name; actions = actions }), refl)
-state_completed start (Some file) name settings actions = ([], State (record { file = file; name = name; actions = actions }), refl)
+state_completed start None name settings key cause actions = (codes "-i" ∷ [] ∷ [], State (record { file = []; name = name; key = key; actions = actions }), refl)
+state_completed start (Some file) name settings key cause actions = ([], State (record { file = file; name = name; key = key; actions = actions }), refl)
 
-mark_completed : (start : ℕ) (file name settings : Option (List ℕ)) (actions : List Action) →
-    Continues start (Options MarkGoodRow None (record { file = file; name = name; settings = settings; actions = actions })) []
+mark_completed : (start : ℕ) (file name settings key : Option (List ℕ)) (cause : Option CauseWord) (actions : List Action) →
+    Continues start (Options MarkGoodRow None (record { file = file; name = name; settings = settings; key = key; cause = cause; actions = actions })) []
 unfolding words_from
-mark_completed start None name None actions =
-    (codes "-i" ∷ [] ∷ codes "-c" ∷ [] ∷ [], MarkGood (record { file = []; settings = []; name = name }), refl)
-mark_completed start None name (Some settings) actions =
-    (codes "-i" ∷ [] ∷ [], MarkGood (record { file = []; settings = settings; name = name }), refl)
-mark_completed start (Some file) name None actions =
-    (codes "-c" ∷ [] ∷ [], MarkGood (record { file = file; settings = []; name = name }), refl)
-mark_completed start (Some file) name (Some settings) actions =
-    ([], MarkGood (record { file = file; settings = settings; name = name }), refl)
+mark_completed start None name None key cause actions =
+    (codes "-i" ∷ [] ∷ codes "-c" ∷ [] ∷ [], MarkGood (record { file = []; settings = []; name = name; key = key }), refl)
+mark_completed start None name (Some settings) key cause actions =
+    (codes "-i" ∷ [] ∷ [], MarkGood (record { file = []; settings = settings; name = name; key = key }), refl)
+mark_completed start (Some file) name None key cause actions =
+    (codes "-c" ∷ [] ∷ [], MarkGood (record { file = file; settings = []; name = name; key = key }), refl)
+mark_completed start (Some file) name (Some settings) key cause actions =
+    ([], MarkGood (record { file = file; settings = settings; name = name; key = key }), refl)
+
+-- what is given, behind a file and settings, makes a boot
+abbrev boot_of : List ℕ → List ℕ → Option (List ℕ) → Option (List ℕ) → Option CauseWord → Command
+boot_of file settings name key cause = Boot (record { file = file; settings = settings; name = name; key = key; cause = unwrap_or cause Other })
+
+boot_completed : (start : ℕ) (file name settings key : Option (List ℕ)) (cause : Option CauseWord) (actions : List Action) →
+    Continues start (Options BootRow None (record { file = file; name = name; settings = settings; key = key; cause = cause; actions = actions })) []
+unfolding words_from
+boot_completed start None name None key cause actions =
+    (codes "-i" ∷ [] ∷ codes "-c" ∷ [] ∷ [], boot_of [] [] name key cause, refl)
+boot_completed start None name (Some settings) key cause actions = (codes "-i" ∷ [] ∷ [], boot_of [] settings name key cause, refl)
+boot_completed start (Some file) name None key cause actions = (codes "-c" ∷ [] ∷ [], boot_of file [] name key cause, refl)
+boot_completed start (Some file) name (Some settings) key cause actions = ([], boot_of file settings name key cause, refl)
 
 options_completed : (start : ℕ) (row : Row) (given : Given) → Continues start (Options row None given) []
-options_completed start StateRow given = state_completed start given.file given.name given.settings given.actions
-options_completed start MarkGoodRow given = mark_completed start given.file given.name given.settings given.actions
+options_completed start StateRow given = state_completed start given.file given.name given.settings given.key given.cause given.actions
+options_completed start MarkGoodRow given = mark_completed start given.file given.name given.settings given.key given.cause given.actions
+options_completed start BootRow given = boot_completed start given.file given.name given.settings given.key given.cause given.actions
 
 -- an option has a value that it takes
 value_completed : (start : ℕ) (row : Row) (valued : Valued) (given : Given) → Continues start (Options row (Some valued) given) []
@@ -83,6 +100,12 @@ value_completed start row Name given =
 value_completed start row Settings given =
     let rest = options_completed (start + 1) row (record given { settings = Some [] }) in
     ([] ∷ rest.0, rest.1, rest.2)
+value_completed start row Key given =
+    let rest = options_completed (start + 1) row (record given { key = Some [] }) in
+    ([] ∷ rest.0, rest.1, rest.2)
+value_completed start row Cause given =
+    let rest = options_completed (start + 1) row (record given { cause = Some Other }) in
+    (codes "other" ∷ rest.0, rest.1, rest.2)
 value_completed start row GetOption given =
     let rest = options_completed (start + 1) row (with_action (Get []) given) in
     ([] ∷ rest.0, rest.1, rest.2)

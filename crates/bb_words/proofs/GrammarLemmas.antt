@@ -4,23 +4,24 @@ use Rattle.std.proofs.lemmas.List.{append-nil}
 use Rattle.std.proofs.lemmas.Slice.Eq.{bytes_eq-Decides}
 use Rattle.std.specs.List.{filter_map, flat_map, cons_option, list_all, list_any, before_first, after_first, position_or_len}
 use Rattle.std.specs.Option.{ok_or, option_map, option_map_or, option_or, option_to_list}
-use Rattle.std.specs.Prelude.{option_and_then}
+use Rattle.std.specs.Prelude.{is_some, option_and_then}
 use Rattle.std.specs.Str.{bytes_eq}
 use Rattle.bb_words.specs.declared.command.Action.{Action}
 use Rattle.bb_words.specs.declared.command.Action.TheVariants.{Set, Get, Dump, DumpShell}
+use Rattle.bb_words.specs.declared.command.CauseWord.{CauseWord}
 use Rattle.bb_words.specs.declared.command.Command.{Command}
-use Rattle.bb_words.specs.declared.command.Command.TheVariants.{Raw, State, MarkGood}
+use Rattle.bb_words.specs.declared.command.Command.TheVariants.{Raw, State, MarkGood, Boot}
 use Rattle.bb_words.specs.declared.command.RawAction.{RawAction}
 use Rattle.bb_words.specs.declared.command.RawAction.TheVariants.{Look, Write}
 use Rattle.bb_words.specs.declared.command.RawCommand.{RawCommand}
 use Rattle.bb_words.specs.declared.given.Given.{Given}
 use Rattle.bb_words.specs.declared.option.Valued.{Valued}
-use Rattle.bb_words.specs.declared.option.Valued.TheVariants.{Input, Name, Get as GetOption, Set as SetOption, Settings}
+use Rattle.bb_words.specs.declared.option.Valued.TheVariants.{Input, Name, Get as GetOption, Set as SetOption, Settings, Key, Cause}
 use Rattle.bb_words.specs.declared.row.Row.{Row}
-use Rattle.bb_words.specs.declared.row.Row.TheVariants.{State as StateRow, MarkGood as MarkGoodRow}
-use Rattle.bb_words.specs.Grammar.{IsAction, IsRaw, IsSpelt, Spells, Form, Short, Long, Joined, Item, Takes, ShortDump, LongDump, ShellDump, short_form, long_form, spelling_of, has_long, has_form, is_value, has_item, file_in, name_in, settings_in, action_in}
-use Rattle.bb_words.specs.Options.{dump_of, long_of, valued_of, value_in, has_sign, set_in, with_value, with_action, none_given}
-use Rattle.bb_words.specs.Table.{name_of, row_of, has, has_dumps, may_come, command_of}
+use Rattle.bb_words.specs.declared.row.Row.TheVariants.{State as StateRow, MarkGood as MarkGoodRow, Boot as BootRow}
+use Rattle.bb_words.specs.Grammar.{IsAction, IsRaw, IsSpelt, Spells, Form, Own, Long, Joined, Item, Takes, ShortDump, LongDump, ShellDump, own_form, long_form, spelling_of, has_long, has_form, is_value, has_item, file_in, name_in, settings_in, key_in, cause_in, action_in}
+use Rattle.bb_words.specs.Options.{cause_of, dump_of, long_of, valued_of, value_in, has_sign, set_in, with_value, with_action, none_given}
+use Rattle.bb_words.specs.Table.{name_of, row_of, has, has_dumps, may_come, cause_given, command_of}
 use Rattle.bb_words.specs.Words.{Stage, Magic, Length, Mode, Area, Options, Whole, raw_of, number_up_to, area_of, dumped, opened, taken, closed, behind_option, next, words_from, words_of}
 
 -- ---- what is spelt is accepted
@@ -44,6 +45,8 @@ record Gives (given : Given) (items : List Item) (all : Given) : Type 0 where
   files : option_to_list given.file ++ filter_map file_in items ≡ option_to_list all.file
   names : option_to_list given.name ++ filter_map name_in items ≡ option_to_list all.name
   settings : option_to_list given.settings ++ filter_map settings_in items ≡ option_to_list all.settings
+  keys : option_to_list given.key ++ filter_map key_in items ≡ option_to_list all.key
+  causes : option_to_list given.cause ++ filter_map cause_in items ≡ option_to_list all.cause
   actions : given.actions ++ filter_map action_in items ≡ all.actions
 
 gives_none : (given all : Given) → Gives given [] all → given ≡ all
@@ -51,19 +54,27 @@ gives_none given all g =
     let file = same_item given.file all.file g.files in
     let name = same_item given.name all.name g.names in
     let settings = same_item given.settings all.settings g.settings in
+    let key = same_item given.key all.key g.keys in
+    let cause = same_item given.cause all.cause g.causes in
     let actions = sym (append-nil given.actions) ∙ g.actions in
     ap (λ file. record given { file = file }) file
     ∙ ap (λ name. record given { file = all.file; name = name }) name
     ∙ ap (λ settings. record given { file = all.file; name = all.name; settings = settings }) settings
+    ∙ ap (λ key. record given { file = all.file; name = all.name; settings = all.settings; key = key }) key
+    ∙ ap
+    (λ cause. record given { file = all.file; name = all.name; settings = all.settings; key = all.key; cause = cause })
+    cause
     ∙ ap (λ actions. record all { actions = actions }) actions
 
 -- an action is put behind those before
-action_behind : (given all : Given) (items : List Item) (item : Item) (action : Action) → file_in item ≡ None → name_in item ≡ None → settings_in item ≡ None → action_in item ≡ Some action →
+action_behind : (given all : Given) (items : List Item) (item : Item) (action : Action) → file_in item ≡ None → name_in item ≡ None → settings_in item ≡ None → key_in item ≡ None → cause_in item ≡ None → action_in item ≡ Some action →
     Gives given (item ∷ items) all → Gives (with_action action given) items all
-action_behind given all items item action no_file no_name no_settings does g = record {
+action_behind given all items item action no_file no_name no_settings no_key no_cause does g = record {
   files = ap (λ o. option_to_list given.file ++ cons_option o (filter_map file_in items)) (sym no_file) ∙ g.files;
   names = ap (λ o. option_to_list given.name ++ cons_option o (filter_map name_in items)) (sym no_name) ∙ g.names;
   settings = ap (λ o. option_to_list given.settings ++ cons_option o (filter_map settings_in items)) (sym no_settings) ∙ g.settings;
+  keys = ap (λ o. option_to_list given.key ++ cons_option o (filter_map key_in items)) (sym no_key) ∙ g.keys;
+  causes = ap (λ o. option_to_list given.cause ++ cons_option o (filter_map cause_in items)) (sym no_cause) ∙ g.causes;
   actions =
       append_assoc given.actions (action ∷ []) (filter_map action_in items)
       ∙ ap (λ o. given.actions ++ cons_option o (filter_map action_in items)) (sym does)
@@ -71,12 +82,14 @@ action_behind given all items item action no_file no_name no_settings does g = r
 }
 
 -- and the other way round
-action_before : (given all : Given) (items : List Item) (item : Item) (action : Action) → file_in item ≡ None → name_in item ≡ None → settings_in item ≡ None → action_in item ≡ Some action →
+action_before : (given all : Given) (items : List Item) (item : Item) (action : Action) → file_in item ≡ None → name_in item ≡ None → settings_in item ≡ None → key_in item ≡ None → cause_in item ≡ None → action_in item ≡ Some action →
     Gives (with_action action given) items all → Gives given (item ∷ items) all
-action_before given all items item action no_file no_name no_settings does g = record {
+action_before given all items item action no_file no_name no_settings no_key no_cause does g = record {
   files = ap (λ o. option_to_list given.file ++ cons_option o (filter_map file_in items)) no_file ∙ g.files;
   names = ap (λ o. option_to_list given.name ++ cons_option o (filter_map name_in items)) no_name ∙ g.names;
   settings = ap (λ o. option_to_list given.settings ++ cons_option o (filter_map settings_in items)) no_settings ∙ g.settings;
+  keys = ap (λ o. option_to_list given.key ++ cons_option o (filter_map key_in items)) no_key ∙ g.keys;
+  causes = ap (λ o. option_to_list given.cause ++ cons_option o (filter_map cause_in items)) no_cause ∙ g.causes;
   actions =
       ap (λ o. given.actions ++ cons_option o (filter_map action_in items)) does
       ∙ sym (append_assoc given.actions (action ∷ []) (filter_map action_in items))
@@ -100,49 +113,79 @@ record Leaves (row : Row) (valued : Valued) (value : List ℕ) (items : List Ite
   with : with_value valued value given ≡ Some behind
   gives : Gives behind items all
 
+some_in : {A : Type 0} (o : Option A) → is_some o ≡ true → (a : A) × (o ≡ Some a)
+some_in None h = absurd (cc)
+some_in (Some a) h = (a, refl)
+
 may_still : (row : Row) (valued : Valued) → has row valued ≡ true → (has row valued && true) ≡ true
 may_still row valued h = ap (λ b. b && true) h
 
-takes_leaves : (row : Row) (form : Form) (valued : Valued) (value : List ℕ) (items : List Item) (file name settings : Option (List ℕ)) (actions : List Action) (all : Given) →
-    has row valued ≡ true → is_value valued value ≡ true → Gives (record { file = file; name = name; settings = settings; actions = actions }) (Takes form valued value ∷ items) all →
-    Leaves row valued value items (record { file = file; name = name; settings = settings; actions = actions }) all
-takes_leaves row form Input value items None name settings actions all had is g = record {
-  behind = record { file = Some value; name = name; settings = settings; actions = actions };
+takes_leaves : (row : Row) (form : Form) (valued : Valued) (value : List ℕ) (items : List Item) (file name settings key : Option (List ℕ)) (cause : Option CauseWord) (actions : List Action) (all : Given) →
+    has row valued ≡ true → is_value valued value ≡ true → Gives (record { file = file; name = name; settings = settings; key = key; cause = cause; actions = actions }) (Takes form valued value ∷ items) all →
+    Leaves row valued value items (record { file = file; name = name; settings = settings; key = key; cause = cause; actions = actions }) all
+takes_leaves row form Input value items None name settings key cause actions all had is g = record {
+  behind = record { file = Some value; name = name; settings = settings; key = key; cause = cause; actions = actions };
   may = may_still row Input had;
   with = refl;
-  gives = record { files = g.files; names = g.names; settings = g.settings; actions = g.actions };
+  gives = record { files = g.files; names = g.names; settings = g.settings; keys = g.keys; causes = g.causes; actions = g.actions };
 }
-takes_leaves row form Input value items (Some x) name settings actions all had is g = absurd (one_item x value _ all.file g.files)
-takes_leaves row form Name value items file None settings actions all had is g = record {
-  behind = record { file = file; name = Some value; settings = settings; actions = actions };
+takes_leaves row form Input value items (Some x) name settings key cause actions all had is g = absurd (one_item x value _ all.file g.files)
+takes_leaves row form Name value items file None settings key cause actions all had is g = record {
+  behind = record { file = file; name = Some value; settings = settings; key = key; cause = cause; actions = actions };
   may = may_still row Name had;
   with = refl;
-  gives = record { files = g.files; names = g.names; settings = g.settings; actions = g.actions };
+  gives = record { files = g.files; names = g.names; settings = g.settings; keys = g.keys; causes = g.causes; actions = g.actions };
 }
-takes_leaves row form Name value items file (Some x) settings actions all had is g = absurd (one_item x value _ all.name g.names)
-takes_leaves row form Settings value items file name None actions all had is g = record {
-  behind = record { file = file; name = name; settings = Some value; actions = actions };
+takes_leaves row form Name value items file (Some x) settings key cause actions all had is g = absurd (one_item x value _ all.name g.names)
+takes_leaves row form Settings value items file name None key cause actions all had is g = record {
+  behind = record { file = file; name = name; settings = Some value; key = key; cause = cause; actions = actions };
   may = may_still row Settings had;
   with = refl;
-  gives = record { files = g.files; names = g.names; settings = g.settings; actions = g.actions };
+  gives = record { files = g.files; names = g.names; settings = g.settings; keys = g.keys; causes = g.causes; actions = g.actions };
 }
-takes_leaves row form Settings value items file name (Some x) actions all had is g = absurd (one_item x value _ all.settings g.settings)
-takes_leaves row form GetOption value items file name settings actions all had is g =
-    let given : Given = record { file = file; name = name; settings = settings; actions = actions } in
+takes_leaves row form Settings value items file name (Some x) key cause actions all had is g = absurd (one_item x value _ all.settings g.settings)
+takes_leaves row form Key value items file name settings None cause actions all had is g = record {
+  behind = record { file = file; name = name; settings = settings; key = Some value; cause = cause; actions = actions };
+  may = may_still row Key had;
+  with = refl;
+  gives = record { files = g.files; names = g.names; settings = g.settings; keys = g.keys; causes = g.causes; actions = g.actions };
+}
+takes_leaves row form Key value items file name settings (Some x) cause actions all had is g = absurd (one_item x value _ all.key g.keys)
+takes_leaves row form Cause value items file name settings key None actions all had is g =
+    let given : Given = record { file = file; name = name; settings = settings; key = key; cause = None; actions = actions } in
+    let cause = some_in (cause_of value) is in
+    record {
+      behind = record given { cause = Some cause.0 };
+      may = may_still row Cause had;
+      with = ap (option_map (λ cause. record given { cause = Some cause })) cause.1;
+      gives = record {
+        files = g.files;
+        names = g.names;
+        settings = g.settings;
+        keys = g.keys;
+        causes = ap (λ o. cons_option o (filter_map cause_in items)) (sym cause.1) ∙ g.causes;
+        actions = g.actions;
+      };
+    }
+takes_leaves row form Cause value items file name settings key (Some x) actions all had is g =
+    let cause = some_in (cause_of value) is in
+    absurd (one_item x cause.0 _ all.cause (ap (λ o. x ∷ cons_option o (filter_map cause_in items)) (sym cause.1) ∙ g.causes))
+takes_leaves row form GetOption value items file name settings key cause actions all had is g =
+    let given : Given = record { file = file; name = name; settings = settings; key = key; cause = cause; actions = actions } in
     record {
       behind = with_action (Get value) given;
       may = may_still row GetOption had;
       with = refl;
-      gives = action_behind given all items (Takes form GetOption value) (Get value) refl refl refl refl g;
+      gives = action_behind given all items (Takes form GetOption value) (Get value) refl refl refl refl refl refl g;
     }
-takes_leaves row form SetOption value items file name settings actions all had is g =
-    let given : Given = record { file = file; name = name; settings = settings; actions = actions } in
+takes_leaves row form SetOption value items file name settings key cause actions all had is g =
+    let given : Given = record { file = file; name = name; settings = settings; key = key; cause = cause; actions = actions } in
     let set = Set (before_first is_sign value) (after_first is_sign value) in
     record {
       behind = with_action set given;
       may = may_still row SetOption had;
       with = ap (option_map (λ action. with_action action given)) (set_made value is);
-      gives = action_behind given all items (Takes form SetOption value) set refl refl refl (set_made value is) g;
+      gives = action_behind given all items (Takes form SetOption value) set refl refl refl refl refl (set_made value is) g;
     }
 
 -- a word that may come
@@ -165,7 +208,7 @@ value_step place row valued value given behind rest with =
 
 -- the place behind an option
 abbrev pub behind_form : ℕ → Form → ℕ
-behind_form start Short = start + 1 + 1
+behind_form start Own = start + 1 + 1
 behind_form start Long = start + 1 + 1
 behind_form start Joined = start + 1
 
@@ -175,14 +218,16 @@ opened_words : (start : ℕ) (row : Row) (valued : Valued) (value : List ℕ) (g
     words_from start (Options row None given) (w ∷ value ∷ rest) ≡ words_from (start + 1 + 1) (Options row None behind) rest
 opened_words start row valued value given behind rest w opens with = opens ∙ value_step (start + 1) row valued value given behind rest with
 
-short_opens : (start : ℕ) (row : Row) (valued : Valued) (given : Given) (rest : List (List ℕ)) → may_come row valued given ≡ true →
-    words_from start (Options row None given) (short_form valued ∷ rest) ≡ words_from (start + 1) (Options row (Some valued) given) rest
+own_opens : (start : ℕ) (row : Row) (valued : Valued) (given : Given) (rest : List (List ℕ)) → may_come row valued given ≡ true →
+    words_from start (Options row None given) (own_form valued ∷ rest) ≡ words_from (start + 1) (Options row (Some valued) given) rest
 unfolding words_from
-short_opens start row Input given rest h = open_step start _ (Options row (Some Input) given) None rest h
-short_opens start row Name given rest h = open_step start _ (Options row (Some Name) given) None rest h
-short_opens start row GetOption given rest h = open_step start _ (Options row (Some GetOption) given) None rest h
-short_opens start row SetOption given rest h = open_step start _ (Options row (Some SetOption) given) None rest h
-short_opens start row Settings given rest h = open_step start _ (Options row (Some Settings) given) None rest h
+own_opens start row Input given rest h = open_step start _ (Options row (Some Input) given) None rest h
+own_opens start row Name given rest h = open_step start _ (Options row (Some Name) given) None rest h
+own_opens start row GetOption given rest h = open_step start _ (Options row (Some GetOption) given) None rest h
+own_opens start row SetOption given rest h = open_step start _ (Options row (Some SetOption) given) None rest h
+own_opens start row Settings given rest h = open_step start _ (Options row (Some Settings) given) None rest h
+own_opens start row Key given rest h = open_step start _ (Options row (Some Key) given) None rest h
+own_opens start row Cause given rest h = open_step start _ (Options row (Some Cause) given) None rest h
 
 long_opens : (start : ℕ) (row : Row) (valued : Valued) (given : Given) (rest : List (List ℕ)) → has_long valued ≡ true → may_come row valued given ≡ true →
     words_from start (Options row None given) (long_form valued ∷ rest) ≡ words_from (start + 1) (Options row (Some valued) given) rest
@@ -192,13 +237,15 @@ long_opens start row Name given rest long h = open_step start _ (Options row (So
 long_opens start row GetOption given rest long h = open_step start _ (Options row (Some GetOption) given) None rest h
 long_opens start row SetOption given rest long h = open_step start _ (Options row (Some SetOption) given) None rest h
 long_opens start row Settings given rest long h = absurd (cc)
+long_opens start row Key given rest long h = absurd (cc)
+long_opens start row Cause given rest long h = absurd (cc)
 
 takes_words : (start : ℕ) (row : Row) (form : Form) (valued : Valued) (value : List ℕ) (given behind : Given) (rest : List (List ℕ)) → has_form form valued ≡ true →
     may_come row valued given ≡ true → with_value valued value given ≡ Some behind →
     words_from start (Options row None given) (spelling_of (Takes form valued value) ++ rest) ≡ words_from (behind_form start form) (Options row None behind) rest
 unfolding words_from
-takes_words start row Short valued value given behind rest form h with =
-    opened_words start row valued value given behind rest (short_form valued) (short_opens start row valued given (value ∷ rest) h) with
+takes_words start row Own valued value given behind rest form h with =
+    opened_words start row valued value given behind rest (own_form valued) (own_opens start row valued given (value ∷ rest) h) with
 takes_words start row Long valued value given behind rest form h with =
     opened_words start row valued value given behind rest (long_form valued) (long_opens start row valued given (value ∷ rest) form h) with
 takes_words start row Joined Input value given behind rest form h with = close_step start row _ _ behind rest h with
@@ -206,6 +253,8 @@ takes_words start row Joined Name value given behind rest form h with = close_st
 takes_words start row Joined GetOption value given behind rest form h with = close_step start row _ _ behind rest h with
 takes_words start row Joined SetOption value given behind rest form h with = close_step start row _ _ behind rest h with
 takes_words start row Joined Settings value given behind rest form h with = absurd (cc)
+takes_words start row Joined Key value given behind rest form h with = absurd (cc)
+takes_words start row Joined Cause value given behind rest form h with = absurd (cc)
 
 -- the words of items make this command, behind what was given
 Makes : Row → List Item → Type 0
@@ -223,27 +272,27 @@ takes_made row form valued value items ih start given all command had g made =
     let here = both _ _ had in
     let item = both _ _ here.0 in
     let spelt = both _ _ item.1 in
-    let l = takes_leaves row form valued value items given.file given.name given.settings given.actions all item.0 spelt.1 g in
+    let l = takes_leaves row form valued value items given.file given.name given.settings given.key given.cause given.actions all item.0 spelt.1 g in
     takes_words start row form valued value given l.behind (flat_map spelling_of items) spelt.0 l.may l.with
     ∙ ih (behind_form start form) l.behind all command here.1 l.gives made
 
-dump_made : (row : Row) (item : Item) (action : Action) (items : List Item) → file_in item ≡ None → name_in item ≡ None → settings_in item ≡ None → action_in item ≡ Some action →
+dump_made : (row : Row) (item : Item) (action : Action) (items : List Item) → file_in item ≡ None → name_in item ≡ None → settings_in item ≡ None → key_in item ≡ None → cause_in item ≡ None → action_in item ≡ Some action →
     has_item row item ≡ has_dumps row →
     ((start : ℕ) (given : Given) (rest : List (List ℕ)) → has_dumps row ≡ true →
     words_from start (Options row None given) (spelling_of item ++ rest) ≡ words_from (start + 1) (Options row None (with_action action given)) rest) →
     Makes row items → Makes row (item ∷ items)
 unfolding Makes
-dump_made row item action items no_file no_name no_settings does is step ih start given all command had g made =
+dump_made row item action items no_file no_name no_settings no_key no_cause does is step ih start given all command had g made =
     let here = both _ _ had in
     step start given (flat_map spelling_of items) (sym is ∙ here.0)
-    ∙ ih (start + 1) (with_action action given) all command here.1 (action_behind given all items item action no_file no_name no_settings does g) made
+    ∙ ih (start + 1) (with_action action given) all command here.1 (action_behind given all items item action no_file no_name no_settings no_key no_cause does g) made
 
 item_made : (row : Row) (item : Item) (items : List Item) → Makes row items → Makes row (item ∷ items)
 unfolding words_from
 item_made row (Takes form valued value) items ih = takes_made row form valued value items ih
-item_made row ShortDump items ih = dump_made row ShortDump Dump items refl refl refl refl refl (λ start given rest h. open_step start _ (Options row None (with_action Dump given)) None rest h) ih
-item_made row LongDump items ih = dump_made row LongDump Dump items refl refl refl refl refl (λ start given rest h. open_step start _ (Options row None (with_action Dump given)) None rest h) ih
-item_made row ShellDump items ih = dump_made row ShellDump DumpShell items refl refl refl refl refl (λ start given rest h. open_step start _ (Options row None (with_action DumpShell given)) None rest h) ih
+item_made row ShortDump items ih = dump_made row ShortDump Dump items refl refl refl refl refl refl refl (λ start given rest h. open_step start _ (Options row None (with_action Dump given)) None rest h) ih
+item_made row LongDump items ih = dump_made row LongDump Dump items refl refl refl refl refl refl refl (λ start given rest h. open_step start _ (Options row None (with_action Dump given)) None rest h) ih
+item_made row ShellDump items ih = dump_made row ShellDump DumpShell items refl refl refl refl refl refl refl (λ start given rest h. open_step start _ (Options row None (with_action DumpShell given)) None rest h) ih
 
 items_made : (row : Row) (items : List Item) → Makes row items
 items_made row [] = none_made row
@@ -253,13 +302,14 @@ row_begins : (row : Row) (rest : List (List ℕ)) → words_of (name_of row ∷ 
 unfolding words_from
 row_begins StateRow rest = refl
 row_begins MarkGoodRow rest = refl
+row_begins BootRow rest = refl
 
 options_accepted : (row : Row) (words : List (List ℕ)) (command : Command) → IsSpelt row words command → words_of words ≡ Ok command
 unfolding Makes
 options_accepted row words command is =
     ap words_of is.spelt
     ∙ row_begins row (flat_map spelling_of is.items)
-    ∙ items_made row is.items 1 none_given is.given command is.has_all (record { files = is.file_is; names = is.name_is; settings = is.settings_are; actions = is.actions_are }) is.made
+    ∙ items_made row is.items 1 none_given is.given command is.has_all (record { files = is.file_is; names = is.name_is; settings = is.settings_are; keys = is.key_is; causes = is.cause_is; actions = is.actions_are }) is.made
 
 action_accepted : (magic len : ℕ) (action : RawAction) (words : List (List ℕ)) → IsAction len action words → words_from 3 (Mode magic len) words ≡ Ok (raw_of magic len action)
 unfolding words_from
@@ -280,6 +330,7 @@ pub accepted : (words : List (List ℕ)) (command : Command) → Spells words co
 accepted words (Raw raw) is = ap words_of is.1 ∙ raw_accepted is.0 raw is.2
 accepted words (State state) is = options_accepted StateRow words (State state) is
 accepted words (MarkGood mark) is = options_accepted MarkGoodRow words (MarkGood mark) is
+accepted words (Boot boot) is = options_accepted BootRow words (Boot boot) is
 
 -- ---- what is accepted was spelt so
 
@@ -395,20 +446,22 @@ long_words : (w : List ℕ) (v : Valued) → long_of w ≡ Some v → IsLong w v
 long_words w v h =
     long_cases w v (bytes_eq w (codes "--input")) (bytes_eq w (codes "--name")) (bytes_eq w (codes "--get")) (bytes_eq w (codes "--set")) refl refl refl refl h
 
-valued_cases : (w : List ℕ) (v : Valued) (a b c d e : Bool) → bytes_eq w (codes "-i") ≡ a → bytes_eq w (codes "-n") ≡ b → bytes_eq w (codes "-g") ≡ c → bytes_eq w (codes "-s") ≡ d →
-    bytes_eq w (codes "-c") ≡ e →
-    (if a then Some Input else if b then Some Name else if c then Some GetOption else if d then Some SetOption else if e then Some Settings else long_of w) ≡ Some v →
-    (w ≡ short_form v) ⊎ IsLong w v
-valued_cases w v true b c d e ea eb ec ed ee h = inl (same_bytes w (codes "-i") ea ∙ ap short_form (some_same Input v h))
-valued_cases w v false true c d e ea eb ec ed ee h = inl (same_bytes w (codes "-n") eb ∙ ap short_form (some_same Name v h))
-valued_cases w v false false true d e ea eb ec ed ee h = inl (same_bytes w (codes "-g") ec ∙ ap short_form (some_same GetOption v h))
-valued_cases w v false false false true e ea eb ec ed ee h = inl (same_bytes w (codes "-s") ed ∙ ap short_form (some_same SetOption v h))
-valued_cases w v false false false false true ea eb ec ed ee h = inl (same_bytes w (codes "-c") ee ∙ ap short_form (some_same Settings v h))
-valued_cases w v false false false false false ea eb ec ed ee h = inr (long_words w v h)
+valued_cases : (w : List ℕ) (v : Valued) (a b c d e f g : Bool) → bytes_eq w (codes "-i") ≡ a → bytes_eq w (codes "-n") ≡ b → bytes_eq w (codes "-g") ≡ c → bytes_eq w (codes "-s") ≡ d →
+    bytes_eq w (codes "-c") ≡ e → bytes_eq w (codes "-k") ≡ f → bytes_eq w (codes "--cause") ≡ g →
+    (if a then Some Input else if b then Some Name else if c then Some GetOption else if d then Some SetOption else if e then Some Settings else if f then Some Key else if g then Some Cause else long_of w) ≡ Some v →
+    (w ≡ own_form v) ⊎ IsLong w v
+valued_cases w v true b c d e f g ea eb ec ed ee ef eg h = inl (same_bytes w (codes "-i") ea ∙ ap own_form (some_same Input v h))
+valued_cases w v false true c d e f g ea eb ec ed ee ef eg h = inl (same_bytes w (codes "-n") eb ∙ ap own_form (some_same Name v h))
+valued_cases w v false false true d e f g ea eb ec ed ee ef eg h = inl (same_bytes w (codes "-g") ec ∙ ap own_form (some_same GetOption v h))
+valued_cases w v false false false true e f g ea eb ec ed ee ef eg h = inl (same_bytes w (codes "-s") ed ∙ ap own_form (some_same SetOption v h))
+valued_cases w v false false false false true f g ea eb ec ed ee ef eg h = inl (same_bytes w (codes "-c") ee ∙ ap own_form (some_same Settings v h))
+valued_cases w v false false false false false true g ea eb ec ed ee ef eg h = inl (same_bytes w (codes "-k") ef ∙ ap own_form (some_same Key v h))
+valued_cases w v false false false false false false true ea eb ec ed ee ef eg h = inl (same_bytes w (codes "--cause") eg ∙ ap own_form (some_same Cause v h))
+valued_cases w v false false false false false false false ea eb ec ed ee ef eg h = inr (long_words w v h)
 
-valued_words : (w : List ℕ) (v : Valued) → valued_of w ≡ Some v → (w ≡ short_form v) ⊎ IsLong w v
+valued_words : (w : List ℕ) (v : Valued) → valued_of w ≡ Some v → (w ≡ own_form v) ⊎ IsLong w v
 valued_words w v h =
-    valued_cases w v (bytes_eq w (codes "-i")) (bytes_eq w (codes "-n")) (bytes_eq w (codes "-g")) (bytes_eq w (codes "-s")) (bytes_eq w (codes "-c")) refl refl refl refl refl h
+    valued_cases w v (bytes_eq w (codes "-i")) (bytes_eq w (codes "-n")) (bytes_eq w (codes "-g")) (bytes_eq w (codes "-s")) (bytes_eq w (codes "-c")) (bytes_eq w (codes "-k")) (bytes_eq w (codes "--cause")) refl refl refl refl refl refl refl h
 
 -- a word is what stands before its first `=`, that sign, and what stands behind it
 cut_behind : (c : ℕ) (cs : List ℕ) (n m k : ℕ) → m ≡ suc n → k ≡ suc (n + 1) → cs ≡ take n cs ++ 61 ∷ drop (n + 1) cs → c ∷ cs ≡ take m (c ∷ cs) ++ 61 ∷ drop k (c ∷ cs)
@@ -464,7 +517,7 @@ end_read start row given (Some made) command e h = record {
   all = given;
   spelt_so = refl;
   has_all = refl;
-  gives = record { files = append-nil (option_to_list given.file); names = append-nil (option_to_list given.name); settings = append-nil (option_to_list given.settings); actions = append-nil given.actions };
+  gives = record { files = append-nil (option_to_list given.file); names = append-nil (option_to_list given.name); settings = append-nil (option_to_list given.settings); keys = append-nil (option_to_list given.key); causes = append-nil (option_to_list given.cause); actions = append-nil given.actions };
   made = e ∙ ap (λ c. Some c) (ok_same made command h);
 }
 
@@ -484,52 +537,75 @@ item_had : (row : Row) (form : Form) (valued : Valued) (value : List ℕ) → ha
 item_had row form valued value had formed is =
     ap (λ b. b && (has_form form valued && is_value valued value)) had ∙ ap (λ b. b && is_value valued value) formed ∙ is
 
-takes_begun : (row : Row) (form : Form) (valued : Valued) (value : List ℕ) (items : List Item) (file name settings : Option (List ℕ)) (actions : List Action) (behind all : Given) →
-    has_form form valued ≡ true → may_come row valued (record { file = file; name = name; settings = settings; actions = actions }) ≡ true →
-    with_value valued value (record { file = file; name = name; settings = settings; actions = actions }) ≡ Some behind → Gives behind items all →
-    Begun row form valued value items (record { file = file; name = name; settings = settings; actions = actions }) all
-takes_begun row form Input value items None name settings actions behind all formed may with g =
+takes_begun : (row : Row) (form : Form) (valued : Valued) (value : List ℕ) (items : List Item) (file name settings key : Option (List ℕ)) (cause : Option CauseWord) (actions : List Action) (behind all : Given) →
+    has_form form valued ≡ true → may_come row valued (record { file = file; name = name; settings = settings; key = key; cause = cause; actions = actions }) ≡ true →
+    with_value valued value (record { file = file; name = name; settings = settings; key = key; cause = cause; actions = actions }) ≡ Some behind → Gives behind items all →
+    Begun row form valued value items (record { file = file; name = name; settings = settings; key = key; cause = cause; actions = actions }) all
+takes_begun row form Input value items None name settings key cause actions behind all formed may with g =
     let given = subst (λ behind. Gives behind items all) (sym (some_same _ behind with)) g in
     record {
       had = item_had row form Input value (both _ _ may).0 formed refl;
-      gives = record { files = given.files; names = given.names; settings = given.settings; actions = given.actions };
+      gives = record { files = given.files; names = given.names; settings = given.settings; keys = given.keys; causes = given.causes; actions = given.actions };
     }
-takes_begun row form Input value items (Some x) name settings actions behind all formed may with g = absurd (cc ((both (has row Input) false may).1))
-takes_begun row form Name value items file None settings actions behind all formed may with g =
+takes_begun row form Input value items (Some x) name settings key cause actions behind all formed may with g = absurd (cc ((both (has row Input) false may).1))
+takes_begun row form Name value items file None settings key cause actions behind all formed may with g =
     let given = subst (λ behind. Gives behind items all) (sym (some_same _ behind with)) g in
     record {
       had = item_had row form Name value (both _ _ may).0 formed refl;
-      gives = record { files = given.files; names = given.names; settings = given.settings; actions = given.actions };
+      gives = record { files = given.files; names = given.names; settings = given.settings; keys = given.keys; causes = given.causes; actions = given.actions };
     }
-takes_begun row form Name value items file (Some x) settings actions behind all formed may with g = absurd (cc ((both (has row Name) false may).1))
-takes_begun row form Settings value items file name None actions behind all formed may with g =
+takes_begun row form Name value items file (Some x) settings key cause actions behind all formed may with g = absurd (cc ((both (has row Name) false may).1))
+takes_begun row form Settings value items file name None key cause actions behind all formed may with g =
     let given = subst (λ behind. Gives behind items all) (sym (some_same _ behind with)) g in
     record {
       had = item_had row form Settings value (both _ _ may).0 formed refl;
-      gives = record { files = given.files; names = given.names; settings = given.settings; actions = given.actions };
+      gives = record { files = given.files; names = given.names; settings = given.settings; keys = given.keys; causes = given.causes; actions = given.actions };
     }
-takes_begun row form Settings value items file name (Some x) actions behind all formed may with g = absurd (cc ((both (has row Settings) false may).1))
-takes_begun row form GetOption value items file name settings actions behind all formed may with g =
-    let before : Given = record { file = file; name = name; settings = settings; actions = actions } in
+takes_begun row form Settings value items file name (Some x) key cause actions behind all formed may with g = absurd (cc ((both (has row Settings) false may).1))
+takes_begun row form Key value items file name settings None cause actions behind all formed may with g =
+    let given = subst (λ behind. Gives behind items all) (sym (some_same _ behind with)) g in
+    record {
+      had = item_had row form Key value (both _ _ may).0 formed refl;
+      gives = record { files = given.files; names = given.names; settings = given.settings; keys = given.keys; causes = given.causes; actions = given.actions };
+    }
+takes_begun row form Key value items file name settings (Some x) cause actions behind all formed may with g = absurd (cc ((both (has row Key) false may).1))
+takes_begun row form Cause value items file name settings key None actions behind all formed may with g =
+    let before : Given = record { file = file; name = name; settings = settings; key = key; cause = None; actions = actions } in
+    let cause = on_map (λ cause. record before { cause = Some cause }) (cause_of value) behind with in
+    let given = subst (λ behind. Gives behind items all) (sym cause.2) g in
+    record {
+      had = item_had row form Cause value (both _ _ may).0 formed (ap (λ o. is_some o) cause.1);
+      gives = record {
+        files = given.files;
+        names = given.names;
+        settings = given.settings;
+        keys = given.keys;
+        causes = ap (λ o. cons_option o (filter_map cause_in items)) cause.1 ∙ given.causes;
+        actions = given.actions;
+      };
+    }
+takes_begun row form Cause value items file name settings key (Some x) actions behind all formed may with g = absurd (cc ((both (has row Cause) false may).1))
+takes_begun row form GetOption value items file name settings key cause actions behind all formed may with g =
+    let before : Given = record { file = file; name = name; settings = settings; key = key; cause = cause; actions = actions } in
     let given = subst (λ behind. Gives behind items all) (sym (some_same _ behind with)) g in
     record {
       had = item_had row form GetOption value (both _ _ may).0 formed refl;
-      gives = action_before before all items (Takes form GetOption value) (Get value) refl refl refl refl given;
+      gives = action_before before all items (Takes form GetOption value) (Get value) refl refl refl refl refl refl given;
     }
-takes_begun row form SetOption value items file name settings actions behind all formed may with g =
-    let before : Given = record { file = file; name = name; settings = settings; actions = actions } in
+takes_begun row form SetOption value items file name settings key cause actions behind all formed may with g =
+    let before : Given = record { file = file; name = name; settings = settings; key = key; cause = cause; actions = actions } in
     let set = on_map (λ action. with_action action before) (set_in value) behind with in
     let given = subst (λ behind. Gives behind items all) (sym set.2) g in
     record {
       had = item_had row form SetOption value (both _ _ may).0 formed (set_value value set.0 (has_sign value) refl set.1);
-      gives = action_before before all items (Takes form SetOption value) set.0 refl refl refl set.1 given;
+      gives = action_before before all items (Takes form SetOption value) set.0 refl refl refl refl refl set.1 given;
     }
 
 takes_read : (row : Row) (form : Form) (valued : Valued) (value : List ℕ) (given behind : Given) (rest : List (List ℕ)) (command : Command) →
     has_form form valued ≡ true → may_come row valued given ≡ true → with_value valued value given ≡ Some behind → IsRead row behind rest command →
     IsRead row given (spelling_of (Takes form valued value) ++ rest) command
 takes_read row form valued value given behind rest command formed may with r =
-    let begun = takes_begun row form valued value r.items given.file given.name given.settings given.actions behind r.all formed may with r.gives in
+    let begun = takes_begun row form valued value r.items given.file given.name given.settings given.key given.cause given.actions behind r.all formed may with r.gives in
     record {
       items = Takes form valued value ∷ r.items;
       all = r.all;
@@ -540,14 +616,14 @@ takes_read row form valued value given behind rest command formed may with r =
     }
 
 dump_read : (row : Row) (item : Item) (w : List ℕ) (action : Action) (given : Given) (rest : List (List ℕ)) (command : Command) →
-    w ∷ [] ≡ spelling_of item → has_item row item ≡ true → file_in item ≡ None → name_in item ≡ None → settings_in item ≡ None → action_in item ≡ Some action →
+    w ∷ [] ≡ spelling_of item → has_item row item ≡ true → file_in item ≡ None → name_in item ≡ None → settings_in item ≡ None → key_in item ≡ None → cause_in item ≡ None → action_in item ≡ Some action →
     IsRead row (with_action action given) rest command → IsRead row given (w ∷ rest) command
-dump_read row item w action given rest command spelling had no_file no_name no_settings does r = record {
+dump_read row item w action given rest command spelling had no_file no_name no_settings no_key no_cause does r = record {
   items = item ∷ r.items;
   all = r.all;
   spelt_so = ap (λ ws. ws ++ rest) spelling ∙ ap (λ rest. spelling_of item ++ rest) r.spelt_so;
   has_all = ap (λ b. b && list_all (has_item row) r.items) had ∙ r.has_all;
-  gives = action_before given r.all r.items item action no_file no_name no_settings does r.gives;
+  gives = action_before given r.all r.items item action no_file no_name no_settings no_key no_cause does r.gives;
   made = r.made;
 }
 
@@ -559,11 +635,11 @@ dump_cases : (row : Row) (w : List ℕ) (action : Action) (given : Given) (rest 
     (if a || b then Some Dump else if c then Some DumpShell else None) ≡ Some action →
     IsRead row (with_action action given) rest command → IsRead row given (w ∷ rest) command
 dump_cases row w action given rest command true b c had ea eb ec h r =
-    dump_read row ShortDump w action given rest command (one_word _ _ (same_bytes w (codes "-d") ea)) had refl refl refl h r
+    dump_read row ShortDump w action given rest command (one_word _ _ (same_bytes w (codes "-d") ea)) had refl refl refl refl refl h r
 dump_cases row w action given rest command false true c had ea eb ec h r =
-    dump_read row LongDump w action given rest command (one_word _ _ (same_bytes w (codes "--dump") eb)) had refl refl refl h r
+    dump_read row LongDump w action given rest command (one_word _ _ (same_bytes w (codes "--dump") eb)) had refl refl refl refl refl h r
 dump_cases row w action given rest command false false true had ea eb ec h r =
-    dump_read row ShellDump w action given rest command (one_word _ _ (same_bytes w (codes "--dump-shell") ec)) had refl refl refl h r
+    dump_read row ShellDump w action given rest command (one_word _ _ (same_bytes w (codes "--dump-shell") ec)) had refl refl refl refl refl h r
 dump_cases row w action given rest command false false false had ea eb ec h r = absurd (cc)
 
 -- the words behind a stage spell the rest of a command
@@ -582,10 +658,10 @@ dump_onward start row w rest given command s ih stage h =
     let r = ih (start + 1) None (with_action dump.0 given) command (from_stage (start + 1) _ s rest command had.1 h) in
     dump_cases row w dump.0 given rest command (bytes_eq w (codes "-d")) (bytes_eq w (codes "--dump")) (bytes_eq w (codes "--dump-shell")) had.0 refl refl refl dump.1 r
 
-opened_form : (row : Row) (w value : List ℕ) (v : Valued) (given behind : Given) (rest : List (List ℕ)) (command : Command) → (w ≡ short_form v) ⊎ IsLong w v →
+opened_form : (row : Row) (w value : List ℕ) (v : Valued) (given behind : Given) (rest : List (List ℕ)) (command : Command) → (w ≡ own_form v) ⊎ IsLong w v →
     may_come row v given ≡ true → with_value v value given ≡ Some behind → IsRead row behind rest command → IsRead row given (w ∷ value ∷ rest) command
-opened_form row w value v given behind rest command (inl short) may with r =
-    subst (λ w. IsRead row given (w ∷ value ∷ rest) command) (sym short) (takes_read row Short v value given behind rest command refl may with r)
+opened_form row w value v given behind rest command (inl own) may with r =
+    subst (λ w. IsRead row given (w ∷ value ∷ rest) command) (sym own) (takes_read row Own v value given behind rest command refl may with r)
 opened_form row w value v given behind rest command (inr long) may with r =
     subst (λ w. IsRead row given (w ∷ value ∷ rest) command) (sym long.1) (takes_read row Long v value given behind rest command long.0 may with r)
 
@@ -649,22 +725,29 @@ raw_of_words w rest command is h =
 row_made : (row : Row) (given : Given) (words : List (List ℕ)) (command : Command) → command_of row given ≡ Some command → IsSpelt row words command → Spells words command
 row_made MarkGoodRow given words command made is =
     let file = on_then
-    (λ file. option_map (λ settings. MarkGood (record { file = file; settings = settings; name = given.name })) given.settings)
+    (λ file. option_map (λ settings. MarkGood (record { file = file; settings = settings; name = given.name; key = given.key })) given.settings)
     given.file command made in
-    let mark = on_map (λ settings. MarkGood (record { file = file.0; settings = settings; name = given.name })) given.settings command file.2 in
+    let mark = on_map (λ settings. MarkGood (record { file = file.0; settings = settings; name = given.name; key = given.key })) given.settings command file.2 in
     subst (λ command. IsSpelt MarkGoodRow words command → Spells words command) mark.2 (λ is. is) is
+row_made BootRow given words command made is =
+    let file = on_then
+    (λ file. option_map (λ settings. Boot (record { file = file; settings = settings; name = given.name; key = given.key; cause = cause_given given })) given.settings)
+    given.file command made in
+    let boot = on_map (λ settings. Boot (record { file = file.0; settings = settings; name = given.name; key = given.key; cause = cause_given given })) given.settings command file.2 in
+    subst (λ command. IsSpelt BootRow words command → Spells words command) boot.2 (λ is. is) is
 row_made StateRow given words command made is =
-    let state = on_map (λ file. State (record { file = file; name = given.name; actions = given.actions })) given.file command made in
+    let state = on_map (λ file. State (record { file = file; name = given.name; key = given.key; actions = given.actions })) given.file command made in
     subst (λ command. IsSpelt StateRow words command → Spells words command) state.2 (λ is. is) is
 
-row_cases : (w : List ℕ) (row : Row) (a b : Bool) → bytes_eq w (name_of StateRow) ≡ a → bytes_eq w (name_of MarkGoodRow) ≡ b →
-    (if a then Some StateRow else if b then Some MarkGoodRow else None) ≡ Some row → w ≡ name_of row
-row_cases w row true b ea eb h = same_bytes w (name_of StateRow) ea ∙ ap name_of (some_same StateRow row h)
-row_cases w row false true ea eb h = same_bytes w (name_of MarkGoodRow) eb ∙ ap name_of (some_same MarkGoodRow row h)
-row_cases w row false false ea eb h = absurd (cc)
+row_cases : (w : List ℕ) (row : Row) (a b c : Bool) → bytes_eq w (name_of StateRow) ≡ a → bytes_eq w (name_of MarkGoodRow) ≡ b → bytes_eq w (name_of BootRow) ≡ c →
+    (if a then Some StateRow else if b then Some MarkGoodRow else if c then Some BootRow else None) ≡ Some row → w ≡ name_of row
+row_cases w row true b c ea eb ec h = same_bytes w (name_of StateRow) ea ∙ ap name_of (some_same StateRow row h)
+row_cases w row false true c ea eb ec h = same_bytes w (name_of MarkGoodRow) eb ∙ ap name_of (some_same MarkGoodRow row h)
+row_cases w row false false true ea eb ec h = same_bytes w (name_of BootRow) ec ∙ ap name_of (some_same BootRow row h)
+row_cases w row false false false ea eb ec h = absurd (cc)
 
 row_named : (w : List ℕ) (row : Row) → row_of w ≡ Some row → w ≡ name_of row
-row_named w row named = row_cases w row (bytes_eq w (name_of StateRow)) (bytes_eq w (name_of MarkGoodRow)) refl refl named
+row_named w row named = row_cases w row (bytes_eq w (name_of StateRow)) (bytes_eq w (name_of MarkGoodRow)) (bytes_eq w (name_of BootRow)) refl refl refl named
 
 options_of_words : (row : Row) (w : List ℕ) (rest : List (List ℕ)) (command : Command) → row_of w ≡ Some row → words_from 1 (Options row None none_given) rest ≡ Ok command →
     Spells (w ∷ rest) command
@@ -679,6 +762,8 @@ options_of_words row w rest command named h =
       file_is = r.gives.files;
       name_is = r.gives.names;
       settings_are = r.gives.settings;
+      key_is = r.gives.keys;
+      cause_is = r.gives.causes;
       actions_are = r.gives.actions;
       made = r.made;
     })

@@ -1,7 +1,7 @@
 -- What an answer of the reader says of what the words are.
 use Rattle.std.specs.Prelude.{◌≡◌, ℕ, ◌≤◌, ⊤, Result, Err, length}
 use Rattle.bb_words.specs.declared.command.Command.{Command}
-use Rattle.bb_words.specs.declared.command.Command.TheVariants.{Raw, State, MarkGood}
+use Rattle.bb_words.specs.declared.command.Command.TheVariants.{Raw, State, MarkGood, Boot}
 use Rattle.bb_words.specs.declared.command.RawAction.{RawAction}
 use Rattle.bb_words.specs.declared.command.RawAction.TheVariants.{Look, Write}
 use Rattle.bb_words.specs.declared.command.RawCommand.{RawCommand}
@@ -26,3 +26,4 @@ abbrev pub IsSized : Command → Type 0
 IsSized (Raw raw) = IsSizedRaw raw
 IsSized (State state) = ⊤
 IsSized (MarkGood mark) = ⊤
+IsSized (Boot boot) = ⊤

@@ -1,20 +1,21 @@
 -- The accepted lists of words, by how a command is spelt.
-use Rattle.std.specs.Prelude.{◌≡◌, ℕ, Bool, true, false, ◌&&◌, List, [], ◌∷◌, ◌++◌, codes, Option, Some, None}
+use Rattle.std.specs.Prelude.{◌≡◌, ℕ, Bool, true, false, ◌&&◌, List, [], ◌∷◌, ◌++◌, codes, Option, Some, None, is_some}
 use Rattle.std.specs.List.{filter_map, flat_map, list_all}
 use Rattle.std.specs.Option.{option_to_list}
 use Rattle.bb_words.specs.declared.command.Action.{Action}
 use Rattle.bb_words.specs.declared.command.Action.TheVariants.{Get, Dump, DumpShell}
+use Rattle.bb_words.specs.declared.command.CauseWord.{CauseWord}
 use Rattle.bb_words.specs.declared.command.Command.{Command}
-use Rattle.bb_words.specs.declared.command.Command.TheVariants.{Raw, State, MarkGood}
+use Rattle.bb_words.specs.declared.command.Command.TheVariants.{Raw, State, MarkGood, Boot}
 use Rattle.bb_words.specs.declared.command.RawAction.{RawAction}
 use Rattle.bb_words.specs.declared.command.RawAction.TheVariants.{Look, Write}
 use Rattle.bb_words.specs.declared.command.RawCommand.{RawCommand}
 use Rattle.bb_words.specs.declared.given.Given.{Given}
 use Rattle.bb_words.specs.declared.option.Valued.{Valued}
-use Rattle.bb_words.specs.declared.option.Valued.TheVariants.{Input, Name, Get as GetOption, Set as SetOption, Settings}
+use Rattle.bb_words.specs.declared.option.Valued.TheVariants.{Input, Name, Get as GetOption, Set as SetOption, Settings, Key, Cause}
 use Rattle.bb_words.specs.declared.row.Row.{Row}
-use Rattle.bb_words.specs.declared.row.Row.TheVariants.{State as StateRow, MarkGood as MarkGoodRow}
-use Rattle.bb_words.specs.Options.{has_sign, set_in}
+use Rattle.bb_words.specs.declared.row.Row.TheVariants.{State as StateRow, MarkGood as MarkGoodRow, Boot as BootRow}
+use Rattle.bb_words.specs.Options.{cause_of, has_sign, set_in}
 use Rattle.bb_words.specs.Table.{name_of, has, has_dumps, command_of}
 use Rattle.bb_words.specs.Words.{number_up_to, area_of}
 
@@ -37,9 +38,10 @@ pub record IsRaw (words : List (List ℕ)) (raw : RawCommand) : Type 0 where
 
 -- ---- commands with options
 
--- how an option is spelt: `-i FILE`, `--input FILE` or `--input=FILE`
+-- how an option is spelt: in its own form, `-i FILE` or `--cause WORD`, or in a long form, `--input FILE`, also
+-- joined with its value, `--input=FILE`
 pub data Form : Type 0 where
-  Short Long Joined : Form
+  Own Long Joined : Form
 
 pub data Item : Type 0 where
   -- an option with its value
@@ -47,16 +49,21 @@ pub data Item : Type 0 where
   -- `-d`, `--dump` and `--dump-shell`
   ShortDump LongDump ShellDump : Item
 
-abbrev pub short_form : Valued → List ℕ
-short_form Input = codes "-i"
-short_form Name = codes "-n"
-short_form GetOption = codes "-g"
-short_form SetOption = codes "-s"
-short_form Settings = codes "-c"
+-- the form that each option has
+abbrev pub own_form : Valued → List ℕ
+own_form Input = codes "-i"
+own_form Name = codes "-n"
+own_form GetOption = codes "-g"
+own_form SetOption = codes "-s"
+own_form Settings = codes "-c"
+own_form Key = codes "-k"
+own_form Cause = codes "--cause"
 
--- whether there is a long form, and it
+-- whether there is a long form besides, and it
 abbrev pub has_long : Valued → Bool
 has_long Settings = false
+has_long Key = false
+has_long Cause = false
 has_long _ = true
 
 abbrev pub long_form : Valued → List ℕ
@@ -65,23 +72,26 @@ long_form Name = codes "--name"
 long_form GetOption = codes "--get"
 long_form SetOption = codes "--set"
 long_form Settings = []
+long_form Key = []
+long_form Cause = []
 
 abbrev pub spelling_of : Item → List (List ℕ)
-spelling_of (Takes Short valued value) = short_form valued ∷ value ∷ []
+spelling_of (Takes Own valued value) = own_form valued ∷ value ∷ []
 spelling_of (Takes Long valued value) = long_form valued ∷ value ∷ []
 spelling_of (Takes Joined valued value) = (long_form valued ++ (codes "=" ++ value)) ∷ []
 spelling_of ShortDump = codes "-d" ∷ []
 spelling_of LongDump = codes "--dump" ∷ []
 spelling_of ShellDump = codes "--dump-shell" ∷ []
 
--- whether a text is a value of the option: that of `-s` is VAR=VALUE
+-- whether a text is a value of the option: that of `-s` is VAR=VALUE, that of `--cause` one of three words
 abbrev pub is_value : Valued → List ℕ → Bool
 is_value SetOption value = has_sign value
+is_value Cause value = is_some (cause_of value)
 is_value _ value = true
 
 -- whether an option has that form
 abbrev pub has_form : Form → Valued → Bool
-has_form Short valued = true
+has_form Own valued = true
 has_form Long valued = has_long valued
 has_form Joined valued = has_long valued
 
@@ -91,7 +101,7 @@ has_item row (Takes form valued value) =
     has row valued && (has_form form valued && is_value valued value)
 has_item row _ = has_dumps row
 
--- the file, the state's name, the file of the settings and the action that an item gives
+-- the file, the state's name, the files of the settings and of the key, the cause and the action that an item gives
 abbrev pub file_in : Item → Option (List ℕ)
 file_in (Takes form Input value) = Some value
 file_in _ = None
@@ -104,18 +114,28 @@ abbrev pub settings_in : Item → Option (List ℕ)
 settings_in (Takes form Settings value) = Some value
 settings_in _ = None
 
+abbrev pub key_in : Item → Option (List ℕ)
+key_in (Takes form Key value) = Some value
+key_in _ = None
+
+abbrev pub cause_in : Item → Option CauseWord
+cause_in (Takes form Cause value) = cause_of value
+cause_in _ = None
+
 abbrev pub action_in : Item → Option Action
 action_in (Takes form Input value) = None
 action_in (Takes form Name value) = None
 action_in (Takes form Settings value) = None
+action_in (Takes form Key value) = None
+action_in (Takes form Cause value) = None
 action_in (Takes form GetOption value) = Some (Get value)
 action_in (Takes form SetOption value) = set_in value
 action_in ShortDump = Some Dump
 action_in LongDump = Some Dump
 action_in ShellDump = Some DumpShell
 
--- the command's name, and items that it has in any order: at most one file, one name and one file of
--- settings, and the actions in their order; they make the command where those are there that must be
+-- the command's name, and items that it has in any order: at most one file, one name, one file of settings, one of
+-- a key and one cause, and the actions in their order; they make the command where those are there that must be
 pub record IsSpelt (row : Row) (words : List (List ℕ)) (command : Command) : Type 0 where
   pub items : List Item
   pub given : Given
@@ -124,6 +144,8 @@ pub record IsSpelt (row : Row) (words : List (List ℕ)) (command : Command) : T
   pub file_is : filter_map file_in items ≡ option_to_list given.file
   pub name_is : filter_map name_in items ≡ option_to_list given.name
   pub settings_are : filter_map settings_in items ≡ option_to_list given.settings
+  pub key_is : filter_map key_in items ≡ option_to_list given.key
+  pub cause_is : filter_map cause_in items ≡ option_to_list given.cause
   pub actions_are : filter_map action_in items ≡ given.actions
   pub made : command_of row given ≡ Some command
 
@@ -134,3 +156,4 @@ abbrev pub Spells : List (List ℕ) → Command → Type 0
 Spells words (Raw raw) = (rest : List (List ℕ)) × (words ≡ codes "raw" ∷ rest) × IsRaw rest raw
 Spells words (State state) = IsSpelt StateRow words (State state)
 Spells words (MarkGood mark) = IsSpelt MarkGoodRow words (MarkGood mark)
+Spells words (Boot boot) = IsSpelt BootRow words (Boot boot)

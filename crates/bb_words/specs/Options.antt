@@ -1,13 +1,15 @@
 -- The options of commands whose options come in any order.
-use Rattle.std.specs.Prelude.{ℕ, ◌==◌, Bool, ◌||◌, List, [], ◌∷◌, ◌++◌, codes, Option, Some, None, option_and_then, if◌then◌else◌}
+use Rattle.std.specs.Prelude.{ℕ, ◌==◌, Bool, false, ◌||◌, List, [], ◌∷◌, ◌++◌, codes, Option, Some, None, is_some, option_and_then, if◌then◌else◌}
 use Rattle.std.specs.List.{list_any, before_first, after_first}
 use Rattle.std.specs.Option.{option_map}
 use Rattle.std.specs.Str.{bytes_eq}
 use Rattle.bb_words.specs.declared.command.Action.{Action}
 use Rattle.bb_words.specs.declared.command.Action.TheVariants.{Set, Get, Dump, DumpShell}
+use Rattle.bb_words.specs.declared.command.CauseWord.{CauseWord}
+use Rattle.bb_words.specs.declared.command.CauseWord.TheVariants.{PowerOn, Reset, Other}
 use Rattle.bb_words.specs.declared.given.Given.{Given}
 use Rattle.bb_words.specs.declared.option.Valued.{Valued}
-use Rattle.bb_words.specs.declared.option.Valued.TheVariants.{Input, Name, Get as GetOption, Set as SetOption, Settings}
+use Rattle.bb_words.specs.declared.option.Valued.TheVariants.{Input, Name, Get as GetOption, Set as SetOption, Settings, Key, Cause}
 
 -- ---- what a word is
 
@@ -28,6 +30,8 @@ valued_of word =
     else if bytes_eq word (codes "-g") then Some GetOption
     else if bytes_eq word (codes "-s") then Some SetOption
     else if bytes_eq word (codes "-c") then Some Settings
+    else if bytes_eq word (codes "-k") then Some Key
+    else if bytes_eq word (codes "--cause") then Some Cause
     else long_of word
 
 -- what stands before the first `=` of a text, and what behind it
@@ -49,10 +53,18 @@ dump_of word =
     else if bytes_eq word (codes "--dump-shell") then Some DumpShell
     else None
 
+-- the cause of a start that a word says
+abbrev pub cause_of : List ℕ → Option CauseWord
+cause_of word =
+    if bytes_eq word (codes "power-on") then Some PowerOn
+    else if bytes_eq word (codes "reset") then Some Reset
+    else if bytes_eq word (codes "other") then Some Other
+    else None
+
 -- ---- what options give
 
 abbrev pub none_given : Given
-none_given = record { file = None; name = None; settings = None; actions = [] }
+none_given = record { file = None; name = None; settings = None; key = None; cause = None; actions = [] }
 
 abbrev pub with_action : Action → Given → Given
 with_action action given = record given { actions = given.actions ++ action ∷ [] }
@@ -66,13 +78,17 @@ abbrev pub with_value : Valued → List ℕ → Given → Option Given
 with_value Input value given = Some (record given { file = Some value })
 with_value Name value given = Some (record given { name = Some value })
 with_value Settings value given = Some (record given { settings = Some value })
+with_value Key value given = Some (record given { key = Some value })
+with_value Cause value given = option_map (λ cause. record given { cause = Some cause }) (cause_of value)
 with_value GetOption value given = Some (with_action (Get value) given)
 with_value SetOption value given = option_map (λ action. with_action action given) (set_in value)
 
--- what an option that comes once has given; the others may come again
-abbrev pub given_once : Valued → Given → Option (List ℕ)
-given_once Input given = given.file
-given_once Name given = given.name
-given_once Settings given = given.settings
-given_once GetOption given = None
-given_once SetOption given = None
+-- whether an option that comes at most once was given; the others may come again
+abbrev pub given_once : Valued → Given → Bool
+given_once Input given = is_some given.file
+given_once Name given = is_some given.name
+given_once Settings given = is_some given.settings
+given_once Key given = is_some given.key
+given_once Cause given = is_some given.cause
+given_once GetOption given = false
+given_once SetOption given = false

@@ -1,26 +1,30 @@
 -- The table of commands whose options come in any order: how each is called, which options it has, and which must be
 -- there. A command more is a row more.
-use Rattle.std.specs.Prelude.{ℕ, Bool, true, false, ◌&&◌, List, codes, Option, Some, None, is_none, option_and_then, if◌then◌else◌}
+use Rattle.std.specs.Prelude.{ℕ, Bool, true, false, ◌&&◌, not, List, codes, Option, Some, None, option_and_then, unwrap_or, if◌then◌else◌}
 use Rattle.std.specs.Option.{option_map}
 use Rattle.std.specs.Str.{bytes_eq}
+use Rattle.bb_words.specs.declared.command.CauseWord.{CauseWord}
+use Rattle.bb_words.specs.declared.command.CauseWord.TheVariants.{Other}
 use Rattle.bb_words.specs.declared.command.Command.{Command}
-use Rattle.bb_words.specs.declared.command.Command.TheVariants.{State, MarkGood}
+use Rattle.bb_words.specs.declared.command.Command.TheVariants.{State, MarkGood, Boot}
 use Rattle.bb_words.specs.declared.given.Given.{Given}
 use Rattle.bb_words.specs.declared.option.Valued.{Valued}
-use Rattle.bb_words.specs.declared.option.Valued.TheVariants.{Input, Name, Get as GetOption, Set as SetOption, Settings}
+use Rattle.bb_words.specs.declared.option.Valued.TheVariants.{Input, Name, Get as GetOption, Set as SetOption, Settings, Key, Cause}
 use Rattle.bb_words.specs.declared.row.Row.{Row}
-use Rattle.bb_words.specs.declared.row.Row.TheVariants.{State as StateRow, MarkGood as MarkGoodRow}
+use Rattle.bb_words.specs.declared.row.Row.TheVariants.{State as StateRow, MarkGood as MarkGoodRow, Boot as BootRow}
 use Rattle.bb_words.specs.Options.{given_once}
 
 abbrev pub name_of : Row → List ℕ
 name_of StateRow = codes "state"
 name_of MarkGoodRow = codes "mark-good"
+name_of BootRow = codes "boot"
 
 -- the command that is called so
 abbrev pub row_of : List ℕ → Option Row
 row_of word =
     if bytes_eq word (name_of StateRow) then Some StateRow
     else if bytes_eq word (name_of MarkGoodRow) then Some MarkGoodRow
+    else if bytes_eq word (name_of BootRow) then Some BootRow
     else None
 
 -- whether it has an option with a value
@@ -30,30 +34,56 @@ has StateRow Name = true
 has StateRow GetOption = true
 has StateRow SetOption = true
 has StateRow Settings = false
+has StateRow Key = true
+has StateRow Cause = false
 has MarkGoodRow Input = true
 has MarkGoodRow Name = true
 has MarkGoodRow GetOption = false
 has MarkGoodRow SetOption = false
 has MarkGoodRow Settings = true
+has MarkGoodRow Key = true
+has MarkGoodRow Cause = false
+has BootRow Input = true
+has BootRow Name = true
+has BootRow GetOption = false
+has BootRow SetOption = false
+has BootRow Settings = true
+has BootRow Key = true
+has BootRow Cause = true
 
 -- whether it has `-d` and `--dump-shell`
 abbrev pub has_dumps : Row → Bool
 has_dumps StateRow = true
 has_dumps MarkGoodRow = false
+has_dumps BootRow = false
 
--- the command that its options make, where those are given that must be: of `state` the file, of `mark-good` that of
--- the settings too
+-- the cause that is given, or `other`
+abbrev pub cause_given : Given → CauseWord
+cause_given given = unwrap_or given.cause Other
+
+-- the command that its options make, where those are given that must be: of `state` the file, of `mark-good` and
+-- `boot` that of the settings too
 abbrev pub command_of : Row → Given → Option Command
 command_of StateRow given =
-    option_map (λ file. State (record { file = file; name = given.name; actions = given.actions })) given.file
+    option_map
+    (λ file. State (record { file = file; name = given.name; key = given.key; actions = given.actions }))
+    given.file
 command_of MarkGoodRow given =
     option_and_then
     (λ file.
     option_map
-    (λ settings. MarkGood (record { file = file; settings = settings; name = given.name }))
+    (λ settings. MarkGood (record { file = file; settings = settings; name = given.name; key = given.key }))
+    given.settings)
+    given.file
+command_of BootRow given =
+    option_and_then
+    (λ file.
+    option_map
+    (λ settings.
+    Boot (record { file = file; settings = settings; name = given.name; key = given.key; cause = cause_given given }))
     given.settings)
     given.file
 
 -- whether an option may come: the command has it, and it wasn't given before if it comes once
 abbrev pub may_come : Row → Valued → Given → Bool
-may_come row valued given = has row valued && is_none (given_once valued given)
+may_come row valued given = has row valued && not (given_once valued given)

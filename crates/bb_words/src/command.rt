@@ -7,6 +7,7 @@ pub enum Command {
     Raw(RawCommand),
     State(StateCommand),
     MarkGood(MarkGoodCommand),
+    Boot(BootCommand),
 }
 
 /// `raw`: a raw record in three strides of a device.
@@ -35,6 +36,8 @@ pub struct StateCommand {
     pub file: Text,
     /// `-n`: which state of the file, if that is said.
     pub name: Option<Text>,
+    /// `-k`: the file with the key, if that is said.
+    pub key: Option<Text>,
     /// What is done, in the order of the words.
     pub actions: ActionList,
 }
@@ -48,6 +51,35 @@ pub struct MarkGoodCommand {
     pub settings: Text,
     /// `-n`: which state of the file, if that is said.
     pub name: Option<Text>,
+    /// `-k`: the file with the key, if that is said.
+    pub key: Option<Text>,
+}
+
+/// `boot`: the best target is started.
+#[derive(Debug, Drop)]
+pub struct BootCommand {
+    /// `-i`: the file that describes the state.
+    pub file: Text,
+    /// `-c`: the file with the bootchooser's settings.
+    pub settings: Text,
+    /// `-n`: which state of the file, if that is said.
+    pub name: Option<Text>,
+    /// `-k`: the file with the key, if that is said.
+    pub key: Option<Text>,
+    /// `--cause`: why the machine starts, `other` if that isn't said.
+    pub cause: CauseWord,
+}
+
+/// Why the machine starts. (barebox User Manual, Bootchooser: attempts may be reset at `power-on`
+/// and at `reset`.)
+#[derive(Clone, Copy, Debug, PartialEq, Eq)]
+pub enum CauseWord {
+    /// `power-on`: power was switched on.
+    PowerOn,
+    /// `reset`: it was reset.
+    Reset,
+    /// `other`: another cause, or none that is known.
+    Other,
 }
 
 /// What is done with a state.

@@ -1,13 +1,15 @@
 ghost use Rattle.std.specs.Prelude.{◌≡◌, None, Some, IfOk, IfErr, OnOk, option_and_then};
-ghost use Rattle.std.specs.Option.{ok_or, option_copied, option_map};
+ghost use Rattle.std.specs.Option.{ok_or, option_map};
 ghost use Rattle.bb_words.specs.Answer.{IsSized, Refuses};
 ghost use Rattle.bb_words.specs.Options.{given_once, none_given, set_in, value_in, valued_of, with_value};
 ghost use Rattle.bb_words.specs.Table.{command_of, may_come};
-ghost use Rattle.bb_words.specs.Words.{Options, next, opened, closed, behind_option, command_at};
+ghost use Rattle.bb_words.specs.Words.{Options, next, opened, taken, closed, behind_option, command_at};
 
-use crate::option::{Valued, cut_at_sign, dump_of, value_in, valued_of};
+use crate::option::{Valued, cause_of, cut_at_sign, dump_of, value_in, valued_of};
 use crate::row::Row;
-use crate::{Action, ActionList, Command, MarkGoodCommand, StateCommand, WordsError};
+use crate::{
+    Action, ActionList, BootCommand, CauseWord, Command, MarkGoodCommand, StateCommand, WordsError,
+};
 use bb_base::{NoMemory, Text};
 use std::alloc::Global;
 
@@ -17,6 +19,8 @@ pub(crate) struct Given {
     pub file: Option<Text>,
     pub name: Option<Text>,
     pub settings: Option<Text>,
+    pub key: Option<Text>,
+    pub cause: Option<CauseWord>,
     pub actions: ActionList,
 }
 
@@ -29,6 +33,8 @@ impl Given {
             file: None,
             name: None,
             settings: None,
+            key: None,
+            cause: None,
             actions: ActionList::none(alloc),
         }
     }
@@ -43,8 +49,10 @@ impl Given {
         word: &str,
         place: usize,
     ) -> Result<Option<Valued>, WordsError>
-        ensures ok { IfOk result (λ then. next (Options row due self.old) word.now ≡ Some (Options row then self.new)) }
-        ensures refused { IfErr result (Refuses (ok_or (next (Options row due self.old) word.now) place)) }
+        ensures ok { IfOk result (λ then.
+            next (Options row due self.old) word.now ≡ Some (Options row then self.new)) }
+        ensures refused { IfErr result (Refuses
+            (ok_or (next (Options row due self.old) word.now) place)) }
     {
         let Some(valued) = due else {
             return self.take_option(alloc, row, word, place);
@@ -61,8 +69,10 @@ impl Given {
         word: &str,
         place: usize,
     ) -> Result<Option<Valued>, WordsError>
-        ensures ok { IfOk result (λ then. behind_option row self.old word.now ≡ Some (Options row then self.new)) }
-        ensures refused { IfErr result (Refuses (ok_or (behind_option row self.old word.now) place)) }
+        ensures ok { IfOk result (λ then.
+            behind_option row self.old word.now ≡ Some (Options row then self.new)) }
+        ensures refused { IfErr result (Refuses
+            (ok_or (behind_option row self.old word.now) place)) }
     {
         if let Some(action) = dump_of(word).filter(|_| row.has_dumps()) {
             self.actions.push(action)?;
@@ -80,14 +90,16 @@ impl Given {
 
     // The option whose value is the next word, if it may come.
     fn opened(&self, row: Row, word: &str) -> Option<Valued>
-        ensures { option_map (λ valued. Options row (Some valued) self.now) result ≡ option_and_then (opened row self.now) (valued_of word.now) }
+        ensures { option_map (λ valued. Options row (Some valued) self.now) result
+            ≡ option_and_then (opened row self.now) (valued_of word.now) }
     {
         valued_of(word).filter(|valued| self.may_come(row, *valued))
     }
 
     // The option with its value in this word, if it may come.
     fn closed<'a>(&self, row: Row, word: &'a str) -> Option<(Valued, &'a str)>
-        ensures { option_and_then (λ given. option_map (Options row None) (with_value given.0 given.1.now self.now)) result ≡ option_and_then (closed row self.now) (value_in word.now) }
+        ensures { option_and_then (λ given. taken row self.now given.0 given.1.now) result
+            ≡ option_and_then (closed row self.now) (value_in word.now) }
     {
         value_in(word).filter(|given| self.may_come(row, given.0))
     }
@@ -95,18 +107,20 @@ impl Given {
     fn may_come(&self, row: Row, valued: Valued) -> bool
         ensures { result ≡ may_come row valued self.now }
     {
-        row.has(valued) && self.given_once(valued).is_none()
+        row.has(valued) && !self.given_once(valued)
     }
 
-    // What an option that comes at most once has given.
-    fn given_once(&self, valued: Valued) -> Option<&Text>
-        ensures { option_copied result ≡ given_once valued self.now }
+    // Whether an option that comes at most once was given.
+    fn given_once(&self, valued: Valued) -> bool
+        ensures { result ≡ given_once valued self.now }
     {
         match valued {
-            Valued::Input => self.file.as_ref(),
-            Valued::Name => self.name.as_ref(),
-            Valued::Settings => self.settings.as_ref(),
-            Valued::Get | Valued::Set => None,
+            Valued::Input => self.file.is_some(),
+            Valued::Name => self.name.is_some(),
+            Valued::Settings => self.settings.is_some(),
+            Valued::Key => self.key.is_some(),
+            Valued::Cause => self.cause.is_some(),
+            Valued::Get | Valued::Set => false,
         }
     }
 
@@ -119,12 +133,15 @@ impl Given {
         place: usize,
     ) -> Result<(), WordsError>
         ensures ok { OnOk result (with_value valued value.now self.old ≡ Some self.new) }
-        ensures refused { IfErr result (Refuses (ok_or (with_value valued value.now self.old) place)) }
+        ensures refused { IfErr result (Refuses
+            (ok_or (with_value valued value.now self.old) place)) }
     {
         match valued {
             Valued::Input => self.file = Some(Text::of(alloc, value)?),
             Valued::Name => self.name = Some(Text::of(alloc, value)?),
             Valued::Settings => self.settings = Some(Text::of(alloc, value)?),
+            Valued::Key => self.key = Some(Text::of(alloc, value)?),
+            Valued::Cause => self.cause = Some(cause_of(value).ok_or(WordsError::BadWord(place))?),
             Valued::Get => self.actions.push(Action::Get(Text::of(alloc, value)?))?,
             Valued::Set => {
                 let Some(set) = set_in(alloc, value)? else {
@@ -145,12 +162,14 @@ impl Given {
     ) -> Result<Command, WordsError>
         ensures ok { IfOk result (λ command. command_at (Options row due self) ≡ Some command) }
         ensures sized { IfOk result IsSized }
-        ensures refused { IfErr result (λ cause. (cause ≡ WordsError.BadWord place) × (command_at (Options row due self) ≡ None)) }
+        ensures refused { IfErr result (λ cause.
+            (cause ≡ WordsError.BadWord place) × (command_at (Options row due self) ≡ None)) }
     {
         match (row, due, self.file, self.settings) {
             (Row::State, None, Some(file), _) => Ok(Command::State(StateCommand {
                 file,
                 name: self.name,
+                key: self.key,
                 actions: self.actions,
             })),
             (Row::MarkGood, None, Some(file), Some(settings)) => {
@@ -158,8 +177,16 @@ impl Given {
                     file,
                     settings,
                     name: self.name,
+                    key: self.key,
                 }))
             }
+            (Row::Boot, None, Some(file), Some(settings)) => Ok(Command::Boot(BootCommand {
+                file,
+                settings,
+                name: self.name,
+                key: self.key,
+                cause: self.cause.unwrap_or(CauseWord::Other),
+            })),
             _ => Err(WordsError::BadWord(place)),
         }
     }

@@ -15,7 +15,9 @@ mod row;
 mod word;
 
 pub use action_list::ActionList;
-pub use command::{Action, Command, MarkGoodCommand, RawAction, RawCommand, StateCommand};
+pub use command::{
+    Action, BootCommand, CauseWord, Command, MarkGoodCommand, RawAction, RawCommand, StateCommand,
+};
 pub use error::WordsError;
 pub use law::{law_accepted_words, law_first_bad_word};
 pub use read::read_words;

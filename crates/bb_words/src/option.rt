@@ -1,8 +1,8 @@
 ghost use Rattle.std.specs.Prelude.{◌≡◌};
 ghost use Rattle.std.specs.Option.{option_map};
-ghost use Rattle.bb_words.specs.Options.{cut_at_sign, dump_of, long_of, valued_of, value_in};
+ghost use Rattle.bb_words.specs.Options.{cause_of, cut_at_sign, dump_of, long_of, valued_of, value_in};
 
-use crate::Action;
+use crate::{Action, CauseWord};
 
 /// An option that takes a value.
 #[derive(Clone, Copy, Debug, PartialEq, Eq)]
@@ -17,6 +17,10 @@ pub(crate) enum Valued {
     Set,
     /// `-c`, which has no long form
     Settings,
+    /// `-k`, which has no long form
+    Key,
+    /// `--cause`, whose value is the next word alone
+    Cause,
 }
 
 /// The action that an option without a value asks for.
@@ -40,6 +44,8 @@ pub(crate) fn valued_of(word: &str) -> Option<Valued>
         "-g" => Some(Valued::Get),
         "-s" => Some(Valued::Set),
         "-c" => Some(Valued::Settings),
+        "-k" => Some(Valued::Key),
+        "--cause" => Some(Valued::Cause),
         _ => long_of(word),
     }
 }
@@ -68,6 +74,18 @@ fn long_of(name: &str) -> Option<Valued>
         "--name" => Some(Valued::Name),
         "--get" => Some(Valued::Get),
         "--set" => Some(Valued::Set),
+        _ => None,
+    }
+}
+
+/// The cause of a start that a word says.
+pub(crate) fn cause_of(word: &str) -> Option<CauseWord>
+    ensures { result ≡ cause_of word.now }
+{
+    match word {
+        "power-on" => Some(CauseWord::PowerOn),
+        "reset" => Some(CauseWord::Reset),
+        "other" => Some(CauseWord::Other),
         _ => None,
     }
 }

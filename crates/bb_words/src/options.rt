@@ -13,9 +13,11 @@ use std::alloc::Global;
 /// Reads the options behind a command's name.
 pub(crate) fn read_options(alloc: Global, row: Row, words: &TextList) -> Result<Command, WordsError>
     requires { 0 < length words.now }
-    ensures ok { IfOk result (λ command. words_from 1 (Options row None none_given) (drop 1 words.now) ≡ Ok command) }
+    ensures ok { IfOk result (λ command.
+        words_from 1 (Options row None none_given) (drop 1 words.now) ≡ Ok command) }
     ensures sized { IfOk result IsSized }
-    ensures refused { IfErr result (Refuses (words_from 1 (Options row None none_given) (drop 1 words.now))) }
+    ensures refused { IfErr result (Refuses
+        (words_from 1 (Options row None none_given) (drop 1 words.now))) }
 {
     let mut given = Given::none(alloc);
     let mut due = None;

@@ -32,9 +32,11 @@ pub(crate) fn read_raw(alloc: Global, words: &TextList) -> Result<RawCommand, Wo
 
 // Reads the words behind the area's length.
 fn read_action(alloc: Global, words: &TextList, len: u32) -> Result<RawAction, WordsError>
-    ensures ok { IfOk result (λ action. (magic : ℕ) → words_from 3 (Mode magic len) (drop 3 words.now) ≡ Ok (raw_of magic len action)) }
+    ensures ok { IfOk result (λ action. (magic : ℕ)
+        → words_from 3 (Mode magic len) (drop 3 words.now) ≡ Ok (raw_of magic len action)) }
     ensures sized { IfOk result (IsSizedFor len) }
-    ensures refused { IfErr result (λ cause. (magic : ℕ) → Refuses (words_from 3 (Mode magic len) (drop 3 words.now)) cause) }
+    ensures refused { IfErr result (λ cause. (magic : ℕ)
+        → Refuses (words_from 3 (Mode magic len) (drop 3 words.now)) cause) }
 {
     let word = word_at(words, 3)?;
     if word == "-g" {
@@ -51,9 +53,11 @@ fn read_action(alloc: Global, words: &TextList, len: u32) -> Result<RawAction, W
 
 // The number at this place, up to a greatest one.
 fn number_at(words: &TextList, place: usize, most: u32) -> Result<u32, WordsError>
-    ensures ok { IfOk result (λ n. option_and_then (number_up_to most) (slice_get words.now place) ≡ Some n) }
+    ensures ok { IfOk result (λ n.
+        option_and_then (number_up_to most) (slice_get words.now place) ≡ Some n) }
     ensures bound { IfOk result (λ n. n ≤ most) }
-    ensures refused { IfErr result (λ cause. (cause ≡ WordsError.BadWord place) × (option_and_then (number_up_to most) (slice_get words.now place) ≡ None)) }
+    ensures refused { IfErr result (λ cause. (cause ≡ WordsError.BadWord place)
+        × (option_and_then (number_up_to most) (slice_get words.now place) ≡ None)) }
 {
     words
         .get(place)
@@ -70,9 +74,11 @@ fn number_up_to(most: u32, text: &str) -> Option<u32>
 
 // The area that the digits at this place spell, of so many bytes.
 fn area_at(alloc: Global, words: &TextList, place: usize, len: u32) -> Result<Bytes, WordsError>
-    ensures ok { IfOk result (λ area. option_and_then (area_of len) (slice_get words.now place) ≡ Some area) }
+    ensures ok { IfOk result (λ area.
+        option_and_then (area_of len) (slice_get words.now place) ≡ Some area) }
     ensures sized { IfOk result (λ area. length area ≡ len) }
-    ensures refused { IfErr result (Refuses (ok_or (option_and_then (area_of len) (slice_get words.now place)) place)) }
+    ensures refused { IfErr result (Refuses
+        (ok_or (option_and_then (area_of len) (slice_get words.now place)) place)) }
 {
     let digits = word_at(words, place)?;
     if digits.len() != 2 * len as usize {
@@ -91,8 +97,10 @@ fn area_at(alloc: Global, words: &TextList, place: usize, len: u32) -> Result<By
 // No word stands at this place.
 #[tactic(auto, using(crate::proofs::Steps::at_end))]
 fn ends_at(words: &TextList, place: usize) -> Result<(), WordsError>
-    ensures ok { OnOk result ((command : Command) → words_from place (Whole command) (drop place words.now) ≡ Ok command) }
-    ensures refused { IfErr result (λ cause. (command : Command) → Refuses (words_from place (Whole command) (drop place words.now)) cause) }
+    ensures ok { OnOk result ((command : Command)
+        → words_from place (Whole command) (drop place words.now) ≡ Ok command) }
+    ensures refused { IfErr result (λ cause. (command : Command)
+        → Refuses (words_from place (Whole command) (drop place words.now)) cause) }
 {
     match words.get(place) {
         None => Ok(()),

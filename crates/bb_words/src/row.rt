@@ -9,6 +9,7 @@ use crate::option::Valued;
 pub(crate) enum Row {
     State,
     MarkGood,
+    Boot,
 }
 
 impl Row {
@@ -19,6 +20,7 @@ impl Row {
         match name {
             "state" => Some(Row::State),
             "mark-good" => Some(Row::MarkGood),
+            "boot" => Some(Row::Boot),
             _ => None,
         }
     }
@@ -28,10 +30,13 @@ impl Row {
         ensures { result ≡ has self valued }
     {
         match (self, valued) {
-            (Row::State, Valued::Input | Valued::Name | Valued::Get | Valued::Set) => true,
-            (Row::State, Valued::Settings) => false,
-            (Row::MarkGood, Valued::Input | Valued::Name | Valued::Settings) => true,
-            (Row::MarkGood, Valued::Get | Valued::Set) => false,
+            (_, Valued::Input | Valued::Name | Valued::Key) => true,
+            (Row::State, Valued::Get | Valued::Set) => true,
+            (Row::State, Valued::Settings | Valued::Cause) => false,
+            (Row::MarkGood, Valued::Settings) => true,
+            (Row::MarkGood, Valued::Get | Valued::Set | Valued::Cause) => false,
+            (Row::Boot, Valued::Settings | Valued::Cause) => true,
+            (Row::Boot, Valued::Get | Valued::Set) => false,
         }
     }
 
@@ -41,7 +46,7 @@ impl Row {
     {
         match self {
             Row::State => true,
-            Row::MarkGood => false,
+            Row::MarkGood | Row::Boot => false,
         }
     }
 }

@@ -59,6 +59,8 @@ fn options_come_in_any_order(rt: HostRuntime) -> Result<(), Fail> {
             "x.dts",
             "--set=a=b=1",
             "--dump-shell",
+            "-k",
+            "key.hex",
             "-n",
             "-n",
         ],
@@ -69,6 +71,7 @@ fn options_come_in_any_order(rt: HostRuntime) -> Result<(), Fail> {
     };
     assert_eq!(rt; state.file.as_str(), "x.dts");
     assert_eq!(rt; state.name.as_ref().map(|name| name.as_str()), Some("-n"));
+    assert_eq!(rt; state.key.as_ref().map(|key| key.as_str()), Some("key.hex"));
     assert_eq!(rt; state.actions.len(), 4);
     assert!(rt; !state.actions.is_empty());
     assert!(rt; matches!(state.actions.get(0), Some(Action::Dump)));
@@ -85,7 +88,16 @@ fn options_come_in_any_order(rt: HostRuntime) -> Result<(), Fail> {
 fn settings_are_named(rt: HostRuntime) -> Result<(), Fail> {
     let words = list(
         rt.alloc(),
-        &["mark-good", "-c", "set.txt", "--input=b.dts", "-n", "a"],
+        &[
+            "mark-good",
+            "-c",
+            "set.txt",
+            "--input=b.dts",
+            "-n",
+            "a",
+            "-k",
+            "-c",
+        ],
     )?;
     let command = read_words(rt.alloc(), &words).map_err(|_| NoMemory)?;
     let Command::MarkGood(mark) = command else {
@@ -94,6 +106,106 @@ fn settings_are_named(rt: HostRuntime) -> Result<(), Fail> {
     assert_eq!(rt; mark.file.as_str(), "b.dts");
     assert_eq!(rt; mark.settings.as_str(), "set.txt");
     assert_eq!(rt; mark.name.as_ref().map(|name| name.as_str()), Some("a"));
+    assert_eq!(rt; mark.key.as_ref().map(|key| key.as_str()), Some("-c"));
+    Ok(())
+}
+
+#[test]
+fn a_cause_is_said(rt: HostRuntime) -> Result<(), Fail> {
+    let words = list(
+        rt.alloc(),
+        &[
+            "boot",
+            "--cause",
+            "power-on",
+            "--name=--cause",
+            "-k",
+            "key.hex",
+            "-c",
+            "set.txt",
+            "--input",
+            "b.dts",
+        ],
+    )?;
+    let command = read_words(rt.alloc(), &words).map_err(|_| NoMemory)?;
+    let Command::Boot(boot) = command else {
+        return Err(Fail::from(NoMemory));
+    };
+    assert_eq!(rt; boot.file.as_str(), "b.dts");
+    assert_eq!(rt; boot.settings.as_str(), "set.txt");
+    assert_eq!(rt;
+        boot.name.as_ref().map(|name| name.as_str()),
+        Some("--cause")
+    );
+    assert_eq!(rt; boot.key.as_ref().map(|key| key.as_str()), Some("key.hex"));
+    assert_eq!(rt; boot.cause, CauseWord::PowerOn);
+    Ok(())
+}
+
+// The cause that these words of a boot behind its files say.
+fn cause_behind(alloc: Global, rest: &[&str]) -> Result<Option<CauseWord>, NoMemory> {
+    let mut words = list(alloc, &["boot", "-i", "a", "-c", "b"])?;
+    for word in rest {
+        words.push(Text::of(alloc, word)?)?;
+    }
+    match read_words(alloc, &words) {
+        Ok(Command::Boot(boot)) => Ok(Some(boot.cause)),
+        Err(WordsError::NoMemory) => Err(NoMemory),
+        _ => Ok(None),
+    }
+}
+
+#[test]
+fn each_cause_has_its_word(rt: HostRuntime) -> Result<(), Fail> {
+    assert_eq!(rt; cause_behind(rt.alloc(), &[])?, Some(CauseWord::Other));
+    assert_eq!(rt;
+        cause_behind(rt.alloc(), &["--cause", "power-on"])?,
+        Some(CauseWord::PowerOn)
+    );
+    assert_eq!(rt;
+        cause_behind(rt.alloc(), &["--cause", "reset"])?,
+        Some(CauseWord::Reset)
+    );
+    assert_eq!(rt;
+        cause_behind(rt.alloc(), &["--cause", "other"])?,
+        Some(CauseWord::Other)
+    );
+    Ok(())
+}
+
+#[test]
+fn a_boot_has_its_bad_words(rt: HostRuntime) -> Result<(), Fail> {
+    assert_eq!(rt; bad_place(rt.alloc(), &["boot", "-i", "a"])?, Some(3));
+    assert_eq!(rt;
+        bad_place(rt.alloc(), &["boot", "-i", "a", "-c", "b", "--cause"])?,
+        Some(6)
+    );
+    assert_eq!(rt;
+        bad_place(rt.alloc(), &["boot", "-i", "a", "-c", "b", "--cause=reset"])?,
+        Some(5)
+    );
+    assert_eq!(rt;
+        bad_place(
+            rt.alloc(),
+            &["boot", "-i", "a", "-c", "b", "--cause", "warm"]
+        )?,
+        Some(6)
+    );
+    assert_eq!(rt;
+        bad_place(
+            rt.alloc(),
+            &["boot", "--cause", "reset", "--cause", "reset"]
+        )?,
+        Some(3)
+    );
+    assert_eq!(rt;
+        bad_place(rt.alloc(), &["boot", "-i", "a", "-c", "b", "-d"])?,
+        Some(5)
+    );
+    assert_eq!(rt;
+        bad_place(rt.alloc(), &["state", "-i", "a", "--cause", "reset"])?,
+        Some(3)
+    );
     Ok(())
 }
 
@@ -129,6 +241,15 @@ fn a_bad_word_has_its_place(rt: HostRuntime) -> Result<(), Fail> {
     assert_eq!(rt;
         bad_place(rt.alloc(), &["state", "-i", "a", "-s", "abc"])?,
         Some(4)
+    );
+    assert_eq!(rt;
+        bad_place(rt.alloc(), &["state", "-i", "a", "-k"])?,
+        Some(4)
+    );
+    assert_eq!(rt; bad_place(rt.alloc(), &["state", "-k=a"])?, Some(1));
+    assert_eq!(rt;
+        bad_place(rt.alloc(), &["mark-good", "-k", "a", "-k", "a"])?,
+        Some(3)
     );
     assert_eq!(rt; bad_place(rt.alloc(), &["mark-good", "-i", "a"])?, Some(3));
     assert_eq!(rt;

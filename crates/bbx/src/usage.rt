@@ -13,29 +13,37 @@ DEVICE
 
 GEOMETRY
   ov:SIZE              overwritten in place, of SIZE bytes, up to 268435456
-  er:PAGE:BLOCK:SIZE   written in pages and erased in blocks; state alone works on one
+  er:PAGE:BLOCK:SIZE   written in pages and erased in blocks; raw works on none
 
 COMMAND
   raw MAGIC LEN -g     prints the first area that passes, in hexadecimal, or `none`;
                        MAGIC is the record's magic, LEN the area's bytes, up to 65535
   raw MAGIC LEN -s HEX saves an area into all three copies, and prints nothing;
                        HEX is two hexadecimal digits a byte
-  state -i FILE [-n NAME] [-s VAR=VALUE] [-g VAR] [-d] [--dump-shell]
-                       reads the devicetree source FILE, loads the state of the name NAME or
-                       else the board's, gives all variables of -s their values, saves once
-                       where that changed one, and prints; options come in any order, all
-                       but -i and -n as often as wanted, and print in their order
+  state -i FILE [-n NAME] [-k FILE] [-s VAR=VALUE] [-g VAR] [-d] [--dump-shell]
+                       reads the devicetree FILE, a source or a blob, loads the state of the
+                       name NAME or else the board's, gives all variables of -s their values,
+                       saves once where that changed one, and prints; options come in any
+                       order, all but -i, -n and -k as often as wanted, and print in their order
      -i, --input FILE  the file, up to 1048576 bytes
      -n, --name NAME   an alias of a state's node, or a state's node
+     -k FILE           the key, two hexadecimal digits a byte; it is read where the state's
+                       records stand under one, and only then
      -s, --set VAR=VALUE  the variable gets this value
      -g, --get VAR     the variable's value
      -d, --dump        VAR=VALUE for each variable
      --dump-shell      each variable as a shell's assignment to NAME_VAR, with _ for each dot
-  mark-good -i FILE -c FILE [-n NAME]
+  mark-good -i FILE -c FILE [-n NAME] [-k FILE]
                        reads FILE of -i as `state` does, and bootchooser's settings, gives
                        the target that was chosen last its default attempts, saves where
                        that changed them, and prints `good` with its name and attempts
      -c FILE           the settings, up to 1048576 bytes
+  boot -i FILE -c FILE [-n NAME] [-k FILE] [--cause WORD]
+                       reads both as `mark-good` does, and the entry of each target; loads the
+                       state, resets what the settings say, takes the best target, spends one
+                       of its attempts, saves that, and starts the target: DEVICE.plan has its
+                       plan then; prints `start`, its name, and the attempts left and tried
+     --cause WORD      why the machine starts: power-on, reset or other, which it is without
 
 Numbers are decimal, or hexadecimal behind 0x.
 
@@ -43,7 +51,8 @@ STATUS
    0 Done        the session was done
    1 BadWords    a word doesn't fit or is missing; the line has its number, COMMAND being
                  word 1, or 0 where DEVICE or GEOMETRY is wrong or a word is no text
-   2 BadTree     FILE isn't a devicetree source; the line has the cause and its place in bytes
+   2 BadTree     FILE is no devicetree source, or it begins as a blob and is none; the line has
+                 the cause, and its place in bytes or a part that the blob's header names
    3 BadLayout   the copies can't stand on such a device, or FILE gives no layout for it
    4 BadVariable a variable isn't in the layout, or VALUE isn't one that it can have; the
                  line has its name and the cause
@@ -52,9 +61,14 @@ STATUS
    7 FileTooLong a file is longer than 1048576 bytes
    8 ReadFault   the device can't be opened or read, or is no device
    9 WriteFault  a copy can't be written; the line has its number, from 0
+  10 NoTarget    no target has a priority and attempts left; nothing is saved
+  11 StartFailed no target could be started; the line has the last one, the line before it
+                 how many were tried
   13 BadSettings the settings aren't settings, or a variable of theirs isn't in the layout or
                  is no uint32; the line has the cause, and its line or the variable
   14 SinkFault   the output can't be written
+  17 BadKey      the state's records stand under a key, and -k is missing or its FILE holds
+                 none; the line has the cause
   18 NoGood      no target was chosen last; the line has last_chosen
   20 NoMemory    memory was refused
 ";

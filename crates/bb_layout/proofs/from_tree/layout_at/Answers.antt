@@ -12,7 +12,7 @@ invariant_of-result c =
     record {
       facts = record {
         geometry_is = c.requires;
-        copied = rw c.copies.ensures (subst (HasCopies c.args.geometry region storage copies) c.raw_len.ensures c.in_ok-storage.ensures.copies);
+        copied = rw c.copies.ensures (subst (HasCopies c.args.geometry region storage copies) c.record_len.ensures c.in_ok-storage.ensures.copies);
         area_most = c.in_ok-area_len.ensures.short;
         vars_are = record {
           each = c.in_ok-vars.ensures.well_formed;

@@ -1,8 +1,9 @@
 use Rattle.std.proofs.Common.{rules, ◌≡◌, ◌+◌, Bool, true, false, ap, arith, length, not, refl, subst, sym, ◌∙◌}
 use Rattle.bb_copies.specs.Loading.{KeepsOutside}
 use Rattle.bb_flash.proofs.Moments.{later_joined}
+use Rattle.bb_state.specs.Keyed.{Keyed}
 use Rattle.bb_state.specs.Kinds.{laid_kinds}
-use Rattle.bb_state.specs.State.{is_sure, kept_of, kinds_of, laid_of, used_of}
+use Rattle.bb_state.specs.State.{is_sure, kept_of, keyed_of, kinds_of, used_of}
 use Rattle.bb_shell.proofs.Attempts.{total_some, total_spent}
 use Rattle.bb_shell.proofs.Ends.{retried_saved, retried_starts}
 use Rattle.bb_shell.proofs.Joins.{outside_joined, stored_joined}
@@ -20,7 +21,7 @@ pub returns-in_default-clause-have_run : goal.returns-in_default-clause-have_run
 returns-in_default-clause-have_run g c =
     let b = c.args.chooser.now in
     let plans = c.args.plans.now in
-    let layout = laid_of c.args.state.now in
+    let keyed = keyed_of c.args.state.now in
     let from = g.B.Flash.device c.args.board.now in
     let mid = g.B.Flash.device c.loop-tries.board in
     let to = g.B.Flash.device c.run_round-outcome.new.board in
@@ -29,29 +30,29 @@ returns-in_default-clause-have_run g c =
     let round : Round = record { target = c.loop-tries.target; table = new.table; outcome = c.run_round-outcome.result } in
     let invariant = c.loop-tries.invariant in
     let done = c.run_round-outcome.ensures in
-    let run : IsRoundRun layout plans (kept_of old) (used_of old) (used_of new) round mid to =
-    subst (λ l. IsRoundRun l plans (kept_of old) (used_of old) (used_of new) round mid to) invariant.same_layout done.run in
+    let run : IsRoundRun keyed plans (kept_of old) (used_of old) (used_of new) round mid to =
+    subst (λ l. IsRoundRun l plans (kept_of old) (used_of old) (used_of new) round mid to) invariant.same_keyed done.run in
     record {
       earlier = invariant.underway.earlier;
       last = round;
       are =
-          ended_are b plans layout c.args.state.now.table (kept_of c.args.state.now) (used_of c.args.state.now) from
+          ended_are b plans keyed c.args.state.now.table (kept_of c.args.state.now) (used_of c.args.state.now) from
           c.loop-tries.tries old.table (kept_of old) (used_of old) mid invariant.underway round (used_of new) to done.round run done.start_faults
           (c.next_target.ensures.none (search rules));
       run =
-          ended_run b plans layout c.args.state.now.table (kept_of c.args.state.now) (used_of c.args.state.now) from
+          ended_run b plans keyed c.args.state.now.table (kept_of c.args.state.now) (used_of c.args.state.now) from
           c.loop-tries.tries old.table (kept_of old) (used_of old) mid invariant.underway round (used_of new) to done.round run done.start_faults;
       end_is = c.end_by.ensures ∙ ap (λ n. end_by b (n + 1) round round.outcome) (sym invariant.underway.many);
       table = refl;
       kept = done.kept;
       start_faults =
-          ended_rose b plans layout c.args.state.now.table (kept_of c.args.state.now) (used_of c.args.state.now) from
+          ended_rose b plans keyed c.args.state.now.table (kept_of c.args.state.now) (used_of c.args.state.now) from
           c.loop-tries.tries old.table (kept_of old) (used_of old) mid invariant.underway round (used_of new) to done.round run done.start_faults;
     }
 
 pub returns-in_default-clause-stored : goal.returns-in_default-clause-stored
 returns-in_default-clause-stored g c sure =
-    let layout = laid_of c.args.state.now in
+    let keyed = keyed_of c.args.state.now in
     let from = g.B.Flash.device c.args.board.now in
     let mid = g.B.Flash.device c.loop-tries.board in
     let to = g.B.Flash.device c.run_round-outcome.new.board in
@@ -60,9 +61,9 @@ returns-in_default-clause-stored g c sure =
     let invariant = c.loop-tries.invariant in
     let done = c.run_round-outcome.ensures in
     let saved : is_refused c.run_round-outcome.result ≡ false = not_true (is_refused c.run_round-outcome.result) (sym done.sure ∙ sure) in
-    let last = subst (λ l. StaysStored l (kept_of old) new.table mid to) invariant.same_layout (done.stored saved) in
-    subst (λ t. StaysStored layout (kept_of c.args.state.now) t from to) (sym (done.kept sure))
-    (stored_joined layout (kept_of c.args.state.now) (kept_of old) new.table from mid to invariant.later invariant.stored last)
+    let last = subst (λ l. StaysStored l (kept_of old) new.table mid to) invariant.same_keyed (done.stored saved) in
+    subst (λ t. StaysStored keyed (kept_of c.args.state.now) t from to) (sym (done.kept sure))
+    (stored_joined keyed (kept_of c.args.state.now) (kept_of old) new.table from mid to invariant.later invariant.stored last)
 
 pub returns-in_default-clause-outside : goal.returns-in_default-clause-outside
 returns-in_default-clause-outside g c =
@@ -71,7 +72,7 @@ returns-in_default-clause-outside g c =
     let invariant = c.loop-tries.invariant in
     let done = c.run_round-outcome.ensures in
     outside_joined (kinds_of c.args.state.now) (g.B.Flash.device c.args.board.now) mid to invariant.later done.later invariant.outside
-    (subst (λ l. KeepsOutside (laid_kinds l) mid to) invariant.same_layout done.outside)
+    (subst (λ (l : Keyed). KeepsOutside (laid_kinds l.layout) mid to) invariant.same_keyed done.outside)
 
 pub returns-in_default-clause-later : goal.returns-in_default-clause-later
 returns-in_default-clause-later g c =
@@ -82,7 +83,7 @@ pub loop-tries-preserved : goal.loop-tries-preserved
 loop-tries-preserved g c =
     let b = c.args.chooser.now in
     let plans = c.args.plans.now in
-    let layout = laid_of c.args.state.now in
+    let keyed = keyed_of c.args.state.now in
     let from = g.B.Flash.device c.args.board.now in
     let mid = g.B.Flash.device c.loop-tries.board in
     let to = g.B.Flash.device c.run_round-outcome.new.board in
@@ -92,8 +93,8 @@ loop-tries-preserved g c =
     let round : Round = record { target = c.loop-tries.target; table = new.table; outcome = outcome } in
     let invariant = c.loop-tries.invariant in
     let done = c.run_round-outcome.ensures in
-    let run : IsRoundRun layout plans (kept_of old) (used_of old) (used_of new) round mid to =
-    subst (λ l. IsRoundRun l plans (kept_of old) (used_of old) (used_of new) round mid to) invariant.same_layout done.run in
+    let run : IsRoundRun keyed plans (kept_of old) (used_of old) (used_of new) round mid to =
+    subst (λ l. IsRoundRun l plans (kept_of old) (used_of old) (used_of new) round mid to) invariant.same_keyed done.run in
     let retried : is_retried b outcome ≡ true = c.next_target.ensures.retried (search rules) in
     let saved : is_refused outcome ≡ false = retried_saved b outcome retried in
     let sure : is_sure new ≡ true = done.sure ∙ ap not saved in
@@ -101,30 +102,30 @@ loop-tries-preserved g c =
     let less = total_spent b old.table c.loop-tries.target c.attempts_in-attempts.ensures.binding sized invariant.best in
     let spent : all_attempts b new.table ≡ _ = ap (all_attempts b) done.round.spent in
     let spare = invariant.spare in
-    let last = subst (λ l. StaysStored l (kept_of old) new.table mid to) invariant.same_layout (done.stored saved) in
+    let last = subst (λ l. StaysStored l (kept_of old) new.table mid to) invariant.same_keyed (done.stored saved) in
     record {
       ready = record {
         sized = done.sized;
         fits = done.fits;
         sure = sure;
         on = done.on;
-        bound = record { area_len = invariant.ready.bound.area_len ∙ ap (λ l. l.area_len) (sym done.layout) };
+        bound = record { area_len = invariant.ready.bound.area_len ∙ ap (λ (k : Keyed). k.layout.area_len) (sym done.keyed) };
       };
       best = c.in-Some.ensures.best;
       spare = omega (arith, spare, less, spent);
-      same_layout = done.layout ∙ invariant.same_layout;
+      same_keyed = done.keyed ∙ invariant.same_keyed;
       underway =
-          subst (λ k. IsUnderway b plans layout c.args.state.now.table (kept_of c.args.state.now) (used_of c.args.state.now) from (c.loop-tries.tries + 1) new.table k (used_of new) to)
+          subst (λ k. IsUnderway b plans keyed c.args.state.now.table (kept_of c.args.state.now) (used_of c.args.state.now) from (c.loop-tries.tries + 1) new.table k (used_of new) to)
           (sym (done.kept sure))
-          (underway_next b plans layout c.args.state.now.table (kept_of c.args.state.now) (used_of c.args.state.now) from
+          (underway_next b plans keyed c.args.state.now.table (kept_of c.args.state.now) (used_of c.args.state.now) from
           c.loop-tries.tries old.table (kept_of old) (used_of old) mid invariant.underway round (used_of new) to done.round run done.start_faults retried);
       starts = retried_starts b (plan_at plans c.loop-tries.target) outcome mid to retried done.starts ∙ invariant.starts;
       stored =
-          subst (λ t. StaysStored layout (kept_of c.args.state.now) t from to) (sym (done.kept sure))
-          (stored_joined layout (kept_of c.args.state.now) (kept_of old) new.table from mid to invariant.later invariant.stored last);
+          subst (λ t. StaysStored keyed (kept_of c.args.state.now) t from to) (sym (done.kept sure))
+          (stored_joined keyed (kept_of c.args.state.now) (kept_of old) new.table from mid to invariant.later invariant.stored last);
       outside =
           outside_joined (kinds_of c.args.state.now) from mid to invariant.later done.later invariant.outside
-          (subst (λ l. KeepsOutside (laid_kinds l) mid to) invariant.same_layout done.outside);
+          (subst (λ (l : Keyed). KeepsOutside (laid_kinds l.layout) mid to) invariant.same_keyed done.outside);
       later = later_joined from mid to invariant.later done.later;
     }
 

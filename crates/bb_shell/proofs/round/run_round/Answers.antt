@@ -1,6 +1,6 @@
 use Rattle.std.proofs.Common.{◌∙◌}
 use Rattle.bb_state.specs.Kinds.{any_holding}
-use Rattle.bb_state.specs.State.{has_changed, kept_of, kinds_of, laid_of, used_of}
+use Rattle.bb_state.specs.State.{has_changed, kept_of, keyed_of, kinds_of, used_of}
 use Rattle.bb_state.specs.declared.state.State.{State}
 use Rattle.bb_shell.proofs.Joins.{changed_outside}
 use Rattle.bb_shell.proofs.Saves.{saved_ok}
@@ -12,7 +12,7 @@ pub returns-in-Ok-clause-run : goal.returns-in-Ok-clause-run
 returns-in-Ok-clause-run g c =
     let state : State = record c.args.state.now { table = c.spend.new.table } in
     let saved = c.in-Ok.ensures in
-    round_ok (laid_of c.args.state.now) c.args.plans.now (kept_of c.args.state.now) (used_of c.args.state.now) (used_of c.save.new.self)
+    round_ok (keyed_of c.args.state.now) c.args.plans.now (kept_of c.args.state.now) (used_of c.args.state.now) (used_of c.save.new.self)
     c.args.target c.spend.new.table c.save.new.self.table c.try_start.result
     (g.B.Flash.device c.args.board.now) (g.B.Flash.device c.save.new.flash) (g.B.Flash.device c.try_start.new.board)
     (saved_ok state (used_of c.save.new.self) (g.B.Flash.device c.args.board.now) (g.B.Flash.device c.save.new.flash)
@@ -21,12 +21,12 @@ returns-in-Ok-clause-run g c =
 
 pub returns-in-Ok-clause-outside : goal.returns-in-Ok-clause-outside
 returns-in-Ok-clause-outside g c =
-    round_outside (laid_of c.args.state.now) c.args.plans.now (kept_of c.args.state.now) (used_of c.args.state.now) (used_of c.save.new.self)
+    round_outside (keyed_of c.args.state.now) c.args.plans.now (kept_of c.args.state.now) (used_of c.args.state.now) (used_of c.save.new.self)
     _ (g.B.Flash.device c.args.board.now) (g.B.Flash.device c.try_start.new.board) (returns-in-Ok-clause-run g c)
 
 pub returns-in-Ok-clause-later : goal.returns-in-Ok-clause-later
 returns-in-Ok-clause-later g c =
-    round_later (laid_of c.args.state.now) c.args.plans.now (kept_of c.args.state.now) (used_of c.args.state.now) (used_of c.save.new.self)
+    round_later (keyed_of c.args.state.now) c.args.plans.now (kept_of c.args.state.now) (used_of c.args.state.now) (used_of c.save.new.self)
     _ (g.B.Flash.device c.args.board.now) (g.B.Flash.device c.try_start.new.board) (returns-in-Ok-clause-run g c)
 
 pub returns-in-Err-clause-outside : goal.returns-in-Err-clause-outside
@@ -37,13 +37,13 @@ returns-in-Err-clause-outside g c =
 
 pub returns-in-Ok-clause-stored : goal.returns-in-Ok-clause-stored
 returns-in-Ok-clause-stored g c done =
-    round_stored (laid_of c.args.state.now) c.args.plans.now (kept_of c.args.state.now) (used_of c.args.state.now) (used_of c.save.new.self)
+    round_stored (keyed_of c.args.state.now) c.args.plans.now (kept_of c.args.state.now) (used_of c.args.state.now) (used_of c.save.new.self)
     _ (g.B.Flash.device c.args.board.now) (g.B.Flash.device c.try_start.new.board) (returns-in-Ok-clause-run g c)
     c.requires.ready.on.geometry done
 
 pub returns-in-Ok-clause-starts : goal.returns-in-Ok-clause-starts
 returns-in-Ok-clause-starts g c =
-    round_adds (laid_of c.args.state.now) c.args.plans.now (kept_of c.args.state.now) (used_of c.args.state.now) (used_of c.save.new.self)
+    round_adds (keyed_of c.args.state.now) c.args.plans.now (kept_of c.args.state.now) (used_of c.args.state.now) (used_of c.save.new.self)
     _ (g.B.Flash.device c.args.board.now) (g.B.Flash.device c.try_start.new.board) (returns-in-Ok-clause-run g c)
 
 pub returns-in-Ok-clause-on : goal.returns-in-Ok-clause-on

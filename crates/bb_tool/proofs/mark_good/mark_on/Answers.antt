@@ -3,18 +3,18 @@ use Rattle.std.proofs.lemmas.Result.{err_from_is_err_and}
 use Rattle.bb_chooser.specs.Choosing.{last_chosen_of}
 use Rattle.bb_chooser.specs.Counting.{chosen_target, mark_good_of}
 use Rattle.bb_copies.specs.Store.{used_after}
-use Rattle.bb_state.specs.State.{laid_of}
+use Rattle.bb_state.specs.State.{keyed_of}
 use Rattle.bb_state.specs.declared.state.State.{State}
 use Rattle.bb_state.proofs.Mounting.{sized_fits}
-use Rattle.bb_tool.specs.Marking.{good_text, lost_place}
+use Rattle.bb_tool.specs.Marking.{good_text}
 use Rattle.bb_tool.specs.Plan.{Good}
 use Rattle.bb_tool.specs.Refusal.{copy_refusal}
-use Rattle.bb_tool.specs.Session.{loaded_area}
+use Rattle.bb_tool.specs.Session.{barred, loaded_area}
 use Rattle.bb_tool.specs.Work.{IsFound, taken}
 use Rattle.bb_tool.specs.declared.refusal.Refusal.TheVariants as refusals
 use Rattle.bb_tool.proofs.Kept.{load_area}
-use Rattle.bb_tool.proofs.Unmarked.{kept_is_found, lost_is, lost_unchanged}
-use Rattle.bb_tool.proofs.Worked.{begun_later, begun_starts, changed_err, changed_ok, load_refused, stored_out, stored_textless, unmarked_out}
+use Rattle.bb_tool.proofs.Barred.{kept_is_found, lost_is, lost_unchanged}
+use Rattle.bb_tool.proofs.Worked.{begun_later, begun_starts, changed_err, changed_ok, load_refused, stored_out, stored_textless, told_whole, barred_out}
 use Rattle.bb_tool.proofs.mark_good.mark_on.Goals as goal
 
 pub returns-in_err-load-clause-gives : goal.returns-in_err-load-clause-gives
@@ -24,7 +24,7 @@ returns-in_err-load-clause-gives g c =
     let area = c.load.new.self.table in
     let fault = c.in_err-load.field-0.0 in
     let p = err_from_is_err_and c.from_residual.result c.from_residual.ensures.1 in
-    load_refused (laid_of c.args.state.now) (Good c.args.chooser.now) area from to fault
+    load_refused (keyed_of c.args.state.now) (Good c.args.chooser.now) area from to fault
     c.from_residual.result refl c.requires.many
     (record {
       images = c.in_err-load.ensures.images;
@@ -46,7 +46,7 @@ returns-then-not-mark_good-clause-gives g c =
     let first = c.load.new.self in
     let loaded = c.in_ok-load.field-0 in
     let not : IsSome (chosen_target targets first.table) → ⊥ = λ some. (let is = c.mark_good.ensures.good.1 some in cc) in
-    unmarked_out (laid_of c.args.state.now) (Good targets) from to first.table loaded (last_chosen_of targets first.table) refl c.requires.many
+    barred_out (keyed_of c.args.state.now) (Good targets) from to first.table loaded (refusals.NoGood (last_chosen_of targets first.table)) refl c.requires.many
     (record {
       images = c.in_ok-load.ensures.images;
       outside = c.in_ok-load.ensures.outside;
@@ -63,7 +63,7 @@ returns-then-not-mark_good-clause-gives g c =
 
 pub save-requires-clause-fits : goal.save-requires-clause-fits
 save-requires-clause-fits g c =
-    sized_fits c.load.new.self.backing.layout c.mark_good.new.table
+    sized_fits c.load.new.self.backing.keyed c.mark_good.new.table
     (c.mark_good.ensures.others.same_length ∙ c.in_ok-load.ensures.sized)
 
 pub returns-in_err-save-clause-gives : goal.returns-in_err-save-clause-gives
@@ -74,19 +74,19 @@ returns-in_err-save-clause-gives g c =
     let targets = c.args.chooser.now in
     let first = c.load.new.self in
     let loaded = c.in_ok-load.field-0 in
-    let layout = laid_of c.args.state.now in
+    let keyed = keyed_of c.args.state.now in
     let new = mark_good_of targets first.table in
     let marked : State = record first { table = c.mark_good.new.table } in
-    let begun = changed_err first marked layout new loaded mid to c.save.new.self.backing.used refl c.mark_good.ensures.marked
-    c.in_ok-load.ensures.layout c.in_ok-load.ensures.used c.in_ok-load.ensures.sure c.in_ok-load.ensures.kept
+    let begun = changed_err first marked keyed new loaded mid to c.save.new.self.backing.used refl c.mark_good.ensures.marked
+    c.in_ok-load.ensures.keyed c.in_ok-load.ensures.used c.in_ok-load.ensures.sure c.in_ok-load.ensures.kept
     c.in_err-save.ensures.runs c.in_err-save.ensures.idle c.in_err-save.field-0.0
     (λ is. (let h = c.in_err-save.ensures.same is in cc))
     (λ is. (let unsure = c.in_err-save.ensures.unsure.0 (ap (λ f. Err f) is) in let sure = c.in_ok-load.ensures.sure in cc))
     c.in_err-save.ensures.fails in
     let p = err_from_is_err_and c.from_residual-in_err-save.result c.from_residual-in_err-save.ensures.1 in
-    let marks : lost_place targets first.table ≡ None =
+    let marks : barred (Good targets) first.table ≡ None =
     kept_is_found targets first.table (c.mark_good.ensures.good.0 (cc)) in
-    stored_out layout (Good targets) from mid to first.table loaded refl c.requires.many
+    stored_out keyed (Good targets) from mid to first.table loaded refl c.requires.many
     (record {
       images = c.in_ok-load.ensures.images;
       outside = c.in_ok-load.ensures.outside;
@@ -107,16 +107,16 @@ returns-in_err-save-clause-later g c =
     let targets = c.args.chooser.now in
     let first = c.load.new.self in
     let loaded = c.in_ok-load.field-0 in
-    let layout = laid_of c.args.state.now in
+    let keyed = keyed_of c.args.state.now in
     let new = mark_good_of targets first.table in
     let marked : State = record first { table = c.mark_good.new.table } in
-    let begun = changed_err first marked layout new loaded mid to c.save.new.self.backing.used refl c.mark_good.ensures.marked
-    c.in_ok-load.ensures.layout c.in_ok-load.ensures.used c.in_ok-load.ensures.sure c.in_ok-load.ensures.kept
+    let begun = changed_err first marked keyed new loaded mid to c.save.new.self.backing.used refl c.mark_good.ensures.marked
+    c.in_ok-load.ensures.keyed c.in_ok-load.ensures.used c.in_ok-load.ensures.sure c.in_ok-load.ensures.kept
     c.in_err-save.ensures.runs c.in_err-save.ensures.idle c.in_err-save.field-0.0
     (λ is. (let h = c.in_err-save.ensures.same is in cc))
     (λ is. (let unsure = c.in_err-save.ensures.unsure.0 (ap (λ f. Err f) is) in let sure = c.in_ok-load.ensures.sure in cc))
     c.in_err-save.ensures.fails in
-    begun_later layout (used_after loaded) _ begun.saves from mid to begun.are c.in_ok-load.ensures.later
+    begun_later keyed (used_after loaded) _ begun.saves from mid to begun.are c.in_ok-load.ensures.later
 
 pub returns-in_err-save-clause-starts : goal.returns-in_err-save-clause-starts
 returns-in_err-save-clause-starts g c =
@@ -126,16 +126,16 @@ returns-in_err-save-clause-starts g c =
     let targets = c.args.chooser.now in
     let first = c.load.new.self in
     let loaded = c.in_ok-load.field-0 in
-    let layout = laid_of c.args.state.now in
+    let keyed = keyed_of c.args.state.now in
     let new = mark_good_of targets first.table in
     let marked : State = record first { table = c.mark_good.new.table } in
-    let begun = changed_err first marked layout new loaded mid to c.save.new.self.backing.used refl c.mark_good.ensures.marked
-    c.in_ok-load.ensures.layout c.in_ok-load.ensures.used c.in_ok-load.ensures.sure c.in_ok-load.ensures.kept
+    let begun = changed_err first marked keyed new loaded mid to c.save.new.self.backing.used refl c.mark_good.ensures.marked
+    c.in_ok-load.ensures.keyed c.in_ok-load.ensures.used c.in_ok-load.ensures.sure c.in_ok-load.ensures.kept
     c.in_err-save.ensures.runs c.in_err-save.ensures.idle c.in_err-save.field-0.0
     (λ is. (let h = c.in_err-save.ensures.same is in cc))
     (λ is. (let unsure = c.in_err-save.ensures.unsure.0 (ap (λ f. Err f) is) in let sure = c.in_ok-load.ensures.sure in cc))
     c.in_err-save.ensures.fails in
-    begun_starts layout (used_after loaded) _ begun.saves from mid to begun.are c.in_ok-load.ensures.starts
+    begun_starts keyed (used_after loaded) _ begun.saves from mid to begun.are c.in_ok-load.ensures.starts
 
 pub returns-in_err-good_text-clause-gives : goal.returns-in_err-good_text-clause-gives
 returns-in_err-good_text-clause-gives g c =
@@ -145,16 +145,16 @@ returns-in_err-good_text-clause-gives g c =
     let targets = c.args.chooser.now in
     let first = c.load.new.self in
     let loaded = c.in_ok-load.field-0 in
-    let layout = laid_of c.args.state.now in
+    let keyed = keyed_of c.args.state.now in
     let new = mark_good_of targets first.table in
     let marked : State = record first { table = c.mark_good.new.table } in
-    let begun = changed_ok first marked layout new loaded mid to c.save.new.self.backing.used refl c.mark_good.ensures.marked
-    c.in_ok-load.ensures.layout c.in_ok-load.ensures.used c.in_ok-load.ensures.sure c.in_ok-load.ensures.kept
+    let begun = changed_ok first marked keyed new loaded mid to c.save.new.self.backing.used refl c.mark_good.ensures.marked
+    c.in_ok-load.ensures.keyed c.in_ok-load.ensures.used c.in_ok-load.ensures.sure c.in_ok-load.ensures.kept
     c.in_ok-save.ensures.runs c.in_ok-save.ensures.idle c.in_ok-save.ensures.saved c.in_ok-save.ensures.exact in
     let p = err_from_is_err_and c.from_residual-in_err-good_text.result c.from_residual-in_err-good_text.ensures.1 in
-    let marks : lost_place targets first.table ≡ None =
+    let marks : barred (Good targets) first.table ≡ None =
     kept_is_found targets first.table (c.mark_good.ensures.good.0 (cc)) in
-    stored_textless layout (Good targets) from mid to first.table loaded refl c.requires.many
+    stored_textless keyed (Good targets) from mid to first.table loaded refl c.requires.many
     (record {
       images = c.in_ok-load.ensures.images;
       outside = c.in_ok-load.ensures.outside;
@@ -165,7 +165,7 @@ returns-in_err-good_text-clause-gives g c =
       exact = c.in_ok-load.ensures.exact;
       fails = tt;
     })
-    (λ text. Ok text) begun marks (λ text. refl) c.from_residual-in_err-good_text.result (p.1 ∙ ap (λ e. Err e) p.2)
+    (λ text. Ok (told_whole text)) begun marks (λ text. refl) c.from_residual-in_err-good_text.result (p.1 ∙ ap (λ e. Err e) p.2)
 
 pub returns-in_err-good_text-clause-later : goal.returns-in_err-good_text-clause-later
 returns-in_err-good_text-clause-later g c =
@@ -175,13 +175,13 @@ returns-in_err-good_text-clause-later g c =
     let targets = c.args.chooser.now in
     let first = c.load.new.self in
     let loaded = c.in_ok-load.field-0 in
-    let layout = laid_of c.args.state.now in
+    let keyed = keyed_of c.args.state.now in
     let new = mark_good_of targets first.table in
     let marked : State = record first { table = c.mark_good.new.table } in
-    let begun = changed_ok first marked layout new loaded mid to c.save.new.self.backing.used refl c.mark_good.ensures.marked
-    c.in_ok-load.ensures.layout c.in_ok-load.ensures.used c.in_ok-load.ensures.sure c.in_ok-load.ensures.kept
+    let begun = changed_ok first marked keyed new loaded mid to c.save.new.self.backing.used refl c.mark_good.ensures.marked
+    c.in_ok-load.ensures.keyed c.in_ok-load.ensures.used c.in_ok-load.ensures.sure c.in_ok-load.ensures.kept
     c.in_ok-save.ensures.runs c.in_ok-save.ensures.idle c.in_ok-save.ensures.saved c.in_ok-save.ensures.exact in
-    begun_later layout (used_after loaded) _ begun.saves from mid to begun.are c.in_ok-load.ensures.later
+    begun_later keyed (used_after loaded) _ begun.saves from mid to begun.are c.in_ok-load.ensures.later
 
 pub returns-in_err-good_text-clause-starts : goal.returns-in_err-good_text-clause-starts
 returns-in_err-good_text-clause-starts g c =
@@ -191,13 +191,13 @@ returns-in_err-good_text-clause-starts g c =
     let targets = c.args.chooser.now in
     let first = c.load.new.self in
     let loaded = c.in_ok-load.field-0 in
-    let layout = laid_of c.args.state.now in
+    let keyed = keyed_of c.args.state.now in
     let new = mark_good_of targets first.table in
     let marked : State = record first { table = c.mark_good.new.table } in
-    let begun = changed_ok first marked layout new loaded mid to c.save.new.self.backing.used refl c.mark_good.ensures.marked
-    c.in_ok-load.ensures.layout c.in_ok-load.ensures.used c.in_ok-load.ensures.sure c.in_ok-load.ensures.kept
+    let begun = changed_ok first marked keyed new loaded mid to c.save.new.self.backing.used refl c.mark_good.ensures.marked
+    c.in_ok-load.ensures.keyed c.in_ok-load.ensures.used c.in_ok-load.ensures.sure c.in_ok-load.ensures.kept
     c.in_ok-save.ensures.runs c.in_ok-save.ensures.idle c.in_ok-save.ensures.saved c.in_ok-save.ensures.exact in
-    begun_starts layout (used_after loaded) _ begun.saves from mid to begun.are c.in_ok-load.ensures.starts
+    begun_starts keyed (used_after loaded) _ begun.saves from mid to begun.are c.in_ok-load.ensures.starts
 
 pub returns-clause-gives : goal.returns-clause-gives
 returns-clause-gives g c =
@@ -207,18 +207,18 @@ returns-clause-gives g c =
     let targets = c.args.chooser.now in
     let first = c.load.new.self in
     let loaded = c.in_ok-load.field-0 in
-    let layout = laid_of c.args.state.now in
+    let keyed = keyed_of c.args.state.now in
     let new = mark_good_of targets first.table in
     let marked : State = record first { table = c.mark_good.new.table } in
-    let begun = changed_ok first marked layout new loaded mid to c.save.new.self.backing.used refl c.mark_good.ensures.marked
-    c.in_ok-load.ensures.layout c.in_ok-load.ensures.used c.in_ok-load.ensures.sure c.in_ok-load.ensures.kept
+    let begun = changed_ok first marked keyed new loaded mid to c.save.new.self.backing.used refl c.mark_good.ensures.marked
+    c.in_ok-load.ensures.keyed c.in_ok-load.ensures.used c.in_ok-load.ensures.sure c.in_ok-load.ensures.kept
     c.in_ok-save.ensures.runs c.in_ok-save.ensures.idle c.in_ok-save.ensures.saved c.in_ok-save.ensures.exact in
-    let marks : lost_place targets first.table ≡ None =
+    let marks : barred (Good targets) first.table ≡ None =
     kept_is_found targets first.table (c.mark_good.ensures.good.0 (cc)) in
-    let found : IsFound layout first.table loaded from mid =
+    let found : IsFound keyed first.table loaded from mid =
     record { gives = c.in_ok-load.ensures.gives; defaults = c.in_ok-load.ensures.defaults; exact = c.in_ok-load.ensures.exact } in
-    let whole : loaded_area layout (taken first.table loaded) ≡ first.table = load_area layout first.table loaded from mid found in
-    stored_out layout (Good targets) from mid to first.table loaded refl c.requires.many
+    let whole : loaded_area keyed.layout (taken first.table loaded) ≡ first.table = load_area keyed first.table loaded from mid found in
+    stored_out keyed (Good targets) from mid to first.table loaded refl c.requires.many
     (record {
       images = c.in_ok-load.ensures.images;
       outside = c.in_ok-load.ensures.outside;
@@ -229,8 +229,8 @@ returns-clause-gives g c =
       exact = c.in_ok-load.ensures.exact;
       fails = tt;
     })
-    (λ text. Ok text) begun marks (Ok c.in_ok-good_text.field-0)
-    (ap (λ (t : List ℕ). Ok t)
+    (λ text. Ok (told_whole text)) begun marks (Ok c.done.result)
+    (ap (λ r. Ok r) c.done.ensures ∙ ap (λ (t : List ℕ). Ok (told_whole t))
     (c.in_ok-good_text.ensures
     ∙ ap (good_text targets)
     (c.in_ok-save.ensures.table ∙ c.mark_good.ensures.marked ∙ ap (mark_good_of targets) (sym whole))))
@@ -243,13 +243,13 @@ returns-clause-later g c =
     let targets = c.args.chooser.now in
     let first = c.load.new.self in
     let loaded = c.in_ok-load.field-0 in
-    let layout = laid_of c.args.state.now in
+    let keyed = keyed_of c.args.state.now in
     let new = mark_good_of targets first.table in
     let marked : State = record first { table = c.mark_good.new.table } in
-    let begun = changed_ok first marked layout new loaded mid to c.save.new.self.backing.used refl c.mark_good.ensures.marked
-    c.in_ok-load.ensures.layout c.in_ok-load.ensures.used c.in_ok-load.ensures.sure c.in_ok-load.ensures.kept
+    let begun = changed_ok first marked keyed new loaded mid to c.save.new.self.backing.used refl c.mark_good.ensures.marked
+    c.in_ok-load.ensures.keyed c.in_ok-load.ensures.used c.in_ok-load.ensures.sure c.in_ok-load.ensures.kept
     c.in_ok-save.ensures.runs c.in_ok-save.ensures.idle c.in_ok-save.ensures.saved c.in_ok-save.ensures.exact in
-    begun_later layout (used_after loaded) _ begun.saves from mid to begun.are c.in_ok-load.ensures.later
+    begun_later keyed (used_after loaded) _ begun.saves from mid to begun.are c.in_ok-load.ensures.later
 
 pub returns-clause-starts : goal.returns-clause-starts
 returns-clause-starts g c =
@@ -259,10 +259,10 @@ returns-clause-starts g c =
     let targets = c.args.chooser.now in
     let first = c.load.new.self in
     let loaded = c.in_ok-load.field-0 in
-    let layout = laid_of c.args.state.now in
+    let keyed = keyed_of c.args.state.now in
     let new = mark_good_of targets first.table in
     let marked : State = record first { table = c.mark_good.new.table } in
-    let begun = changed_ok first marked layout new loaded mid to c.save.new.self.backing.used refl c.mark_good.ensures.marked
-    c.in_ok-load.ensures.layout c.in_ok-load.ensures.used c.in_ok-load.ensures.sure c.in_ok-load.ensures.kept
+    let begun = changed_ok first marked keyed new loaded mid to c.save.new.self.backing.used refl c.mark_good.ensures.marked
+    c.in_ok-load.ensures.keyed c.in_ok-load.ensures.used c.in_ok-load.ensures.sure c.in_ok-load.ensures.kept
     c.in_ok-save.ensures.runs c.in_ok-save.ensures.idle c.in_ok-save.ensures.saved c.in_ok-save.ensures.exact in
-    begun_starts layout (used_after loaded) _ begun.saves from mid to begun.are c.in_ok-load.ensures.starts
+    begun_starts keyed (used_after loaded) _ begun.saves from mid to begun.are c.in_ok-load.ensures.starts

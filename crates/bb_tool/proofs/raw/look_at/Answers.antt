@@ -2,16 +2,16 @@ use Rattle.std.proofs.Common.{◌≡◌, ◌∙◌, Err, ap, option_map, arith}
 use Rattle.std.proofs.lemmas.Result.{err_from_is_err_and}
 use Rattle.std.specs.Bool.{then_some}
 use Rattle.std.specs.Vec.{with_items}
-use Rattle.bb_state.specs.State.{laid_of}
+use Rattle.bb_state.specs.State.{keyed_of}
 use Rattle.bb_tool.specs.Looking.{look_text}
-use Rattle.bb_tool.proofs.Worked.{look_done, look_refused, look_textless, look_told, refilled, take-refill}
+use Rattle.bb_tool.proofs.Worked.{look_done, look_refused, look_textless, look_told, refilled, take-refill, told_whole}
 use Rattle.bb_tool.proofs.raw.look_at.Goals as goal
 
 pub returns-in_err-found-clause-gives : goal.returns-in_err-found-clause-gives
 returns-in_err-found-clause-gives g c =
     let p = err_from_is_err_and c.from_residual.result c.from_residual.ensures.1 in
     let keeps = c.in_err-found.ensures.keeps in
-    look_refused (laid_of c.args.state.now) (g.F.Flash.device c.args.flash.now) (g.F.Flash.device c.look.new.flash)
+    look_refused (keyed_of c.args.state.now) (g.F.Flash.device c.args.flash.now) (g.F.Flash.device c.look.new.flash)
     c.in_err-found.field-0.0 c.from_residual.result
     (record {
       told = λ image told. tt;
@@ -30,10 +30,10 @@ pub returns-in_err-look_text-clause-gives : goal.returns-in_err-look_text-clause
 returns-in_err-look_text-clause-gives g c =
     let p = err_from_is_err_and c.from_residual-in_err-look_text.result c.from_residual-in_err-look_text.ensures.1 in
     let keeps = c.in_ok-found.ensures.keeps in
-    look_textless (laid_of c.args.state.now) (g.F.Flash.device c.args.flash.now) (g.F.Flash.device c.look.new.flash)
+    look_textless (keyed_of c.args.state.now) (g.F.Flash.device c.args.flash.now) (g.F.Flash.device c.look.new.flash)
     (then_some c.in_ok-found.found c.look.new.area) c.from_residual-in_err-look_text.result
     (record {
-      told = look_told (laid_of c.args.state.now) c.look.new.area c.in_ok-found.found (g.F.Flash.device c.args.flash.now)
+      told = look_told (keyed_of c.args.state.now) c.look.new.area c.in_ok-found.found (g.F.Flash.device c.args.flash.now)
           c.in_ok-found.ensures.gives;
       fails = tt;
       faults = c.in_ok-found.ensures.faults;
@@ -51,10 +51,10 @@ returns-clause-gives g c =
     let keeps = c.in_ok-found.ensures.keeps in
     let filled = with_items c.args.area c.look.new.area in
     let items : filled.items ≡ c.look.new.area = take-refill _ _ _ (omega (arith, c.requires.sized, c.look.auto.area, c.deref_mut.ensures.len)) in
-    look_done (laid_of c.args.state.now) (g.F.Flash.device c.args.flash.now) (g.F.Flash.device c.look.new.flash)
+    look_done (keyed_of c.args.state.now) (g.F.Flash.device c.args.flash.now) (g.F.Flash.device c.look.new.flash)
     (then_some c.in_ok-found.found c.look.new.area) _
     (record {
-      told = look_told (laid_of c.args.state.now) c.look.new.area c.in_ok-found.found (g.F.Flash.device c.args.flash.now)
+      told = look_told (keyed_of c.args.state.now) c.look.new.area c.in_ok-found.found (g.F.Flash.device c.args.flash.now)
           c.in_ok-found.ensures.gives;
       fails = tt;
       faults = c.in_ok-found.ensures.faults;
@@ -65,5 +65,6 @@ returns-clause-gives g c =
         starts = record { starts = keeps.starts; start_faults = keeps.start_faults };
       };
     })
-    (c.in_ok-look_text.ensures ∙ ap look_text (ap (option_map (λ area. area.items)) c.then_some.ensures
-    ∙ refilled c.in_ok-found.found filled c.look.new.area items))
+    (c.done.ensures ∙ ap told_whole (c.in_ok-look_text.ensures
+    ∙ ap look_text (ap (option_map (λ area. area.items)) c.then_some.ensures
+    ∙ refilled c.in_ok-found.found filled c.look.new.area items)))

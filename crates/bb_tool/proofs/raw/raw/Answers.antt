@@ -1,4 +1,4 @@
-use Rattle.std.proofs.Common.{◌∙◌, ℕ, List, Result, Err, ap, sym, subst}
+use Rattle.std.proofs.Common.{◌∙◌, ℕ, List, None, Result, Err, ap, sym, subst}
 use Rattle.std.proofs.lemmas.Result.{err_from_is_err_and}
 use Rattle.bb_flash.specs.declared.geometry.Geometry.{Geometry}
 use Rattle.bb_layout.specs.Layout.{laid}
@@ -7,6 +7,7 @@ use Rattle.bb_tool.specs.Ending.{IsGiven}
 use Rattle.bb_tool.specs.Plan.{Show, Write, raw_work}
 use Rattle.bb_tool.specs.Work.{IsWorkedOut}
 use Rattle.bb_tool.specs.declared.refusal.Refusal.{Refusal}
+use Rattle.bb_tool.specs.declared.report.Report.{Report}
 use Rattle.bb_tool.proofs.Given.{given_layout, given_raw}
 use Rattle.bb_tool.proofs.raw.raw.Goals as goal
 
@@ -16,7 +17,7 @@ returns-in_err-layout-clause-gives g c = λ words folder is.
     let command = c.args.command in
     let p = err_from_is_err_and c.from_residual.result c.from_residual.ensures.1 in
     let given = p.1 ∙ ap (λ e. Err e) p.2 in
-    subst (λ (r : Result (List ℕ) Refusal). IsGiven words folder folder device device r) (sym given)
+    subst (λ (r : Result Report Refusal). IsGiven words folder folder device device r) (sym given)
     (given_layout words folder device command c.in_err-layout.field-0.0 is
     (λ some. ap (λ (geometry : Geometry). raw_layout command.magic command.area_len geometry) (sym c.geometry.ensures.value) ∙ c.in_err-layout.ensures.refused some))
 
@@ -37,4 +38,4 @@ returns-in-Write-clause-gives g c = λ words folder is.
     let layout = laid c.in_ok-layout.layout in
     let planned = ap (λ (geometry : Geometry). raw_layout command.magic command.area_len geometry) (sym c.geometry.ensures.value) ∙ c.in_ok-layout.ensures.ok in
     given_raw words folder before after command layout (Write c.in-Write.area) c.save.result is (ap raw_work c.in-Write.is) planned
-    (subst (λ (a : List ℕ). IsWorkedOut layout (Write a) before after c.save.result) (c.as_slice.ensures ∙ c.in-Write.area-is) c.save.ensures.gives)
+    (subst (λ (a : List ℕ). IsWorkedOut (record { layout = layout; key = None }) (Write a) before after c.save.result) (c.as_slice.ensures ∙ c.in-Write.area-is) c.save.ensures.gives)

@@ -1,14 +1,14 @@
-use Rattle.std.proofs.Common.{◌≡◌, ◌∙◌, ℕ, List, Option, Ok, Err, ap, sym, subst, refl}
+use Rattle.std.proofs.Common.{◌≡◌, ◌∙◌, ℕ, false, List, Option, Ok, Err, ap, sym, subst, refl}
 use Rattle.std.proofs.lemmas.Result.{err_from_is_err_and}
 use Rattle.bb_copies.specs.Store.{used_after}
 use Rattle.bb_flash.proofs.Moments.{later_joined}
-use Rattle.bb_layout.specs.Layout.{Laid}
-use Rattle.bb_state.specs.State.{laid_of}
+use Rattle.bb_state.specs.Keyed.{Keyed}
+use Rattle.bb_state.specs.State.{keyed_of}
 use Rattle.bb_state.proofs.Mounting.{sized_fits}
 use Rattle.bb_tool.specs.Plan.{Write}
 use Rattle.bb_tool.specs.Refusal.{copy_refusal}
 use Rattle.bb_tool.specs.Work.{IsSaved}
-use Rattle.bb_tool.proofs.Worked.{load_refused, put_whole, saved_err, saved_ok, stored_out}
+use Rattle.bb_tool.proofs.Worked.{load_refused, put_whole, saved_err, saved_ok, stored_out, told_whole}
 use Rattle.bb_tool.proofs.raw.save_on.Goals as goal
 
 pub returns-in_err-load-clause-gives : goal.returns-in_err-load-clause-gives
@@ -18,7 +18,7 @@ returns-in_err-load-clause-gives g c =
     let area = c.load.new.self.table in
     let fault = c.in_err-load.field-0.0 in
     let p = err_from_is_err_and c.from_residual.result c.from_residual.ensures.1 in
-    load_refused (laid_of c.args.state.now) (Write c.args.area.now) area from to fault
+    load_refused (keyed_of c.args.state.now) (Write c.args.area.now) area from to fault
     c.from_residual.result refl c.requires.many
     (record {
       images = c.in_err-load.ensures.images;
@@ -34,7 +34,7 @@ returns-in_err-load-clause-gives g c =
 
 pub save_always-requires-clause-fits : goal.save_always-requires-clause-fits
 save_always-requires-clause-fits g c =
-    sized_fits c.load.new.self.backing.layout c.put.new.self
+    sized_fits c.load.new.self.backing.keyed c.put.new.self
     (c.put.ensures.same_length ∙ c.in_ok-load.ensures.sized)
 
 pub returns-in_err-save_always-clause-gives : goal.returns-in_err-save_always-clause-gives
@@ -42,14 +42,14 @@ returns-in_err-save_always-clause-gives g c =
     let from = g.F.Flash.device c.args.flash.now in
     let mid = g.F.Flash.device c.load.new.flash in
     let to = g.F.Flash.device c.save_always.new.flash in
-    let layout = laid_of c.args.state.now in
+    let keyed = keyed_of c.args.state.now in
     let table = c.load.new.self.table in
     let loaded = c.in_ok-load.field-0 in
     let fault = c.in_err-save_always.field-0.0 in
-    let same = c.in_ok-load.ensures.layout in
+    let same = c.in_ok-load.ensures.keyed in
     let p = err_from_is_err_and c.from_residual-in_err-save_always.result c.from_residual-in_err-save_always.ensures.1 in
-    let new : c.put.new.self ≡ c.args.area.now = c.put.ensures.replaced ∙ put_whole table c.args.area.now (c.requires.sized ∙ sym (c.in_ok-load.ensures.sized ∙ ap (λ (l : Laid). l.area_len) same)) in
-    let done : IsSaved c.load.new.self.backing.layout c.load.new.self.backing.used c.put.new.self mid to (Err fault) = record {
+    let new : c.put.new.self ≡ c.args.area.now = c.put.ensures.replaced ∙ put_whole table c.args.area.now (c.requires.sized ∙ sym (c.in_ok-load.ensures.sized ∙ ap (λ (l : Keyed). l.layout.area_len) same)) in
+    let done : IsSaved c.load.new.self.backing.keyed c.load.new.self.backing.used c.put.new.self mid to (Err fault) = record {
       now = c.save_always.new.self.backing.used;
       runs = c.in_err-save_always.ensures.runs;
       stored = tt;
@@ -57,7 +57,7 @@ returns-in_err-save_always-clause-gives g c =
       sure = λ is. (let unsure = c.in_err-save_always.ensures.unsure.0 (ap (λ f. Err f) is) in let sure = c.in_ok-load.ensures.sure in cc);
       exact = λ calm. tt;
     } in
-    stored_out layout (Write c.args.area.now) from mid to table loaded refl c.requires.many
+    stored_out keyed (Write c.args.area.now) from mid to table loaded refl c.requires.many
     (record {
       images = c.in_ok-load.ensures.images;
       outside = c.in_ok-load.ensures.outside;
@@ -69,10 +69,10 @@ returns-in_err-save_always-clause-gives g c =
       fails = tt;
     })
     (λ text. Err (copy_refusal fault))
-    (saved_err layout (used_after loaded) c.args.area.now mid to fault
-    (subst (λ (l : Laid). IsSaved l (used_after loaded) c.args.area.now mid to (Err fault)) same
-    (subst (λ (u : Option ℕ). IsSaved c.load.new.self.backing.layout u c.args.area.now mid to (Err fault)) c.in_ok-load.ensures.used
-    (subst (λ (a : List ℕ). IsSaved c.load.new.self.backing.layout c.load.new.self.backing.used a mid to (Err fault)) new done))))
+    (saved_err keyed (used_after loaded) c.args.area.now mid to fault
+    (subst (λ (l : Keyed). IsSaved l (used_after loaded) c.args.area.now mid to (Err fault)) same
+    (subst (λ (u : Option ℕ). IsSaved c.load.new.self.backing.keyed u c.args.area.now mid to (Err fault)) c.in_ok-load.ensures.used
+    (subst (λ (a : List ℕ). IsSaved c.load.new.self.backing.keyed c.load.new.self.backing.used a mid to (Err fault)) new done))))
     refl c.from_residual-in_err-save_always.result
     (p.1 ∙ ap (λ e. Err e) p.2)
 
@@ -81,12 +81,12 @@ returns-clause-gives g c =
     let from = g.F.Flash.device c.args.flash.now in
     let mid = g.F.Flash.device c.load.new.flash in
     let to = g.F.Flash.device c.save_always.new.flash in
-    let layout = laid_of c.args.state.now in
+    let keyed = keyed_of c.args.state.now in
     let table = c.load.new.self.table in
     let loaded = c.in_ok-load.field-0 in
-    let same = c.in_ok-load.ensures.layout in
-    let new : c.put.new.self ≡ c.args.area.now = c.put.ensures.replaced ∙ put_whole table c.args.area.now (c.requires.sized ∙ sym (c.in_ok-load.ensures.sized ∙ ap (λ (l : Laid). l.area_len) same)) in
-    let done : IsSaved c.load.new.self.backing.layout c.load.new.self.backing.used c.put.new.self mid to (Ok tt) = record {
+    let same = c.in_ok-load.ensures.keyed in
+    let new : c.put.new.self ≡ c.args.area.now = c.put.ensures.replaced ∙ put_whole table c.args.area.now (c.requires.sized ∙ sym (c.in_ok-load.ensures.sized ∙ ap (λ (l : Keyed). l.layout.area_len) same)) in
+    let done : IsSaved c.load.new.self.backing.keyed c.load.new.self.backing.used c.put.new.self mid to (Ok false) = record {
       now = c.save_always.new.self.backing.used;
       runs = c.in_ok-save_always.ensures.runs;
       stored = c.in_ok-save_always.ensures.saved;
@@ -94,7 +94,7 @@ returns-clause-gives g c =
       sure = tt;
       exact = c.in_ok-save_always.ensures.exact;
     } in
-    stored_out layout (Write c.args.area.now) from mid to table loaded refl c.requires.many
+    stored_out keyed (Write c.args.area.now) from mid to table loaded refl c.requires.many
     (record {
       images = c.in_ok-load.ensures.images;
       outside = c.in_ok-load.ensures.outside;
@@ -105,13 +105,13 @@ returns-clause-gives g c =
       exact = c.in_ok-load.ensures.exact;
       fails = tt;
     })
-    (λ text. Ok text)
-    (saved_ok layout (used_after loaded) c.args.area.now mid to
-    (subst (λ (l : Laid). IsSaved l (used_after loaded) c.args.area.now mid to (Ok tt)) same
-    (subst (λ (u : Option ℕ). IsSaved c.load.new.self.backing.layout u c.args.area.now mid to (Ok tt)) c.in_ok-load.ensures.used
-    (subst (λ (a : List ℕ). IsSaved c.load.new.self.backing.layout c.load.new.self.backing.used a mid to (Ok tt)) new done))))
-    refl (Ok c.none.result)
-    (ap (λ (t : List ℕ). Ok t) c.none.ensures)
+    (λ text. Ok (told_whole text))
+    (saved_ok keyed (used_after loaded) c.args.area.now mid to
+    (subst (λ (l : Keyed). IsSaved l (used_after loaded) c.args.area.now mid to (Ok false)) same
+    (subst (λ (u : Option ℕ). IsSaved c.load.new.self.backing.keyed u c.args.area.now mid to (Ok false)) c.in_ok-load.ensures.used
+    (subst (λ (a : List ℕ). IsSaved c.load.new.self.backing.keyed c.load.new.self.backing.used a mid to (Ok false)) new done))))
+    refl (Ok c.done.result)
+    (ap (λ r. Ok r) c.done.ensures ∙ ap (λ (t : List ℕ). Ok (told_whole t)) c.none.ensures)
 
 pub returns-in_err-save_always-clause-later : goal.returns-in_err-save_always-clause-later
 returns-in_err-save_always-clause-later g c =

@@ -4,7 +4,9 @@ use Rattle.bb_tool.proofs.Endings.{at_exit, bad_words_of, beside, comes_alone, c
 use Rattle.bb_tool.proofs.Early.{early_memory_of, early_of}
 use Rattle.bb_tool.proofs.Exact.{alike_of, written_of}
 use Rattle.bb_tool.proofs.Faults.{unread_of, write_faults_of}
-use Rattle.bb_tool.proofs.Tables.{no_good_of}
+use Rattle.bb_tool.proofs.InTurn.{boots_of}
+use Rattle.bb_tool.proofs.Starting.{rounds_of, start_causes_of, start_failed_of, start_faults_of, starts_of, starts_once_of, starts_saved_of}
+use Rattle.bb_tool.proofs.Tables.{no_good_of, no_target_of}
 use Rattle.bb_tool.proofs.Wholes.{undisturbed_alone_of, undisturbed_of}
 use Rattle.bb_tool.proofs.session.run.Goals as goal
 
@@ -28,6 +30,9 @@ returns-clause-bad_words g c = bad_words_of _ c.answer.ensures.session
 
 pub returns-clause-bad_tree : goal.returns-clause-bad_tree
 returns-clause-bad_tree g c = comes_planned _ c.answer.ensures.session statuses.BadTree refl (λ h. cc) (λ h. cc) (λ h. cc)
+
+pub returns-clause-bad_key : goal.returns-clause-bad_key
+returns-clause-bad_key g c = comes_planned _ c.answer.ensures.session statuses.BadKey refl (λ h. cc) (λ h. cc) (λ h. cc)
 
 pub returns-clause-bad_layout : goal.returns-clause-bad_layout
 returns-clause-bad_layout g c = comes_planned _ c.answer.ensures.session statuses.BadLayout refl (λ h. cc) (λ h. cc) (λ h. cc)
@@ -91,3 +96,30 @@ returns-clause-read_fault_content g c = unread_of _ c.answer.ensures.session
 
 pub returns-clause-write_fault_cause : goal.returns-clause-write_fault_cause
 returns-clause-write_fault_cause g c = write_faults_of _ c.answer.ensures.session
+
+pub returns-clause-rounds : goal.returns-clause-rounds
+returns-clause-rounds g c = rounds_of _ c.answer.ensures.session
+
+pub returns-clause-boots : goal.returns-clause-boots
+returns-clause-boots g c = boots_of _ c.answer.ensures.session
+
+pub returns-clause-starts : goal.returns-clause-starts
+returns-clause-starts g c = starts_of _ c.answer.ensures.session
+
+pub returns-clause-starts_once : goal.returns-clause-starts_once
+returns-clause-starts_once g c = starts_once_of _ c.answer.ensures.session
+
+pub returns-clause-starts_saved : goal.returns-clause-starts_saved
+returns-clause-starts_saved g c = starts_saved_of _ c.answer.ensures.session
+
+pub returns-clause-start_faults : goal.returns-clause-start_faults
+returns-clause-start_faults g c = start_faults_of _ c.answer.ensures.session
+
+pub returns-clause-no_target : goal.returns-clause-no_target
+returns-clause-no_target g c = no_target_of _ c.answer.ensures.session
+
+pub returns-clause-start_failed : goal.returns-clause-start_failed
+returns-clause-start_failed g c = start_failed_of _ c.answer.ensures.session
+
+pub returns-clause-start_failed_cause : goal.returns-clause-start_failed_cause
+returns-clause-start_failed_cause g c = start_causes_of _ c.answer.ensures.session

@@ -3,7 +3,8 @@ use Rattle.std.proofs.lemmas.Result.{err_from_is_err_and}
 use Rattle.bb_actions.specs.Actions.{actions_text, after_all}
 use Rattle.bb_copies.specs.Store.{used_after}
 use Rattle.bb_layout.specs.Layout.{Laid}
-use Rattle.bb_state.specs.State.{IsOn, is_sure, laid_of}
+use Rattle.bb_state.specs.Keyed.{Keyed}
+use Rattle.bb_state.specs.State.{IsOn, is_sure, keyed_of}
 use Rattle.bb_state.specs.declared.state.State.{State}
 use Rattle.bb_state.proofs.Mounting.{sized_fits}
 use Rattle.bb_tool.specs.Plan.{Act}
@@ -11,7 +12,7 @@ use Rattle.bb_tool.specs.Refusal.{copy_refusal}
 use Rattle.bb_tool.specs.Session.{loaded_area}
 use Rattle.bb_tool.specs.Work.{IsFound, taken}
 use Rattle.bb_tool.proofs.Kept.{load_area}
-use Rattle.bb_tool.proofs.Worked.{acted_err, acted_ok, begun_later, begun_starts, load_refused, stored_out, stored_textless}
+use Rattle.bb_tool.proofs.Worked.{acted_err, acted_ok, begun_later, begun_starts, load_refused, stored_out, stored_textless, told_whole}
 use Rattle.bb_tool.proofs.state.act_on.Goals as goal
 
 pub returns-in_err-load-clause-gives : goal.returns-in_err-load-clause-gives
@@ -21,7 +22,7 @@ returns-in_err-load-clause-gives g c =
     let area = c.load.new.self.table in
     let fault = c.in_err-load.field-0.0 in
     let p = err_from_is_err_and c.from_residual.result c.from_residual.ensures.1 in
-    load_refused (laid_of c.args.state.now) (Act c.args.actions.now) area from to fault
+    load_refused (keyed_of c.args.state.now) (Act c.args.actions.now) area from to fault
     c.from_residual.result refl c.requires.many
     (record {
       images = c.in_err-load.ensures.images;
@@ -37,7 +38,7 @@ returns-in_err-load-clause-gives g c =
 
 pub save-requires-clause-fits : goal.save-requires-clause-fits
 save-requires-clause-fits g c =
-    sized_fits c.make_sets.new.state.backing.layout c.make_sets.new.state.table c.make_sets.ensures.sized
+    sized_fits c.make_sets.new.state.backing.keyed c.make_sets.new.state.table c.make_sets.ensures.sized
 
 pub save-requires-clause-on : goal.save-requires-clause-on
 save-requires-clause-on g c =
@@ -52,15 +53,15 @@ returns-in_err-save-clause-gives g c =
     let to = g.F.Flash.device c.save.new.flash in
     let first = c.load.new.self in
     let loaded = c.in_ok-load.field-0 in
-    let layout = laid_of c.args.state.now in
+    let keyed = keyed_of c.args.state.now in
     let p = err_from_is_err_and c.from_residual-in_err-save.result c.from_residual-in_err-save.ensures.1 in
-    let begun = acted_err first c.make_sets.new.state layout c.args.actions.now loaded mid to c.save.new.self.backing.used c.make_sets.ensures.backing c.make_sets.ensures.table
-    c.in_ok-load.ensures.layout c.in_ok-load.ensures.used c.in_ok-load.ensures.sure c.in_ok-load.ensures.kept
+    let begun = acted_err first c.make_sets.new.state keyed c.args.actions.now loaded mid to c.save.new.self.backing.used c.make_sets.ensures.backing c.make_sets.ensures.table
+    c.in_ok-load.ensures.keyed c.in_ok-load.ensures.used c.in_ok-load.ensures.sure c.in_ok-load.ensures.kept
     c.in_err-save.ensures.runs c.in_err-save.ensures.idle c.in_err-save.field-0.0
     (λ is. (let h = c.in_err-save.ensures.same is in cc))
     (λ is. (let unsure = c.in_err-save.ensures.unsure.0 (ap (λ f. Err f) is) in let sure = ap is_sure c.make_sets.ensures.backing ∙ c.in_ok-load.ensures.sure in cc))
     c.in_err-save.ensures.fails in
-    stored_out layout (Act c.args.actions.now) from mid to first.table loaded refl c.requires.many
+    stored_out keyed (Act c.args.actions.now) from mid to first.table loaded refl c.requires.many
     (record {
       images = c.in_ok-load.ensures.images;
       outside = c.in_ok-load.ensures.outside;
@@ -80,14 +81,14 @@ returns-in_err-save-clause-later g c =
     let to = g.F.Flash.device c.save.new.flash in
     let first = c.load.new.self in
     let loaded = c.in_ok-load.field-0 in
-    let layout = laid_of c.args.state.now in
-    let begun = acted_err first c.make_sets.new.state layout c.args.actions.now loaded mid to c.save.new.self.backing.used c.make_sets.ensures.backing c.make_sets.ensures.table
-    c.in_ok-load.ensures.layout c.in_ok-load.ensures.used c.in_ok-load.ensures.sure c.in_ok-load.ensures.kept
+    let keyed = keyed_of c.args.state.now in
+    let begun = acted_err first c.make_sets.new.state keyed c.args.actions.now loaded mid to c.save.new.self.backing.used c.make_sets.ensures.backing c.make_sets.ensures.table
+    c.in_ok-load.ensures.keyed c.in_ok-load.ensures.used c.in_ok-load.ensures.sure c.in_ok-load.ensures.kept
     c.in_err-save.ensures.runs c.in_err-save.ensures.idle c.in_err-save.field-0.0
     (λ is. (let h = c.in_err-save.ensures.same is in cc))
     (λ is. (let unsure = c.in_err-save.ensures.unsure.0 (ap (λ f. Err f) is) in let sure = ap is_sure c.make_sets.ensures.backing ∙ c.in_ok-load.ensures.sure in cc))
     c.in_err-save.ensures.fails in
-    begun_later layout (used_after loaded) _ begun.saves from mid to begun.are c.in_ok-load.ensures.later
+    begun_later keyed (used_after loaded) _ begun.saves from mid to begun.are c.in_ok-load.ensures.later
 
 pub returns-in_err-save-clause-starts : goal.returns-in_err-save-clause-starts
 returns-in_err-save-clause-starts g c =
@@ -96,28 +97,28 @@ returns-in_err-save-clause-starts g c =
     let to = g.F.Flash.device c.save.new.flash in
     let first = c.load.new.self in
     let loaded = c.in_ok-load.field-0 in
-    let layout = laid_of c.args.state.now in
-    let begun = acted_err first c.make_sets.new.state layout c.args.actions.now loaded mid to c.save.new.self.backing.used c.make_sets.ensures.backing c.make_sets.ensures.table
-    c.in_ok-load.ensures.layout c.in_ok-load.ensures.used c.in_ok-load.ensures.sure c.in_ok-load.ensures.kept
+    let keyed = keyed_of c.args.state.now in
+    let begun = acted_err first c.make_sets.new.state keyed c.args.actions.now loaded mid to c.save.new.self.backing.used c.make_sets.ensures.backing c.make_sets.ensures.table
+    c.in_ok-load.ensures.keyed c.in_ok-load.ensures.used c.in_ok-load.ensures.sure c.in_ok-load.ensures.kept
     c.in_err-save.ensures.runs c.in_err-save.ensures.idle c.in_err-save.field-0.0
     (λ is. (let h = c.in_err-save.ensures.same is in cc))
     (λ is. (let unsure = c.in_err-save.ensures.unsure.0 (ap (λ f. Err f) is) in let sure = ap is_sure c.make_sets.ensures.backing ∙ c.in_ok-load.ensures.sure in cc))
     c.in_err-save.ensures.fails in
-    begun_starts layout (used_after loaded) _ begun.saves from mid to begun.are c.in_ok-load.ensures.starts
+    begun_starts keyed (used_after loaded) _ begun.saves from mid to begun.are c.in_ok-load.ensures.starts
 
-pub returns-in_err-actions_text-clause-gives : goal.returns-in_err-actions_text-clause-gives
-returns-in_err-actions_text-clause-gives g c =
+pub returns-in_err-text-clause-gives : goal.returns-in_err-text-clause-gives
+returns-in_err-text-clause-gives g c =
     let from = g.F.Flash.device c.args.flash.now in
     let mid = g.F.Flash.device c.load.new.flash in
     let to = g.F.Flash.device c.save.new.flash in
     let first = c.load.new.self in
     let loaded = c.in_ok-load.field-0 in
-    let layout = laid_of c.args.state.now in
-    let p = err_from_is_err_and c.from_residual-in_err-actions_text.result c.from_residual-in_err-actions_text.ensures.1 in
-    let begun = acted_ok first c.make_sets.new.state layout c.args.actions.now loaded mid to c.save.new.self.backing.used c.make_sets.ensures.backing c.make_sets.ensures.table
-    c.in_ok-load.ensures.layout c.in_ok-load.ensures.used c.in_ok-load.ensures.sure c.in_ok-load.ensures.kept
+    let keyed = keyed_of c.args.state.now in
+    let p = err_from_is_err_and c.from_residual-in_err-text.result c.from_residual-in_err-text.ensures.1 in
+    let begun = acted_ok first c.make_sets.new.state keyed c.args.actions.now loaded mid to c.save.new.self.backing.used c.make_sets.ensures.backing c.make_sets.ensures.table
+    c.in_ok-load.ensures.keyed c.in_ok-load.ensures.used c.in_ok-load.ensures.sure c.in_ok-load.ensures.kept
     c.in_ok-save.ensures.runs c.in_ok-save.ensures.idle c.in_ok-save.ensures.saved c.in_ok-save.ensures.exact in
-    stored_textless layout (Act c.args.actions.now) from mid to first.table loaded refl c.requires.many
+    stored_textless keyed (Act c.args.actions.now) from mid to first.table loaded refl c.requires.many
     (record {
       images = c.in_ok-load.ensures.images;
       outside = c.in_ok-load.ensures.outside;
@@ -128,33 +129,33 @@ returns-in_err-actions_text-clause-gives g c =
       exact = c.in_ok-load.ensures.exact;
       fails = tt;
     })
-    (λ text. Ok text) begun refl (λ text. refl) c.from_residual-in_err-actions_text.result (p.1 ∙ ap (λ e. Err e) p.2)
+    (λ text. Ok (told_whole text)) begun refl (λ text. refl) c.from_residual-in_err-text.result (p.1 ∙ ap (λ e. Err e) p.2)
 
-pub returns-in_err-actions_text-clause-later : goal.returns-in_err-actions_text-clause-later
-returns-in_err-actions_text-clause-later g c =
+pub returns-in_err-text-clause-later : goal.returns-in_err-text-clause-later
+returns-in_err-text-clause-later g c =
     let from = g.F.Flash.device c.args.flash.now in
     let mid = g.F.Flash.device c.load.new.flash in
     let to = g.F.Flash.device c.save.new.flash in
     let first = c.load.new.self in
     let loaded = c.in_ok-load.field-0 in
-    let layout = laid_of c.args.state.now in
-    let begun = acted_ok first c.make_sets.new.state layout c.args.actions.now loaded mid to c.save.new.self.backing.used c.make_sets.ensures.backing c.make_sets.ensures.table
-    c.in_ok-load.ensures.layout c.in_ok-load.ensures.used c.in_ok-load.ensures.sure c.in_ok-load.ensures.kept
+    let keyed = keyed_of c.args.state.now in
+    let begun = acted_ok first c.make_sets.new.state keyed c.args.actions.now loaded mid to c.save.new.self.backing.used c.make_sets.ensures.backing c.make_sets.ensures.table
+    c.in_ok-load.ensures.keyed c.in_ok-load.ensures.used c.in_ok-load.ensures.sure c.in_ok-load.ensures.kept
     c.in_ok-save.ensures.runs c.in_ok-save.ensures.idle c.in_ok-save.ensures.saved c.in_ok-save.ensures.exact in
-    begun_later layout (used_after loaded) _ begun.saves from mid to begun.are c.in_ok-load.ensures.later
+    begun_later keyed (used_after loaded) _ begun.saves from mid to begun.are c.in_ok-load.ensures.later
 
-pub returns-in_err-actions_text-clause-starts : goal.returns-in_err-actions_text-clause-starts
-returns-in_err-actions_text-clause-starts g c =
+pub returns-in_err-text-clause-starts : goal.returns-in_err-text-clause-starts
+returns-in_err-text-clause-starts g c =
     let from = g.F.Flash.device c.args.flash.now in
     let mid = g.F.Flash.device c.load.new.flash in
     let to = g.F.Flash.device c.save.new.flash in
     let first = c.load.new.self in
     let loaded = c.in_ok-load.field-0 in
-    let layout = laid_of c.args.state.now in
-    let begun = acted_ok first c.make_sets.new.state layout c.args.actions.now loaded mid to c.save.new.self.backing.used c.make_sets.ensures.backing c.make_sets.ensures.table
-    c.in_ok-load.ensures.layout c.in_ok-load.ensures.used c.in_ok-load.ensures.sure c.in_ok-load.ensures.kept
+    let keyed = keyed_of c.args.state.now in
+    let begun = acted_ok first c.make_sets.new.state keyed c.args.actions.now loaded mid to c.save.new.self.backing.used c.make_sets.ensures.backing c.make_sets.ensures.table
+    c.in_ok-load.ensures.keyed c.in_ok-load.ensures.used c.in_ok-load.ensures.sure c.in_ok-load.ensures.kept
     c.in_ok-save.ensures.runs c.in_ok-save.ensures.idle c.in_ok-save.ensures.saved c.in_ok-save.ensures.exact in
-    begun_starts layout (used_after loaded) _ begun.saves from mid to begun.are c.in_ok-load.ensures.starts
+    begun_starts keyed (used_after loaded) _ begun.saves from mid to begun.are c.in_ok-load.ensures.starts
 
 pub returns-clause-gives : goal.returns-clause-gives
 returns-clause-gives g c =
@@ -163,15 +164,15 @@ returns-clause-gives g c =
     let to = g.F.Flash.device c.save.new.flash in
     let first = c.load.new.self in
     let loaded = c.in_ok-load.field-0 in
-    let layout = laid_of c.args.state.now in
-    let begun = acted_ok first c.make_sets.new.state layout c.args.actions.now loaded mid to c.save.new.self.backing.used c.make_sets.ensures.backing c.make_sets.ensures.table
-    c.in_ok-load.ensures.layout c.in_ok-load.ensures.used c.in_ok-load.ensures.sure c.in_ok-load.ensures.kept
+    let keyed = keyed_of c.args.state.now in
+    let begun = acted_ok first c.make_sets.new.state keyed c.args.actions.now loaded mid to c.save.new.self.backing.used c.make_sets.ensures.backing c.make_sets.ensures.table
+    c.in_ok-load.ensures.keyed c.in_ok-load.ensures.used c.in_ok-load.ensures.sure c.in_ok-load.ensures.kept
     c.in_ok-save.ensures.runs c.in_ok-save.ensures.idle c.in_ok-save.ensures.saved c.in_ok-save.ensures.exact in
-    let same = c.in_ok-load.ensures.layout in
-    let found : IsFound layout first.table loaded from mid =
+    let same = c.in_ok-load.ensures.keyed in
+    let found : IsFound keyed first.table loaded from mid =
     record { gives = c.in_ok-load.ensures.gives; defaults = c.in_ok-load.ensures.defaults; exact = c.in_ok-load.ensures.exact } in
-    let whole : loaded_area layout (taken first.table loaded) ≡ first.table = load_area layout first.table loaded from mid found in
-    stored_out layout (Act c.args.actions.now) from mid to first.table loaded refl c.requires.many
+    let whole : loaded_area keyed.layout (taken first.table loaded) ≡ first.table = load_area keyed first.table loaded from mid found in
+    stored_out keyed (Act c.args.actions.now) from mid to first.table loaded refl c.requires.many
     (record {
       images = c.in_ok-load.ensures.images;
       outside = c.in_ok-load.ensures.outside;
@@ -182,15 +183,15 @@ returns-clause-gives g c =
       exact = c.in_ok-load.ensures.exact;
       fails = tt;
     })
-    (λ text. Ok text) begun refl (Ok c.in_ok-actions_text.field-0)
-    (ap (λ (t : List ℕ). Ok t)
-    (c.in_ok-actions_text.ensures
+    (λ text. Ok (told_whole text)) begun refl (Ok c.done.result)
+    (ap (λ r. Ok r) c.done.ensures ∙ ap (λ (t : List ℕ). Ok (told_whole t))
+    (c.in_ok-text.ensures
     ∙ ap (λ (l : Laid). actions_text l c.bytes.result.now c.args.actions.now)
-    (c.layout.ensures ∙ (c.in_ok-save.ensures.layout ∙ ap laid_of c.make_sets.ensures.backing ∙ same))
-    ∙ ap (λ (a : List ℕ). actions_text layout a c.args.actions.now)
+    (c.layout.ensures ∙ ap (λ (k : Keyed). k.layout) (c.in_ok-save.ensures.keyed ∙ ap keyed_of c.make_sets.ensures.backing ∙ same))
+    ∙ ap (λ (a : List ℕ). actions_text keyed.layout a c.args.actions.now)
     (c.bytes.ensures ∙ (c.in_ok-save.ensures.table ∙ c.make_sets.ensures.table
-    ∙ ap (λ (l : Laid). after_all l.vars first.table c.args.actions.now) same
-    ∙ ap (λ (a : List ℕ). after_all layout.vars a c.args.actions.now) (sym whole)))))
+    ∙ ap (λ (l : Keyed). after_all l.layout.vars first.table c.args.actions.now) same
+    ∙ ap (λ (a : List ℕ). after_all keyed.layout.vars a c.args.actions.now) (sym whole)))))
 
 pub returns-clause-later : goal.returns-clause-later
 returns-clause-later g c =
@@ -199,11 +200,11 @@ returns-clause-later g c =
     let to = g.F.Flash.device c.save.new.flash in
     let first = c.load.new.self in
     let loaded = c.in_ok-load.field-0 in
-    let layout = laid_of c.args.state.now in
-    let begun = acted_ok first c.make_sets.new.state layout c.args.actions.now loaded mid to c.save.new.self.backing.used c.make_sets.ensures.backing c.make_sets.ensures.table
-    c.in_ok-load.ensures.layout c.in_ok-load.ensures.used c.in_ok-load.ensures.sure c.in_ok-load.ensures.kept
+    let keyed = keyed_of c.args.state.now in
+    let begun = acted_ok first c.make_sets.new.state keyed c.args.actions.now loaded mid to c.save.new.self.backing.used c.make_sets.ensures.backing c.make_sets.ensures.table
+    c.in_ok-load.ensures.keyed c.in_ok-load.ensures.used c.in_ok-load.ensures.sure c.in_ok-load.ensures.kept
     c.in_ok-save.ensures.runs c.in_ok-save.ensures.idle c.in_ok-save.ensures.saved c.in_ok-save.ensures.exact in
-    begun_later layout (used_after loaded) _ begun.saves from mid to begun.are c.in_ok-load.ensures.later
+    begun_later keyed (used_after loaded) _ begun.saves from mid to begun.are c.in_ok-load.ensures.later
 
 pub returns-clause-starts : goal.returns-clause-starts
 returns-clause-starts g c =
@@ -212,8 +213,8 @@ returns-clause-starts g c =
     let to = g.F.Flash.device c.save.new.flash in
     let first = c.load.new.self in
     let loaded = c.in_ok-load.field-0 in
-    let layout = laid_of c.args.state.now in
-    let begun = acted_ok first c.make_sets.new.state layout c.args.actions.now loaded mid to c.save.new.self.backing.used c.make_sets.ensures.backing c.make_sets.ensures.table
-    c.in_ok-load.ensures.layout c.in_ok-load.ensures.used c.in_ok-load.ensures.sure c.in_ok-load.ensures.kept
+    let keyed = keyed_of c.args.state.now in
+    let begun = acted_ok first c.make_sets.new.state keyed c.args.actions.now loaded mid to c.save.new.self.backing.used c.make_sets.ensures.backing c.make_sets.ensures.table
+    c.in_ok-load.ensures.keyed c.in_ok-load.ensures.used c.in_ok-load.ensures.sure c.in_ok-load.ensures.kept
     c.in_ok-save.ensures.runs c.in_ok-save.ensures.idle c.in_ok-save.ensures.saved c.in_ok-save.ensures.exact in
-    begun_starts layout (used_after loaded) _ begun.saves from mid to begun.are c.in_ok-load.ensures.starts
+    begun_starts keyed (used_after loaded) _ begun.saves from mid to begun.are c.in_ok-load.ensures.starts

@@ -1,4 +1,4 @@
-use Rattle.std.proofs.Common.{◌≡◌, ◌∙◌, ap, subst, sym, ◌++◌, ℕ, List, drop, length, arith, take}
+use Rattle.std.proofs.Common.{◌≡◌, ◌∙◌, ap, subst, sym, ◌++◌, List, drop, length, arith, take}
 use Rattle.bb_copies.specs.Buckets.{AllAgree, kinds_of}
 use Rattle.bb_state.specs.Backed.{Backed}
 use Rattle.bb_state.specs.Kinds.{any_form, any_holding, laid_form, laid_kinds}
@@ -8,41 +8,41 @@ use Rattle.bb_state.proofs.backing.Backing.load.Goals as goal
 
 pub returns-in_err-loaded-clause-fails : goal.returns-in_err-loaded-clause-fails
 returns-in_err-loaded-clause-fails g c =
-    let kinds : kinds_of any_holding c.self.inside.copies.buckets ≡ laid_kinds c.args.self.now.layout = c.self.invariant.kinds ∙ ap (λ (b : Backed). laid_kinds b.layout) c.self.view_is in
-    let form : any_form c.self.inside.copies.format ≡ laid_form c.args.self.now.layout = ap any_form c.self.invariant.format_is ∙ ap (λ (b : Backed). laid_form b.layout) c.self.view_is in
+    let kinds : kinds_of any_holding c.self.inside.copies.buckets ≡ laid_kinds c.args.self.now.keyed.layout = c.self.invariant.kinds ∙ ap (λ (b : Backed). laid_kinds b.keyed.layout) c.self.view_is in
+    let form : any_form c.self.inside.copies.format ≡ laid_form c.args.self.now.keyed = ap any_form c.self.invariant.format_is ∙ ap (λ (b : Backed). laid_form b.keyed) c.self.view_is in
     raised _ c.from_residual.result c.in_err-loaded.field-0.0 c.from_residual.ensures.1
-    (refused_of _ _ c.args.self.now.layout c.load.new.area _ _ c.in_err-loaded.field-0.0 form kinds c.in_err-loaded.ensures.fails)
+    (refused_of _ _ c.args.self.now.keyed c.load.new.area _ _ c.in_err-loaded.field-0.0 form kinds c.in_err-loaded.ensures.fails)
 
 pub returns-in_err-loaded-clause-outside : goal.returns-in_err-loaded-clause-outside
 returns-in_err-loaded-clause-outside g c =
-    let kinds : kinds_of any_holding c.self.inside.copies.buckets ≡ laid_kinds c.args.self.now.layout = c.self.invariant.kinds ∙ ap (λ (b : Backed). laid_kinds b.layout) c.self.view_is in
-    outside_of _ c.args.self.now.layout _ _ kinds c.load.ensures.outside
+    let kinds : kinds_of any_holding c.self.inside.copies.buckets ≡ laid_kinds c.args.self.now.keyed.layout = c.self.invariant.kinds ∙ ap (λ (b : Backed). laid_kinds b.keyed.layout) c.self.view_is in
+    outside_of _ c.args.self.now.keyed.layout _ _ kinds c.load.ensures.outside
 
 pub returns-then-eq-clause-outside : goal.returns-then-eq-clause-outside
 returns-then-eq-clause-outside g c =
-    let kinds : kinds_of any_holding c.self.inside.copies.buckets ≡ laid_kinds c.args.self.now.layout = c.self.invariant.kinds ∙ ap (λ (b : Backed). laid_kinds b.layout) c.self.view_is in
-    outside_of _ c.args.self.now.layout _ _ kinds c.load.ensures.outside
+    let kinds : kinds_of any_holding c.self.inside.copies.buckets ≡ laid_kinds c.args.self.now.keyed.layout = c.self.invariant.kinds ∙ ap (λ (b : Backed). laid_kinds b.keyed.layout) c.self.view_is in
+    outside_of _ c.args.self.now.keyed.layout _ _ kinds c.load.ensures.outside
 
 pub returns-else-eq-clause-outside : goal.returns-else-eq-clause-outside
 returns-else-eq-clause-outside g c =
-    let kinds : kinds_of any_holding c.self.inside.copies.buckets ≡ laid_kinds c.args.self.now.layout = c.self.invariant.kinds ∙ ap (λ (b : Backed). laid_kinds b.layout) c.self.view_is in
-    outside_of _ c.args.self.now.layout _ _ kinds c.load.ensures.outside
+    let kinds : kinds_of any_holding c.self.inside.copies.buckets ≡ laid_kinds c.args.self.now.keyed.layout = c.self.invariant.kinds ∙ ap (λ (b : Backed). laid_kinds b.keyed.layout) c.self.view_is in
+    outside_of _ c.args.self.now.keyed.layout _ _ kinds c.load.ensures.outside
 
 pub returns-else-eq-clause-exact : goal.returns-else-eq-clause-exact
 returns-else-eq-clause-exact g c =
-    let kinds : kinds_of any_holding c.self.inside.copies.buckets ≡ laid_kinds c.args.self.now.layout = c.self.invariant.kinds ∙ ap (λ (b : Backed). laid_kinds b.layout) c.self.view_is in
-    let form : any_form c.self.inside.copies.format ≡ laid_form c.args.self.now.layout = ap any_form c.self.invariant.format_is ∙ ap (λ (b : Backed). laid_form b.layout) c.self.view_is in
+    let kinds : kinds_of any_holding c.self.inside.copies.buckets ≡ laid_kinds c.args.self.now.keyed.layout = c.self.invariant.kinds ∙ ap (λ (b : Backed). laid_kinds b.keyed.layout) c.self.view_is in
+    let form : any_form c.self.inside.copies.format ≡ laid_form c.args.self.now.keyed = ap any_form c.self.invariant.format_is ∙ ap (λ (b : Backed). laid_form b.keyed) c.self.view_is in
     let kept = take c.self.inside.kept.len (c.load.new.area ++ drop (length c.load.new.area) c.self.inside.kept.items) in
     let same : kept ≡ c.load.new.area = whole_written c.self.inside.kept.len c.load.new.area c.self.inside.kept.items (grind arith) (grind arith) in
-    exact_of _ _ c.args.self.now.layout c.load.new.area kept (g.F.Flash.device c.args.flash.now) (g.F.Flash.device c.load.new.flash) c.in_ok-loaded.loaded form kinds same c.in_ok-loaded.ensures.exact
+    exact_of _ _ c.args.self.now.keyed c.load.new.area kept (g.F.Flash.device c.args.flash.now) (g.F.Flash.device c.load.new.flash) c.in_ok-loaded.loaded form kinds same c.in_ok-loaded.ensures.exact
 
 pub returns-else-eq-clause-erases : goal.returns-else-eq-clause-erases
 returns-else-eq-clause-erases g c =
-    let kinds : kinds_of any_holding c.self.inside.copies.buckets ≡ laid_kinds c.args.self.now.layout = c.self.invariant.kinds ∙ ap (λ (b : Backed). laid_kinds b.layout) c.self.view_is in
-    let form : any_form c.self.inside.copies.format ≡ laid_form c.args.self.now.layout = ap any_form c.self.invariant.format_is ∙ ap (λ (b : Backed). laid_form b.layout) c.self.view_is in
+    let kinds : kinds_of any_holding c.self.inside.copies.buckets ≡ laid_kinds c.args.self.now.keyed.layout = c.self.invariant.kinds ∙ ap (λ (b : Backed). laid_kinds b.keyed.layout) c.self.view_is in
+    let form : any_form c.self.inside.copies.format ≡ laid_form c.args.self.now.keyed = ap any_form c.self.invariant.format_is ∙ ap (λ (b : Backed). laid_form b.keyed) c.self.view_is in
     let kept = take c.self.inside.kept.len (c.load.new.area ++ drop (length c.load.new.area) c.self.inside.kept.items) in
     let same : kept ≡ c.load.new.area = whole_written c.self.inside.kept.len c.load.new.area c.self.inside.kept.items (grind arith) (grind arith) in
-    erasing_of _ _ c.args.self.now.layout c.load.new.area kept (g.F.Flash.device c.args.flash.now) (g.F.Flash.device c.load.new.flash) c.in_ok-loaded.loaded form kinds same c.in_ok-loaded.ensures.erases
+    erasing_of _ _ c.args.self.now.keyed c.load.new.area kept (g.F.Flash.device c.args.flash.now) (g.F.Flash.device c.load.new.flash) c.in_ok-loaded.loaded form kinds same c.in_ok-loaded.ensures.erases
 
 pub load-requires-clause-agreed : goal.load-requires-clause-agreed
 load-requires-clause-agreed g c =
@@ -51,26 +51,26 @@ load-requires-clause-agreed g c =
 
 pub returns-in_err-loaded-clause-images : goal.returns-in_err-loaded-clause-images
 returns-in_err-loaded-clause-images g c =
-    let kinds : kinds_of any_holding c.self.inside.copies.buckets ≡ laid_kinds c.args.self.now.layout = c.self.invariant.kinds ∙ ap (λ (b : Backed). laid_kinds b.layout) c.self.view_is in
-    let form : any_form c.self.inside.copies.format ≡ laid_form c.args.self.now.layout = ap any_form c.self.invariant.format_is ∙ ap (λ (b : Backed). laid_form b.layout) c.self.view_is in
-    images_of _ _ c.args.self.now.layout (g.F.Flash.device c.args.flash.now) (g.F.Flash.device c.load.new.flash) form kinds c.load.ensures.images
+    let kinds : kinds_of any_holding c.self.inside.copies.buckets ≡ laid_kinds c.args.self.now.keyed.layout = c.self.invariant.kinds ∙ ap (λ (b : Backed). laid_kinds b.keyed.layout) c.self.view_is in
+    let form : any_form c.self.inside.copies.format ≡ laid_form c.args.self.now.keyed = ap any_form c.self.invariant.format_is ∙ ap (λ (b : Backed). laid_form b.keyed) c.self.view_is in
+    images_of _ _ c.args.self.now.keyed (g.F.Flash.device c.args.flash.now) (g.F.Flash.device c.load.new.flash) form kinds c.load.ensures.images
 
 pub returns-then-eq-clause-images : goal.returns-then-eq-clause-images
 returns-then-eq-clause-images g c =
-    let kinds : kinds_of any_holding c.self.inside.copies.buckets ≡ laid_kinds c.args.self.now.layout = c.self.invariant.kinds ∙ ap (λ (b : Backed). laid_kinds b.layout) c.self.view_is in
-    let form : any_form c.self.inside.copies.format ≡ laid_form c.args.self.now.layout = ap any_form c.self.invariant.format_is ∙ ap (λ (b : Backed). laid_form b.layout) c.self.view_is in
-    images_of _ _ c.args.self.now.layout (g.F.Flash.device c.args.flash.now) (g.F.Flash.device c.load.new.flash) form kinds c.load.ensures.images
+    let kinds : kinds_of any_holding c.self.inside.copies.buckets ≡ laid_kinds c.args.self.now.keyed.layout = c.self.invariant.kinds ∙ ap (λ (b : Backed). laid_kinds b.keyed.layout) c.self.view_is in
+    let form : any_form c.self.inside.copies.format ≡ laid_form c.args.self.now.keyed = ap any_form c.self.invariant.format_is ∙ ap (λ (b : Backed). laid_form b.keyed) c.self.view_is in
+    images_of _ _ c.args.self.now.keyed (g.F.Flash.device c.args.flash.now) (g.F.Flash.device c.load.new.flash) form kinds c.load.ensures.images
 
 pub returns-else-eq-clause-images : goal.returns-else-eq-clause-images
 returns-else-eq-clause-images g c =
-    let kinds : kinds_of any_holding c.self.inside.copies.buckets ≡ laid_kinds c.args.self.now.layout = c.self.invariant.kinds ∙ ap (λ (b : Backed). laid_kinds b.layout) c.self.view_is in
-    let form : any_form c.self.inside.copies.format ≡ laid_form c.args.self.now.layout = ap any_form c.self.invariant.format_is ∙ ap (λ (b : Backed). laid_form b.layout) c.self.view_is in
-    images_of _ _ c.args.self.now.layout (g.F.Flash.device c.args.flash.now) (g.F.Flash.device c.load.new.flash) form kinds c.load.ensures.images
+    let kinds : kinds_of any_holding c.self.inside.copies.buckets ≡ laid_kinds c.args.self.now.keyed.layout = c.self.invariant.kinds ∙ ap (λ (b : Backed). laid_kinds b.keyed.layout) c.self.view_is in
+    let form : any_form c.self.inside.copies.format ≡ laid_form c.args.self.now.keyed = ap any_form c.self.invariant.format_is ∙ ap (λ (b : Backed). laid_form b.keyed) c.self.view_is in
+    images_of _ _ c.args.self.now.keyed (g.F.Flash.device c.args.flash.now) (g.F.Flash.device c.load.new.flash) form kinds c.load.ensures.images
 
 pub returns-else-eq-clause-gives : goal.returns-else-eq-clause-gives
 returns-else-eq-clause-gives g c =
-    let kinds : kinds_of any_holding c.self.inside.copies.buckets ≡ laid_kinds c.args.self.now.layout = c.self.invariant.kinds ∙ ap (λ (b : Backed). laid_kinds b.layout) c.self.view_is in
-    let form : any_form c.self.inside.copies.format ≡ laid_form c.args.self.now.layout = ap any_form c.self.invariant.format_is ∙ ap (λ (b : Backed). laid_form b.layout) c.self.view_is in
+    let kinds : kinds_of any_holding c.self.inside.copies.buckets ≡ laid_kinds c.args.self.now.keyed.layout = c.self.invariant.kinds ∙ ap (λ (b : Backed). laid_kinds b.keyed.layout) c.self.view_is in
+    let form : any_form c.self.inside.copies.format ≡ laid_form c.args.self.now.keyed = ap any_form c.self.invariant.format_is ∙ ap (λ (b : Backed). laid_form b.keyed) c.self.view_is in
     let kept = take c.self.inside.kept.len (c.load.new.area ++ drop (length c.load.new.area) c.self.inside.kept.items) in
     let same : kept ≡ c.load.new.area = whole_written c.self.inside.kept.len c.load.new.area c.self.inside.kept.items (grind arith) (grind arith) in
-    gives_of _ _ c.args.self.now.layout c.load.new.area kept (g.F.Flash.device c.args.flash.now) (g.F.Flash.device c.load.new.flash) c.in_ok-loaded.loaded form kinds same c.in_ok-loaded.ensures.gives
+    gives_of _ _ c.args.self.now.keyed c.load.new.area kept (g.F.Flash.device c.args.flash.now) (g.F.Flash.device c.load.new.flash) c.in_ok-loaded.loaded form kinds same c.in_ok-loaded.ensures.gives

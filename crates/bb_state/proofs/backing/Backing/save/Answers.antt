@@ -9,22 +9,22 @@ use Rattle.bb_state.proofs.backing.Backing.save.Goals as goal
 
 pub returns-clause-saved : goal.returns-clause-saved
 returns-clause-saved g c =
-    let kinds : kinds_of any_holding c.self.inside.copies.buckets ≡ laid_kinds c.args.self.now.layout = c.self.invariant.kinds ∙ ap (λ (b : Backed). laid_kinds b.layout) c.self.view_is in
-    let form : any_form c.self.inside.copies.format ≡ laid_form c.args.self.now.layout = ap any_form c.self.invariant.format_is ∙ ap (λ (b : Backed). laid_form b.layout) c.self.view_is in
-    stored_of _ _ c.args.self.now.layout c.args.table.now _ c.in_ok-save.field-0.live _ _ form kinds c.in_ok-save.ensures.saved
+    let kinds : kinds_of any_holding c.self.inside.copies.buckets ≡ laid_kinds c.args.self.now.keyed.layout = c.self.invariant.kinds ∙ ap (λ (b : Backed). laid_kinds b.keyed.layout) c.self.view_is in
+    let form : any_form c.self.inside.copies.format ≡ laid_form c.args.self.now.keyed = ap any_form c.self.invariant.format_is ∙ ap (λ (b : Backed). laid_form b.keyed) c.self.view_is in
+    stored_of _ _ c.args.self.now.keyed c.args.table.now _ c.in_ok-save.field-0.live _ _ form kinds c.in_ok-save.ensures.saved
 
 pub returns-in_err-save-clause-runs : goal.returns-in_err-save-clause-runs
 returns-in_err-save-clause-runs g c =
-    let kinds : kinds_of any_holding c.self.inside.copies.buckets ≡ laid_kinds c.args.self.now.layout = c.self.invariant.kinds ∙ ap (λ (b : Backed). laid_kinds b.layout) c.self.view_is in
-    let form : any_form c.self.inside.copies.format ≡ laid_form c.args.self.now.layout = ap any_form c.self.invariant.format_is ∙ ap (λ (b : Backed). laid_form b.layout) c.self.view_is in
+    let kinds : kinds_of any_holding c.self.inside.copies.buckets ≡ laid_kinds c.args.self.now.keyed.layout = c.self.invariant.kinds ∙ ap (λ (b : Backed). laid_kinds b.keyed.layout) c.self.view_is in
+    let form : any_form c.self.inside.copies.format ≡ laid_form c.args.self.now.keyed = ap any_form c.self.invariant.format_is ∙ ap (λ (b : Backed). laid_form b.keyed) c.self.view_is in
     let used = ap (λ (b : Backed). b.used) c.self.view_is in
     let k = c.save.ensures in
     runs_of _ _ _ c.args.self.now c.args.table.now _ _ form kinds used k.images k.outside k.later k.starts k.whole
 
 pub returns-clause-runs : goal.returns-clause-runs
 returns-clause-runs g c =
-    let kinds : kinds_of any_holding c.self.inside.copies.buckets ≡ laid_kinds c.args.self.now.layout = c.self.invariant.kinds ∙ ap (λ (b : Backed). laid_kinds b.layout) c.self.view_is in
-    let form : any_form c.self.inside.copies.format ≡ laid_form c.args.self.now.layout = ap any_form c.self.invariant.format_is ∙ ap (λ (b : Backed). laid_form b.layout) c.self.view_is in
+    let kinds : kinds_of any_holding c.self.inside.copies.buckets ≡ laid_kinds c.args.self.now.keyed.layout = c.self.invariant.kinds ∙ ap (λ (b : Backed). laid_kinds b.keyed.layout) c.self.view_is in
+    let form : any_form c.self.inside.copies.format ≡ laid_form c.args.self.now.keyed = ap any_form c.self.invariant.format_is ∙ ap (λ (b : Backed). laid_form b.keyed) c.self.view_is in
     let used = ap (λ (b : Backed). b.used) c.self.view_is in
     let k = c.save.ensures in
     runs_of _ _ _ c.args.self.now c.args.table.now _ _ form kinds used k.images k.outside k.later k.starts k.whole
@@ -36,8 +36,8 @@ save-requires-clause-agreed g c =
 
 pub returns-in_err-save-clause-fails : goal.returns-in_err-save-clause-fails
 returns-in_err-save-clause-fails g c =
-    let kinds : kinds_of any_holding c.self.inside.copies.buckets ≡ laid_kinds c.args.self.now.layout = c.self.invariant.kinds ∙ ap (λ (b : Backed). laid_kinds b.layout) c.self.view_is in
-    let form : any_form c.self.inside.copies.format ≡ laid_form c.args.self.now.layout = ap any_form c.self.invariant.format_is ∙ ap (λ (b : Backed). laid_form b.layout) c.self.view_is in
+    let kinds : kinds_of any_holding c.self.inside.copies.buckets ≡ laid_kinds c.args.self.now.keyed.layout = c.self.invariant.kinds ∙ ap (λ (b : Backed). laid_kinds b.keyed.layout) c.self.view_is in
+    let form : any_form c.self.inside.copies.format ≡ laid_form c.args.self.now.keyed = ap any_form c.self.invariant.format_is ∙ ap (λ (b : Backed). laid_form b.keyed) c.self.view_is in
     let used = ap (λ (b : Backed). b.used) c.self.view_is in
     raised _ c.from_residual.result c.in_err-save.field-0.0 c.from_residual.ensures.1
     (fails_of _ _ _ c.args.self.now c.args.table.now (g.F.Flash.device c.args.flash.now) (g.F.Flash.device c.save.new.flash) c.in_err-save.field-0.0 form kinds used c.in_err-save.ensures.fails)
@@ -54,12 +54,12 @@ returns-clause-reads g c = λ placed.
 
 pub returns-clause-exact : goal.returns-clause-exact
 returns-clause-exact g c = λ quiet.
-    let kinds : kinds_of any_holding c.self.inside.copies.buckets ≡ laid_kinds c.args.self.now.layout = c.self.invariant.kinds ∙ ap (λ (b : Backed). laid_kinds b.layout) c.self.view_is in
-    let form : any_form c.self.inside.copies.format ≡ laid_form c.args.self.now.layout = ap any_form c.self.invariant.format_is ∙ ap (λ (b : Backed). laid_form b.layout) c.self.view_is in
-    written_of _ _ c.args.self.now.layout c.args.table.now (g.F.Flash.device c.args.flash.now) (g.F.Flash.device c.save.new.flash) form kinds (c.in_ok-save.ensures.exact quiet)
+    let kinds : kinds_of any_holding c.self.inside.copies.buckets ≡ laid_kinds c.args.self.now.keyed.layout = c.self.invariant.kinds ∙ ap (λ (b : Backed). laid_kinds b.keyed.layout) c.self.view_is in
+    let form : any_form c.self.inside.copies.format ≡ laid_form c.args.self.now.keyed = ap any_form c.self.invariant.format_is ∙ ap (λ (b : Backed). laid_form b.keyed) c.self.view_is in
+    written_of _ _ c.args.self.now.keyed c.args.table.now (g.F.Flash.device c.args.flash.now) (g.F.Flash.device c.save.new.flash) form kinds (c.in_ok-save.ensures.exact quiet)
 
 pub returns-clause-erases : goal.returns-clause-erases
 returns-clause-erases g c = λ quiet.
-    let kinds : kinds_of any_holding c.self.inside.copies.buckets ≡ laid_kinds c.args.self.now.layout = c.self.invariant.kinds ∙ ap (λ (b : Backed). laid_kinds b.layout) c.self.view_is in
-    let form : any_form c.self.inside.copies.format ≡ laid_form c.args.self.now.layout = ap any_form c.self.invariant.format_is ∙ ap (λ (b : Backed). laid_form b.layout) c.self.view_is in
-    erased_of _ _ c.args.self.now.layout c.args.table.now (g.F.Flash.device c.args.flash.now) (g.F.Flash.device c.save.new.flash) form kinds (c.in_ok-save.ensures.erases quiet)
+    let kinds : kinds_of any_holding c.self.inside.copies.buckets ≡ laid_kinds c.args.self.now.keyed.layout = c.self.invariant.kinds ∙ ap (λ (b : Backed). laid_kinds b.keyed.layout) c.self.view_is in
+    let form : any_form c.self.inside.copies.format ≡ laid_form c.args.self.now.keyed = ap any_form c.self.invariant.format_is ∙ ap (λ (b : Backed). laid_form b.keyed) c.self.view_is in
+    erased_of _ _ c.args.self.now.keyed c.args.table.now (g.F.Flash.device c.args.flash.now) (g.F.Flash.device c.save.new.flash) form kinds (c.in_ok-save.ensures.erases quiet)

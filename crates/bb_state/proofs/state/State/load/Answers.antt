@@ -1,12 +1,12 @@
 use Rattle.std.proofs.Common.{◌≡◌, ◌∙◌, ap, subst, sym, List, ℕ}
 use Rattle.bb_copies.specs.Loading.{LoadsExactly}
-use Rattle.bb_layout.specs.Layout.{Laid}
+use Rattle.bb_state.specs.Keyed.{Keyed}
 use Rattle.bb_state.specs.State.{form_of, kinds_of}
 use Rattle.bb_state.proofs.Handed.{whole_put}
 use Rattle.bb_state.proofs.state.State.load.Goals as goal
 
 pub returns-clause-exact : goal.returns-clause-exact
 returns-clause-exact g c =
-    let len = c.kept_table.ensures.sized ∙ ap (λ (l : Laid). l.area_len) c.load.ensures.layout ∙ sym c.requires.sized in
+    let len = c.kept_table.ensures.sized ∙ ap (λ (k : Keyed). k.layout.area_len) c.load.ensures.keyed ∙ sym c.requires.sized in
     let same : c.put.new.self ≡ c.load.new.self.kept = c.put.ensures.replaced ∙ whole_put c.kept_table.result.now c.args.self.now.table len ∙ c.kept_table.ensures.kept in
     subst (λ (table : List ℕ). LoadsExactly (form_of c.args.self.now) (kinds_of c.args.self.now) table (g.F.Flash.device c.args.flash.now) (g.F.Flash.device c.load.new.flash) c.in_ok-loaded.loaded) (sym same) c.in_ok-loaded.ensures.exact

@@ -1,0 +1,3 @@
+mod boards;
+mod sessions;
+mod until_no_target;

@@ -1,0 +1,5 @@
+mod board;
+mod boards;
+mod keys;
+mod props;
+mod records;

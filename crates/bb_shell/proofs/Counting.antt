@@ -1,0 +1,296 @@
+-- A board starts a system no oftener than the attempts of the first table that a load gave allow.
+use Rattle.std.proofs.Common.{◌≡◌, ℕ, ◌+◌, ◌≤◌, Bool, true, false, List, [], ◌∷◌, ◌++◌, Option, Some, None, IsSome, ap, arith, cond, is_some, length, map, refl, slice_get, sym, subst, take, ◌∙◌}
+use Rattle.std.proofs.lemmas.Bool.{false_from_ne_true, false≢true}
+use Rattle.std.proofs.lemmas.List.Sums.{sum_by-cons}
+use Rattle.std.proofs.lemmas.Option.{none-some, slice_get_within}
+use Rattle.std.proofs.lemmas.Slice.Eq.{bytes_eq-Decides}
+use Rattle.std.specs.Option.{option_map_or}
+use Rattle.std.specs.Str.{bytes_eq}
+use Rattle.bb_chooser.specs.Binding.{Binding, IsBinding}
+use Rattle.bb_chooser.specs.Choosing.{Qualifies}
+use Rattle.bb_chooser.specs.Counting.{spend_of}
+use Rattle.bb_chooser.specs.Resets.{reset_of}
+use Rattle.bb_chooser.specs.declared.cause.Cause.{Cause}
+use Rattle.bb_copies.proofs.Chronicle.{stands_after}
+use Rattle.bb_copies.proofs.History.{picked_holds}
+use Rattle.bb_copies.specs.Chronicle.{Chronicle, Content, CutOff, Decayed, Entry, Event, Finished, Follows, IsAsBefore, IsSaved, IsStanding, Loaded, Looked, Step, Turn, Unloaded, Untouched, loaded_in, place_of}
+use Rattle.bb_flash.specs.declared.plan.Plan.{Plan}
+use Rattle.bb_shell.proofs.Answering.{found_qualifies}
+use Rattle.bb_shell.proofs.Attempts.{enabled_spent, spent_sized}
+use Rattle.bb_shell.proofs.Falling.{Falls, falls_cons, falls_later, falls_longer, falls_one, falls_to, longer, longer_less, number_of}
+use Rattle.bb_shell.proofs.Reached.{begun_saving}
+use Rattle.bb_shell.specs.Boot.{Round, is_retried}
+use Rattle.bb_shell.specs.Counting.{AreBoots, AttemptsLaw, IsBootBehind, IsBootEvent, IsBootTurn, NoLoadLaw, StaysReset, enabled_attempts, first_loaded, starts_in, starts_of, target_started, turn_starts}
+use Rattle.bb_shell.specs.Rounds.{RoundAnswer, best_of, followed_by, round_by, rounds_by}
+use Rattle.bb_shell.specs.Stages.{saves_of}
+
+-- ---- the words of a turn
+
+abbrev saves_in : Turn → List (List ℕ)
+saves_in Untouched = []
+saves_in Looked = []
+saves_in Unloaded = []
+saves_in (Loaded place saves ok started) = saves
+
+abbrev started_in : Turn → Option ℕ
+started_in Untouched = None
+started_in Looked = None
+started_in Unloaded = None
+started_in (Loaded place saves ok started) = started
+
+-- as a number
+abbrev one_if : Bool → ℕ
+one_if flag = cond flag 1 0
+
+-- ---- the rounds of a boot
+
+-- a round spends an attempt of a target that qualifies
+record IsSpent (b : Binding) (table : List ℕ) (round : Round) : Type 0 where
+  pub qualifies : Qualifies b table round.target
+  pub spent : round.table ≡ spend_of b table round.target
+
+abbrev AreSpent : Binding → List ℕ → List Round → Type 0
+AreSpent b table [] = Unit {0}
+AreSpent b table (round ∷ later) = IsSpent b table round × AreSpent b round.table later
+
+module _ (b : Binding) (plans : List (Option Plan)) where
+  round_spent : (table : List ℕ) (answer : RoundAnswer) (target : ℕ) → best_of b table ≡ Some target →
+      IsSpent b table (round_by b plans table answer target)
+  round_spent table answer target best = record { qualifies = found_qualifies b table target best; spent = refl }
+
+  followed_spent : (table : List ℕ) (round : Round) (later : List Round) (again : Bool) → IsSpent b table round →
+      AreSpent b round.table later → AreSpent b table (cond again (round ∷ later) (round ∷ []))
+  followed_spent table round later true spent rest = (spent, rest)
+  followed_spent table round later false spent rest = (spent, tt)
+
+  -- the rounds from a target on
+  abbrev follows : List ℕ → RoundAnswer → List RoundAnswer → ℕ → List Round
+  follows table answer answers target =
+      let round = round_by b plans table answer target in
+      followed_by b round (rounds_by b plans round.table answers)
+
+  rounds_spent : (table : List ℕ) (answers : List RoundAnswer) → AreSpent b table (rounds_by b plans table answers)
+  unfolding rounds_by
+  rounds_spent table [] = tt
+  rounds_spent table (answer ∷ answers) = by (best_of b table) refl (λ other. rounds_spent other answers)
+    where
+      by : (best : Option ℕ) → best_of b table ≡ best → ((other : List ℕ) → AreSpent b other (rounds_by b plans other answers)) →
+          AreSpent b table (option_map_or (follows table answer answers) best [])
+      by None e rest = tt
+      by (Some target) e rest =
+          let round = round_by b plans table answer target in
+          followed_spent table round (rounds_by b plans round.table answers) (is_retried b round.outcome)
+          (round_spent table answer target e) (rest round.table)
+
+module _ (b : Binding) (is : IsBinding b) where
+  abbrev left : List ℕ → ℕ
+  left = enabled_attempts b
+
+  spent_less : (table : List ℕ) (round : Round) → length table ≡ b.area_len → IsSpent b table round → left round.table + 1 ≤ left table
+  spent_less table round sized spent =
+      subst (λ t. left t + 1 ≤ left table) (sym spent.spent) (enabled_spent b table round.target is sized spent.qualifies)
+
+  next_sized : (table : List ℕ) (round : Round) → length table ≡ b.area_len → IsSpent b table round → length round.table ≡ b.area_len
+  next_sized table round sized spent = ap length spent.spent ∙ spent_sized b table round.target is sized spent.qualifies
+
+  -- so it is another table, and its save is begun
+  next_other : (table : List ℕ) (round : Round) → length table ≡ b.area_len → IsSpent b table round → bytes_eq round.table table ≡ false
+  next_other table round sized spent =
+      false_from_ne_true (bytes_eq round.table table)
+      (λ same.
+      let less = spent_less table round sized spent in
+      let kept = ap left ((bytes_eq-Decides round.table table).0 same) in
+      omega (arith, less, kept))
+
+  next_saved : (table : List ℕ) (round : Round) (later : List Round) → length table ≡ b.area_len → IsSpent b table round →
+      saves_of table (round ∷ later) ≡ round.table ∷ saves_of round.table later
+  next_saved table round later sized spent =
+      ap (map (λ (r : Round). r.table)) (begun_saving table round later (next_other table round sized spent))
+
+  saves_fall : (table : List ℕ) (rounds : List Round) → length table ≡ b.area_len → AreSpent b table rounds →
+      Falls left (table ∷ saves_of table rounds) 0
+  saves_fall table [] sized spent = falls_one left table
+  saves_fall table (round ∷ later) sized spent =
+      let rest = saves_fall round.table later (next_sized table round sized spent.0) spent.1 in
+      subst (λ saves. Falls left (table ∷ saves) 0) (sym (next_saved table round later sized spent.0))
+      (falls_cons left table round.table (saves_of round.table later) (spent_less table round sized spent.0) rest)
+
+  start_saved : (table : List ℕ) (rounds : List Round) → length table ≡ b.area_len → AreSpent b table rounds →
+      IsSome (target_started rounds) → 1 ≤ length (saves_of table rounds)
+  start_saved table [] sized spent none = absurd (false≢true none)
+  start_saved table (round ∷ later) sized spent some =
+      let many = ap length (next_saved table round later sized spent.0) in
+      omega (arith, many)
+
+  -- ---- one power-on
+
+  module _ (cause : Cause) (plans : List (Option Plan)) (before : Content) where
+    -- from the acknowledged place on the numbers fall, and the starts and what is left are no more than so many
+    record Leaves (most starts : ℕ) (after : Content) : Type 0 where
+      pub falls : Falls left after.areas after.acked
+      pub less : starts + number_of left after.areas after.acked ≤ most
+
+    module _ (place : ℕ) (saves : List (List ℕ)) (ok : ℕ) (started : Option ℕ) (boot : IsBootBehind b cause plans before place saves ok started)
+        (stays : (table : List ℕ) → slice_get before.areas place ≡ Some table → reset_of b cause table ≡ table) where
+      abbrev rounds : List Round
+      rounds = rounds_by b plans boot.table boot.answers
+
+      same_rounds : rounds_by b plans (reset_of b cause boot.table) boot.answers ≡ rounds
+      same_rounds = ap (λ t. rounds_by b plans t boot.answers) (stays boot.table boot.table_is)
+
+      saves_are : saves ≡ saves_of boot.table rounds
+      saves_are = ap saves_in boot.turn ∙ ap (saves_of boot.table) same_rounds
+
+      started_is : started ≡ target_started rounds
+      started_is = ap started_in boot.turn ∙ ap target_started same_rounds
+
+      fall : Falls left (boot.table ∷ saves) 0
+      fall =
+          subst (λ s. Falls left (boot.table ∷ s) 0) (sym saves_are)
+          (saves_fall boot.table rounds boot.sized (rounds_spent b plans boot.table boot.answers))
+
+      some_saved : IsSome started → 1 ≤ length saves
+      some_saved some =
+          subst (λ s. 1 ≤ length s) (sym saves_are)
+          (start_saved boot.table rounds boot.sized (rounds_spent b plans boot.table boot.answers) (subst IsSome started_is some))
+
+      -- a start is made behind a save that answered Ok
+      start_made : (some : Bool) → is_some started ≡ some → (IsSome started → ok ≡ length saves) → one_if some ≤ ok
+      start_made true e all = let saved = some_saved e in let made = all e in omega (arith, saved, made)
+      start_made false e all = omega arith
+
+      boot_leaves : (after : Content) → IsSaved before place saves ok started after.areas after.acked →
+          Leaves (number_of left before.areas place) (one_if (is_some started)) after
+      boot_leaves after saved =
+          let here = boot.table_is in
+          let less = longer_less left before.areas saves place boot.table here fall ok saved.most in
+          let made = start_made (is_some started) refl saved.start in
+          let given = ap (λ o. option_map_or left o 0) here in
+          let falls = falls_longer left before.areas saves place boot.table here fall in
+          let later = falls_later left (longer left before.areas saves place boot.table here) place (place + ok) (omega arith) falls in
+          let same : number_of left after.areas after.acked ≡ number_of left (take (place + 1) before.areas ++ saves) (place + ok) =
+          λ i. number_of left (saved.areas i) (saved.acked i) in
+          record {
+            falls = subst (λ h. Falls left h after.acked) (sym saved.areas) (subst (λ a. Falls left (take (place + 1) before.areas ++ saves) a) (sym saved.acked) later);
+            less = omega (arith, less, made, given, same);
+          }
+
+    -- ---- behind a load
+
+    abbrev now : ℕ
+    now = number_of left before.areas before.acked
+
+    as_before : (after : Content) → IsAsBefore before after.areas after.acked → Falls left before.areas before.acked → Leaves now 0 after
+    as_before after same falls = record {
+      falls = subst (λ h. Falls left h after.acked) (sym same.areas) (subst (λ a. Falls left before.areas a) (sym same.acked) falls);
+      less =
+          let kept_so : number_of left after.areas after.acked ≡ now = λ i. number_of left (same.areas i) (same.acked i) in
+          omega (arith, kept_so);
+    }
+
+    module _ (first : List ℕ) (stands : IsStanding first before) (falls : Falls left before.areas before.acked) where
+      loaded_leaves : (place : ℕ) (saves : List (List ℕ)) (ok : ℕ) (started : Option ℕ) (after : Content) →
+          IsSaved before place saves ok started after.areas after.acked → IsBootBehind b cause plans before place saves ok started →
+          ((table : List ℕ) → slice_get before.areas place ≡ Some table → reset_of b cause table ≡ table) →
+          Leaves now (one_if (is_some started)) after
+      loaded_leaves place saves ok started after saved boot stays =
+          let leaves = boot_leaves place saves ok started boot stays after saved in
+          let low = picked_holds first before.passed before.areas before.acked before.marks stands in
+          let behind : before.acked ≤ place = omega (arith, low, saved.given) in
+          let inside = slice_get_within before.areas place boot.table boot.table_is in
+          let fewer = falls_to left before.areas before.acked before.acked place falls (omega arith) behind inside in
+          record { falls = leaves.falls; less = omega (arith, leaves.less, fewer) }
+
+      turn_leaves : (turn : Turn) (after : Content) → Step before turn after.areas after.acked → IsBootTurn b cause plans before turn →
+          StaysReset b cause before (Finished turn) → Leaves now (one_if (turn_starts turn)) after
+      turn_leaves Untouched after step boot stays = as_before after step falls
+      turn_leaves Looked after step boot stays = as_before after step falls
+      turn_leaves Unloaded after step boot stays = as_before after step falls
+      turn_leaves (Loaded place saves ok started) after step boot stays =
+          loaded_leaves place saves ok started after step boot (λ table here. stays place table refl here)
+
+      event_leaves : (event : Event) (after : Content) → Follows first before event after → IsBootEvent b cause plans before event →
+          StaysReset b cause before event → Leaves now (one_if (starts_in event)) after
+      event_leaves (Finished turn) after follows boot stays = turn_leaves turn after follows.step boot stays
+      event_leaves (CutOff turn) after follows boot stays = turn_leaves turn after follows.step boot stays
+      event_leaves Decayed after follows boot stays = as_before after (record { areas = follows.areas; acked = follows.acked }) falls
+
+    -- ---- the first load, and what comes before it
+
+    -- of `rest` starts behind a power-on: what they are at most, once a load answered Ok and before
+    module _ (after : Content) (rest : ℕ) (behind : Falls left after.areas after.acked → rest ≤ number_of left after.areas after.acked)
+        (table : List ℕ) (later : Option (List ℕ)) (before_it : later ≡ Some table → rest ≤ left table) where
+      turn_bounded : (turn : Turn) → Step before turn after.areas after.acked → IsBootTurn b cause plans before turn →
+          StaysReset b cause before (Finished turn) → option_map_or (slice_get before.areas) (place_of turn) later ≡ Some table →
+          one_if (turn_starts turn) + rest ≤ left table
+      turn_bounded Untouched step boot stays given = omega (arith, before_it given)
+      turn_bounded Looked step boot stays given = omega (arith, before_it given)
+      turn_bounded Unloaded step boot stays given = omega (arith, before_it given)
+      turn_bounded (Loaded place saves ok started) step boot stays given =
+          let leaves = boot_leaves place saves ok started boot (λ loaded here. stays place loaded refl here) after step in
+          let most = ap (λ o. option_map_or left o 0) given in
+          omega (arith, leaves.less, behind leaves.falls, most)
+
+      event_bounded : (first : List ℕ) (event : Event) → Follows first before event after → IsBootEvent b cause plans before event →
+          StaysReset b cause before event → option_map_or (slice_get before.areas) (loaded_in event) later ≡ Some table →
+          one_if (starts_in event) + rest ≤ left table
+      event_bounded first (Finished turn) follows boot stays given = turn_bounded turn follows.step boot stays given
+      event_bounded first (CutOff turn) follows boot stays given = turn_bounded turn follows.step boot stays given
+      event_bounded first Decayed follows boot stays given = omega (arith, before_it given)
+
+-- where no load answered Ok nothing was started
+module _ (b : Binding) (cause : Cause) (plans : List (Option Plan)) (before : Content) (rest : ℕ) (later : Option (List ℕ))
+    (quiet : later ≡ None → rest ≡ 0) where
+  turn_quiet : (turn : Turn) → IsBootTurn b cause plans before turn → option_map_or (slice_get before.areas) (place_of turn) later ≡ None →
+      one_if (turn_starts turn) + rest ≡ 0
+  turn_quiet Untouched boot none = omega (arith, quiet none)
+  turn_quiet Looked boot none = omega (arith, quiet none)
+  turn_quiet Unloaded boot none = omega (arith, quiet none)
+  turn_quiet (Loaded place saves ok started) boot none = absurd (none-some boot.table (sym none ∙ boot.table_is))
+
+  event_quiet : (event : Event) → IsBootEvent b cause plans before event → option_map_or (slice_get before.areas) (loaded_in event) later ≡ None →
+      one_if (starts_in event) + rest ≡ 0
+  event_quiet (Finished turn) boot none = turn_quiet turn boot none
+  event_quiet (CutOff turn) boot none = turn_quiet turn boot none
+  event_quiet Decayed boot none = omega (arith, quiet none)
+
+-- ---- over a chronicle
+
+starts_cons : (entry : Entry) (later : List Entry) → starts_of (entry ∷ later) ≡ one_if (starts_in entry.event) + starts_of later
+starts_cons entry later = sum_by-cons (λ (e : Entry). one_if (starts_in e.event)) entry later
+
+module _ (b : Binding) (is : IsBinding b) (plans : List (Option Plan)) (first : List ℕ) where
+  starts_left : (before : Content) (entries : List Entry) → IsStanding first before → Chronicle first before entries →
+      AreBoots b plans before entries → Falls (enabled_attempts b) before.areas before.acked →
+      starts_of entries ≤ number_of (enabled_attempts b) before.areas before.acked
+  unfolding AreBoots
+  starts_left before [] stands chronicle boots falls = omega arith
+  starts_left before (entry ∷ later) stands chronicle boots falls =
+      let leaves = event_leaves b is boots.0.cause plans before first stands falls entry.event entry.content chronicle.0 boots.0.boots boots.0.stays in
+      let behind = stands_after first before stands entry.event entry.content chronicle.0 in
+      let rest = starts_left entry.content later behind chronicle.1 boots.1 leaves.falls in
+      omega (arith, starts_cons entry later, leaves.less, rest)
+
+  starts_bounded : (table : List ℕ) (before : Content) (entries : List Entry) → IsStanding first before → Chronicle first before entries →
+      AreBoots b plans before entries → first_loaded before entries ≡ Some table → starts_of entries ≤ enabled_attempts b table
+  unfolding AreBoots first_loaded
+  starts_bounded table before [] stands chronicle boots given = absurd (none-some table given)
+  starts_bounded table before (entry ∷ later) stands chronicle boots given =
+      let behind = stands_after first before stands entry.event entry.content chronicle.0 in
+      let bounded =
+      event_bounded b is boots.0.cause plans before entry.content (starts_of later)
+      (λ falls. starts_left entry.content later behind chronicle.1 boots.1 falls) table (first_loaded entry.content later)
+      (λ more. starts_bounded table entry.content later behind chronicle.1 boots.1 more) first entry.event chronicle.0 boots.0.boots boots.0.stays given in
+      omega (arith, starts_cons entry later, bounded)
+
+pub attempts_bound : AttemptsLaw
+attempts_bound b plans first table before entries is stands chronicle boots given =
+    starts_bounded b is plans first table before entries stands chronicle boots given
+
+pub no_load_starts : NoLoadLaw
+unfolding AreBoots first_loaded
+no_load_starts b plans before [] boots none = refl
+no_load_starts b plans before (entry ∷ later) boots none =
+    starts_cons entry later
+    ∙ event_quiet b boots.0.cause plans before (starts_of later) (first_loaded entry.content later)
+    (no_load_starts b plans entry.content later boots.1) entry.event boots.0.boots none

@@ -1,0 +1,23 @@
+use Rattle.std.proofs.Common.{◌∙◌, ap, is_ok, sym}
+use Rattle.bb_flash.specs.Memory.{device_of}
+use Rattle.bb_state.specs.Keyed.{Keyed}
+use Rattle.bb_shell_trials.proofs.tests.rig.boot.Goals as goal
+
+pub load-requires-clause-on : goal.load-requires-clause-on
+load-requires-clause-on c =
+    c.in_ok-state.ensures.fresh (device_of c.args.board.now)
+    (sym c.geometry-geometry.ensures.value ∙ sym c.in_ok-layout.ensures.geometry ∙ sym c.in_ok-state.ensures.geometry)
+    c.geometry-geometry.ensures.whole
+
+pub boot_run-requires : goal.boot_run-requires
+boot_run-requires c =
+    record {
+      sized = c.load.ensures.sized;
+      fits = c.load.ensures.fits c.in_ok-state.ensures.fits;
+      sure = c.load.ensures.sure ∙ ap is_ok c.in-Ok-load.is;
+      on = c.load.ensures.on;
+      bound = record {
+        area_len = c.in_ok-chooser.ensures ∙ sym c.in_ok-state.ensures.area_len
+            ∙ ap (λ (k : Keyed). k.layout.area_len) (sym c.load.ensures.keyed);
+      };
+    }

@@ -1,0 +1,5 @@
+mod areas;
+mod boots;
+mod devices;
+mod each_fault;
+mod rig;

@@ -1,0 +1,5 @@
+mod keys;
+mod lines;
+mod logs;
+mod rig;
+mod table;

@@ -1,0 +1,124 @@
+// Copies under a key. The values of HMAC-SHA256 and of the CRCs are those of another program (Python's hmac and zlib).
+ghost use Rattle.std.specs.Prelude.{◌≡◌, ◌≤◌, IfOk};
+
+use super::rig::{IN_PLACE, board, layout, loaded, plain, save};
+use bb_hmac::Key;
+use bb_layout::Layout;
+use bb_state::Loaded;
+use std::alloc::Global;
+use std::process::Abort;
+use std::test::Fail;
+
+const COPY_LEN: usize = 57;
+
+// A front, and the record of the value 7 under the key `4a656665`.
+fn good() -> [u8; COPY_LEN] {
+    *b"\xf3\xfd\x54\x23\x31\x00\x00\x00\x01\x00\x00\x00\x00\x00\x01\x00\x2e\x7a\x66\x4c\xb4\xad\x6a\x7e\x07\xfd\x5b\xa2\x96\xb1\xdf\x81\x93\x7b\x62\xf8\x0a\x64\x42\x8e\xfb\xd9\x97\x6b\xa9\x61\x38\x43\x3f\x96\x12\xf9\x25\xf2\x5c\x87\xb8"
+}
+
+// The same with the last bit of its HMAC turned.
+fn decayed() -> [u8; COPY_LEN] {
+    let mut copy = good();
+    copy[56] = 0xb9;
+    copy
+}
+
+fn strides(first: [u8; COPY_LEN], second: [u8; COPY_LEN], third: [u8; COPY_LEN]) -> [u8; 192] {
+    with(with(with([0xff; 192], 0, first), 64, second), 128, third)
+}
+
+fn with(mut device: [u8; 192], at: usize, begins: [u8; COPY_LEN]) -> [u8; 192]
+    requires { at ≤ 128 }
+{
+    device[at..at + COPY_LEN].copy_from_slice(&begins);
+    device
+}
+
+fn key(text: &[u8]) -> Result<Option<Key>, Fail> {
+    let Ok(key) = Key::from_hex(text) else {
+        return Err(Fail::from("the key is refused"));
+    };
+    Ok(Some(key))
+}
+
+fn under_key(alloc: Global) -> Result<Layout, Fail>
+    ensures geometry { IfOk result (λ layout.
+        layout.geometry ≡ record { page = 1; block = 0; size = 192 }) }
+    ensures area_len { IfOk result (λ layout. layout.area_len ≡ 1) }
+{
+    layout(alloc, b"algo = \"hmac(sha256)\";", b"", IN_PLACE)
+}
+
+// A load under a key from a device of these bytes gives an answer and a value, and leaves these.
+fn gives(
+    rt: &impl Abort,
+    alloc: Global,
+    hex: &[u8],
+    before: [u8; 192],
+    answer: Loaded,
+    value: u8,
+    after: [u8; 192],
+) -> Result<(), Fail> {
+    let mut board = board(alloc, IN_PLACE, &before)?;
+    let key = key(hex)?;
+    let state = loaded(rt, alloc, under_key(alloc)?, key, &mut board, answer)?;
+    assert_eq!(rt; state.table.bytes(), [value].as_slice());
+    assert_eq!(rt; board.bytes(), after.as_slice());
+    Ok(())
+}
+
+#[test]
+fn a_save_writes_records_with_their_hmac(rt: HostRuntime) -> Result<(), Fail> {
+    let mut board = board(rt.alloc(), IN_PLACE, &[0xff; 192])?;
+    let key = key(b"4a656665\n")?;
+    let layout = under_key(rt.alloc())?;
+    let mut state = loaded(&rt, rt.alloc(), layout, key, &mut board, Loaded::NoCopy)?;
+    save(&rt, &mut state, &mut board, b"7");
+    assert_eq!(rt; board.bytes(), strides(good(), good(), good()).as_slice());
+    Ok(())
+}
+
+// Two copies decay and are repaired, one after the other, so that the third may decay then: each of
+// the repaired ones passes alone.
+#[test]
+fn a_repaired_copy_passes_under_the_key(rt: HostRuntime) -> Result<(), Fail> {
+    let whole = strides(good(), good(), good());
+    let first = strides(decayed(), good(), good());
+    let second = strides(good(), decayed(), good());
+    let all = |used| Loaded::Copy { used, live: 3 };
+    gives(&rt, rt.alloc(), b"4a656665", first, all(0), 7, whole)?;
+    gives(&rt, rt.alloc(), b"4a656665", second, all(0), 7, whole)?;
+    let first_alone = strides(good(), decayed(), decayed());
+    let second_alone = strides(decayed(), good(), decayed());
+    gives(&rt, rt.alloc(), b"4a656665", first_alone, all(0), 7, whole)?;
+    gives(&rt, rt.alloc(), b"4a656665", second_alone, all(0), 7, whole)
+}
+
+// Where no copy passes the defaults are loaded, and nothing is written.
+#[test]
+fn a_record_under_another_key_passes_nothing(rt: HostRuntime) -> Result<(), Fail> {
+    let whole = strides(good(), good(), good());
+    gives(
+        &rt,
+        rt.alloc(),
+        b"4a656666",
+        whole,
+        Loaded::NoCopy,
+        3,
+        whole,
+    )?;
+    gives(&rt, rt.alloc(), b"00", whole, Loaded::NoCopy, 3, whole)
+}
+
+#[test]
+fn a_record_without_a_key_passes_nothing_under_one(rt: HostRuntime) -> Result<(), Fail> {
+    let mut board = board(rt.alloc(), IN_PLACE, &[0xff; 192])?;
+    let layout = plain(rt.alloc())?;
+    let mut state = loaded(&rt, rt.alloc(), layout, None, &mut board, Loaded::NoCopy)?;
+    save(&rt, &mut state, &mut board, b"7");
+    let key = key(b"4a656665")?;
+    let layout = under_key(rt.alloc())?;
+    let state = loaded(&rt, rt.alloc(), layout, key, &mut board, Loaded::NoCopy)?;
+    assert_eq!(rt; state.table.bytes(), b"\x03".as_slice());
+    Ok(())
+}

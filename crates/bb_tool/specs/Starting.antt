@@ -1,0 +1,140 @@
+-- What `run` says of starts: at most one, of the best target, by its plan, behind the save of the
+-- attempt that it spends. None of these facts names a command.
+use Rattle.std.specs.Prelude.{◌≡◌, ◌⊎◌, ℕ, ⊤, List, Option, Some, None, Ok, IsNone, IsSome, option_and_then}
+use Rattle.std.specs.Option.{ForSome}
+use Rattle.bb_base.specs.Faults.{Rose}
+use Rattle.bb_chooser.specs.Binding.{IsBinding}
+use Rattle.bb_copies.specs.Chronicle.{Content, Turn}
+use Rattle.bb_copies.specs.Settling.{RoseBy}
+use Rattle.bb_copies.specs.StandsFor.{EachPassesOrNothing}
+use Rattle.bb_flash.specs.Device.{Device, content, starts}
+use Rattle.bb_flash.specs.declared.plan.Plan.{Plan as StartPlan}
+use Rattle.bb_shell.specs.Boot.{last_round, plan_at, table_after}
+use Rattle.bb_shell.specs.Counting.{IsBootTurn}
+use Rattle.bb_shell.specs.Ends.{StartsOnce, failed_starts}
+use Rattle.bb_tool.specs.Booting.{AreRoundsOf, plans_of, start_of}
+use Rattle.bb_tool.specs.Calls.{MayAnswer, Tells, session_for}
+use Rattle.bb_tool.specs.Copying.{EachWork}
+use Rattle.bb_tool.specs.Looking.{passed_in}
+use Rattle.bb_tool.specs.Plan.{Act, Boot, Good, SessionPlan, Show, Work, Write}
+use Rattle.bb_tool.specs.Ran.{Ran}
+use Rattle.bb_tool.specs.Session.{Answers, loaded_area, sent_of}
+use Rattle.bb_tool.specs.Turns.{EachStanding, turn_of}
+use Rattle.bb_tool.specs.declared.refusal.Refusal.TheVariants as refusals
+use Rattle.bb_tool.specs.declared.status.Status.TheVariants as statuses
+
+-- ---- rounds
+
+-- P holds of the table that the load of a session gave
+abbrev pub EachLoaded : Ran → (SessionPlan → Answers → List ℕ → Type 0) → Type 0
+EachLoaded ran P =
+    EachWork ran
+    (λ plan answers.
+    (found : Option (List ℕ)) → answers.load ≡ Ok found →
+    P plan answers (loaded_area plan.keyed.layout found))
+
+-- The rounds of a session go by the rules: each is of the best target in the table that it starts
+-- from, which loses one attempt.
+abbrev pub RunsRounds : Ran → Type 0
+RunsRounds ran =
+    EachLoaded ran (λ plan answers table. AreRoundsOf plan.work table (session_for ran answers).rounds)
+
+-- A boot did what the law of starts takes for a boot: where its load answered Ok, the table that it
+-- gave stands at the turn's place of the list and has the area's length, and the turn is that of the
+-- rounds that come of some answers. No other work is a boot.
+abbrev pub IsTurnOf : Work → Content → Turn → Type 0
+IsTurnOf Show before turn = ⊤
+IsTurnOf (Write area) before turn = ⊤
+IsTurnOf (Act actions) before turn = ⊤
+IsTurnOf (Good targets) before turn = ⊤
+IsTurnOf (Boot targets cause plans) before turn = IsBootTurn targets cause plans before turn
+
+-- and its targets are bound as that law takes them: their variables are in the area, and no two of
+-- them share a byte
+abbrev pub IsBoundWork : Work → Type 0
+IsBoundWork Show = ⊤
+IsBoundWork (Write area) = ⊤
+IsBoundWork (Act actions) = ⊤
+IsBoundWork (Good targets) = ⊤
+IsBoundWork (Boot targets cause plans) = IsBinding targets
+
+-- so are the targets of a session, and so is its turn, at each content that its copies stood for at
+-- entry
+pub record BootsByPlan (ran : Ran) (plan : SessionPlan) (answers : Answers) : Type 0 where
+  pub binding : IsBoundWork plan.work
+  pub turns :
+      EachStanding plan.keyed ran.before.device ran.after.device
+      (λ first last before.
+      IsTurnOf plan.work before (turn_of plan answers.load answers.saves before.marks))
+
+abbrev pub BootsInTurn : Ran → Type 0
+BootsInTurn ran = EachWork ran (BootsByPlan ran)
+
+-- ---- starts
+
+-- the starts grow by this one, if there is one, made with what the device holds at exit
+abbrev pub AddsStart : Option StartPlan → Device → Device → Type 0
+AddsStart None from to = starts to ≡ starts from
+AddsStart (Some plan) from to = StartsOnce from to plan
+
+-- a start is made exactly where the last round made one, by the plan of its target
+abbrev pub StartsTheLast : Ran → Type 0
+StartsTheLast ran =
+    EachWork ran
+    (λ plan answers.
+    AddsStart (start_of plan.work (session_for ran answers).rounds) ran.before.device
+    ran.after.device)
+
+-- whatever it answered, the session made no start, or one
+abbrev pub StartsAtMostOne : Ran → Type 0
+StartsAtMostOne ran =
+    (starts ran.after.device ≡ starts ran.before.device)
+    ⊎ ((plan : StartPlan) × StartsOnce ran.before.device ran.after.device plan)
+
+-- where a start was made every copy passes the table of its round or nothing
+abbrev pub StartsBehindSave : Ran → Type 0
+StartsBehindSave ran =
+    EachLoaded ran
+    (λ plan answers table.
+    IsSome (start_of plan.work (session_for ran answers).rounds) →
+    ForSome (content ran.after.device)
+    (λ image.
+    EachPassesOrNothing (table_after table (session_for ran answers).rounds)
+    (passed_in plan.keyed ran.before.device.geometry.page image)))
+
+-- the count of failed starts rose by at least the rounds that failed although their target has a plan
+abbrev pub CountsFailedStarts : Ran → Type 0
+CountsFailedStarts ran =
+    EachWork ran
+    (λ plan answers.
+    RoseBy (failed_starts (session_for ran answers).rounds) ran.before.device.start_faults
+    ran.after.device.start_faults)
+
+-- ---- a start that failed
+
+-- the target of the last round has no plan
+abbrev pub IsUnplanned : Work → Ran → Answers → Type 0
+IsUnplanned work ran answers =
+    IsNone
+    (option_and_then (λ round. plan_at (plans_of work) round.target)
+    (last_round (session_for ran answers).rounds))
+
+-- a target is named as one that couldn't be started only where it has no plan, or a start failed
+abbrev pub KnowsStartFaults : Ran → Type 0
+KnowsStartFaults ran =
+    EachWork ran
+    (λ plan answers.
+    (name : List ℕ) → (session_for ran answers).refusal ≡ Some (refusals.StartFailed name) →
+    IsUnplanned plan.work ran answers
+    ⊎ Rose ran.before.device.start_faults ran.after.device.start_faults)
+
+-- the refusal names a target
+pub record NamesATarget (ran : Ran) : Type 0 where
+  pub answers : Answers
+  pub answered : MayAnswer ran answers
+  pub name : List ℕ
+  pub refusal : (session_for ran answers).refusal ≡ Some (refusals.StartFailed name)
+  pub told : Tells ran (sent_of (session_for ran answers)) statuses.StartFailed
+
+abbrev pub NamesTheTarget : Ran → Type 0
+NamesTheTarget ran = ran.status ≡ statuses.StartFailed → NamesATarget ran

@@ -1,0 +1,24 @@
+use crate::refusal::Refusal;
+use bb_base::Bytes;
+
+/// What is sent of a session whose work was done: a text, and behind it the line of a refusal, where one came behind
+/// that text.
+#[derive(Debug, Drop)]
+pub(crate) struct Report {
+    pub text: Bytes,
+    pub refusal: Option<Refusal>,
+}
+
+impl Report {
+    ghost use Rattle.std.specs.Prelude.{◌≡◌, None};
+
+    /// The work is done, and this is its text.
+    pub(crate) fn done(text: Bytes) -> Report
+        ensures { result ≡ record { text = text; refusal = None } }
+    {
+        Report {
+            text,
+            refusal: None,
+        }
+    }
+}
