@@ -1,5 +1,5 @@
 # shellcheck shell=bash
-# What devices, faults and pairs share: the program, a folder to work in, and checks that are counted.
+# What devices, faults, starts and pairs share: the program, a folder to work in, and checks that are counted.
 #
 # A check is a function that says what is wrong and is silent where nothing is. Each has one line of output, and what
 # cannot be tried on this machine has one that says so. The last line is `N passed, N failed`.
