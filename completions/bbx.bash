@@ -1,0 +1,111 @@
+# shellcheck shell=bash
+# Completions of bbx in bash: commands, options, files, and the names of variables.
+#
+# The names are those that `state -d` prints over a scratch file of this file's own, and never over
+# the device that the words name, since a load may write. Nothing that was typed or printed is
+# expanded or run by the shell.
+
+# Sets `words` to the words up to the cursor, without quotes. Readline's pieces are joined where no
+# blank stands between them: `:` and `=` part pieces, and not words.
+_bbx_words() {
+  local line=${COMP_LINE:0:COMP_POINT} place piece rest
+  words=()
+  for ((place = 0; place <= COMP_CWORD; place++)); do
+    rest=${line#"${line%%[![:space:]]*}"}
+    piece=${COMP_WORDS[place]}
+    [ "$place" -lt "$COMP_CWORD" ] || piece=$rest
+    if [ ${#words[@]} -gt 0 ] && [ "$rest" = "$line" ]; then
+      words[-1]+=$piece
+    else
+      words+=("$piece")
+    fi
+    line=${rest#"$piece"}
+  done
+  for place in "${!words[@]}"; do
+    piece=${words[place]//[\"\'\\]/}
+    [[ $piece != \~/* ]] || piece=$HOME/${piece:2}
+    words[place]=$piece
+  done
+}
+
+# Prints the program's file. In a checkout that is the built one, since the script `bbx` there may
+# build for long.
+_bbx_program() {
+  local file folder
+  file=$(readlink -f -- "$(type -P -- "$1")")
+  folder=${file%/*}
+  [ ! -d "$folder/crates/bbx" ] || file=$folder/crates/bbx/out/bbx
+  echo "$file"
+}
+
+# Prints how many bytes a device of this geometry has.
+_bbx_size() {
+  local size=${1##*:}
+  if [[ $size =~ ^0[xX][0-9a-fA-F]{1,8}$ ]]; then
+    echo $((size))
+  elif [[ $size =~ ^[0-9]{1,9}$ ]]; then
+    echo $((10#$size))
+  fi
+}
+
+# Prints the names of the variables in the devicetree that the words name, by the geometry that they
+# name.
+_bbx_variables() {
+  local program size scratch place given=() input=''
+  for ((place = 4; place + 1 < ${#words[@]}; place++)); do
+    case ${words[place]} in
+      -i | --input) input=${words[place + 1]} ;;
+      --input=*) input=${words[place]#*=} ;;
+      -n | --name) given+=(-n "${words[place + 1]}") ;;
+      --name=*) given+=(-n "${words[place]#*=}") ;;
+      -k) given+=(-k "${words[place + 1]}") ;;
+    esac
+  done
+  program=$(_bbx_program "${words[0]}") size=$(_bbx_size "${words[2]}")
+  { [ -f "$input" ] && [ -f "$program" ] && [ -x "$program" ] && [ -n "$size" ]; } || return
+  scratch=$(mktemp -d) || return
+  truncate -s "$size" "$scratch/device" &&
+    "$program" "$scratch/device" "${words[2]}" state -i "$input" "${given[@]}" -d </dev/null 2>/dev/null |
+    sed -n 's/^\([A-Za-z0-9,._+*#?@-]*\)=.*/\1/p'
+  rm -rf "$scratch"
+}
+
+# Answers those of the lines that begin with the current word, each with $1 behind it.
+_bbx_answer() {
+  local line
+  while read -r line; do
+    [[ $line != "$word"* ]] || COMPREPLY+=("$line$1")
+  done
+}
+
+_bbx_files() {
+  compopt -o filenames
+  mapfile -t COMPREPLY < <(compgen -f -- "$word")
+}
+
+_bbx() {
+  local words word=$2 before options=''
+  COMPREPLY=()
+  _bbx_words
+  # What the current word is a value of: its own front up to a `=` or `:`, or the word before it.
+  before=${words[-1]%"$word"}
+  [ -n "$before" ] || before=${words[-2]}
+  case ${#words[@]} in
+    2) _bbx_files; [[ $word != -* ]] || _bbx_answer '' <<<$'--help\n--version'; return ;;
+    3) compopt -o nospace; [[ ${words[2]} == *:* ]] || _bbx_answer '' <<<$'ov:\ner:'; return ;;
+    4) _bbx_answer '' <<<$'raw\nstate\nmark-good\nboot'; return ;;
+  esac
+  case ${words[3]}:$before in
+    raw:*) [ ${#words[@]} != 7 ] || options='-g -s' ;;
+    state:-[ik] | mark-good:-[ick] | boot:-[ick] | *:--input | *:--input=) _bbx_files ;;
+    boot:--cause) options='power-on reset other' ;;
+    state:-g | state:--get | state:--get=) _bbx_answer '' < <(_bbx_variables) ;;
+    state:-s | state:--set | state:--set=) compopt -o nospace; _bbx_answer '=' < <(_bbx_variables) ;;
+    *:-n | *:--name | *:*=) ;;
+    state:*) options='-i --input -n --name -k -g --get -s --set -d --dump --dump-shell' ;;
+    mark-good:*) options='-i --input -n --name -c -k' ;;
+    boot:*) options='-i --input -n --name -c -k --cause' ;;
+  esac
+  [ -z "$options" ] || _bbx_answer '' <<<"${options// /$'\n'}"
+}
+complete -F _bbx bbx
