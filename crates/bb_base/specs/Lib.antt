@@ -7,3 +7,4 @@ pub mod MemFiles
 pub mod MemSink
 pub mod Number
 pub mod Outlet
+pub mod Refusals
