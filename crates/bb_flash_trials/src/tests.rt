@@ -1,7 +1,7 @@
 ghost use Rattle.std.specs.Prelude.{◌≡◌, ◌<◌, IfOk};
 
-use crate::{Board, Fault, Fill, Flash, Geometry, Health, MemBoard, Plan, geometry_of};
 use bb_base::{Failed, NoMemory, Text, TextList};
+use bb_flash::{Board, Fault, Fill, Flash, Geometry, Health, MemBoard, Plan, geometry_of};
 use std::test::Fail;
 
 #[test]
@@ -89,7 +89,7 @@ fn a_program_writes_its_bytes_alone(rt: HostRuntime) -> Result<(), Fail> {
     let mut board = small(&rt)?;
     assert_eq!(rt; put(&mut board, 1, 9), Ok(()));
     assert_eq!(rt; board.bytes(), [1, 9, 3, 4].as_slice());
-    assert_eq!(rt; (board.programs(), board.erased()), (1, 0));
+    assert_eq!(rt; (board.programs(), board.erase_count()), (1, 0));
     Ok(())
 }
 
@@ -153,7 +153,7 @@ fn a_start_outlives_a_restart(rt: HostRuntime) -> Result<(), Fail> {
     let plan = plan(&rt)?;
     assert_eq!(rt; board.start(&plan), Ok(()));
     board.restart();
-    assert_eq!(rt; board.started(), 1);
+    assert_eq!(rt; board.start_count(), 1);
     assert_eq!(rt; board.plan_at(0).map(|plan| plan.place), Some(2));
     assert_eq!(rt; board.plan_at(1).is_none(), true);
     Ok(())
@@ -166,7 +166,7 @@ fn a_planned_start_fails(rt: HostRuntime) -> Result<(), Fail> {
     board.fail_start(1)?;
     assert_eq!(rt; board.start(&plan), Ok(()));
     assert_eq!(rt; board.start(&plan), Err(Failed));
-    assert_eq!(rt; board.started(), 1);
+    assert_eq!(rt; board.start_count(), 1);
     Ok(())
 }
 

@@ -187,7 +187,7 @@ fn whole(rt: &impl Abort, alloc: Global, row: Row) -> Result<(), Fail> {
         "",
     )?;
     let reads = device.reads();
-    let writes = device.programs().checked_add(device.erased());
+    let writes = device.programs().checked_add(device.erase_count());
     assert_eq!(rt; reads, u64::from(row.reads));
     assert_eq!(rt; writes, Some(row.writes.len() as u64));
     gives(rt, alloc, row, &mut device, Status::Done)

@@ -26,7 +26,7 @@ fn leaves(
     record: Content,
 ) -> Result<(), Fail> {
     let wanted = image(alloc, Kind::Stride, [&[record]; 3])?;
-    assert_eq!(rt; device.started(), starts);
+    assert_eq!(rt; device.start_count(), starts);
     assert_eq!(rt; device.bytes(), wanted.as_slice());
     Ok(())
 }

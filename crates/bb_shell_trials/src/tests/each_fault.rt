@@ -299,7 +299,7 @@ fn calls_without_a_fault(
     assert!(rt; matches!(end, Some(BootEnd::Started { .. })));
     let further = row.further.saturating_mul(failing);
     let writes = row.mends.saturating_add(row.first).saturating_add(further);
-    let done = device.programs().saturating_add(device.erased());
+    let done = device.programs().saturating_add(device.erase_count());
     assert_eq!(rt; device.reads(), u64::from(row.reads));
     assert_eq!(rt; done, u64::from(writes));
     shows_round(rt, alloc, row, &mut device, failing)?;
@@ -327,7 +327,7 @@ fn meets(
     let settings = with_retry_and_reset();
     let end = boot(alloc, row.kind, settings, entry(), true, &mut device)?;
     let has_started = matches!(end, Some(BootEnd::Started { .. }));
-    assert_eq!(rt; device.started(), u32::from(has_started));
+    assert_eq!(rt; device.start_count(), u32::from(has_started));
     device.restart();
     if has_started {
         return shows_round(rt, alloc, row, &mut device, failing);

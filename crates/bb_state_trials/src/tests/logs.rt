@@ -29,6 +29,6 @@ fn three_saves_read_no_more_than_one(rt: HostRuntime) -> Result<(), Fail> {
     save(&rt, &mut state, &mut board, b"7");
     assert_eq!(rt; board.reads(), 192);
     assert_eq!(rt; board.programs(), 9);
-    assert_eq!(rt; board.erased(), 0);
+    assert_eq!(rt; board.erase_count(), 0);
     Ok(())
 }

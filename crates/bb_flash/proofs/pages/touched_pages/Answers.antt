@@ -1,7 +1,7 @@
 use Rattle.std.proofs.Common.{◌<◌, arith}
 use Rattle.std.proofs.lemmas.Grind.{common_steps}
 use Rattle.bb_flash.proofs.Tearing.{page_count_le}
-use Rattle.bb_flash.proofs.pages.touched.Goals as goal
+use Rattle.bb_flash.proofs.pages.touched_pages.Goals as goal
 
 pub returns-clause-few : goal.returns-clause-few
 returns-clause-few c =
