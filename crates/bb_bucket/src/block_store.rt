@@ -4,6 +4,7 @@ ghost use Rattle.bb_flash.specs.Cuts.{EachTorn, IsLater};
 ghost use Rattle.bb_flash.specs.Device.{IsDevice, LeavesStarts, reads};
 ghost use Rattle.bb_bucket.specs.Blocks.{is_block_of};
 ghost use Rattle.bb_bucket.specs.Calls.{EachCall, EndsTorn, ErasesWhere, IsVoidCall, IsWriteCall, Leaves};
+ghost use Rattle.bb_bucket.specs.Front.{front_len};
 ghost use Rattle.bb_bucket.specs.OneBlock.{one_block_kind};
 
 use crate::Block;
@@ -21,7 +22,7 @@ pub(crate) fn write_block<F: Flash>(
     rec: &[u8],
 ) -> Result<(), Failed>
     requires held { IsTrue (is_block_of block (F.device flash.old).geometry) }
-    requires room { 8 + length rec.now ≤ block.region.size }
+    requires room { front_len + length rec.now ≤ block.region.size }
     requires memory { length memory.old ≡ block.region.size }
     ensures done { OnOk result (Leaves block.region ((one_block_kind block).after_write rec.now)
         (F.device flash.old) (F.device flash.new)) }

@@ -3,7 +3,8 @@ ghost use Rattle.bb_base.specs.Faults.{HasCause};
 ghost use Rattle.bb_flash.specs.Cuts.{EachTorn, IsLater};
 ghost use Rattle.bb_flash.specs.Device.{IsDevice, LeavesStarts, reads};
 ghost use Rattle.bb_bucket.specs.Calls.{EachCall, EndsTorn, ErasesWhere, IsVoidCall, IsWriteCall, Leaves};
-ghost use Rattle.bb_bucket.specs.Stride.{holds, stride_kind};
+ghost use Rattle.bb_bucket.specs.Front.{front_len};
+ghost use Rattle.bb_bucket.specs.Stride.{lies_on, stride_kind};
 
 use crate::entry::{FRONT_LEN, write_entry};
 use crate::parts::program_part;
@@ -18,8 +19,8 @@ pub(crate) fn write_record<F: Flash>(
     memory: &mut [u8],
     rec: &[u8],
 ) -> Result<(), Failed>
-    requires held { IsTrue (holds stride (F.device flash.old).geometry) }
-    requires room { 8 + length rec.now ≤ stride.size }
+    requires held { IsTrue (lies_on stride (F.device flash.old).geometry) }
+    requires room { front_len + length rec.now ≤ stride.size }
     requires small { stride.size < 2 ^ 32 }
     requires memory { length memory.old ≡ stride.size }
     ensures done { OnOk result (Leaves stride ((stride_kind stride).after_write rec.now)
@@ -45,8 +46,8 @@ pub(crate) fn write_record<F: Flash>(
 
 /// Writes zeros over the front of a stride, by one program.
 pub(crate) fn void_record<F: Flash>(flash: &mut F, stride: Region) -> Result<(), Failed>
-    requires held { IsTrue (holds stride (F.device flash.old).geometry) }
-    requires least { 8 ≤ stride.size }
+    requires held { IsTrue (lies_on stride (F.device flash.old).geometry) }
+    requires least { front_len ≤ stride.size }
     ensures done { OnOk result (Leaves stride (stride_kind stride).after_void
         (F.device flash.old) (F.device flash.new)) }
     ensures calls { EachCall (IsVoidCall (stride_kind stride) (F.device flash.old).geometry.page)

@@ -14,11 +14,9 @@ use Rattle.bb_flash.specs.declared.geometry.Geometry.{Geometry}
 use Rattle.bb_flash.specs.declared.health.Health.{Health}
 use Rattle.bb_flash.specs.declared.health.Health.TheVariants.{Fine, Worn, Lost}
 use Rattle.bb_flash.specs.declared.region.Region.{Region}
-use Rattle.bb_flash.specs.Cuts.{IsContinued, IsLater}
-use Rattle.bb_flash.specs.Device.{Device, ReadKeeps, content}
+use Rattle.bb_flash.specs.Device.{Device, content}
 use Rattle.bb_flash.specs.Image.{Image, health_of, worst_of}
 use Rattle.bb_flash.proofs.Geometries.{whole_times}
-use Rattle.bb_flash.proofs.Moments.{image_at-now}
 use Rattle.bb_flash.proofs.Tearing.{touched_pages-some}
 use Rattle.bb_bucket.specs.declared.block.Block.{Block}
 use Rattle.bb_bucket.specs.Calls.{Agrees, IsFoundAs}
@@ -36,30 +34,7 @@ use Rattle.bb_circular.specs.Looking.{IsKnown, IsLastPage, kept_at, worn_of}
 use Rattle.bb_circular.specs.Pages.{Page, is_blank, page_at, pages_of, written_pages}
 use Rattle.bb_circular.specs.PagesLaws.{IsLookedAt, IsPaged, page_of, pages_counted, written_from}
 
--- ---- devices that only were read
-
-pub later_same : (device : Device) → IsLater device device
-later_same device = record {
-  geometry = refl;
-  told = refl;
-  faults = omega arith;
-  read_faults = omega arith;
-  continued = λ first e last f.
-      let same : first ≡ last = cc in
-      subst (λ told. IsContinued first told) same
-      (record { changes = take_all (length first.changes) first.changes (omega arith); held = image_at-now first });
-}
-
-pub keeps_same : (device : Device) → ReadKeeps device device
-keeps_same device = record { geometry = refl; content = refl; starts = refl; start_faults = refl }
-
-pub keeps_joined : (one two three : Device) → ReadKeeps one two → ReadKeeps two three → ReadKeeps one three
-keeps_joined one two three h k = record {
-  geometry = k.geometry ∙ h.geometry;
-  content = k.content ∙ h.content;
-  starts = k.starts ∙ h.starts;
-  start_faults = k.start_faults ∙ h.start_faults;
-}
+-- ---- reads of a region
 
 -- a read of a region, by the page of the block
 pub part_by :

@@ -16,7 +16,7 @@ use Rattle.bb_bucket.specs.declared.block.Block.{Block}
 use Rattle.bb_bucket.specs.Blocks.{blank_of}
 use Rattle.bb_bucket.specs.BlockLaws.{block_of}
 use Rattle.bb_bucket.specs.Front.{put_at}
-use Rattle.bb_bucket.specs.Kind.{Kind, part_of}
+use Rattle.bb_bucket.specs.Kind.{BucketKind, part_of}
 use Rattle.bb_circular.specs.declared.kept.Kept.{Kept}
 use Rattle.bb_circular.specs.Circular.{after_write, circular_kind, fits_behind, next_place}
 use Rattle.bb_circular.specs.CircularLaws.{behind_next, blank_paged, blank_pages, block_paged, entry_fits, kept_put, put_paged}
@@ -296,13 +296,13 @@ wears_little block len from events serves whole room history before counts after
 
 -- what a write's clauses say of a bucket of this kind is all that the law asks of a write
 pub was_written :
-    (kind : Kind) (block : Block) (rec : List ℕ) (from to : Device) → kind ≡ circular_kind block →
+    (kind : BucketKind) (block : Block) (rec : List ℕ) (from to : Device) → kind ≡ circular_kind block →
     Leaves kind.region (kind.after_write rec) from to →
     ErasesWhere kind.region (kind.write_erases rec) from to →
     IsLater from to → IsWritten block (length rec) rec from to
 was_written kind block rec from to is done erases later = record {
   sized = refl;
-  done = subst (λ (k : Kind). Leaves k.region (k.after_write rec) from to) is done;
-  erases = subst (λ (k : Kind). ErasesWhere k.region (k.write_erases rec) from to) is erases;
+  done = subst (λ (k : BucketKind). Leaves k.region (k.after_write rec) from to) is done;
+  erases = subst (λ (k : BucketKind). ErasesWhere k.region (k.write_erases rec) from to) is erases;
   later = later;
 }

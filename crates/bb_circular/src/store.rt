@@ -7,7 +7,7 @@ ghost use Rattle.bb_bucket.specs.Blocks.{is_block_of};
 ghost use Rattle.bb_bucket.specs.Calls.{EachCall, EndsTorn, ErasesWhere, IsVoidCall, IsWriteCall, Leaves};
 ghost use Rattle.bb_bucket.specs.Kind.{part_of};
 ghost use Rattle.bb_circular.specs.Circular.{IsKeptIn, agrees_with, circular_kind, fits_behind, kept_of, next_place};
-ghost use Rattle.bb_circular.specs.Entries.{entry_len};
+ghost use Rattle.bb_circular.specs.Entries.{closing_len, entry_len};
 ghost use Rattle.bb_circular.specs.Looking.{kept_at};
 
 use crate::entry::{CLOSING_LEN, pack_entry};
@@ -31,7 +31,7 @@ pub(crate) fn write_log<F: Flash>(
     requires agreed { ForSome (content (F.device flash.old)) (λ image.
         IsTrue (agrees_with block.page kept (part_of block.page block.region image))) }
     requires inside { IfSome kept (IsKeptIn block) }
-    requires room { length rec.now + 8 ≤ block.region.size }
+    requires room { length rec.now + closing_len ≤ block.region.size }
     requires memory { length memory.old ≡ block.region.size }
     ensures done { OnOk result (Leaves block.region ((circular_kind block).after_write rec.now)
         (F.device flash.old) (F.device flash.new)) }
@@ -73,7 +73,7 @@ fn put_entry<F: Flash>(
     requires inside { next ≤ block.region.size }
     requires aligned { next % block.page ≡ 0 }
     requires whole { IsDevice (F.device flash.old) }
-    requires room { length rec.now + 8 ≤ block.region.size }
+    requires room { length rec.now + closing_len ≤ block.region.size }
     requires memory { length memory.old ≡ block.region.size }
     ensures done { OnOk result (Leaves block.region ((circular_kind block).after_write rec.now)
         (F.device flash.old) (F.device flash.new)) }
@@ -131,7 +131,7 @@ fn append<F: Flash>(
     requires aligned { next % block.page ≡ 0 }
     requires whole { IsDevice (F.device flash.old) }
     requires fits { next + entry_len block.page (length rec.now) ≤ block.region.size }
-    requires room { length rec.now + 8 ≤ block.region.size }
+    requires room { length rec.now + closing_len ≤ block.region.size }
     requires memory { length memory.old ≡ block.region.size }
     ensures done { OnOk result (Leaves block.region ((circular_kind block).after_write rec.now)
         (F.device flash.old) (F.device flash.new)) }
@@ -169,7 +169,7 @@ fn start_anew<F: Flash>(
     requires held { IsTrue (is_block_of block (F.device flash.old).geometry) }
     requires full { ForSome (content (F.device flash.old)) (λ image.
         fits_behind block rec.now (part_of block.page block.region image) ≡ false) }
-    requires room { length rec.now + 8 ≤ block.region.size }
+    requires room { length rec.now + closing_len ≤ block.region.size }
     requires memory { length memory.old ≡ block.region.size }
     ensures done { OnOk result (Leaves block.region ((circular_kind block).after_write rec.now)
         (F.device flash.old) (F.device flash.new)) }

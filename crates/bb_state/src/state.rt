@@ -3,8 +3,8 @@ ghost use Rattle.std.specs.Prelude.{None, Ok, OnErr, OnOk, Some, false, is_ok, l
 ghost use Rattle.std.specs.Result.{result_map_both};
 ghost use Rattle.bb_base.specs.Faults.{HasCause};
 ghost use Rattle.bb_flash.specs.Cuts.{IsLater};
-ghost use Rattle.bb_flash.specs.Device.{LeavesStarts, ReadKeeps};
-ghost use Rattle.bb_bucket.specs.Calls.{told_but_reads};
+ghost use Rattle.bb_flash.specs.Device.{LeavesStarts};
+ghost use Rattle.bb_bucket.specs.Calls.{IsQuiet};
 ghost use Rattle.bb_copies.specs.Erasing.{ErasesBy};
 ghost use Rattle.bb_copies.specs.Loading.{KeepsOutside, LoadGives, LoadImages, LoadsErasing};
 ghost use Rattle.bb_copies.specs.Loading.{LoadsExactly, LookGives};
@@ -191,9 +191,7 @@ impl State {
         ensures gives { IfOk result (LookGives (form_of self.old) (kinds_of self.old) area.new
             (F.device flash.old)) }
         ensures fails { IfErr result (λ fault. fault ≡ ReadFault) }
-        ensures keeps { ReadKeeps (F.device flash.old) (F.device flash.new) }
-        ensures told { told_but_reads (F.device flash.new) ≡ told_but_reads (F.device flash.old) }
-        ensures later { IsLater (F.device flash.old) (F.device flash.new) }
+        ensures quiet { IsQuiet (F.device flash.old) (F.device flash.new) }
         ensures faults { HasCause (F.device flash.old).faults (F.device flash.new).faults
             (IsErr result) }
         ensures read_faults { HasCause (F.device flash.old).read_faults

@@ -12,7 +12,7 @@ use Rattle.std.proofs.lemmas.Slice.Eq.{bytes_eq-Decides}
 use Rattle.bb_base.specs.Faults.{Rose}
 use Rattle.bb_base.specs.Form.{Form}
 use Rattle.bb_bucket.specs.Calls.{but_reads, told_but_reads}
-use Rattle.bb_bucket.specs.Kind.{Kind, part_of}
+use Rattle.bb_bucket.specs.Kind.{BucketKind, part_of}
 use Rattle.bb_copies.specs.Loading.{IsAllKept, IsExact}
 use Rattle.bb_copies.specs.Passing.{passing_of}
 use Rattle.bb_copies.specs.Saving.{EachWritten}
@@ -70,7 +70,7 @@ fresh_so worn passed area is sound =
     ∙ ap (λ p. option_map_or (λ q. bytes_eq q area) p false) is
     ∙ (bytes_eq-Decides area area).1 refl
 
-module _ (form : Form) (page : ℕ) (kind : Kind) (area : List ℕ) (before after : Image) where
+module _ (form : Form) (page : ℕ) (kind : BucketKind) (area : List ℕ) (before after : Image) where
   abbrev Region : Image
   Region = part_of page kind.region before
 

@@ -5,7 +5,7 @@ use Rattle.std.specs.Str.{bytes_eq}
 use Rattle.std.specs.Prelude.{Contains, slice_get, option_and_then}
 use Rattle.std.proofs.lemmas.Option.{same_Some, slice_get-map}
 use Rattle.bb_base.specs.Form.{Form}
-use Rattle.bb_bucket.specs.Kind.{Kind}
+use Rattle.bb_bucket.specs.Kind.{BucketKind}
 use Rattle.bb_copies.specs.Passing.{passes_at, passing_of, passings}
 use Rattle.bb_copies.specs.Refreshing.{IsStuckAt}
 use Rattle.bb_copies.specs.Saving as saving
@@ -57,17 +57,17 @@ rise_from : (rise first middle last : ℕ) → first ≤ middle → RoseBy rise 
     RoseBy rise first last
 rise_from rise first middle last more rose = omega arith
 
-no_copy : (form : Form) (page : ℕ) (kinds : List Kind) (copy : ℕ) (image : Image) →
+no_copy : (form : Form) (page : ℕ) (kinds : List BucketKind) (copy : ℕ) (image : Image) →
     slice_get kinds copy ≡ None → passes_at (passings form page kinds image) copy ≡ None
 no_copy form page kinds copy image e =
-    let f : Kind → Option (List ℕ) = λ kind. passing_of form page kind image in
+    let f : BucketKind → Option (List ℕ) = λ kind. passing_of form page kind image in
     ap (option_and_then (λ (area : Option (List ℕ)). area))
     (slice_get-map f kinds copy ∙ ap (option_map f) e)
 
 -- what the copy of a number passes, where each kind at that number passes nothing
-passes_none : (form : Form) (page : ℕ) (kinds : List Kind) (copy : ℕ) (image : Image)
-    (there : Option Kind) → slice_get kinds copy ≡ there →
-    ((kind : Kind) → slice_get kinds copy ≡ Some kind → passing_of form page kind image ≡ None) →
+passes_none : (form : Form) (page : ℕ) (kinds : List BucketKind) (copy : ℕ) (image : Image)
+    (there : Option BucketKind) → slice_get kinds copy ≡ there →
+    ((kind : BucketKind) → slice_get kinds copy ≡ Some kind → passing_of form page kind image ≡ None) →
     passes_at (passings form page kinds image) copy ≡ None
 passes_none form page kinds copy image None e none = no_copy form page kinds copy image e
 passes_none form page kinds copy image (Some kind) e none =
@@ -85,7 +85,7 @@ module _ (plan : SessionPlan) (from : Device) where
   abbrev page : ℕ
   page = from.geometry.page
 
-  abbrev kinds : List Kind
+  abbrev kinds : List BucketKind
   kinds = laid_kinds plan.keyed.layout
 
   abbrev form : Form

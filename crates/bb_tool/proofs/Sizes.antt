@@ -7,7 +7,7 @@ use Rattle.std.proofs.lemmas.Bool.{eqb-true}
 use Rattle.std.proofs.lemmas.Bool.Decides.{nat_tests}
 use Rattle.std.proofs.lemmas.List.{length-replicate}
 use Rattle.bb_base.specs.Form.{Form}
-use Rattle.bb_bucket.specs.Kind.{Kind, part_of}
+use Rattle.bb_bucket.specs.Kind.{BucketKind, part_of}
 use Rattle.bb_actions.specs.Actions.{misfit_of}
 use Rattle.bb_chooser.proofs.Named.{bind_apart}
 use Rattle.bb_chooser.proofs.Results.{if_ok, then_ok}
@@ -324,7 +324,7 @@ candidate_sized form len sized None area h = absurd cc
 candidate_sized form len sized (Some bytes) area h = sized bytes area h
 
 first_sized : (form : Form) (len page : ℕ) (image : Image) (first : List ℕ) → PassesSized form len → length first ≡ len →
-    (kinds : List Kind) → length (first_passed first (passings form page kinds image)) ≡ len
+    (kinds : List BucketKind) → length (first_passed first (passings form page kinds image)) ≡ len
 first_sized form len page image first each sized [] = sized
 first_sized form len page image first each sized (kind ∷ kinds) =
     by (first_sized form len page image first each sized kinds) (passing_of form page kind image) refl

@@ -11,17 +11,17 @@ pub returns-clause-done : goal.returns-clause-done
 returns-clause-done g c =
     let made = c.program.ensures in
     on_ok_weaker _ _ c.program.result
-    (leaves_program c.args.region c.args.at c.args.bytes.now (g.F.Flash.device c.args.flash.now) (g.F.Flash.device c.program.new.self) c.requires.lies c.requires.within made.whole made.later.geometry made.changes)
+    (leaves_program c.args.region c.args.at c.args.bytes.now (g.F.Flash.device c.args.flash.now) (g.F.Flash.device c.program.new.self) c.requires.lies c.requires.within made.call.whole made.call.later.geometry made.call.changes)
     made.done
 
 pub returns-clause-images : goal.returns-clause-images
 returns-clause-images g c =
     let made = c.program.ensures in
-    let page = ap (λ (geometry : Geometry). geometry.page) made.later.geometry in
-    torn_in_region c.args.region c.args.at _ (g.F.Flash.device c.args.flash.now) (g.F.Flash.device c.program.new.self) (omega (arith, made.whole.geometry.page_some, page)) c.requires.within made.images
+    let page = ap (λ (geometry : Geometry). geometry.page) made.call.later.geometry in
+    torn_in_region c.args.region c.args.at _ (g.F.Flash.device c.args.flash.now) (g.F.Flash.device c.program.new.self) (omega (arith, made.call.whole.geometry.page_some, page)) c.requires.within made.call.images
 
 pub returns-clause-ends : goal.returns-clause-ends
-returns-clause-ends g c = ends_torn _ _ (g.F.Flash.device c.args.flash.now) (g.F.Flash.device c.program.new.self) c.program.ensures.changes
+returns-clause-ends g c = ends_torn _ _ (g.F.Flash.device c.args.flash.now) (g.F.Flash.device c.program.new.self) c.program.ensures.call.changes
 
 pub program-requires : goal.program-requires
 program-requires g c = record {

@@ -4,12 +4,12 @@ use Rattle.bb_flash.specs.Calls.{ChangesOnly}
 use Rattle.bb_flash.specs.Device.{Device}
 use Rattle.bb_bucket.specs.Calls.{Leaves}
 use Rattle.bb_bucket.specs.Front.{entry_of, put_at}
-use Rattle.bb_bucket.specs.StrideLaws.{held_by, lies_on}
+use Rattle.bb_bucket.specs.StrideLaws.{held_by, stride_lies_on}
 use Rattle.bb_bucket.proofs.StrideCalls.{write_calls}
 use Rattle.bb_bucket.proofs.store.write_record.Goals as goal
 
 pub program_part-requires-clause-lies : goal.program_part-requires-clause-lies
-program_part-requires-clause-lies g c = lies_on c.args.stride _ (held_by c.args.stride (g.F.Flash.device c.args.flash.now).geometry c.requires.held)
+program_part-requires-clause-lies g c = stride_lies_on c.args.stride _ (held_by c.args.stride (g.F.Flash.device c.args.flash.now).geometry c.requires.held)
 
 pub program_part-requires-clause-aligned : goal.program_part-requires-clause-aligned
 program_part-requires-clause-aligned g c = zero-mod (g.F.Flash.device c.args.flash.now).geometry.page

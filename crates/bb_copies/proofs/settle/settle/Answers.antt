@@ -1,7 +1,7 @@
 use Rattle.std.proofs.Common.{◌∙◌, sym, arith}
 use Rattle.bb_base.specs.Form.{Form}
 use Rattle.bb_flash.specs.Device.{Device}
-use Rattle.bb_bucket.specs.Kind.{Kind}
+use Rattle.bb_bucket.specs.Kind.{BucketKind}
 use Rattle.bb_flash.proofs.Moments.{later_joined}
 use Rattle.bb_copies.proofs.Ends.{ends_read_as, not_ok, ok_gives, voided_dead, written_good_as}
 use Rattle.bb_copies.proofs.OneCopy.{settles_joined_as, voided_copy, written_copy_as}
@@ -10,7 +10,7 @@ use Rattle.bb_copies.proofs.settle.settle.Goals as goal
 pub returns-then-is_ok-clause-ends : goal.returns-then-is_ok-clause-ends
 returns-then-is_ok-clause-ends g c =
     let form : Form = g.M.Format.form c.args.format.now in
-    let kind : Kind = (g.B.Bucket.holding c.args.bucket.now).kind in
+    let kind : BucketKind = (g.B.Bucket.holding c.args.bucket.now).kind in
     let from : Device = g.F.Flash.device c.args.flash.now in
     let mid : Device = g.F.Flash.device c.write.new.flash in
     let packed = c.deref.ensures.value ∙ c.requires.packed in
@@ -20,7 +20,7 @@ returns-then-is_ok-clause-ends g c =
 pub returns-then-is_ok-clause-settles : goal.returns-then-is_ok-clause-settles
 returns-then-is_ok-clause-settles g c =
     let form : Form = g.M.Format.form c.args.format.now in
-    let kind : Kind = (g.B.Bucket.holding c.args.bucket.now).kind in
+    let kind : BucketKind = (g.B.Bucket.holding c.args.bucket.now).kind in
     let w = c.write.ensures in
     written_copy_as form kind c.args.area.now _ (g.F.Flash.device c.args.flash.now) (g.F.Flash.device c.write.new.flash) (c.deref.ensures.value ∙ c.requires.packed) (g.met.M.Format.laws c.args.format.now) c.requires.fits w.calls w.ends w.images w.later w.starts w.whole
 
@@ -38,7 +38,7 @@ returns-then-is_ok-2-clause-ends g c =
 pub returns-then-is_ok-2-clause-settles : goal.returns-then-is_ok-2-clause-settles
 returns-then-is_ok-2-clause-settles g c =
     let form : Form = g.M.Format.form c.args.format.now in
-    let kind : Kind = (g.B.Bucket.holding c.args.bucket.now).kind in
+    let kind : BucketKind = (g.B.Bucket.holding c.args.bucket.now).kind in
     let from : Device = g.F.Flash.device c.args.flash.now in
     let mid : Device = g.F.Flash.device c.write.new.flash in
     let to : Device = g.F.Flash.device c.void.new.flash in
@@ -62,7 +62,7 @@ returns-clause-ends g c =
 pub returns-clause-settles : goal.returns-clause-settles
 returns-clause-settles g c =
     let form : Form = g.M.Format.form c.args.format.now in
-    let kind : Kind = (g.B.Bucket.holding c.args.bucket.now).kind in
+    let kind : BucketKind = (g.B.Bucket.holding c.args.bucket.now).kind in
     let from : Device = g.F.Flash.device c.args.flash.now in
     let mid : Device = g.F.Flash.device c.write.new.flash in
     let void : Device = g.F.Flash.device c.void.new.flash in

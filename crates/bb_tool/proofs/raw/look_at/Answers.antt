@@ -10,7 +10,7 @@ use Rattle.bb_tool.proofs.raw.look_at.Goals as goal
 pub returns-in_err-found-clause-gives : goal.returns-in_err-found-clause-gives
 returns-in_err-found-clause-gives g c =
     let p = err_from_is_err_and c.from_residual.result c.from_residual.ensures.1 in
-    let keeps = c.in_err-found.ensures.keeps in
+    let quiet = c.in_err-found.ensures.quiet in
     look_refused (keyed_of c.args.state.now) (g.F.Flash.device c.args.flash.now) (g.F.Flash.device c.look.new.flash)
     c.in_err-found.field-0.0 c.from_residual.result
     (record {
@@ -19,9 +19,9 @@ returns-in_err-found-clause-gives g c =
       faults = c.in_err-found.ensures.faults;
       read_faults = c.in_err-found.ensures.read_faults;
       quiet = record {
-        told = c.in_err-found.ensures.told;
-        later = c.in_err-found.ensures.later;
-        starts = record { starts = keeps.starts; start_faults = keeps.start_faults };
+        told = quiet.told;
+        later = quiet.later;
+        starts = quiet.starts;
       };
     })
     (p.1 ∙ ap (λ e. Err e) p.2)
@@ -29,7 +29,7 @@ returns-in_err-found-clause-gives g c =
 pub returns-in_err-look_text-clause-gives : goal.returns-in_err-look_text-clause-gives
 returns-in_err-look_text-clause-gives g c =
     let p = err_from_is_err_and c.from_residual-in_err-look_text.result c.from_residual-in_err-look_text.ensures.1 in
-    let keeps = c.in_ok-found.ensures.keeps in
+    let quiet = c.in_ok-found.ensures.quiet in
     look_textless (keyed_of c.args.state.now) (g.F.Flash.device c.args.flash.now) (g.F.Flash.device c.look.new.flash)
     (then_some c.in_ok-found.found c.look.new.area) c.from_residual-in_err-look_text.result
     (record {
@@ -39,16 +39,16 @@ returns-in_err-look_text-clause-gives g c =
       faults = c.in_ok-found.ensures.faults;
       read_faults = c.in_ok-found.ensures.read_faults;
       quiet = record {
-        told = c.in_ok-found.ensures.told;
-        later = c.in_ok-found.ensures.later;
-        starts = record { starts = keeps.starts; start_faults = keeps.start_faults };
+        told = quiet.told;
+        later = quiet.later;
+        starts = quiet.starts;
       };
     })
     (p.1 ∙ ap (λ e. Err e) p.2)
 
 pub returns-clause-gives : goal.returns-clause-gives
 returns-clause-gives g c =
-    let keeps = c.in_ok-found.ensures.keeps in
+    let quiet = c.in_ok-found.ensures.quiet in
     let filled = with_items c.args.area c.look.new.area in
     let items : filled.items ≡ c.look.new.area = take-refill _ _ _ (omega (arith, c.requires.sized, c.look.auto.area, c.deref_mut.ensures.len)) in
     look_done (keyed_of c.args.state.now) (g.F.Flash.device c.args.flash.now) (g.F.Flash.device c.look.new.flash)
@@ -60,9 +60,9 @@ returns-clause-gives g c =
       faults = c.in_ok-found.ensures.faults;
       read_faults = c.in_ok-found.ensures.read_faults;
       quiet = record {
-        told = c.in_ok-found.ensures.told;
-        later = c.in_ok-found.ensures.later;
-        starts = record { starts = keeps.starts; start_faults = keeps.start_faults };
+        told = quiet.told;
+        later = quiet.later;
+        starts = quiet.starts;
       };
     })
     (c.done.ensures ∙ ap told_whole (c.in_ok-look_text.ensures
