@@ -5,7 +5,7 @@ use Rattle.bb_flash.specs.declared.geometry.Geometry.{Geometry}
 use Rattle.bb_flash.specs.declared.region.Region.{Region}
 use Rattle.bb_flash.specs.Calls.{IsUntouched}
 use Rattle.bb_flash.specs.Image.{Image, Torn}
-use Rattle.bb_flash.specs.Cuts.{IsLater}
+use Rattle.bb_flash.specs.Cuts.{EachTorn, IsLater}
 use Rattle.bb_flash.specs.Device.{Change, Device, IsDevice, LeavesStarts, Told, content, erases, moment}
 use Rattle.bb_bucket.specs.declared.bucket.Found.{Found}
 use Rattle.bb_bucket.specs.Kind.{BucketKind, Holding, IsBegun, part_of}
@@ -81,6 +81,16 @@ pub record EndsTorn (from to : Device) : Type 0 where
       (λ first.
       ForSome to.told
       (λ last. IsUntouched first last ⊎ IsTornLast from.geometry.page first last))
+
+-- calls that change a region alone, whatever they answered: the device holds at their end what it
+-- held, or what is torn from the last of them, no cut leaves more than the region torn, and no
+-- system was started
+pub record ChangesWithin (region : Region) (from to : Device) : Type 0 where
+  pub ends : EndsTorn from to
+  pub images : EachTorn region.at region.size from to
+  pub later : IsLater from to
+  pub starts : LeavesStarts from to
+  pub whole : IsDevice to
 
 -- a call touches the region alone
 pub record IsWithin (region : Region) (change : Change) : Type 0 where

@@ -1,8 +1,7 @@
 ghost use Rattle.std.specs.Prelude.{◌≡◌, ◌≤◌, IfOk, IfSome, IsErr, IsTrue, OnOk, length};
 ghost use Rattle.std.specs.Option.{ForSome};
 ghost use Rattle.bb_base.specs.Faults.{HasCause};
-ghost use Rattle.bb_flash.specs.Cuts.{EachTorn, IsLater};
-ghost use Rattle.bb_flash.specs.Device.{IsDevice, LeavesStarts, content, reads};
+ghost use Rattle.bb_flash.specs.Device.{content, reads};
 
 use bb_base::Failed;
 use bb_flash::{Flash, Region};
@@ -21,7 +20,7 @@ pub struct Found {
 /// that failed, it agrees again. A call fails only where the flash's count of faults rose.
 pub trait Bucket {
     ghost use Rattle.bb_bucket.specs.Kind.{Holding, IsKind, part_of};
-    ghost use Rattle.bb_bucket.specs.Calls.{Agrees, EachCall, EndsTorn, ErasesWhere, IsFound, IsQuiet, IsVoidCall, IsWriteCall, Leaves};
+    ghost use Rattle.bb_bucket.specs.Calls.{Agrees, ChangesWithin, EachCall, ErasesWhere, IsFound, IsQuiet, IsVoidCall, IsWriteCall, Leaves};
 
     ghost holding: { Self → Holding };
 
@@ -68,16 +67,11 @@ pub trait Bucket {
         ensures calls { EachCall
             (IsWriteCall (holding self.old).kind (F.device flash.old).geometry.page rec.now)
             (F.device flash.old) (F.device flash.new) }
-        ensures ends { EndsTorn (F.device flash.old) (F.device flash.new) }
-        ensures images { EachTorn
-            (holding self.old).kind.region.at (holding self.old).kind.region.size
+        ensures within { ChangesWithin (holding self.old).kind.region
             (F.device flash.old) (F.device flash.new) }
         ensures erases { OnOk result (ErasesWhere (holding self.old).kind.region
             ((holding self.old).kind.write_erases rec.now)
             (F.device flash.old) (F.device flash.new)) }
-        ensures later { IsLater (F.device flash.old) (F.device flash.new) }
-        ensures starts { LeavesStarts (F.device flash.old) (F.device flash.new) }
-        ensures whole { IsDevice (F.device flash.new) }
         ensures faults { HasCause (F.device flash.old).faults
             (F.device flash.new).faults (IsErr result) }
         ensures reads { IsTrue (holding self.old).knows_place →
@@ -97,16 +91,11 @@ pub trait Bucket {
         ensures calls { EachCall
             (IsVoidCall (holding self.old).kind (F.device flash.old).geometry.page)
             (F.device flash.old) (F.device flash.new) }
-        ensures ends { EndsTorn (F.device flash.old) (F.device flash.new) }
-        ensures images { EachTorn
-            (holding self.old).kind.region.at (holding self.old).kind.region.size
+        ensures within { ChangesWithin (holding self.old).kind.region
             (F.device flash.old) (F.device flash.new) }
         ensures erases { OnOk result (ErasesWhere (holding self.old).kind.region
             (λ region. (holding self.old).kind.void_erases)
             (F.device flash.old) (F.device flash.new)) }
-        ensures later { IsLater (F.device flash.old) (F.device flash.new) }
-        ensures starts { LeavesStarts (F.device flash.old) (F.device flash.new) }
-        ensures whole { IsDevice (F.device flash.new) }
         ensures faults { HasCause (F.device flash.old).faults
             (F.device flash.new).faults (IsErr result) }
         ensures kind { (holding self.new).kind ≡ (holding self.old).kind }

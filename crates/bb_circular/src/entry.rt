@@ -2,7 +2,7 @@ ghost use Rattle.std.specs.Prelude.{◌≡◌, ◌≤◌, ◌<◌, ◌+◌, ◌-
 ghost use Rattle.bb_bucket.specs.Blocks.{filled_to};
 ghost use Rattle.bb_bucket.specs.Front.{is_lost};
 ghost use Rattle.bb_circular.specs.Circular.{IsEntryIn};
-ghost use Rattle.bb_circular.specs.Entries.{closed_entry, closes, closing_len, closing_words, entry_len, len_of, log_entry};
+ghost use Rattle.bb_circular.specs.Entries.{closed_entry, closes, closing_len, closing_words, entry_len, log_entry};
 
 use crate::kept::Entry;
 use crate::last_page::{LastPage, is_lost};

@@ -18,10 +18,14 @@ returns-clause-changes g c =
     let held = block_of c.args.block (g.F.Flash.device c.args.flash.now).geometry c.requires.held in
     erase_changes c.args.block (g.F.Flash.device c.args.flash.now) (g.F.Flash.device c.erase.new.self) held c.erase.ensures.call.changes
 
-pub returns-clause-ends : goal.returns-clause-ends
-returns-clause-ends g c = ends_torn _ _ (g.F.Flash.device c.args.flash.now) (g.F.Flash.device c.erase.new.self) c.erase.ensures.call.changes
-
-pub returns-clause-images : goal.returns-clause-images
-returns-clause-images g c =
+pub returns-clause-within : goal.returns-clause-within
+returns-clause-within g c =
+    let call = c.erase.ensures.call in
     let held = block_of c.args.block (g.F.Flash.device c.args.flash.now).geometry c.requires.held in
-    erase_torn c.args.block (g.F.Flash.device c.args.flash.now) (g.F.Flash.device c.erase.new.self) held c.erase.ensures.call.images
+    record {
+      ends = ends_torn _ _ (g.F.Flash.device c.args.flash.now) (g.F.Flash.device c.erase.new.self) call.changes;
+      images = erase_torn c.args.block (g.F.Flash.device c.args.flash.now) (g.F.Flash.device c.erase.new.self) held call.images;
+      later = call.later;
+      starts = call.starts;
+      whole = call.whole;
+    }

@@ -14,14 +14,17 @@ returns-clause-done g c =
     (leaves_program c.args.region c.args.at c.args.bytes.now (g.F.Flash.device c.args.flash.now) (g.F.Flash.device c.program.new.self) c.requires.lies c.requires.within made.call.whole made.call.later.geometry made.call.changes)
     made.done
 
-pub returns-clause-images : goal.returns-clause-images
-returns-clause-images g c =
-    let made = c.program.ensures in
-    let page = ap (λ (geometry : Geometry). geometry.page) made.call.later.geometry in
-    torn_in_region c.args.region c.args.at _ (g.F.Flash.device c.args.flash.now) (g.F.Flash.device c.program.new.self) (omega (arith, made.call.whole.geometry.page_some, page)) c.requires.within made.call.images
-
-pub returns-clause-ends : goal.returns-clause-ends
-returns-clause-ends g c = ends_torn _ _ (g.F.Flash.device c.args.flash.now) (g.F.Flash.device c.program.new.self) c.program.ensures.call.changes
+pub returns-clause-within : goal.returns-clause-within
+returns-clause-within g c =
+    let call = c.program.ensures.call in
+    let page = ap (λ (geometry : Geometry). geometry.page) call.later.geometry in
+    record {
+      ends = ends_torn _ _ (g.F.Flash.device c.args.flash.now) (g.F.Flash.device c.program.new.self) call.changes;
+      images = torn_in_region c.args.region c.args.at _ (g.F.Flash.device c.args.flash.now) (g.F.Flash.device c.program.new.self) (omega (arith, call.whole.geometry.page_some, page)) c.requires.within call.images;
+      later = call.later;
+      starts = call.starts;
+      whole = call.whole;
+    }
 
 pub program-requires : goal.program-requires
 program-requires g c = record {

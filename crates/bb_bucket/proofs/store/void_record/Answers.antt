@@ -37,5 +37,5 @@ returns-clause-calls g c =
     let held = held_by c.args.stride from.geometry c.requires.held in
     let made = c.program_part.ensures in
     let start : c.args.stride.at + 0 ≡ c.args.stride.at = omega arith in
-    void_calls c.args.stride from to held c.requires.least made.later made.whole
+    void_calls c.args.stride from to held c.requires.least made.within.later made.within.whole
     (subst (λ at. ChangesOnly at (replicate 8 0) from to) start made.changes)

@@ -39,5 +39,5 @@ returns-clause-calls g c =
     let made = c.program_part.ensures in
     let start : c.args.stride.at + 0 ≡ c.args.stride.at = omega arith in
     let changes = subst (λ (bytes : List ℕ). ChangesOnly (c.args.stride.at + 0) bytes from to) c.write_entry.ensures made.changes in
-    write_calls c.args.stride c.args.rec.now from to held c.requires.room made.later made.whole
+    write_calls c.args.stride c.args.rec.now from to held c.requires.room made.within.later made.within.whole
     (subst (λ at. ChangesOnly at (entry_of c.args.rec.now) from to) start changes)

@@ -54,11 +54,11 @@ returns-clause-kept g c =
     on_ok_weaker _ _ c.program_part.result
     (λ left image told.
     append_keeps c.args.block c.args.rec.now c.args.next _ (g.F.Flash.device c.args.flash.now) (g.F.Flash.device c.program_part.new.flash) image held c.requires.aligned c.requires.fits c.pack_entry-len.ensures.entry
-    c.requires.placed made.later made.whole made.changes left told)
+    c.requires.placed made.within.later made.within.whole made.changes left told)
     made.done
 
 pub returns-clause-calls : goal.returns-clause-calls
 returns-clause-calls g c =
     let held = block_of c.args.block (g.F.Flash.device c.args.flash.now).geometry c.requires.held in
     let made = c.program_part.ensures in
-    append_calls c.args.block c.args.rec.now c.args.next _ (g.F.Flash.device c.args.flash.now) (g.F.Flash.device c.program_part.new.flash) held c.requires.aligned c.requires.fits c.pack_entry-len.ensures.entry c.requires.placed made.later made.whole made.changes
+    append_calls c.args.block c.args.rec.now c.args.next _ (g.F.Flash.device c.args.flash.now) (g.F.Flash.device c.program_part.new.flash) held c.requires.aligned c.requires.fits c.pack_entry-len.ensures.entry c.requires.placed made.within.later made.within.whole made.changes
