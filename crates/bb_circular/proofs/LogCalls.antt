@@ -24,7 +24,8 @@ use Rattle.bb_bucket.proofs.Programs.{image_before, part_programmed}
 use Rattle.bb_bucket.proofs.Runs.{leaves_joined, part_after}
 use Rattle.bb_bucket.proofs.StrideCalls.{only_one}
 use Rattle.bb_circular.specs.Circular.{after_write, behind, circular_candidate, circular_kind, fits_behind, kept_of, next_place}
-use Rattle.bb_circular.specs.CircularLaws.{begun_put, behind_next, blank_candidate, blank_paged, blank_pages, block_paged, entry_fits, kept_put}
+use Rattle.bb_circular.specs.CircularLaws.{begun_put, behind_next, block_paged, entry_fits, kept_put}
+use Rattle.bb_circular.specs.PutLaws.{blank_candidate, blank_paged, blank_pages}
 use Rattle.bb_circular.specs.Entries.{entry_len, log_entry}
 use Rattle.bb_circular.specs.EntryLaws.{entry_size}
 use Rattle.bb_circular.specs.Looking.{kept_at}

@@ -27,7 +27,7 @@ use Rattle.bb_circular.specs.declared.kept.Entry.{Entry}
 use Rattle.bb_circular.specs.declared.kept.Kept.{Kept}
 use Rattle.bb_circular.specs.declared.last_page.LastPage.{LastPage}
 use Rattle.bb_circular.specs.Circular.{IsEntryIn, IsKeptIn, circular_candidate, circular_holding, kept_of, newest_of, next_place, readable, record_of, same_kept, same_newest}
-use Rattle.bb_circular.specs.CircularLaws.{same_page}
+use Rattle.bb_circular.specs.PutLaws.{same_page}
 use Rattle.bb_circular.specs.EntryLaws.{one_at_least}
 use Rattle.bb_circular.specs.Entries.{closed_entry, closes, last_words, len_of}
 use Rattle.bb_circular.specs.Looking.{IsKnown, IsLastPage, kept_at, worn_of}

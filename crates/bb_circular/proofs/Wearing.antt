@@ -19,7 +19,8 @@ use Rattle.bb_bucket.specs.Front.{put_at}
 use Rattle.bb_bucket.specs.Kind.{BucketKind, part_of}
 use Rattle.bb_circular.specs.declared.kept.Kept.{Kept}
 use Rattle.bb_circular.specs.Circular.{after_write, circular_kind, fits_behind, next_place}
-use Rattle.bb_circular.specs.CircularLaws.{behind_next, blank_paged, blank_pages, block_paged, entry_fits, kept_put, put_paged}
+use Rattle.bb_circular.specs.CircularLaws.{behind_next, block_paged, entry_fits, kept_put}
+use Rattle.bb_circular.specs.PutLaws.{blank_paged, blank_pages, put_paged}
 use Rattle.bb_circular.specs.Entries.{entry_len, log_entry}
 use Rattle.bb_circular.specs.EntryLaws.{entry_len_is, entry_size}
 use Rattle.bb_circular.specs.PagesLaws.{IsPaged}

@@ -10,3 +10,4 @@ pub mod CircularLaws
 pub mod EntryLaws
 pub mod Looking
 pub mod PagesLaws
+pub mod PutLaws

@@ -62,7 +62,7 @@ code_written : (key : Option (List ℕ)) (text rest : List ℕ) (count : ℕ) �
 code_written key text rest count whole =
     let code : List ℕ = code_of key text in
     ap (λ l. bytes_eq (code_of key l) (take (code_len key) (drop count (text ++ (code ++ rest)))))
-        (take_at text (code ++ rest) count whole)
+    (take_at text (code ++ rest) count whole)
     ∙ ap (λ l. bytes_eq code (take (code_len key) l)) (drop_at text (code ++ rest) count whole)
     ∙ ap (bytes_eq code) (take_at code rest (code_len key) (code_whole key text))
     ∙ same_bytes code
@@ -109,11 +109,11 @@ text_agrees kind area rest e =
     (ap (λ l. header_agrees kind.magic kind.area_len l) is
     ∙ ap (λ n. header_agrees kind.magic n (as_headed kind area rest)) (sym e)
     ∙ headed_agrees kind.magic (length area) (crc_of area)
-        (crc_of (header_text kind.magic area)) taken refl))
+    (crc_of (header_text kind.magic area)) taken refl))
     (ap (area_agrees kind.area_len) is
     ∙ ap (λ n. area_agrees n (as_headed kind area rest)) (sym e)
     ∙ headed_area kind.magic (length area) (crc_of area)
-        (crc_of (header_text kind.magic area)) taken
+    (crc_of (header_text kind.magic area)) taken
     (ap crc_of (sym (taken_back area (code ++ rest))))))
     (ap (has_code kind.key (16 + kind.area_len)) (append_assoc text code rest)
     ∙ code_written kind.key text rest (16 + kind.area_len) (omega arith))
@@ -128,7 +128,7 @@ text_passes : (kind : RawKind) (area rest : List ℕ) → length area ≡ kind.a
     raw_passes kind (raw_text kind area ++ rest) ≡ Some area
 text_passes kind area rest e =
     ap (λ b. cond b (Some (area_of kind.area_len (raw_text kind area ++ rest))) None)
-        (text_agrees kind area rest e)
+    (text_agrees kind area rest e)
     ∙ ap (λ a. Some a) (text_area kind area rest e)
 
 -- a choice that gave something was made so
@@ -141,9 +141,9 @@ passed_whole : (kind : RawKind) (bytes area : List ℕ) → raw_passes kind byte
 passed_whole kind bytes area e =
     let choice = some_of_cond (raw_agrees kind bytes) (area_of kind.area_len bytes) area e in
     let enough : raw_length kind ≤ length bytes =
-        leb-true _ _ (and_parts _ _ (and_parts _ _ (and_parts _ _ choice.0).0).0).0 in
+    leb-true _ _ (and_parts _ _ (and_parts _ _ (and_parts _ _ choice.0).0).0).0 in
     ap length (sym choice.1)
-        ∙ length-take-le kind.area_len (drop 16 bytes) (omega (arith, length-drop 16 bytes))
+    ∙ length-take-le kind.area_len (drop 16 bytes) (omega (arith, length-drop 16 bytes))
 
 -- a field that lies within some first bytes is one of them
 field_within : (len at number m : ℕ) (bytes : List ℕ) → at + len ≤ m →
@@ -182,7 +182,7 @@ header_within magic area_len m bytes inside =
     let kept : List ℕ = take m bytes in
     and_same
     (and_same (field_within 4 0 magic m bytes (omega arith))
-        (field_within 2 6 area_len m bytes (omega arith)))
+    (field_within 2 6 area_len m bytes (omega arith)))
     (ap (λ l. has_field 4 12 (crc_of l) kept) (take-take 12 m bytes (omega arith))
     ∙ field_within 4 12 (crc_of (take 12 bytes)) m bytes (omega arith))
 
@@ -200,9 +200,9 @@ code_within : (key : Option (List ℕ)) (count m : ℕ) (bytes : List ℕ) → c
     has_code key count (take m bytes) ≡ has_code key count bytes
 code_within key count m bytes inside =
     ap (λ l. bytes_eq (code_of key l) (take (code_len key) (drop count (take m bytes))))
-        (take-take count m bytes (omega arith))
+    (take-take count m bytes (omega arith))
     ∙ ap (bytes_eq (code_of key (take count bytes)))
-        (part_within count (code_len key) m bytes inside)
+    (part_within count (code_len key) m bytes inside)
 
 agrees_within : (kind : RawKind) (bytes : List ℕ) →
     raw_agrees kind (take (raw_length kind) bytes) ≡ raw_agrees kind bytes
@@ -220,9 +220,9 @@ first_count : (kind : RawKind) (bytes : List ℕ) →
     raw_passes kind (take (raw_length kind) bytes) ≡ raw_passes kind bytes
 first_count kind bytes =
     ap (λ b. cond b (Some (area_of kind.area_len (take (raw_length kind) bytes))) None)
-        (agrees_within kind bytes)
+    (agrees_within kind bytes)
     ∙ ap (λ area. cond (raw_agrees kind bytes) (Some area) None)
-        (area_within kind.area_len (raw_length kind) bytes (omega arith))
+    (area_within kind.area_len (raw_length kind) bytes (omega arith))
 
 too_few : (m n : ℕ) → n < m → nat_le m n ≡ false
 too_few m n h = elim (leb_tells m n)
@@ -237,7 +237,7 @@ fewer_fail : (kind : RawKind) (bytes : List ℕ) → length bytes < raw_length k
     raw_passes kind bytes ≡ None
 fewer_fail kind bytes few =
     fails_first _ (header_agrees kind.magic kind.area_len bytes) (area_agrees kind.area_len bytes) _
-        (area_of kind.area_len bytes)
+    (area_of kind.area_len bytes)
     (too_few (raw_length kind) (length bytes) few)
 
 pub raw_laws : (kind : RawKind) → IsForm (raw_form kind)

@@ -70,7 +70,8 @@ last_area work plan found answers = last_of found (saves_made work plan found an
 -- ---- what it leaves of all copies
 
 -- the regions of the copies are what f makes of them
-abbrev pub LeavesRegions : List BucketKind → ℕ → (BucketKind → Image → Image) → Image → Image → Type 0
+abbrev pub LeavesRegions :
+    List BucketKind → ℕ → (BucketKind → Image → Image) → Image → Image → Type 0
 LeavesRegions kinds page f before after =
     EachCopy kinds
     (λ copy kind. part_of page kind.region after ≡ f kind (part_of page kind.region before))
