@@ -6,6 +6,7 @@ use Rattle.std.specs.Prelude.{◌≡◌, ℕ, ◌<◌, Bool, List, ◌++◌, len
 abbrev pub area_limit : ℕ
 area_limit = 65535
 
+-- how an area is kept as a record
 pub record Form : Type 0 where
   -- how many bytes an area has, and how many its record
   pub area_len : ℕ

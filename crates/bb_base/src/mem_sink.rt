@@ -61,7 +61,7 @@ impl MemSink {
     }
 
     /// All that was sent.
-    pub fn sent(&self) -> &[u8]
+    pub fn sent_bytes(&self) -> &[u8]
         ensures { result.now ≡ self.now.sent }
     {
         self.sent.as_slice()

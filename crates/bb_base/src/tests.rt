@@ -80,7 +80,7 @@ fn a_sink_fails_where_it_is_told_to_or_full(rt: HostRuntime) -> Result<(), Fail>
     assert_eq!(rt; sink.write(b"c"), Err(Failed));
     assert_eq!(rt; sink.write(b"cd"), Err(Failed));
     assert_eq!(rt; sink.write(b"c"), Ok(()));
-    assert_eq!(rt; sink.sent(), b"abc".as_slice());
+    assert_eq!(rt; sink.sent_bytes(), b"abc".as_slice());
     Ok(())
 }
 

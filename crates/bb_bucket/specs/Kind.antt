@@ -31,6 +31,7 @@ pub record BucketKind : Type 0 where
   pub write_erases : List ℕ → Image → Bool
   pub void_erases : Bool
 
+-- what a bucket means at one moment
 pub record Holding : Type 0 where
   pub kind : BucketKind
   -- what it keeps of its region, if anything, is what stands there

@@ -2,6 +2,7 @@
 use Rattle.std.proofs.Common.{◌≡◌, ℕ, false, List, [], ◌∷◌, length, Option, Some, None, Ok, Err, is_some, refl, sym, ap, subst, ◌∙◌, inl, inr, arith}
 use Rattle.std.specs.Option.{option_map}
 use Rattle.std.proofs.lemmas.Option.{slice_get_within}
+use Rattle.bb_bucket.specs.Calls.{IsQuiet}
 use Rattle.bb_copies.specs.Chronicle.{Content, Loaded, Looked, Turn, Unloaded}
 use Rattle.bb_copies.specs.Loading.{KeepsOutside}
 use Rattle.bb_copies.specs.Luck.{IsLucky}
@@ -18,7 +19,7 @@ use Rattle.bb_flash.specs.declared.plan.Plan.{Plan as StartPlan}
 use Rattle.bb_state.specs.Keyed.{Keyed}
 use Rattle.bb_shell.proofs.Reached.{stops_refused}
 use Rattle.bb_state.specs.Kinds.{laid_kinds}
-use Rattle.bb_tool.specs.Looking.{IsQuiet, passed_in}
+use Rattle.bb_tool.specs.Looking.{passed_in}
 use Rattle.bb_tool.specs.Booting.{SaveAnswer, boots}
 use Rattle.bb_shell.specs.Counting.{turn_of_rounds}
 use Rattle.bb_tool.specs.Plan.{Act, Boot, Good, SessionPlan, Show, Work, Write}

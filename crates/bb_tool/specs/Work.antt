@@ -2,6 +2,7 @@
 use Rattle.std.specs.Prelude.{◌≡◌, ◌≢◌, ◌⊎◌, ℕ, ◌≤◌, List, [], ◌∷◌, length, map, ⊤, false, true, Option, Some, None, Result, Ok, Err, IfOk, IfErr, IsErr}
 use Rattle.std.specs.Option.{ForSome}
 use Rattle.bb_base.specs.Faults.{HasCause}
+use Rattle.bb_bucket.specs.Calls.{IsQuiet}
 use Rattle.bb_copies.specs.Loading.{KeepsOutside, LoadGives, LoadImages, LoadsExactly}
 use Rattle.bb_copies.specs.Saving.{EachWritten, SaveFails, SaveRuns}
 use Rattle.bb_copies.specs.Settling.{IsUndisturbed, RoseBy}
@@ -21,7 +22,7 @@ use Rattle.bb_shell.specs.Running.{AreRun}
 use Rattle.bb_shell.specs.Stages.{KeepsATrail, KeepsAtExit}
 use Rattle.bb_state.specs.Kinds.{laid_form, laid_kinds}
 use Rattle.bb_state.specs.State.{IsDefault, IsRefused, IsStored}
-use Rattle.bb_tool.specs.Looking.{IsQuiet, first_found, passed_in}
+use Rattle.bb_tool.specs.Looking.{first_found, passed_in}
 use Rattle.bb_shell.specs.declared.boot_end.BootEnd.{BootEnd}
 use Rattle.bb_tool.specs.Booting.{SaveAnswer, answer_to, end_refusal, end_text}
 use Rattle.bb_tool.specs.Plan.{Act, Boot, Good, SessionPlan, Show, Work, Write}
@@ -33,7 +34,7 @@ use Rattle.bb_tool.specs.declared.refusal.Refusal.TheVariants as refusals
 
 -- ---- a look
 
--- the copies were looked at, and nothing changed
+-- the copies were looked at: reads at most were made
 pub record IsLooked (keyed : Keyed) (from to : Device) (answer : LoadAnswer) : Type 0 where
   pub told :
       ForSome (content from)

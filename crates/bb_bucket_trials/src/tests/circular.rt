@@ -27,7 +27,11 @@ fn writes(rt: &impl Abort, alloc: Global, pages: Pages) -> Result<(), Fail> {
     assert_eq!(rt; write(&mut log, &mut board, &RECORD), Ok(()), "{pages:?}");
     let after = after_write(pages);
     assert_eq!(rt; board.bytes(), image_of(after).as_slice(), "{pages:?}");
-    assert_eq!(rt; board.erase_count() == 1, written_pages(pages) == 4, "{pages:?}");
+    assert_eq!(rt;
+        board.erase_count() == 1,
+        written_pages(pages) == 4,
+        "{pages:?}"
+    );
     finds(rt, &mut log, &mut board, after)?;
     assert_eq!(rt; void(&mut log, &mut board), Ok(()), "{pages:?}");
     assert_eq!(rt; board.bytes(), [0xFF; 192].as_slice(), "{pages:?}");

@@ -47,7 +47,7 @@ fn says(
     let mut out = MemSink::with_room(alloc, 200)?;
     let list = words(alloc, all)?;
     assert_eq!(rt; run(alloc, &list, files, device, &mut out), status);
-    assert_eq!(rt; out.sent(), text.as_bytes());
+    assert_eq!(rt; out.sent_bytes(), text.as_bytes());
     Ok(())
 }
 

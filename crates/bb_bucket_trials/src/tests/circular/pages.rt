@@ -166,7 +166,12 @@ pub(super) fn after_write(pages: Pages) -> Pages {
 pub(super) fn torn_erase(pages: Pages, fill: Fill) -> Pages {
     match fill {
         Fill::Old => pages,
-        Fill::Half => [Page::Blank, Page::Blank, mended_page(pages[2]), mended_page(pages[3])],
+        Fill::Half => [
+            Page::Blank,
+            Page::Blank,
+            mended_page(pages[2]),
+            mended_page(pages[3]),
+        ],
         Fill::Junk => [Page::Junk; 4],
         Fill::Lost => [Page::Lost; 4],
     }

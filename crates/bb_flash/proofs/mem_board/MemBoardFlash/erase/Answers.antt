@@ -11,14 +11,17 @@ pub returns-clause-call : goal.returns-clause-call
 returns-clause-call c =
     let geometry = c.args.self.now.geometry in
     let changes =
-    subst (λ (m : Memory). ChangesOnly (c.args.block * geometry.block) (blank_block geometry) (device_of c.args.self.now) (device_of m)) (sym c.erase_call.ensures.after)
+    subst (λ (m : Memory). ChangesOnly (c.args.block * geometry.block) (blank_block geometry)
+        (device_of c.args.self.now) (device_of m)) (sym c.erase_call.ensures.after)
     (erase_changes c.args.self.now c.args.block c.erase_call.ensures.whole c.requires) in
     let later =
-    subst (λ (m : Memory). IsLater (device_of c.args.self.now) (device_of m)) (sym c.erase_call.ensures.after)
+    subst (λ (m : Memory). IsLater (device_of c.args.self.now) (device_of m))
+        (sym c.erase_call.ensures.after)
     (erase_later c.args.self.now c.args.block) in
     record {
       changes = changes;
-      images = torn_of_call (c.args.block * geometry.block) (blank_block geometry) (device_of c.args.self.now) (device_of c.erase_call.new.self) later changes;
+      images = torn_of_call (c.args.block * geometry.block) (blank_block geometry)
+          (device_of c.args.self.now) (device_of c.erase_call.new.self) later changes;
       reads = search rules;
       later = later;
       starts = search rules;

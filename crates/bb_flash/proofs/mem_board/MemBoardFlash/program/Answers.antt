@@ -10,20 +10,25 @@ use Rattle.bb_flash.proofs.mem_board.MemBoardFlash.program.Goals as goal
 pub returns-clause-call : goal.returns-clause-call
 returns-clause-call c =
     let changes =
-    subst (λ (m : Memory). ChangesOnly c.args.at c.args.bytes.now (device_of c.args.self.now) (device_of m)) (sym c.program_call.ensures.after)
-    (program_changes c.args.self.now c.args.at c.args.bytes.now c.program_call.ensures.whole c.requires) in
+    subst (λ (m : Memory). ChangesOnly c.args.at c.args.bytes.now (device_of c.args.self.now)
+        (device_of m)) (sym c.program_call.ensures.after)
+    (program_changes c.args.self.now c.args.at c.args.bytes.now c.program_call.ensures.whole
+        c.requires) in
     let later =
-    subst (λ (m : Memory). IsLater (device_of c.args.self.now) (device_of m)) (sym c.program_call.ensures.after)
+    subst (λ (m : Memory). IsLater (device_of c.args.self.now) (device_of m))
+        (sym c.program_call.ensures.after)
     (program_later c.args.self.now c.args.at c.args.bytes.now) in
     record {
       changes = changes;
-      images = torn_of_call c.args.at c.args.bytes.now (device_of c.args.self.now) (device_of c.program_call.new.self) later changes;
+      images = torn_of_call c.args.at c.args.bytes.now (device_of c.args.self.now)
+          (device_of c.program_call.new.self) later changes;
       reads = search rules;
       later = later;
       starts = search rules;
       whole =
           subst (λ (m : Memory). IsDevice (device_of m)) (sym c.program_call.ensures.after)
-          (program_whole c.args.self.now c.args.at c.args.bytes.now c.program_call.ensures.whole c.requires);
+          (program_whole c.args.self.now c.args.at c.args.bytes.now c.program_call.ensures.whole
+              c.requires);
       faults = search rules;
       read_faults = search rules;
     }
