@@ -9,13 +9,13 @@ use Rattle.byteorder.specs.Numbers.{big_number-reads_back}
 use Rattle.bb_tree.specs.Node.{grow, empty}
 use Rattle.bb_tree.specs.Blob.{Devicetree, word, double_word, blob_text, header_text, reservation_list, structure_block, strings_block, names_of, offset_of, nodes_text, prop_names}
 use Rattle.bb_tree.proofs.Lengths.{length-double_word, length-header, length-reservations}
-use Rattle.bb_fdt.specs.Header.{word_at, header_of, fields_of, checked}
-use Rattle.bb_fdt.specs.Reading.{double_word_at, pairs_in, part, tree_in, read_from, rooted, blob_of}
+use Rattle.bb_fdt.specs.Header.{word_at, header_of, fields_of, header_or_fault}
+use Rattle.bb_fdt.specs.Reading.{double_word_at, pairs_in, part, tree_in, read_from, with_reserved, blob_of}
 use Rattle.bb_fdt.specs.Laws.{AreReserved, IsWritable}
 use Rattle.bb_fdt.proofs.PairLemmas.{pairs-end, pairs-more}
 use Rattle.bb_fdt.specs.declared.header.Header.{Header}
 use Rattle.bb_fdt.specs.Walk.{walk, Before}
-use Rattle.bb_fdt.specs.Descent.{from}
+use Rattle.bb_fdt.specs.Descent.{walk_from}
 use Rattle.bb_fdt.proofs.BackTokens.{word_at-front}
 use Rattle.bb_fdt.proofs.BackNodes.{has_all_added, root_read}
 
@@ -103,7 +103,7 @@ fields_back r s u rest short =
     let h = at 9 s refl (omega arith) in
     rw (a, b, c, d, e, f, g, h) refl
 
-checked_back : (len r s u k : ℕ) → r ≡ 16 * k + 16 → len ≡ 40 + r + s + u → checked len (header r s u) ≡ Ok (header r s u)
+checked_back : (len r s u k : ℕ) → r ≡ 16 * k + 16 → len ≡ 40 + r + s + u → header_or_fault len (header r s u) ≡ Ok (header r s u)
 checked_back len r s u k is_r is_len =
     let a : nat_lt (40 + r + s + u) 40 ≡ false = grind (arith, nat_tests) in
     let b : nat_lt len (40 + r + s + u) ≡ false = grind (arith, nat_tests) in
@@ -118,10 +118,10 @@ header_back r s u k rest is_r len short =
     let bytes = header_text r s u ++ rest in
     let long : nat_lt (length bytes) 40 ≡ false = grind (arith, nat_tests) in
     let magic : word_at 0 bytes ≡ 0xD00DFEED = word_among (words r s u) 0 0xD00DFEED rest refl (lit< tt) in
-    rw (long, magic) (ap (checked (length bytes)) (fields_back r s u rest short) ∙ checked_back (length bytes) r s u k is_r len)
+    rw (long, magic) (ap (header_or_fault (length bytes)) (fields_back r s u rest short) ∙ checked_back (length bytes) r s u k is_r len)
 
-walk_is : (strings : List ℕ) (end : ℕ) (text : List ℕ) → walk strings end 0 text Before [] ≡ from strings end Before text []
-unfolding from
+walk_is : (strings : List ℕ) (end : ℕ) (text : List ℕ) → walk strings end 0 text Before [] ≡ walk_from strings end Before text []
+unfolding walk_from
 walk_is strings end text = refl
 
 at_seam : (xs ys : List ℕ) (n : ℕ) → n ≡ length xs → drop n (xs ++ ys) ≡ ys
@@ -167,6 +167,6 @@ read_back t writable =
     ∙ ap (λ l. tree_in (header R S U) l (pairs_in 0 (drop 40 l))) all
     ∙ ap (λ l. tree_in (header R S U) blob (pairs_in 0 l)) front
     ∙ ap (tree_in (header R S U) blob) pairs
-    ∙ ap (λ l. rooted t.reserved (walk l (40 + R + S) 0 (part blob (40 + R) S) Before [])) strings
-    ∙ ap (λ l. rooted t.reserved (walk u (40 + R + S) 0 l Before [])) structure
-    ∙ ap (rooted t.reserved) root
+    ∙ ap (λ l. with_reserved t.reserved (walk l (40 + R + S) 0 (part blob (40 + R) S) Before [])) strings
+    ∙ ap (λ l. with_reserved t.reserved (walk u (40 + R + S) 0 l Before [])) structure
+    ∙ ap (with_reserved t.reserved) root

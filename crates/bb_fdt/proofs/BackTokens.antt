@@ -7,9 +7,9 @@ use Rattle.std.proofs.Math.Seq.{drop-append_seam, take-append_seam}
 use Rattle.byteorder.specs.Numbers.{big_number-reads_back}
 use Rattle.bb_tree.specs.Blob.{word, whole_words, filling, begin_text, prop_text}
 use Rattle.bb_tree.proofs.Lengths.{length-word, length-begin, length-prop}
-use Rattle.bb_fdt.specs.declared.kind.Kind.TheVariants.{BeginNode, EndNode, Property, End}
+use Rattle.bb_fdt.specs.declared.token_kind.TokenKind.TheVariants.{BeginNode, EndNode, Property, End}
 use Rattle.bb_fdt.specs.Header.{word_at}
-use Rattle.bb_fdt.specs.Tokens.{Token, token_at, token_by, node_at, prop_at, ended, is_name, is_name_byte, bare, node_token, first_token}
+use Rattle.bb_fdt.specs.Tokens.{Token, token_at, token_by, node_at, prop_at, up_to_zero, is_name, is_name_byte, bare, node_token, first_token}
 use Rattle.bb_fdt.proofs.TokenLemmas.{here, first_token-here}
 
 pub word_at-front : (n : ℕ) (rest : List ℕ) → n < 4294967296 → word_at 0 (word n ++ rest) ≡ n
@@ -51,16 +51,16 @@ no_zero (c ∷ cs) rest all =
     let step : 1 + length cs ≡ suc (length cs) = omega arith in
     rw (not_zero c parts.0) (ap (λ n. 1 + n) (no_zero cs rest parts.1) ∙ step)
 
-pub ended_name : (name rest : List ℕ) → is_name name ≡ true → ended (name ++ 0 ∷ rest) ≡ Some name
-unfolding ended
+pub ended_name : (name rest : List ℕ) → is_name name ≡ true → up_to_zero (name ++ 0 ∷ rest) ≡ Some name
+unfolding up_to_zero
 ended_name name rest is =
     let place = no_zero name rest (and_parts (nat_lt 0 (length name)) (list_all is_name_byte name) is).1 in
     let len = length-append name (0 ∷ rest) in
     let test : nat_lt (length name) (length (name ++ 0 ∷ rest)) ≡ true = grind (arith, nat_tests) in
     rw (place, test) (ap Some (take-append_seam name (0 ∷ rest)))
 
-pub ended_none : (rest : List ℕ) → ended (0 ∷ rest) ≡ Some []
-unfolding ended
+pub ended_none : (rest : List ℕ) → up_to_zero (0 ∷ rest) ≡ Some []
+unfolding up_to_zero
 ended_none rest = let test : nat_lt 0 (length (0 ∷ rest)) ≡ true = grind (arith, nat_tests) in rw test refl
 
 found : (end : ℕ) (text : List ℕ) (t : Token) → 0 < length text → token_at text ≡ Some t → first_token end 0 text ≡ here end text (Some t)
@@ -69,7 +69,7 @@ found end text t some is = first_token-here end text some ∙ ap (here end text)
 begin_whole : (name rest : List ℕ) → begin_text name ++ rest ≡ word 1 ++ (name ++ 0 ∷ (filling (length name + 1) ++ rest))
 begin_whole name rest = append_assoc (word 1) (name ++ 0 ∷ filling (length name + 1)) rest ∙ ap (λ l. word 1 ++ l) (append_assoc name (0 ∷ filling (length name + 1)) rest)
 
-begin_token : (name rest : List ℕ) → ((more : List ℕ) → ended (name ++ 0 ∷ more) ≡ Some name) → token_at (begin_text name ++ rest) ≡ Some (node_token name)
+begin_token : (name rest : List ℕ) → ((more : List ℕ) → up_to_zero (name ++ 0 ∷ more) ≡ Some name) → token_at (begin_text name ++ rest) ≡ Some (node_token name)
 unfolding node_at
 begin_token name rest ends =
     let behind = name ++ 0 ∷ (filling (length name + 1) ++ rest) in
@@ -77,12 +77,12 @@ begin_token name rest ends =
     let len = length-append (begin_text name) rest in
     let own = length-begin name in
     let test : nat_lt (3 + whole_words (length name + 1)) (length text) ≡ true = grind (arith, nat_tests) in
-    let named : ended (drop 4 text) ≡ Some name = ap (λ l. ended (drop 4 l)) (begin_whole name rest) ∙ ap ended (drop-4 1 behind) ∙ ends (filling (length name + 1) ++ rest) in
+    let named : up_to_zero (drop 4 text) ≡ Some name = ap (λ l. up_to_zero (drop 4 l)) (begin_whole name rest) ∙ ap up_to_zero (drop-4 1 behind) ∙ ends (filling (length name + 1) ++ rest) in
     let by : token_at text ≡ node_at text = ap token_at (begin_whole name rest) ∙ token_known 1 behind (lit< tt) ∙ ap node_at (sym (begin_whole name rest)) in
     by ∙ rw (named, test) refl
 
 -- FDT_BEGIN_NODE
-pub begin_found : (end : ℕ) (name rest : List ℕ) → ((more : List ℕ) → ended (name ++ 0 ∷ more) ≡ Some name) → first_token end 0 (begin_text name ++ rest) ≡ Ok (record { kind = BeginNode; bytes = name; name_at = 0; at = end - length (begin_text name ++ rest); rest = rest })
+pub begin_found : (end : ℕ) (name rest : List ℕ) → ((more : List ℕ) → up_to_zero (name ++ 0 ∷ more) ≡ Some name) → first_token end 0 (begin_text name ++ rest) ≡ Ok (record { kind = BeginNode; bytes = name; name_at = 0; at = end - length (begin_text name ++ rest); rest = rest })
 begin_found end name rest ends =
     let text = begin_text name ++ rest in
     let some : 0 < length text = omega (arith, length-append (begin_text name) rest, length-begin name) in

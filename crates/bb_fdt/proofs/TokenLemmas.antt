@@ -2,8 +2,8 @@
 use Rattle.std.proofs.Common.{◌≡◌, ◌≢◌, ℕ, ◌+◌, ◌-◌, ◌<◌, suc, zero, List, [], ◌∷◌, length, drop, Option, Some, None, Result, Ok, Err, IfOk, refl, arith}
 use Rattle.bb_fdt.specs.declared.error.FdtError.{FdtError}
 use Rattle.bb_fdt.specs.declared.error.FdtError.TheVariants.{BadToken}
-use Rattle.bb_fdt.specs.declared.kind.Kind.{Kind}
-use Rattle.bb_fdt.specs.declared.kind.Kind.TheVariants.{BeginNode, EndNode, Property, Nop, End}
+use Rattle.bb_fdt.specs.declared.token_kind.TokenKind.{TokenKind}
+use Rattle.bb_fdt.specs.declared.token_kind.TokenKind.TheVariants.{BeginNode, EndNode, Property, Nop, End}
 use Rattle.bb_fdt.specs.Tokens.{Found, Token, first_token, token_at, found_by, found_at}
 
 pub first_token-skip : (end skip : ℕ) (text : List ℕ) → first_token end skip text ≡ first_token end 0 (drop skip text)
@@ -14,7 +14,7 @@ first_token-skip end (suc skip) [] = refl
 first_token-skip end (suc skip) (b ∷ tail) = first_token-skip end skip tail
 
 -- what comes of the token that a text begins with
-abbrev pub here_by : ℕ → List ℕ → Token → Kind → Result Found FdtError
+abbrev pub here_by : ℕ → List ℕ → Token → TokenKind → Result Found FdtError
 here_by end text t Nop = first_token end 0 (drop (t.behind + 1) text)
 here_by end text t kind = Ok (record { kind = kind; bytes = t.bytes; name_at = t.name_at; at = end - length text; rest = drop (t.behind + 1) text })
 
@@ -22,7 +22,7 @@ abbrev pub here : ℕ → List ℕ → Option Token → Result Found FdtError
 here end text None = Err (BadToken (end - length text))
 here end text (Some t) = here_by end text t t.kind
 
-found_here : (end b : ℕ) (tail : List ℕ) (t : Token) (kind : Kind) → found_by (end - length (b ∷ tail)) tail t kind (λ n. first_token end n tail) ≡ here_by end (b ∷ tail) t kind
+found_here : (end b : ℕ) (tail : List ℕ) (t : Token) (kind : TokenKind) → found_by (end - length (b ∷ tail)) tail t kind (λ n. first_token end n tail) ≡ here_by end (b ∷ tail) t kind
 found_here end b tail t Nop = let more : t.behind + 1 ≡ suc t.behind = omega arith in rw more (first_token-skip end t.behind tail)
 found_here end b tail t _ = let more : t.behind + 1 ≡ suc t.behind = omega arith in rw more refl
 
@@ -41,12 +41,12 @@ first_token-none end [] none = refl
 first_token-none end (b ∷ tail) none = absurd (omega arith)
 
 -- another token than FDT_NOP
-pub here-other : (end : ℕ) (text : List ℕ) (t : Token) (kind : Kind) → kind ≢ Nop → here_by end text t kind ≡ Ok (record { kind = kind; bytes = t.bytes; name_at = t.name_at; at = end - length text; rest = drop (t.behind + 1) text })
+pub here-other : (end : ℕ) (text : List ℕ) (t : Token) (kind : TokenKind) → kind ≢ Nop → here_by end text t kind ≡ Ok (record { kind = kind; bytes = t.bytes; name_at = t.name_at; at = end - length text; rest = drop (t.behind + 1) text })
 here-other end text t Nop other = absurd (other refl)
 here-other end text t _ other = refl
 
 -- what is found isn't FDT_NOP
-other_by : (at : ℕ) (tail : List ℕ) (t : Token) (kind : Kind) (on : ℕ → Result Found FdtError) → ((n : ℕ) → IfOk (on n) (λ f. f.kind ≢ Nop)) → IfOk (found_by at tail t kind on) (λ f. f.kind ≢ Nop)
+other_by : (at : ℕ) (tail : List ℕ) (t : Token) (kind : TokenKind) (on : ℕ → Result Found FdtError) → ((n : ℕ) → IfOk (on n) (λ f. f.kind ≢ Nop)) → IfOk (found_by at tail t kind on) (λ f. f.kind ≢ Nop)
 other_by at tail t Nop on onward = onward t.behind
 other_by at tail t BeginNode on onward = λ e. cc
 other_by at tail t EndNode on onward = λ e. cc

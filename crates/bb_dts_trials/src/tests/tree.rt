@@ -1,5 +1,8 @@
-use crate::*;
 use bb_base::{Bytes, NoMemory, Text};
+use bb_tree::{
+    Draft, DraftNode, DraftNodeList, DraftProp, DraftPropList, Node, NodeList, PairList, Part, PartList, Prop, PropList,
+    TreeError, blob_length,
+};
 use std::alloc::Global;
 use std::test::Fail;
 

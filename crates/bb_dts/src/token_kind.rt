@@ -1,6 +1,6 @@
 /// What a token is.
 #[derive(Clone, Copy, Debug, PartialEq, Eq)]
-pub(crate) enum Kind {
+pub(crate) enum TokenKind {
     /// `/dts-v1/`
     DtsV1,
     /// `/memreserve/`
@@ -56,7 +56,7 @@ pub(crate) enum Mode {
 pub(crate) enum Lexed {
     /// Blanks or a comment.
     Blank(usize),
-    Token(Kind, usize),
+    Token(TokenKind, usize),
     BadToken,
     LeftOut,
 }

@@ -1,4 +1,4 @@
-use super::*;
+use bb_dts::{DtsError, read_source};
 use bb_tree::Tree;
 use std::alloc::Global;
 use std::test::Fail;

@@ -1,6 +1,6 @@
 /// What a token of the structure block is.
 #[derive(Clone, Copy, Debug, PartialEq, Eq)]
-pub(crate) enum Kind {
+pub(crate) enum TokenKind {
     /// FDT_BEGIN_NODE
     BeginNode,
     /// FDT_END_NODE
