@@ -7,7 +7,7 @@ use Rattle.bb_layout.specs.declared.layout.Layout.{Layout}
 use Rattle.bb_layout.specs.declared.var.Var.{Var}
 use Rattle.bb_vars.specs.declared.kind.Kind.{Kind}
 use Rattle.bb_vars.specs.declared.kind.Kind.TheVariants.{Uint8, Uint32, Enum32, Mac, Chars}
-use Rattle.bb_chooser.specs.Lines.{parted}
+use Rattle.bb_chooser.specs.Lines.{sides_at}
 use Rattle.bb_chooser.specs.Settings.{Configuration}
 use Rattle.bb_chooser.specs.declared.bound_target.BoundTarget.{BoundTarget}
 use Rattle.bb_chooser.specs.declared.rules.Rules.{Rules}
@@ -15,12 +15,13 @@ use Rattle.bb_chooser.specs.declared.settings_error.SettingsError.{SettingsError
 use Rattle.bb_chooser.specs.declared.settings_error.SettingsError.TheVariants.{NoSuchVariable, NotUint32}
 use Rattle.bb_chooser.specs.declared.target.Target.{Target}
 
--- ---- names
+-- ---- names of variables
 
 -- a prefix, a `.` and what stands below it
 abbrev pub full_name : List ℕ → List ℕ → List ℕ
 full_name prefix item = prefix ++ (codes "." ++ item)
 
+-- of the target that was chosen last, and of a target's attempts and priority
 abbrev pub last_chosen_name : List ℕ → List ℕ
 last_chosen_name prefix = full_name prefix (codes "last_chosen")
 
@@ -32,9 +33,15 @@ priority_name prefix name = full_name prefix (name ++ codes ".priority")
 
 -- ---- a layout's variable, by the layout's name, a `.` and its own
 
+-- the variable of its own name
+abbrev pub variable_named : List Var → List ℕ → Option Var
+variable_named vars name = option_and_then (slice_get vars) (place_of vars name)
+
 abbrev pub variable_called : List ℕ → List Var → List ℕ → Option Var
 variable_called layout vars full =
-    option_and_then (λ p. if bytes_eq p.0 layout then option_and_then (slice_get vars) (place_of vars p.1) else None) (parted 46 full)
+    option_and_then
+    (λ names. if bytes_eq names.0 layout then variable_named vars names.1 else None)
+    (sides_at 46 full)
 
 abbrev pub is_uint32 : Kind → Bool
 is_uint32 Uint8 = false
@@ -53,13 +60,22 @@ uint32_at layout vars full = uint32_in full (variable_called layout vars full)
 
 -- ---- targets
 
+abbrev pub bound_at : Target → ℕ → ℕ → BoundTarget
+bound_at target attempts_at priority_at =
+    record { target = target; attempts_at = attempts_at; priority_at = priority_at }
+
 -- a target's attempts, and then its priority
 abbrev pub bound_of : List ℕ → List Var → List ℕ → Target → Result BoundTarget SettingsError
 bound_of layout vars prefix target =
     result_and_then (λ attempts_at.
-    result_and_then (λ priority_at. Ok (record { target = target; attempts_at = attempts_at; priority_at = priority_at }))
+    result_and_then (λ priority_at. Ok (bound_at target attempts_at priority_at))
     (uint32_at layout vars (priority_name prefix target.name)))
     (uint32_at layout vars (attempts_name prefix target.name))
+
+-- each of them; or the first that the layout doesn't have so
+abbrev pub all_bound_of : List ℕ → List Var → List ℕ → List Target
+    → Result (List BoundTarget) SettingsError
+all_bound_of layout vars prefix targets = all_ok (map (bound_of layout vars prefix) targets)
 
 -- targets and the places of their variables in an area of so many bytes
 pub record Binding : Type 0 where
@@ -69,17 +85,23 @@ pub record Binding : Type 0 where
   pub area_len : ℕ
 
 abbrev pub binding : List BoundTarget → Rules → ℕ → ℕ → Binding
-binding targets rules last_chosen_at area_len =
-    record { targets = targets; rules = rules; last_chosen_at = last_chosen_at; area_len = area_len }
+binding targets rules last_chosen_at area_len = record {
+  targets = targets;
+  rules = rules;
+  last_chosen_at = last_chosen_at;
+  area_len = area_len;
+}
 
--- what is configured, bound to variables of an area: target by target, and the last chosen one's place last
+-- what is configured, bound to variables of an area: target by target, and the last chosen one's
+-- place last
 abbrev pub bind_from : Configuration → List ℕ → List Var → ℕ → Result Binding SettingsError
 bind_from configuration layout vars area_len =
     result_and_then (λ targets.
-    result_and_then (λ last_chosen_at. Ok (binding targets configuration.rules last_chosen_at area_len))
+    result_and_then (λ last. Ok (binding targets configuration.rules last area_len))
     (uint32_at layout vars (last_chosen_name configuration.prefix)))
-    (all_ok (map (bound_of layout vars configuration.prefix) configuration.targets))
+    (all_bound_of layout vars configuration.prefix configuration.targets)
 
+-- bound to variables of a layout
 abbrev pub bind_of : Configuration → Layout → Result Binding SettingsError
 bind_of configuration layout = bind_from configuration layout.name layout.vars layout.area_len
 
@@ -107,6 +129,7 @@ pub record StandApart (t u : BoundTarget) : Type 0 where
   pub first_attempts : ShareNothing t.attempts_at u.priority_at
   pub second_attempts : ShareNothing u.attempts_at t.priority_at
 
+-- an area holds them all, each apart from each other
 pub record IsBinding (b : Binding) : Type 0 where
   pub area_most : b.area_len ≤ 65535
   pub last_inside : b.last_chosen_at + 4 ≤ b.area_len

@@ -17,7 +17,8 @@ pub fn law_print_then_read()
 pub fn law_read_then_print()
     ensures printed { (kind : Kind) (text value : List ℕ) → HasFewNames kind
         → bytes_of kind text ≡ Ok value → text_of kind value ≡ plain_text kind text }
-    ensures sized { (kind : Kind) (text value : List ℕ) → bytes_of kind text ≡ Ok value → length value ≡ size_of kind }
+    ensures sized { (kind : Kind) (text value : List ℕ)
+        → bytes_of kind text ≡ Ok value → length value ≡ size_of kind }
 {}
 
 /// A range of a table that is set holds the bytes, and every byte before and behind it stays. The function

@@ -1,8 +1,8 @@
-ghost use Rattle.std.specs.Prelude.{◌≡◌, ◌==◌, ◌++◌, length, OnOk, OnErr, slice_get, unwrap_or, decimal};
+ghost use Rattle.std.specs.Prelude.{◌≡◌, ◌==◌, ◌++◌, length, OnOk, OnErr, decimal};
 ghost use Rattle.std.specs.Int.{w32, from_le_bytes};
 ghost use Rattle.std.specs.List.{before_first, position_or_len};
 ghost use Rattle.bb_vars.specs.Kind.{size_of};
-ghost use Rattle.bb_vars.specs.Value.{text_of};
+ghost use Rattle.bb_vars.specs.Value.{name_or_number, text_of};
 
 use crate::Kind;
 use crate::mac::mac_text;
@@ -35,7 +35,7 @@ fn print_number(value: u32, out: &mut Bytes) -> Result<(), NoMemory>
 }
 
 fn print_name(names: &TextList, index: u32, out: &mut Bytes) -> Result<(), NoMemory>
-    ensures printed { OnOk result (out.new ≡ out.old ++ unwrap_or (slice_get names.now index) (decimal index)) }
+    ensures printed { OnOk result (out.new ≡ out.old ++ name_or_number names.now index) }
     ensures unchanged { OnErr result (out.new ≡ out.old) }
 {
     match names.get(index as usize) {

@@ -1,5 +1,6 @@
 ghost use Rattle.std.specs.Prelude.{◌≡◌, ◌+◌, ◌≤◌, length, IfErr, IfOk, OnErr, OnOk};
 ghost use Rattle.bb_vars.specs.Kind.{HasFewNames, size_of};
+ghost use Rattle.bb_vars.specs.Refusals.{Refuses};
 ghost use Rattle.bb_vars.specs.Setting.{with_value};
 ghost use Rattle.bb_vars.specs.Table.{table_with};
 ghost use Rattle.bb_vars.specs.Value.{bytes_of};
@@ -55,7 +56,7 @@ impl Table {
         requires inside { at + size_of kind.now ≤ length self.old }
         requires few_names { HasFewNames kind.now }
         ensures put { OnOk result (with_value kind.now at text.now self.old ≡ Ok self.new) }
-        ensures refused { IfErr result (λ cause. bytes_of kind.now text.now ≡ Err cause) }
+        ensures refused { IfErr result (Refuses (bytes_of kind.now text.now)) }
         ensures unchanged { OnErr result (self.new ≡ self.old) }
         ensures same_length { length self.new ≡ length self.old }
     {

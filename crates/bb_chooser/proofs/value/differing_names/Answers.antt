@@ -5,7 +5,7 @@ use Rattle.std.specs.Str.{bytes_eq}
 use Rattle.std.proofs.lemmas.List.{take_all}
 use Rattle.bb_layout.specs.Ranges.{some_pair}
 use Rattle.bb_chooser.proofs.Texts.{differing_good, differing_twice, get_or_same, now, twice_at}
-use Rattle.bb_chooser.proofs.value.differing.Goals as goal
+use Rattle.bb_chooser.proofs.value.differing_names.Goals as goal
 
 pub returns-then-not-branch-clause-refused : goal.returns-then-not-branch-clause-refused
 returns-then-not-branch-clause-refused c = λ told.

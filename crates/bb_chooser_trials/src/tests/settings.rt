@@ -1,5 +1,6 @@
-use super::*;
+// Texts of settings, read or refused.
 use bb_base::NoMemory;
+use bb_chooser::{Settings, SettingsError};
 use std::alloc::Global;
 use std::test::Fail;
 
@@ -20,8 +21,10 @@ fn refusal(alloc: Global, text: &[u8]) -> Result<(&'static str, usize), NoMemory
 
 #[test]
 fn settings_are_read(rt: HostRuntime) -> Result<(), Fail> {
-    let text =
-        b"# a board\r\n \t\r\nglobal.bootchooser.targets=\"a b\"\nglobal.bootchooser.a.boot=x".as_slice();
+    let text = b"# a board\r\n \t\r\n\
+          global.bootchooser.targets=\"a b\"\n\
+          global.bootchooser.a.boot=x"
+        .as_slice();
     let (name, _) = refusal(rt.alloc(), text)?;
     assert_eq!(rt; name, "");
     Ok(())
