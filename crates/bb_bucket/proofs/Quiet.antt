@@ -62,7 +62,7 @@ keeps_of_quiet from to quiet = record {
   geometry = quiet.later.geometry;
   content =
       sym (image_of_rest to.told)
-          ∙ ap (λ (rest : Option Told). option_map (λ (t : Told). t.image) rest) quiet.told
+      ∙ ap (λ (rest : Option Told). option_map (λ (t : Told). t.image) rest) quiet.told
       ∙ image_of_rest from.told;
   starts = quiet.starts.starts;
   start_faults = quiet.starts.start_faults;

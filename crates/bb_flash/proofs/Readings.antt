@@ -14,7 +14,7 @@ take-drop-slice bytes at size k len inside =
     let split : size ≡ k + (size - k) = omega arith in
     let fits : len ≤ size - k = omega arith in
     ap (λ n. take len (drop k (take n (drop at bytes)))) split
-        ∙ ap (take len) (drop-take k (size - k) (drop at bytes))
+    ∙ ap (take len) (drop-take k (size - k) (drop at bytes))
     ∙ take-take len (size - k) (drop k (drop at bytes)) fits ∙ ap (take len) (drop-drop k at bytes)
 
 pub is_reading : (page at : ℕ) (image : Image) (out : List ℕ) (health : Health) →
@@ -33,9 +33,9 @@ pub exact_reading : (page at : ℕ) (image : Image) (out : List ℕ) (health : H
 exact_reading page at image out health reading alive =
     let here : at + 0 ≡ at = omega arith in
     let worst : health_of page image (at + 0) (length out) ≡ health =
-        ap (λ place. health_of page image place (length out)) here ∙ sym reading.worst in
+    ap (λ place. health_of page image place (length out)) here ∙ sym reading.worst in
     sym (take_all (length out) out (omega arith))
-        ∙ reading.exact 0 (length out) (omega arith) (λ lost. alive (sym worst ∙ lost))
+    ∙ reading.exact 0 (length out) (omega arith) (λ lost. alive (sym worst ∙ lost))
     ∙ ap (λ place. take (length out) (drop place image.bytes)) here
 
 -- a part of what a device tells that no read changes

@@ -9,17 +9,17 @@ returns-clause-done g c =
     let held = block_of c.args.block (g.F.Flash.device c.args.flash.now).geometry c.requires.held in
     let made = c.erase.ensures in
     let changes = erase_changes c.args.block (g.F.Flash.device c.args.flash.now)
-        (g.F.Flash.device c.erase.new.self) held made.call.changes in
+    (g.F.Flash.device c.erase.new.self) held made.call.changes in
     on_ok_weaker _ _ c.erase.result
     (leaves_blank c.args.block (g.F.Flash.device c.args.flash.now)
-        (g.F.Flash.device c.erase.new.self) held made.call.whole made.call.later.geometry changes)
+    (g.F.Flash.device c.erase.new.self) held made.call.whole made.call.later.geometry changes)
     made.done
 
 pub returns-clause-changes : goal.returns-clause-changes
 returns-clause-changes g c =
     let held = block_of c.args.block (g.F.Flash.device c.args.flash.now).geometry c.requires.held in
     erase_changes c.args.block (g.F.Flash.device c.args.flash.now)
-        (g.F.Flash.device c.erase.new.self) held c.erase.ensures.call.changes
+    (g.F.Flash.device c.erase.new.self) held c.erase.ensures.call.changes
 
 pub returns-clause-within : goal.returns-clause-within
 returns-clause-within g c =

@@ -12,8 +12,8 @@ returns-clause-done g c =
     let made = c.program.ensures in
     on_ok_weaker _ _ c.program.result
     (leaves_program c.args.region c.args.at c.args.bytes.now (g.F.Flash.device c.args.flash.now)
-        (g.F.Flash.device c.program.new.self) c.requires.lies c.requires.within made.call.whole
-        made.call.later.geometry made.call.changes)
+    (g.F.Flash.device c.program.new.self) c.requires.lies c.requires.within made.call.whole
+    made.call.later.geometry made.call.changes)
     made.done
 
 pub returns-clause-within : goal.returns-clause-within
@@ -40,6 +40,6 @@ program-requires g c = record {
   whole = c.requires.pages;
   blank = λ blocks image told.
       blank_on_device (g.F.Flash.device c.args.flash.now).geometry image c.args.region c.args.at
-          (length c.args.bytes.now) c.requires.page c.requires.lies c.requires.within
+      (length c.args.bytes.now) c.requires.page c.requires.lies c.requires.within
       (c.requires.blank blocks image told);
 }

@@ -10,16 +10,16 @@ use Rattle.bb_bucket.proofs.parts.read_part.Goals as goal
 pub returns-clause-done : goal.returns-clause-done
 returns-clause-done g c =
     let keeps = keeps_of_read _ (g.F.Flash.device c.args.flash.now)
-        (g.F.Flash.device c.read.new.self) c.read.ensures.call in
+    (g.F.Flash.device c.read.new.self) c.read.ensures.call in
     let page = ap (λ (geometry : Geometry). geometry.page) keeps.geometry in
     let within : c.args.at + length c.read.new.out ≤ c.args.region.size =
-        omega (arith, c.read.auto.out) in
+    omega (arith, c.read.auto.out) in
     ok_weaker _ _ c.read.result (λ health reading image told.
     let fits = subst (λ (geometry : Geometry). IsImageOf geometry image) keeps.geometry
-        (c.read.ensures.call.whole.image image (keeps.content ∙ told)) in
+    (c.read.ensures.call.whole.image image (keeps.content ∙ told)) in
     part_read (g.F.Flash.device c.args.flash.now).geometry image c.args.region c.args.at
-        c.read.new.out health (omega (arith, c.read.ensures.call.whole.geometry.page_some, page))
-        c.requires.lies fits within (reading image told)) c.read.ensures.done
+    c.read.new.out health (omega (arith, c.read.ensures.call.whole.geometry.page_some, page))
+    c.requires.lies fits within (reading image told)) c.read.ensures.done
 
 pub returns-clause-quiet : goal.returns-clause-quiet
 returns-clause-quiet g c =

@@ -5,7 +5,7 @@ use Rattle.bb_bucket.specs.BlockLaws.{block_lies_on, block_of}
 use Rattle.bb_bucket.specs.Kind.{LiesOn, part_of}
 use Rattle.bb_bucket.proofs.Quiet.{keeps_of_quiet, quiet_joined, quiet_same}
 use Rattle.bb_circular.specs.PagesLaws.{IsLookedAt}
-use Rattle.bb_circular.proofs.LogCalls.{part_paged}
+use Rattle.bb_circular.proofs.LogDevices.{part_paged}
 use Rattle.bb_circular.proofs.Looks.{blank_read, last_page_is, looked_all, looked_more, no_page_is, part_by}
 use Rattle.bb_circular.proofs.last_page.find_last_page.Goals as goal
 

@@ -2,7 +2,7 @@ use Rattle.std.proofs.Common.{Option, subst, IsTrue}
 use Rattle.bb_bucket.specs.Kind.{part_of}
 use Rattle.bb_circular.specs.declared.kept.Kept.{Kept}
 use Rattle.bb_circular.specs.Circular.{agrees_with}
-use Rattle.bb_circular.proofs.Looks.{kept_known}
+use Rattle.bb_circular.proofs.Keeping.{kept_known}
 use Rattle.bb_bucket.proofs.Quiet.{quiet_same}
 use Rattle.bb_circular.proofs.look.look_up.Goals as goal
 

@@ -9,7 +9,8 @@ use Rattle.bb_circular.specs.Entries.{entry_len}
 use Rattle.bb_circular.specs.EntryLaws.{entry_len_is, entry_size}
 use Rattle.bb_circular.specs.Pages.{written_pages}
 use Rattle.bb_circular.specs.PagesLaws.{blank_behind, pages_blank}
-use Rattle.bb_circular.proofs.LogCalls.{append_calls, append_keeps, part_paged}
+use Rattle.bb_circular.proofs.LogCalls.{append_calls, append_keeps}
+use Rattle.bb_circular.proofs.LogDevices.{part_paged}
 use Rattle.bb_circular.proofs.store.append.Goals as goal
 
 pub program_part-requires-clause-lies : goal.program_part-requires-clause-lies

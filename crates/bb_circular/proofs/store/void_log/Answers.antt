@@ -7,7 +7,7 @@ use Rattle.bb_bucket.proofs.BlockCalls.{void_calls}
 use Rattle.bb_bucket.proofs.StrideCalls.{only_one}
 use Rattle.bb_circular.specs.Circular.{circular_kind, kept_of}
 use Rattle.bb_circular.specs.PutLaws.{blank_candidate, blank_kept}
-use Rattle.bb_circular.proofs.LogCalls.{blank_after}
+use Rattle.bb_circular.proofs.LogDevices.{blank_after}
 use Rattle.bb_circular.proofs.store.void_log.Goals as goal
 
 pub returns-in_err-erase_block-clause-calls : goal.returns-in_err-erase_block-clause-calls

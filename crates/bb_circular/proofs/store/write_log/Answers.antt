@@ -21,8 +21,8 @@ pub returns-clause-done : goal.returns-clause-done
 returns-clause-done g c =
     on_ok_weaker _ _ c.put_entry.result
     (leaves_after_quiet c.args.block.region (after_write c.args.block c.args.rec.now)
-        (g.F.Flash.device c.args.flash.now) (g.F.Flash.device c.look_up.new.flash)
-        (g.F.Flash.device c.put_entry.new.flash)
+    (g.F.Flash.device c.args.flash.now) (g.F.Flash.device c.look_up.new.flash)
+    (g.F.Flash.device c.put_entry.new.flash)
     c.look_up.ensures.quiet.later.geometry (keeps_of_quiet _ _ c.look_up.ensures.quiet).content)
     c.put_entry.ensures.done
 
@@ -30,15 +30,15 @@ pub returns-clause-calls : goal.returns-clause-calls
 returns-clause-calls g c =
     let page = ap (λ (geometry : Geometry). geometry.page) c.look_up.ensures.quiet.later.geometry in
     calls_after_quiet _ (g.F.Flash.device c.args.flash.now) (g.F.Flash.device c.look_up.new.flash)
-        (g.F.Flash.device c.put_entry.new.flash)
+    (g.F.Flash.device c.put_entry.new.flash)
     c.look_up.ensures.quiet.later c.put_entry.ensures.within.later c.look_up.ensures.quiet.told
     (subst (λ p. EachCall (IsWriteCall (circular_kind c.args.block) p c.args.rec.now)
-        (g.F.Flash.device c.look_up.new.flash) (g.F.Flash.device c.put_entry.new.flash)) page
-        c.put_entry.ensures.calls)
+    (g.F.Flash.device c.look_up.new.flash) (g.F.Flash.device c.put_entry.new.flash)) page
+    c.put_entry.ensures.calls)
 
 pub returns-clause-within : goal.returns-clause-within
 returns-clause-within g c =
     within_joined c.args.block.region (g.F.Flash.device c.args.flash.now)
-        (g.F.Flash.device c.look_up.new.flash) (g.F.Flash.device c.put_entry.new.flash)
+    (g.F.Flash.device c.look_up.new.flash) (g.F.Flash.device c.put_entry.new.flash)
     (within_of_quiet c.args.block.region (g.F.Flash.device c.args.flash.now)
-        (g.F.Flash.device c.look_up.new.flash) c.look_up.ensures.quiet) c.put_entry.ensures.within
+    (g.F.Flash.device c.look_up.new.flash) c.look_up.ensures.quiet) c.put_entry.ensures.within

@@ -7,7 +7,7 @@ use Rattle.bb_bucket.specs.Calls.{IsFoundAs}
 use Rattle.bb_bucket.specs.Kind.{part_of}
 use Rattle.bb_bucket.proofs.Quiet.{keeps_of_quiet}
 use Rattle.bb_circular.specs.Circular.{Circle, circular_candidate, circular_is_worn}
-use Rattle.bb_circular.proofs.Looks.{holding_agrees}
+use Rattle.bb_circular.proofs.Keeping.{holding_agrees}
 use Rattle.bb_circular.proofs.circular.CircularBucket.read.Goals as goal
 
 pub returns-clause-agrees : goal.returns-clause-agrees

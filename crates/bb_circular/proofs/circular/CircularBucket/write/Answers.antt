@@ -4,7 +4,7 @@ use Rattle.bb_bucket.specs.declared.block.Block.{Block}
 use Rattle.bb_bucket.specs.Blocks.{is_block_of}
 use Rattle.bb_bucket.specs.BlockLaws.{block_of}
 use Rattle.bb_circular.specs.Circular.{Circle}
-use Rattle.bb_circular.proofs.Looks.{holding_agrees}
+use Rattle.bb_circular.proofs.Keeping.{holding_agrees}
 use Rattle.bb_circular.proofs.circular.CircularBucket.write.Goals as goal
 
 pub returns-clause-agrees : goal.returns-clause-agrees

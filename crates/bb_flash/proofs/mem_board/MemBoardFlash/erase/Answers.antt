@@ -12,11 +12,11 @@ returns-clause-call c =
     let geometry = c.args.self.now.geometry in
     let changes =
     subst (λ (m : Memory). ChangesOnly (c.args.block * geometry.block) (blank_block geometry)
-        (device_of c.args.self.now) (device_of m)) (sym c.erase_call.ensures.after)
+    (device_of c.args.self.now) (device_of m)) (sym c.erase_call.ensures.after)
     (erase_changes c.args.self.now c.args.block c.erase_call.ensures.whole c.requires) in
     let later =
     subst (λ (m : Memory). IsLater (device_of c.args.self.now) (device_of m))
-        (sym c.erase_call.ensures.after)
+    (sym c.erase_call.ensures.after)
     (erase_later c.args.self.now c.args.block) in
     record {
       changes = changes;

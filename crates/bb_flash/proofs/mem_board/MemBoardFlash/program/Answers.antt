@@ -11,12 +11,12 @@ pub returns-clause-call : goal.returns-clause-call
 returns-clause-call c =
     let changes =
     subst (λ (m : Memory). ChangesOnly c.args.at c.args.bytes.now (device_of c.args.self.now)
-        (device_of m)) (sym c.program_call.ensures.after)
+    (device_of m)) (sym c.program_call.ensures.after)
     (program_changes c.args.self.now c.args.at c.args.bytes.now c.program_call.ensures.whole
-        c.requires) in
+    c.requires) in
     let later =
     subst (λ (m : Memory). IsLater (device_of c.args.self.now) (device_of m))
-        (sym c.program_call.ensures.after)
+    (sym c.program_call.ensures.after)
     (program_later c.args.self.now c.args.at c.args.bytes.now) in
     record {
       changes = changes;
@@ -28,7 +28,7 @@ returns-clause-call c =
       whole =
           subst (λ (m : Memory). IsDevice (device_of m)) (sym c.program_call.ensures.after)
           (program_whole c.args.self.now c.args.at c.args.bytes.now c.program_call.ensures.whole
-              c.requires);
+          c.requires);
       faults = search rules;
       read_faults = search rules;
     }
