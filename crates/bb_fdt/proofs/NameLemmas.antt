@@ -13,7 +13,8 @@ small c is = grind (arith, nat_tests)
 
 all_small : (name : List ℕ) → list_all is_name_byte name ≡ true → IsAscii name
 all_small [] is = IsAscii-nil
-all_small (c ∷ cs) is = let parts = and_parts _ _ is in IsAscii-cons c cs (small c parts.0) (all_small cs parts.1)
+all_small (c ∷ cs) is = let parts = and_parts _ _ is in
+    IsAscii-cons c cs (small c parts.0) (all_small cs parts.1)
 
 pub IsAscii-name : (name : List ℕ) → is_name name ≡ true → IsAscii name
 IsAscii-name name is = all_small name (and_parts _ _ is).1

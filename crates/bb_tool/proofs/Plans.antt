@@ -7,7 +7,7 @@ use Rattle.bb_base.specs.Folder.{FileMap, Folder, file_of}
 use Rattle.bb_base.specs.declared.files.FileFail.TheVariants as file_fails
 use Rattle.bb_chooser.specs.Binding.{Binding}
 use Rattle.bb_chooser.specs.declared.settings_error.SettingsError.{SettingsError}
-use Rattle.bb_dts.specs.Source.{Read, source_of}
+use Rattle.bb_dts.specs.Source.{source_of}
 use Rattle.bb_dts.specs.declared.error.DtsError.{DtsError}
 use Rattle.bb_fdt.specs.Reading.{blob_of}
 use Rattle.bb_fdt.specs.declared.error.FdtError.{FdtError}
@@ -112,7 +112,7 @@ module _ (P : Refusal → Type 0) where
             then_all (λ (tree : Devicetree). Ok tree.root) (refused_as refusals.BadBlob (blob_of bytes))
             (as_all refusals.BadBlob (blob_of bytes) holds.blob) (λ tree. tt)
         by false =
-            then_all (λ (tree : Read). Ok tree.root) (refused_as refusals.BadTree (source_of bytes))
+            then_all (λ (tree : Devicetree). Ok tree.root) (refused_as refusals.BadTree (source_of bytes))
             (as_all refusals.BadTree (source_of bytes) holds.tree) (λ tree. tt)
 
     layout_all : (name : Option (List ℕ)) (geometry : Geometry) (bytes : List ℕ) →

@@ -7,7 +7,6 @@ use Rattle.bb_base.specs.declared.files.FileFail.TheVariants as file_fails
 use Rattle.bb_chooser.specs.Binding.{Binding}
 use Rattle.bb_chooser.specs.declared.settings_error.SettingsError.{SettingsError}
 use Rattle.bb_chooser.specs.declared.settings_error.SettingsError.TheVariants as settings_errors
-use Rattle.bb_dts.specs.Source.{Read}
 use Rattle.bb_dts.specs.declared.error.DtsError.{DtsError}
 use Rattle.bb_dts.specs.declared.error.DtsError.TheVariants as tree_errors
 use Rattle.bb_fdt.specs.declared.error.FdtError.{FdtError}
@@ -96,7 +95,7 @@ laid_as file given name handed geometry answer laid same_name same_geometry is =
 
 -- ---- refusals by the names that they have in a session
 
-pub tree_refused : (read : Result Read DtsError) (e : DtsError) → (e ≢ tree_errors.NoMemory → read ≡ Err e) → tree_refusal e ≢ refusals.NoMemory → refused_as refusals.BadTree read ≡ Err (tree_refusal e)
+pub tree_refused : (read : Result Devicetree DtsError) (e : DtsError) → (e ≢ tree_errors.NoMemory → read ≡ Err e) → tree_refusal e ≢ refusals.NoMemory → refused_as refusals.BadTree read ≡ Err (tree_refusal e)
 tree_refused read (tree_errors.NotText at) refused some = ap (refused_as refusals.BadTree) (refused (λ h. cc))
 tree_refused read (tree_errors.BadToken at) refused some = ap (refused_as refusals.BadTree) (refused (λ h. cc))
 tree_refused read (tree_errors.Unexpected at) refused some = ap (refused_as refusals.BadTree) (refused (λ h. cc))
