@@ -1,7 +1,6 @@
 -- Each refusal of a layout comes at the first step that refuses, and at no other.
 use Rattle.std.proofs.Common.{◌≡◌, ◌≢◌, ◌⊎◌, ℕ, Bool, true, false, List, Option, Some, None, Result, Ok, Err, IfOk, IfErr, IsOk, refl, ap, sym, subst, ◌∙◌, inl, inr}
 use Rattle.std.specs.Prelude.{ok_or}
-use Rattle.bb_flash.specs.declared.geometry.Geometry.{Geometry}
 use Rattle.bb_flash.specs.declared.region.Region.{Region}
 use Rattle.bb_tree.specs.Node.{Branch}
 use Rattle.bb_layout.specs.Backend.{backend_of}
@@ -9,7 +8,7 @@ use Rattle.bb_layout.specs.Copies.{copies_of}
 use Rattle.bb_layout.specs.Formats.{record_len}
 use Rattle.bb_layout.specs.Layout.{Laid, laid, layout_at}
 use Rattle.bb_layout.specs.Ranges.{area_len_of}
-use Rattle.bb_layout.specs.Refusals.{answer_to, area_step, place_step, progress_of, props_step, region_step, room_step, state_step, vars_step, AtArea, AtBackend, AtPlace, AtProperties, AtProps, AtRoom, AtVars, ComesAt, ComesExactly, HasNoState, Progress, Question, Refuses}
+use Rattle.bb_layout.specs.Refusals.{answer_to, area_step, place_step, progress_of, props_step, region_step, room_step, state_step, vars_step, AtArea, AtBackend, AtPlace, AtProperties, AtProps, AtRoom, AtVars, ComesAt, ComesExactly, HasNoState, Question, Refuses}
 use Rattle.bb_layout.specs.StateNode.{state_of}
 use Rattle.bb_layout.specs.StateProps.{props_of}
 use Rattle.bb_layout.specs.Steps.{result_then}

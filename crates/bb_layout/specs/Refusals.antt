@@ -1,5 +1,5 @@
 -- Where each refusal of a layout comes: at the first step that refuses. The steps are the fields of `Progress`, in order.
-use Rattle.std.specs.Prelude.{◌≡◌, ◌≢◌, ◌⊎◌, ℕ, List, Option, None, Result, Ok, Err, IsOk, ok_or}
+use Rattle.std.specs.Prelude.{◌≡◌, ◌≢◌, ◌⊎◌, ℕ, List, Option, None, Result, Err, IsOk, ok_or}
 use Rattle.std.specs.Borrow.{Bor}
 use Rattle.std.specs.Option.{option_copied}
 use Rattle.bb_flash.specs.declared.geometry.Geometry.{Geometry}
