@@ -27,8 +27,8 @@ greatest_end [] = 0
 greatest_end (v ∷ vs) = max (end_of v) (greatest_end vs)
 
 -- the length of the area, or the first refusal
-abbrev pub area_of : List Var → Result ℕ LayoutError
-area_of vars =
+abbrev pub area_len_of : List Var → Result ℕ LayoutError
+area_len_of vars =
     if some_pair has_same_name vars then Err NameTwice
     else if some_pair shares_byte vars then Err Overlap
     else if nat_lt 65535 (greatest_end vars) then Err AreaTooLong

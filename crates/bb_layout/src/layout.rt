@@ -34,7 +34,8 @@ pub struct Layout {
     pub area_len: u32,
     /// The variables, in the order of the devicetree.
     pub vars: VarList,
-    pub ghost facts: { IsLayout geometry region storage copies (record_len format area_len) area_len vars } by { Prim.hlevel (props, HasFewNames-prop) },
+    pub ghost facts: { IsLayout geometry region storage copies
+        (record_len format area_len) area_len vars } by { Prim.hlevel (props, HasFewNames-prop) },
 }
 
 impl Layout {

@@ -3,7 +3,7 @@ use Rattle.std.specs.List.{join_with_byte}
 use Rattle.bb_layout.specs.Fields.{base_name}
 use Rattle.bb_layout.specs.Walk.{dotted_more}
 use Rattle.bb_layout.proofs.Strings.{joined_at}
-use Rattle.bb_layout.proofs.variable.dotted.Goals as goal
+use Rattle.bb_layout.proofs.variable.dotted_name.Goals as goal
 
 pub loop-i-preserved : goal.loop-i-preserved
 loop-i-preserved c =

@@ -2,7 +2,7 @@ use Rattle.std.proofs.Common.{◌≡◌, map, take}
 use Rattle.std.specs.List.{join_with_byte}
 use Rattle.std.specs.String.{string_bytes}
 use Rattle.bb_layout.specs.Fields.{base_name}
-use Rattle.bb_layout.proofs.variable.dotted.Given as goal
+use Rattle.bb_layout.proofs.variable.dotted_name.Given as goal
 
 -- the names so far, joined
 abbrev pub invariant-loop-i : goal.invariant-loop-i
