@@ -1,7 +1,8 @@
 -- Where each refusal of a layout comes: at the first step that refuses. The steps are the fields of `Progress`, in order.
-use Rattle.std.specs.Prelude.{◌≡◌, ◌≢◌, ◌⊎◌, ℕ, List, Option, None, Result, Err, IsOk, ok_or}
+use Rattle.std.specs.Prelude.{◌≡◌, ◌⊎◌, ℕ, List, Option, None, Result, Err, IsOk, ok_or}
 use Rattle.std.specs.Borrow.{Bor}
 use Rattle.std.specs.Option.{option_copied}
+use Rattle.bb_base.specs.Refusals as refusals
 use Rattle.bb_flash.specs.declared.geometry.Geometry.{Geometry}
 use Rattle.bb_flash.specs.declared.region.Region.{Region}
 use Rattle.bb_tree.specs.Node.{Branch}
@@ -134,12 +135,11 @@ AtProperties question refusal =
 
 -- an answer is refused as it is expected, unless memory was refused
 abbrev pub Refuses : {A : Type 0} → Result A LayoutError → LayoutError → Type 0
-Refuses expected refusal = refusal ≢ NoMemory → expected ≡ Err refusal
+Refuses expected refusal = refusals.RefusesAs NoMemory expected refusal
 
--- A refusal comes exactly where a fact holds; the refusal of memory may come before it.
-pub record ComesExactly (result : Result Layout LayoutError) (refusal : LayoutError) (fact : Type 0) : Type 0 where
-  pub only : result ≡ Err refusal → fact
-  pub always : fact → (result ≡ Err refusal) ⊎ (result ≡ Err NoMemory)
+-- a refusal comes exactly where a fact holds; that memory was refused may come before it
+abbrev pub ComesExactly : Result Layout LayoutError → LayoutError → Type 0 → Type 0
+ComesExactly result refusal fact = refusals.ComesExactly NoMemory result refusal fact
 
 -- it comes exactly where that step is the first that refuses, and refuses so
 abbrev pub ComesAt : (Question → LayoutError → Type 0) → Question → Result Layout LayoutError → LayoutError → Type 0
