@@ -73,7 +73,7 @@ pub record IsStartFailed (from to : Device) (plan : Plan) : Type 0 where
   pub runs : StartRuns false from to
   pub failed : to.told ≡ from.told
 
--- behind the save the target is started by its plan; where it has none, or the save was refused,
+-- after the save the target is started by its plan; where it has none, or the save was refused,
 -- no call is made
 abbrev pub IsTried : Option Plan → Outcome → Device → Device → Type 0
 IsTried plan (Refused fault) from to = to ≡ from

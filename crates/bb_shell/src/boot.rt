@@ -65,7 +65,8 @@ pub fn boot_run<B: Board>(
 // The best target of the table after the reset, where there is one.
 fn first_target(chooser: &Chooser, table: &Table, cause: Cause, first: bool) -> Option<usize>
     requires { length table.now ≡ chooser.now.area_len }
-    ensures best { IfSome result (IsBest chooser.now (first_table chooser.now cause first table.now)) }
+    ensures best { IfSome result
+        (IsBest chooser.now (first_table chooser.now cause first table.now)) }
     ensures none { IsNone result
         ↔ NoneQualifies chooser.now (first_table chooser.now cause first table.now) }
 {

@@ -55,7 +55,7 @@ use Rattle.bb_words.specs.declared.command.RawAction.TheVariants as raw_actions
 use Rattle.bb_words.specs.declared.command.RawCommand.{RawCommand}
 use Rattle.bb_layout.specs.Thirds.{raw_layout}
 use Rattle.bb_tool.specs.Looking.{passed_in}
-use Rattle.bb_tool.specs.Plan.{Act, Boot, Described, FileAnswer, FileAnswers, Good, Key, SessionPlan, Settings, Show, Tree, Work, Write, binding_in, boot_bound, boot_described, boot_keyed, bound_in, bytes_in, cause_of, fit_by, key_in, keyed_by, keyed_in, laid_by, layout_by, layout_in, mark_described, mark_keyed, plan_of, planned, plans_in, raw_laid, raw_work, refused_as, state_described, state_keyed, tree_in}
+use Rattle.bb_tool.specs.Plan.{Act, Boot, Described, FileAnswer, FileAnswers, Good, Key, SessionPlan, Settings, Show, Tree, Work, Write, binding_in, boot_bound, boot_described, boot_keyed, bound_in, bytes_in, cause_of, fit_by, key_in, keyed_by, keyed_in, laid_by, layout_by, layout_in, mark_described, mark_keyed, plan_of, plan_by_words, plans_in, raw_laid, raw_work, refused_as, state_described, state_keyed, tree_in}
 use Rattle.bb_tool.specs.Turns.{first_area}
 use Rattle.bb_tool.specs.declared.refusal.Refusal.{Refusal}
 use Rattle.bb_tool.specs.declared.refusal.Refusal.TheVariants as refusals
@@ -300,9 +300,9 @@ plan_sized (Ok (BootWords command)) geometry files =
 plan_sized (Err place) geometry files = tt
 
 pub planned_sized : (words : List (List ℕ)) (geometry : Geometry) (files : FileAnswers) (plan : SessionPlan) →
-    planned words geometry files ≡ Ok plan → IsSizedPlan plan
+    plan_by_words words geometry files ≡ Ok plan → IsSizedPlan plan
 planned_sized words geometry files plan is =
-    if_ok IsSizedPlan (planned words geometry files) plan is (plan_sized (words_of words) geometry files)
+    if_ok IsSizedPlan (plan_by_words words geometry files) plan is (plan_sized (words_of words) geometry files)
 
 -- ---- what copies pass
 

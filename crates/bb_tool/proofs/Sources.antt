@@ -142,7 +142,7 @@ settings_refused bound (settings_errors.NoSuchVariable name) refused some = ap (
 settings_refused bound (settings_errors.NotUint32 name) refused some = ap (refused_as refusals.BadSettings) (refused (λ h. cc))
 settings_refused bound settings_errors.NoMemory refused some = absurd (some refl)
 
--- whether a refusal is want of memory
+-- whether a refusal is refused memory
 pub memory_or_not : (e : Refusal) → (e ≡ refusals.NoMemory) ⊎ (e ≢ refusals.NoMemory)
 memory_or_not (refusals.BadWords place) = inr (λ h. cc)
 memory_or_not (refusals.BadTree e) = inr (λ h. cc)

@@ -13,7 +13,7 @@ use Rattle.bb_state.specs.Kinds.{laid_form, laid_kinds}
 use Rattle.bb_tool.specs.Looking.{first_found, passed_in}
 use Rattle.bb_tool.specs.Booting.{SaveAnswer}
 use Rattle.bb_tool.specs.Plan.{Act, Boot, Good, SessionPlan, Show, Work, Write}
-use Rattle.bb_tool.specs.Session.{saves_behind, worked}
+use Rattle.bb_tool.specs.Session.{saves_behind, work_session}
 use Rattle.bb_tool.specs.declared.refusal.Refusal.{Refusal}
 
 -- ---- the region of one copy
@@ -39,13 +39,13 @@ saved_region form kind (area ∷ areas) region =
 
 -- ---- the work of a plan, where the first copy that passed had this area, or none passed
 
--- the areas that are saved behind the load: those of a boot hang on the answers of its starts
+-- the areas that are saved after the load: those of a boot hang on the answers of its starts
 abbrev pub saves_made : Work → SessionPlan → Option (List ℕ) → List SaveAnswer → List (List ℕ)
 saves_made Show plan found answers = saves_behind plan (Ok found)
 saves_made (Write area) plan found answers = saves_behind plan (Ok found)
 saves_made (Act actions) plan found answers = saves_behind plan (Ok found)
 saves_made (Good targets) plan found answers = saves_behind plan (Ok found)
-saves_made (Boot targets cause plans) plan found answers = (worked plan (Ok found) answers).saves
+saves_made (Boot targets cause plans) plan found answers = (work_session plan (Ok found) answers).saves
 
 -- after the load, and the saves behind it; a look changes nothing
 abbrev pub worked_region :

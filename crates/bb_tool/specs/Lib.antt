@@ -29,6 +29,7 @@ pub mod Looking
 pub mod Marking
 pub mod Plan
 pub mod Ran
+pub mod Reading
 pub mod Refusal
 pub mod Session
 pub mod Starting

@@ -5,7 +5,7 @@ ghost use Rattle.bb_layout.specs.Layout.{laid};
 ghost use Rattle.bb_state.specs.Keyed.{FitsKey};
 ghost use Rattle.bb_tree.specs.NodeViews.{branch_of};
 ghost use Rattle.bb_tool.specs.Filing.{Follows, IsFolderLater, IsKeyedFor, IsReadFor, keyed_as};
-ghost use Rattle.bb_tool.specs.Plan.{blob_root, described, layout_in, source_root, tree_in};
+ghost use Rattle.bb_tool.specs.Plan.{blob_root, description_of, layout_in, source_root, tree_in};
 ghost use Rattle.bb_tool.specs.Refusal.{IsTellable};
 
 use crate::file::read_file;
@@ -38,7 +38,7 @@ pub(crate) fn read_keyed<N: Files>(
 ) -> Result<KeyedLayout, Refusal>
     requires { IsGeometry geometry }
     ensures read { IsKeyedFor
-        (described file.now (option_copied name.entry) (option_copied key.entry)) geometry
+        (description_of file.now (option_copied name.entry) (option_copied key.entry)) geometry
         (N.folder files.old) (N.folder files.new) keyed_as result }
     ensures fits { IfOk result (λ keyed. FitsKey keyed.layout.format keyed.key) }
     ensures same_geometry { IfOk result (λ keyed. keyed.layout.geometry ≡ geometry) }
