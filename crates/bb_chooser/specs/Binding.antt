@@ -1,6 +1,7 @@
 -- Targets that are bound to the variables of a layout (barebox User Manual, Bootchooser).
 use Rattle.std.specs.Prelude.{ℕ, ◌+◌, ◌<◌, ◌≤◌, Bool, false, true, List, ◌++◌, codes, map, All, AllPairs, Option, Some, None, Result, Ok, Err, if◌then◌else◌, option_and_then, slice_get}
 use Rattle.std.specs.Str.{bytes_eq}
+use Rattle.bb_base.specs.Form.{area_limit}
 use Rattle.bb_layout.specs.Results.{all_ok, result_and_then}
 use Rattle.bb_layout.specs.VarNames.{place_of}
 use Rattle.bb_layout.specs.declared.layout.Layout.{Layout}
@@ -131,7 +132,7 @@ pub record StandApart (t u : BoundTarget) : Type 0 where
 
 -- an area holds them all, each apart from each other
 pub record IsBinding (b : Binding) : Type 0 where
-  pub area_most : b.area_len ≤ 65535
+  pub area_most : b.area_len ≤ area_limit
   pub last_inside : b.last_chosen_at + 4 ≤ b.area_len
   pub each_inside : All (IsInside b.area_len) b.targets
   pub each_alone : All (StandsAlone b.last_chosen_at) b.targets

@@ -44,6 +44,7 @@ impl Model for Chooser {
 impl Chooser {
     ghost use Rattle.std.specs.Prelude.{◌<◌, ◌≤◌, ◌↔◌, List, ℕ, Ok, IfOk, IfErr, IfSome, IsNone, IsTrue, IsSome, length};
     ghost use Rattle.std.specs.Option.{option_copied};
+    ghost use Rattle.bb_base.specs.Form.{area_limit};
     ghost use Rattle.bb_chooser.specs.Binding.{IsBinding, bind_of};
     ghost use Rattle.bb_chooser.specs.Choosing as choosing;
     ghost use Rattle.bb_chooser.specs.Choosing.{IsBest, NoneQualifies, entry_of, name_of};
@@ -78,7 +79,7 @@ impl Chooser {
     /// 65,535.
     pub fn count(&self) -> usize
         ensures count { result ≡ length self.now.targets }
-        ensures few { result ≤ 65535 }
+        ensures few { result ≤ area_limit }
         ensures binding { IsBinding self.now }
     {
         self.targets.len()

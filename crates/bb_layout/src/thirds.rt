@@ -1,4 +1,5 @@
 ghost use Rattle.std.specs.Prelude.{◌≡◌, ◌≢◌, ◌≤◌, ◌<◌, ◌+◌, ◌/◌, Ok, Err, IfOk, IfErr, codes};
+ghost use Rattle.bb_base.specs.Form.{area_limit};
 ghost use Rattle.bb_flash.specs.Geometry.{IsGeometry};
 ghost use Rattle.bb_layout.specs.Formats.{raw_len};
 ghost use Rattle.bb_layout.specs.Layout.{laid};
@@ -22,7 +23,7 @@ pub fn raw_layout(
     geometry: Geometry,
 ) -> Result<Layout, LayoutError>
     requires geometry { IsGeometry geometry }
-    requires area { area_len ≤ 65535 }
+    requires area { area_len ≤ area_limit }
     ensures ok { IfOk result (λ layout. raw_layout magic area_len geometry ≡ Ok (laid layout)) }
     ensures refused { IfErr result (λ e. e ≢ LayoutError.NoMemory
         → raw_layout magic area_len geometry ≡ Err e) }
