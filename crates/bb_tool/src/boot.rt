@@ -131,7 +131,7 @@ fn boot_on<B: Board>(
     ensures sends { IfOk result IsSendable }
     ensures later { IsLater (B.device board.old) (B.device board.new) }
 {
-    prove!(chooser.count() <= AREA_LIMIT);
+    prove!(chooser.count() <= AREA_LIMIT as usize);
     state.load(board)?;
     let end = boot_run(state, chooser, plans, cause, true, board);
     report(alloc, chooser, end)
