@@ -1,7 +1,7 @@
 use bb_base::{Bytes, NoMemory, Text};
 use bb_tree::{
-    Draft, DraftNode, DraftNodeList, DraftProp, DraftPropList, Node, NodeList, PairList, Part, PartList, Prop, PropList,
-    TreeError, blob_length,
+    Draft, DraftNode, DraftNodeList, DraftProp, DraftPropList, Node, NodeList, PairList, Part,
+    PartList, Prop, PropList, Tree, TreeError, blob_length,
 };
 use std::alloc::Global;
 use std::test::Fail;
