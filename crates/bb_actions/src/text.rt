@@ -8,8 +8,9 @@ use bb_state::{add_dump, add_shell_dump, add_value_line};
 use bb_words::{Action, ActionList};
 use std::alloc::Global;
 
-/// The text of what all actions get and dump, in their order, over an area of the layout: a line for each value, ended
-/// by LF. For a variable that the layout doesn't have nothing is sent; `first_misfit` gives the first.
+/// The text of what all actions get and dump, in their order, over an area of the layout: a line
+/// for each value, ended by LF. For a variable that the layout doesn't have nothing is sent;
+/// `first_misfit` gives the first.
 pub fn actions_text(
     alloc: Global,
     layout: &Layout,

@@ -17,6 +17,7 @@ as_word n = from_le_bytes w32 (to_le_bytes w32 n)
 abbrev pub default_or : Bool → ℕ → ℕ → ℕ
 default_or is_reset default kept = if is_reset then as_word default else kept
 
+-- a target's priority and remaining attempts after a reset of these
 abbrev pub count_after : Resets → List ℕ → BoundTarget → Count
 count_after resets table t = record {
   priority = default_or resets.priorities t.target.default_priority (number_at table t.priority_at);
@@ -27,9 +28,7 @@ count_after resets table t = record {
 abbrev pub counts_after : Resets → List ℕ → List BoundTarget → List Count
 counts_after resets table targets = map (count_after resets table) targets
 
--- ---- of one target
-
--- it has a priority then, and it lacks that or attempts
+-- a target has a priority after it, and it lacks that or attempts
 abbrev pub has_priority_after : Resets → List ℕ → BoundTarget → Bool
 has_priority_after resets table t = has_priority (count_after resets table t)
 

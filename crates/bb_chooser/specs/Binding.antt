@@ -38,12 +38,14 @@ priority_name prefix name = full_name prefix (name ++ codes ".priority")
 abbrev pub variable_named : List Var → List ℕ → Option Var
 variable_named vars name = option_and_then (slice_get vars) (place_of vars name)
 
+-- and the one that is called so
 abbrev pub variable_called : List ℕ → List Var → List ℕ → Option Var
 variable_called layout vars full =
     option_and_then
     (λ names. if bytes_eq names.0 layout then variable_named vars names.1 else None)
     (sides_at 46 full)
 
+-- a number of 4 bytes
 abbrev pub is_uint32 : Kind → Bool
 is_uint32 Uint8 = false
 is_uint32 Uint32 = true
@@ -51,7 +53,7 @@ is_uint32 (Enum32 names) = false
 is_uint32 Mac = false
 is_uint32 (Chars size) = false
 
--- the place of a uint32 in the area
+-- the place of a uint32 in the area, of this variable, and of the one that is called so
 abbrev pub uint32_in : List ℕ → Option Var → Result ℕ SettingsError
 uint32_in full None = Err (NoSuchVariable full)
 uint32_in full (Some v) = if is_uint32 v.kind then Ok v.at else Err (NotUint32 full)
@@ -61,6 +63,7 @@ uint32_at layout vars full = uint32_in full (variable_called layout vars full)
 
 -- ---- targets
 
+-- a target with the places of its variables
 abbrev pub bound_at : Target → ℕ → ℕ → BoundTarget
 bound_at target attempts_at priority_at =
     record { target = target; attempts_at = attempts_at; priority_at = priority_at }

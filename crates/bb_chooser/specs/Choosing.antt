@@ -31,6 +31,7 @@ abbrev pub count_in : List ℕ → BoundTarget → Count
 count_in table t =
     record { priority = number_at table t.priority_at; attempts = number_at table t.attempts_at }
 
+-- of each target
 abbrev pub counts_of : Binding → List ℕ → List Count
 counts_of b table = map (count_in table) b.targets
 

@@ -46,7 +46,7 @@ own_setting_of own.DefaultAttempts name value =
 own_setting_of own.DefaultPriority name value =
     result_and_then (λ n. Ok (PriorityOf name n)) (number_in value)
 
--- what stands before and behind the first of these bytes
+-- what stands before and behind the first such byte, if there is one
 abbrev pub sides_at : ℕ → List ℕ → Option (List ℕ × List ℕ)
 sides_at c text =
     if list_any (λ b. b == c) text

@@ -32,9 +32,11 @@ has_cause events PowerOn = events.power_on
 has_cause events Reset = events.reset
 has_cause events Other = false
 
+-- priorities are given back
 abbrev pub resets_priorities : Binding → List ℕ → Bool
 resets_priorities b table = b.rules.reset_priorities && has_no_priority (counts_of b table)
 
+-- attempts are given back, after this cause
 abbrev pub resets_attempts : Binding → Cause → List ℕ → Bool
 resets_attempts b cause table =
     has_cause b.rules.reset_attempts cause
@@ -58,6 +60,7 @@ with_priorities_if resets table targets = if resets then with_priorities table t
 abbrev pub with_attempts_if : Bool → List ℕ → List BoundTarget → List ℕ
 with_attempts_if resets table targets = if resets then with_attempts table targets else table
 
+-- what the first step leaves
 abbrev pub after_priorities : Binding → List ℕ → List ℕ
 after_priorities b table = with_priorities_if (resets_priorities b table) table b.targets
 

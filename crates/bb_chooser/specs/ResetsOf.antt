@@ -9,13 +9,15 @@ use Rattle.bb_chooser.specs.declared.bound_target.BoundTarget.{BoundTarget}
 use Rattle.bb_chooser.specs.declared.cause.Cause.{Cause}
 use Rattle.bb_chooser.specs.declared.resets.Resets.{Resets}
 
--- a table has no priority for a target
+-- a table has 0 as a target's priority
 abbrev pub lacks_priority : List ℕ → BoundTarget → Bool
 lacks_priority table t = number_at table t.priority_at == 0
 
+-- priorities are given back
 abbrev pub priorities_reset : Binding → List ℕ → Bool
 priorities_reset b table = b.rules.reset_priorities && list_all (lacks_priority table) b.targets
 
+-- attempts are given back, after a reset of these
 abbrev pub attempts_reset : Binding → Cause → Resets → List ℕ → Bool
 attempts_reset b cause resets table =
     has_cause b.rules.reset_attempts cause

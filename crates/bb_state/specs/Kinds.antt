@@ -66,7 +66,8 @@ bucket_at geometry storages.Circular partition copy =
 
 -- the buckets of all copies, in their order, and their kinds
 abbrev pub laid_buckets : Laid → List AnyBucket
-laid_buckets layout = map (bucket_at layout.geometry layout.storage layout.region) (range_with_len 0 layout.copies)
+laid_buckets layout =
+    map (bucket_at layout.geometry layout.storage layout.region) (range_with_len 0 layout.copies)
 
 abbrev pub laid_kinds : Laid → List BucketKind
 laid_kinds layout = kinds_of any_holding (laid_buckets layout)

@@ -1,4 +1,4 @@
-ghost use Rattle.std.specs.Prelude.{◌≡◌, ◌≢◌, ◌↔◌, ◌++◌, Err, IfErr, IfOk, IsErr, IsErrOf, IsOk};
+ghost use Rattle.std.specs.Prelude.{◌≡◌, ◌↔◌, ◌++◌, IfErr, IfOk, IsErr, IsErrOf, IsOk};
 ghost use Rattle.std.specs.Prelude.{None, Ok, OnErr, OnOk, Some, false, is_ok, length, true};
 ghost use Rattle.std.specs.Result.{result_map_both};
 ghost use Rattle.bb_base.specs.Faults.{HasCause};
@@ -16,12 +16,11 @@ ghost use Rattle.bb_copies.specs.declared.answers.CopyFault.TheVariants.{ReadFau
 ghost use Rattle.bb_layout.specs.Defaults.{defaults_of};
 ghost use Rattle.bb_layout.specs.Layout.{laid};
 ghost use Rattle.bb_state.specs.Keyed.{FitsKey};
-ghost use Rattle.bb_state.specs.Named.{after_set, refusal_for, text_for};
+ghost use Rattle.bb_state.specs.Named.{Refuses, after_set, refusal_for, text_for};
 ghost use Rattle.bb_state.specs.State.{FitsForm, form_of, kinds_of, IsDefault, IsFresh, IsOn};
 ghost use Rattle.bb_state.specs.State.{IsPlaced};
 ghost use Rattle.bb_state.specs.State.{IsRefused, IsSized, IsStored, has_changed, is_kept, is_sure};
 ghost use Rattle.bb_state.specs.State.{kept_of, keyed_of, laid_of, used_of};
-ghost use Rattle.bb_state.specs.declared.error.StateError.TheVariants as states;
 
 use crate::backing::Backing;
 use crate::{StateError, get_value, set_value};
@@ -213,8 +212,8 @@ impl State {
         requires { IsSized self.now }
         ensures got { OnOk result (result_map_both (λ text. out.old ++ text) (λ e. e)
             (text_for (laid_of self.now).vars name.now self.now.table) ≡ Ok out.new) }
-        ensures refused { IfErr result (λ e. e ≢ states.NoMemory
-            → text_for (laid_of self.now).vars name.now self.now.table ≡ Err e) }
+        ensures refused { IfErr result
+            (Refuses (text_for (laid_of self.now).vars name.now self.now.table)) }
     {
         get_value(self.layout(), self.table.bytes(), name, out)
     }
