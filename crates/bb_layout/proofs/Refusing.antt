@@ -6,7 +6,7 @@ use Rattle.bb_tree.specs.Node.{Branch}
 use Rattle.bb_layout.specs.Backend.{backend_of}
 use Rattle.bb_layout.specs.Copies.{copies_of}
 use Rattle.bb_layout.specs.Formats.{record_len}
-use Rattle.bb_layout.specs.Layout.{Laid, laid, layout_at}
+use Rattle.bb_layout.specs.Layout.{Laid, fields_of, layout_at}
 use Rattle.bb_layout.specs.Ranges.{area_len_of}
 use Rattle.bb_layout.specs.Refusals.{answer_to, area_step, place_step, progress_of, props_step, region_step, room_step, state_step, vars_step, AtArea, AtBackend, AtPlace, AtProperties, AtProps, AtRoom, AtVars, ComesAt, ComesExactly, HasNoState, Question, Refuses}
 use Rattle.bb_layout.specs.StateNode.{state_of}
@@ -320,7 +320,7 @@ memory_or e = inr (λ h. cc)
 
 -- what a layout's function promises of its result
 pub record IsLayoutOf (expected : Result Laid LayoutError) (result : Result Layout LayoutError) : Type 0 where
-  pub ok : IfOk result (λ layout. expected ≡ Ok (laid layout))
+  pub ok : IfOk result (λ layout. expected ≡ Ok (fields_of layout))
   pub refused : IfErr result (Refuses expected)
 
 exactly : (expected : Result Laid LayoutError) (result : Result Layout LayoutError) (e : LayoutError) (fact : Type 0) → IsLayoutOf expected result → e ≢ NoMemory → (expected ≡ Err e → fact) → (fact → expected ≡ Err e) → ComesExactly result e fact

@@ -33,8 +33,8 @@ pub record Laid : Type 0 where
   pub area_len : ℕ
   pub vars : List Var
 
-abbrev pub laid : Layout → Laid
-laid l = record {
+abbrev pub fields_of : Layout → Laid
+fields_of l = record {
   name = l.name;
   node = l.node;
   magic = l.magic;

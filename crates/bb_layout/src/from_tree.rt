@@ -1,7 +1,7 @@
 ghost use Rattle.std.specs.Prelude.{◌≡◌, Ok, IfOk, IfErr, List, ℕ};
 ghost use Rattle.bb_flash.specs.Geometry.{IsGeometry};
 ghost use Rattle.bb_tree.specs.NodeViews.{branch_of};
-ghost use Rattle.bb_layout.specs.Layout.{laid, layout_at};
+ghost use Rattle.bb_layout.specs.Layout.{fields_of, layout_at};
 ghost use Rattle.bb_layout.specs.Refusals.{AtArea, AtBackend, AtPlace, AtProperties, AtRoom, AtVars};
 ghost use Rattle.bb_layout.specs.Refusals.{ComesAt, ComesExactly, HasNoState, Refuses, answer_to, asked};
 ghost use Rattle.bb_layout.specs.declared.layout_error.LayoutError.TheVariants.{AreaTooLong, BadProp};
@@ -36,7 +36,7 @@ pub fn layout_of(
 ) -> Result<Layout, LayoutError>
     requires { IsGeometry geometry }
     ensures ok { IfOk result (λ layout.
-        answer_to (asked tree.now name.entry geometry) ≡ Ok (laid layout)) }
+        answer_to (asked tree.now name.entry geometry) ≡ Ok (fields_of layout)) }
     ensures refused { IfErr result (Refuses (answer_to (asked tree.now name.entry geometry))) }
 
     // Each refusal, and where it comes.
@@ -69,7 +69,7 @@ fn named_layout(
 ) -> Result<Layout, LayoutError>
     requires { IsGeometry geometry }
     ensures ok { IfOk result (λ layout.
-        answer_to (asked tree.now name.entry geometry) ≡ Ok (laid layout)) }
+        answer_to (asked tree.now name.entry geometry) ≡ Ok (fields_of layout)) }
     ensures refused { IfErr result (Refuses (answer_to (asked tree.now name.entry geometry))) }
 {
     let alias = name.unwrap_or("state");
@@ -93,7 +93,7 @@ fn layout_at(
     requires { IsGeometry geometry }
     ensures ok { IfOk result (λ layout.
         layout_at (branch_of tree.now.root) name.now (branch_of state.now) geometry
-        ≡ Ok (laid layout)) }
+        ≡ Ok (fields_of layout)) }
     ensures refused { IfErr result (Refuses
         (layout_at (branch_of tree.now.root) name.now (branch_of state.now) geometry)) }
 {

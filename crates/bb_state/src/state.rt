@@ -14,7 +14,7 @@ ghost use Rattle.bb_copies.specs.Settling.{IsUndisturbed};
 ghost use Rattle.bb_copies.specs.Store.{used_after};
 ghost use Rattle.bb_copies.specs.declared.answers.CopyFault.TheVariants.{ReadFault, Unsure};
 ghost use Rattle.bb_layout.specs.Defaults.{defaults_of};
-ghost use Rattle.bb_layout.specs.Layout.{laid};
+ghost use Rattle.bb_layout.specs.Layout.{fields_of};
 ghost use Rattle.bb_state.specs.Keyed.{FitsKey};
 ghost use Rattle.bb_state.specs.Named.{Refuses, after_set, refusal_for, text_for};
 ghost use Rattle.bb_state.specs.State.{FitsForm, form_of, kinds_of, IsDefault, IsFresh, IsOn};
@@ -47,7 +47,7 @@ impl State {
     pub fn mount(alloc: Global, layout: Layout, key: Option<Key>) -> Result<State, NoMemory>
         requires { FitsKey layout.format key }
         ensures keyed { IfOk result (λ state.
-            keyed_of state ≡ record { layout = laid layout; key = key }) }
+            keyed_of state ≡ record { layout = fields_of layout; key = key }) }
         ensures table { IfOk result (λ state.
             state.table ≡ defaults_of layout.area_len layout.vars) }
         ensures sure { IfOk result (λ state. is_sure state ≡ false) }
@@ -62,7 +62,7 @@ impl State {
 
     /// The layout.
     pub fn layout(&self) -> &Layout
-        ensures { laid result.now ≡ laid_of self.now }
+        ensures { fields_of result.now ≡ laid_of self.now }
     {
         self.backing.layout()
     }

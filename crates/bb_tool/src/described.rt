@@ -1,7 +1,7 @@
 ghost use Rattle.std.specs.Prelude.{◌≡◌, ◌≤◌, IfErr, IfOk, length};
 ghost use Rattle.std.specs.Option.{option_copied};
 ghost use Rattle.bb_flash.specs.Geometry.{IsGeometry};
-ghost use Rattle.bb_layout.specs.Layout.{laid};
+ghost use Rattle.bb_layout.specs.Layout.{fields_of};
 ghost use Rattle.bb_state.specs.Keyed.{FitsKey};
 ghost use Rattle.bb_tree.specs.NodeViews.{branch_of};
 ghost use Rattle.bb_tool.specs.Filing.{Follows, IsFolderLater, IsKeyedFor, IsReadFor, keyed_as};
@@ -60,7 +60,7 @@ fn read_layout<N: Files>(
 ) -> Result<Layout, Refusal>
     requires { IsGeometry geometry }
     ensures read { IsReadFor file.now (N.folder files.old) (N.folder files.new)
-        (layout_in file.now (option_copied name.entry) geometry) laid result }
+        (layout_in file.now (option_copied name.entry) geometry) fields_of result }
     ensures tellable { IfErr result IsTellable }
     ensures same_geometry { IfOk result (λ layout. layout.geometry ≡ geometry) }
     ensures files { IsFolderLater (N.folder files.old) (N.folder files.new) }
