@@ -29,8 +29,8 @@ pub record Question : Type 0 where
   pub name : Option (List ℕ)
   pub geometry : Geometry
 
-abbrev pub asked : Tree → Option (Bor (List ℕ)) → Geometry → Question
-asked tree name geometry =
+abbrev pub question_of : Tree → Option (Bor (List ℕ)) → Geometry → Question
+question_of tree name geometry =
     record { tree = branch_of tree.root; name = option_copied name; geometry = geometry }
 
 abbrev pub answer_to : Question → Result Laid LayoutError

@@ -3,7 +3,7 @@ ghost use Rattle.bb_flash.specs.Geometry.{IsGeometry};
 ghost use Rattle.bb_tree.specs.NodeViews.{branch_of};
 ghost use Rattle.bb_layout.specs.Layout.{fields_of, layout_at};
 ghost use Rattle.bb_layout.specs.Refusals.{AtArea, AtBackend, AtPlace, AtProperties, AtRoom, AtVars};
-ghost use Rattle.bb_layout.specs.Refusals.{ComesAt, ComesExactly, HasNoState, Refuses, answer_to, asked};
+ghost use Rattle.bb_layout.specs.Refusals.{ComesAt, ComesExactly, HasNoState, Refuses, answer_to, question_of};
 ghost use Rattle.bb_layout.specs.declared.layout_error.LayoutError.TheVariants.{AreaTooLong, BadProp};
 ghost use Rattle.bb_layout.specs.declared.layout_error.LayoutError.TheVariants.{BadReg, BadType, Missing};
 ghost use Rattle.bb_layout.specs.declared.layout_error.LayoutError.TheVariants.{NameTwice, NoBackend};
@@ -36,26 +36,31 @@ pub fn layout_of(
 ) -> Result<Layout, LayoutError>
     requires { IsGeometry geometry }
     ensures ok { IfOk result (λ layout.
-        answer_to (asked tree.now name.entry geometry) ≡ Ok (fields_of layout)) }
-    ensures refused { IfErr result (Refuses (answer_to (asked tree.now name.entry geometry))) }
+        answer_to (question_of tree.now name.entry geometry) ≡ Ok (fields_of layout)) }
+    ensures refused { IfErr result
+        (Refuses (answer_to (question_of tree.now name.entry geometry))) }
 
     // Each refusal, and where it comes.
     ensures no_state { ComesExactly result NoState
-        (HasNoState (asked tree.now name.entry geometry)) }
+        (HasNoState (question_of tree.now name.entry geometry)) }
     ensures missing { (prop : List ℕ) →
-        ComesAt AtProperties (asked tree.now name.entry geometry) result (Missing prop) }
+        ComesAt AtProperties (question_of tree.now name.entry geometry) result (Missing prop) }
     ensures bad_prop { (prop : List ℕ) →
-        ComesAt AtProperties (asked tree.now name.entry geometry) result (BadProp prop) }
-    ensures bad_type { ComesAt AtVars (asked tree.now name.entry geometry) result BadType }
-    ensures bad_reg { ComesAt AtVars (asked tree.now name.entry geometry) result BadReg }
-    ensures overlap { ComesAt AtArea (asked tree.now name.entry geometry) result Overlap }
-    ensures no_backend { ComesAt AtBackend (asked tree.now name.entry geometry) result NoBackend }
-    ensures too_small { ComesAt AtRoom (asked tree.now name.entry geometry) result TooSmall }
-    ensures unaligned { ComesAt AtPlace (asked tree.now name.entry geometry) result Unaligned }
-    ensures out_of_device { ComesAt AtPlace (asked tree.now name.entry geometry)
+        ComesAt AtProperties (question_of tree.now name.entry geometry) result (BadProp prop) }
+    ensures bad_type { ComesAt AtVars (question_of tree.now name.entry geometry) result BadType }
+    ensures bad_reg { ComesAt AtVars (question_of tree.now name.entry geometry) result BadReg }
+    ensures overlap { ComesAt AtArea (question_of tree.now name.entry geometry) result Overlap }
+    ensures no_backend { ComesAt AtBackend (question_of tree.now name.entry geometry)
+        result NoBackend }
+    ensures too_small { ComesAt AtRoom (question_of tree.now name.entry geometry) result TooSmall }
+    ensures unaligned { ComesAt AtPlace (question_of tree.now name.entry geometry)
+        result Unaligned }
+    ensures out_of_device { ComesAt AtPlace (question_of tree.now name.entry geometry)
         result OutOfDevice }
-    ensures area_too_long { ComesAt AtArea (asked tree.now name.entry geometry) result AreaTooLong }
-    ensures name_twice { ComesAt AtArea (asked tree.now name.entry geometry) result NameTwice }
+    ensures area_too_long { ComesAt AtArea (question_of tree.now name.entry geometry)
+        result AreaTooLong }
+    ensures name_twice { ComesAt AtArea (question_of tree.now name.entry geometry)
+        result NameTwice }
 {
     named_layout(alloc, tree, name, geometry)
 }
@@ -69,8 +74,9 @@ fn named_layout(
 ) -> Result<Layout, LayoutError>
     requires { IsGeometry geometry }
     ensures ok { IfOk result (λ layout.
-        answer_to (asked tree.now name.entry geometry) ≡ Ok (fields_of layout)) }
-    ensures refused { IfErr result (Refuses (answer_to (asked tree.now name.entry geometry))) }
+        answer_to (question_of tree.now name.entry geometry) ≡ Ok (fields_of layout)) }
+    ensures refused { IfErr result
+        (Refuses (answer_to (question_of tree.now name.entry geometry))) }
 {
     let alias = name.unwrap_or("state");
     if let Some(state) = node_by_alias(tree, alias) {

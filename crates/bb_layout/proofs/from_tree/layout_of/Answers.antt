@@ -1,10 +1,10 @@
-use Rattle.bb_layout.specs.Refusals.{asked}
+use Rattle.bb_layout.specs.Refusals.{question_of}
 use Rattle.bb_layout.proofs.Refusing.{missing_exactly, bad_prop_exactly, no_state_exactly, bad_type_exactly, bad_reg_exactly, overlap_exactly, no_backend_exactly, too_small_exactly, unaligned_exactly, out_of_device_exactly, area_too_long_exactly, name_twice_exactly}
 use Rattle.bb_layout.proofs.from_tree.layout_of.Goals as goal
 
 pub returns-clause-no_state : goal.returns-clause-no_state
 returns-clause-no_state c =
-    no_state_exactly (asked c.args.tree.now c.args.name c.args.geometry) c.named_layout.result
+    no_state_exactly (question_of c.args.tree.now c.args.name c.args.geometry) c.named_layout.result
     (record { ok = c.named_layout.ensures.ok; refused = c.named_layout.ensures.refused })
 
 pub returns-clause-bad_type : goal.returns-clause-bad_type
