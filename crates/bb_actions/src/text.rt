@@ -18,7 +18,8 @@ pub fn actions_text(
     actions: &ActionList,
 ) -> Result<Bytes, NoMemory>
     requires { length area.now ≡ layout.now.area_len }
-    ensures { IfOk result (λ text. text ≡ actions_text (fields_of layout.now) area.now actions.now) }
+    ensures { IfOk result (λ text.
+        text ≡ actions_text (fields_of layout.now) area.now actions.now) }
 {
     let mut out = Bytes::none(alloc);
     for place in 0..actions.len() {
@@ -38,7 +39,8 @@ fn add_action(
     out: &mut Bytes,
 ) -> Result<(), NoMemory>
     requires { length area.now ≡ layout.now.area_len }
-    ensures { OnOk result (out.new ≡ out.old ++ action_text (fields_of layout.now) area.now action.now) }
+    ensures { OnOk result
+        (out.new ≡ out.old ++ action_text (fields_of layout.now) area.now action.now) }
 {
     match action {
         Action::Set { .. } => Ok(()),

@@ -24,7 +24,8 @@ pub fn raw_layout(
 ) -> Result<Layout, LayoutError>
     requires geometry { IsGeometry geometry }
     requires area { area_len ≤ area_limit }
-    ensures ok { IfOk result (λ layout. raw_layout magic area_len geometry ≡ Ok (fields_of layout)) }
+    ensures ok { IfOk result (λ layout.
+        raw_layout magic area_len geometry ≡ Ok (fields_of layout)) }
     ensures refused { IfErr result (λ e. e ≢ LayoutError.NoMemory
         → raw_layout magic area_len geometry ≡ Err e) }
     ensures device { IfOk result (λ layout. layout.geometry ≡ geometry) }

@@ -68,7 +68,8 @@ impl Backing {
         key: Option<Key>,
     ) -> Result<Backing, NoMemory>
         requires { FitsKey layout.format key }
-        ensures keyed { IfOk result (λ b. b.keyed ≡ record { layout = fields_of layout; key = key }) }
+        ensures keyed { IfOk result (λ b.
+            b.keyed ≡ record { layout = fields_of layout; key = key }) }
         ensures buckets { IfOk result (λ b. b.buckets ≡ laid_buckets (fields_of layout)) }
         ensures agrees { IfOk result (λ b.
             (device : Device) → AllAgree any_holding device b.buckets) }
