@@ -1,6 +1,6 @@
 -- The walk in the pieces in which a descent goes through it: from a state on, as a function of the
 -- bodies around.
-use Rattle.std.specs.Prelude.{◌≡◌, ℕ, ◌+◌, Bool, false, List, [], ◌∷◌, ◌++◌, length, map, nat_lt, Option, Some, None, Result, Ok, Err, if◌then◌else◌}
+use Rattle.std.specs.Prelude.{◌≡◌, ℕ, ◌+◌, Bool, false, List, [], ◌∷◌, ◌++◌, length, nat_lt, Option, Some, None, Result, Ok, Err, if◌then◌else◌}
 use Rattle.bb_tree.specs.declared.part.Part.{Part}
 use Rattle.bb_tree.specs.Depth.{depth_limit}
 use Rattle.bb_tree.specs.Draft.{Labels}

@@ -1,5 +1,5 @@
 -- The walk at the outermost level, with what is merged so far.
-use Rattle.std.specs.Prelude.{◌≡◌, ℕ, ◌<◌, ◌^◌, length, Bool, true, false, List, [], ◌∷◌, ◌++◌, fold, nat_lt, Option, Some, None, Result, Ok, Err, if◌then◌else◌}
+use Rattle.std.specs.Prelude.{◌≡◌, ℕ, ◌<◌, ◌^◌, length, Bool, true, false, List, [], ◌++◌, fold, nat_lt, Option, Some, None, Result, Ok, Err, if◌then◌else◌}
 use Rattle.bb_tree.specs.declared.part.Part.{Part}
 use Rattle.bb_tree.specs.Blob.{Devicetree}
 use Rattle.bb_tree.specs.Depth.{depth_limit}

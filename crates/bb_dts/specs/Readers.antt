@@ -1,5 +1,5 @@
 -- What a reader keeps, and the walks and ends from where it stands.
-use Rattle.std.specs.Prelude.{◌≡◌, ℕ, ◌+◌, ◌≤◌, Bool, List, [], ◌∷◌, ◌++◌, length, Result}
+use Rattle.std.specs.Prelude.{◌≡◌, ℕ, ◌+◌, ◌≤◌, Bool, List, [], ◌∷◌, ◌++◌, Result}
 use Rattle.std.specs.String.{string_bytes}
 use Rattle.bb_tree.specs.Blob.{Devicetree}
 use Rattle.bb_tree.specs.Draft.{Labels, names_another}

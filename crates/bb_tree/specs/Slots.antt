@@ -61,7 +61,8 @@ pub record Changes (k : ℕ) (change : Branch (List Part) → Branch (List Part)
   pub longer : length old ≤ length new
   pub leads : (names : List (List ℕ)) (c : ℕ) → LeadTo old names c → LeadTo new names c
   pub tree :
-      (names : List (List ℕ)) → LeadTo old names k → tree_of new ≡ reached names change (tree_of old)
+      (names : List (List ℕ)) → LeadTo old names k
+      → tree_of new ≡ reached names change (tree_of old)
 
 -- one property put into a node
 abbrev pub with_prop : List ℕ → List Part → Branch (List Part) → Branch (List Part)
