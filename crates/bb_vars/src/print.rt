@@ -9,9 +9,10 @@ use crate::mac::mac_text;
 use bb_base::{Bytes, NoMemory, TextList};
 use itoa::Buffer;
 
-/// Appends the text of a value, which has as many bytes as the kind: a number in decimal, an enum's name, or
-/// its number in decimal where that isn't below the count of names, a MAC address as pairs in lower case joined
-/// by `:`, a string up to its first zero byte. Without memory `out` is as before.
+/// Appends the text of a value, which has as many bytes as the kind: a number in decimal, an enum's
+/// name, or its number in decimal where that isn't below the count of names, a MAC address as pairs
+/// in lower case joined by `:`, a string up to its first zero byte. Without memory `out` is as
+/// before.
 pub fn print_value(kind: &Kind, bytes: &[u8], out: &mut Bytes) -> Result<(), NoMemory>
     requires { length bytes.now ≡ size_of kind.now }
     ensures printed { OnOk result (out.new ≡ out.old ++ text_of kind.now bytes.now) }

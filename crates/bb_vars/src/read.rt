@@ -12,10 +12,10 @@ use crate::mac::read_mac;
 use crate::{Kind, ValueError};
 use bb_base::{TextList, read_number};
 
-/// Reads a text as a value of the kind into `out`, which has as many bytes as the kind. Numbers are spelt as
-/// `read_number` reads them and stand little endian; an enum's text stands for the first of its names that is
-/// the same, of at most 4,294,967,295; a string is filled up with zero bytes. The refusals are those of
-/// `ValueError`, and leave `out` as it was.
+/// Reads a text as a value of the kind into `out`, which has as many bytes as the kind. Numbers are
+/// spelt as `read_number` reads them and stand little endian; an enum's text stands for the first
+/// of its names that is the same, of at most 4,294,967,295; a string is filled up with zero bytes.
+/// The refusals are those of `ValueError`, and leave `out` as it was.
 pub fn read_value(kind: &Kind, text: &[u8], out: &mut [u8]) -> Result<(), ValueError>
     requires sized { length out.old ≡ size_of kind.now }
     requires few_names { HasFewNames kind.now }
@@ -33,7 +33,8 @@ pub fn read_value(kind: &Kind, text: &[u8], out: &mut [u8]) -> Result<(), ValueE
     Ok(())
 }
 
-/// Whether a text is a value of the kind: the refusals are those of `read_value`, and nothing is written.
+/// Whether a text is a value of the kind: the refusals are those of `read_value`, and nothing is
+/// written.
 pub fn check_value(kind: &Kind, text: &[u8]) -> Result<(), ValueError>
     requires few_names { HasFewNames kind.now }
     ensures fits { OnOk result (result_err (bytes_of kind.now text.now) ≡ None) }

@@ -10,7 +10,8 @@ use bb_base::NoMemory;
 use std::alloc::Global;
 use std::marker::Model;
 
-/// The bytes of all variables, as an area holds them. Their number never changes. Clauses see the list.
+/// The bytes of all variables, as an area holds them. Their number never changes. Clauses see the
+/// list.
 #[derive(Debug, Drop)]
 pub struct Table {
     inner: Vec<u8>,
@@ -50,8 +51,8 @@ impl Table {
         self.inner[at..at + bytes.len()].copy_from_slice(bytes);
     }
 
-    /// Reads a text as a value of the kind into the bytes from byte `at` on, which are all inside, as `read_value` does.
-    /// All other bytes stay. After a refusal all bytes are as before.
+    /// Reads a text as a value of the kind into the bytes from byte `at` on, which are all inside,
+    /// as `read_value` does. All other bytes stay. After a refusal all bytes are as before.
     pub fn put_value(&mut self, kind: &Kind, at: u32, text: &[u8]) -> Result<(), ValueError>
         requires inside { at + size_of kind.now ≤ length self.old }
         requires few_names { HasFewNames kind.now }

@@ -1,7 +1,8 @@
+// Lists of actions.
 ghost use Rattle.std.specs.Prelude.{◌≡◌, IfOk, false};
 ghost use Rattle.bb_layout.specs.Formats.{takes_key};
 
-use super::*;
+use bb_actions::{actions_text, first_misfit, make_sets};
 use bb_base::{Bytes, NoMemory, Text, TextList};
 use bb_flash::{Geometry, Region};
 use bb_layout::{FormatKind, Layout, Storage, Var, VarList};

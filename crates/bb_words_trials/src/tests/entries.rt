@@ -1,9 +1,10 @@
-use super::*;
+// Boot entries.
+use bb_bls::{EntryError, read_entry};
 use std::alloc::Global;
 use std::test::Fail;
 
 // The example of the Boot Loader Specification.
-fn published() -> &'static [u8] {
+fn published_text() -> &'static [u8] {
     b"# /boot/loader/entries/6a9857a393724b7a981ebb5b8495b9ea-3.8.0-2.fc19.x86_64.conf\n\
       title        Fedora 19 (Rawhide)\n\
       sort-key     fedora\n\
@@ -17,7 +18,7 @@ fn published() -> &'static [u8] {
 
 #[test]
 fn published_entry(rt: HostRuntime) -> Result<(), Fail> {
-    let entry = read_entry(rt.alloc(), published())?;
+    let entry = read_entry(rt.alloc(), published_text())?;
     assert_eq!(rt; entry.title.as_str(), "Fedora 19 (Rawhide)");
     assert_eq!(rt; entry.sort_key.as_str(), "fedora");
     assert_eq!(rt;

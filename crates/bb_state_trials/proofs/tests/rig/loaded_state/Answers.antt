@@ -1,6 +1,6 @@
 use Rattle.std.proofs.Common.{◌∙◌, sym}
 use Rattle.bb_flash.specs.Memory.{device_of}
-use Rattle.bb_state_trials.proofs.tests.rig.loaded.Goals as goal
+use Rattle.bb_state_trials.proofs.tests.rig.loaded_state.Goals as goal
 
 pub load-loaded-requires-clause-on : goal.load-loaded-requires-clause-on
 load-loaded-requires-clause-on g c =

@@ -1,5 +1,6 @@
-use super::*;
+// Values as text and as bytes.
 use bb_base::{Bytes, Text, TextList};
+use bb_vars::{Kind, Table, ValueError, check_value, print_value, read_value};
 use std::test::Fail;
 
 #[test]
