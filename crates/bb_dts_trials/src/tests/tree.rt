@@ -52,32 +52,36 @@ fn finishes_an_empty_draft(rt: HostRuntime) -> Result<(), Fail> {
     Ok(())
 }
 
-#[test]
-fn a_tree_is_looked_through_in_preorder(rt: HostRuntime) -> Result<(), Fail> {
-    let mut props = PropList::none(rt.alloc());
-    let mut value = Bytes::none(rt.alloc());
+// The tree of `/ { a { phandle = <7>; }; };`.
+fn tree_of_one_node(alloc: Global) -> Result<Tree, Fail> {
+    let mut props = PropList::none(alloc);
+    let mut value = Bytes::none(alloc);
     value.add(&[0, 0, 0, 7])?;
     props.push(Prop {
-        name: Text::of(rt.alloc(), "phandle")?,
+        name: Text::of(alloc, "phandle")?,
         value,
     })?;
-    let a = Node {
-        name: Text::of(rt.alloc(), "a")?,
+    let mut nodes = NodeList::none(alloc);
+    nodes.push(Node {
+        name: Text::of(alloc, "a")?,
         props,
-        nodes: NodeList::none(rt.alloc()),
-    };
-    let mut nodes = NodeList::none(rt.alloc());
-    nodes.push(a)?;
+        nodes: NodeList::none(alloc),
+    })?;
     let root = Node {
-        name: Text::of(rt.alloc(), "")?,
-        props: PropList::none(rt.alloc()),
+        name: Text::of(alloc, "")?,
+        props: PropList::none(alloc),
         nodes,
     };
-    let tree = Tree {
+    Ok(Tree {
         root,
-        reserved: PairList::none(rt.alloc()),
-    };
-    // dtc 1.6.1 makes as many of `/ { a { phandle = <7>; }; };`
+        reserved: PairList::none(alloc),
+    })
+}
+
+#[test]
+fn a_tree_is_looked_through_in_preorder(rt: HostRuntime) -> Result<(), Fail> {
+    let tree = tree_of_one_node(rt.alloc())?;
+    // dtc 1.6.1 makes as many.
     assert_eq!(rt; blob_length(&tree), 108);
     let found = tree.by_phandle(7).ok_or("no node has the phandle")?;
     assert_eq!(rt; found.name.as_str(), "a");
