@@ -1,0 +1,5 @@
+-- Definitions that contracts cite. These a reader has to believe.
+pub use Rattle.bb_base.specs.Form
+pub mod Dtb
+-- Inside: that this record is a format.
+pub mod Laws
