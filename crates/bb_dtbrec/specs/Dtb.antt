@@ -6,7 +6,7 @@
 --   0 to 75   the front: header, reservations, and the tokens up to the value of `bb,crc32`
 --   76 to 79  CRC-32 of the whole record in which these 4 bytes are zero, big endian
 --   80 on     the pieces, one behind another: bytes that are always the same, and values
-use Rattle.std.specs.Prelude.{ℕ, ◌+◌, ◌==◌, Bool, true, ◌&&◌, ◌||◌, List, [], ◌∷◌, ◌++◌, length, take, drop, reverse, replicate, nat_le, nat_eq, Option, Some, None, IsTrue, if◌then◌else◌}
+use Rattle.std.specs.Prelude.{ℕ, ◌+◌, ◌≤◌, ◌==◌, Bool, true, ◌&&◌, ◌||◌, List, [], ◌∷◌, ◌++◌, length, take, drop, reverse, replicate, nat_le, nat_eq, Option, Some, None, IsTrue, if◌then◌else◌}
 use Rattle.std.specs.Int.{w32, to_be_bytes}
 use Rattle.std.specs.List.{starts_with}
 use Rattle.std.specs.Str.{bytes_eq}
@@ -101,6 +101,12 @@ dtb_length pattern = head_len + pieces_len pattern.pieces
 
 -- ---- patterns
 
+-- a value stands inside an area of so many bytes
+abbrev pub IsInside : Piece → ℕ → Type 0
+IsInside (Fixed bytes) area_len = Unit {0}
+IsInside (Value place) area_len = place.at + place.size ≤ area_len
+
+-- a variable shares no byte with those of these pieces
 unfoldable pub is_apart : Place → List Piece → Bool
 is_apart place [] = true
 is_apart place (Fixed bytes ∷ pieces) = is_apart place pieces

@@ -1,6 +1,7 @@
 -- This record is a format.
-use Rattle.std.proofs.Common.{◌≡◌, ℕ, ◌+◌, ◌-◌, ◌<◌, ◌≤◌, ◌⊎◌, Bool, true, false, ◌&&◌, ◌||◌, List, [], ◌∷◌, ◌++◌, length, take, drop, reverse, replicate, Option, Some, None, refl, sym, ap, ◌∙◌, append_assoc, arith, cond, length-append, take_all, length-drop, inl, inr}
-use Rattle.std.specs.Prelude.{nat_eq}
+use Rattle.std.proofs.Common.{◌≡◌, ℕ, ◌+◌, ◌-◌, ◌<◌, ◌≤◌, ◌⊎◌, Bool, true, false, ◌&&◌, ◌||◌, List, [], ◌∷◌, ◌++◌, length, take, drop, reverse, replicate, Option, Some, None, refl, sym, ap, ◌∙◌, subst, append_assoc, arith, cond, length-append, take_all, length-drop, inl, inr}
+use Rattle.std.specs.Prelude.{nat_eq, nat_le, is_some, IfSome}
+use Rattle.std.proofs.lemmas.Bool.Decides.{leb_tells}
 use Rattle.std.specs.Int.{w32, to_be_bytes}
 use Rattle.std.specs.List.{starts_with}
 use Rattle.std.specs.Str.{bytes_eq}
@@ -634,3 +635,58 @@ passes_by_fields pattern bytes h enough =
     ∙ ap (λ s. head_agrees pattern.front (pieces_len pattern.pieces) bytes && s)
     (fields_begin pattern.pieces text (replicate pattern.area_len 0)
     (pieces_fit pattern (replicate pattern.area_len 0) h (length-replicate pattern.area_len 0)) more))
+
+-- a whole record begins the bytes, whose front, CRC and pieces agree
+abbrev pub record_agrees : List ℕ → List Piece → List ℕ → Bool
+record_agrees front pieces bytes =
+    nat_le (80 + pieces_len pieces) (length bytes)
+    && (head_agrees front (pieces_len pieces) bytes && fields_agree pieces (drop 80 bytes))
+
+pub passes_where_it_agrees : (pattern : Pattern) (bytes : List ℕ) → is_pattern pattern ≡ true →
+    dtb_passes pattern bytes
+    ≡ cond (record_agrees pattern.front pattern.pieces bytes) (Some (area_in pattern bytes)) None
+passes_where_it_agrees pattern bytes h = elim (leb_tells (dtb_length pattern) (length bytes)) [
+  | inl enough ↦
+      passes_by_fields pattern bytes h enough.1
+      ∙ ap
+      (λ b. cond
+      (b
+      && (head_agrees pattern.front (pieces_len pattern.pieces) bytes
+      && fields_agree pattern.pieces (drop 80 bytes)))
+      (Some (area_in pattern bytes)) None)
+      (sym enough.0)
+  | inr few ↦
+      fewer_fail pattern bytes (omega (arith, few.1))
+      ∙ ap
+      (λ b. cond
+      (b
+      && (head_agrees pattern.front (pieces_len pattern.pieces) bytes
+      && fields_agree pattern.pieces (drop 80 bytes)))
+      (Some (area_in pattern bytes)) None)
+      (sym few.0)
+]
+
+some_where : (b : Bool) (x : List ℕ) → is_some (cond b (Some x) None) ≡ b
+some_where true x = refl
+some_where false x = refl
+
+pub is_passed : (pattern : Pattern) (bytes : List ℕ) → is_pattern pattern ≡ true →
+    record_agrees pattern.front pattern.pieces bytes ≡ is_some (dtb_passes pattern bytes)
+is_passed pattern bytes h =
+    sym
+    (ap is_some (passes_where_it_agrees pattern bytes h)
+    ∙ some_where (record_agrees pattern.front pattern.pieces bytes) (area_in pattern bytes))
+
+if_some_where : (b : Bool) (x area : List ℕ) → (b ≡ true → area ≡ x) →
+    IfSome (cond b (Some x) None) (λ passed. area ≡ passed)
+if_some_where true x area h = h refl
+if_some_where false x area h = tt
+
+pub area_passed : (pattern : Pattern) (bytes area : List ℕ) → is_pattern pattern ≡ true →
+    (record_agrees pattern.front pattern.pieces bytes ≡ true → area ≡ area_in pattern bytes) →
+    IfSome (dtb_passes pattern bytes) (λ passed. area ≡ passed)
+area_passed pattern bytes area h read =
+    subst (λ (o : Option (List ℕ)). IfSome o (λ passed. area ≡ passed))
+    (sym (passes_where_it_agrees pattern bytes h))
+    (if_some_where (record_agrees pattern.front pattern.pieces bytes) (area_in pattern bytes) area
+    read)

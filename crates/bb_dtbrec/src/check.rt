@@ -1,14 +1,31 @@
-ghost use Rattle.std.specs.Prelude.{◌≡◌, ◌+◌, ◌≤◌, ◌++◌, ◌∷◌, [], IsTrue, drop, length, take};
+ghost use Rattle.std.specs.Prelude.{◌≡◌, ◌+◌, ◌≤◌, ◌++◌, IsTrue, drop, length, replicate, take};
 ghost use Rattle.std.specs.Bool.{OnTrue};
-ghost use Rattle.bb_dtbrec.specs.Dtb.{are_pieces, field_len, head_len, is_size, value_of, with_fields};
+ghost use Rattle.bb_dtbrec.specs.Dtb.{IsInside, are_pieces, field_len, head_len, value_of, with_fields};
 ghost use Rattle.bb_dtbrec.specs.Dtb.{piece_len, pieces_len, with_piece, with_value};
-ghost use Rattle.bb_dtbrec.specs.Laws.{field_agrees, fields_agree, head_agrees, piece_agrees};
+ghost use Rattle.bb_dtbrec.specs.Laws.{field_agrees, fields_agree, head_agrees, piece_agrees, record_agrees};
 
 use crate::crc::{FRONT_LEN, HEAD_LEN, record_crc};
-use crate::piece::{Piece, Place, Spelling};
+use crate::piece::{Piece, Spelling, pieces_len};
 
-/// Whether the front of a record is this one and its CRC, with pieces of that length, agrees.
-pub(crate) fn head_agrees(front: &[u8], pieces_len: usize, bytes: &[u8]) -> bool
+/// Whether a whole record of this front and these pieces begins the bytes. The area then has the
+/// values of its fields, and zeros.
+pub(crate) fn read_record(front: &[u8], pieces: &[Piece], bytes: &[u8], area: &mut [u8]) -> bool
+    requires pieces { IsTrue (are_pieces pieces.now (length area.old)) }
+    requires small { head_len + pieces_len pieces.now ≤ 0xffffffff }
+    ensures agrees { result ≡ record_agrees front.now pieces.now bytes.now }
+    ensures area { OnTrue result (area.new
+        ≡ with_fields pieces.now (drop 80 bytes.now) (replicate (length area.old) 0)) }
+{
+    area.fill(0);
+    let len = pieces_len(pieces);
+    if bytes.len() < HEAD_LEN + len || !head_agrees(front, len, bytes) {
+        return false;
+    }
+    read_pieces(pieces, &bytes[HEAD_LEN..], area)
+}
+
+// Whether the front of a record is this one and its CRC, with pieces of that length, agrees.
+fn head_agrees(front: &[u8], pieces_len: usize, bytes: &[u8]) -> bool
     requires { head_len + pieces_len ≤ length bytes.now }
     ensures { result ≡ head_agrees front.now pieces_len bytes.now }
 {
@@ -18,8 +35,9 @@ pub(crate) fn head_agrees(front: &[u8], pieces_len: usize, bytes: &[u8]) -> bool
     front == start && expected.as_slice() == crc
 }
 
-/// Takes the values of the fields over into the area. False where a byte isn't as in every record.
-pub(crate) fn read_pieces(pieces: &[Piece], text: &[u8], area: &mut [u8]) -> bool
+#[tactic(auto, using(crate::proofs::Pieces::len_more))]
+// Takes the values of the fields over into the area. False where a byte isn't as in every record.
+fn read_pieces(pieces: &[Piece], text: &[u8], area: &mut [u8]) -> bool
     requires pieces { IsTrue (are_pieces pieces.now (length area.old)) }
     requires small { pieces_len pieces.now ≤ 0xffffffff }
     requires whole { pieces_len pieces.now ≤ length text.now }
@@ -38,7 +56,7 @@ pub(crate) fn read_pieces(pieces: &[Piece], text: &[u8], area: &mut [u8]) -> boo
 }
 
 fn read_piece(piece: &Piece, field: &[u8], area: &mut [u8]) -> bool
-    requires piece { IsTrue (are_pieces (piece.now ∷ []) (length area.old)) }
+    requires inside { IsInside piece.now (length area.old) }
     requires whole { length field.now ≡ piece_len piece.now }
     ensures agree { result ≡ piece_agrees piece.now field.now }
     ensures area { area.new ≡ with_piece piece.now field.now area.old }

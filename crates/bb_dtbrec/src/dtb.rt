@@ -2,7 +2,7 @@ ghost use Rattle.std.specs.Prelude.{◌≡◌, ◌+◌, ◌≤◌, ◌++◌, len
 ghost use Rattle.bb_dtbrec.specs.Dtb.{IsPattern, dtb_form, dtb_length, pieces_len, record_crc};
 ghost use Rattle.bb_dtbrec.specs.Laws.{dtb_laws};
 
-use crate::check::{head_agrees, read_pieces};
+use crate::check::read_record;
 use crate::crc::HEAD_LEN;
 use crate::pack::write_record;
 use crate::piece::{Piece, pieces_len};
@@ -61,10 +61,6 @@ impl Format for Dtb {
     }
 
     fn check(&self, bytes: &[u8], area: &mut [u8]) -> bool {
-        area.fill(0);
-        let pieces_len = pieces_len(&self.pieces);
-        HEAD_LEN + pieces_len <= bytes.len()
-            && head_agrees(self.front.as_slice(), pieces_len, bytes)
-            && read_pieces(&self.pieces, &bytes[HEAD_LEN..], area)
+        read_record(self.front.as_slice(), &self.pieces, bytes, area)
     }
 }

@@ -1,9 +1,9 @@
-ghost use Rattle.std.specs.Prelude.{◌≡◌, ◌+◌, ◌≤◌, ◌++◌, ◌∷◌, [], IsTrue, drop, length, take};
-ghost use Rattle.bb_dtbrec.specs.Dtb.{are_pieces, field_len, field_of, head_len, is_size};
+ghost use Rattle.std.specs.Prelude.{◌≡◌, ◌+◌, ◌≤◌, ◌++◌, IsTrue, drop, length, take};
+ghost use Rattle.bb_dtbrec.specs.Dtb.{IsInside, are_pieces, field_len, field_of, head_len};
 ghost use Rattle.bb_dtbrec.specs.Dtb.{piece_len, piece_text, pieces_len, pieces_text, record_text};
 
 use crate::crc::{FRONT_LEN, HEAD_LEN, record_crc};
-use crate::piece::{Piece, Place, Spelling};
+use crate::piece::{Piece, Spelling};
 
 /// Writes the record of an area.
 pub(crate) fn write_record(front: &[u8], pieces: &[Piece], area: &[u8], out: &mut [u8])
@@ -20,6 +20,7 @@ pub(crate) fn write_record(front: &[u8], pieces: &[Piece], area: &[u8], out: &mu
     crc.copy_from_slice(&record_crc(front, rest).to_be_bytes());
 }
 
+#[tactic(auto, using(crate::proofs::Pieces::len_more))]
 fn write_pieces(pieces: &[Piece], area: &[u8], out: &mut [u8])
     requires pieces { IsTrue (are_pieces pieces.now (length area.now)) }
     requires small { pieces_len pieces.now ≤ 0xffffffff }
@@ -35,7 +36,7 @@ fn write_pieces(pieces: &[Piece], area: &[u8], out: &mut [u8])
 }
 
 fn write_piece(piece: &Piece, area: &[u8], out: &mut [u8])
-    requires piece { IsTrue (are_pieces (piece.now ∷ []) (length area.now)) }
+    requires inside { IsInside piece.now (length area.now) }
     requires whole { length out.old ≡ piece_len piece.now }
     ensures { out.new ≡ piece_text piece.now area.now }
 {

@@ -57,6 +57,7 @@ impl Piece {
     }
 }
 
+#[tactic(auto, using(crate::proofs::Pieces::len_more))]
 // In bytes: the pieces in a record.
 pub(crate) fn pieces_len(pieces: &[Piece]) -> usize
     requires { spec.pieces_len pieces.now ≤ 0xffffffff }
