@@ -1,8 +1,10 @@
 -- Steps through the pieces of a record, and what their loops keep.
-use Rattle.std.proofs.Common.{◌≡◌, ℕ, ◌+◌, ◌<◌, ◌≤◌, Bool, true, false, ◌&&◌, List, [], ◌∷◌, ◌++◌, length, take, take_all, drop, get_or, refl, sym, ap, ◌∙◌, append_assoc, arith, length-append, length-drop}
+use Rattle.std.proofs.Common.{◌≡◌, ℕ, ◌+◌, ◌<◌, ◌≤◌, Bool, true, false, ◌&&◌, List, [], ◌∷◌, ◌++◌, length, take, take_all, drop, get_or, refl, sym, ap, ◌∙◌, append_assoc, arith, nat_le, inl, inr, length-append, length-drop}
 use Rattle.std.specs.Int.{w32, to_be_bytes}
+use Rattle.std.specs.Bool.{OnTrue}
 use Rattle.std.specs.Str.{bytes_eq}
-use Rattle.std.proofs.lemmas.Bool.{and_parts, leb-true}
+use Rattle.std.proofs.lemmas.Bool.{and_parts, le-leb, leb-true}
+use Rattle.std.proofs.lemmas.Bool.Decides.{leb_tells}
 use Rattle.std.proofs.lemmas.List.{append-nil, drop-drop, drop-take, drop_all, drop_more, take-take}
 use Rattle.bb_dtbrec.specs.declared.piece.Piece.{Piece}
 use Rattle.bb_dtbrec.specs.declared.piece.Piece.TheVariants.{Fixed, Value}
@@ -161,3 +163,30 @@ head_found front bytes start rest crc expected n is_start is_crc is_rest is_expe
     (λ l. bytes_eq front (take 76 bytes)
     && bytes_eq (to_be_bytes w32 (record_crc (take 76 bytes) (take n (drop 80 bytes)))) l)
     (is_crc ∙ drop-take 76 4 bytes)
+
+-- ---- a whole record
+
+pub too_few : (n m : ℕ) (rest : Bool) → m < n → false ≡ (nat_le n m && rest)
+too_few n m rest h = elim (leb_tells n m) [
+  | inl enough ↦ absurd (omega (arith, enough.1))
+  | inr few ↦ ap (λ b. b && rest) (sym few.0)
+]
+
+pub head_refused : (n m : ℕ) (head rest : Bool) → n ≤ m → head ≡ false →
+    false ≡ (nat_le n m && (head && rest))
+head_refused n m head rest h e =
+    sym (ap (λ b. b && (head && rest)) (le-leb n m h) ∙ ap (λ b. b && rest) e)
+
+pub all_agree : (n m : ℕ) (head rest result : Bool) → n ≤ m → head ≡ true → result ≡ rest →
+    result ≡ (nat_le n m && (head && rest))
+all_agree n m head rest result h e r =
+    r ∙ sym (ap (λ b. b && (head && rest)) (le-leb n m h) ∙ ap (λ b. b && rest) e)
+
+pub area_on_true : (b : Bool) (area x y : List ℕ) → x ≡ y → OnTrue b (area ≡ x) →
+    OnTrue b (area ≡ y)
+area_on_true true area x y e h = h ∙ e
+area_on_true false area x y e h = h
+
+pub on_true : (b : Bool) (area x : List ℕ) → OnTrue b (area ≡ x) → b ≡ true → area ≡ x
+on_true true area x h e = h
+on_true false area x h e = absurd cc

@@ -18,7 +18,10 @@ pub(crate) fn read_record(front: &[u8], pieces: &[Piece], bytes: &[u8], area: &m
 {
     area.fill(0);
     let len = pieces_len(pieces);
-    if bytes.len() < HEAD_LEN + len || !head_agrees(front, len, bytes) {
+    if bytes.len() < HEAD_LEN + len {
+        return false;
+    }
+    if !head_agrees(front, len, bytes) {
         return false;
     }
     read_pieces(pieces, &bytes[HEAD_LEN..], area)
