@@ -1,5 +1,5 @@
--- The record that is a blob of its own, a flattened devicetree with a CRC (barebox User Manual, State
--- Framework, the backend type `dtb`). Of one layout all records have the same bytes but for the CRC
+-- The record that is a blob of its own, a flattened devicetree with a CRC (barebox User Manual,
+-- State Framework, the backend type `dtb`). Of one layout all records have the same bytes but for the CRC
 -- and the values of variables, whose places and lengths are fixed: a pattern.
 --
 --   bytes     field

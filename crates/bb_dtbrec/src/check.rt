@@ -1,8 +1,8 @@
-ghost use Rattle.std.specs.Prelude.{◌≡◌, ◌+◌, ◌≤◌, ◌++◌, IsTrue, drop, length, replicate, take};
+ghost use Rattle.std.specs.Prelude.{◌≡◌, ◌+◌, ◌≤◌, IsTrue, drop, length, replicate};
 ghost use Rattle.std.specs.Bool.{OnTrue};
 ghost use Rattle.bb_dtbrec.specs.Dtb.{IsInside, are_pieces, field_len, head_len, value_of, with_fields};
-ghost use Rattle.bb_dtbrec.specs.Dtb.{piece_len, pieces_len, with_piece, with_value};
-ghost use Rattle.bb_dtbrec.specs.Laws.{field_agrees, fields_agree, head_agrees, piece_agrees, record_agrees};
+ghost use Rattle.bb_dtbrec.specs.Dtb.{piece_len, pieces_len, with_piece};
+ghost use Rattle.bb_dtbrec.specs.Checking.{field_agrees, fields_agree, head_agrees, piece_agrees, record_agrees};
 
 use crate::crc::{FRONT_LEN, HEAD_LEN, record_crc};
 use crate::piece::{Piece, Spelling, pieces_len};
@@ -38,7 +38,7 @@ fn head_agrees(front: &[u8], pieces_len: usize, bytes: &[u8]) -> bool
     front == start && expected.as_slice() == crc
 }
 
-#[tactic(auto, using(crate::proofs::Pieces::len_more))]
+#[tactic(auto, using(crate::proofs::Steps::len_more))]
 // Takes the values of the fields over into the area. False where a byte isn't as in every record.
 fn read_pieces(pieces: &[Piece], text: &[u8], area: &mut [u8]) -> bool
     requires pieces { IsTrue (are_pieces pieces.now (length area.old)) }
@@ -58,6 +58,7 @@ fn read_pieces(pieces: &[Piece], text: &[u8], area: &mut [u8]) -> bool
     true
 }
 
+// Takes the value over if the piece is a field. False as of all pieces.
 fn read_piece(piece: &Piece, field: &[u8], area: &mut [u8]) -> bool
     requires inside { IsInside piece.now (length area.old) }
     requires whole { length field.now ≡ piece_len piece.now }
@@ -73,6 +74,7 @@ fn read_piece(piece: &Piece, field: &[u8], area: &mut [u8]) -> bool
     }
 }
 
+// Takes the value of a field over. False where it's none: a byte's cell has three bytes of zero.
 fn read_value(spelling: Spelling, field: &[u8], value: &mut [u8]) -> bool
     requires { length field.now ≡ field_len spelling (length value.old) }
     ensures agree { result ≡ field_agrees spelling field.now }

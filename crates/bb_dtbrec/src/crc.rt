@@ -5,6 +5,7 @@ use bb_base::Crc;
 
 // In bytes: what stands before the CRC, and before the pieces.
 pub(crate) const FRONT_LEN: usize = 76;
+
 pub(crate) const HEAD_LEN: usize = 80;
 
 /// The CRC of a record with this front and these pieces: its own bytes count as zeros.

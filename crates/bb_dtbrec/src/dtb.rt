@@ -1,5 +1,5 @@
-ghost use Rattle.std.specs.Prelude.{◌≡◌, ◌+◌, ◌≤◌, ◌++◌, length};
-ghost use Rattle.bb_dtbrec.specs.Dtb.{IsPattern, dtb_form, dtb_length, pieces_len, record_crc};
+ghost use Rattle.std.specs.Prelude.{◌≡◌};
+ghost use Rattle.bb_dtbrec.specs.Dtb.{IsPattern, dtb_form};
 ghost use Rattle.bb_dtbrec.specs.Laws.{dtb_laws};
 
 use crate::check::read_record;

@@ -1,4 +1,4 @@
-ghost use Rattle.std.specs.Prelude.{◌≡◌, ◌+◌, ◌≤◌, ◌++◌, IsTrue, drop, length, take};
+ghost use Rattle.std.specs.Prelude.{◌≡◌, ◌+◌, ◌≤◌, IsTrue, length};
 ghost use Rattle.bb_dtbrec.specs.Dtb.{IsInside, are_pieces, field_len, field_of, head_len};
 ghost use Rattle.bb_dtbrec.specs.Dtb.{piece_len, piece_text, pieces_len, pieces_text, record_text};
 
@@ -20,7 +20,8 @@ pub(crate) fn write_record(front: &[u8], pieces: &[Piece], area: &[u8], out: &mu
     crc.copy_from_slice(&record_crc(front, rest).to_be_bytes());
 }
 
-#[tactic(auto, using(crate::proofs::Pieces::len_more))]
+#[tactic(auto, using(crate::proofs::Steps::len_more))]
+// Writes the pieces of an area's record, one behind another.
 fn write_pieces(pieces: &[Piece], area: &[u8], out: &mut [u8])
     requires pieces { IsTrue (are_pieces pieces.now (length area.now)) }
     requires small { pieces_len pieces.now ≤ 0xffffffff }
@@ -48,6 +49,7 @@ fn write_piece(piece: &Piece, area: &[u8], out: &mut [u8])
     }
 }
 
+// Writes the field of a value.
 fn write_field(spelling: Spelling, value: &[u8], out: &mut [u8])
     requires { length out.old ≡ field_len spelling (length value.now) }
     ensures { out.new ≡ field_of spelling value.now }

@@ -1,4 +1,4 @@
-ghost use Rattle.std.specs.Prelude.{◌≡◌, ◌<◌, ◌≤◌};
+ghost use Rattle.std.specs.Prelude.{◌≡◌, ◌≤◌};
 ghost use Rattle.bb_dtbrec.specs.Dtb as spec;
 
 use bb_base::Bytes;
@@ -57,7 +57,7 @@ impl Piece {
     }
 }
 
-#[tactic(auto, using(crate::proofs::Pieces::len_more))]
+#[tactic(auto, using(crate::proofs::Steps::len_more))]
 // In bytes: the pieces in a record.
 pub(crate) fn pieces_len(pieces: &[Piece]) -> usize
     requires { spec.pieces_len pieces.now ≤ 0xffffffff }

@@ -2,7 +2,7 @@ use Rattle.std.proofs.Common.{◌≡◌, ◌&&◌, List, ℕ, drop, take, ap, sy
 use Rattle.std.specs.Int.{w32, to_be_bytes}
 use Rattle.std.specs.Str.{bytes_eq}
 use Rattle.bb_dtbrec.specs.Dtb.{record_crc}
-use Rattle.bb_dtbrec.proofs.Pieces.{head_found}
+use Rattle.bb_dtbrec.proofs.Steps.{head_found}
 use Rattle.bb_dtbrec.proofs.check.head_agrees.Goals as goal
 
 pub returns-then-eq : goal.returns-then-eq

@@ -1,7 +1,7 @@
 use Rattle.std.proofs.Common.{◌≡◌, ◌+◌, ◌-◌, ◌<◌, ℕ, drop, length, take, true, false, arith, ap, sym, ◌∙◌}
 use Rattle.bb_dtbrec.specs.Dtb.{are_pieces, piece_len, with_fields}
-use Rattle.bb_dtbrec.specs.Laws.{fields_agree}
-use Rattle.bb_dtbrec.proofs.Pieces.{agreed_all, agreed_more, inside_here, len_more, read_all, read_more, refused_here, sound_more}
+use Rattle.bb_dtbrec.specs.Checking.{fields_agree}
+use Rattle.bb_dtbrec.proofs.Steps.{agreed_all, agreed_more, inside_here, len_more, read_all, read_more, refused_here, sound_more}
 use Rattle.bb_dtbrec.proofs.check.read_pieces.Goals as goal
 
 pub read_piece-requires-clause-inside : goal.read_piece-requires-clause-inside
@@ -27,17 +27,18 @@ loop-piece-preserved c =
     let here : i < length pieces = omega arith in
     let more = len_more pieces i c.piece-item.result here c.piece-item.is in
     let size : (at + len) - at ≡ piece_len c.piece-item.result = omega (arith, c.len.ensures) in
-    let same : length c.read_piece.new.area ≡ length c.loop-piece.area = omega arith in
-    (omega (arith, more, c.len.ensures),
-    ap (are_pieces (drop (i + 1) pieces)) same
-    ∙ sound_more pieces i c.piece-item.result (length c.loop-piece.area) here c.piece-item.is
-    c.loop-piece.invariant.1,
-    agreed_more pieces i c.piece-item.result text at len ((at + len) - at) (fields_agree pieces text)
-    here c.piece-item.is c.len.ensures size
-    (sym c.read_piece.ensures.agree ∙ c.if-not-read_piece.false) c.loop-piece.invariant.2,
-    read_more pieces i c.piece-item.result text c.loop-piece.area c.read_piece.new.area
-    (with_fields pieces text c.args.area.now) at len ((at + len) - at) here c.piece-item.is
-    c.len.ensures size c.read_piece.ensures.area c.loop-piece.invariant.3)
+    let same : length c.read_piece.new.area ≡ length c.loop-piece.area = omega arith in (
+      omega (arith, more, c.len.ensures),
+      ap (are_pieces (drop (i + 1) pieces)) same
+          ∙ sound_more pieces i c.piece-item.result (length c.loop-piece.area) here c.piece-item.is
+          c.loop-piece.invariant.1,
+      agreed_more pieces i c.piece-item.result text at len ((at + len) - at) (fields_agree pieces text)
+          here c.piece-item.is c.len.ensures size
+          (sym c.read_piece.ensures.agree ∙ c.if-not-read_piece.false) c.loop-piece.invariant.2,
+      read_more pieces i c.piece-item.result text c.loop-piece.area c.read_piece.new.area
+          (with_fields pieces text c.args.area.now) at len ((at + len) - at) here c.piece-item.is
+          c.len.ensures size c.read_piece.ensures.area c.loop-piece.invariant.3,
+    )
 
 pub returns-clause-agree : goal.returns-clause-agree
 returns-clause-agree c =

@@ -1,8 +1,8 @@
 use Rattle.std.proofs.Common.{◌≡◌, ◌+◌, ◌-◌, ◌<◌, ◌≤◌, ◌&&◌, ℕ, List, drop, length, replicate, take, true, false, arith, rules, ap, sym, ◌∙◌}
 use Rattle.std.proofs.lemmas.List.{take_rest}
 use Rattle.bb_dtbrec.specs.Dtb.{pieces_len, with_fields}
-use Rattle.bb_dtbrec.specs.Laws.{fields_agree, head_agrees}
-use Rattle.bb_dtbrec.proofs.Pieces.{all_agree, area_on_true, head_refused, too_few}
+use Rattle.bb_dtbrec.specs.Checking.{fields_agree, head_agrees}
+use Rattle.bb_dtbrec.proofs.Steps.{all_agree, area_on_true, head_refused, too_few}
 use Rattle.bb_dtbrec.proofs.check.read_record.Goals as goal
 
 pub returns-then-bytes-len-clause-agrees : goal.returns-then-bytes-len-clause-agrees

@@ -1,6 +1,6 @@
 use Rattle.std.proofs.Common.{◌≡◌, drop, arith}
 use Rattle.bb_dtbrec.specs.Dtb.{pieces_len}
-use Rattle.bb_dtbrec.proofs.Pieces.{len_none}
+use Rattle.bb_dtbrec.proofs.Steps.{len_none}
 use Rattle.bb_dtbrec.proofs.piece.pieces_len.Goals as goal
 
 pub returns : goal.returns

@@ -1,8 +1,8 @@
 use Rattle.std.proofs.Common.{◌≡◌, ℕ, List, drop, length, replicate, true, ap, sym, ◌∙◌}
 use Rattle.bb_dtbrec.specs.Dtb.{Pattern, is_pattern, with_fields}
 use Rattle.bb_dtbrec.specs.declared.piece.Piece.{Piece}
-use Rattle.bb_dtbrec.specs.Laws.{area_passed, is_passed, record_agrees}
-use Rattle.bb_dtbrec.proofs.Pieces.{on_true}
+use Rattle.bb_dtbrec.specs.Checking.{area_passed, is_passed, record_agrees}
+use Rattle.bb_dtbrec.proofs.Steps.{on_true}
 use Rattle.bb_dtbrec.proofs.dtb.DtbFormat.check.Goals as goal
 
 pub returns-clause-passes : goal.returns-clause-passes

@@ -9,7 +9,8 @@ use Rattle.std.proofs.lemmas.List.{append-nil, drop-drop, drop-take, drop_all, d
 use Rattle.bb_dtbrec.specs.declared.piece.Piece.{Piece}
 use Rattle.bb_dtbrec.specs.declared.piece.Piece.TheVariants.{Fixed, Value}
 use Rattle.bb_dtbrec.specs.Dtb.{IsInside, are_pieces, piece_len, piece_text, pieces_len, pieces_text, record_crc, with_fields, with_piece}
-use Rattle.bb_dtbrec.specs.Laws.{fields_agree, head_agrees, others_too, piece_agrees}
+use Rattle.bb_dtbrec.specs.Checking.{fields_agree, head_agrees, piece_agrees}
+use Rattle.bb_dtbrec.specs.Pieces.{others_too}
 
 pub rest_is : (pieces : List Piece) (i : ℕ) (piece : Piece) → i < length pieces →
     piece ≡ get_or pieces i piece → drop i pieces ≡ piece ∷ drop (i + 1) pieces
