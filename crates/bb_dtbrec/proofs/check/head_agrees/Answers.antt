@@ -1,4 +1,4 @@
-use Rattle.std.proofs.Common.{◌≡◌, ◌&&◌, List, ℕ, drop, take, ap, sym, refl, ◌∙◌}
+use Rattle.std.proofs.Common.{◌&&◌, List, ℕ, drop, take, ap, sym, refl, ◌∙◌}
 use Rattle.std.specs.Int.{w32, to_be_bytes}
 use Rattle.std.specs.Str.{bytes_eq}
 use Rattle.bb_dtbrec.specs.Dtb.{record_crc}

@@ -1,4 +1,4 @@
-use Rattle.std.proofs.Common.{◌≡◌, ◌+◌, ◌-◌, ◌<◌, ℕ, drop, length, take, true, false, arith, ap, sym, ◌∙◌}
+use Rattle.std.proofs.Common.{◌≡◌, ◌+◌, ◌-◌, ◌<◌, ℕ, drop, length, arith, ap, sym, ◌∙◌}
 use Rattle.bb_dtbrec.specs.Dtb.{are_pieces, piece_len, with_fields}
 use Rattle.bb_dtbrec.specs.Checking.{fields_agree}
 use Rattle.bb_dtbrec.proofs.Steps.{agreed_all, agreed_more, inside_here, len_more, read_all, read_more, refused_here, sound_more}

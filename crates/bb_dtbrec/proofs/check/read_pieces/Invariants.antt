@@ -1,4 +1,4 @@
-use Rattle.std.proofs.Common.{◌≡◌, ◌+◌, ◌≤◌, true, drop, length}
+use Rattle.std.proofs.Common.{◌≡◌, ◌+◌, true, drop, length}
 use Rattle.bb_dtbrec.specs.Dtb.{are_pieces, pieces_len, with_fields}
 use Rattle.bb_dtbrec.specs.Checking.{fields_agree}
 use Rattle.bb_dtbrec.proofs.check.read_pieces.Given as goal

@@ -1,4 +1,4 @@
-use Rattle.std.proofs.Common.{◌≡◌, ◌+◌, ◌-◌, ◌<◌, ◌≤◌, ◌&&◌, ℕ, List, drop, length, replicate, take, true, false, arith, rules, ap, sym, ◌∙◌}
+use Rattle.std.proofs.Common.{◌≡◌, ◌+◌, ◌-◌, ◌&&◌, ℕ, List, drop, length, replicate, take, arith, rules, ap, sym, ◌∙◌}
 use Rattle.std.proofs.lemmas.List.{take_rest}
 use Rattle.bb_dtbrec.specs.Dtb.{pieces_len, with_fields}
 use Rattle.bb_dtbrec.specs.Checking.{fields_agree, head_agrees}

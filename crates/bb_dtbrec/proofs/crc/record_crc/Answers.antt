@@ -1,4 +1,4 @@
-use Rattle.std.proofs.Common.{◌≡◌, ◌∙◌, ◌∷◌, [], ◌++◌, List, ℕ, ap, append_assoc}
+use Rattle.std.proofs.Common.{◌∙◌, ◌∷◌, [], ◌++◌, List, ℕ, ap, append_assoc}
 use Rattle.bb_base.specs.Crc.{crc_of}
 use Rattle.bb_dtbrec.proofs.crc.record_crc.Goals as goal
 
