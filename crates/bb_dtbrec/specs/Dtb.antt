@@ -1,6 +1,6 @@
 -- The record that is a blob of its own, a flattened devicetree with a CRC (barebox User Manual,
--- State Framework, the backend type `dtb`). Of one layout all records have the same bytes but for the CRC
--- and the values of variables, whose places and lengths are fixed: a pattern.
+-- State Framework, the backend type `dtb`). Of one layout all records have the same bytes but for
+-- the CRC and the values of variables, whose places and lengths are fixed: a pattern.
 --
 --   bytes     field
 --   0 to 75   the front: header, reservations, and the tokens up to the value of `bb,crc32`

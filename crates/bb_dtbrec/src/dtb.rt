@@ -22,7 +22,8 @@ impl Model for Dtb {
 
     ghost Value = { Pattern };
 
-    ghost view = { λ d. record { front = d.front; pieces = d.pieces.items; area_len = d.area_len } };
+    ghost view = { λ d.
+        record { front = d.front; pieces = d.pieces.items; area_len = d.area_len } };
 
     ghost invariant = { λ d.
         IsPattern (record { front = d.front; pieces = d.pieces.items; area_len = d.area_len }) };

@@ -10,3 +10,6 @@ mod pack;
 mod piece;
 
 pub use dtb::Dtb;
+
+#[cfg(test)]
+mod tests;
