@@ -1,5 +1,6 @@
-ghost use Rattle.std.specs.Prelude.{◌≡◌, IfOk};
-ghost use Rattle.bb_dtbrec.specs.declared.piece.Piece.TheVariants.{Value};
+ghost use Rattle.std.specs.Prelude.{◌≡◌, ◌∷◌, [], IfOk, replicate};
+ghost use Rattle.bb_dtbrec.specs.declared.piece.Piece.TheVariants.{Fixed, Value};
+ghost use Rattle.bb_dtbrec.specs.declared.piece.Spelling.TheVariants.{ByteAsCell, NumberAsCell};
 
 use super::*;
 use crate::piece::{Piece, Place, Spelling};
@@ -24,7 +25,14 @@ fn value(at: usize, size: usize, spelling: Spelling) -> Piece
 // A byte at 0, a number at 2, and bytes that are always the same.
 #[tactic(auto, unfolding(crate::specs::Dtb::are_pieces, crate::specs::Dtb::is_apart, crate::specs::Dtb::pieces_len))]
 fn two_variables(alloc: Global) -> Result<Dtb, NoMemory>
-    ensures { IfOk result (λ dtb. dtb.area_len ≡ 6) }
+    ensures { IfOk result (λ dtb. dtb ≡ record {
+      front = replicate 76 7;
+      area_len = 6;
+      pieces =
+          Value (record { at = 0; size = 1; spelling = ByteAsCell })
+          ∷ Value (record { at = 2; size = 4; spelling = NumberAsCell })
+          ∷ Fixed (101 ∷ 110 ∷ 100 ∷ []) ∷ [];
+    }) }
 {
     let front = bytes(alloc, &[7; 76])?;
     let end = bytes(alloc, b"end")?;
@@ -49,6 +57,16 @@ fn the_worked_record_passes(rt: HostRuntime) -> Result<(), Fail> {
     assert_eq!(rt; dtb.length(), 91);
     assert!(rt; dtb.check(&record(), &mut area));
     assert_eq!(rt; area, [5, 0, 1, 2, 3, 4]);
+    Ok(())
+}
+
+#[tactic(auto, unfolding(crate::specs::Dtb::are_pieces, crate::specs::Dtb::is_apart, crate::specs::Dtb::pieces_len, crate::specs::Dtb::pieces_text, crate::specs::Dtb::with_fields))]
+#[test]
+fn the_worked_area_is_packed(rt: HostRuntime) -> Result<(), Fail> {
+    let dtb = two_variables(rt.alloc()).ok().ok_or("there is memory")?;
+    let mut out = [0xFFu8; 91];
+    dtb.pack(&[5, 0, 1, 2, 3, 4], &mut out);
+    assert_eq!(rt; out, record());
     Ok(())
 }
 
