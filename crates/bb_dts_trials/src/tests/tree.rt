@@ -52,8 +52,8 @@ fn finishes_an_empty_draft(rt: HostRuntime) -> Result<(), Fail> {
     Ok(())
 }
 
-// The tree of `/ { a { phandle = <7>; }; };`.
-fn tree_of_one_node(alloc: Global) -> Result<Tree, Fail> {
+// The node `a { phandle = <7>; }`.
+fn node_with_phandle(alloc: Global) -> Result<Node, Fail> {
     let mut props = PropList::none(alloc);
     let mut value = Bytes::none(alloc);
     value.add(&[0, 0, 0, 7])?;
@@ -61,27 +61,27 @@ fn tree_of_one_node(alloc: Global) -> Result<Tree, Fail> {
         name: Text::of(alloc, "phandle")?,
         value,
     })?;
-    let mut nodes = NodeList::none(alloc);
-    nodes.push(Node {
+    Ok(Node {
         name: Text::of(alloc, "a")?,
         props,
         nodes: NodeList::none(alloc),
-    })?;
-    let root = Node {
-        name: Text::of(alloc, "")?,
-        props: PropList::none(alloc),
-        nodes,
-    };
-    Ok(Tree {
-        root,
-        reserved: PairList::none(alloc),
     })
 }
 
 #[test]
 fn a_tree_is_looked_through_in_preorder(rt: HostRuntime) -> Result<(), Fail> {
-    let tree = tree_of_one_node(rt.alloc())?;
-    // dtc 1.6.1 makes as many.
+    let mut nodes = NodeList::none(rt.alloc());
+    nodes.push(node_with_phandle(rt.alloc())?)?;
+    let root = Node {
+        name: Text::of(rt.alloc(), "")?,
+        props: PropList::none(rt.alloc()),
+        nodes,
+    };
+    let tree = Tree {
+        root,
+        reserved: PairList::none(rt.alloc()),
+    };
+    // dtc 1.6.1 makes as many of `/ { a { phandle = <7>; }; };`
     assert_eq!(rt; blob_length(&tree), 108);
     let found = tree.by_phandle(7).ok_or("no node has the phandle")?;
     assert_eq!(rt; found.name.as_str(), "a");
