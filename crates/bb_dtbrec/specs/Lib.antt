@@ -1,6 +1,7 @@
 -- Definitions that contracts cite. These a reader has to believe.
 pub use Rattle.bb_base.specs.Form
 pub mod Dtb
+pub mod Trees
 -- Inside: that this record is a format, and that a check field by field is what passes.
 pub mod Checking
 pub mod Laws
