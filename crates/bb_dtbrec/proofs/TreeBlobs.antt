@@ -1,13 +1,14 @@
 -- The record of a tree's pattern is the tree's blob with its CRC.
-use Rattle.std.proofs.Common.{◌≡◌, ℕ, ◌+◌, true, List, [], ◌∷◌, ◌++◌, drop, length, take, refl, sym, ap, ◌∙◌, append_assoc, arith, length-append}
+use Rattle.std.proofs.Common.{◌≡◌, ℕ, ◌+◌, true, List, [], ◌∷◌, ◌++◌, drop, length, refl, sym, ap, ◌∙◌, append_assoc, arith, length-append}
 use Rattle.std.specs.Int.{w32, to_be_bytes}
 use Rattle.std.proofs.lemmas.List.{drop_at, take_at}
 use Rattle.bb_base.specs.Crc.{crc_of}
 use Rattle.bb_tree.specs.Node.{Branch, Forest}
 use Rattle.bb_tree.specs.Blob.{begin_text, blob_text, double_word, header_text, names_of, offset_of, reservation_list, strings_block, structure_block, word}
 use Rattle.bb_dtbrec.specs.declared.piece.Piece.{Piece}
-use Rattle.bb_dtbrec.specs.Dtb.{are_pieces, dtb_text, is_pattern, pieces_len, pieces_text}
-use Rattle.bb_dtbrec.specs.Laws.{IsSound, sound}
+use Rattle.bb_dtbrec.specs.Dtb.{are_pieces, dtb_length, dtb_text, is_pattern, pieces_len, pieces_text}
+use Rattle.bb_dtbrec.specs.Pieces.{length_pieces_text}
+use Rattle.bb_dtbrec.specs.Laws.{sound}
 use Rattle.bb_dtbrec.specs.Trees.{AreInside, blob_with_crc, crc_prop, devicetree_at, front_of, pattern_of, pieces_behind_crc, pieces_of, prop_token, root_with_crc, structure_pieces, template_names, template_offset, tree_at}
 use Rattle.bb_dtbrec.proofs.TreeTexts.{all_inside, length_all_inside, names_at, pieces_of_text, structure_inside, structure_pieces_text}
 
@@ -28,7 +29,8 @@ blob_pieces root area h =
     let same : length structure ≡ pieces_len (structure_pieces root) =
     ap length (sym (structure_pieces_text root area in_structure))
     ∙ length_all_inside (structure_pieces root) area in_structure in
-    ap (λ n. header_text (length pairs) n (length strings) ++ (pairs ++ (structure ++ strings))) same
+    ap (λ n. header_text (length pairs) n (length strings) ++ (pairs ++ (structure ++ strings)))
+    same
     ∙ ap
     (λ names. header_text (length pairs) (pieces_len (structure_pieces root))
     (length (strings_block names))
@@ -111,3 +113,23 @@ record_is_blob props nodes area h =
     let are = (sound (pattern_of root (length area)) h).pieces in
     sym (with_crc (front_of root) pieces (length_front root))
     ∙ ap blob_with_crc (sym (blob_at props nodes area are))
+
+-- and has its length
+pub length_blob_at : (props : List (List ℕ × Piece)) (nodes : Forest Piece) (area : List ℕ) →
+    are_pieces (pieces_behind_crc (root_with_crc props nodes)) (length area) ≡ true →
+    length (blob_text (devicetree_at area (root_with_crc props nodes)))
+    ≡ dtb_length (pattern_of (root_with_crc props nodes) (length area))
+length_blob_at props nodes area h =
+    let root : Branch Piece = root_with_crc props nodes in
+    let front : List ℕ = front_of root in
+    let pieces : List ℕ = pieces_text (pieces_behind_crc root) area in
+    let zeros : List ℕ = 0 ∷ 0 ∷ 0 ∷ 0 ∷ [] in
+    let whole : length (blob_text (devicetree_at area root)) ≡ length (front ++ (zeros ++ pieces)) =
+    ap length (blob_at props nodes area h) in
+    omega (
+      arith,
+      whole,
+      length-append front (zeros ++ pieces),
+      length_front root,
+      length_pieces_text (pieces_behind_crc root) area h,
+    )

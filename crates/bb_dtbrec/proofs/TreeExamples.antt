@@ -1,5 +1,6 @@
--- The worked record as a tree, by computation alone: its blob, but for the CRC, and its pattern's record.
-use Rattle.std.proofs.Common.{◌≡◌, ℕ, List, [], ◌∷◌, ◌++◌, codes, refl}
+-- The worked record as a tree, by computation alone: its blob, but for the CRC, and the record of
+-- its pattern.
+use Rattle.std.proofs.Common.{◌≡◌, [], ◌∷◌, ◌++◌, codes, refl}
 use Rattle.bb_base.specs.Crc.{after_bit, after_eight_bits, after_byte}
 use Rattle.bb_tree.specs.Node.{Branch, empty, node}
 use Rattle.bb_tree.specs.Blob.{blob_text, double_word, word}

@@ -1,14 +1,14 @@
 -- The blob of a tree at an area is a front, 4 zero bytes and the text of pieces.
-use Rattle.std.proofs.Common.{◌≡◌, ℕ, ◌+◌, ◌≤◌, true, List, [], ◌∷◌, ◌++◌, drop, length, map, fold, refl, sym, ap, ◌∙◌, append_assoc, append-nil, arith, length-append}
+use Rattle.std.proofs.Common.{◌≡◌, ℕ, true, List, [], ◌∷◌, ◌++◌, length, map, fold, refl, sym, ap, ◌∙◌, append_assoc, append-nil, arith, length-append}
 use Rattle.std.specs.List.{flat_map}
 use Rattle.std.proofs.lemmas.Bool.{and_parts, leb-true}
 use Rattle.bb_tree.specs.Node.{Branch, Forest, empty, grow, node, with_values_of}
-use Rattle.bb_tree.specs.Blob.{begin_text, blob_text, double_word, filling, header_text, names_of, nodes_text, offset_of, prop_names, prop_text, reservation_list, strings_block, structure_block, with_name, word}
+use Rattle.bb_tree.specs.Blob.{begin_text, filling, names_of, nodes_text, offset_of, prop_names, prop_text, strings_block, structure_block, with_name, word}
 use Rattle.bb_dtbrec.specs.declared.piece.Piece.{Piece}
 use Rattle.bb_dtbrec.specs.declared.piece.Piece.TheVariants.{Fixed, Value}
 use Rattle.bb_dtbrec.specs.Dtb.{IsInside, are_pieces, field_len, piece_len, piece_text, pieces_len, pieces_text}
 use Rattle.bb_dtbrec.specs.Pieces.{length_field_of, length_value_at, others_too}
-use Rattle.bb_dtbrec.specs.Trees.{AreInside, crc_prop, devicetree_at, front_of, nodes_pieces, pieces_behind_crc, pieces_of, prop_pieces, prop_token, root_with_crc, structure_pieces, template_names, template_offset, tree_at}
+use Rattle.bb_dtbrec.specs.Trees.{AreInside, nodes_pieces, pieces_of, prop_pieces, structure_pieces, template_names, template_offset, tree_at}
 
 -- ---- pieces that stand inside
 
@@ -17,11 +17,10 @@ pub all_inside : (pieces : List Piece) (n : ℕ) → are_pieces pieces n ≡ tru
 unfolding AreInside are_pieces
 all_inside [] n h = tt
 all_inside (Fixed bytes ∷ pieces) n h = (tt, all_inside pieces n h)
-all_inside (Value place ∷ pieces) n h =
-    (
-      leb-true _ _ (and_parts _ _ (and_parts _ _ h).0).1,
-      all_inside pieces n (others_too (Value place) pieces n h),
-    )
+all_inside (Value place ∷ pieces) n h = (
+  leb-true _ _ (and_parts _ _ (and_parts _ _ h).0).1,
+  all_inside pieces n (others_too (Value place) pieces n h),
+)
 
 front_inside : (xs ys : List Piece) (n : ℕ) → AreInside (xs ++ ys) n → AreInside xs n
 unfolding AreInside

@@ -1,10 +1,10 @@
 -- Trees whose records have a pattern: the values of properties are templates, so fixed bytes or the
 -- fields of variables. The names, and so the places of names, are the same for all areas, and so is
 -- each length if the variables stand inside the area.
-use Rattle.std.specs.Prelude.{ℕ, ◌+◌, List, [], ◌∷◌, ◌++◌, codes, drop, length, take}
+use Rattle.std.specs.Prelude.{ℕ, List, [], ◌∷◌, ◌++◌, codes, drop, length, take}
 use Rattle.std.specs.Int.{w32, to_be_bytes}
-use Rattle.bb_base.specs.Crc.{crc_of}
 use Rattle.std.specs.List.{flat_map}
+use Rattle.bb_base.specs.Crc.{crc_of}
 use Rattle.bb_tree.specs.Node.{Branch, Forest, empty, grow, node, with_values}
 use Rattle.bb_tree.specs.Blob.{Devicetree, begin_text, filling, header_text, names_of, offset_of, reservation_list, strings_block, word}
 use Rattle.bb_dtbrec.specs.declared.piece.Piece.{Piece}
