@@ -1,14 +1,14 @@
 -- Trees whose records have a pattern: the values of properties are templates, so fixed bytes or the
 -- fields of variables. The names, and so the places of names, are the same for all areas, and so is
 -- each length if the variables stand inside the area.
-use Rattle.std.specs.Prelude.{ℕ, List, [], ◌∷◌, ◌++◌, codes, drop, length, take}
+use Rattle.std.specs.Prelude.{ℕ, List, [], ◌∷◌, ◌++◌, codes, drop, length, map, take}
 use Rattle.std.specs.Int.{w32, to_be_bytes}
 use Rattle.std.specs.List.{flat_map}
 use Rattle.bb_base.specs.Crc.{crc_of}
 use Rattle.bb_tree.specs.Node.{Branch, Forest, empty, grow, node, with_values}
 use Rattle.bb_tree.specs.Blob.{Devicetree, begin_text, filling, header_text, names_of, offset_of, reservation_list, strings_block, word}
 use Rattle.bb_dtbrec.specs.declared.piece.Piece.{Piece}
-use Rattle.bb_dtbrec.specs.declared.piece.Piece.TheVariants.{Fixed}
+use Rattle.bb_dtbrec.specs.declared.piece.Piece.TheVariants.{Fixed, Value}
 use Rattle.bb_dtbrec.specs.Dtb.{IsInside, Pattern, front_len, head_len, piece_len, piece_text, pieces_len}
 
 -- ---- trees at an area
@@ -96,3 +96,17 @@ pattern_of root area_len = record {
 abbrev pub blob_with_crc : List ℕ → List ℕ
 blob_with_crc blob =
     take front_len blob ++ (to_be_bytes w32 (crc_of blob) ++ drop head_len blob)
+
+-- ---- their values alone
+
+-- the values among pieces
+abbrev pub values_among : List Piece → List Piece
+values_among [] = []
+values_among (Fixed bytes ∷ pieces) = values_among pieces
+values_among (Value place ∷ pieces) = Value place ∷ values_among pieces
+
+-- the values of a tree's properties, a node's before those of the nodes in it
+abbrev pub tree_values : Forest Piece → List Piece
+tree_values empty = []
+tree_values (node name props nodes rest) =
+    values_among (map (λ p. p.1) props) ++ (tree_values nodes ++ tree_values rest)
