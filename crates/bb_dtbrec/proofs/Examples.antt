@@ -8,7 +8,7 @@ use Rattle.bb_dtbrec.specs.declared.piece.Spelling.TheVariants.{ByteAsCell, Numb
 use Rattle.bb_dtbrec.specs.Dtb.{Pattern, are_pieces, dtb_fits, dtb_passes, dtb_text, is_apart, is_pattern, pieces_len, pieces_text, with_fields}
 
 -- header, no reservations, the root, and of `bb,crc32` all but the value
-front : List ℕ
+unfoldable pub front : List ℕ
 front =
     208 ∷ 13 ∷ 254 ∷ 237 ∷ 0 ∷ 0 ∷ 0 ∷ 208 ∷ 0 ∷ 0 ∷ 0 ∷ 56 ∷ 0 ∷ 0 ∷ 0 ∷ 176 ∷ 0 ∷ 0 ∷ 0 ∷ 40 ∷
     0 ∷ 0 ∷ 0 ∷ 17 ∷ 0 ∷ 0 ∷ 0 ∷ 16 ∷ 0 ∷ 0 ∷ 0 ∷ 0 ∷ 0 ∷ 0 ∷ 0 ∷ 32 ∷ 0 ∷ 0 ∷ 0 ∷ 120 ∷ 0 ∷ 0 ∷
@@ -16,7 +16,7 @@ front =
     0 ∷ 3 ∷ 0 ∷ 0 ∷ 0 ∷ 4 ∷ 0 ∷ 0 ∷ 0 ∷ 0 ∷ []
 
 -- of the state node all but the value of its variable
-before_value : List ℕ
+unfoldable pub before_value : List ℕ
 before_value =
     0 ∷ 0 ∷ 0 ∷ 1 ∷ 115 ∷ 116 ∷ 97 ∷ 116 ∷ 101 ∷ 0 ∷ 0 ∷ 0 ∷ 0 ∷ 0 ∷ 0 ∷ 3 ∷ 0 ∷ 0 ∷ 0 ∷ 14 ∷ 0 ∷
     0 ∷ 0 ∷ 9 ∷ 98 ∷ 97 ∷ 114 ∷ 101 ∷ 98 ∷ 111 ∷ 120 ∷ 44 ∷ 115 ∷ 116 ∷ 97 ∷ 116 ∷ 101 ∷ 0 ∷ 0 ∷
@@ -24,7 +24,7 @@ before_value =
     64 ∷ 48 ∷ 0 ∷ 0 ∷ 0 ∷ 0 ∷ 3 ∷ 0 ∷ 0 ∷ 0 ∷ 4 ∷ 0 ∷ 0 ∷ 0 ∷ 26 ∷ []
 
 -- the ends of three nodes and of the tokens, and the names of the properties
-after_value : List ℕ
+unfoldable pub after_value : List ℕ
 after_value =
     0 ∷ 0 ∷ 0 ∷ 2 ∷ 0 ∷ 0 ∷ 0 ∷ 2 ∷ 0 ∷ 0 ∷ 0 ∷ 2 ∷ 0 ∷ 0 ∷ 0 ∷ 9 ∷ 98 ∷ 98 ∷ 44 ∷ 99 ∷ 114 ∷ 99 ∷
     51 ∷ 50 ∷ 0 ∷ 99 ∷ 111 ∷ 109 ∷ 112 ∷ 97 ∷ 116 ∷ 105 ∷ 98 ∷ 108 ∷ 101 ∷ 0 ∷ 109 ∷ 97 ∷ 103 ∷
@@ -39,7 +39,7 @@ one_byte = record {
   area_len = 1;
 }
 
-worked : List ℕ
+unfoldable pub worked : List ℕ
 worked = front ++ (48 ∷ 60 ∷ 84 ∷ 164 ∷ (before_value ++ (0 ∷ 0 ∷ 0 ∷ 5 ∷ after_value)))
 
 it_is_a_pattern : is_pattern one_byte ≡ true

@@ -5,3 +5,5 @@ pub mod Dtb
 pub mod Checking
 pub mod Laws
 pub mod Pieces
+-- The pattern of a tree. No contract cites it yet.
+pub mod Trees

@@ -50,12 +50,12 @@ apart_too place (Value other) pieces h = (and_parts _ _ h).1
 
 -- ---- lengths
 
-length_value_at : (place : Place) (area : List ℕ) → place.at + place.size ≤ length area →
+pub length_value_at : (place : Place) (area : List ℕ) → place.at + place.size ≤ length area →
     length (value_at place area) ≡ place.size
 length_value_at place area inside =
     length-take-le place.size (drop place.at area) (omega (arith, length-drop place.at area))
 
-length_field_of : (spelling : Spelling) (value : List ℕ) →
+pub length_field_of : (spelling : Spelling) (value : List ℕ) →
     length (field_of spelling value) ≡ field_len spelling (length value)
 length_field_of ByteAsCell value = omega arith
 length_field_of NumberAsCell value = length-reverse value
