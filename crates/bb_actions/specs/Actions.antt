@@ -14,7 +14,8 @@ use Rattle.bb_words.specs.declared.command.Action.TheVariants.{Set, Get, Dump, D
 
 -- ---- whether they fit
 
--- the variable that an action names, where no variable has the name or the text is no value of it, with the cause
+-- the variable that an action names, where no variable has the name or the text is no value of it,
+-- with the cause
 abbrev pub misfit : List Var → Action → Option (List ℕ × StateError)
 misfit vars (Set name value) = option_map (λ cause. (name, cause)) (refusal_for vars name value)
 misfit vars (Get name) = if is_none (place_of vars name) then Some (name, NoSuchVariable) else None
@@ -38,7 +39,8 @@ after_all vars table actions = fold (after vars) table actions
 
 -- ---- the text
 
--- the lines of one action: the value of the variable that it names, or a line for each variable in the layout's order
+-- the lines of one action: the value of the variable that it names, or a line for each variable in
+-- the layout's order
 abbrev pub action_text : Laid → List ℕ → Action → List ℕ
 action_text layout area (Set name value) = []
 action_text layout area (Get name) = value_line area (var_of layout.vars name)

@@ -1,2 +1,2 @@
--- Definitions that contracts cite.
+-- To be believed: public clauses cite it. None is inside.
 pub mod Actions

@@ -7,8 +7,8 @@ use bb_layout::Layout;
 use bb_state::{StateError, check_value};
 use bb_words::{Action, ActionList};
 
-/// The first variable that an action names and that doesn't fit, with the cause: no variable has the name, or the text
-/// of a set is no value of it.
+/// The first variable that an action names and that doesn't fit, with the cause: no variable has
+/// the name, or the text of a set is no value of it.
 pub fn first_misfit<'a>(layout: &Layout, actions: &'a ActionList) -> Option<(&'a Text, StateError)>
     ensures { option_map (λ m. (m.0.now, m.1)) result ≡ misfit_of layout.now.vars actions.now }
 {

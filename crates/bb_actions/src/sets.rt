@@ -5,8 +5,8 @@ ghost use Rattle.bb_state.specs.State.{IsSized, laid_of};
 use bb_state::State;
 use bb_words::{Action, ActionList};
 
-/// Makes all sets in their order, in the table of a state. One that doesn't fit leaves the table as it
-/// is; `first_misfit` gives the first.
+/// Makes all sets in their order, in the table of a state. One that doesn't fit leaves the table as
+/// it is; `first_misfit` gives the first.
 pub fn make_sets(state: &mut State, actions: &ActionList)
     requires { IsSized state.old }
     ensures table { state.new.table

@@ -1,5 +1,5 @@
 ghost use Rattle.std.specs.Prelude.{◌≡◌, ◌++◌, IfOk, OnOk, length};
-ghost use Rattle.bb_layout.specs.Layout.{laid};
+ghost use Rattle.bb_layout.specs.Layout.{fields_of};
 ghost use Rattle.bb_actions.specs.Actions.{action_text, actions_text};
 
 use bb_base::{Bytes, NoMemory};
@@ -8,8 +8,9 @@ use bb_state::{add_dump, add_shell_dump, add_value_line};
 use bb_words::{Action, ActionList};
 use std::alloc::Global;
 
-/// The text of what all actions get and dump, in their order, over an area of the layout: a line for each value, ended
-/// by LF. For a variable that the layout doesn't have nothing is sent; `first_misfit` gives the first.
+/// The text of what all actions get and dump, in their order, over an area of the layout: a line
+/// for each value, ended by LF. For a variable that the layout doesn't have nothing is sent;
+/// `first_misfit` gives the first.
 pub fn actions_text(
     alloc: Global,
     layout: &Layout,
@@ -17,7 +18,8 @@ pub fn actions_text(
     actions: &ActionList,
 ) -> Result<Bytes, NoMemory>
     requires { length area.now ≡ layout.now.area_len }
-    ensures { IfOk result (λ text. text ≡ actions_text (laid layout.now) area.now actions.now) }
+    ensures { IfOk result (λ text.
+        text ≡ actions_text (fields_of layout.now) area.now actions.now) }
 {
     let mut out = Bytes::none(alloc);
     for place in 0..actions.len() {
@@ -37,7 +39,8 @@ fn add_action(
     out: &mut Bytes,
 ) -> Result<(), NoMemory>
     requires { length area.now ≡ layout.now.area_len }
-    ensures { OnOk result (out.new ≡ out.old ++ action_text (laid layout.now) area.now action.now) }
+    ensures { OnOk result
+        (out.new ≡ out.old ++ action_text (fields_of layout.now) area.now action.now) }
 {
     match action {
         Action::Set { .. } => Ok(()),

@@ -1,6 +1,6 @@
 -- Worked values, by computation alone.
 use Rattle.std.proofs.Common.{◌≡◌, [], ◌∷◌, true, false, refl, codes, filter_map, Ok, Err}
-use Rattle.bb_base.specs.Crc.{crc_of, divided, divided_8, after_byte}
+use Rattle.bb_base.specs.Crc.{crc_of, after_bit, after_eight_bits, after_byte}
 use Rattle.std.specs.List.{list_any}
 use Rattle.std.specs.Path.{rsplit_once}
 use Rattle.bb_base.specs.Folder.{is_under, name_in}
@@ -9,7 +9,7 @@ use Rattle.bb_base.specs.declared.number.NumberError.TheVariants.{NotNumber, Too
 
 -- the check value that catalogues of CRCs give
 crc_of_check_text : crc_of (codes "123456789") ≡ 0xcbf43926
-unfolding after_byte divided_8 divided
+unfolding after_byte after_eight_bits after_bit
 crc_of_check_text = refl
 
 crc_of_nothing : crc_of [] ≡ 0

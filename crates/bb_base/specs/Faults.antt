@@ -1,5 +1,5 @@
--- Counts of faults. A count is a number of 64 bits that begins at 0 and never falls; at its greatest value it
--- stands still.
+-- Counts of faults. A count is a number of 64 bits that begins at 0 and never falls; at its
+-- greatest value it stands still.
 use Rattle.std.specs.Prelude.{ℕ, ◌+◌, ◌-◌, ◌^◌, ◌≤◌, min}
 
 -- the count rose, or it can't rise any more

@@ -1,11 +1,13 @@
 -- What is known of files by name.
-use Rattle.std.specs.Prelude.{ℕ, Bool, true, false, List, [], ◌∷◌, ◌++◌, length, drop, nat_eq, nat_lt, filter_map, Option, Some, None, unwrap_or, option_and_then, Result, Ok, Err, if◌then◌else◌}
+use Rattle.std.specs.Prelude.{◌≡◌, ℕ, Bool, true, false, List, [], ◌∷◌, ◌++◌, length, drop, nat_eq, nat_lt, filter_map, Option, Some, None, unwrap_or, option_and_then, Result, Ok, Err, IsTrue, if◌then◌else◌}
+use Rattle.std.specs.Bool.{OnFalse}
 use Rattle.std.specs.Cmp.Lexicographic.{slice_cmp}
 use Rattle.std.specs.FinMap.{FinMap, get, keys}
 use Rattle.std.specs.List.{list_any, starts_with}
 use Rattle.std.specs.Ordering.{nat_cmp}
 use Rattle.std.specs.Path.{rsplit_once, slash}
 use Rattle.std.specs.Str.{bytes_eq}
+use Rattle.bb_base.specs.Faults.{HasCause}
 use Rattle.bb_base.specs.declared.files.FileFail.{FileFail}
 use Rattle.bb_base.specs.declared.files.FileFail.TheVariants.{Fault, TooLong, NoMemory}
 
@@ -18,20 +20,24 @@ pub record Folder : Type 0 where
   pub told : Option FileMap
   pub faults : ℕ
 
--- the most bytes that a file may have
+-- the most bytes that a file may have: one MiB (this project's profile)
 abbrev pub file_limit : ℕ
 file_limit = 1048576
 
--- what is read of a name: its file, or none where there is no such name; a file that is too long isn't read
+-- what is read of a name: its file, or none where there is no such name; a file that is too long
+-- isn't read
 abbrev pub file_of : FileMap → List ℕ → Result (Option (List ℕ)) FileFail
 file_of files name =
     if nat_lt file_limit (length (unwrap_or (get files name) []))
     then Err TooLong
     else Ok (get files name)
 
--- what a name is in a folder: what stands behind its last `/`, where the folder's name stands before it
+-- what a name is in a folder: what stands behind its last `/`, where the folder's name stands
+-- before it
 abbrev pub name_in : List ℕ → List ℕ → Option (List ℕ)
-name_in dir name = option_and_then (λ parts. if bytes_eq parts.0 dir then Some parts.1 else None) (rsplit_once slash name)
+name_in dir name =
+    option_and_then (λ parts. if bytes_eq parts.0 dir then Some parts.1 else None)
+    (rsplit_once slash name)
 
 -- the names in a folder, in rising order of their bytes
 abbrev pub names_in : FileMap → List ℕ → List (List ℕ)
@@ -45,9 +51,10 @@ is_under dir name = starts_with nat_eq name (dir ++ slash ∷ [])
 abbrev pub has_folder : FileMap → List ℕ → Bool
 has_folder files dir = list_any (is_under dir) (keys files)
 
--- what a call that answered so read: the bytes that came behind the old ones, if there is such a file
-abbrev pub added : Bool → List ℕ → List ℕ → Option (List ℕ)
-added there old new = if there then Some (drop (length old) new) else None
+-- the file that a call read which answered so: the bytes that came behind the old ones, if there is
+-- such a file
+abbrev pub file_read : Bool → List ℕ → List ℕ → Option (List ℕ)
+file_read there old new = if there then Some (drop (length old) new) else None
 
 -- the call met a fault
 abbrev pub is_fault : Result Bool FileFail → Bool
@@ -55,3 +62,11 @@ is_fault (Ok there) = false
 is_fault (Err Fault) = true
 is_fault (Err TooLong) = false
 is_fault (Err NoMemory) = false
+
+-- a count of faults never falls, and a call meets a fault only where it rose
+abbrev pub CountsFaults : Result Bool FileFail → Folder → Folder → Type 0
+CountsFaults result before now = HasCause before.faults now.faults (IsTrue (is_fault result))
+
+-- it rises only where a call meets a fault
+abbrev pub CountsNoOther : Result Bool FileFail → Folder → Folder → Type 0
+CountsNoOther result before now = OnFalse (is_fault result) (now.faults ≡ before.faults)

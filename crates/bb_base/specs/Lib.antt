@@ -1,9 +1,11 @@
--- Definitions that contracts cite.
+-- Definitions that contracts cite. These a reader has to believe.
 pub mod Crc
 pub mod Faults
 pub mod Folder
 pub mod Form
-pub mod MemFiles
-pub mod MemSink
 pub mod Number
 pub mod Outlet
+pub mod Refusals
+-- Inside: files and an output in memory, on which tests stand.
+pub mod MemFiles
+pub mod MemSink

@@ -17,7 +17,9 @@ pub record Stored : Type 0 where
 -- a value of this type is kept as the tuple of its fields
 abbrev pub stored_code : Coded Stored
 stored_code =
-    code_by (FileMap × (List ℕ × (ℕ × ℕ))) (coded× (code (coded_list coded_ℕ) (coded_list coded_ℕ)) (coded× (coded_list coded_ℕ) (coded× coded_ℕ coded_ℕ)))
+    code_by (FileMap × (List ℕ × (ℕ × ℕ)))
+    (coded× (code (coded_list coded_ℕ) (coded_list coded_ℕ))
+    (coded× (coded_list coded_ℕ) (coded× coded_ℕ coded_ℕ)))
     (λ s. (s.files, (s.planned, (s.calls, s.faults))))
     (λ t. record { files = t.0; planned = t.1.0; calls = t.1.1.0; faults = t.1.1.1 })
     (λ _. refl)
@@ -37,4 +39,7 @@ refuses_next stored = list_any (λ n. n == stored.calls) stored.planned
 -- a call counts, and where it is planned to fail its fault counts too
 abbrev pub after_call : Stored → Stored
 after_call stored =
-    record stored { calls = one_more stored.calls; faults = if refuses_next stored then one_more stored.faults else stored.faults }
+    record stored {
+      calls = one_more stored.calls;
+      faults = if refuses_next stored then one_more stored.faults else stored.faults;
+    }

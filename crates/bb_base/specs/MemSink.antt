@@ -18,8 +18,11 @@ outlet_of sink = record { sent = Some sink.sent; faults = sink.faults }
 
 -- the next write fails: it is planned to, or the piece doesn't fit what is left of the room
 abbrev pub refuses_next : Kept → List ℕ → Bool
-refuses_next sink piece = list_any (λ n. n == sink.writes) sink.planned || nat_lt (sink.room - length sink.sent) (length piece)
+refuses_next sink piece =
+    list_any (λ n. n == sink.writes) sink.planned
+    || nat_lt (sink.room - length sink.sent) (length piece)
 
+-- what a write leaves: the whole piece is sent, or a fault is counted
 abbrev pub after_write : Kept → List ℕ → Kept
 after_write sink piece =
     if refuses_next sink piece

@@ -1,18 +1,20 @@
-ghost use Rattle.std.specs.Prelude.{◌≡◌, ◌+◌, ◌≤◌, ◌++◌, length, take, IfOk, IsErrOf, IsTrue, Ok, Err, OnErr, OnOk};
+ghost use Rattle.std.specs.Prelude.{◌≡◌, ◌+◌, ◌≤◌, ◌++◌, length, take, IfOk, IsErrOf, Ok, Err, OnErr, OnOk};
 ghost use Rattle.std.specs.Bool.{OnFalse};
 ghost use Rattle.std.specs.Option.{ForSome};
-ghost use Rattle.bb_base.specs.Faults.{HasCause};
-ghost use Rattle.bb_base.specs.Folder.{Folder, added, file_limit, file_of, has_folder, is_fault, names_in};
+ghost use Rattle.bb_base.specs.Folder.{CountsFaults, CountsNoOther, Folder, file_limit, file_of, file_read, has_folder, names_in};
 ghost use Rattle.bb_base.specs.declared.files.FileFail.TheVariants.{TooLong};
 
 use crate::{Bytes, NoMemory, TextList};
+
+/// The most bytes that a file may have (this project's profile).
+pub const FILE_LIMIT: usize = 1_048_576;
 
 /// Why a call on files gave nothing. What the call was to change is as before.
 #[derive(Clone, Copy, Debug, PartialEq, Eq)]
 pub enum FileFail {
     /// The call met a fault. The count of faults says so.
     Fault,
-    /// The file has more than 1,048,576 bytes.
+    /// The file has more than `FILE_LIMIT` bytes.
     TooLong,
     NoMemory,
 }
@@ -37,7 +39,7 @@ pub trait Files {
     fn read(&mut self, name: &str, out: &mut Bytes) -> Result<bool, FileFail>
         // Where the files are told, the answer is the one of the definition.
         ensures read { IfOk result (λ there. ForSome (folder self.old).told (λ files.
-            file_of files name.now ≡ Ok (added there out.old out.new))) }
+            file_of files name.now ≡ Ok (file_read there out.old out.new))) }
         ensures too_long { IsErrOf result TooLong → ForSome (folder self.old).told (λ files.
             file_of files name.now ≡ Err TooLong) }
 
@@ -49,8 +51,8 @@ pub trait Files {
 
         // A fault is counted, and no other answer changes the count.
         ensures told { (folder self.new).told ≡ (folder self.old).told }
-        ensures cause { HasCause (folder self.old).faults (folder self.new).faults (IsTrue (is_fault result)) }
-        ensures calm { OnFalse (is_fault result) ((folder self.new).faults ≡ (folder self.old).faults) };
+        ensures cause { CountsFaults result (folder self.old) (folder self.new) }
+        ensures calm { CountsNoOther result (folder self.old) (folder self.new) };
 
     /// Appends the names in a folder in rising order of their bytes, each without the folder's name and the `/` behind
     /// it, or answers false where the folder isn't there: where no name begins with the folder's name and a `/`. A
@@ -70,6 +72,6 @@ pub trait Files {
 
         // A fault is counted, and no other answer changes the count.
         ensures told { (folder self.new).told ≡ (folder self.old).told }
-        ensures cause { HasCause (folder self.old).faults (folder self.new).faults (IsTrue (is_fault result)) }
-        ensures calm { OnFalse (is_fault result) ((folder self.new).faults ≡ (folder self.old).faults) };
+        ensures cause { CountsFaults result (folder self.old) (folder self.new) }
+        ensures calm { CountsNoOther result (folder self.old) (folder self.new) };
 }

@@ -1,6 +1,10 @@
 ghost use Rattle.std.specs.Prelude.{◌≡◌, length, IfSome, IsTrue, is_some};
 ghost use Rattle.bb_base.specs.Form.{Form, IsForm};
 
+/// The most bytes that an area may have: its length stands in 16 bits of a record (barebox User
+/// Manual, State Framework, the backend `raw`).
+pub const AREA_LIMIT: u32 = 65_535;
+
 /// How an area, the bytes that are to be kept, is kept as a record.
 pub trait Format {
     ghost form: { Self → Form };

@@ -1,14 +1,14 @@
-ghost use Rattle.std.specs.Prelude.{◌≡◌, ◌+◌, ◌≤◌, ◌++◌, ◌∷◌, [], length, take, nat_lt, IfOk, IsErrOf, IsTrue, OnErr, OnOk, Ok, Err, option_map};
+ghost use Rattle.std.specs.Prelude.{◌≡◌, ◌+◌, ◌≤◌, ◌++◌, ◌∷◌, [], length, take, IfOk, IsErrOf, IsTrue, OnErr, OnOk, Ok, Err, option_map};
 ghost use Rattle.std.specs.Bool.{OnFalse};
 ghost use Rattle.std.specs.FinMap as map;
 ghost use Rattle.std.specs.Option.{ForSome};
 ghost use Rattle.bb_base.specs.Faults.{HasCause};
-ghost use Rattle.bb_base.specs.Folder.{added, file_limit, file_of, has_folder, is_fault, is_under, name_in, names_in};
+ghost use Rattle.bb_base.specs.Folder.{CountsFaults, CountsNoOther, file_limit, file_of, file_read, has_folder, is_fault, is_under, name_in, names_in};
 ghost use Rattle.bb_base.specs.MemFiles.{after_call, folder_of, refuses_next};
 ghost use Rattle.bb_base.specs.declared.files.FileFail.TheVariants.{TooLong};
 
 use crate::planned::is_planned;
-use crate::{Bytes, FileFail, Files, NoMemory, Text, TextList};
+use crate::{Bytes, FILE_LIMIT, FileFail, Files, NoMemory, Text, TextList};
 use std::alloc::Global;
 use std::collections::BTreeMap;
 use std::marker::Model;
@@ -43,9 +43,6 @@ impl Model for MemFiles {
     ghost invariant = { λ m. IsOrdered string_cmp m.files };
 }
 
-// The most bytes that a file may have.
-const FILE_LIMIT: usize = 1_048_576;
-
 impl MemFiles {
     /// No files.
     pub fn none(alloc: Global) -> MemFiles
@@ -62,7 +59,8 @@ impl MemFiles {
 
     /// Adds a file. A name that is there gets the new bytes.
     pub fn add(&mut self, name: &str, bytes: &[u8]) -> Result<(), NoMemory>
-        ensures ok { OnOk result (self.new ≡ record self.old { files = map.insert self.old.files name.now bytes.now }) }
+        ensures ok { OnOk result (self.new
+            ≡ record self.old { files = map.insert self.old.files name.now bytes.now }) }
         ensures err { OnErr result (self.new ≡ self.old) }
     {
         let name = String::from_str(self.alloc, name)?;
@@ -74,7 +72,8 @@ impl MemFiles {
 
     /// Plans that the call with this number, counted from 0 over all calls of `Files`, meets a fault.
     pub fn fail_call(&mut self, call: u32) -> Result<(), NoMemory>
-        ensures ok { OnOk result (self.new ≡ record self.old { planned = self.old.planned ++ call ∷ [] }) }
+        ensures ok { OnOk result (self.new
+            ≡ record self.old { planned = self.old.planned ++ call ∷ [] }) }
         ensures err { OnErr result (self.new ≡ self.old) }
     {
         self.planned.push(call)?;
@@ -146,7 +145,7 @@ impl Files for MemFiles {
 
     fn read(&mut self, name: &str, out: &mut Bytes) -> Result<bool, FileFail>
         ensures read { IfOk result (λ there. ForSome (folder_of self.old).told (λ files.
-            file_of files name.now ≡ Ok (added there out.old out.new))) }
+            file_of files name.now ≡ Ok (file_read there out.old out.new))) }
         ensures too_long { IsErrOf result TooLong → ForSome (folder_of self.old).told (λ files.
             file_of files name.now ≡ Err TooLong) }
         ensures appended { OnOk result (take (length out.old) out.new ≡ out.old) }
@@ -154,8 +153,8 @@ impl Files for MemFiles {
         ensures missing { IfOk result (λ there. OnFalse there (out.new ≡ out.old)) }
         ensures err { OnErr result (out.new ≡ out.old) }
         ensures told { (folder_of self.new).told ≡ (folder_of self.old).told }
-        ensures cause { HasCause (folder_of self.old).faults (folder_of self.new).faults (IsTrue (is_fault result)) }
-        ensures calm { OnFalse (is_fault result) ((folder_of self.new).faults ≡ (folder_of self.old).faults) }
+        ensures cause { CountsFaults result (folder_of self.old) (folder_of self.new) }
+        ensures calm { CountsNoOther result (folder_of self.old) (folder_of self.new) }
 
         // It meets a fault exactly where it is planned to.
         ensures exact { is_fault result ≡ refuses_next self.old }
@@ -184,8 +183,8 @@ impl Files for MemFiles {
         ensures missing { IfOk result (λ there. OnFalse there (out.new ≡ out.old)) }
         ensures err { OnErr result (out.new ≡ out.old) }
         ensures told { (folder_of self.new).told ≡ (folder_of self.old).told }
-        ensures cause { HasCause (folder_of self.old).faults (folder_of self.new).faults (IsTrue (is_fault result)) }
-        ensures calm { OnFalse (is_fault result) ((folder_of self.new).faults ≡ (folder_of self.old).faults) }
+        ensures cause { CountsFaults result (folder_of self.old) (folder_of self.new) }
+        ensures calm { CountsNoOther result (folder_of self.old) (folder_of self.new) }
 
         // It meets a fault exactly where it is planned to.
         ensures exact { is_fault result ≡ refuses_next self.old }

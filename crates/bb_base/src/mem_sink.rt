@@ -38,7 +38,8 @@ impl Model for MemSink {
 impl MemSink {
     /// An output that takes up to `room` bytes, for which memory is taken at once.
     pub fn with_room(alloc: Global, room: u32) -> Result<MemSink, NoMemory>
-        ensures { IfOk result (λ s. s ≡ record { sent = []; room = room; planned = []; writes = 0; faults = 0 }) }
+        ensures { IfOk result (λ s. s
+            ≡ record { sent = []; room = room; planned = []; writes = 0; faults = 0 }) }
     {
         Ok(MemSink {
             sent: Vec::with_capacity(alloc, room as usize)?,
@@ -51,7 +52,8 @@ impl MemSink {
 
     /// Plans that the write with this number, counted from 0, sends nothing and fails.
     pub fn fail_call(&mut self, call: u32) -> Result<(), NoMemory>
-        ensures ok { OnOk result (self.new ≡ record self.old { planned = self.old.planned ++ call ∷ [] }) }
+        ensures ok { OnOk result (self.new
+            ≡ record self.old { planned = self.old.planned ++ call ∷ [] }) }
         ensures err { OnErr result (self.new ≡ self.old) }
     {
         self.planned.push(call)?;
@@ -59,7 +61,7 @@ impl MemSink {
     }
 
     /// All that was sent.
-    pub fn sent(&self) -> &[u8]
+    pub fn sent_bytes(&self) -> &[u8]
         ensures { result.now ≡ self.now.sent }
     {
         self.sent.as_slice()
@@ -78,7 +80,8 @@ impl Sink for MemSink {
 
     fn write(&mut self, piece: &[u8]) -> Result<(), Failed>
         ensures sent { OnOk result (Sends piece.now (outlet_of self.old) (outlet_of self.new)) }
-        ensures front { OnErr result (SendsFront piece.now (outlet_of self.old) (outlet_of self.new)) }
+        ensures front { OnErr result
+            (SendsFront piece.now (outlet_of self.old) (outlet_of self.new)) }
         ensures cause { HasCause self.old.faults self.new.faults (IsErr result) }
 
         // It fails exactly where it is planned to or the piece doesn't fit, and then sends nothing.

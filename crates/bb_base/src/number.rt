@@ -1,5 +1,5 @@
-ghost use Rattle.std.specs.Prelude.{◌≡◌, ◌*◌, ◌≤◌, ◌^◌, ◌↔◌, false, IsTrue};
-ghost use Rattle.bb_base.specs.Number.{is_spelt, number_of, numeral_value, spelt_number};
+ghost use Rattle.std.specs.Prelude.{◌≡◌, ◌≤◌, ◌↔◌, false};
+ghost use Rattle.bb_base.specs.Number.{IsTooLarge, is_spelt, number_of, numeral_value};
 
 use thiserror::Error;
 
@@ -22,7 +22,7 @@ const LIMIT: u64 = 1 << 32;
 pub fn read_number(text: &[u8]) -> Result<u32, NumberError>
     ensures value { result ≡ number_of text.now }
     ensures not_number { (result ≡ Err NumberError.NotNumber) ↔ (is_spelt text.now ≡ false) }
-    ensures too_large { (result ≡ Err NumberError.TooLarge) ↔ (IsTrue (is_spelt text.now) × (2 ^ 32 ≤ spelt_number text.now)) }
+    ensures too_large { (result ≡ Err NumberError.TooLarge) ↔ IsTooLarge text.now }
 {
     match text {
         [b'0', b'x' | b'X', digits @ ..] => read_digits(16, digits),

@@ -18,7 +18,7 @@ fn crc_in_pieces_is_crc_of_all(rt: HostRuntime) {
 }
 
 #[test]
-fn numbers_and_what_spells_none(rt: HostRuntime) {
+fn numbers_are_read(rt: HostRuntime) {
     for (text, want) in [
         ("0", 0),
         ("007", 7),
@@ -28,6 +28,10 @@ fn numbers_and_what_spells_none(rt: HostRuntime) {
         assert_eq!(rt; read_number(text.as_bytes()), Ok(want), "at {text}");
     }
     assert_eq!(rt; read_number(b"4294967295"), Ok(4_294_967_295));
+}
+
+#[test]
+fn what_spells_no_number(rt: HostRuntime) {
     for text in [
         "",
         "0x",
@@ -46,6 +50,10 @@ fn numbers_and_what_spells_none(rt: HostRuntime) {
             "at {text}"
         );
     }
+}
+
+#[test]
+fn numbers_that_are_too_large(rt: HostRuntime) {
     for text in ["4294967296", "0x100000000", "99999999999999999999999999"] {
         assert_eq!(rt;
             read_number(text.as_bytes()),
@@ -80,7 +88,7 @@ fn a_sink_fails_where_it_is_told_to_or_full(rt: HostRuntime) -> Result<(), Fail>
     assert_eq!(rt; sink.write(b"c"), Err(Failed));
     assert_eq!(rt; sink.write(b"cd"), Err(Failed));
     assert_eq!(rt; sink.write(b"c"), Ok(()));
-    assert_eq!(rt; sink.sent(), b"abc".as_slice());
+    assert_eq!(rt; sink.sent_bytes(), b"abc".as_slice());
     Ok(())
 }
 

@@ -4,7 +4,8 @@ use Rattle.std.proofs.Math.Dec.{eqb-suc-zero}
 use Rattle.std.proofs.lemmas.List.{length-map, length-take-le, map-append, take_more}
 use Rattle.std.proofs.lemmas.List.Elements.{filter_map-append}
 use Rattle.std.specs.List.{cons_option, join_with_byte, list_any}
-use Rattle.bb_bls.specs.Entry.{pair_of, seen, values_of}
+use Rattle.bb_bls.specs.Entry.{pair_of, values_of}
+use Rattle.bb_bls.specs.References.{text_pair}
 
 value_of_one : (key k v : List ℕ) → values_of key ((k, v) ∷ []) ≡ cond (bytes_eq k key) (v ∷ []) []
 value_of_one key k v = by (bytes_eq k key) refl
@@ -15,33 +16,33 @@ value_of_one key k v = by (bytes_eq k key) refl
 
 -- one pair more
 pub values_more : (key : List ℕ) (pairs : List (Bor (List ℕ) × Bor (List ℕ))) (i : ℕ) (p : Bor (List ℕ) × Bor (List ℕ)) → i < length pairs
-    → values_of key (map seen (take (i + 1) pairs)) ≡ values_of key (map seen (take i pairs)) ++ cond (bytes_eq (get_or pairs i p).0.now key) ((get_or pairs i p).1.now ∷ []) []
+    → values_of key (map text_pair (take (i + 1) pairs)) ≡ values_of key (map text_pair (take i pairs)) ++ cond (bytes_eq (get_or pairs i p).0.now key) ((get_or pairs i p).1.now ∷ []) []
 values_more key pairs i p inside =
     let q = get_or pairs i p in
-    ap (λ l. values_of key (map seen l)) (take_more pairs i p inside)
-    ∙ ap (values_of key) (map-append seen (take i pairs) (q ∷ []))
-    ∙ filter_map-append (λ p. cond (bytes_eq p.0 key) (Some p.1) None) (map seen (take i pairs)) (seen q ∷ [])
-    ∙ ap (λ l. values_of key (map seen (take i pairs)) ++ l) (value_of_one key q.0.now q.1.now)
+    ap (λ l. values_of key (map text_pair l)) (take_more pairs i p inside)
+    ∙ ap (values_of key) (map-append text_pair (take i pairs) (q ∷ []))
+    ∙ filter_map-append (λ p. cond (bytes_eq p.0 key) (Some p.1) None) (map text_pair (take i pairs)) (text_pair q ∷ [])
+    ∙ ap (λ l. values_of key (map text_pair (take i pairs)) ++ l) (value_of_one key q.0.now q.1.now)
 
 -- a pair of the key adds its value, and no other does
 pub values_pushed : (key : List ℕ) (pairs : List (Bor (List ℕ) × Bor (List ℕ))) (i : ℕ) (d : Bor (List ℕ) × Bor (List ℕ)) (old new : List (Bor (List ℕ)))
     → i < length pairs → bytes_eq (get_or pairs i d).0.now key ≡ true
     → new ≡ old ++ (get_or pairs i d).1 ∷ []
-    → map (λ v. v.now) old ≡ values_of key (map seen (take i pairs))
-    → map (λ v. v.now) new ≡ values_of key (map seen (take (i + 1) pairs))
+    → map (λ v. v.now) old ≡ values_of key (map text_pair (take i pairs))
+    → map (λ v. v.now) new ≡ values_of key (map text_pair (take (i + 1) pairs))
 values_pushed key pairs i d old new inside e pushed h =
     let v = (get_or pairs i d).1 in
     ap (map (λ v. v.now)) pushed ∙ map-append (λ v. v.now) old (v ∷ [])
     ∙ ap (λ l. l ++ v.now ∷ []) h
-    ∙ sym (values_more key pairs i d inside ∙ ap (λ (t : Bool). values_of key (map seen (take i pairs)) ++ cond t (v.now ∷ []) []) e)
+    ∙ sym (values_more key pairs i d inside ∙ ap (λ (t : Bool). values_of key (map text_pair (take i pairs)) ++ cond t (v.now ∷ []) []) e)
 
 pub values_kept : (key : List ℕ) (pairs : List (Bor (List ℕ) × Bor (List ℕ))) (i : ℕ) (d : Bor (List ℕ) × Bor (List ℕ))
     → i < length pairs → bytes_eq (get_or pairs i d).0.now key ≡ false
-    → values_of key (map seen (take (i + 1) pairs)) ≡ values_of key (map seen (take i pairs))
+    → values_of key (map text_pair (take (i + 1) pairs)) ≡ values_of key (map text_pair (take i pairs))
 values_kept key pairs i d inside e =
     values_more key pairs i d inside
-    ∙ ap (λ (t : Bool). values_of key (map seen (take i pairs)) ++ cond t ((get_or pairs i d).1.now ∷ []) []) e
-    ∙ append-nil (values_of key (map seen (take i pairs)))
+    ∙ ap (λ (t : Bool). values_of key (map text_pair (take i pairs)) ++ cond t ((get_or pairs i d).1.now ∷ []) []) e
+    ∙ append-nil (values_of key (map text_pair (take i pairs)))
 
 -- a line more
 pub pairs_more : (lines : List (Bor (List ℕ))) (line : Bor (List ℕ))
@@ -56,16 +57,16 @@ pairs_more lines line =
     one None = refl
 
 pub any_values : (key : List ℕ) (pairs : List (Bor (List ℕ) × Bor (List ℕ)))
-    → list_any (λ p. bytes_eq p.0.now key) pairs ≡ not (length (values_of key (map seen pairs)) == 0)
+    → list_any (λ p. bytes_eq p.0.now key) pairs ≡ not (length (values_of key (map text_pair pairs)) == 0)
 any_values key [] = refl
 any_values key (p ∷ more) = by (bytes_eq p.0.now key) refl (any_values key more)
   where
     rest : List (List ℕ)
-    rest = values_of key (map seen more)
+    rest = values_of key (map text_pair more)
 
     by : (b : Bool) → bytes_eq p.0.now key ≡ b
         → list_any (λ p. bytes_eq p.0.now key) more ≡ not (length rest == 0)
-        → list_any (λ p. bytes_eq p.0.now key) (p ∷ more) ≡ not (length (values_of key (map seen (p ∷ more))) == 0)
+        → list_any (λ p. bytes_eq p.0.now key) (p ∷ more) ≡ not (length (values_of key (map text_pair (p ∷ more))) == 0)
     by true e ih = rw e (sym (ap not (eqb-suc-zero (length rest))))
     by false e ih = rw e ih
 

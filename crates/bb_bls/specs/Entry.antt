@@ -1,14 +1,13 @@
 -- Boot entries: the keys of Type #1 entries of the Boot Loader Specification (UAPI.1), each of
 -- which stands at the front of a line, with its value behind blanks. What is done with blanks, with
 -- repeated keys and with lines that have no value is this project's profile.
-use Rattle.std.specs.Prelude.{◌≡◌, ℕ, ◌-◌, ◌≤◌, ◌==◌, Bool, true, false, ◌||◌, not, List, [], codes, drop, filter_map, length, nat_lt, slice_get, take, take_while, unwrap_or, Option, Some, None, Result, Ok, Err, if◌then◌else◌}
-use Rattle.std.specs.Borrow.{Bor}
+use Rattle.std.specs.Prelude.{◌≡◌, ◌≢◌, ℕ, ◌-◌, ◌≤◌, ◌==◌, Bool, true, false, ◌||◌, not, List, [], codes, drop, filter_map, length, nat_lt, slice_get, take, take_while, unwrap_or, Option, Some, None, Result, Ok, Err, if◌then◌else◌}
 use Rattle.std.specs.List.{join_with_byte, prefix_len, suffix_len}
 use Rattle.std.specs.Str.{bytes_eq, is_utf8}
 use Rattle.std.specs.Str.Lines.{lines}
 use Rattle.bb_bls.specs.declared.entry.Entry.{Entry}
 use Rattle.bb_bls.specs.declared.error.EntryError.{EntryError}
-use Rattle.bb_bls.specs.declared.error.EntryError.TheVariants.{TooLong, NotText, NoLinux}
+use Rattle.bb_bls.specs.declared.error.EntryError.TheVariants.{TooLong, NotText, NoLinux, NoMemory}
 
 -- ---- a line
 
@@ -46,10 +45,6 @@ pair_of line =
 abbrev pub pairs_of : List ℕ → List (List ℕ × List ℕ)
 pairs_of text = filter_map pair_of (lines text)
 
--- what a pair of references refers to
-abbrev pub seen : Bor (List ℕ) × Bor (List ℕ) → List ℕ × List ℕ
-seen p = (p.0.now, p.1.now)
-
 -- the values of a key, in order
 abbrev pub values_of : List ℕ → List (List ℕ × List ℕ) → List (List ℕ)
 values_of key pairs = filter_map (λ p. if bytes_eq p.0 key then Some p.1 else None) pairs
@@ -59,6 +54,7 @@ abbrev pub last_of : List ℕ → List (List ℕ × List ℕ) → List ℕ
 last_of key pairs =
     let values = values_of key pairs in unwrap_or (slice_get values (length values - 1)) []
 
+-- an entry of these keys and values, with a kernel or without, and only with one
 abbrev pub entry_with : List (List ℕ × List ℕ) → Entry
 entry_with pairs = record {
   title = last_of (codes "title") pairs;
@@ -85,6 +81,10 @@ entry_of text =
     if nat_lt 65536 (length text) then Err TooLong
     else if not (is_utf8 text) then Err NotText
     else entry_in (pairs_of text)
+
+-- a text is refused as it is expected, unless memory was refused
+abbrev pub Refuses : {A : Type 0} → Result A EntryError → EntryError → Type 0
+Refuses expected e = e ≢ NoMemory → expected ≡ Err e
 
 -- it has the length that an entry may have, and is UTF-8
 pub record IsShortText (text : List ℕ) : Type 0 where

@@ -1,5 +1,6 @@
-ghost use Rattle.std.specs.Prelude.{◌≡◌, ◌≢◌, ◌<◌, ◌↔◌, ◌⊎◌, [], IfOk, IfErr, IsTrue, codes, length, map, Ok, Err};
-ghost use Rattle.bb_bls.specs.Entry.{IsShortNoText, IsShortText, entry_in, entry_of, entry_with, lacks_linux, pairs_of, seen, values_of};
+ghost use Rattle.std.specs.Prelude.{◌≡◌, ◌<◌, ◌↔◌, ◌⊎◌, [], IfOk, IfErr, IsTrue, codes, length, map, Ok, Err};
+ghost use Rattle.bb_bls.specs.Entry.{IsShortNoText, IsShortText, Refuses, entry_in, entry_of, entry_with, lacks_linux, pairs_of, values_of};
+ghost use Rattle.bb_bls.specs.References.{text_pair};
 
 use crate::EntryError;
 use crate::pairs::{has_key, last_value, pairs_in, values};
@@ -37,7 +38,7 @@ pub struct Entry {
 /// a value are passed over.
 pub fn read_entry(alloc: Global, text: &[u8]) -> Result<Entry, EntryError>
     ensures ok { IfOk result (λ entry. entry_of text.now ≡ Ok entry) }
-    ensures refused { IfErr result (λ e. e ≢ EntryError.NoMemory → entry_of text.now ≡ Err e) }
+    ensures refused { IfErr result (Refuses (entry_of text.now)) }
     ensures too_long { (result ≡ Err EntryError.TooLong) ↔ (65536 < length text.now) }
     ensures not_text { (result ≡ Err EntryError.NotText) ↔ IsShortNoText text.now }
     ensures no_linux { result ≡ Err EntryError.NoLinux
@@ -76,7 +77,7 @@ fn entry_in(alloc: Global, text: &str) -> Result<Entry, EntryError>
 }
 
 fn entry_with(alloc: Global, pairs: &[(&str, &str)]) -> Result<Entry, NoMemory>
-    ensures { IfOk result (λ entry. entry ≡ entry_with (map seen pairs.now)) }
+    ensures { IfOk result (λ entry. entry ≡ entry_with (map text_pair pairs.now)) }
 {
     Ok(Entry {
         title: last_value(alloc, pairs, "title")?,

@@ -10,6 +10,3 @@ mod values;
 
 pub use entry::{Entry, read_entry};
 pub use error::EntryError;
-
-#[cfg(test)]
-mod tests;

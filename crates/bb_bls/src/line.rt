@@ -1,11 +1,12 @@
 ghost use Rattle.std.specs.Prelude.{◌≡◌, not};
 ghost use Rattle.std.specs.List.{prefix_len};
 ghost use Rattle.std.specs.Option.{option_map};
-ghost use Rattle.bb_bls.specs.Entry.{is_blank, pair_of, seen, text_before_blanks, text_behind_blanks};
+ghost use Rattle.bb_bls.specs.Entry.{is_blank, pair_of, text_before_blanks, text_behind_blanks};
+ghost use Rattle.bb_bls.specs.References.{text_pair};
 
 /// The key and the value of a line that has both.
 pub(crate) fn key_and_value(line: &str) -> Option<(&str, &str)>
-    ensures { option_map seen result ≡ pair_of line.now }
+    ensures { option_map text_pair result ≡ pair_of line.now }
 {
     let text = trim_blanks_end(trim_blanks_start(line));
     let (key, rest) = text.split_at(key_len(text));

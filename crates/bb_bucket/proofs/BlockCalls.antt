@@ -14,19 +14,19 @@ use Rattle.bb_bucket.specs.Blocks.{blank_block}
 use Rattle.bb_bucket.specs.BlockLaws.{HasBlock, block_lies_on}
 use Rattle.bb_bucket.specs.Calls.{EachCall, IsVoidCall, IsWriteCall, Leaves}
 use Rattle.bb_bucket.specs.Front.{first_bytes, put_at}
-use Rattle.bb_bucket.specs.Kind.{IsBegun, Kind, part_of}
+use Rattle.bb_bucket.specs.Kind.{BucketKind, IsBegun, part_of}
 use Rattle.bb_bucket.proofs.Erases.{part_erased}
 use Rattle.bb_bucket.proofs.OneCall.{one_call}
 use Rattle.bb_bucket.proofs.Programs.{part_programmed}
 use Rattle.bb_bucket.proofs.Runs.{calls_joined, leaves_of}
 
 -- a write of a kind may touch the whole region, and its first `len` bytes
-pub record NamesBoth (kind : Kind) (page : ℕ) (rec : List ℕ) (len : ℕ) (image : Image) : Type 0 where
+pub record NamesBoth (kind : BucketKind) (page : ℕ) (rec : List ℕ) (len : ℕ) (image : Image) : Type 0 where
   pub whole : Contains (kind.write_ranges rec (part_of page kind.region image)) kind.region
   pub first : Contains (kind.write_ranges rec (part_of page kind.region image)) (first_bytes kind.region len)
 
 -- the block of a kind
-abbrev pub kind_block : Kind → ℕ → Block
+abbrev pub kind_block : BucketKind → ℕ → Block
 kind_block kind page = record { region = kind.region; page = page }
 
 pub content_of : (told : Option Told) (first : Told) → told ≡ Some first → option_map (λ (t : Told). t.image) told ≡ Some first.image
@@ -42,7 +42,7 @@ calls_given S P from to given calls = record {
       calls.each first e last f call change late made (given first.image (content_of from.told first e));
 }
 
-module _ (kind : Kind) (page : ℕ) (none : kind.candidate_of (blank_block page kind.region.size) ≡ None) where
+module _ (kind : BucketKind) (page : ℕ) (none : kind.candidate_of (blank_block page kind.region.size) ≡ None) where
   blank_none : (geometry : Geometry) → HasBlock (kind_block kind page) geometry → kind.candidate_of (blank_block geometry.page kind.region.size) ≡ None
   blank_none geometry held = ap (λ p. kind.candidate_of (blank_block p kind.region.size)) held.page ∙ none
 

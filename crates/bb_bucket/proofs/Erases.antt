@@ -7,10 +7,10 @@ use Rattle.bb_flash.specs.declared.geometry.Geometry.{Geometry}
 use Rattle.bb_flash.specs.declared.health.Health.{Health}
 use Rattle.bb_flash.specs.declared.health.Health.TheVariants.{Fine, Lost}
 use Rattle.bb_flash.specs.declared.region.Region.{Region}
-use Rattle.bb_flash.specs.Calls.{ChangesOnly, erased}
+use Rattle.bb_flash.specs.Calls.{ChangesOnly, told_after_erase}
 use Rattle.bb_flash.specs.Cuts.{EachTorn}
 use Rattle.bb_flash.specs.Device.{Device, IsDevice}
-use Rattle.bb_flash.specs.Image.{Image, IsBlank, IsImageOf, overwritten, page_count, touched_pages, with_bytes, worst_of}
+use Rattle.bb_flash.specs.Image.{Image, IsBlank, IsImageOf, with_items_at, page_count, touched_pages, with_bytes, worst_of}
 use Rattle.bb_flash.proofs.Geometries.{whole_times}
 use Rattle.bb_bucket.specs.declared.block.Block.{Block}
 use Rattle.bb_bucket.specs.Blocks.{blank_block}
@@ -24,7 +24,7 @@ use Rattle.bb_bucket.proofs.Programs.{after_is, image_before, part_programmed, s
 use Rattle.bb_bucket.proofs.Within.{health_of-part, part_size}
 
 -- what was written over as a whole
-overwritten_whole : {X : Type 0} (new old : List X) → length old ≤ length new → overwritten 0 new old ≡ new
+overwritten_whole : {X : Type 0} (new old : List X) → length old ≤ length new → with_items_at 0 new old ≡ new
 overwritten_whole new old all =
     let none = drop_of_length-le old {i = 0 + length new} (omega arith) in
     ap (λ rest. new ++ rest) none ∙ append-nil new
@@ -40,9 +40,9 @@ blanked page size part some whole long pages =
     let count : length fine ≡ size / page = length-replicate {A = Health} (size / page) Fine in
     same_image _ _ _ _
     (overwritten_whole blank part.bytes (omega arith))
-    (ap (λ n. overwritten (0 / page) (replicate (page_count page 0 n) Fine) part.health) len
-    ∙ ap (λ k. overwritten k (replicate (page_count page 0 size) Fine) part.health) (zero-div page)
-    ∙ ap (λ k. overwritten 0 (replicate k Fine) part.health) (page_count_whole page 0 size some (zero-mod page) whole)
+    (ap (λ n. with_items_at (0 / page) (replicate (page_count page 0 n) Fine) part.health) len
+    ∙ ap (λ k. with_items_at k (replicate (page_count page 0 size) Fine) part.health) (zero-div page)
+    ∙ ap (λ k. with_items_at 0 (replicate k Fine) part.health) (page_count_whole page 0 size some (zero-mod page) whole)
     ∙ overwritten_whole fine part.health (omega arith))
 
 health_size :
@@ -105,7 +105,7 @@ module _ (block : Block) where
       (from to : Device) →
       HasBlock block from.geometry → IsDevice to → to.geometry ≡ from.geometry →
       ChangesOnly block.region.at (replicate block.region.size 255) from to →
-      to.told ≡ option_map (erased from.geometry (block.region.at / block.region.size)) from.told →
+      to.told ≡ option_map (told_after_erase from.geometry (block.region.at / block.region.size)) from.told →
       Leaves block.region (λ part. blank_block from.geometry.page block.region.size) from to
   leaves_blank from to held whole same changes told = record {
     there = λ before e after f.
@@ -114,7 +114,7 @@ module _ (block : Block) where
         let some : 0 < page = omega (arith, held.page, held.page_least) in
         let image = image_before block.region.at (replicate block.region.size 255) from to before after same whole changes e f in
         let is =
-        after_is (erased from.geometry number)
+        after_is (told_after_erase from.geometry number)
         (λ i. with_bytes page (number * from.geometry.block) (replicate from.geometry.block 255) Fine i)
         from.told to.told before after (λ told. refl) told e f in
         let there =
@@ -137,8 +137,10 @@ module _ (block : Block) where
   pub erase_torn :
       (from to : Device) →
       HasBlock block from.geometry →
-      EachTorn (block.region.at / block.region.size * from.geometry.block) from.geometry.block from to →
+      EachTorn (block.region.at / block.region.size * from.geometry.block) (length {A = ℕ} (replicate from.geometry.block 255)) from to →
       EachTorn block.region.at block.region.size from to
   erase_torn from to held torn =
-      subst (λ n. EachTorn block.region.at n from to) held.size
-      (subst (λ at. EachTorn at from.geometry.block from to) (place_of_block from.geometry held) torn)
+      let len : ℕ = length {A = ℕ} (replicate from.geometry.block 255) in
+      let all : len ≡ block.region.size = length-replicate {A = ℕ} from.geometry.block 255 ∙ held.size in
+      subst (λ n. EachTorn block.region.at n from to) all
+      (subst (λ at. EachTorn at len from to) (place_of_block from.geometry held) torn)

@@ -6,10 +6,10 @@ use Rattle.bb_flash.specs.declared.geometry.Geometry.{Geometry}
 use Rattle.bb_flash.specs.declared.health.Health.{Health}
 use Rattle.bb_flash.specs.declared.health.Health.TheVariants.{Fine}
 use Rattle.bb_flash.specs.declared.region.Region.{Region}
-use Rattle.bb_flash.specs.Calls.{ChangesOnly, IsTornBy, IsUntouched, programmed}
+use Rattle.bb_flash.specs.Calls.{ChangesOnly, IsTornBy, IsUntouched, told_after_program}
 use Rattle.bb_flash.specs.Cuts.{EachTorn}
 use Rattle.bb_flash.specs.Device.{Device, IsDevice, Told}
-use Rattle.bb_flash.specs.Image.{Image, IsImageOf, Torn, overwritten, page_count, touched_pages, with_bytes}
+use Rattle.bb_flash.specs.Image.{Image, IsImageOf, Torn, with_items_at, page_count, touched_pages, with_bytes}
 use Rattle.bb_flash.proofs.Geometries.{whole_times}
 use Rattle.bb_flash.proofs.Moments.{images_weaker}
 use Rattle.bb_flash.proofs.Regions.{Torn-wider}
@@ -24,8 +24,8 @@ use Rattle.bb_bucket.proofs.Pages.{div_moved, page_count_moved, touched_region}
 pub overwritten_part :
     {X : Type 0} (first size at : ℕ) (new old : List X) →
     at + length new ≤ size → first + at ≤ length old →
-    take size (drop first (overwritten (first + at) new old))
-    ≡ overwritten at new (take size (drop first old))
+    take size (drop first (with_items_at (first + at) new old))
+    ≡ with_items_at at new (take size (drop first old))
 overwritten_part first size at new old fits reached =
     let n : ℕ = length new in
     let part = drop first old in
@@ -55,8 +55,8 @@ same_image a b h k p q = ap (λ (bytes : List ℕ). (let x : Image = record { by
 health_part :
     (page first size at n : ℕ) (pages : List Health) →
     0 < page → first % page ≡ 0 → size % page ≡ 0 → at + n ≤ size → first + size ≤ length pages * page →
-    touched_pages page first size (overwritten ((first + at) / page) (replicate (page_count page (first + at) n) Fine) pages)
-    ≡ overwritten (at / page) (replicate (page_count page at n) Fine) (touched_pages page first size pages)
+    touched_pages page first size (with_items_at ((first + at) / page) (replicate (page_count page (first + at) n) Fine) pages)
+    ≡ with_items_at (at / page) (replicate (page_count page at n) Fine) (touched_pages page first size pages)
 health_part page first size at n pages some aligned whole fits inside =
     let written : List Health = replicate (page_count page at n) Fine in
     let count : length written ≡ page_count page at n = length-replicate {A = Health} (page_count page at n) Fine in
@@ -64,11 +64,11 @@ health_part page first size at n pages some aligned whole fits inside =
     let within = pages_inside page (size / page) at n some (omega arith) in
     let all = pages_inside page (length pages) first (at + n) some (omega arith) in
     let reached : first / page + at / page ≤ length pages = omega (arith, div_moved page first at some aligned, pages_inside page (length pages) (first + at) n some (omega arith)) in
-    touched_region page first size (overwritten ((first + at) / page) (replicate (page_count page (first + at) n) Fine) pages) some aligned whole
-    ∙ ap (λ k. take (size / page) (drop (first / page) (overwritten k (replicate (page_count page (first + at) n) Fine) pages))) (div_moved page first at some aligned)
-    ∙ ap (λ k. take (size / page) (drop (first / page) (overwritten (first / page + at / page) (replicate k Fine) pages))) (page_count_moved page first at n some aligned)
+    touched_region page first size (with_items_at ((first + at) / page) (replicate (page_count page (first + at) n) Fine) pages) some aligned whole
+    ∙ ap (λ k. take (size / page) (drop (first / page) (with_items_at k (replicate (page_count page (first + at) n) Fine) pages))) (div_moved page first at some aligned)
+    ∙ ap (λ k. take (size / page) (drop (first / page) (with_items_at (first / page + at / page) (replicate k Fine) pages))) (page_count_moved page first at n some aligned)
     ∙ overwritten_part (first / page) (size / page) (at / page) written pages (omega arith) reached
-    ∙ ap (overwritten (at / page) written) (sym (touched_region page first size pages some aligned whole))
+    ∙ ap (with_items_at (at / page) written) (sym (touched_region page first size pages some aligned whole))
 
 -- what stands in a region once bytes were programmed over some of it
 pub part_programmed :
@@ -129,14 +129,14 @@ pub leaves_program :
     LiesOn from.geometry region → at + length bytes ≤ region.size → IsDevice to →
     to.geometry ≡ from.geometry →
     ChangesOnly (region.at + at) bytes from to →
-    to.told ≡ option_map (programmed from.geometry.page (region.at + at) bytes) from.told →
+    to.told ≡ option_map (told_after_program from.geometry.page (region.at + at) bytes) from.told →
     Leaves region (put_at from.geometry.page at bytes) from to
 leaves_program region at bytes from to lies fits whole same changes told = record {
   there = λ before e after f.
       let page : ℕ = from.geometry.page in
       let some : 0 < page = omega (arith, whole.geometry.page_some, ap (λ (g : Geometry). g.page) same) in
       let image = image_before (region.at + at) bytes from to before after same whole changes e f in
-      let is = after_is (programmed page (region.at + at) bytes) (λ i. with_bytes page (region.at + at) bytes Fine i) from.told to.told before after (λ told. refl) told e f in
+      let is = after_is (told_after_program page (region.at + at) bytes) (λ i. with_bytes page (region.at + at) bytes Fine i) from.told to.told before after (λ told. refl) told e f in
       ap (part_of page region) is
       ∙ part_programmed region from.geometry at bytes before some lies fits image;
 }

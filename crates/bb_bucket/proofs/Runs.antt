@@ -11,8 +11,9 @@ use Rattle.bb_flash.specs.Calls.{IsUntouched}
 use Rattle.bb_flash.specs.Cuts.{EachTorn, IsLater}
 use Rattle.bb_flash.specs.Device.{Change, Device, Told, content, erases, moment}
 use Rattle.bb_flash.specs.Image.{Image, Torn}
+use Rattle.bb_flash.proofs.Moments.{later_joined, torn_joined}
 use Rattle.bb_flash.proofs.Tearing.{Torn-refl}
-use Rattle.bb_bucket.specs.Calls.{EachCall, EndsTorn, ErasesWhere, IsTornLast, Leaves, but_reads, erases_after, told_but_reads}
+use Rattle.bb_bucket.specs.Calls.{ChangesWithin, EachCall, EndsTorn, ErasesWhere, IsQuiet, IsTornLast, Leaves, but_reads, erases_after, told_but_reads}
 use Rattle.bb_bucket.specs.Kind.{part_of}
 
 some_of : {T : Type 0} (o : Option T) → is_some o ≡ true → (x : T) × (o ≡ Some x)
@@ -253,4 +254,30 @@ erases_after_quiet region f one two three h held same run = record {
       ap (λ (geometry : Geometry). option_map (erases_after geometry region (f (part_of geometry.page region before))) (erases two)) h.geometry
       ∙ ap (option_map (erases_after one.geometry region (f (part_of one.geometry.page region before)))) (quiet_erases one two same) in
       after ∙ here;
+}
+
+-- ---- runs that change a region alone
+
+pub within_joined :
+    (region : Region) (one two three : Device) →
+    ChangesWithin region one two → ChangesWithin region two three → ChangesWithin region one three
+within_joined region one two three h k = record {
+  ends = ends_joined one two three h.later h.ends k.ends;
+  images = torn_joined region.at region.size one two three h.later k.later h.images k.images;
+  later = later_joined one two three h.later k.later;
+  starts = record {
+    starts = k.starts.starts ∙ h.starts.starts;
+    start_faults = k.starts.start_faults ∙ h.starts.start_faults;
+  };
+  whole = k.whole;
+}
+
+-- one that only reads changes nothing at all
+pub within_of_quiet : (region : Region) (from to : Device) → IsQuiet from to → ChangesWithin region from to
+within_of_quiet region from to quiet = record {
+  ends = quiet_ends from to quiet.told;
+  images = quiet_torn region.at region.size from to quiet.told;
+  later = quiet.later;
+  starts = quiet.starts;
+  whole = quiet.whole;
 }

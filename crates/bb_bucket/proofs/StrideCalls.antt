@@ -13,7 +13,7 @@ use Rattle.bb_bucket.specs.Front.{entry_of, first_bytes, put_at}
 use Rattle.bb_bucket.specs.FrontLaws.{written_begins}
 use Rattle.bb_bucket.specs.Kind.{IsBegun, part_of}
 use Rattle.bb_bucket.specs.Stride.{begun_with, stride_candidate, stride_kind}
-use Rattle.bb_bucket.specs.StrideLaws.{IsHeld, lies_on}
+use Rattle.bb_bucket.specs.StrideLaws.{IsHeld, stride_lies_on}
 use Rattle.bb_bucket.proofs.OneCall.{one_call}
 use Rattle.bb_bucket.proofs.Programs.{part_programmed}
 
@@ -29,7 +29,7 @@ stride_programmed :
 stride_programmed stride geometry bytes image held fits whole =
     let start : stride.at ≡ stride.at + 0 = omega arith in
     ap (λ at. part_of geometry.page stride (with_bytes geometry.page at bytes Fine image)) start
-    ∙ part_programmed stride geometry 0 bytes image (omega (arith, held.page)) (lies_on stride geometry held) (omega (arith, fits)) whole
+    ∙ part_programmed stride geometry 0 bytes image (omega (arith, held.page)) (stride_lies_on stride geometry held) (omega (arith, fits)) whole
     ∙ ap (λ page. put_at page 0 bytes (part_of geometry.page stride image)) held.page
 
 pub write_call :

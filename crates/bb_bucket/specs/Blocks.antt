@@ -1,5 +1,5 @@
--- A block: a region on a device that is erased in blocks, and one of them. It is programmed in whole
--- pages, each once between two erases.
+-- A block: a region on a device that is erased in blocks, and one of them. It is programmed in
+-- whole pages, each once between two erases.
 use Rattle.std.specs.Prelude.{◌≡◌, ℕ, ◌+◌, ◌-◌, ◌*◌, ◌/◌, ◌≤◌, ◌%◌, ◌==◌, Bool, ◌&&◌, nat_le, List, ◌++◌, length, replicate}
 use Rattle.std.specs.Int.{div_ceil}
 use Rattle.bb_flash.specs.declared.geometry.Geometry.{Geometry}
@@ -18,7 +18,8 @@ abbrev pub is_block_of : Block → Geometry → Bool
 is_block_of block geometry =
     is_paged block
     && ((geometry.page == block.page && geometry.block == block.region.size)
-    && (nat_le (block.region.at + block.region.size) geometry.size && nat_le geometry.size 268435456))
+    && (nat_le (block.region.at + block.region.size) geometry.size
+    && nat_le geometry.size 268435456))
 
 -- what every bucket over a block keeps: a region of whole pages, and as many bytes of memory
 pub record IsBlockBucket (block : Block) (bytes : List ℕ) : Type 0 where
@@ -35,6 +36,7 @@ blank_block page size = record {
   health = replicate (size / page) Fine;
 }
 
+-- the same of a block
 abbrev pub blank_of : Block → Image
 blank_of block = blank_block block.page block.region.size
 

@@ -5,9 +5,10 @@ use Rattle.bb_flash.specs.declared.geometry.Geometry.{Geometry}
 use Rattle.bb_flash.specs.declared.region.Region.{Region}
 use Rattle.bb_flash.specs.Calls.{IsUntouched}
 use Rattle.bb_flash.specs.Image.{Image, Torn}
-use Rattle.bb_flash.specs.Device.{Change, Device, Told, content, erases, moment}
+use Rattle.bb_flash.specs.Cuts.{EachTorn, IsLater}
+use Rattle.bb_flash.specs.Device.{Change, Device, IsDevice, LeavesStarts, Told, content, erases, moment}
 use Rattle.bb_bucket.specs.declared.bucket.Found.{Found}
-use Rattle.bb_bucket.specs.Kind.{Holding, IsBegun, Kind, part_of}
+use Rattle.bb_bucket.specs.Kind.{BucketKind, Holding, IsBegun, part_of}
 
 -- the bucket keeps of its region what stands there, where the device tells it
 pub record Agrees (holding : Holding) (device : Device) : Type 0 where
@@ -24,16 +25,25 @@ pub record IsFoundAs
   pub worn : found.worn ≡ is_worn
 
 -- it found the candidate of a region
-abbrev pub IsFound : Kind → Image → List ℕ → Found → Type 0
+abbrev pub IsFound : BucketKind → Image → List ℕ → Found → Type 0
 IsFound kind region out found =
     IsFoundAs (kind.candidate_of region) (kind.is_worn region) out found
 
--- all that a device tells, but for its number of reads
+-- all that is told, but for the number of reads
 abbrev pub but_reads : Told → Told
 but_reads told = record told { reads = 0 }
 
+-- the same, where it tells anything
 abbrev pub told_but_reads : Device → Option Told
 told_but_reads device = option_map but_reads device.told
+
+-- calls that only read, whatever they answered: nothing changes but the number of reads, and the
+-- counts of calls that failed
+pub record IsQuiet (from to : Device) : Type 0 where
+  pub told : told_but_reads to ≡ told_but_reads from
+  pub later : IsLater from to
+  pub starts : LeavesStarts from to
+  pub whole : IsDevice to
 
 -- the region is afterwards what f makes of it
 pub record Leaves (region : Region) (f : Image → Image) (from to : Device) : Type 0 where
@@ -72,6 +82,16 @@ pub record EndsTorn (from to : Device) : Type 0 where
       ForSome to.told
       (λ last. IsUntouched first last ⊎ IsTornLast from.geometry.page first last))
 
+-- calls that change a region alone, whatever they answered: the device holds at their end what it
+-- held, or what is torn from the last of them, no cut leaves more than the region torn, and no
+-- system was started
+pub record ChangesWithin (region : Region) (from to : Device) : Type 0 where
+  pub ends : EndsTorn from to
+  pub images : EachTorn region.at region.size from to
+  pub later : IsLater from to
+  pub starts : LeavesStarts from to
+  pub whole : IsDevice to
+
 -- a call touches the region alone
 pub record IsWithin (region : Region) (change : Change) : Type 0 where
   pub low : region.at ≤ change.at
@@ -82,17 +102,17 @@ abbrev pub range_of : Change → Region
 range_of change = record { at = change.at; size = change.len }
 
 -- the candidate in an image of a device
-abbrev pub candidate_in : Kind → ℕ → Image → Option (List ℕ)
+abbrev pub candidate_in : BucketKind → ℕ → Image → Option (List ℕ)
 candidate_in kind page image = kind.candidate_of (part_of page kind.region image)
 
 -- the candidate of an image is that of the image before, or none
-abbrev pub IsOldOrNone : Kind → ℕ → Image → Image → Type 0
+abbrev pub IsOldOrNone : BucketKind → ℕ → Image → Image → Type 0
 IsOldOrNone kind page before image =
     (candidate_in kind page image ≡ candidate_in kind page before)
     ⊎ (candidate_in kind page image ≡ None)
 
 -- it is that of the image before, none, or one that begins with the record
-abbrev pub IsOldOrBegun : Kind → ℕ → List ℕ → Image → Image → Type 0
+abbrev pub IsOldOrBegun : BucketKind → ℕ → List ℕ → Image → Image → Type 0
 IsOldOrBegun kind page rec before image =
     IsOldOrNone kind page before image ⊎ IsBegun rec (candidate_in kind page image)
 
@@ -100,14 +120,15 @@ IsOldOrBegun kind page rec before image =
 -- What it began from, and what it leaves where it answers Ok, have the old candidate, none, or one
 -- that begins with the record.
 pub record IsWriteCall
-    (kind : Kind) (page : ℕ) (rec : List ℕ) (before : Image) (change : Change) : Type 0 where
+    (kind : BucketKind) (page : ℕ) (rec : List ℕ) (before : Image) (change : Change) : Type 0 where
   pub within : IsWithin kind.region change
   pub range : Contains (kind.write_ranges rec (part_of page kind.region before)) (range_of change)
   pub begins : IsOldOrBegun kind page rec before change.before
   pub leaves : IsOldOrBegun kind page rec before change.after
 
 -- A flash call of a void: the same, but no record comes.
-pub record IsVoidCall (kind : Kind) (page : ℕ) (before : Image) (change : Change) : Type 0 where
+pub record IsVoidCall
+    (kind : BucketKind) (page : ℕ) (before : Image) (change : Change) : Type 0 where
   pub within : IsWithin kind.region change
   pub range : Contains kind.void_ranges (range_of change)
   pub begins : IsOldOrNone kind page before change.before

@@ -10,6 +10,11 @@ use Rattle.bb_flash.specs.declared.region.Region.{Region}
 use Rattle.bb_flash.specs.Image.{Image, health_of, with_bytes}
 use Rattle.bb_bucket.specs.declared.bucket.Found.{Found}
 
+-- how many bytes a front has
+abbrev pub front_len : ℕ
+front_len = 8
+
+-- a page is Lost, or Worn
 abbrev pub is_lost : Health → Bool
 is_lost Lost = true
 is_lost other = false
@@ -26,9 +31,11 @@ pub record IsPart (page : ℕ) (region : Image) (size at : ℕ) (out : List ℕ)
   pub health_is : health ≡ health_of page region at (length out)
   pub exact : health ≢ Lost → out ≡ take (length out) (drop at region.bytes)
 
--- the 8 bytes in front begin with the magic word, and give a length that the region holds
+-- the bytes in front begin with the magic word, and give a length that the region holds
 abbrev pub has_front : ℕ → List ℕ → Bool
-has_front size front = little_number 4 front == 0x2354fdf3 && nat_le (8 + little_number 4 (drop 4 front)) size
+has_front size front =
+    little_number 4 front == 0x2354fdf3
+    && nat_le (front_len + little_number 4 (drop 4 front)) size
 
 -- the record's length, as the front says
 abbrev pub len_of : List ℕ → ℕ
@@ -36,16 +43,19 @@ len_of front = little_number 4 (drop 4 front)
 
 -- how the pages are in which the bytes stand that the front says are the record
 abbrev pub record_health : ℕ → Image → Health
-record_health page region = health_of page region 8 (len_of (take 8 region.bytes))
+record_health page region =
+    health_of page region front_len (len_of (take front_len region.bytes))
 
 -- The bytes that stand behind a front as its record, if any do. Bytes in a Lost page don't.
 abbrev pub front_candidate : ℕ → Image → Option (List ℕ)
 front_candidate page region =
-    if not (is_lost (health_of page region 0 8)) && has_front (length region.bytes) (take 8 region.bytes)
+    if not (is_lost (health_of page region 0 front_len))
+    && has_front (length region.bytes) (take front_len region.bytes)
     && not (is_lost (record_health page region))
-    then Some (take (len_of (take 8 region.bytes)) (drop 8 region.bytes))
+    then Some (take (len_of (take front_len region.bytes)) (drop front_len region.bytes))
     else None
 
+-- whether one of their pages is Worn
 abbrev pub front_is_worn : ℕ → Image → Bool
 front_is_worn page region =
     is_some (front_candidate page region) && is_worn (record_health page region)

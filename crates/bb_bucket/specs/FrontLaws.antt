@@ -8,7 +8,7 @@ use Rattle.std.proofs.lemmas.List.{append-nil}
 use Rattle.byteorder.specs.Numbers.{little_number-reads_back}
 use Rattle.bb_flash.specs.declared.health.Health.{Health}
 use Rattle.bb_flash.specs.declared.health.Health.TheVariants.{Fine}
-use Rattle.bb_flash.specs.Image.{Image, health_of, overwritten, page_count, touched_pages, worst_of}
+use Rattle.bb_flash.specs.Image.{Image, health_of, with_items_at, page_count, touched_pages, worst_of}
 use Rattle.bb_flash.proofs.Tearing.{pages_inside, touched_pages-some}
 use Rattle.bb_bucket.specs.Blocks.{blank_block}
 use Rattle.bb_bucket.specs.Front.{entry_of, front_candidate, has_front, is_lost, len_of, put_at, record_health}
@@ -43,7 +43,7 @@ written_fine page bytes region at n some fits =
     let pages : List Health = replicate count Fine in
     let whole = div_ceil_times (0 + length bytes) page some in
     let all : at + n ≤ count * page = grind (arith, zero-div page) in
-    ap (λ first. worst_of (touched_pages page at n (overwritten first pages region.health)))
+    ap (λ first. worst_of (touched_pages page at n (with_items_at first pages region.health)))
     (zero-div page)
     ∙ fine_range page at n count (drop (0 + length pages) region.health) some all
 
@@ -69,16 +69,22 @@ taken_back rec filling others = grind (arith, common_steps)
 written_front :
     (rec filling others : List ℕ) →
     length rec < 2 ^ 32 →
-    has_front (length (entry_of rec ++ filling ++ others)) (take 8 (entry_of rec ++ filling ++ others))
+    has_front (length (entry_of rec ++ filling ++ others))
+    (take 8 (entry_of rec ++ filling ++ others))
     ≡ true
 written_front rec filling others small =
     let bytes : List ℕ = entry_of rec ++ filling ++ others in
-    let len : len_of (take 8 bytes) ≡ length rec = little_number-reads_back 4 (length rec) [] small in
+    let len : len_of (take 8 bytes) ≡ length rec =
+    little_number-reads_back 4 (length rec) [] small in
     le-leb (8 + len_of (take 8 bytes)) (length bytes)
-    (omega (arith, length-append (entry_of rec ++ filling) others, length-append (entry_of rec) filling))
+    (omega (
+      arith,
+      length-append (entry_of rec ++ filling) others,
+      length-append (entry_of rec) filling,
+    ))
 
--- a region that was written with a record and perhaps filled has it as its candidate, whatever stood
--- there
+-- a region that was written with a record and perhaps filled has it as its candidate, whatever
+-- stood there
 filled_candidate :
     (page : ℕ) (rec filling : List ℕ) (region : Image) →
     0 < page → length rec < 2 ^ 32 →
@@ -88,10 +94,13 @@ filled_candidate page rec filling region some small =
     let after : Image = put_at page 0 bytes region in
     let others : List ℕ = drop (0 + length bytes) region.bytes in
     let room = length-append (entry_of rec) filling in
-    let len : len_of (take 8 after.bytes) ≡ length rec = little_number-reads_back 4 (length rec) [] small in
+    let len : len_of (take 8 after.bytes) ≡ length rec =
+    little_number-reads_back 4 (length rec) [] small in
     let front = written_fine page bytes region 0 8 some (omega arith) in
-    let behind = written_fine page bytes region 8 (len_of (take 8 after.bytes)) some (omega arith) in
-    three_hold (not (is_lost (health_of page after 0 8))) (has_front (length after.bytes) (take 8 after.bytes))
+    let behind = written_fine page bytes region 8 (len_of (take 8 after.bytes)) some
+    (omega arith) in
+    three_hold (not (is_lost (health_of page after 0 8)))
+    (has_front (length after.bytes) (take 8 after.bytes))
     (not (is_lost (record_health page after))) _ None (ap (λ h. not (is_lost h)) front)
     (written_front rec filling others small) (ap (λ h. not (is_lost h)) behind)
     ∙ ap (λ n. Some (take n (rec ++ filling ++ others))) len
@@ -117,7 +126,8 @@ written_begins page rec filling bytes region some small is = record {
       ∙ ap (λ bytes. Some bytes) (sym (append-nil rec));
 }
 
-blank_has_none : (size : ℕ) → has_front (length {A = ℕ} (replicate size 255)) (take 8 (replicate size 255)) ≡ false
+blank_has_none : (size : ℕ) →
+    has_front (length {A = ℕ} (replicate size 255)) (take 8 (replicate size 255)) ≡ false
 blank_has_none zero = refl
 blank_has_none (suc zero) = refl
 blank_has_none (suc (suc zero)) = refl
@@ -125,8 +135,10 @@ blank_has_none (suc (suc (suc zero))) = refl
 blank_has_none (suc (suc (suc (suc size)))) = refl
 
 -- a blank block holds no record
-pub blank_holds_none : (page blank_page size : ℕ) → front_candidate page (blank_block blank_page size) ≡ None
+pub blank_holds_none : (page blank_page size : ℕ) →
+    front_candidate page (blank_block blank_page size) ≡ None
 blank_holds_none page blank_page size =
     let block : Image = blank_block blank_page size in
-    second_fails (not (is_lost (health_of page block 0 8))) (has_front (length block.bytes) (take 8 block.bytes))
+    second_fails (not (is_lost (health_of page block 0 8)))
+    (has_front (length block.bytes) (take 8 block.bytes))
     (not (is_lost (record_health page block))) _ None (blank_has_none size)

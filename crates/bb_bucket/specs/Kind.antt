@@ -12,7 +12,7 @@ part_of page region image = record {
 }
 
 -- what stays the same for a bucket's whole life
-pub record Kind : Type 0 where
+pub record BucketKind : Type 0 where
   -- where it stands, and how long a record may be
   pub region : Region
   pub room : ℕ
@@ -31,12 +31,13 @@ pub record Kind : Type 0 where
   pub write_erases : List ℕ → Image → Bool
   pub void_erases : Bool
 
+-- what a bucket means at one moment
 pub record Holding : Type 0 where
-  pub kind : Kind
+  pub kind : BucketKind
   -- what it keeps of its region, if anything, is what stands there
   pub agrees : Image → Bool
   -- it knows where a record goes without a look at the device
-  pub placed : Bool
+  pub knows_place : Bool
 
 -- a record begins what stands in a region
 pub record IsBegun (rec : List ℕ) (candidate : Option (List ℕ)) : Type 0 where
@@ -51,7 +52,7 @@ pub record LiesOn (geometry : Geometry) (region : Region) : Type 0 where
 
 -- a record that was written to a bucket is its candidate, or begins it, whatever the device held
 -- before
-abbrev pub KeepsRecords : Kind → Geometry → Type 0
+abbrev pub KeepsRecords : BucketKind → Geometry → Type 0
 KeepsRecords kind geometry =
     (rec : List ℕ) (image : Image) →
     length rec ≤ kind.room →
@@ -59,7 +60,7 @@ KeepsRecords kind geometry =
     IsBegun rec (kind.candidate_of (kind.after_write rec (part_of geometry.page kind.region image)))
 
 -- what holds of every kind
-pub record IsKind (kind : Kind) : Type 0 where
+pub record IsKind (kind : BucketKind) : Type 0 where
   -- it stands on each device that it serves, and keeps what is written there
   pub lies : (geometry : Geometry) → IsTrue (kind.serves geometry) → LiesOn geometry kind.region
   pub written : (geometry : Geometry) → IsTrue (kind.serves geometry) → KeepsRecords kind geometry

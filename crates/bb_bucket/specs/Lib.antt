@@ -1,15 +1,16 @@
--- Definitions that contracts cite.
+-- Definitions that contracts cite. These a reader has to believe.
 pub use Rattle.bb_base.specs.Faults
 pub use Rattle.bb_flash.specs.Cuts
 pub use Rattle.bb_flash.specs.Device
 pub use Rattle.bb_flash.specs.Image
-pub mod BlockLaws
 pub mod Blocks
 pub mod Calls
 pub mod Front
-pub mod FrontLaws
 pub mod Kind
 pub mod OneBlock
-pub mod OneBlockLaws
 pub mod Stride
+-- Inside: what follows of them, of which the laws of the buckets are made.
+pub mod BlockLaws
+pub mod FrontLaws
+pub mod OneBlockLaws
 pub mod StrideLaws

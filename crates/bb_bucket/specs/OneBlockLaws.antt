@@ -13,7 +13,8 @@ one_block_laws block = record {
   lies = λ geometry serves. block_lies_on block geometry (block_of block geometry serves);
   written = λ geometry serves rec image fits whole.
       let held = block_of block geometry serves in
-      let filling : List ℕ = replicate (block_entry_len block.page (length rec) - length (entry_of rec)) 255 in
+      let filling : List ℕ =
+      replicate (block_entry_len block.page (length rec) - length (entry_of rec)) 255 in
       written_begins block.page rec filling (block_entry block.page rec) (blank_of block)
       (omega (arith, held.page_least))
       (omega (arith, fits, held.small, held.inside, held.page_least, held.page_most)) refl;

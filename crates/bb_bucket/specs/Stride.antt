@@ -4,25 +4,27 @@ use Rattle.std.specs.Prelude.{◌≡◌, ℕ, ◌+◌, ◌-◌, ◌≤◌, ◌==
 use Rattle.bb_flash.specs.declared.geometry.Geometry.{Geometry}
 use Rattle.bb_flash.specs.declared.region.Region.{Region}
 use Rattle.bb_flash.specs.Image.{Image}
-use Rattle.bb_bucket.specs.Front.{entry_of, first_bytes, front_candidate, front_is_worn, put_at}
-use Rattle.bb_bucket.specs.Kind.{Holding, Kind}
+use Rattle.bb_bucket.specs.Front.{entry_of, first_bytes, front_candidate, front_is_worn, front_len, put_at}
+use Rattle.bb_bucket.specs.Kind.{BucketKind, Holding}
 
 -- a device that is overwritten in place, byte by byte
 abbrev pub is_in_place : Geometry → Bool
 is_in_place geometry = geometry.block == 0 && (geometry.page == 1 && nat_le geometry.size 268435456)
 
-abbrev pub holds : Region → Geometry → Bool
-holds region geometry = is_in_place geometry && nat_le (region.at + region.size) geometry.size
+-- a region lies on such a device
+abbrev pub lies_on : Region → Geometry → Bool
+lies_on region geometry = is_in_place geometry && nat_le (region.at + region.size) geometry.size
 
 -- what every stride keeps: a region with room for a front and a byte, and as many bytes of memory
 pub record IsStride (region : Region) (entry : List ℕ) : Type 0 where
-  pub least : 9 ≤ region.size
+  pub least : front_len + 1 ≤ region.size
   pub memory : length entry ≡ region.size
 
 -- its pages are its bytes
 abbrev pub stride_candidate : Image → Option (List ℕ)
 stride_candidate stride = front_candidate 1 stride
 
+-- whether one of them is Worn
 abbrev pub stride_is_worn : Image → Bool
 stride_is_worn stride = front_is_worn 1 stride
 
@@ -30,21 +32,26 @@ stride_is_worn stride = front_is_worn 1 stride
 abbrev pub begun_with : List ℕ → Image → Image
 begun_with bytes stride = put_at 1 0 bytes stride
 
-abbrev pub stride_kind : Region → Kind
+-- what a stride means
+abbrev pub stride_kind : Region → BucketKind
 stride_kind region = record {
   region = region;
-  room = region.size - 8;
-  serves = holds region;
+  room = region.size - front_len;
+  serves = lies_on region;
   candidate_of = stride_candidate;
   is_worn = stride_is_worn;
   after_write = λ rec stride. begun_with (entry_of rec) stride;
-  after_void = begun_with (replicate 8 0);
-  write_ranges = λ rec stride. first_bytes region (8 + length rec) ∷ [];
-  void_ranges = first_bytes region 8 ∷ [];
+  after_void = begun_with (replicate front_len 0);
+  write_ranges = λ rec stride. first_bytes region (front_len + length rec) ∷ [];
+  void_ranges = first_bytes region front_len ∷ [];
   write_erases = λ rec stride. false;
   void_erases = false;
 }
 
 -- a stride keeps nothing of its region, and a record always goes to its start
 abbrev pub stride_holding : Region → Holding
-stride_holding region = record { kind = stride_kind region; agrees = λ stride. true; placed = true }
+stride_holding region = record {
+  kind = stride_kind region;
+  agrees = λ stride. true;
+  knows_place = true;
+}

@@ -8,7 +8,7 @@ use Rattle.bb_flash.specs.declared.region.Region.{Region}
 use Rattle.bb_bucket.specs.Front.{entry_of}
 use Rattle.bb_bucket.specs.FrontLaws.{written_begins}
 use Rattle.bb_bucket.specs.Kind.{IsKind, LiesOn, part_of}
-use Rattle.bb_bucket.specs.Stride.{holds, stride_kind}
+use Rattle.bb_bucket.specs.Stride.{lies_on, stride_kind}
 
 -- a device that holds a region, and is overwritten in place
 pub record IsHeld (region : Region) (geometry : Geometry) : Type 0 where
@@ -19,7 +19,7 @@ pub record IsHeld (region : Region) (geometry : Geometry) : Type 0 where
 
 pub held_by :
     (region : Region) (geometry : Geometry) →
-    IsTrue (holds region geometry) → IsHeld region geometry
+    IsTrue (lies_on region geometry) → IsHeld region geometry
 held_by region geometry h = record {
   block = grind (arith, nat_tests);
   page = grind (arith, nat_tests);
@@ -27,8 +27,9 @@ held_by region geometry h = record {
   inside = grind (arith, nat_tests);
 }
 
-pub lies_on : (region : Region) (geometry : Geometry) → IsHeld region geometry → LiesOn geometry region
-lies_on region geometry held = record {
+pub stride_lies_on : (region : Region) (geometry : Geometry) → IsHeld region geometry →
+    LiesOn geometry region
+stride_lies_on region geometry held = record {
   inside = held.inside;
   aligned = ap (λ page. region.at % page) held.page ∙ mod-one region.at;
   whole = ap (λ page. region.size % page) held.page ∙ mod-one region.size;
@@ -36,7 +37,7 @@ lies_on region geometry held = record {
 
 pub stride_laws : (region : Region) → IsKind (stride_kind region)
 stride_laws region = record {
-  lies = λ geometry serves. lies_on region geometry (held_by region geometry serves);
+  lies = λ geometry serves. stride_lies_on region geometry (held_by region geometry serves);
   written = λ geometry serves rec image fits whole.
       let held = held_by region geometry serves in
       written_begins 1 rec [] (entry_of rec) (part_of geometry.page region image) (omega arith)

@@ -1,9 +1,9 @@
 ghost use Rattle.std.specs.Prelude.{◌≡◌, ◌≤◌, ◌+◌, IsErr, IsTrue, OnOk, length};
 ghost use Rattle.bb_base.specs.Faults.{HasCause};
-ghost use Rattle.bb_flash.specs.Cuts.{EachTorn, IsLater};
-ghost use Rattle.bb_flash.specs.Device.{IsDevice, LeavesStarts, reads};
+ghost use Rattle.bb_flash.specs.Device.{reads};
 ghost use Rattle.bb_bucket.specs.Blocks.{is_block_of};
-ghost use Rattle.bb_bucket.specs.Calls.{EachCall, EndsTorn, ErasesWhere, IsVoidCall, IsWriteCall, Leaves};
+ghost use Rattle.bb_bucket.specs.Calls.{ChangesWithin, EachCall, ErasesWhere, IsVoidCall, IsWriteCall, Leaves};
+ghost use Rattle.bb_bucket.specs.Front.{front_len};
 ghost use Rattle.bb_bucket.specs.OneBlock.{one_block_kind};
 
 use crate::Block;
@@ -21,22 +21,17 @@ pub(crate) fn write_block<F: Flash>(
     rec: &[u8],
 ) -> Result<(), Failed>
     requires held { IsTrue (is_block_of block (F.device flash.old).geometry) }
-    requires room { 8 + length rec.now ≤ block.region.size }
+    requires room { front_len + length rec.now ≤ block.region.size }
     requires memory { length memory.old ≡ block.region.size }
     ensures done { OnOk result (Leaves block.region ((one_block_kind block).after_write rec.now)
         (F.device flash.old) (F.device flash.new)) }
     ensures calls { EachCall
         (IsWriteCall (one_block_kind block) (F.device flash.old).geometry.page rec.now)
         (F.device flash.old) (F.device flash.new) }
-    ensures ends { EndsTorn (F.device flash.old) (F.device flash.new) }
-    ensures images { EachTorn block.region.at block.region.size
-        (F.device flash.old) (F.device flash.new) }
+    ensures within { ChangesWithin block.region (F.device flash.old) (F.device flash.new) }
     ensures erases { OnOk result (ErasesWhere block.region
         ((one_block_kind block).write_erases rec.now)
         (F.device flash.old) (F.device flash.new)) }
-    ensures later { IsLater (F.device flash.old) (F.device flash.new) }
-    ensures starts { LeavesStarts (F.device flash.old) (F.device flash.new) }
-    ensures whole { IsDevice (F.device flash.new) }
     ensures faults { HasCause (F.device flash.old).faults
         (F.device flash.new).faults (IsErr result) }
     ensures reads { reads (F.device flash.new) ≡ reads (F.device flash.old) }
@@ -56,15 +51,10 @@ pub(crate) fn void_block<F: Flash>(flash: &mut F, block: Block) -> Result<(), Fa
     ensures calls { EachCall
         (IsVoidCall (one_block_kind block) (F.device flash.old).geometry.page)
         (F.device flash.old) (F.device flash.new) }
-    ensures ends { EndsTorn (F.device flash.old) (F.device flash.new) }
-    ensures images { EachTorn block.region.at block.region.size
-        (F.device flash.old) (F.device flash.new) }
+    ensures within { ChangesWithin block.region (F.device flash.old) (F.device flash.new) }
     ensures erases { OnOk result (ErasesWhere block.region
         (λ region. (one_block_kind block).void_erases)
         (F.device flash.old) (F.device flash.new)) }
-    ensures later { IsLater (F.device flash.old) (F.device flash.new) }
-    ensures starts { LeavesStarts (F.device flash.old) (F.device flash.new) }
-    ensures whole { IsDevice (F.device flash.new) }
     ensures faults { HasCause (F.device flash.old).faults
         (F.device flash.new).faults (IsErr result) }
     ensures reads { reads (F.device flash.new) ≡ reads (F.device flash.old) }

@@ -1,8 +1,7 @@
 ghost use Rattle.std.specs.Prelude.{◌≡◌, ◌≤◌, IfOk, IfSome, IsErr, IsTrue, OnOk, length};
 ghost use Rattle.std.specs.Option.{ForSome};
 ghost use Rattle.bb_base.specs.Faults.{HasCause};
-ghost use Rattle.bb_flash.specs.Cuts.{EachTorn, IsLater};
-ghost use Rattle.bb_flash.specs.Device.{IsDevice, LeavesStarts, ReadKeeps, content, reads};
+ghost use Rattle.bb_flash.specs.Device.{content, reads};
 
 use bb_base::Failed;
 use bb_flash::{Flash, Region};
@@ -21,7 +20,7 @@ pub struct Found {
 /// that failed, it agrees again. A call fails only where the flash's count of faults rose.
 pub trait Bucket {
     ghost use Rattle.bb_bucket.specs.Kind.{Holding, IsKind, part_of};
-    ghost use Rattle.bb_bucket.specs.Calls.{Agrees, EachCall, EndsTorn, ErasesWhere, IsFound, IsVoidCall, IsWriteCall, Leaves, told_but_reads};
+    ghost use Rattle.bb_bucket.specs.Calls.{Agrees, ChangesWithin, EachCall, ErasesWhere, IsFound, IsQuiet, IsVoidCall, IsWriteCall, Leaves};
 
     ghost holding: { Self → Holding };
 
@@ -46,17 +45,14 @@ pub trait Bucket {
             out.new found)) }
         ensures fits { IfOk result (λ found.
             IfSome found.len (λ len. len ≤ (holding self.old).kind.room)) }
-        ensures keeps { ReadKeeps (F.device flash.old) (F.device flash.new) }
-        ensures told { told_but_reads (F.device flash.new) ≡ told_but_reads (F.device flash.old) }
-        ensures later { IsLater (F.device flash.old) (F.device flash.new) }
-        ensures whole { IsDevice (F.device flash.new) }
+        ensures quiet { IsQuiet (F.device flash.old) (F.device flash.new) }
         ensures faults { HasCause (F.device flash.old).faults
             (F.device flash.new).faults (IsErr result) }
         ensures read_faults { HasCause (F.device flash.old).read_faults
             (F.device flash.new).read_faults (IsErr result) }
         ensures kind { (holding self.new).kind ≡ (holding self.old).kind }
         ensures agrees { Agrees (holding self.new) (F.device flash.new) }
-        ensures placed { OnOk result (IsTrue (holding self.new).placed) };
+        ensures placed { OnOk result (IsTrue (holding self.new).knows_place) };
 
     /// Writes a record of at most `room` bytes, which outlives a cut once the call answered Ok. A
     /// cut while it goes on, and a call that fails, change nothing outside the ranges that the
@@ -71,23 +67,18 @@ pub trait Bucket {
         ensures calls { EachCall
             (IsWriteCall (holding self.old).kind (F.device flash.old).geometry.page rec.now)
             (F.device flash.old) (F.device flash.new) }
-        ensures ends { EndsTorn (F.device flash.old) (F.device flash.new) }
-        ensures images { EachTorn
-            (holding self.old).kind.region.at (holding self.old).kind.region.size
+        ensures within { ChangesWithin (holding self.old).kind.region
             (F.device flash.old) (F.device flash.new) }
         ensures erases { OnOk result (ErasesWhere (holding self.old).kind.region
             ((holding self.old).kind.write_erases rec.now)
             (F.device flash.old) (F.device flash.new)) }
-        ensures later { IsLater (F.device flash.old) (F.device flash.new) }
-        ensures starts { LeavesStarts (F.device flash.old) (F.device flash.new) }
-        ensures whole { IsDevice (F.device flash.new) }
         ensures faults { HasCause (F.device flash.old).faults
             (F.device flash.new).faults (IsErr result) }
-        ensures reads { IsTrue (holding self.old).placed →
+        ensures reads { IsTrue (holding self.old).knows_place →
             reads (F.device flash.new) ≡ reads (F.device flash.old) }
         ensures kind { (holding self.new).kind ≡ (holding self.old).kind }
         ensures agrees { Agrees (holding self.new) (F.device flash.new) }
-        ensures placed { OnOk result (IsTrue (holding self.new).placed) };
+        ensures placed { OnOk result (IsTrue (holding self.new).knows_place) };
 
     /// Makes the region hold no record, which outlives a cut once the call answered Ok. A cut while
     /// it goes on, and a call that fails, change nothing outside the ranges that the bucket's kind
@@ -100,21 +91,16 @@ pub trait Bucket {
         ensures calls { EachCall
             (IsVoidCall (holding self.old).kind (F.device flash.old).geometry.page)
             (F.device flash.old) (F.device flash.new) }
-        ensures ends { EndsTorn (F.device flash.old) (F.device flash.new) }
-        ensures images { EachTorn
-            (holding self.old).kind.region.at (holding self.old).kind.region.size
+        ensures within { ChangesWithin (holding self.old).kind.region
             (F.device flash.old) (F.device flash.new) }
         ensures erases { OnOk result (ErasesWhere (holding self.old).kind.region
             (λ region. (holding self.old).kind.void_erases)
             (F.device flash.old) (F.device flash.new)) }
-        ensures later { IsLater (F.device flash.old) (F.device flash.new) }
-        ensures starts { LeavesStarts (F.device flash.old) (F.device flash.new) }
-        ensures whole { IsDevice (F.device flash.new) }
         ensures faults { HasCause (F.device flash.old).faults
             (F.device flash.new).faults (IsErr result) }
         ensures kind { (holding self.new).kind ≡ (holding self.old).kind }
         ensures agrees { Agrees (holding self.new) (F.device flash.new) }
-        ensures placed { OnOk result (IsTrue (holding self.new).placed) };
+        ensures placed { OnOk result (IsTrue (holding self.new).knows_place) };
 
     ghost laws: { (bucket : Self) → IsKind (holding bucket).kind };
 }

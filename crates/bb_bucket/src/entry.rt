@@ -1,19 +1,21 @@
 ghost use Rattle.std.specs.Prelude.{◌≡◌, ◌≤◌, ◌<◌, ◌+◌, ◌%◌, ◌^◌, Some, None, length, if◌then◌else◌};
 ghost use Rattle.bb_bucket.specs.Blocks.{filled_len, filled_to};
-ghost use Rattle.bb_bucket.specs.Front.{entry_of, has_front, len_of};
+ghost use Rattle.bb_bucket.specs.Front.{entry_of, front_len, has_front, len_of};
 
 use byteorder::{ByteOrder, LittleEndian};
 
-/// The words in front of a record: the magic one, and the record's length.
+/// In bytes: the words in front of a record, the magic one and the record's length (barebox User
+/// Manual, State Framework, the backend storage type `direct`).
 pub const FRONT_LEN: u32 = 8;
 
 const FRONT_MAGIC: u32 = 0x2354_fdf3;
 
 /// The length that the front gives, where it is a front and a region of `size` bytes holds so much.
 pub(crate) fn record_len(size: u32, front: &[u8]) -> Option<u32>
-    requires some { 8 ≤ size }
-    requires whole { length front.now ≡ 8 }
-    ensures { result ≡ (if has_front size front.now then Some (len_of front.now) else None) }
+    requires some { front_len ≤ size }
+    requires whole { length front.now ≡ front_len }
+    ensures { result
+        ≡ (if has_front size front.now then Some (len_of front.now) else None) }
 {
     let len = LittleEndian::read_u32(&front[4..]);
     let is_front = LittleEndian::read_u32(front) == FRONT_MAGIC && len <= size - FRONT_LEN;
@@ -23,7 +25,7 @@ pub(crate) fn record_len(size: u32, front: &[u8]) -> Option<u32>
 /// Writes a record with its front into `out`, which has room for exactly these.
 pub(crate) fn write_entry(rec: &[u8], out: &mut [u8])
     requires small { length rec.now < 2 ^ 32 }
-    requires room { length out.old ≡ 8 + length rec.now }
+    requires room { length out.old ≡ front_len + length rec.now }
     ensures { out.new ≡ entry_of rec.now }
 {
     LittleEndian::write_u32(out, FRONT_MAGIC);
@@ -34,7 +36,7 @@ pub(crate) fn write_entry(rec: &[u8], out: &mut [u8])
 /// Writes a record with its front into `out`, and fills it with 0xFF.
 pub(crate) fn write_filled_entry(rec: &[u8], out: &mut [u8])
     requires small { length rec.now < 2 ^ 32 }
-    requires room { 8 + length rec.now ≤ length out.old }
+    requires room { front_len + length rec.now ≤ length out.old }
     ensures { out.new ≡ filled_to (length out.old) (entry_of rec.now) }
 {
     let (entry, filling) = out.split_at_mut(FRONT_LEN as usize + rec.len());

@@ -14,7 +14,7 @@ mod stride;
 
 pub use block::Block;
 pub use bucket::{Bucket, Found};
-pub use entry::whole_pages;
+pub use entry::{FRONT_LEN, whole_pages};
 pub use look::record_found;
 pub use one_block::OneBlock;
 pub use parts::{erase_block, program_part, read_part};

@@ -1,10 +1,9 @@
 ghost use Rattle.std.specs.Prelude.{◌≡◌, ◌≤◌, ◌<◌, ◌+◌, ◌-◌, ◌^◌, IfOk, IfSome, IsErr, length};
 ghost use Rattle.std.specs.Option.{ForSome};
 ghost use Rattle.bb_base.specs.Faults.{HasCause};
-ghost use Rattle.bb_flash.specs.Cuts.{IsLater};
-ghost use Rattle.bb_flash.specs.Device.{IsDevice, ReadKeeps, content};
-ghost use Rattle.bb_bucket.specs.Calls.{IsFoundAs, told_but_reads};
-ghost use Rattle.bb_bucket.specs.Front.{found_of, front_candidate, front_is_worn, is_lost};
+ghost use Rattle.bb_flash.specs.Device.{content};
+ghost use Rattle.bb_bucket.specs.Calls.{IsFoundAs, IsQuiet};
+ghost use Rattle.bb_bucket.specs.Front.{found_of, front_candidate, front_is_worn, front_len, is_lost};
 ghost use Rattle.bb_bucket.specs.Kind.{LiesOn, part_of};
 
 use crate::Found;
@@ -18,6 +17,7 @@ const NOTHING: Found = Found {
     worn: false,
 };
 
+#[tactic(auto, using(crate::proofs::Quiet::quiet_joined))]
 /// Looks for the record of a region that begins with a front: one read of the front, and one of the
 /// record.
 pub(crate) fn read_record<F: Flash>(
@@ -27,17 +27,14 @@ pub(crate) fn read_record<F: Flash>(
 ) -> Result<Found, Failed>
     requires lies { LiesOn (F.device flash.old).geometry region }
     requires small { region.at + region.size < 2 ^ 32 }
-    requires least { 8 ≤ region.size }
-    requires room { length out.old ≡ region.size - 8 }
+    requires least { front_len ≤ region.size }
+    requires room { length out.old ≡ region.size - front_len }
     ensures done { IfOk result (λ found. ForSome (content (F.device flash.old)) (λ image.
         let page = (F.device flash.old).geometry.page in
         let part = part_of page region image in
         IsFoundAs (front_candidate page part) (front_is_worn page part) out.new found)) }
-    ensures fits { IfOk result (λ found. IfSome found.len (λ len. len ≤ region.size - 8)) }
-    ensures keeps { ReadKeeps (F.device flash.old) (F.device flash.new) }
-    ensures told { told_but_reads (F.device flash.new) ≡ told_but_reads (F.device flash.old) }
-    ensures later { IsLater (F.device flash.old) (F.device flash.new) }
-    ensures whole { IsDevice (F.device flash.new) }
+    ensures fits { IfOk result (λ found. IfSome found.len (λ len. len ≤ region.size - front_len)) }
+    ensures quiet { IsQuiet (F.device flash.old) (F.device flash.new) }
     ensures faults { HasCause (F.device flash.old).faults
         (F.device flash.new).faults (IsErr result) }
     ensures read_faults { HasCause (F.device flash.old).read_faults

@@ -2,11 +2,10 @@ ghost use Rattle.std.specs.Prelude.{◌≡◌, ◌≤◌, ◌<◌, ◌+◌, ◌%
 ghost use Rattle.std.specs.Option.{ForSome};
 ghost use Rattle.bb_base.specs.Faults.{HasCause};
 ghost use Rattle.bb_flash.specs.Calls.{ChangesOnly};
-ghost use Rattle.bb_flash.specs.Cuts.{EachTorn, IsLater};
-ghost use Rattle.bb_flash.specs.Device.{IsDevice, LeavesStarts, ReadKeeps, content, erases, reads};
+ghost use Rattle.bb_flash.specs.Device.{content, erases, reads};
 ghost use Rattle.bb_flash.specs.Image.{IsBlank};
 ghost use Rattle.bb_bucket.specs.Blocks.{blank_block, is_block_of};
-ghost use Rattle.bb_bucket.specs.Calls.{EndsTorn, ErasesWhere, Leaves, told_but_reads};
+ghost use Rattle.bb_bucket.specs.Calls.{ChangesWithin, ErasesWhere, IsQuiet, Leaves};
 ghost use Rattle.bb_bucket.specs.Front.{IsPart, put_at};
 ghost use Rattle.bb_bucket.specs.Kind.{LiesOn, part_of};
 
@@ -28,10 +27,7 @@ pub fn read_part<F: Flash>(
         IsPart (F.device flash.old).geometry.page
         (part_of (F.device flash.old).geometry.page region image)
         region.size at out.new health)) }
-    ensures keeps { ReadKeeps (F.device flash.old) (F.device flash.new) }
-    ensures told { told_but_reads (F.device flash.new) ≡ told_but_reads (F.device flash.old) }
-    ensures later { IsLater (F.device flash.old) (F.device flash.new) }
-    ensures whole { IsDevice (F.device flash.new) }
+    ensures quiet { IsQuiet (F.device flash.old) (F.device flash.new) }
     ensures faults { HasCause (F.device flash.old).faults
         (F.device flash.new).faults (IsErr result) }
     ensures read_faults { HasCause (F.device flash.old).read_faults
@@ -64,12 +60,8 @@ pub fn program_part<F: Flash>(
         (F.device flash.old) (F.device flash.new)) }
     ensures changes { ChangesOnly (region.at + at) bytes.now
         (F.device flash.old) (F.device flash.new) }
-    ensures ends { EndsTorn (F.device flash.old) (F.device flash.new) }
-    ensures images { EachTorn region.at region.size (F.device flash.old) (F.device flash.new) }
+    ensures within { ChangesWithin region (F.device flash.old) (F.device flash.new) }
     ensures erases { erases (F.device flash.new) ≡ erases (F.device flash.old) }
-    ensures later { IsLater (F.device flash.old) (F.device flash.new) }
-    ensures starts { LeavesStarts (F.device flash.old) (F.device flash.new) }
-    ensures whole { IsDevice (F.device flash.new) }
     ensures faults { HasCause (F.device flash.old).faults
         (F.device flash.new).faults (IsErr result) }
     ensures reads { reads (F.device flash.new) ≡ reads (F.device flash.old) }
@@ -85,14 +77,9 @@ pub fn erase_block<F: Flash>(flash: &mut F, block: Block) -> Result<(), Failed>
         (F.device flash.old) (F.device flash.new)) }
     ensures changes { ChangesOnly block.region.at (replicate block.region.size 255)
         (F.device flash.old) (F.device flash.new) }
-    ensures ends { EndsTorn (F.device flash.old) (F.device flash.new) }
-    ensures images { EachTorn block.region.at block.region.size
-        (F.device flash.old) (F.device flash.new) }
+    ensures within { ChangesWithin block.region (F.device flash.old) (F.device flash.new) }
     ensures erases { OnOk result (ErasesWhere block.region (λ part. true)
         (F.device flash.old) (F.device flash.new)) }
-    ensures later { IsLater (F.device flash.old) (F.device flash.new) }
-    ensures starts { LeavesStarts (F.device flash.old) (F.device flash.new) }
-    ensures whole { IsDevice (F.device flash.new) }
     ensures faults { HasCause (F.device flash.old).faults
         (F.device flash.new).faults (IsErr result) }
     ensures reads { reads (F.device flash.new) ≡ reads (F.device flash.old) }

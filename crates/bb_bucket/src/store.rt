@@ -1,9 +1,9 @@
 ghost use Rattle.std.specs.Prelude.{◌≡◌, ◌≤◌, ◌<◌, ◌+◌, ◌^◌, IsErr, IsTrue, OnOk, length};
 ghost use Rattle.bb_base.specs.Faults.{HasCause};
-ghost use Rattle.bb_flash.specs.Cuts.{EachTorn, IsLater};
-ghost use Rattle.bb_flash.specs.Device.{IsDevice, LeavesStarts, reads};
-ghost use Rattle.bb_bucket.specs.Calls.{EachCall, EndsTorn, ErasesWhere, IsVoidCall, IsWriteCall, Leaves};
-ghost use Rattle.bb_bucket.specs.Stride.{holds, stride_kind};
+ghost use Rattle.bb_flash.specs.Device.{reads};
+ghost use Rattle.bb_bucket.specs.Calls.{ChangesWithin, EachCall, ErasesWhere, IsVoidCall, IsWriteCall, Leaves};
+ghost use Rattle.bb_bucket.specs.Front.{front_len};
+ghost use Rattle.bb_bucket.specs.Stride.{lies_on, stride_kind};
 
 use crate::entry::{FRONT_LEN, write_entry};
 use crate::parts::program_part;
@@ -18,8 +18,8 @@ pub(crate) fn write_record<F: Flash>(
     memory: &mut [u8],
     rec: &[u8],
 ) -> Result<(), Failed>
-    requires held { IsTrue (holds stride (F.device flash.old).geometry) }
-    requires room { 8 + length rec.now ≤ stride.size }
+    requires held { IsTrue (lies_on stride (F.device flash.old).geometry) }
+    requires room { front_len + length rec.now ≤ stride.size }
     requires small { stride.size < 2 ^ 32 }
     requires memory { length memory.old ≡ stride.size }
     ensures done { OnOk result (Leaves stride ((stride_kind stride).after_write rec.now)
@@ -27,13 +27,9 @@ pub(crate) fn write_record<F: Flash>(
     ensures calls { EachCall
         (IsWriteCall (stride_kind stride) (F.device flash.old).geometry.page rec.now)
         (F.device flash.old) (F.device flash.new) }
-    ensures ends { EndsTorn (F.device flash.old) (F.device flash.new) }
-    ensures images { EachTorn stride.at stride.size (F.device flash.old) (F.device flash.new) }
+    ensures within { ChangesWithin stride (F.device flash.old) (F.device flash.new) }
     ensures erases { OnOk result (ErasesWhere stride ((stride_kind stride).write_erases rec.now)
         (F.device flash.old) (F.device flash.new)) }
-    ensures later { IsLater (F.device flash.old) (F.device flash.new) }
-    ensures starts { LeavesStarts (F.device flash.old) (F.device flash.new) }
-    ensures whole { IsDevice (F.device flash.new) }
     ensures faults { HasCause (F.device flash.old).faults
         (F.device flash.new).faults (IsErr result) }
     ensures reads { reads (F.device flash.new) ≡ reads (F.device flash.old) }
@@ -45,19 +41,15 @@ pub(crate) fn write_record<F: Flash>(
 
 /// Writes zeros over the front of a stride, by one program.
 pub(crate) fn void_record<F: Flash>(flash: &mut F, stride: Region) -> Result<(), Failed>
-    requires held { IsTrue (holds stride (F.device flash.old).geometry) }
-    requires least { 8 ≤ stride.size }
+    requires held { IsTrue (lies_on stride (F.device flash.old).geometry) }
+    requires least { front_len ≤ stride.size }
     ensures done { OnOk result (Leaves stride (stride_kind stride).after_void
         (F.device flash.old) (F.device flash.new)) }
     ensures calls { EachCall (IsVoidCall (stride_kind stride) (F.device flash.old).geometry.page)
         (F.device flash.old) (F.device flash.new) }
-    ensures ends { EndsTorn (F.device flash.old) (F.device flash.new) }
-    ensures images { EachTorn stride.at stride.size (F.device flash.old) (F.device flash.new) }
+    ensures within { ChangesWithin stride (F.device flash.old) (F.device flash.new) }
     ensures erases { OnOk result (ErasesWhere stride (λ region. (stride_kind stride).void_erases)
         (F.device flash.old) (F.device flash.new)) }
-    ensures later { IsLater (F.device flash.old) (F.device flash.new) }
-    ensures starts { LeavesStarts (F.device flash.old) (F.device flash.new) }
-    ensures whole { IsDevice (F.device flash.new) }
     ensures faults { HasCause (F.device flash.old).faults
         (F.device flash.new).faults (IsErr result) }
     ensures reads { reads (F.device flash.new) ≡ reads (F.device flash.old) }

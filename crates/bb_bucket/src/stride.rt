@@ -1,4 +1,5 @@
-ghost use Rattle.std.specs.Prelude.{◌≡◌, ◌≤◌, IfOk};
+ghost use Rattle.std.specs.Prelude.{◌≡◌, ◌+◌, ◌≤◌, IfOk};
+ghost use Rattle.bb_bucket.specs.Front.{front_len};
 ghost use Rattle.bb_bucket.specs.Stride.{stride_holding};
 ghost use Rattle.bb_bucket.specs.StrideLaws.{stride_laws};
 
@@ -35,9 +36,10 @@ impl Model for Stride {
 }
 
 impl Stride {
-    /// A stride in this region, which has at least 9 bytes. It takes memory for as many.
+    /// A stride in this region, which has a byte more than a front at least. It takes memory for as
+    /// many bytes.
     pub fn of(alloc: Global, region: Region) -> Result<Stride, NoMemory>
-        requires { 9 ≤ region.size }
+        requires { front_len + 1 ≤ region.size }
         ensures { IfOk result (λ stride. stride ≡ region) }
     {
         let entry = vec![in alloc; 0; region.size as usize]?;

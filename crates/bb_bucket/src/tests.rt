@@ -1,5 +1,5 @@
 ghost use Rattle.std.specs.Prelude.{◌≡◌, ◌<◌, ◌≤◌, IfOk, IsTrue, length};
-ghost use Rattle.bb_bucket.specs.Stride.{holds};
+ghost use Rattle.bb_bucket.specs.Stride.{lies_on};
 
 use crate::{Bucket, Found, Stride};
 use bb_base::{Failed, NoMemory};
@@ -20,7 +20,8 @@ fn stride(rt: &HostRuntime) -> Result<Stride, NoMemory>
 }
 
 fn board(rt: &HostRuntime) -> Result<MemBoard, NoMemory>
-    ensures { IfOk result (λ board. IsTrue (holds (record { at = 64; size = 64 }) board.geometry)) }
+    ensures { IfOk result (λ board.
+        IsTrue (lies_on (record { at = 64; size = 64 }) board.geometry)) }
 {
     let geometry = Geometry {
         page: 1,
@@ -32,36 +33,36 @@ fn board(rt: &HostRuntime) -> Result<MemBoard, NoMemory>
 
 fn write(stride: &mut Stride, board: &mut MemBoard, rec: &[u8]) -> Result<(), Failed>
     requires here { stride.old ≡ record { at = 64; size = 64 } }
-    requires held { IsTrue (holds (record { at = 64; size = 64 }) board.old.geometry) }
+    requires held { IsTrue (lies_on (record { at = 64; size = 64 }) board.old.geometry) }
     requires fits { length rec.now ≤ 56 }
     ensures here { stride.new ≡ record { at = 64; size = 64 } }
-    ensures held { IsTrue (holds (record { at = 64; size = 64 }) board.new.geometry) }
+    ensures held { IsTrue (lies_on (record { at = 64; size = 64 }) board.new.geometry) }
 {
     stride.write(board, rec)
 }
 
 fn void(stride: &mut Stride, board: &mut MemBoard) -> Result<(), Failed>
     requires here { stride.old ≡ record { at = 64; size = 64 } }
-    requires held { IsTrue (holds (record { at = 64; size = 64 }) board.old.geometry) }
+    requires held { IsTrue (lies_on (record { at = 64; size = 64 }) board.old.geometry) }
     ensures here { stride.new ≡ record { at = 64; size = 64 } }
-    ensures held { IsTrue (holds (record { at = 64; size = 64 }) board.new.geometry) }
+    ensures held { IsTrue (lies_on (record { at = 64; size = 64 }) board.new.geometry) }
 {
     stride.void(board)
 }
 
 fn read(stride: &mut Stride, board: &mut MemBoard, out: &mut [u8; 56]) -> Result<Found, Failed>
     requires here { stride.old ≡ record { at = 64; size = 64 } }
-    requires held { IsTrue (holds (record { at = 64; size = 64 }) board.old.geometry) }
+    requires held { IsTrue (lies_on (record { at = 64; size = 64 }) board.old.geometry) }
     ensures here { stride.new ≡ record { at = 64; size = 64 } }
-    ensures held { IsTrue (holds (record { at = 64; size = 64 }) board.new.geometry) }
+    ensures held { IsTrue (lies_on (record { at = 64; size = 64 }) board.new.geometry) }
 {
     stride.read(board, out)
 }
 
 fn set_health(board: &mut MemBoard, page: u32, health: Health)
-    requires held { IsTrue (holds (record { at = 64; size = 64 }) board.old.geometry) }
+    requires held { IsTrue (lies_on (record { at = 64; size = 64 }) board.old.geometry) }
     requires inside { page < 128 }
-    ensures { IsTrue (holds (record { at = 64; size = 64 }) board.new.geometry) }
+    ensures { IsTrue (lies_on (record { at = 64; size = 64 }) board.new.geometry) }
 {
     board.set_health(page, health);
 }

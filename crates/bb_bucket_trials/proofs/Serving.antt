@@ -5,7 +5,7 @@ use Rattle.bb_flash.specs.Cuts.{IsLater}
 use Rattle.bb_flash.specs.Device.{Device}
 use Rattle.bb_bucket.specs.Blocks.{is_block_of}
 use Rattle.bb_bucket.specs.Calls.{ErasesWhere, Leaves}
-use Rattle.bb_bucket.specs.Kind.{Kind}
+use Rattle.bb_bucket.specs.Kind.{BucketKind}
 use Rattle.bb_bucket.specs.OneBlock.{one_block_kind}
 use Rattle.bb_circular.specs.Circular.{circular_kind}
 use Rattle.bb_circular.specs.Wear.{IsWritten}
@@ -15,14 +15,14 @@ use Rattle.bb_bucket_trials.specs.Trials.{tried_block, tried_device}
 tried_serves : (geometry : Geometry) → geometry ≡ tried_device → IsTrue (is_block_of tried_block geometry)
 tried_serves geometry is = subst (λ (g : Geometry). IsTrue (is_block_of tried_block g)) (sym is) refl
 
-pub circular_serves : (kind : Kind) (geometry : Geometry) → kind ≡ circular_kind tried_block → geometry ≡ tried_device → IsTrue (kind.serves geometry)
-circular_serves kind geometry is on = subst (λ (k : Kind). IsTrue (k.serves geometry)) (sym is) (tried_serves geometry on)
+pub circular_serves : (kind : BucketKind) (geometry : Geometry) → kind ≡ circular_kind tried_block → geometry ≡ tried_device → IsTrue (kind.serves geometry)
+circular_serves kind geometry is on = subst (λ (k : BucketKind). IsTrue (k.serves geometry)) (sym is) (tried_serves geometry on)
 
-pub one_block_serves : (kind : Kind) (geometry : Geometry) → kind ≡ one_block_kind tried_block → geometry ≡ tried_device → IsTrue (kind.serves geometry)
-one_block_serves kind geometry is on = subst (λ (k : Kind). IsTrue (k.serves geometry)) (sym is) (tried_serves geometry on)
+pub one_block_serves : (kind : BucketKind) (geometry : Geometry) → kind ≡ one_block_kind tried_block → geometry ≡ tried_device → IsTrue (kind.serves geometry)
+one_block_serves kind geometry is on = subst (λ (k : BucketKind). IsTrue (k.serves geometry)) (sym is) (tried_serves geometry on)
 
 pub ok_written :
-    {T E : Type 0} (result : Result T E) (kind : Kind) (rec : List ℕ) (from to : Device) →
+    {T E : Type 0} (result : Result T E) (kind : BucketKind) (rec : List ℕ) (from to : Device) →
     kind ≡ circular_kind tried_block →
     OnOk result (Leaves kind.region (kind.after_write rec) from to) →
     OnOk result (ErasesWhere kind.region (kind.write_erases rec) from to) →

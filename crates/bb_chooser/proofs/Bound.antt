@@ -22,7 +22,7 @@ use Rattle.bb_vars.specs.declared.kind.Kind.TheVariants.{Uint8, Uint32, Enum32, 
 use Rattle.bb_chooser.proofs.Reading.{none_among}
 use Rattle.bb_chooser.proofs.Writing.{EachOf, PairsOf, each_both, each_map}
 use Rattle.bb_chooser.specs.Binding.{IsBinding, IsInside, ShareNothing, StandApart, StandsAlone, attempts_name, bound_of, last_chosen_name, priority_name, uint32_at, uint32_in, variable_called}
-use Rattle.bb_chooser.specs.Lines.{parted}
+use Rattle.bb_chooser.specs.Lines.{sides_at}
 use Rattle.bb_chooser.specs.declared.bound_target.BoundTarget.{BoundTarget}
 use Rattle.bb_chooser.specs.declared.rules.Rules.{Rules}
 use Rattle.bb_chooser.specs.declared.settings_error.SettingsError.{SettingsError}
@@ -40,17 +40,17 @@ value d (Err e) = d
 ok_is : {X : Type 0} (x y : X) (a b : Result X SettingsError) → a ≡ Ok x → b ≡ Ok y → a ≡ b → x ≡ y
 ok_is x y a b p q h = ap (value x) (sym p ∙ h ∙ q)
 
-parted_whole : (c : ℕ) (text : List ℕ) (p : List ℕ × List ℕ) → parted c text ≡ Some p → text ≡ p.0 ++ c ∷ p.1
-parted_whole c text p h = by (list_any (λ b. b == c) text) refl
+sides_whole : (c : ℕ) (text : List ℕ) (p : List ℕ × List ℕ) → sides_at c text ≡ Some p → text ≡ p.0 ++ c ∷ p.1
+sides_whole c text p h = by (list_any (λ b. b == c) text) refl
   where
     test : ℕ → Bool
     test b = b == c
 
     by : (b : Bool) → list_any (λ b. b == c) text ≡ b → text ≡ p.0 ++ c ∷ p.1
-    by false e = let n : parted c text ≡ None = rw e refl in let g : None ≡ Some p = sym n ∙ h in cc
+    by false e = let n : sides_at c text ≡ None = rw e refl in let g : None ≡ Some p = sym n ∙ h in cc
     by true e =
         let q : ℕ → Bool = λ b. b == c in
-        let s : parted c text ≡ Some (before_first q text, after_first q text) = rw e refl in
+        let s : sides_at c text ≡ Some (before_first q text, after_first q text) = rw e refl in
         let same : (before_first q text, after_first q text) ≡ p = some_is (before_first q text, after_first q text) p (sym s ∙ h) in
         let inside : position_or_len q text < length text = elim (cases_lt (position_or_len q text) (length text)) [
           | inl l ↦ l
@@ -68,7 +68,7 @@ pub record IsFound (layout : List ℕ) (vars : List Var) (full : List ℕ) (at :
   pub at_is : var.at ≡ at
 
 var_found : (layout : List ℕ) (vars : List Var) (full : List ℕ) (v : Var) → variable_called layout vars full ≡ Some v → (k : ℕ) × (slice_get vars k ≡ Some v) × (full ≡ layout ++ 46 ∷ v.name)
-var_found layout vars full v h = by_parts (parted 46 full) refl
+var_found layout vars full v h = by_parts (sides_at 46 full) refl
   where
     by_place : (p : List ℕ × List ℕ) (o : Option ℕ) → full ≡ layout ++ 46 ∷ p.1 → place_of vars p.1 ≡ o → option_and_then (slice_get vars) o ≡ Some v → (k : ℕ) × (slice_get vars k ≡ Some v) × (full ≡ layout ++ 46 ∷ v.name)
     by_place p None whole e g = cc
@@ -78,13 +78,13 @@ var_found layout vars full v h = by_parts (parted 46 full) refl
         let name : p.1 ≡ v.name = (bytes_eq-Decides p.1 v.name).0 (ap (λ (w : Var). bytes_eq p.1 w.name) (sym is) ∙ hit) in
         (k, g, whole ∙ ap (λ (n : List ℕ). layout ++ 46 ∷ n) name)
 
-    by_layout : (p : List ℕ × List ℕ) (b : Bool) → parted 46 full ≡ Some p → bytes_eq p.0 layout ≡ b → (if b then option_and_then (slice_get vars) (place_of vars p.1) else None) ≡ Some v → (k : ℕ) × (slice_get vars k ≡ Some v) × (full ≡ layout ++ 46 ∷ v.name)
+    by_layout : (p : List ℕ × List ℕ) (b : Bool) → sides_at 46 full ≡ Some p → bytes_eq p.0 layout ≡ b → (if b then option_and_then (slice_get vars) (place_of vars p.1) else None) ≡ Some v → (k : ℕ) × (slice_get vars k ≡ Some v) × (full ≡ layout ++ 46 ∷ v.name)
     by_layout p false parts e g = cc
     by_layout p true parts e g =
         let same : p.0 ≡ layout = (bytes_eq-Decides p.0 layout).0 e in
-        by_place p (place_of vars p.1) (parted_whole 46 full p parts ∙ ap (λ (n : List ℕ). n ++ 46 ∷ p.1) same) refl g
+        by_place p (place_of vars p.1) (sides_whole 46 full p parts ∙ ap (λ (n : List ℕ). n ++ 46 ∷ p.1) same) refl g
 
-    by_parts : (o : Option (List ℕ × List ℕ)) → parted 46 full ≡ o → (k : ℕ) × (slice_get vars k ≡ Some v) × (full ≡ layout ++ 46 ∷ v.name)
+    by_parts : (o : Option (List ℕ × List ℕ)) → sides_at 46 full ≡ o → (k : ℕ) × (slice_get vars k ≡ Some v) × (full ≡ layout ++ 46 ∷ v.name)
     by_parts None e = let g : variable_called layout vars full ≡ None = rw e refl in let f : None ≡ Some v = sym g ∙ h in cc
     by_parts (Some p) e =
         let g : variable_called layout vars full ≡ (if bytes_eq p.0 layout then option_and_then (slice_get vars) (place_of vars p.1) else None) = rw e refl in

@@ -7,7 +7,7 @@ use Rattle.bb_chooser.specs.Counting.{chosen_target, mark_good_of, spend_of}
 use Rattle.bb_chooser.specs.Keys.{is_target_name}
 use Rattle.bb_chooser.specs.Resets.{reset_of}
 use Rattle.bb_chooser.specs.Settings.{Configuration}
-use Rattle.bb_chooser.specs.Values.{events_in, flag_in, names_in, number_in, prefix_in, unquoted}
+use Rattle.bb_chooser.specs.Values.{events_in, flag_in, names_in, number_in, prefix_in, without_quotes}
 use Rattle.bb_chooser.specs.declared.cause.Cause.TheVariants.{PowerOn, Reset, Other}
 use Rattle.bb_chooser.specs.declared.fault.Fault.TheVariants.{BadLine, TargetTwice, BadNumber, BadEvent}
 use Rattle.bb_chooser.specs.declared.rules.Rules.{Rules}
@@ -31,13 +31,13 @@ bad_before_twice = refl
 key_as_name : is_target_name (codes "retry") ≡ false
 key_as_name = refl
 
-between_quotes : unquoted (codes "\"a b\"") ≡ codes "a b"
+between_quotes : without_quotes (codes "\"a b\"") ≡ codes "a b"
 between_quotes = refl
 
-one_quote : unquoted (codes "\"") ≡ codes "\""
+one_quote : without_quotes (codes "\"") ≡ codes "\""
 one_quote = refl
 
-quote_inside : unquoted (codes "a\"b\"") ≡ codes "a\"b\""
+quote_inside : without_quotes (codes "a\"b\"") ≡ codes "a\"b\""
 quote_inside = refl
 
 yes_in_hexadecimal : flag_in (codes "0x1") ≡ Ok true

@@ -1,17 +1,15 @@
 -- What settings bind to the variables of a layout: these are in the area, and no two of them share a byte.
-use Rattle.std.proofs.Common.{◌≡◌, ℕ, ◌+◌, ◌==◌, ◌≤◌, Bool, true, false, List, [], ◌∷◌, ◌++◌, length, map, not, Option, Some, None, Result, Ok, Err, IfOk, cond, refl, sym, ap, ◌∙◌}
-use Rattle.std.specs.Prelude.{⊤, codes, drop, nat_eq, unwrap_or}
+use Rattle.std.proofs.Common.{◌≡◌, ℕ, ◌+◌, ◌==◌, ◌≤◌, Bool, true, false, List, [], ◌∷◌, ◌++◌, length, map, not, Option, Some, None, Result, Ok, Err, IfOk, cond, refl, ap, ◌∙◌}
+use Rattle.std.specs.Prelude.{⊤, drop, nat_eq, unwrap_or}
 use Rattle.std.specs.List.{list_all, starts_with}
 use Rattle.std.specs.Option.{option_map_or, option_or, option_to_list}
 use Rattle.std.specs.Str.{bytes_eq, is_utf8}
 use Rattle.std.specs.Str.Lines.{lines}
-use Rattle.bb_chooser.specs.Binding.{Binding, IsBinding, bind_from, binding, bound_of, last_chosen_name, uint32_at}
+use Rattle.bb_chooser.specs.Binding.{IsBinding, bind_from, binding, bound_of, last_chosen_name, uint32_at}
 use Rattle.bb_chooser.specs.Keys.{is_target_name, key_of, target_key_of}
-use Rattle.bb_chooser.specs.Lines.{assignment_of, front, general_setting_of, line_of, named_setting_of, own_setting_of, pair_setting_of, parted, setting_of, sets_nothing, target_setting_of}
+use Rattle.bb_chooser.specs.Lines.{assignment_of, front, general_setting_of, line_of, named_setting_of, own_setting_of, pair_setting_of, sides_at, setting_of, sets_nothing, target_setting_of}
 use Rattle.bb_chooser.specs.Settings.{Configuration, Given, at_line, configuration_of, given_by, last_given, prefix_of, rules_of, settings_from, settings_of, target_of, targets_in, targets_of}
-use Rattle.bb_chooser.specs.Values.{all_zero_in, differing, events_in, file_in, flag_in, names_in, names_of, number_in, prefix_in, unquoted, words_of}
-use Rattle.bb_chooser.specs.declared.bound_target.BoundTarget.{BoundTarget}
-use Rattle.bb_chooser.specs.declared.events.Events.{Events}
+use Rattle.bb_chooser.specs.Values.{all_zero_in, differing_names, events_in, file_in, flag_in, names_in, number_in, prefix_in, without_quotes, words_of}
 use Rattle.bb_chooser.specs.declared.fault.Fault.{Fault}
 use Rattle.bb_chooser.specs.declared.fault.Fault.TheVariants as fault
 use Rattle.bb_chooser.specs.declared.key.Key.{Key}
@@ -20,7 +18,6 @@ use Rattle.bb_chooser.specs.declared.key.TargetKey.{TargetKey}
 use Rattle.bb_chooser.specs.declared.key.TargetKey.TheVariants as own
 use Rattle.bb_chooser.specs.declared.setting.Setting.{Setting}
 use Rattle.bb_chooser.specs.declared.setting.Setting.TheVariants as sets
-use Rattle.bb_chooser.specs.declared.settings_error.SettingsError.{SettingsError}
 use Rattle.bb_chooser.specs.declared.settings_error.SettingsError.TheVariants.{NoTargets}
 use Rattle.bb_chooser.specs.declared.target.Target.{Target}
 use Rattle.bb_chooser.proofs.Bound.{binding_is}
@@ -42,7 +39,7 @@ DifferIn (Some names) = Differ names
 abbrev IsFine : Setting → Type 0
 IsFine setting = DifferIn (targets_in setting)
 
-differing_fine : (words : List (List ℕ)) → IfOk (differing words) Differ
+differing_fine : (words : List (List ℕ)) → IfOk (differing_names words) Differ
 differing_fine words = by (some_pair bytes_eq words) refl
   where
     by : (twice : Bool) → some_pair bytes_eq words ≡ twice → IfOk (cond twice (Err fault.TargetTwice) (Ok words)) Differ
@@ -51,7 +48,7 @@ differing_fine words = by (some_pair bytes_eq words) refl
 
 names_fine : (value : List ℕ) → IfOk (names_in value) Differ
 names_fine value =
-    either_ok Differ (list_all is_target_name (words_of value)) (differing (words_of value)) (Err fault.BadLine)
+    either_ok Differ (list_all is_target_name (words_of value)) (differing_names (words_of value)) (Err fault.BadLine)
     (differing_fine (words_of value)) tt
 
 -- ---- in each setting
@@ -92,7 +89,7 @@ setting_fine key value = by (key_of key)
   where
     by : (o : Option Key) → IfOk (option_map_or (λ k. general_setting_of k value) o (target_setting_of key value)) IsFine
     by None =
-        made_ok IsFine (λ named. named_setting_of named value) (parted 46 key) fault.BadLine
+        made_ok IsFine (λ named. named_setting_of named value) (sides_at 46 key) fault.BadLine
         (λ named. named_fine named value)
     by (Some k) = general_fine k value
 
@@ -100,8 +97,8 @@ assignment_fine : (line : List ℕ) → IfOk (assignment_of line) IsFine
 assignment_fine line =
     let text = drop (length front) line in
     either_ok IsFine (starts_with nat_eq line front) (pair_setting_of text) (Err fault.BadLine)
-    (made_ok IsFine (λ (pair : List ℕ × List ℕ). setting_of pair.0 (unquoted pair.1)) (parted 61 text) fault.BadLine
-    (λ pair. setting_fine pair.0 (unquoted pair.1))) tt
+    (made_ok IsFine (λ (pair : List ℕ × List ℕ). setting_of pair.0 (without_quotes pair.1)) (sides_at 61 text) fault.BadLine
+    (λ pair. setting_fine pair.0 (without_quotes pair.1))) tt
 
 -- ---- in each line
 

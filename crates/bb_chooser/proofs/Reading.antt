@@ -8,7 +8,7 @@ use Rattle.std.specs.Prelude.{nat_eq}
 use Rattle.std.specs.Result.{IsErrAnd}
 use Rattle.std.specs.Str.{is_utf8}
 use Rattle.bb_layout.specs.Results.{result_and_then}
-use Rattle.bb_chooser.specs.Lines.{assignment_of, front, line_of, parted, sets_nothing}
+use Rattle.bb_chooser.specs.Lines.{assignment_of, front, line_of, pair_setting_of, sides_at, sets_nothing}
 use Rattle.bb_chooser.specs.declared.fault.Fault.TheVariants.{BadLine}
 
 pub no_front : (text : List ℕ) → ((rest : List ℕ) → text ≢ front ++ rest) → assignment_of text ≡ Err BadLine
@@ -18,6 +18,9 @@ no_front text h =
       | inr e ↦ e
     ] in
     rw other refl
+
+pub behind_front : (text rest : List ℕ) → text ≡ front ++ rest → assignment_of text ≡ pair_setting_of rest
+behind_front text rest h = rw h refl
 
 pub line_no_text : (line : List ℕ) → is_utf8 line ≡ false → line_of line ≡ Err BadLine
 line_no_text line h = rw h refl
@@ -41,5 +44,5 @@ none_among p (x ∷ xs) h = by (p x) refl (λ e. none_among p xs e)
     by true e rest = let g : position_or_len p (x ∷ xs) ≡ 0 = rw e refl in absurd (omega arith)
     by false e rest = let g : position_or_len p (x ∷ xs) ≡ 1 + position_or_len p xs = rw e refl in rest (omega arith)
 
-pub not_parted : (c : ℕ) (text : List ℕ) → position_or_len (λ b. b == c) text ≡ length text → parted c text ≡ None
-not_parted c text h = rw (none_among (λ b. b == c) text h) refl
+pub no_sides : (c : ℕ) (text : List ℕ) → position_or_len (λ b. b == c) text ≡ length text → sides_at c text ≡ None
+no_sides c text h = rw (none_among (λ b. b == c) text h) refl

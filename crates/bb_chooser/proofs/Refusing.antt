@@ -8,7 +8,7 @@ abbrev error_of : {A : Type 0} → SettingsError → Result A SettingsError → 
 error_of d (Ok x) = d
 error_of d (Err e) = e
 
--- the refusal is want of memory, or not
+-- the refusal is that memory was refused, or not
 memory_or : (e : SettingsError) → (e ≡ NoMemory) ⊎ (e ≢ NoMemory)
 memory_or (BadLine n) = inr (λ h. cc)
 memory_or NoTargets = inr (λ h. cc)

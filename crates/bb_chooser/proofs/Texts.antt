@@ -12,7 +12,7 @@ use Rattle.std.proofs.lemmas.List.{map-append}
 use Rattle.indexmap.specs.IndexSet.{insert_key}
 use Rattle.bb_layout.specs.Ranges.{some_pair}
 use Rattle.bb_chooser.specs.Keys.{is_target_name}
-use Rattle.bb_chooser.specs.Values.{differing, events_of, is_event, names_of, quote, unquoted}
+use Rattle.bb_chooser.specs.Values.{differing_names, events_of, is_event, names_of, quote, without_quotes}
 use Rattle.bb_chooser.specs.declared.fault.Fault.TheVariants.{BadLine, BadEvent, TargetTwice}
 
 bytes_eq-swap : (a b : List ℕ) → bytes_eq a b ≡ false → bytes_eq b a ≡ false
@@ -23,17 +23,17 @@ bytes_eq-swap a b h =
     ]
 
 -- without a `"` in front a value is itself
-pub unquoted_plain : (bs : List ℕ) → ((rest : List ℕ) → bs ≢ 34 ∷ rest) → unquoted bs ≡ bs
-unquoted_plain [] h = refl
-unquoted_plain (x ∷ xs) h =
+pub without_quotes_plain : (bs : List ℕ) → ((rest : List ℕ) → bs ≢ 34 ∷ rest) → without_quotes bs ≡ bs
+without_quotes_plain [] h = refl
+without_quotes_plain (x ∷ xs) h =
     elim (cases_Bool (eqb 34 x)) [
       | inl e ↦ absurd (h xs (ap (λ y. y ∷ xs) (sym (eqb-true 34 x e))))
       | inr e ↦ rw e refl
     ]
 
 -- and without one at the end behind that
-pub unquoted_open : (bs rest : List ℕ) → bs ≡ 34 ∷ rest → ((front : List ℕ) → rest ≢ front ++ 34 ∷ []) → unquoted bs ≡ bs
-unquoted_open bs rest is h =
+pub without_quotes_open : (bs rest : List ℕ) → bs ≡ 34 ∷ rest → ((front : List ℕ) → rest ≢ front ++ 34 ∷ []) → without_quotes bs ≡ bs
+without_quotes_open bs rest is h =
     elim (cases_Bool (ends_with nat_eq rest quote)) [
       | inl e ↦ absurd (h _ ((ends_is Decides-eqb rest quote _ refl).0 e))
       | inr e ↦ rw is (rw e refl)
@@ -67,7 +67,7 @@ events_bad words h = let bad : list_all is_event (map now words) ≡ false = lis
 pub names_bad : (words : List (Bor (List ℕ))) → list_all (λ w. is_target_name w.now) words ≡ false → names_of (map now words) ≡ Err BadLine
 names_bad words h = let bad : list_all is_target_name (map now words) ≡ false = list_all-map is_target_name now words ∙ h in rw bad refl
 
-pub names_kept : (words : List (Bor (List ℕ))) → list_all (λ w. is_target_name w.now) words ≡ true → names_of (map now words) ≡ differing (map now words)
+pub names_kept : (words : List (Bor (List ℕ))) → list_all (λ w. is_target_name w.now) words ≡ true → names_of (map now words) ≡ differing_names (map now words)
 names_kept words h = let good : list_all is_target_name (map now words) ≡ true = list_all-map is_target_name now words ∙ h in rw good refl
 
 or_none : (a b : Bool) → a ≡ false → b ≡ false → (a || b) ≡ false
@@ -137,8 +137,8 @@ get_or_same [] i d e inside = absurd (omega arith)
 get_or_same (x ∷ xs) zero d e inside = refl
 get_or_same (x ∷ xs) (suc i) d e inside = get_or_same xs i d e (omega arith)
 
-pub differing_twice : (words : List (List ℕ)) → some_pair bytes_eq words ≡ true → differing words ≡ Err TargetTwice
+pub differing_twice : (words : List (List ℕ)) → some_pair bytes_eq words ≡ true → differing_names words ≡ Err TargetTwice
 differing_twice words h = rw h refl
 
-pub differing_good : (words : List (List ℕ)) → some_pair bytes_eq words ≡ false → differing words ≡ Ok words
+pub differing_good : (words : List (List ℕ)) → some_pair bytes_eq words ≡ false → differing_names words ≡ Ok words
 differing_good words h = rw h refl

@@ -1,13 +1,14 @@
 -- Targets that are bound to the variables of a layout (barebox User Manual, Bootchooser).
 use Rattle.std.specs.Prelude.{ℕ, ◌+◌, ◌<◌, ◌≤◌, Bool, false, true, List, ◌++◌, codes, map, All, AllPairs, Option, Some, None, Result, Ok, Err, if◌then◌else◌, option_and_then, slice_get}
 use Rattle.std.specs.Str.{bytes_eq}
+use Rattle.bb_base.specs.Form.{area_limit}
 use Rattle.bb_layout.specs.Results.{all_ok, result_and_then}
 use Rattle.bb_layout.specs.VarNames.{place_of}
 use Rattle.bb_layout.specs.declared.layout.Layout.{Layout}
 use Rattle.bb_layout.specs.declared.var.Var.{Var}
 use Rattle.bb_vars.specs.declared.kind.Kind.{Kind}
 use Rattle.bb_vars.specs.declared.kind.Kind.TheVariants.{Uint8, Uint32, Enum32, Mac, Chars}
-use Rattle.bb_chooser.specs.Lines.{parted}
+use Rattle.bb_chooser.specs.Lines.{sides_at}
 use Rattle.bb_chooser.specs.Settings.{Configuration}
 use Rattle.bb_chooser.specs.declared.bound_target.BoundTarget.{BoundTarget}
 use Rattle.bb_chooser.specs.declared.rules.Rules.{Rules}
@@ -15,12 +16,13 @@ use Rattle.bb_chooser.specs.declared.settings_error.SettingsError.{SettingsError
 use Rattle.bb_chooser.specs.declared.settings_error.SettingsError.TheVariants.{NoSuchVariable, NotUint32}
 use Rattle.bb_chooser.specs.declared.target.Target.{Target}
 
--- ---- names
+-- ---- names of variables
 
 -- a prefix, a `.` and what stands below it
 abbrev pub full_name : List ℕ → List ℕ → List ℕ
 full_name prefix item = prefix ++ (codes "." ++ item)
 
+-- of the target that was chosen last, and of a target's attempts and priority
 abbrev pub last_chosen_name : List ℕ → List ℕ
 last_chosen_name prefix = full_name prefix (codes "last_chosen")
 
@@ -32,10 +34,18 @@ priority_name prefix name = full_name prefix (name ++ codes ".priority")
 
 -- ---- a layout's variable, by the layout's name, a `.` and its own
 
+-- the variable of its own name
+abbrev pub variable_named : List Var → List ℕ → Option Var
+variable_named vars name = option_and_then (slice_get vars) (place_of vars name)
+
+-- and the one that is called so
 abbrev pub variable_called : List ℕ → List Var → List ℕ → Option Var
 variable_called layout vars full =
-    option_and_then (λ p. if bytes_eq p.0 layout then option_and_then (slice_get vars) (place_of vars p.1) else None) (parted 46 full)
+    option_and_then
+    (λ names. if bytes_eq names.0 layout then variable_named vars names.1 else None)
+    (sides_at 46 full)
 
+-- a number of 4 bytes
 abbrev pub is_uint32 : Kind → Bool
 is_uint32 Uint8 = false
 is_uint32 Uint32 = true
@@ -43,7 +53,7 @@ is_uint32 (Enum32 names) = false
 is_uint32 Mac = false
 is_uint32 (Chars size) = false
 
--- the place of a uint32 in the area
+-- the place of a uint32 in the area, of this variable, and of the one that is called so
 abbrev pub uint32_in : List ℕ → Option Var → Result ℕ SettingsError
 uint32_in full None = Err (NoSuchVariable full)
 uint32_in full (Some v) = if is_uint32 v.kind then Ok v.at else Err (NotUint32 full)
@@ -53,13 +63,23 @@ uint32_at layout vars full = uint32_in full (variable_called layout vars full)
 
 -- ---- targets
 
+-- a target with the places of its variables
+abbrev pub bound_at : Target → ℕ → ℕ → BoundTarget
+bound_at target attempts_at priority_at =
+    record { target = target; attempts_at = attempts_at; priority_at = priority_at }
+
 -- a target's attempts, and then its priority
 abbrev pub bound_of : List ℕ → List Var → List ℕ → Target → Result BoundTarget SettingsError
 bound_of layout vars prefix target =
     result_and_then (λ attempts_at.
-    result_and_then (λ priority_at. Ok (record { target = target; attempts_at = attempts_at; priority_at = priority_at }))
+    result_and_then (λ priority_at. Ok (bound_at target attempts_at priority_at))
     (uint32_at layout vars (priority_name prefix target.name)))
     (uint32_at layout vars (attempts_name prefix target.name))
+
+-- each of them; or the first that the layout doesn't have so
+abbrev pub all_bound_of : List ℕ → List Var → List ℕ → List Target
+    → Result (List BoundTarget) SettingsError
+all_bound_of layout vars prefix targets = all_ok (map (bound_of layout vars prefix) targets)
 
 -- targets and the places of their variables in an area of so many bytes
 pub record Binding : Type 0 where
@@ -69,17 +89,23 @@ pub record Binding : Type 0 where
   pub area_len : ℕ
 
 abbrev pub binding : List BoundTarget → Rules → ℕ → ℕ → Binding
-binding targets rules last_chosen_at area_len =
-    record { targets = targets; rules = rules; last_chosen_at = last_chosen_at; area_len = area_len }
+binding targets rules last_chosen_at area_len = record {
+  targets = targets;
+  rules = rules;
+  last_chosen_at = last_chosen_at;
+  area_len = area_len;
+}
 
--- what is configured, bound to variables of an area: target by target, and the last chosen one's place last
+-- what is configured, bound to variables of an area: target by target, and the last chosen one's
+-- place last
 abbrev pub bind_from : Configuration → List ℕ → List Var → ℕ → Result Binding SettingsError
 bind_from configuration layout vars area_len =
     result_and_then (λ targets.
-    result_and_then (λ last_chosen_at. Ok (binding targets configuration.rules last_chosen_at area_len))
+    result_and_then (λ last. Ok (binding targets configuration.rules last area_len))
     (uint32_at layout vars (last_chosen_name configuration.prefix)))
-    (all_ok (map (bound_of layout vars configuration.prefix) configuration.targets))
+    (all_bound_of layout vars configuration.prefix configuration.targets)
 
+-- bound to variables of a layout
 abbrev pub bind_of : Configuration → Layout → Result Binding SettingsError
 bind_of configuration layout = bind_from configuration layout.name layout.vars layout.area_len
 
@@ -107,8 +133,9 @@ pub record StandApart (t u : BoundTarget) : Type 0 where
   pub first_attempts : ShareNothing t.attempts_at u.priority_at
   pub second_attempts : ShareNothing u.attempts_at t.priority_at
 
+-- an area holds them all, each apart from each other
 pub record IsBinding (b : Binding) : Type 0 where
-  pub area_most : b.area_len ≤ 65535
+  pub area_most : b.area_len ≤ area_limit
   pub last_inside : b.last_chosen_at + 4 ≤ b.area_len
   pub each_inside : All (IsInside b.area_len) b.targets
   pub each_alone : All (StandsAlone b.last_chosen_at) b.targets

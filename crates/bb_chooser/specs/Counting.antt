@@ -4,15 +4,17 @@ use Rattle.std.specs.Option.{option_map_or}
 use Rattle.bb_chooser.specs.Binding.{Binding}
 use Rattle.bb_chooser.specs.Choosing.{attempts_of, last_chosen_of, with_number}
 
--- one attempt less; the target is the one that was chosen last; and without attempts it loses its priority, where that is
--- a rule
+-- one attempt less; the target is the one that was chosen last; and without attempts it loses its
+-- priority, where that is a rule
 abbrev pub spend_of : Binding → List ℕ → ℕ → List ℕ
 spend_of b table target =
     option_map_or
     (λ t.
     let left = attempts_of b table target - 1 in
     let spent = with_number (with_number table t.attempts_at left) b.last_chosen_at (target + 1) in
-    if b.rules.disable_on_zero_attempts && (left == 0) then with_number spent t.priority_at 0 else spent)
+    if b.rules.disable_on_zero_attempts && (left == 0)
+    then with_number spent t.priority_at 0
+    else spent)
     (slice_get b.targets target) table
 
 -- the target that was chosen last, from 0
@@ -21,9 +23,14 @@ chosen_target b table =
     let place = last_chosen_of b table in
     if nat_lt 0 place && nat_le place (length b.targets) then Some (place - 1) else None
 
--- the default attempts for the target that was chosen last
+-- the default attempts for a target, where it is there
+abbrev pub with_default_attempts : Binding → List ℕ → ℕ → List ℕ
+with_default_attempts b table target =
+    option_map_or
+    (λ t. with_number table t.attempts_at t.target.default_attempts)
+    (slice_get b.targets target) table
+
+-- and for the one that was chosen last
 abbrev pub mark_good_of : Binding → List ℕ → List ℕ
 mark_good_of b table =
-    option_map_or
-    (λ target. option_map_or (λ t. with_number table t.attempts_at t.target.default_attempts) (slice_get b.targets target) table)
-    (chosen_target b table) table
+    option_map_or (with_default_attempts b table) (chosen_target b table) table

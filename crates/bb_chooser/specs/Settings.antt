@@ -4,6 +4,7 @@ use Rattle.std.specs.Option.{option_or, option_to_list}
 use Rattle.std.specs.Str.{bytes_eq}
 use Rattle.std.specs.Str.Lines.{lines}
 use Rattle.bb_layout.specs.Results.{result_and_then}
+use Rattle.bb_chooser.specs.Values.{NamesDiffer}
 use Rattle.bb_chooser.specs.Lines.{fault_at, line_of}
 use Rattle.bb_chooser.specs.declared.events.Events.{Events}
 use Rattle.bb_chooser.specs.declared.fault.Fault.{Fault}
@@ -21,12 +22,17 @@ abbrev pub at_line : {A : Type 0} → ℕ → Result A Fault → Result A Settin
 at_line number (Ok x) = Ok x
 at_line number (Err fault) = Err (fault_at number fault)
 
+-- what the line of this number sets, if anything
+abbrev pub setting_at : ℕ → List ℕ → Result (Option Setting) SettingsError
+setting_at number line = at_line number (line_of line)
+
 -- what the lines set, of which the first has this number; or the first that is bad
 unfoldable pub settings_from : ℕ → List (List ℕ) → Result (List Setting) SettingsError
 settings_from number [] = Ok []
 settings_from number (line ∷ more) =
-    result_and_then (λ setting. result_and_then (λ rest. Ok (option_to_list setting ++ rest)) (settings_from (number + 1) more))
-    (at_line number (line_of line))
+    result_and_then (λ setting.
+    result_and_then (λ rest. Ok (option_to_list setting ++ rest)) (settings_from (number + 1) more))
+    (setting_at number line)
 
 -- ---- the last line for a key counts
 
@@ -34,6 +40,7 @@ abbrev pub last_given : {A : Type 0} → (Setting → Option A) → List Setting
 last_given pick [] = None
 last_given pick (setting ∷ more) = option_or (last_given pick more) (pick setting)
 
+-- what a setting gives for a key that is set for all targets
 abbrev pub targets_in : Setting → Option (List (List ℕ))
 targets_in (sets.Targets names) = Some names
 targets_in _ = None
@@ -93,6 +100,7 @@ pub record Given : Type 0 where
   pub attempts_of : List ℕ → Option ℕ
   pub priority_of : List ℕ → Option ℕ
 
+-- by all settings
 abbrev pub given_by : List Setting → Given
 given_by settings = record {
   targets = last_given targets_in settings;
@@ -110,15 +118,21 @@ given_by settings = record {
 
 -- ---- what they say
 
+-- the names of targets differ
+abbrev pub TargetsDiffer : List Target → Type 0
+TargetsDiffer targets = NamesDiffer (map (λ t. t.name) targets)
+
 -- targets in their order, the prefix of their variables, and when what is reset
 pub record Configuration : Type 0 where
   pub targets : List Target
   pub prefix : List ℕ
   pub rules : Rules
 
+-- the entry file of a target for which none is set
 abbrev pub default_entry : List ℕ → List ℕ
 default_entry name = codes "loader/entries/" ++ name ++ codes ".conf"
 
+-- a target, with what is set for it, or for all targets, or by default
 abbrev pub target_of : Given → List ℕ → Target
 target_of given name = record {
   name = name;
@@ -144,6 +158,7 @@ rules_of given = record {
 abbrev pub prefix_of : Given → List ℕ
 prefix_of given = unwrap_or given.prefix (codes "state.bootstate")
 
+-- all of it, or that no target is named
 abbrev pub configuration_of : Given → Result Configuration SettingsError
 configuration_of given =
     if length (targets_of given) == 0 then Err NoTargets
@@ -155,4 +170,7 @@ configuration_of given =
 
 -- what a text of settings says, or its first refusal
 abbrev pub settings_of : List ℕ → Result Configuration SettingsError
-settings_of text = result_and_then (λ settings. configuration_of (given_by settings)) (settings_from 1 (lines text))
+settings_of text =
+    result_and_then
+    (λ settings. configuration_of (given_by settings))
+    (settings_from 1 (lines text))

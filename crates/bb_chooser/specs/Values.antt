@@ -1,5 +1,5 @@
 -- The values of settings (barebox User Manual, Bootchooser).
-use Rattle.std.specs.Prelude.{ℕ, ◌-◌, ◌==◌, Bool, false, true, not, ◌&&◌, ◌||◌, List, [], codes, drop, filter, length, nat_eq, take, Result, Ok, Err, if◌then◌else◌}
+use Rattle.std.specs.Prelude.{◌≡◌, ℕ, ◌-◌, ◌==◌, Bool, false, true, not, ◌&&◌, ◌||◌, List, [], codes, drop, filter, length, nat_eq, take, Result, Ok, Err, if◌then◌else◌}
 use Rattle.std.specs.List.{ends_with, list_all, list_any, slice_split, starts_with}
 use Rattle.std.specs.Option.{ok_or}
 use Rattle.std.specs.Result.{result_ok}
@@ -19,8 +19,8 @@ quote = codes "\""
 abbrev pub is_quoted : List ℕ → Bool
 is_quoted value = starts_with nat_eq value quote && ends_with nat_eq (drop 1 value) quote
 
-abbrev pub unquoted : List ℕ → List ℕ
-unquoted value = if is_quoted value then take (length value - 2) (drop 1 value) else value
+abbrev pub without_quotes : List ℕ → List ℕ
+without_quotes value = if is_quoted value then take (length value - 2) (drop 1 value) else value
 
 abbrev pub number_in : List ℕ → Result ℕ Fault
 number_in value = ok_or (result_ok (number_of value)) BadNumber
@@ -36,19 +36,26 @@ flag_in value = result_and_then yes_or_no (number_in value)
 abbrev pub words_of : List ℕ → List (List ℕ)
 words_of value = filter (λ w. not (length w == 0)) (slice_split (λ c. c == 32) value)
 
+-- no name is there twice
+abbrev pub NamesDiffer : List (List ℕ) → Type 0
+NamesDiffer names = some_pair bytes_eq names ≡ false
+
 -- names of targets, each once
-abbrev pub differing : List (List ℕ) → Result (List (List ℕ)) Fault
-differing words = if some_pair bytes_eq words then Err TargetTwice else Ok words
+abbrev pub differing_names : List (List ℕ) → Result (List (List ℕ)) Fault
+differing_names words = if some_pair bytes_eq words then Err TargetTwice else Ok words
 
 abbrev pub names_of : List (List ℕ) → Result (List (List ℕ)) Fault
-names_of words = if list_all is_target_name words then differing words else Err BadLine
+names_of words = if list_all is_target_name words then differing_names words else Err BadLine
 
 abbrev pub names_in : List ℕ → Result (List (List ℕ)) Fault
 names_in value = names_of (words_of value)
 
 -- the events that reset attempts
 abbrev pub is_event : List ℕ → Bool
-is_event word = bytes_eq word (codes "power-on") || bytes_eq word (codes "reset") || bytes_eq word (codes "all-zero")
+is_event word =
+    bytes_eq word (codes "power-on")
+    || bytes_eq word (codes "reset")
+    || bytes_eq word (codes "all-zero")
 
 abbrev pub has_word : List ℕ → List (List ℕ) → Bool
 has_word name words = list_any (λ w. bytes_eq w name) words

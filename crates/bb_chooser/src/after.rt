@@ -1,10 +1,11 @@
-ghost use Rattle.std.specs.Prelude.{◌≡◌, ◌==◌, ◌&&◌, ◌||◌, ℕ, All, IfSome, IfNone, if◌then◌else◌, length, nat_lt};
+ghost use Rattle.std.specs.Prelude.{◌≡◌, ◌&&◌, All, IfSome, IfNone, length, nat_lt};
 ghost use Rattle.std.specs.List.{list_all, list_any};
 ghost use Rattle.bb_chooser.specs.After as after;
+ghost use Rattle.bb_chooser.specs.After.{counts_after};
 ghost use Rattle.bb_chooser.specs.Binding.{IsInside};
-ghost use Rattle.bb_chooser.specs.Choosing as choosing;
-ghost use Rattle.bb_chooser.specs.Choosing.{IsBestIn, QualifiesIn};
-ghost use Rattle.bb_chooser.specs.Resets.{is_used_up};
+ghost use Rattle.bb_chooser.specs.Choosing.{IsBestIn, NoneQualifiesIn};
+ghost use Rattle.bb_chooser.specs.Resets.{is_spent, is_used_up};
+ghost use Rattle.bb_chooser.specs.ResetsOf.{lacks_priority};
 
 use crate::bound_target::BoundTarget;
 use crate::count::Count;
@@ -27,7 +28,7 @@ fn count_after(target: &BoundTarget, table: &Table, resets: Resets) -> Count
 }
 
 fn default_or(is_reset: bool, default: u32, kept: u32) -> u32
-    ensures { result ≡ (if is_reset then after.as_word default else kept) }
+    ensures { result ≡ after.default_or is_reset default kept }
 {
     if is_reset { default } else { kept }
 }
@@ -35,8 +36,8 @@ fn default_or(is_reset: bool, default: u32, kept: u32) -> u32
 /// The best target after a reset, counted from 0.
 pub(crate) fn best_after(targets: &[BoundTarget], table: &Table, resets: Resets) -> Option<usize>
     requires { All (IsInside (length table.now)) targets.now }
-    ensures best { IfSome result (IsBestIn (after.counts_after resets table.now targets.now)) }
-    ensures none { IfNone result ((target : ℕ) → ¬ QualifiesIn (after.counts_after resets table.now targets.now) target) }
+    ensures best { IfSome result (IsBestIn (counts_after resets table.now targets.now)) }
+    ensures none { IfNone result (NoneQualifiesIn (counts_after resets table.now targets.now)) }
 {
     let mut best = None;
     let mut highest = 0;
@@ -61,7 +62,7 @@ fn is_better(count: Count, highest: u32) -> bool
 /// Whether no target has a priority.
 pub(crate) fn have_no_priority(targets: &[BoundTarget], table: &Table) -> bool
     requires { All (IsInside (length table.now)) targets.now }
-    ensures { result ≡ list_all (λ t. choosing.number_at table.now t.priority_at == 0) targets.now }
+    ensures { result ≡ list_all (lacks_priority table.now) targets.now }
 {
     targets
         .iter()
@@ -71,14 +72,14 @@ pub(crate) fn have_no_priority(targets: &[BoundTarget], table: &Table) -> bool
 /// Whether some target has a priority after a reset, and each that has one has no attempts.
 pub(crate) fn are_used_up(targets: &[BoundTarget], table: &Table, resets: Resets) -> bool
     requires { All (IsInside (length table.now)) targets.now }
-    ensures { result ≡ is_used_up (after.counts_after resets table.now targets.now) }
+    ensures { result ≡ is_used_up (counts_after resets table.now targets.now) }
 {
     have_priority(targets, table, resets) && have_no_attempts(targets, table, resets)
 }
 
 fn have_priority(targets: &[BoundTarget], table: &Table, resets: Resets) -> bool
     requires { All (IsInside (length table.now)) targets.now }
-    ensures { result ≡ list_any (λ t. nat_lt 0 (after.count_after resets table.now t).priority) targets.now }
+    ensures { result ≡ list_any (after.has_priority_after resets table.now) targets.now }
 {
     targets
         .iter()
@@ -87,7 +88,7 @@ fn have_priority(targets: &[BoundTarget], table: &Table, resets: Resets) -> bool
 
 fn have_no_attempts(targets: &[BoundTarget], table: &Table, resets: Resets) -> bool
     requires { All (IsInside (length table.now)) targets.now }
-    ensures { result ≡ list_all (λ t. (after.count_after resets table.now t).priority == 0 || (after.count_after resets table.now t).attempts == 0) targets.now }
+    ensures { result ≡ list_all (after.is_spent_after resets table.now) targets.now }
 {
     targets
         .iter()
@@ -96,7 +97,7 @@ fn have_no_attempts(targets: &[BoundTarget], table: &Table, resets: Resets) -> b
 
 // Without a priority, or without attempts.
 fn is_spent(count: Count) -> bool
-    ensures { result ≡ (count.priority == 0 || count.attempts == 0) }
+    ensures { result ≡ is_spent count }
 {
     count.priority == 0 || count.attempts == 0
 }

@@ -1,8 +1,10 @@
-ghost use Rattle.std.specs.Prelude.{◌≡◌, ◌≢◌, ◌++◌, ◌∷◌, [], Ok, Err, IfOk, IfErr, OnOk, map};
+ghost use Rattle.std.specs.Prelude.{◌≡◌, ◌++◌, ◌∷◌, [], Ok, IfOk, IfErr, OnOk};
 ghost use Rattle.std.specs.Option.{option_copied, option_map};
-ghost use Rattle.bb_layout.specs.Results.{all_ok};
 ghost use Rattle.bb_chooser.specs.Binding as binding;
-ghost use Rattle.bb_chooser.specs.Lines.{parted};
+ghost use Rattle.bb_chooser.specs.InLayout.{all_bound_in, bound_in, last_chosen_place, uint32_place, variable_in};
+ghost use Rattle.bb_chooser.specs.Lines.{sides_at};
+ghost use Rattle.bb_chooser.specs.Refusals.{Refuses};
+ghost use Rattle.bb_chooser.specs.References.{text_pair};
 
 use crate::SettingsError;
 use crate::bound_target::BoundTarget;
@@ -19,8 +21,9 @@ pub(crate) fn bound_targets(
     prefix: &str,
     targets: Vec<Target>,
 ) -> Result<Vec<BoundTarget>, SettingsError>
-    ensures ok { IfOk result (λ bound. all_ok (map (binding.bound_of layout.now.name layout.now.vars prefix.now) targets.items) ≡ Ok bound.items) }
-    ensures refused { IfErr result (λ e. e ≢ SettingsError.NoMemory → all_ok (map (binding.bound_of layout.now.name layout.now.vars prefix.now) targets.items) ≡ Err e) }
+    ensures ok { IfOk result (λ bound.
+        all_bound_in layout.now prefix.now targets.items ≡ Ok bound.items) }
+    ensures refused { IfErr result (Refuses (all_bound_in layout.now prefix.now targets.items)) }
 {
     let mut bound = Vec::new(alloc);
     for target in targets {
@@ -42,8 +45,8 @@ fn bound_target(
     prefix: &str,
     target: Target,
 ) -> Result<BoundTarget, SettingsError>
-    ensures ok { IfOk result (λ bound. binding.bound_of layout.now.name layout.now.vars prefix.now target ≡ Ok bound) }
-    ensures refused { IfErr result (λ e. e ≢ SettingsError.NoMemory → binding.bound_of layout.now.name layout.now.vars prefix.now target ≡ Err e) }
+    ensures ok { IfOk result (λ bound. bound_in layout.now prefix.now target ≡ Ok bound) }
+    ensures refused { IfErr result (Refuses (bound_in layout.now prefix.now target)) }
 {
     let attempts = attempts_name(alloc, prefix, &target.name)?;
     let attempts_at = uint32_at(alloc, layout, attempts.as_str())?;
@@ -78,8 +81,8 @@ pub(crate) fn last_chosen_at(
     layout: &Layout,
     prefix: &str,
 ) -> Result<u32, SettingsError>
-    ensures ok { IfOk result (λ at. binding.uint32_at layout.now.name layout.now.vars (binding.last_chosen_name prefix.now) ≡ Ok at) }
-    ensures refused { IfErr result (λ e. e ≢ SettingsError.NoMemory → binding.uint32_at layout.now.name layout.now.vars (binding.last_chosen_name prefix.now) ≡ Err e) }
+    ensures ok { IfOk result (λ at. last_chosen_place layout.now prefix.now ≡ Ok at) }
+    ensures refused { IfErr result (Refuses (last_chosen_place layout.now prefix.now)) }
 {
     let name = last_chosen_name(alloc, prefix)?;
     uint32_at(alloc, layout, name.as_str())
@@ -94,8 +97,8 @@ fn last_chosen_name(alloc: Global, prefix: &str) -> Result<Text, NoMemory>
 
 // The place of the uint32 of this name, which begins with the layout's.
 fn uint32_at(alloc: Global, layout: &Layout, full: &str) -> Result<u32, SettingsError>
-    ensures ok { IfOk result (λ at. binding.uint32_at layout.now.name layout.now.vars full.now ≡ Ok at) }
-    ensures refused { IfErr result (λ e. e ≢ SettingsError.NoMemory → binding.uint32_at layout.now.name layout.now.vars full.now ≡ Err e) }
+    ensures ok { IfOk result (λ at. uint32_place layout.now full.now ≡ Ok at) }
+    ensures refused { IfErr result (Refuses (uint32_place layout.now full.now)) }
 {
     let Some(var) = variable_called(layout, full) else {
         return Err(SettingsError::no_such_variable(alloc, full));
@@ -107,7 +110,7 @@ fn uint32_at(alloc: Global, layout: &Layout, full: &str) -> Result<u32, Settings
 }
 
 fn variable_called<'a>(layout: &'a Layout, full: &str) -> Option<&'a Var>
-    ensures { option_copied result ≡ binding.variable_called layout.now.name layout.now.vars full.now }
+    ensures { option_copied result ≡ variable_in layout.now full.now }
 {
     let (name, rest) = layout_and_variable(full)?;
     if name != layout.name.as_str() {
@@ -117,7 +120,7 @@ fn variable_called<'a>(layout: &'a Layout, full: &str) -> Option<&'a Var>
 }
 
 fn layout_and_variable(full: &str) -> Option<(&str, &str)>
-    ensures { option_map (λ p. (p.0.now, p.1.now)) result ≡ parted 46 full.now }
+    ensures { option_map text_pair result ≡ sides_at 46 full.now }
 {
     let (name, rest) = full.split_once('.')?;
     Some((name, rest))

@@ -1,5 +1,6 @@
-ghost use Rattle.std.specs.Prelude.{◌≡◌, ◌≢◌, ◌==◌, ◌&&◌, Ok, Err, IfOk, IfErr};
+ghost use Rattle.std.specs.Prelude.{◌≡◌, ◌==◌, ◌&&◌, Ok, IfOk, IfErr};
 ghost use Rattle.bb_chooser.specs.Binding.{bind_of};
+ghost use Rattle.bb_chooser.specs.Refusals.{Refuses};
 ghost use Rattle.bb_chooser.specs.Resets.{has_cause};
 
 use crate::SettingsError;
@@ -19,8 +20,8 @@ use bb_vars::Table;
 use std::alloc::Global;
 use std::marker::Model;
 
-/// Targets that are bound to the variables of a layout. They are counted from 0; a target's place, as a table keeps it, is
-/// that number plus 1. No two of their variables share a byte.
+/// Targets that are bound to the variables of a layout. They are counted from 0; a target's place,
+/// as a table keeps it, is that number plus 1. No two of their variables share a byte.
 #[derive(Drop)]
 pub struct Chooser {
     targets: Vec<BoundTarget>,
@@ -36,23 +37,26 @@ impl Model for Chooser {
 
     ghost view = { λ c. binding c.targets.items c.rules c.last_chosen_at c.area_len };
 
-    ghost invariant = { λ c. IsBinding (binding c.targets.items c.rules c.last_chosen_at c.area_len) };
+    ghost invariant = { λ c.
+        IsBinding (binding c.targets.items c.rules c.last_chosen_at c.area_len) };
 }
 
 impl Chooser {
-    ghost use Rattle.std.specs.Prelude.{◌≢◌, ◌<◌, ◌≤◌, ◌↔◌, List, ℕ, Ok, Err, IfOk, IfErr, IfSome, IsNone, IsTrue, IsSome, length, slice_get};
-    ghost use Rattle.std.specs.Option.{option_copied, option_map};
+    ghost use Rattle.std.specs.Prelude.{◌<◌, ◌≤◌, ◌↔◌, List, ℕ, Ok, IfOk, IfErr, IfSome, IsNone, IsTrue, IsSome, length};
+    ghost use Rattle.std.specs.Option.{option_copied};
+    ghost use Rattle.bb_base.specs.Form.{area_limit};
     ghost use Rattle.bb_chooser.specs.Binding.{IsBinding, bind_of};
     ghost use Rattle.bb_chooser.specs.Choosing as choosing;
-    ghost use Rattle.bb_chooser.specs.Choosing.{IsBest, Qualifies};
+    ghost use Rattle.bb_chooser.specs.Choosing.{IsBest, NoneQualifies, entry_of, name_of};
     ghost use Rattle.bb_chooser.specs.Counting.{chosen_target, mark_good_of, spend_of};
     ghost use Rattle.bb_chooser.specs.Others.{KeepsOthers};
     ghost use Rattle.bb_chooser.specs.Refusals.{ComesFrom, Refuses};
     ghost use Rattle.bb_chooser.specs.Resets.{reset_of};
     ghost use Rattle.bb_chooser.specs.ResetsOf.{attempts_reset, priorities_reset, resets_of};
 
-    /// Binds each target to its variables of the layout, `remaining_attempts` before `priority`, and `last_chosen` last.
-    /// The prefix's first name is the layout's, and the rest leads to the variables (barebox User Manual, Bootchooser).
+    /// Binds each target to its variables of the layout, `remaining_attempts` before `priority`,
+    /// and `last_chosen` last. The prefix's first name is the layout's, and the rest leads to the
+    /// variables (barebox User Manual, Bootchooser).
     pub fn bind(
         alloc: Global,
         settings: Settings,
@@ -63,16 +67,19 @@ impl Chooser {
         ensures sized { IfOk result (λ chooser. chooser.area_len ≡ layout.now.area_len) }
 
         // Each refusal, and where it comes.
-        ensures no_such_variable { (name : List ℕ) → ComesFrom result (bind_of settings layout.now) (SettingsError.NoSuchVariable name) }
-        ensures not_uint32 { (name : List ℕ) → ComesFrom result (bind_of settings layout.now) (SettingsError.NotUint32 name) }
+        ensures no_such_variable { (name : List ℕ) → ComesFrom result
+            (bind_of settings layout.now) (SettingsError.NoSuchVariable name) }
+        ensures not_uint32 { (name : List ℕ) → ComesFrom result
+            (bind_of settings layout.now) (SettingsError.NotUint32 name) }
     {
         bound_chooser(alloc, settings, layout)
     }
 
-    /// How many targets there are. Since no two of their variables share a byte they are at most 65,535.
+    /// How many targets there are. Since no two of their variables share a byte they are at most
+    /// 65,535.
     pub fn count(&self) -> usize
         ensures count { result ≡ length self.now.targets }
-        ensures few { result ≤ 65535 }
+        ensures few { result ≤ area_limit }
         ensures binding { IsBinding self.now }
     {
         self.targets.len()
@@ -80,7 +87,7 @@ impl Chooser {
 
     /// A target's name, `None` exactly from the count on.
     pub fn name(&self, target: usize) -> Option<&Text>
-        ensures { option_copied result ≡ option_map (λ t. t.target.name) (slice_get self.now.targets target) }
+        ensures { option_copied result ≡ name_of self.now target }
     {
         let bound = self.targets.get(target)?;
         Some(&bound.target.name)
@@ -88,7 +95,7 @@ impl Chooser {
 
     /// The name of a target's entry file, `None` exactly from the count on.
     pub fn entry(&self, target: usize) -> Option<&Text>
-        ensures { option_copied result ≡ option_map (λ t. t.target.entry) (slice_get self.now.targets target) }
+        ensures { option_copied result ≡ entry_of self.now target }
     {
         let bound = self.targets.get(target)?;
         Some(&bound.target.entry)
@@ -127,12 +134,12 @@ impl Chooser {
         number_at(table, self.last_chosen_at)
     }
 
-    /// The target that starts next: of those with a priority and attempts left the one of the highest priority, and of
-    /// equal ones the first. `None` exactly where there is none.
+    /// The target that starts next: of those with a priority and attempts left the one of the
+    /// highest priority, and of equal ones the first. `None` exactly where there is none.
     pub fn choose(&self, table: &Table) -> Option<usize>
         requires { length table.now ≡ self.now.area_len }
         ensures best { IfSome result (IsBest self.now table.now) }
-        ensures none { IsNone result ↔ ((target : ℕ) → ¬ Qualifies self.now table.now target) }
+        ensures none { IsNone result ↔ NoneQualifies self.now table.now }
     {
         let resets = Resets {
             priorities: false,
@@ -145,12 +152,13 @@ impl Chooser {
     pub fn choose_after(&self, table: &Table, cause: Cause) -> Option<usize>
         requires { length table.now ≡ self.now.area_len }
         ensures best { IfSome result (IsBest self.now (reset_of self.now cause table.now)) }
-        ensures none { IsNone result ↔ ((target : ℕ) → ¬ Qualifies self.now (reset_of self.now cause table.now) target) }
+        ensures none { IsNone result ↔ NoneQualifies self.now (reset_of self.now cause table.now) }
     {
         best_after(self.targets.as_slice(), table, self.resets(table, cause))
     }
 
-    /// Gives priorities, and then attempts, their defaults back, where the settings say so for this cause and table.
+    /// Gives priorities, and then attempts, their defaults back, where the settings say so for this
+    /// cause and table.
     pub fn reset(&self, table: &mut Table, cause: Cause)
         requires { length table.old ≡ self.now.area_len }
         ensures reset { table.new ≡ reset_of self.now cause table.old }
@@ -196,8 +204,8 @@ impl Chooser {
         events.all_zero && are_used_up(self.targets.as_slice(), table, resets)
     }
 
-    /// Takes an attempt from a target, which has one, and notes it as the one that was chosen last. With its last attempt
-    /// it loses its priority, where the settings say so.
+    /// Takes an attempt from a target, which has one, and notes it as the one that was chosen last.
+    /// With its last attempt it loses its priority, where the settings say so.
     pub fn spend(&self, table: &mut Table, target: usize)
         requires sized { length table.old ≡ self.now.area_len }
         requires there { target < length self.now.targets }
@@ -215,8 +223,8 @@ impl Chooser {
         put_number(table, bound.priority_at, 0);
     }
 
-    /// Gives the target that was chosen last its default attempts back. The answer is false, and nothing changes, exactly
-    /// where no target has that place.
+    /// Gives the target that was chosen last its default attempts back. The answer is false, and
+    /// nothing changes, exactly where no target has that place.
     pub fn mark_good(&self, table: &mut Table) -> bool
         requires { length table.old ≡ self.now.area_len }
         ensures good { IsTrue result ↔ IsSome (chosen_target self.now table.old) }
@@ -260,7 +268,7 @@ fn bound_chooser(
     layout: &Layout,
 ) -> Result<Chooser, SettingsError>
     ensures ok { IfOk result (λ chooser. bind_of settings layout.now ≡ Ok chooser) }
-    ensures refused { IfErr result (λ e. e ≢ SettingsError.NoMemory → bind_of settings layout.now ≡ Err e) }
+    ensures refused { IfErr result (Refuses (bind_of settings layout.now)) }
     ensures sized { IfOk result (λ chooser. chooser.area_len ≡ layout.now.area_len) }
 {
     let Settings {

@@ -1,9 +1,7 @@
-ghost use Rattle.std.specs.Prelude.{◌≡◌, [], IfOk, OnOk, false, map};
-ghost use Rattle.std.specs.Str.{bytes_eq};
+ghost use Rattle.std.specs.Prelude.{◌≡◌, [], IfOk, OnOk};
 ghost use Rattle.std.specs.String.{string_bytes};
-ghost use Rattle.bb_layout.specs.Ranges.{some_pair};
 ghost use Rattle.bb_chooser.specs.Settings as spec;
-ghost use Rattle.bb_chooser.specs.GivenSoFar.{adds, given_in};
+ghost use Rattle.bb_chooser.specs.GivenSoFar.{given_in, given_with, target_called};
 
 use crate::events::Events;
 use crate::names::Names;
@@ -53,7 +51,7 @@ impl GivenSoFar {
 
     /// Takes what the next line sets.
     pub(crate) fn take(&mut self, alloc: Global, setting: Setting) -> Result<(), NoMemory>
-        ensures { OnOk result (given_in self.new ≡ adds setting (given_in self.old)) }
+        ensures { OnOk result (given_in self.new ≡ given_with setting (given_in self.old)) }
     {
         match setting {
             Setting::Targets(names) => self.targets = Some(names),
@@ -80,7 +78,7 @@ impl GivenSoFar {
     /// The targets of the last line that names them.
     pub(crate) fn targets(&self, alloc: Global) -> Result<Vec<Target>, NoMemory>
         ensures ok { IfOk result (λ targets. targets.items ≡ spec.targets_of (given_in self.now)) }
-        ensures differ { IfOk result (λ targets. some_pair bytes_eq (map (λ t. t.name) targets.items) ≡ false) }
+        ensures differ { IfOk result (λ targets. spec.TargetsDiffer targets.items) }
     {
         let mut targets = Vec::new(alloc);
         let Some(names) = &self.targets else {
@@ -96,7 +94,7 @@ impl GivenSoFar {
     }
 
     fn target(&self, alloc: Global, name: &str) -> Result<Target, NoMemory>
-        ensures { IfOk result (λ target. target ≡ spec.target_of (given_in self.now) name.now) }
+        ensures { IfOk result (λ target. target ≡ target_called self.now name.now) }
     {
         Ok(Target {
             name: Text::of(alloc, name)?,
@@ -107,7 +105,7 @@ impl GivenSoFar {
     }
 
     fn entry(&self, alloc: Global, name: &str) -> Result<Text, NoMemory>
-        ensures { IfOk result (λ entry. entry ≡ (spec.target_of (given_in self.now) name.now).entry) }
+        ensures { IfOk result (λ entry. entry ≡ (target_called self.now name.now).entry) }
     {
         match self.boots.get(name) {
             Some(file) => file.copy(),
@@ -116,7 +114,7 @@ impl GivenSoFar {
     }
 
     fn default_attempts(&self, name: &str) -> u32
-        ensures { result ≡ (spec.target_of (given_in self.now) name.now).default_attempts }
+        ensures { result ≡ (target_called self.now name.now).default_attempts }
     {
         match self.attempts_of.get(name) {
             Some(n) => *n,
@@ -125,7 +123,7 @@ impl GivenSoFar {
     }
 
     fn default_priority(&self, name: &str) -> u32
-        ensures { result ≡ (spec.target_of (given_in self.now) name.now).default_priority }
+        ensures { result ≡ (target_called self.now name.now).default_priority }
     {
         match self.priority_of.get(name) {
             Some(n) => *n,

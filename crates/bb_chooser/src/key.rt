@@ -49,7 +49,8 @@ pub(crate) fn target_key_of(word: &str) -> Option<TargetKey>
     }
 }
 
-/// Whether a target may be called so: one or more letters, digits, `_` and `-`, and no key that is set for all targets.
+/// Whether a target may be called so: one or more letters, digits, `_` and `-`, and no key that is
+/// set for all targets.
 pub(crate) fn is_target_name(word: &str) -> bool
     ensures { result ≡ is_target_name word.now }
 {

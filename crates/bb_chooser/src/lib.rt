@@ -1,5 +1,6 @@
-//! Bootchooser's settings, the targets that they name, and which target starts next (barebox User Manual, Bootchooser).
-//! Sessions stand on it; it knows variables of a layout and tables, and neither devices nor files.
+//! Bootchooser's settings, the targets that they name, and which target starts next (barebox User
+//! Manual, Bootchooser). Sessions stand on it; it knows variables of a layout and tables, and
+//! neither devices nor files.
 #![tactic(auto)]
 
 mod after;
@@ -29,6 +30,3 @@ pub use cause::Cause;
 pub use chooser::Chooser;
 pub use settings::Settings;
 pub use settings_error::SettingsError;
-
-#[cfg(test)]
-mod tests;

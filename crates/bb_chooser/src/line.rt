@@ -1,17 +1,19 @@
-ghost use Rattle.std.specs.Prelude.{◌≡◌, ◌≢◌, Ok, Err, IfOk, IfErr};
+ghost use Rattle.std.specs.Prelude.{◌≡◌, Ok, IfOk, IfErr};
 ghost use Rattle.std.specs.Option.{option_map};
+ghost use Rattle.bb_chooser.specs.Faults.{RefusesLine};
 ghost use Rattle.bb_chooser.specs.Lines as spec;
+ghost use Rattle.bb_chooser.specs.References.{text_pair};
 
 use crate::fault::Fault;
 use crate::setting::{Setting, read_setting};
-use crate::value::unquoted;
+use crate::value::without_quotes;
 use std::alloc::Global;
 use std::str;
 
 /// What a line sets. A line of blanks, and a comment, set nothing.
 pub(crate) fn read_line(alloc: Global, line: &[u8]) -> Result<Option<Setting>, Fault>
     ensures ok { IfOk result (λ setting. spec.line_of line.now ≡ Ok setting) }
-    ensures refused { IfErr result (λ e. e ≢ Fault.NoMemory → spec.line_of line.now ≡ Err e) }
+    ensures refused { IfErr result (RefusesLine (spec.line_of line.now)) }
 {
     let Ok(text) = str::from_utf8(line) else {
         return Err(Fault::BadLine);
@@ -40,7 +42,7 @@ fn is_blank(c: u8) -> bool
 // `global.bootchooser.KEY=VALUE`
 fn assignment(alloc: Global, text: &str) -> Result<Setting, Fault>
     ensures ok { IfOk result (λ setting. spec.assignment_of text.now ≡ Ok setting) }
-    ensures refused { IfErr result (λ e. e ≢ Fault.NoMemory → spec.assignment_of text.now ≡ Err e) }
+    ensures refused { IfErr result (RefusesLine (spec.assignment_of text.now)) }
 {
     let Some(rest) = text.strip_prefix("global.bootchooser.") else {
         return Err(Fault::BadLine);
@@ -51,16 +53,16 @@ fn assignment(alloc: Global, text: &str) -> Result<Setting, Fault>
 // `KEY=VALUE`
 fn pair_setting(alloc: Global, text: &str) -> Result<Setting, Fault>
     ensures ok { IfOk result (λ setting. spec.pair_setting_of text.now ≡ Ok setting) }
-    ensures refused { IfErr result (λ e. e ≢ Fault.NoMemory → spec.pair_setting_of text.now ≡ Err e) }
+    ensures refused { IfErr result (RefusesLine (spec.pair_setting_of text.now)) }
 {
     let Some((key, value)) = key_and_value(text) else {
         return Err(Fault::BadLine);
     };
-    read_setting(alloc, key, unquoted(value))
+    read_setting(alloc, key, without_quotes(value))
 }
 
 fn key_and_value(text: &str) -> Option<(&str, &str)>
-    ensures { option_map (λ p. (p.0.now, p.1.now)) result ≡ spec.parted 61 text.now }
+    ensures { option_map text_pair result ≡ spec.sides_at 61 text.now }
 {
     let (key, value) = text.split_once('=')?;
     Some((key, value))

@@ -1,8 +1,8 @@
-ghost use Rattle.std.specs.Prelude.{◌≡◌, ◌++◌, ◌∷◌, [], not, length, IfOk, slice_get, false, if◌then◌else◌};
+ghost use Rattle.std.specs.Prelude.{◌≡◌, ◌++◌, ◌∷◌, [], not, length, IfOk, slice_get, if◌then◌else◌};
 ghost use Rattle.std.specs.List.{list_any};
 ghost use Rattle.std.specs.Option.{option_copied};
 ghost use Rattle.std.specs.Str.{bytes_eq};
-ghost use Rattle.bb_layout.specs.Ranges.{some_pair};
+ghost use Rattle.bb_chooser.specs.Values.{NamesDiffer};
 
 use bb_base::NoMemory;
 use indexmap::IndexSet;
@@ -17,16 +17,15 @@ pub(crate) struct Names {
 }
 
 impl Model for Names {
-    ghost use Rattle.std.specs.Prelude.{◌≡◌, List, ℕ, map, false};
-    ghost use Rattle.std.specs.Str.{bytes_eq};
+    ghost use Rattle.std.specs.Prelude.{List, ℕ, map};
     ghost use Rattle.std.specs.String.{string_bytes};
-    ghost use Rattle.bb_layout.specs.Ranges.{some_pair};
+    ghost use Rattle.bb_chooser.specs.Values.{NamesDiffer};
 
     ghost Value = { List (List ℕ) };
 
     ghost view = { λ n. map string_bytes n.inner.keys };
 
-    ghost invariant = { λ n. some_pair bytes_eq (map string_bytes n.inner.keys) ≡ false };
+    ghost invariant = { λ n. NamesDiffer (map string_bytes n.inner.keys) };
 }
 
 impl Names {
@@ -43,8 +42,9 @@ impl Names {
     /// Appends a name that isn't there yet. The answer says whether it wasn't.
     pub(crate) fn add(&mut self, name: &str) -> Result<bool, NoMemory>
         ensures added { IfOk result (λ added. added ≡ not (list_any (bytes_eq name.now) self.old)) }
-        ensures names { IfOk result (λ added. self.new ≡ (if added then self.old ++ name.now ∷ [] else self.old)) }
-        ensures differ { some_pair bytes_eq self.new ≡ false }
+        ensures names { IfOk result (λ added.
+            self.new ≡ (if added then self.old ++ name.now ∷ [] else self.old)) }
+        ensures differ { NamesDiffer self.new }
     {
         let name = String::from_str(self.alloc, name)?;
         let added = self.inner.insert(name)?;
@@ -53,7 +53,7 @@ impl Names {
 
     pub(crate) fn len(&self) -> usize
         ensures value { result ≡ length self.now }
-        ensures differ { some_pair bytes_eq self.now ≡ false }
+        ensures differ { NamesDiffer self.now }
     {
         self.inner.len()
     }

@@ -1,10 +1,11 @@
-ghost use Rattle.std.specs.Prelude.{◌≡◌, ◌≢◌, ◌==◌, ◌<◌, Ok, Err, IfOk, IfErr, OnOk, map, length};
+ghost use Rattle.std.specs.Prelude.{◌≡◌, ◌==◌, ◌<◌, IfOk, IfErr, OnOk, length};
 ghost use Rattle.std.specs.List.{slice_split};
 ghost use Rattle.std.specs.Str.Lines.{strip_carriage_return};
 ghost use Rattle.bb_chooser.specs.GivenSoFar.{given_in};
-ghost use Rattle.bb_chooser.specs.Lines.{line_of};
-ghost use Rattle.bb_chooser.specs.Reading as reading;
-ghost use Rattle.bb_chooser.specs.Settings as spec;
+ghost use Rattle.bb_chooser.specs.Reading.{IsGivenBy, Takes, line_in, settings_in_parts};
+ghost use Rattle.bb_chooser.specs.Refusals.{Refuses};
+ghost use Rattle.bb_chooser.specs.References.{texts_of};
+ghost use Rattle.bb_chooser.specs.Settings.{setting_at};
 
 use crate::SettingsError;
 use crate::given::GivenSoFar;
@@ -14,7 +15,7 @@ use std::alloc::Global;
 
 /// What stands between line feeds.
 pub(crate) fn parts(alloc: Global, text: &[u8]) -> Result<Vec<&[u8]>, NoMemory>
-    ensures { IfOk result (λ parts. map (λ p. p.now) parts.items ≡ slice_split (λ c. c == 10) text.now) }
+    ensures { IfOk result (λ parts. texts_of parts.items ≡ slice_split (λ c. c == 10) text.now) }
 {
     let parts = text.split(|c| *c == b'\n').collect(alloc)?;
     Ok(parts)
@@ -22,8 +23,9 @@ pub(crate) fn parts(alloc: Global, text: &[u8]) -> Result<Vec<&[u8]>, NoMemory>
 
 /// What the lines set, of which these are the parts between line feeds.
 pub(crate) fn read_parts(alloc: Global, parts: &[&[u8]]) -> Result<GivenSoFar, SettingsError>
-    ensures ok { IfOk result (λ given. reading.IsGivenBy (given_in given) (reading.said_by 1 (map (λ p. p.now) parts.now))) }
-    ensures refused { IfErr result (λ e. e ≢ SettingsError.NoMemory → reading.said_by 1 (map (λ p. p.now) parts.now) ≡ Err e) }
+    ensures ok { IfOk result (λ given.
+        IsGivenBy (given_in given) (settings_in_parts 1 (texts_of parts.now))) }
+    ensures refused { IfErr result (Refuses (settings_in_parts 1 (texts_of parts.now))) }
 {
     let mut given = GivenSoFar::none(alloc);
     for i in 0..parts.len() {
@@ -35,7 +37,7 @@ pub(crate) fn read_parts(alloc: Global, parts: &[&[u8]]) -> Result<GivenSoFar, S
 // A part is a line, and loses the CR at its end where a line feed comes behind it.
 fn line_at<'a>(parts: &[&'a [u8]], i: usize) -> &'a [u8]
     requires { i < length parts.now }
-    ensures { result.now ≡ reading.line_in (map (λ p. p.now) parts.now) i }
+    ensures { result.now ≡ line_in (texts_of parts.now) i }
 {
     let part = parts[i];
     if i + 1 < parts.len() {
@@ -59,8 +61,9 @@ fn take_line(
     number: usize,
     given: &mut GivenSoFar,
 ) -> Result<(), SettingsError>
-    ensures ok { OnOk result (reading.Takes (spec.at_line number (line_of line.now)) (given_in given.old) (given_in given.new)) }
-    ensures refused { IfErr result (λ e. e ≢ SettingsError.NoMemory → spec.at_line number (line_of line.now) ≡ Err e) }
+    ensures ok { OnOk result
+        (Takes (setting_at number line.now) (given_in given.old) (given_in given.new)) }
+    ensures refused { IfErr result (Refuses (setting_at number line.now)) }
 {
     let setting = read_line(alloc, line).map_err(|fault| fault.at(number))?;
     if let Some(setting) = setting {

@@ -1,6 +1,8 @@
-ghost use Rattle.std.specs.Prelude.{◌≡◌, ◌≢◌, Ok, Err, IfOk, IfErr};
+ghost use Rattle.std.specs.Prelude.{◌≡◌, Ok, IfOk, IfErr};
 ghost use Rattle.std.specs.Option.{option_map};
+ghost use Rattle.bb_chooser.specs.Faults.{RefusesLine};
 ghost use Rattle.bb_chooser.specs.Lines as spec;
+ghost use Rattle.bb_chooser.specs.References.{text_pair};
 
 use crate::events::Events;
 use crate::fault::Fault;
@@ -32,7 +34,7 @@ pub(crate) enum Setting {
 /// What a key and its value set.
 pub(crate) fn read_setting(alloc: Global, key: &str, value: &str) -> Result<Setting, Fault>
     ensures ok { IfOk result (λ setting. spec.setting_of key.now value.now ≡ Ok setting) }
-    ensures refused { IfErr result (λ e. e ≢ Fault.NoMemory → spec.setting_of key.now value.now ≡ Err e) }
+    ensures refused { IfErr result (RefusesLine (spec.setting_of key.now value.now)) }
 {
     match key_of(key) {
         Some(key) => general_setting(alloc, key, value),
@@ -42,7 +44,7 @@ pub(crate) fn read_setting(alloc: Global, key: &str, value: &str) -> Result<Sett
 
 fn general_setting(alloc: Global, key: Key, value: &str) -> Result<Setting, Fault>
     ensures ok { IfOk result (λ setting. spec.general_setting_of key value.now ≡ Ok setting) }
-    ensures refused { IfErr result (λ e. e ≢ Fault.NoMemory → spec.general_setting_of key value.now ≡ Err e) }
+    ensures refused { IfErr result (RefusesLine (spec.general_setting_of key value.now)) }
 {
     match key {
         Key::Targets => Ok(Setting::Targets(names(alloc, value)?)),
@@ -58,7 +60,7 @@ fn general_setting(alloc: Global, key: Key, value: &str) -> Result<Setting, Faul
 
 fn target_setting(alloc: Global, key: &str, value: &str) -> Result<Setting, Fault>
     ensures ok { IfOk result (λ setting. spec.target_setting_of key.now value.now ≡ Ok setting) }
-    ensures refused { IfErr result (λ e. e ≢ Fault.NoMemory → spec.target_setting_of key.now value.now ≡ Err e) }
+    ensures refused { IfErr result (RefusesLine (spec.target_setting_of key.now value.now)) }
 {
     let Some((name, own)) = name_and_own(key) else {
         return Err(Fault::BadLine);
@@ -73,7 +75,7 @@ fn target_setting(alloc: Global, key: &str, value: &str) -> Result<Setting, Faul
 }
 
 fn name_and_own(key: &str) -> Option<(&str, &str)>
-    ensures { option_map (λ p. (p.0.now, p.1.now)) result ≡ spec.parted 46 key.now }
+    ensures { option_map text_pair result ≡ spec.sides_at 46 key.now }
 {
     let (name, own) = key.split_once('.')?;
     Some((name, own))
@@ -81,7 +83,7 @@ fn name_and_own(key: &str) -> Option<(&str, &str)>
 
 fn own_setting(alloc: Global, key: TargetKey, name: &str, value: &str) -> Result<Setting, Fault>
     ensures ok { IfOk result (λ setting. spec.own_setting_of key name.now value.now ≡ Ok setting) }
-    ensures refused { IfErr result (λ e. e ≢ Fault.NoMemory → spec.own_setting_of key name.now value.now ≡ Err e) }
+    ensures refused { IfErr result (RefusesLine (spec.own_setting_of key name.now value.now)) }
 {
     let name = Text::of(alloc, name)?;
     match key {

@@ -1,4 +1,4 @@
-ghost use Rattle.std.specs.Prelude.{◌≡◌, ◌≢◌, ℕ, Ok, Err, IfOk, IfErr, codes, unwrap_or};
+ghost use Rattle.std.specs.Prelude.{◌≡◌, ℕ, Ok, IfOk, IfErr, codes, unwrap_or};
 ghost use Rattle.bb_chooser.specs.GivenSoFar.{given_in};
 ghost use Rattle.bb_chooser.specs.Refusals.{ComesFrom, Refuses};
 ghost use Rattle.bb_chooser.specs.Settings as spec;
@@ -12,8 +12,8 @@ use bb_base::{NoMemory, Text};
 use std::alloc::Global;
 use std::marker::Model;
 
-/// What bootchooser's settings say: the targets in their order, the prefix of their variables, and when what is reset.
-/// The targets' names differ.
+/// What bootchooser's settings say: the targets in their order, the prefix of their variables, and
+/// when what is reset. The targets' names differ.
 #[derive(Drop)]
 pub struct Settings {
     pub(crate) targets: Vec<Target>,
@@ -22,31 +22,33 @@ pub struct Settings {
 }
 
 impl Model for Settings {
-    ghost use Rattle.std.specs.Prelude.{◌≡◌, map, false};
-    ghost use Rattle.std.specs.Str.{bytes_eq};
-    ghost use Rattle.bb_layout.specs.Ranges.{some_pair};
-    ghost use Rattle.bb_chooser.specs.Settings.{Configuration};
+    ghost use Rattle.bb_chooser.specs.Settings.{Configuration, TargetsDiffer};
 
     ghost Value = { Configuration };
 
     ghost view = { λ s. record { targets = s.targets.items; prefix = s.prefix; rules = s.rules } };
 
-    ghost invariant = { λ s. some_pair bytes_eq (map (λ t. t.name) s.targets.items) ≡ false };
+    ghost invariant = { λ s. TargetsDiffer s.targets.items };
 }
 
 impl Settings {
-    /// Reads settings: lines `global.bootchooser.KEY=VALUE`, of which the last for a key counts, lines of blanks, and
-    /// comments behind `#`. A line ends in LF or CR LF, and the last may end without (barebox User Manual, Bootchooser).
-    /// The first line that is bad decides, with its number from 1; that there is no target is looked at last.
+    /// Reads settings: lines `global.bootchooser.KEY=VALUE`, of which the last for a key counts,
+    /// lines of blanks, and comments behind `#`. A line ends in LF or CR LF, and the last may end
+    /// without (barebox User Manual, Bootchooser). The first line that is bad decides, with its
+    /// number from 1; that there is no target is looked at last.
     pub fn read(alloc: Global, text: &[u8]) -> Result<Settings, SettingsError>
         ensures ok { IfOk result (λ settings. spec.settings_of text.now ≡ Ok settings) }
         ensures refused { IfErr result (Refuses (spec.settings_of text.now)) }
 
         // Each refusal, and where it comes.
-        ensures bad_line { (line : ℕ) → ComesFrom result (spec.settings_of text.now) (SettingsError.BadLine line) }
-        ensures target_twice { (line : ℕ) → ComesFrom result (spec.settings_of text.now) (SettingsError.TargetTwice line) }
-        ensures bad_number { (line : ℕ) → ComesFrom result (spec.settings_of text.now) (SettingsError.BadNumber line) }
-        ensures bad_event { (line : ℕ) → ComesFrom result (spec.settings_of text.now) (SettingsError.BadEvent line) }
+        ensures bad_line { (line : ℕ)
+            → ComesFrom result (spec.settings_of text.now) (SettingsError.BadLine line) }
+        ensures target_twice { (line : ℕ)
+            → ComesFrom result (spec.settings_of text.now) (SettingsError.TargetTwice line) }
+        ensures bad_number { (line : ℕ)
+            → ComesFrom result (spec.settings_of text.now) (SettingsError.BadNumber line) }
+        ensures bad_event { (line : ℕ)
+            → ComesFrom result (spec.settings_of text.now) (SettingsError.BadEvent line) }
         ensures no_targets { ComesFrom result (spec.settings_of text.now) SettingsError.NoTargets }
     {
         read_settings(alloc, text)
@@ -55,16 +57,16 @@ impl Settings {
 
 fn read_settings(alloc: Global, text: &[u8]) -> Result<Settings, SettingsError>
     ensures ok { IfOk result (λ settings. spec.settings_of text.now ≡ Ok settings) }
-    ensures refused { IfErr result (λ e. e ≢ SettingsError.NoMemory → spec.settings_of text.now ≡ Err e) }
+    ensures refused { IfErr result (Refuses (spec.settings_of text.now)) }
 {
     let parts = parts(alloc, text)?;
     let given = read_parts(alloc, parts.as_slice())?;
-    configured(alloc, given)
+    configuration_of(alloc, given)
 }
 
-fn configured(alloc: Global, given: GivenSoFar) -> Result<Settings, SettingsError>
+fn configuration_of(alloc: Global, given: GivenSoFar) -> Result<Settings, SettingsError>
     ensures ok { IfOk result (λ settings. spec.configuration_of (given_in given) ≡ Ok settings) }
-    ensures refused { IfErr result (λ e. e ≢ SettingsError.NoMemory → spec.configuration_of (given_in given) ≡ Err e) }
+    ensures refused { IfErr result (Refuses (spec.configuration_of (given_in given))) }
 {
     let targets = given.targets(alloc)?;
     if targets.is_empty() {

@@ -4,7 +4,8 @@ use std::alloc::Global;
 /// Why settings can't be read or bound. A line counts from 1, and the first that is bad decides.
 #[derive(Debug, Drop)]
 pub enum SettingsError {
-    /// This line isn't UTF-8, has another form or key, or names a target, a prefix or a file that can't be.
+    /// This line isn't UTF-8, has another form or key, or names a target, a prefix or a file that
+    /// can't be.
     BadLine(usize),
     /// No line names a target.
     NoTargets,

@@ -1,7 +1,9 @@
-ghost use Rattle.std.specs.Prelude.{◌≡◌, ◌≢◌, Ok, Err, IfOk, IfErr, map};
+ghost use Rattle.std.specs.Prelude.{◌≡◌, Ok, IfOk, IfErr};
 ghost use Rattle.std.specs.List.{list_all, list_any};
 ghost use Rattle.std.specs.Str.{bytes_eq};
+ghost use Rattle.bb_chooser.specs.Faults.{RefusesLine};
 ghost use Rattle.bb_chooser.specs.Keys.{is_target_name};
+ghost use Rattle.bb_chooser.specs.References.{texts_of};
 ghost use Rattle.bb_chooser.specs.Values as value_spec;
 
 use crate::events::Events;
@@ -12,8 +14,8 @@ use bb_base::{NoMemory, Text, read_number};
 use std::alloc::Global;
 
 /// A value without the two `"` around it, if it has them.
-pub(crate) fn unquoted(value: &str) -> &str
-    ensures { result.now ≡ value_spec.unquoted value.now }
+pub(crate) fn without_quotes(value: &str) -> &str
+    ensures { result.now ≡ value_spec.without_quotes value.now }
 {
     let Some(rest) = value.strip_prefix('"') else {
         return value;
@@ -44,20 +46,20 @@ pub(crate) fn flag(value: &str) -> Result<bool, Fault>
 /// Names of targets with one or more spaces between.
 pub(crate) fn names(alloc: Global, value: &str) -> Result<Names, Fault>
     ensures ok { IfOk result (λ names. value_spec.names_in value.now ≡ Ok names) }
-    ensures refused { IfErr result (λ e. e ≢ Fault.NoMemory → value_spec.names_in value.now ≡ Err e) }
+    ensures refused { IfErr result (RefusesLine (value_spec.names_in value.now)) }
 {
     let words = words(alloc, value)?;
     let words = words.as_slice();
     if !are_target_names(words) {
         return Err(Fault::BadLine);
     }
-    differing(alloc, words)
+    differing_names(alloc, words)
 }
 
 // The words, each of which stands there once.
-fn differing(alloc: Global, words: &[&str]) -> Result<Names, Fault>
-    ensures ok { IfOk result (λ names. value_spec.differing (map (λ w. w.now) words.now) ≡ Ok names) }
-    ensures refused { IfErr result (λ e. e ≢ Fault.NoMemory → value_spec.differing (map (λ w. w.now) words.now) ≡ Err e) }
+fn differing_names(alloc: Global, words: &[&str]) -> Result<Names, Fault>
+    ensures ok { IfOk result (λ names. value_spec.differing_names (texts_of words.now) ≡ Ok names) }
+    ensures refused { IfErr result (RefusesLine (value_spec.differing_names (texts_of words.now))) }
 {
     let mut names = Names::none(alloc);
     for word in words {
@@ -77,7 +79,7 @@ fn are_target_names(words: &[&str]) -> bool
 /// Events that reset attempts, with one or more spaces between.
 pub(crate) fn events(alloc: Global, value: &str) -> Result<Events, Fault>
     ensures ok { IfOk result (λ events. value_spec.events_in value.now ≡ Ok events) }
-    ensures refused { IfErr result (λ e. e ≢ Fault.NoMemory → value_spec.events_in value.now ≡ Err e) }
+    ensures refused { IfErr result (RefusesLine (value_spec.events_in value.now)) }
 {
     let words = words(alloc, value)?;
     let words = words.as_slice();
@@ -123,7 +125,7 @@ pub(crate) fn all_zero(value: &str) -> Result<bool, Fault>
 /// Names joined by `.`, none of which is empty.
 pub(crate) fn prefix(alloc: Global, value: &str) -> Result<Text, Fault>
     ensures ok { IfOk result (λ prefix. value_spec.prefix_in value.now ≡ Ok prefix) }
-    ensures refused { IfErr result (λ e. e ≢ Fault.NoMemory → value_spec.prefix_in value.now ≡ Err e) }
+    ensures refused { IfErr result (RefusesLine (value_spec.prefix_in value.now)) }
 {
     if !has_parts(value) {
         return Err(Fault::BadLine);
@@ -140,7 +142,7 @@ fn has_parts(value: &str) -> bool
 /// The name of a file.
 pub(crate) fn file(alloc: Global, value: &str) -> Result<Text, Fault>
     ensures ok { IfOk result (λ file. value_spec.file_in value.now ≡ Ok file) }
-    ensures refused { IfErr result (λ e. e ≢ Fault.NoMemory → value_spec.file_in value.now ≡ Err e) }
+    ensures refused { IfErr result (RefusesLine (value_spec.file_in value.now)) }
 {
     if value.is_empty() {
         return Err(Fault::BadLine);
@@ -150,7 +152,7 @@ pub(crate) fn file(alloc: Global, value: &str) -> Result<Text, Fault>
 
 // What stands between spaces.
 fn words(alloc: Global, value: &str) -> Result<Vec<&str>, NoMemory>
-    ensures { IfOk result (λ words. map (λ w. w.now) words.items ≡ value_spec.words_of value.now) }
+    ensures { IfOk result (λ words. texts_of words.items ≡ value_spec.words_of value.now) }
 {
     let words = value
         .split(' ')

@@ -1,6 +1,6 @@
-ghost use Rattle.std.specs.Prelude.{◌≡◌, All, if◌then◌else◌, length};
+ghost use Rattle.std.specs.Prelude.{◌≡◌, All, length};
 ghost use Rattle.bb_chooser.specs.Binding.{IsInside};
-ghost use Rattle.bb_chooser.specs.Resets.{with_attempts, with_priorities};
+ghost use Rattle.bb_chooser.specs.Resets.{with_attempts, with_attempts_if, with_priorities, with_priorities_if};
 
 use crate::bound_target::BoundTarget;
 use crate::number::put_number;
@@ -10,7 +10,7 @@ use bb_vars::Table;
 /// Gives priorities their defaults back, if a reset does so.
 pub(crate) fn reset_priorities(targets: &[BoundTarget], table: &mut Table, resets: Resets)
     requires { All (IsInside (length table.old)) targets.now }
-    ensures put { table.new ≡ (if resets.priorities then with_priorities table.old targets.now else table.old) }
+    ensures put { table.new ≡ with_priorities_if resets.priorities table.old targets.now }
     ensures same_length { length table.new ≡ length table.old }
 {
     if resets.priorities {
@@ -31,7 +31,7 @@ fn put_default_priorities(targets: &[BoundTarget], table: &mut Table)
 /// Gives attempts their defaults back, if a reset does so.
 pub(crate) fn reset_attempts(targets: &[BoundTarget], table: &mut Table, resets: Resets)
     requires { All (IsInside (length table.old)) targets.now }
-    ensures put { table.new ≡ (if resets.attempts then with_attempts table.old targets.now else table.old) }
+    ensures put { table.new ≡ with_attempts_if resets.attempts table.old targets.now }
     ensures same_length { length table.new ≡ length table.old }
 {
     if resets.attempts {

@@ -1,4 +1,5 @@
-//! Choosers of three targets, tried over whole tables of priorities and attempts. Nothing stands on it.
+//! Choosers of three targets, tried over whole tables of priorities and attempts. Nothing stands on
+//! it.
 #![tactic(auto)]
 
 #[cfg(test)]

@@ -2,3 +2,4 @@ mod board;
 mod choosing;
 mod expected;
 mod resets;
+mod settings;

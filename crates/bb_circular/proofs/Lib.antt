@@ -1,4 +1,6 @@
 pub mod Examples
+pub mod Keeping
 pub mod LogCalls
+pub mod LogDevices
 pub mod Looks
 pub mod Wearing

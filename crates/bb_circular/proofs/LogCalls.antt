@@ -1,6 +1,6 @@
 -- The flash calls of a write to a log, and what they leave: a program behind the last page that isn't
 -- blank, or an erase and a program of the first bytes.
-use Rattle.std.proofs.Common.{◌≡◌, ℕ, ◌+◌, ◌*◌, ◌/◌, ◌%◌, ◌<◌, ◌≤◌, Bool, true, false, not, List, [], ◌∷◌, length, replicate, Option, Some, None, option_map, refl, sym, ap, ◌∙◌, subst, arith, inl, inr, cond, Contains, leb}
+use Rattle.std.proofs.Common.{◌≡◌, ℕ, ◌+◌, ◌*◌, ◌/◌, ◌%◌, ◌<◌, ◌≤◌, true, false, not, List, [], ◌∷◌, length, replicate, Some, refl, sym, ap, ◌∙◌, subst, arith, inl, inr, cond, Contains, leb}
 use Rattle.std.specs.Option.{ForSome}
 use Rattle.std.proofs.Math.Nat.{zero-mod}
 use Rattle.std.proofs.lemmas.Bool.{le-leb}
@@ -15,7 +15,7 @@ use Rattle.bb_flash.proofs.Moments.{later_joined}
 use Rattle.bb_bucket.specs.declared.block.Block.{Block}
 use Rattle.bb_bucket.specs.Blocks.{blank_block, blank_of}
 use Rattle.bb_bucket.specs.BlockLaws.{HasBlock, block_lies_on}
-use Rattle.bb_bucket.specs.Calls.{EachCall, ErasesWhere, IsWriteCall, Leaves, erases_after}
+use Rattle.bb_bucket.specs.Calls.{EachCall, ErasesWhere, IsWriteCall, Leaves}
 use Rattle.bb_bucket.specs.Front.{first_bytes, put_at}
 use Rattle.bb_bucket.specs.Kind.{IsBegun, part_of}
 use Rattle.bb_bucket.proofs.BlockCalls.{NamesBoth, calls_given, erase_calls, erase_then_program}
@@ -24,62 +24,17 @@ use Rattle.bb_bucket.proofs.Programs.{image_before, part_programmed}
 use Rattle.bb_bucket.proofs.Runs.{leaves_joined, part_after}
 use Rattle.bb_bucket.proofs.StrideCalls.{only_one}
 use Rattle.bb_circular.specs.Circular.{after_write, behind, circular_candidate, circular_kind, fits_behind, kept_of, next_place}
-use Rattle.bb_circular.specs.CircularLaws.{begun_put, behind_next, blank_candidate, blank_paged, blank_pages, block_paged, entry_fits, kept_put}
+use Rattle.bb_circular.specs.CircularLaws.{begun_put, behind_next, entry_fits, kept_put}
+use Rattle.bb_circular.specs.PutLaws.{blank_candidate, blank_paged, blank_pages}
 use Rattle.bb_circular.specs.Entries.{entry_len, log_entry}
 use Rattle.bb_circular.specs.EntryLaws.{entry_size}
 use Rattle.bb_circular.specs.Looking.{kept_at}
 use Rattle.bb_circular.specs.Pages.{is_blank, page_at}
 use Rattle.bb_circular.specs.PagesLaws.{IsPaged}
+use Rattle.bb_circular.proofs.LogDevices.{erases_none, erases_once, part_paged}
 
 same_region : (a b m n : ℕ) → a ≡ b → m ≡ n → (let r : Region = record { at = a; size = m } in r) ≡ record { at = b; size = n }
 same_region a b m n p q = ap (λ at. (let r : Region = record { at = at; size = m } in r)) p ∙ ap (λ size. (let r : Region = record { at = b; size = size } in r)) q
-
--- ---- erases
-
-no_erase : (geometry : Geometry) (region : Region) (numbers : Option (List ℕ)) → option_map (erases_after geometry region false) numbers ≡ numbers
-no_erase geometry region None = refl
-no_erase geometry region (Some numbers) = refl
-
-pub erases_none :
-    (region : Region) (f : Image → Bool) (from to : Device) →
-    ForSome (content from) (λ image. f (part_of from.geometry.page region image) ≡ false) →
-    erases to ≡ erases from → ErasesWhere region f from to
-erases_none region f from to none same = record {
-  counted = λ before e.
-      same ∙ sym (no_erase from.geometry region (erases from))
-      ∙ ap (λ b. option_map (erases_after from.geometry region b) (erases from)) (sym (none before e));
-}
-
-pub erases_once :
-    (region : Region) (f : Image → Bool) (one two three : Device) →
-    ForSome (content one) (λ image. f (part_of one.geometry.page region image) ≡ true) →
-    ErasesWhere region (λ part. true) one two → erases three ≡ erases two →
-    ErasesWhere region f one three
-erases_once region f one two three once run same = record {
-  counted = λ before e.
-      same ∙ run.counted before e
-      ∙ ap (λ b. option_map (erases_after one.geometry region b) (erases one)) (sym (once before e));
-}
-
-module _ (block : Block) where
-  -- what a run left of a block that is blank since
-  pub blank_after :
-      (from to : Device) (image : Image) →
-      HasBlock block from.geometry → IsLater from to →
-      Leaves block.region (λ part. blank_block from.geometry.page block.region.size) from to →
-      content to ≡ Some image → part_of block.page block.region image ≡ blank_of block
-  blank_after from to image held later leaves told =
-      let after = part_after block.region (λ part. blank_block from.geometry.page block.region.size) from to image later leaves told in
-      subst (λ page. part_of page block.region image ≡ blank_block page block.region.size) held.page after.2
-
-  -- the block of a device that is whole
-  pub part_paged :
-      (geometry : Geometry) (image : Image) →
-      HasBlock block geometry → IsImageOf geometry image →
-      IsPaged block.page block.region.size (part_of block.page block.region image)
-  part_paged geometry image held whole =
-      subst (λ page. IsPaged block.page block.region.size (part_of page block.region image)) held.page
-      (block_paged block geometry image held whole)
 
 module _ (block : Block) (rec : List ℕ) where
   -- the next entry goes to a place

@@ -1,5 +1,5 @@
 -- A block that is written as a log is erased once for as many records as it holds.
-use Rattle.std.proofs.Common.{◌≡◌, ℕ, zero, suc, ◌+◌, ◌-◌, ◌*◌, ◌/◌, ◌%◌, ◌<◌, ◌≤◌, Bool, true, false, not, List, [], ◌∷◌, length, Option, Some, None, option_map, is_some, refl, sym, ap, ◌∙◌, subst, arith, inl, inr, ◌⊎◌, cond}
+use Rattle.std.proofs.Common.{◌≡◌, ℕ, zero, suc, ◌+◌, ◌-◌, ◌*◌, ◌/◌, ◌%◌, ◌<◌, ◌≤◌, Bool, true, false, not, List, [], ◌∷◌, length, Some, option_map, refl, sym, ap, ◌∙◌, subst, arith, inl, inr, ◌⊎◌, cond}
 use Rattle.std.specs.Prelude.{slice_index, slice_set}
 use Rattle.std.specs.Int.{div_ceil}
 use Rattle.std.proofs.Math.Nat.{add-div_right, add-mul, div-eq_of_lt, lt_of_mul-lt-mul_right, mul-mod_left, zero-mod}
@@ -10,19 +10,21 @@ use Rattle.std.proofs.lemmas.Option.{same_Some}
 use Rattle.bb_bucket.specs.Calls.{ErasesWhere, Leaves, erases_after}
 use Rattle.bb_flash.specs.declared.geometry.Geometry.{Geometry}
 use Rattle.bb_flash.specs.Cuts.{IsLater}
-use Rattle.bb_flash.specs.Device.{Device, Told, content, erases}
+use Rattle.bb_flash.specs.Device.{Device, content, erases}
 use Rattle.bb_flash.specs.Image.{Image}
 use Rattle.bb_bucket.specs.declared.block.Block.{Block}
 use Rattle.bb_bucket.specs.Blocks.{blank_of}
 use Rattle.bb_bucket.specs.BlockLaws.{block_of}
 use Rattle.bb_bucket.specs.Front.{put_at}
-use Rattle.bb_bucket.specs.Kind.{Kind, part_of}
+use Rattle.bb_bucket.specs.Kind.{BucketKind, part_of}
 use Rattle.bb_circular.specs.declared.kept.Kept.{Kept}
 use Rattle.bb_circular.specs.Circular.{after_write, circular_kind, fits_behind, next_place}
-use Rattle.bb_circular.specs.CircularLaws.{behind_next, blank_paged, blank_pages, block_paged, entry_fits, kept_put, put_paged}
+use Rattle.bb_circular.specs.CircularLaws.{behind_next, block_paged, entry_fits, kept_put}
+use Rattle.bb_circular.specs.PutLaws.{blank_paged, blank_pages, put_paged}
 use Rattle.bb_circular.specs.Entries.{entry_len, log_entry}
 use Rattle.bb_circular.specs.EntryLaws.{entry_len_is, entry_size}
 use Rattle.bb_circular.specs.PagesLaws.{IsPaged}
+use Rattle.bb_circular.proofs.LogDevices.{numbers_told, told_image, told_of_numbers}
 use Rattle.bb_circular.specs.Wear.{Deed, Event, Follows, History, Idle, IsIdle, IsWritten, WearLaw, Write, entries_in, last_device, records_in, written_by}
 
 -- how often the writes of these records erase a block that held this before
@@ -171,14 +173,6 @@ set_index [] k n = omega arith
 set_index (x ∷ numbers) zero n = omega arith
 set_index (x ∷ numbers) (suc k) n = set_index numbers k n
 
-told_image : (told : Option Told) (image : Image) → option_map (λ (t : Told). t.image) told ≡ Some image → is_some told ≡ true
-told_image None image e = absurd cc
-told_image (Some t) image e = refl
-
-told_of_numbers : (told : Option Told) (numbers : List ℕ) → option_map (λ (t : Told). t.erases) told ≡ Some numbers → (image : Image) × (option_map (λ (t : Told). t.image) told ≡ Some image)
-told_of_numbers None numbers e = absurd cc
-told_of_numbers (Some t) numbers e = (t.image, refl)
-
 counted_at : (erased : Bool) (numbers : List ℕ) (k : ℕ) → slice_index (cond erased (slice_set numbers k (slice_index numbers k + 1)) numbers) k ≤ slice_index numbers k + cond erased 1 0
 counted_at true numbers k = set_index numbers k (slice_index numbers k + 1)
 counted_at false numbers k = omega arith
@@ -208,11 +202,6 @@ record IsAfter (block : Block) (geometry : Geometry) (deed : Deed) (image : Imag
   rest : (recs : List (List ℕ)) →
       slice_index numbers (block.region.at / geometry.block) + wear block recs (part_of geometry.page block.region mid)
       ≤ slice_index before (block.region.at / geometry.block) + wear block (written_by deed recs) (part_of geometry.page block.region image)
-
--- where the device tells what it holds it tells its numbers
-numbers_told : (told : Option Told) → is_some told ≡ true → (image : Image) × (numbers : List ℕ) × (option_map (λ (t : Told). t.image) told ≡ Some image) × (option_map (λ (t : Told). t.erases) told ≡ Some numbers)
-numbers_told None e = absurd cc
-numbers_told (Some t) e = (t.image, t.erases, refl, refl)
 
 after_idle :
     (block : Block) (geometry : Geometry) (from to : Device) (image : Image) (before : List ℕ) →
@@ -296,13 +285,13 @@ wears_little block len from events serves whole room history before counts after
 
 -- what a write's clauses say of a bucket of this kind is all that the law asks of a write
 pub was_written :
-    (kind : Kind) (block : Block) (rec : List ℕ) (from to : Device) → kind ≡ circular_kind block →
+    (kind : BucketKind) (block : Block) (rec : List ℕ) (from to : Device) → kind ≡ circular_kind block →
     Leaves kind.region (kind.after_write rec) from to →
     ErasesWhere kind.region (kind.write_erases rec) from to →
     IsLater from to → IsWritten block (length rec) rec from to
 was_written kind block rec from to is done erases later = record {
   sized = refl;
-  done = subst (λ (k : Kind). Leaves k.region (k.after_write rec) from to) is done;
-  erases = subst (λ (k : Kind). ErasesWhere k.region (k.write_erases rec) from to) is erases;
+  done = subst (λ (k : BucketKind). Leaves k.region (k.after_write rec) from to) is done;
+  erases = subst (λ (k : BucketKind). ErasesWhere k.region (k.write_erases rec) from to) is erases;
   later = later;
 }

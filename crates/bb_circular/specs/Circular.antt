@@ -1,16 +1,16 @@
--- A block that is written as a log: each record goes behind the last page that isn't blank, and only
--- where it doesn't fit there the block is erased first. What stands there is the entry that ends in
--- that last page, or none: whatever older entries stand before it, they don't count.
+-- A block that is written as a log: each record goes behind the last page that isn't blank, and
+-- only where it doesn't fit there the block is erased first. What stands there is the entry that
+-- ends in that last page, or none: whatever older entries stand before it, they don't count.
 use Rattle.std.specs.Prelude.{◌≡◌, ℕ, ◌+◌, ◌-◌, ◌*◌, ◌≤◌, ◌%◌, ◌==◌, Bool, true, false, ◌&&◌, not, nat_le, List, [], ◌∷◌, length, take, drop, Option, Some, None, IfSome, option_map, option_and_then, is_some, unwrap_or, if◌then◌else◌}
 use Rattle.bb_flash.specs.declared.region.Region.{Region}
 use Rattle.bb_flash.specs.Image.{Image, health_of}
 use Rattle.bb_bucket.specs.declared.block.Block.{Block}
 use Rattle.bb_bucket.specs.Blocks.{blank_of, is_block_of}
 use Rattle.bb_bucket.specs.Front.{first_bytes, is_lost, is_worn, put_at}
-use Rattle.bb_bucket.specs.Kind.{Holding, Kind}
+use Rattle.bb_bucket.specs.Kind.{BucketKind, Holding}
 use Rattle.bb_circular.specs.declared.kept.Entry.{Entry}
 use Rattle.bb_circular.specs.declared.kept.Kept.{Kept}
-use Rattle.bb_circular.specs.Entries.{closed_entry, entry_len, log_entry}
+use Rattle.bb_circular.specs.Entries.{closed_entry, closing_len, entry_len, log_entry}
 use Rattle.bb_circular.specs.Pages.{page_at, written_pages}
 
 -- the place at which the next entry goes
@@ -32,14 +32,18 @@ newest_of page old =
 
 -- an entry without its closing words: its filling counts as bytes behind the record
 abbrev pub record_of : Image → Entry → List ℕ
-record_of old entry = take (entry.len - 8) (drop entry.at old.bytes)
+record_of old entry = take (entry.len - closing_len) (drop entry.at old.bytes)
 
+-- the record that stands in a block, if any does
 abbrev pub circular_candidate : ℕ → Image → Option (List ℕ)
 circular_candidate page old = option_map (record_of old) (newest_of page old)
 
+-- whether one of its pages is Worn
 abbrev pub circular_is_worn : ℕ → Image → Bool
 circular_is_worn page old =
-    unwrap_or (option_map (λ entry. is_worn (health_of page old entry.at entry.len)) (newest_of page old)) false
+    unwrap_or
+    (option_map (λ entry. is_worn (health_of page old entry.at entry.len)) (newest_of page old))
+    false
 
 -- ---- what a write makes of it
 
@@ -48,6 +52,7 @@ abbrev pub fits_behind : Block → List ℕ → Image → Bool
 fits_behind block rec old =
     nat_le (next_place block.page old + entry_len block.page (length rec)) block.region.size
 
+-- a block after a record was written
 abbrev pub after_write : Block → List ℕ → Image → Image
 after_write block rec old =
     if fits_behind block rec old
@@ -61,16 +66,18 @@ behind block rec old = record {
   size = entry_len block.page (length rec);
 }
 
+-- the ranges that the flash calls of a write may touch
 abbrev pub ranges_of : Block → List ℕ → Image → List Region
 ranges_of block rec old =
     if fits_behind block rec old
     then behind block rec old ∷ []
     else block.region ∷ first_bytes block.region (entry_len block.page (length rec)) ∷ []
 
-abbrev pub circular_kind : Block → Kind
+-- what such a block means
+abbrev pub circular_kind : Block → BucketKind
 circular_kind block = record {
   region = block.region;
-  room = block.region.size - 8;
+  room = block.region.size - closing_len;
   serves = is_block_of block;
   candidate_of = circular_candidate block.page;
   is_worn = circular_is_worn block.page;
@@ -88,11 +95,13 @@ circular_kind block = record {
 abbrev pub kept_of : ℕ → Image → Kept
 kept_of page old = record { next = next_place page old; newest = newest_of page old }
 
+-- the same entry, or none twice
 abbrev pub same_newest : Option Entry → Option Entry → Bool
 same_newest None None = true
 same_newest (Some one) (Some two) = one.at == two.at && one.len == two.len
 same_newest one two = false
 
+-- the same is kept
 abbrev pub same_kept : Kept → Kept → Bool
 same_kept one two = one.next == two.next && same_newest one.newest two.newest
 
@@ -101,6 +110,7 @@ pub record Circle : Type 0 where
   pub block : Block
   pub kept : Option Kept
 
+-- what is kept, if anything, is what there is to keep
 abbrev pub agrees_with : ℕ → Option Kept → Image → Bool
 agrees_with page None old = true
 agrees_with page (Some kept) old = same_kept kept (kept_of page old)
@@ -110,7 +120,7 @@ abbrev pub circular_holding : Circle → Holding
 circular_holding circle = record {
   kind = circular_kind circle.block;
   agrees = agrees_with circle.block.page circle.kept;
-  placed = is_some circle.kept;
+  knows_place = is_some circle.kept;
 }
 
 -- an entry has whole pages of its block, and room for its closing words
@@ -126,6 +136,7 @@ pub record IsKeptIn (block : Block) (kept : Kept) : Type 0 where
   pub aligned : kept.next % block.page ≡ 0
   pub newest : IfSome kept.newest (IsEntryIn block)
 
+-- what every bucket over a log keeps
 pub record IsCircular (block : Block) (kept : Option Kept) (bytes : List ℕ) : Type 0 where
   pub page_least : 16 ≤ block.page
   pub page_most : block.page ≤ block.region.size

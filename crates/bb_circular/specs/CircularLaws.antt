@@ -1,179 +1,30 @@
 -- A block that is written as a log is a kind of bucket: what was written last stands there, and is
 -- what there is to keep.
-use Rattle.std.proofs.Common.{◌≡◌, ℕ, zero, suc, ◌+◌, ◌-◌, ◌*◌, ◌/◌, ◌%◌, ◌^◌, ◌<◌, ◌≤◌, true, false, ◌&&◌, not, List, ◌∷◌, ◌++◌, eqb, leb, length, take, drop, replicate, Option, Some, None, refl, sym, ap, ◌∙◌, subst, arith, cond, option_map, inl, inr, take_all}
+use Rattle.std.proofs.Common.{◌≡◌, ℕ, zero, ◌+◌, ◌-◌, ◌*◌, ◌/◌, ◌%◌, ◌^◌, ◌<◌, ◌≤◌, true, false, ◌&&◌, not, List, eqb, leb, length, take, drop, replicate, Option, Some, None, sym, ap, ◌∙◌, subst, arith, cond, option_map, inl, inr, take_all}
 use Rattle.std.specs.Option.{option_and_then}
 use Rattle.std.specs.List.{list_all}
 use Rattle.std.proofs.Math.Nat.{add-mul, le_of_mul-le-mul_right, lt_of_mul-lt-mul_right, mul-le-mul_right, mul-mod_left, zero-mod}
 use Rattle.std.proofs.lemmas.Bool.{and_right, cases_Bool, le-leb, leb-true}
-use Rattle.std.proofs.Math.Seq.{take-append_seam}
-use Rattle.std.proofs.lemmas.List.{append_assoc, drop-drop, drop-replicate, drop_at, length-drop, length-replicate, length-take-le}
+use Rattle.std.proofs.lemmas.List.{drop-drop, length-drop}
 use Rattle.bb_flash.specs.declared.geometry.Geometry.{Geometry}
-use Rattle.bb_flash.specs.declared.health.Health.{Health}
 use Rattle.bb_flash.specs.declared.health.Health.TheVariants.{Fine}
-use Rattle.bb_flash.specs.declared.region.Region.{Region}
-use Rattle.bb_flash.specs.Image.{Image, IsImageOf, Torn, health_of, with_bytes, worst_of}
+use Rattle.bb_flash.specs.Image.{Image, IsImageOf, health_of}
 use Rattle.bb_flash.proofs.Geometries.{whole_times}
-use Rattle.bb_flash.proofs.Regions.{Torn-region}
-use Rattle.bb_flash.proofs.Tearing.{Torn-left_by}
 use Rattle.bb_bucket.specs.declared.block.Block.{Block}
-use Rattle.bb_bucket.specs.Blocks.{blank_block, blank_of}
+use Rattle.bb_bucket.specs.Blocks.{blank_of}
 use Rattle.bb_bucket.specs.BlockLaws.{HasBlock, block_lies_on, block_of}
 use Rattle.bb_bucket.specs.Front.{is_lost, put_at}
-use Rattle.bb_bucket.specs.FrontLaws.{written_fine}
-use Rattle.bb_bucket.specs.Kind.{IsBegun, IsKind, LiesOn, part_of}
-use Rattle.bb_bucket.proofs.Erases.{blank_is_blank}
-use Rattle.bb_bucket.proofs.Pages.{filled_fits, sum_aligned, take-drop-part}
-use Rattle.bb_bucket.proofs.Programs.{part_programmed}
-use Rattle.bb_bucket.proofs.Within.{health_of-part, part_pages, part_size}
+use Rattle.bb_bucket.specs.Kind.{IsBegun, IsKind, part_of}
+use Rattle.bb_bucket.proofs.Pages.{filled_fits, sum_aligned}
+use Rattle.bb_bucket.proofs.Within.{part_pages, part_size}
 use Rattle.bb_circular.specs.declared.kept.Entry.{Entry}
 use Rattle.bb_circular.specs.declared.kept.Kept.{Kept}
 use Rattle.bb_circular.specs.Circular.{Circle, after_write, circular_candidate, circular_holding, circular_kind, fits_behind, kept_of, newest_of, next_place, readable}
 use Rattle.bb_circular.specs.Entries.{closed_entry, closes, closing_words, entry_len, last_words, len_of, log_entry}
 use Rattle.bb_circular.specs.EntryLaws.{entry_front, entry_len_is, entry_size, entry_words, last_page_written, words_close, words_length}
 use Rattle.bb_circular.specs.Pages.{Page, is_blank, page_at, written_pages}
-use Rattle.bb_circular.specs.PagesLaws.{IsPaged, blank_behind, blank_page, written_is}
-
--- bytes that were put into a list
-put_bytes :
-    {X : Type 0} (at : ℕ) (new old : List X) →
-    at ≤ length old → take (length new) (drop at (take at old ++ new ++ drop (at + length new) old)) ≡ new
-put_bytes at new old reached =
-    let rest = drop (at + length new) old in
-    ap (λ xs. take (length new) (drop at xs)) (append_assoc (take at old) new rest)
-    ∙ ap (take (length new)) (drop_at (take at old) (new ++ rest) at (length-take-le at old reached))
-    ∙ take-append_seam new rest
-
-pub same_page : (a b : Page) → a.bytes ≡ b.bytes → a.health ≡ b.health → a ≡ b
-same_page a b p q = ap (λ bytes. (let x : Page = record { bytes = bytes; health = a.health } in x)) p ∙ ap (λ health. (let x : Page = record { bytes = b.bytes; health = health } in x)) q
-
--- ---- a block into which bytes were put, whole pages of them
-
-module _ (page size at : ℕ) (bytes : List ℕ) (block : Image)
-    (paged : IsPaged page size block) (first : at % page ≡ 0) (whole : length bytes % page ≡ 0)
-    (inside : at + length bytes ≤ size) where
-  some_page : 0 < page
-  some_page = omega (arith, paged.page_least)
-
-  put_torn : Torn page at (length bytes) block (put_at page at bytes block)
-  put_torn =
-      Torn-left_by None page block at bytes
-      (record {
-        page_some = some_page;
-        pages = paged.bytes ∙ sym paged.pages;
-        inside = omega (arith, paged.bytes, inside);
-        small = omega (arith, paged.bytes, paged.small);
-      })
-
-  pub put_paged : IsPaged page size (put_at page at bytes block)
-  put_paged = record {
-    page_least = paged.page_least;
-    whole = paged.whole;
-    bytes = put_torn.bytes.lengths ∙ paged.bytes;
-    pages = ap (λ n. n * page) put_torn.health.lengths ∙ paged.pages;
-    small = paged.small;
-  }
-
-  -- the pages behind them stay
-  put_behind : (k : ℕ) → at + length bytes ≤ k * page → page_at page (put_at page at bytes block) k ≡ page_at page block k
-  put_behind k behind =
-      let same = Torn-region page at (length bytes) (k * page) page block (put_at page at bytes block) some_page first whole put_torn (inr behind) in
-      same_page _ _ same.bytes (ap worst_of same.health)
-
-  -- a part of what was put
-  put_part : (k n : ℕ) → k + n ≤ length bytes → take n (drop (at + k) (put_at page at bytes block).bytes) ≡ take n (drop k bytes)
-  put_part k n fits =
-      sym (take-drop-part (put_at page at bytes block).bytes at (length bytes) k n fits)
-      ∙ ap (λ xs. take n (drop k xs)) (put_bytes at bytes block.bytes (omega (arith, paged.bytes, inside)))
-
-  -- its pages are Fine
-  put_fine : (k n : ℕ) → k + n ≤ length bytes → health_of page (put_at page at bytes block) (at + k) n ≡ Fine
-  put_fine k n fits =
-      let geometry : Geometry = record { page = page; block = size; size = size } in
-      let region : Region = record { at = at; size = length bytes } in
-      let lies : LiesOn geometry region = record { inside = inside; aligned = first; whole = whole } in
-      let is : IsImageOf geometry block = record { bytes = paged.bytes; pages = paged.pages } in
-      let start : at ≡ at + 0 = omega arith in
-      let part =
-      ap (λ place. part_of page region (with_bytes page place bytes Fine block)) start
-      ∙ part_programmed region geometry 0 bytes block some_page lies (omega arith) is in
-      health_of-part geometry (put_at page at bytes block) region k n some_page lies fits
-      ∙ ap (λ (i : Image). health_of page i k n) part
-      ∙ written_fine page bytes (part_of page region block) k n some_page fits
-
--- a blank block has no page that isn't blank
-pub blank_paged : (page size : ℕ) → 16 ≤ page → size % page ≡ 0 → size ≤ 268435456 → IsPaged page size (blank_block page size)
-blank_paged page size least whole small = record {
-  page_least = least;
-  whole = whole;
-  bytes = length-replicate {A = ℕ} size 255;
-  pages = ap (λ n. n * page) (length-replicate {A = Health} (size / page) Fine) ∙ whole_times size page whole;
-  small = small;
-}
-
-pub blank_pages : (page size k : ℕ) → 16 ≤ page → size % page ≡ 0 → k < size / page → is_blank (page_at page (blank_block page size) k) ≡ true
-blank_pages page size k least whole inside =
-    let times = whole_times size page whole in
-    let product : (k + 1) * page ≤ size / page * page = mul-le-mul_right page (omega arith) in
-    let next = add-mul k 1 page in
-    blank_page page (blank_block page size) k (blank_is_blank page size (k * page) page (omega arith) whole (omega arith))
-
-pub none_written : (page size : ℕ) → 16 ≤ page → size % page ≡ 0 → size ≤ 268435456 → written_pages page (blank_block page size) ≡ 0
-none_written page size least whole small =
-    written_is page size (blank_block page size) (blank_paged page size least whole small) 0 (omega arith)
-    (λ k from below. blank_pages page size k least whole below) (λ some. absurd (omega arith))
-
--- bytes that were taken from a blank block are blank
-taken_blank : (n size : ℕ) → (k : ℕ) × (take {A = ℕ} n (replicate size 255) ≡ replicate k 255)
-taken_blank zero size = (0, refl)
-taken_blank (suc n) zero = (0, refl)
-taken_blank (suc n) (suc size) = let rest = taken_blank n size in (suc rest.0, ap (λ bytes. 255 ∷ bytes) rest.1)
-
-blank_words : (page size place : ℕ) → (k : ℕ) × (drop {A = ℕ} (page - 8) (take page (drop place (replicate size 255))) ≡ replicate k 255)
-blank_words page size place =
-    let front = taken_blank page (size - place) in (
-      front.0 - (page - 8),
-      ap (λ bytes. drop (page - 8) (take page bytes)) (drop-replicate place size 255)
-          ∙ ap (drop (page - 8)) front.1
-          ∙ drop-replicate (page - 8) front.0 255,
-    )
-
-blank_closes_none : (page end k : ℕ) → closes page end (replicate k 255) ≡ false
-blank_closes_none page end zero = refl
-blank_closes_none page end (suc zero) = refl
-blank_closes_none page end (suc (suc zero)) = refl
-blank_closes_none page end (suc (suc (suc zero))) = refl
-blank_closes_none page end (suc (suc (suc (suc k)))) = refl
-
-open_page :
-    (page pages : ℕ) (last : Page) → closes page (pages * page) (last_words page last) ≡ false →
-    closed_entry page pages last ≡ None
-open_page page pages last none =
-    ap (λ b. cond b (Some (record { at = pages * page - len_of (last_words page last); len = len_of (last_words page last) })) None)
-    (and_right (leb 1 pages) _ (and_right (not (is_lost last.health)) _ none))
-
--- so nothing stands in it
-pub blank_newest : (page blank_page size : ℕ) → newest_of page (blank_block blank_page size) ≡ None
-blank_newest page blank_page size =
-    let block : Image = blank_block blank_page size in
-    let pages : ℕ = written_pages page block in
-    let words = blank_words page size ((pages - 1) * page) in
-    ap (option_and_then (readable page block))
-    (open_page page pages (page_at page block (pages - 1))
-    (ap (closes page (pages * page)) words.1 ∙ blank_closes_none page (pages * page) words.0))
-
-pub blank_candidate : (page blank_page size : ℕ) → circular_candidate page (blank_block blank_page size) ≡ None
-blank_candidate page blank_page size =
-    ap (option_map (λ (entry : Entry). take (entry.len - 8) (drop entry.at (blank_block blank_page size).bytes)))
-    (blank_newest page blank_page size)
-
--- and the next entry goes to its start
-pub blank_kept : (page size : ℕ) → 16 ≤ page → size % page ≡ 0 → size ≤ 268435456 → kept_of page (blank_block page size) ≡ record { next = 0; newest = None }
-blank_kept page size least whole small =
-    let kept = λ (next : ℕ) (newest : Option Entry). (let k : Kept = record { next = next; newest = newest } in k) in
-    let start : 0 * page ≡ 0 = omega arith in
-    ap (λ n. kept (n * page) (newest_of page (blank_block page size))) (none_written page size least whole small)
-    ∙ ap (λ n. kept n (newest_of page (blank_block page size))) start
-    ∙ ap (kept 0) (blank_newest page page size)
+use Rattle.bb_circular.specs.PagesLaws.{IsPaged, blank_behind, written_is}
+use Rattle.bb_circular.specs.PutLaws.{blank_candidate, blank_paged, blank_pages, put_behind, put_fine, put_paged, put_part}
 
 -- ---- an entry that was put behind the last page that isn't blank
 
@@ -184,19 +35,28 @@ closed_by :
     closed_entry page pages last ≡ Some (record { at = pages * page - len; len = len })
 closed_by page pages last len some kept words small whole least inside =
     let entry = λ (n : ℕ). (let e : Entry = record { at = pages * page - n; len = n } in e) in
-    ap (λ ws. cond (leb 1 pages && (not (is_lost last.health) && closes page (pages * page) ws)) (Some (entry (len_of ws))) None) words
-    ∙ ap (λ b. cond (b && (not (is_lost last.health) && closes page (pages * page) (closing_words len))) (Some (entry (len_of (closing_words len)))) None) (le-leb 1 pages some)
-    ∙ ap (λ b. cond (not b && closes page (pages * page) (closing_words len)) (Some (entry (len_of (closing_words len)))) None) kept
-    ∙ ap (λ b. cond b (Some (entry (len_of (closing_words len)))) None) (words_close page len (pages * page) small whole least inside)
+    ap (λ ws. cond (leb 1 pages
+    && (not (is_lost last.health) && closes page (pages * page) ws))
+    (Some (entry (len_of ws))) None) words
+    ∙ ap (λ b. cond (b && (not (is_lost last.health)
+    && closes page (pages * page) (closing_words len)))
+    (Some (entry (len_of (closing_words len)))) None) (le-leb 1 pages some)
+    ∙ ap (λ b. cond (not b && closes page (pages * page) (closing_words len))
+    (Some (entry (len_of (closing_words len)))) None) kept
+    ∙ ap (λ b. cond b (Some (entry (len_of (closing_words len)))) None)
+    (words_close page len (pages * page) small whole least inside)
     ∙ ap (λ n. Some (entry n)) (words_length len small)
 
-readable_by : (page : ℕ) (block : Image) (entry : Entry) → is_lost (health_of page block entry.at entry.len) ≡ false → readable page block entry ≡ Some entry
+readable_by : (page : ℕ) (block : Image) (entry : Entry) →
+    is_lost (health_of page block entry.at entry.len) ≡ false →
+    readable page block entry ≡ Some entry
 readable_by page block entry kept = ap (λ b. cond b None (Some entry)) kept
 
 module _ (page size at : ℕ) (rec : List ℕ) (block : Image)
     (paged : IsPaged page size block) (first : at % page ≡ 0)
     (inside : at + entry_len page (length rec) ≤ size)
-    (behind : (k : ℕ) → at ≤ k * page → k < size / page → is_blank (page_at page block k) ≡ true) where
+    (behind : (k : ℕ) → at ≤ k * page → k < size / page →
+    is_blank (page_at page block k) ≡ true) where
   entry_put : Image
   entry_put = put_at page at (log_entry page rec) block
 
@@ -204,7 +64,8 @@ module _ (page size at : ℕ) (rec : List ℕ) (block : Image)
   written_len = entry_size page rec (omega (arith, paged.page_least))
 
   written_whole : length (log_entry page rec) % page ≡ 0
-  written_whole = ap (λ n. n % page) written_len ∙ (entry_len_is page (length rec) (omega (arith, paged.page_least))).whole
+  written_whole = ap (λ n. n % page) written_len
+      ∙ (entry_len_is page (length rec) (omega (arith, paged.page_least))).whole
 
   written_fits : at + length (log_entry page rec) ≤ size
   written_fits = omega (arith, written_len, inside)
@@ -217,18 +78,21 @@ module _ (page size at : ℕ) (rec : List ℕ) (block : Image)
   unfolding end_pages
   end_is =
       whole_times (at + entry_len page (length rec)) page
-      (sum_aligned page at (entry_len page (length rec)) first (entry_len_is page (length rec) (omega (arith, paged.page_least))).whole)
+      (sum_aligned page at (entry_len page (length rec)) first
+      (entry_len_is page (length rec) (omega (arith, paged.page_least))).whole)
 
   end_some : 1 ≤ end_pages
   end_some =
       let is = entry_len_is page (length rec) (omega (arith, paged.page_least)) in
-      lt_of_mul-lt-mul_right page {m = 0} {n = end_pages} (omega (arith, end_is, is.least, paged.page_least))
+      lt_of_mul-lt-mul_right page {m = 0} {n = end_pages}
+      (omega (arith, end_is, is.least, paged.page_least))
 
   end_inside : end_pages ≤ size / page
   end_inside =
       let times = whole_times size page paged.whole in
       let next = add-mul (size / page) 1 page in
-      let less : end_pages < size / page + 1 = lt_of_mul-lt-mul_right page (omega (arith, end_is, paged.page_least)) in
+      let less : end_pages < size / page + 1 =
+      lt_of_mul-lt-mul_right page (omega (arith, end_is, paged.page_least)) in
       omega arith
 
   last_place : (end_pages - 1) * page ≡ at + (entry_len page (length rec) - page)
@@ -239,25 +103,37 @@ module _ (page size at : ℕ) (rec : List ℕ) (block : Image)
       let times = ap (λ n. n * page) split in
       omega (arith, end_is, is.least)
 
-  last_bytes : (page_at page entry_put (end_pages - 1)).bytes ≡ drop (entry_len page (length rec) - page) (log_entry page rec)
+  last_bytes : (page_at page entry_put (end_pages - 1)).bytes
+      ≡ drop (entry_len page (length rec) - page) (log_entry page rec)
   unfolding entry_put
   last_bytes =
       let is = entry_len_is page (length rec) (omega (arith, paged.page_least)) in
-      ap (λ place. take page (drop place (put_at page at (log_entry page rec) block).bytes)) last_place
-      ∙ put_part page size at (log_entry page rec) block paged first written_whole written_fits (entry_len page (length rec) - page) page (omega (arith, written_len, is.least))
-      ∙ take_all page (drop (entry_len page (length rec) - page) (log_entry page rec)) (omega (arith, written_len, is.least, length-drop (entry_len page (length rec) - page) (log_entry page rec)))
+      ap (λ place. take page (drop place (put_at page at (log_entry page rec) block).bytes))
+      last_place
+      ∙ put_part page size at (log_entry page rec) block paged first written_whole written_fits
+      (entry_len page (length rec) - page) page (omega (arith, written_len, is.least))
+      ∙ take_all page (drop (entry_len page (length rec) - page) (log_entry page rec))
+      (omega (
+        arith,
+        written_len,
+        is.least,
+        length-drop (entry_len page (length rec) - page) (log_entry page rec),
+      ))
 
   last_fine : (page_at page entry_put (end_pages - 1)).health ≡ Fine
   unfolding entry_put
   last_fine =
       let is = entry_len_is page (length rec) (omega (arith, paged.page_least)) in
       ap (λ place. health_of page (put_at page at (log_entry page rec) block) place page) last_place
-      ∙ put_fine page size at (log_entry page rec) block paged first written_whole written_fits (entry_len page (length rec) - page) page (omega (arith, written_len, is.least))
+      ∙ put_fine page size at (log_entry page rec) block paged first written_whole written_fits
+      (entry_len page (length rec) - page) page (omega (arith, written_len, is.least))
 
-  last_closing : last_words page (page_at page entry_put (end_pages - 1)) ≡ closing_words (entry_len page (length rec))
+  last_closing : last_words page (page_at page entry_put (end_pages - 1))
+      ≡ closing_words (entry_len page (length rec))
   last_closing =
       let is = entry_len_is page (length rec) (omega (arith, paged.page_least)) in
-      let place : entry_len page (length rec) - page + (page - 8) ≡ entry_len page (length rec) - 8 = omega (arith, is.least, paged.page_least) in
+      let place : entry_len page (length rec) - page + (page - 8)
+      ≡ entry_len page (length rec) - 8 = omega (arith, is.least, paged.page_least) in
       ap (drop (page - 8)) last_bytes
       ∙ drop-drop (page - 8) (entry_len page (length rec) - page) (log_entry page rec)
       ∙ ap (λ n. drop n (log_entry page rec)) place
@@ -267,41 +143,56 @@ module _ (page size at : ℕ) (rec : List ℕ) (block : Image)
   unfolding entry_put
   written_end =
       written_is page size (put_at page at (log_entry page rec) block)
-      (put_paged page size at (log_entry page rec) block paged first written_whole written_fits) end_pages end_inside
+      (put_paged page size at (log_entry page rec) block paged first written_whole written_fits)
+      end_pages end_inside
       (λ k from below.
       let product : end_pages * page ≤ k * page = mul-le-mul_right page from in
       let is = entry_len_is page (length rec) (omega (arith, paged.page_least)) in
-      ap is_blank (put_behind page size at (log_entry page rec) block paged first written_whole written_fits k (omega (arith, end_is, written_len)))
+      ap is_blank (put_behind page size at
+      (log_entry page rec) block paged first written_whole written_fits k
+      (omega (arith, end_is, written_len)))
       ∙ behind k (omega (arith, end_is)) below)
-      (λ some. and_right _ _ (ap (list_all (λ (byte : ℕ). eqb byte 255)) last_bytes ∙ last_page_written page rec (omega (arith, paged.page_least)) paged.page_least))
+      (λ some. and_right _ _ (ap (list_all (λ (byte : ℕ). eqb byte 255)) last_bytes
+      ∙ last_page_written page rec (omega (arith, paged.page_least)) paged.page_least))
 
   whole_fine : health_of page entry_put at (entry_len page (length rec)) ≡ Fine
   unfolding entry_put
   whole_fine =
       let start : at ≡ at + 0 = omega arith in
-      ap (λ place. health_of page (put_at page at (log_entry page rec) block) place (entry_len page (length rec))) start
-      ∙ put_fine page size at (log_entry page rec) block paged first written_whole written_fits 0 (entry_len page (length rec)) (omega (arith, written_len))
+      ap (λ place. health_of page (put_at page at (log_entry page rec) block) place
+      (entry_len page (length rec))) start
+      ∙ put_fine page size at (log_entry page rec) block paged first written_whole written_fits 0
+      (entry_len page (length rec)) (omega (arith, written_len))
 
-  newest_put : newest_of page entry_put ≡ Some (record { at = at; len = entry_len page (length rec) })
+  newest_put : newest_of page entry_put
+      ≡ Some (record { at = at; len = entry_len page (length rec) })
   newest_put =
       let is = entry_len_is page (length rec) (omega (arith, paged.page_least)) in
       let len : ℕ = entry_len page (length rec) in
       let entry = λ (place : ℕ). (let e : Entry = record { at = place; len = len } in e) in
       let start : end_pages * page - len ≡ at = omega (arith, end_is) in
-      ap (λ n. option_and_then (readable page entry_put) (closed_entry page n (page_at page entry_put (n - 1)))) written_end
+      ap (λ n. option_and_then (readable page entry_put)
+      (closed_entry page n (page_at page entry_put (n - 1)))) written_end
       ∙ ap (option_and_then (readable page entry_put))
-      (closed_by page end_pages (page_at page entry_put (end_pages - 1)) len end_some (ap is_lost last_fine) last_closing (omega (arith, inside, paged.small)) is.whole (omega (arith, is.least, paged.page_least)) (omega (arith, end_is)))
+      (closed_by page end_pages (page_at page entry_put (end_pages - 1)) len end_some
+      (ap is_lost last_fine) last_closing (omega (arith, inside, paged.small)) is.whole
+      (omega (arith, is.least, paged.page_least)) (omega (arith, end_is)))
       ∙ ap (λ place. readable page entry_put (entry place)) start
       ∙ readable_by page entry_put (entry at) (ap is_lost whole_fine)
 
   -- what there is to keep of it
   pub kept_put :
       kept_of page (put_at page at (log_entry page rec) block)
-      ≡ record { next = at + entry_len page (length rec); newest = Some (record { at = at; len = entry_len page (length rec) }) }
+      ≡ record {
+        next = at + entry_len page (length rec);
+        newest = Some (record { at = at; len = entry_len page (length rec) });
+      }
   unfolding entry_put
   kept_put =
-      let kept = λ (next : ℕ) (newest : Option Entry). (let k : Kept = record { next = next; newest = newest } in k) in
-      ap (λ n. kept (n * page) (newest_of page (put_at page at (log_entry page rec) block))) written_end
+      let kept = λ (next : ℕ) (newest : Option Entry).
+      (let k : Kept = record { next = next; newest = newest } in k) in
+      ap (λ n. kept (n * page) (newest_of page (put_at page at (log_entry page rec) block)))
+      written_end
       ∙ ap (λ n. kept n (newest_of page (put_at page at (log_entry page rec) block))) end_is
       ∙ ap (kept (at + entry_len page (length rec))) newest_put
 
@@ -315,11 +206,13 @@ module _ (page size at : ℕ) (rec : List ℕ) (block : Image)
       let start : at ≡ at + 0 = omega arith in
       let bytes =
       ap (λ place. take (len - 8) (drop place after.bytes)) start
-      ∙ put_part page size at (log_entry page rec) block paged first written_whole written_fits 0 (len - 8) (omega (arith, written_len))
+      ∙ put_part page size at (log_entry page rec) block paged first written_whole written_fits 0
+      (len - 8) (omega (arith, written_len))
       ∙ entry_front page rec (omega (arith, paged.page_least)) in
       record {
         rest = replicate (len - 8 - length rec) 255;
-        begins = ap (option_map (λ (entry : Entry). take (entry.len - 8) (drop entry.at after.bytes))) newest_put ∙ ap Some bytes;
+        begins = ap (option_map (λ (entry : Entry).
+            take (entry.len - 8) (drop entry.at after.bytes))) newest_put ∙ ap Some bytes;
       }
 
 -- ---- the laws
@@ -332,7 +225,9 @@ pub block_paged :
 block_paged block geometry image held whole =
     let lies = block_lies_on block geometry held in
     let some : 0 < geometry.page = omega (arith, held.page, held.page_least) in
-    let pages : length (part_of geometry.page block.region image).health ≡ block.region.size / geometry.page = part_pages geometry image block.region some lies whole in
+    let pages : length (part_of geometry.page block.region image).health
+    ≡ block.region.size / geometry.page =
+    part_pages geometry image block.region some lies whole in
     record {
       page_least = held.page_least;
       whole = held.pages;
@@ -350,11 +245,14 @@ pub behind_next :
     next_place page old ≤ k * page → k < size / page → is_blank (page_at page old k) ≡ true
 behind_next page size old paged k from below =
     blank_behind page size old paged k
-    (le_of_mul-le-mul_right {m = written_pages page old} {n = k} {k = page} from (omega (arith, paged.page_least))) below
+    (le_of_mul-le-mul_right {m = written_pages page old} {n = k} {k = page} from
+    (omega (arith, paged.page_least))) below
 
 -- an entry with room for its closing words fits into an empty block
-pub entry_fits : (page size len : ℕ) → 16 ≤ page → size % page ≡ 0 → len + 8 ≤ size → entry_len page len ≤ size
-entry_fits page size len least whole room = filled_fits page (len + 8) size (omega (arith, least)) whole room
+pub entry_fits : (page size len : ℕ) → 16 ≤ page → size % page ≡ 0 → len + 8 ≤ size →
+    entry_len page len ≤ size
+entry_fits page size len least whole room =
+    filled_fits page (len + 8) size (omega (arith, least)) whole room
 
 -- a write leaves the record in front of the candidate, whatever stood there
 pub write_begins :
@@ -369,11 +267,13 @@ write_begins block rec old paged room =
     elim (cases_Bool (fits_behind block rec old)) [
       | inl fits ↦
           subst (λ b. IsBegun rec (circular_candidate page (cond b appended anew))) (sym fits)
-          (begun_put page size (next_place page old) rec old paged (mul-mod_left (written_pages page old) page) (leb-true _ _ fits)
+          (begun_put page size (next_place page old) rec old paged
+          (mul-mod_left (written_pages page old) page) (leb-true _ _ fits)
           (behind_next page size old paged))
       | inr full ↦
           subst (λ b. IsBegun rec (circular_candidate page (cond b appended anew))) (sym full)
-          (begun_put page size 0 rec (blank_of block) (blank_paged page size paged.page_least paged.whole paged.small) (zero-mod page)
+          (begun_put page size 0 rec (blank_of block)
+          (blank_paged page size paged.page_least paged.whole paged.small) (zero-mod page)
           (omega (arith, entry_fits page size (length rec) paged.page_least paged.whole room))
           (λ k from below. blank_pages page size k paged.page_least paged.whole below))
     ]
@@ -383,7 +283,9 @@ circular_laws block = record {
   lies = λ geometry serves. block_lies_on block geometry (block_of block geometry serves);
   written = λ geometry serves rec image fits whole.
       let held = block_of block geometry serves in
-      write_begins block rec (part_of geometry.page block.region image) (block_paged block geometry image held whole) (omega (arith, fits, held.page_least, held.page_most));
+      write_begins block rec (part_of geometry.page block.region image)
+      (block_paged block geometry image held whole)
+      (omega (arith, fits, held.page_least, held.page_most));
   voided = λ old. blank_candidate block.page block.page block.region.size;
 }
 

@@ -33,7 +33,8 @@ entry_len_is page len some =
     }
 
 module _ (page : ℕ) (rec : List ℕ) (some : 0 < page) where
-  filled_size : length (filled_to (entry_len page (length rec) - 8) rec) ≡ entry_len page (length rec) - 8
+  filled_size : length (filled_to (entry_len page (length rec) - 8) rec)
+      ≡ entry_len page (length rec) - 8
   filled_size =
       let is = entry_len_is page (length rec) some in
       let filling = length-replicate {A = ℕ} (entry_len page (length rec) - 8 - length rec) 255 in
@@ -44,18 +45,21 @@ module _ (page : ℕ) (rec : List ℕ) (some : 0 < page) where
   entry_size =
       let is = entry_len_is page (length rec) some in
       let front = filled_size in
-      let sum = length-append (filled_to (entry_len page (length rec) - 8) rec) (closing_words (entry_len page (length rec))) in
+      let sum = length-append (filled_to (entry_len page (length rec) - 8) rec)
+      (closing_words (entry_len page (length rec))) in
       omega (arith, is.room)
 
   -- the record and its filling stand in front
-  pub entry_front : take (entry_len page (length rec) - 8) (log_entry page rec) ≡ filled_to (entry_len page (length rec) - 8) rec
+  pub entry_front : take (entry_len page (length rec) - 8) (log_entry page rec)
+      ≡ filled_to (entry_len page (length rec) - 8) rec
   entry_front =
       let front : List ℕ = filled_to (entry_len page (length rec) - 8) rec in
       ap (λ n. take n (log_entry page rec)) (sym filled_size)
       ∙ take-append_seam front (closing_words (entry_len page (length rec)))
 
   -- the closing words stand behind
-  pub entry_words : drop (entry_len page (length rec) - 8) (log_entry page rec) ≡ closing_words (entry_len page (length rec))
+  pub entry_words : drop (entry_len page (length rec) - 8) (log_entry page rec)
+      ≡ closing_words (entry_len page (length rec))
   entry_words =
       let front : List ℕ = filled_to (entry_len page (length rec) - 8) rec in
       ap (λ n. drop n (log_entry page rec)) (sym filled_size)
@@ -64,13 +68,17 @@ module _ (page : ℕ) (rec : List ℕ) (some : 0 < page) where
   -- its last page isn't blank
   pub last_page_written :
       16 ≤ page →
-      list_all (λ (byte : ℕ). eqb byte 255) (drop (entry_len page (length rec) - page) (log_entry page rec)) ≡ false
+      list_all (λ (byte : ℕ). eqb byte 255)
+      (drop (entry_len page (length rec) - page) (log_entry page rec)) ≡ false
   last_page_written least =
       let is = entry_len_is page (length rec) some in
       let front : List ℕ = filled_to (entry_len page (length rec) - 8) rec in
       let words : List ℕ = closing_words (entry_len page (length rec)) in
-      ap (list_all (λ (byte : ℕ). eqb byte 255)) (drop-append-le (entry_len page (length rec) - page) front words (omega (arith, filled_size, is.least, least)))
-      ∙ list_all-append (λ (byte : ℕ). eqb byte 255) (drop (entry_len page (length rec) - page) front) words
+      ap (list_all (λ (byte : ℕ). eqb byte 255))
+      (drop-append-le (entry_len page (length rec) - page) front words
+      (omega (arith, filled_size, is.least, least)))
+      ∙ list_all-append (λ (byte : ℕ). eqb byte 255)
+      (drop (entry_len page (length rec) - page) front) words
       ∙ and_right _ _ refl
 
 -- the length reads back from the words
@@ -87,4 +95,5 @@ pub words_close :
     closes page end (closing_words len) ≡ true
 words_close page len end small whole some inside =
     ap (λ n. eqb (n % page) 0 && (leb 1 n && leb n end)) (words_length len small)
-    ∙ all_hold (eqb (len % page) 0) (leb 1 len) (leb len end) (eq-eqb (len % page) 0 whole) (le-leb 1 len some) (le-leb len end inside)
+    ∙ all_hold (eqb (len % page) 0) (leb 1 len) (leb len end) (eq-eqb (len % page) 0 whole)
+    (le-leb 1 len some) (le-leb len end inside)

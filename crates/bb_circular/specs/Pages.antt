@@ -5,6 +5,7 @@ use Rattle.bb_flash.specs.declared.health.Health.{Health}
 use Rattle.bb_flash.specs.Image.{Image, health_of}
 use Rattle.bb_bucket.specs.Front.{is_lost}
 
+-- one page: its bytes and its health
 pub record Page : Type 0 where
   pub bytes : List ℕ
   pub health : Health

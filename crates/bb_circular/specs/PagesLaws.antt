@@ -1,4 +1,5 @@
--- What follows for the pages of a block: which is the last that isn't blank, and what stands behind.
+-- What follows for the pages of a block: which is the last that isn't blank, and what stands behind
+-- it.
 use Rattle.std.proofs.Common.{◌≡◌, ◌≢◌, ℕ, zero, suc, ◌+◌, ◌-◌, ◌*◌, ◌/◌, ◌%◌, ◌<◌, ◌≤◌, Bool, true, false, not, List, [], ◌∷◌, ◌++◌, eqb, length, take, drop, replicate, get_or, refl, sym, ap, ◌∙◌, subst, arith, inl, inr, take-add, take_all}
 use Rattle.std.specs.List.{fold, list_all, suffix_len}
 use Rattle.std.proofs.Math.Nat.{add-mul, mod_self, mul-le-mul_right, mul-mod_left}
@@ -36,8 +37,12 @@ shorter p xs d n (suc m) inside =
     let before = ap (λ k. suffix_len p (take k xs)) last in
     let short = shorter p xs d n m (omega arith) in
     elim (cases_Bool (p (get_or xs (n + suc m - 1) d))) [
-      | inl passes ↦ let more = suffix_len-take_yes p xs (n + suc m) d (omega arith) inside passes in omega arith
-      | inr fails ↦ let none = suffix_len-take_no p xs (n + suc m) d (omega arith) inside fails in omega arith
+      | inl passes ↦
+          let more = suffix_len-take_yes p xs (n + suc m) d (omega arith) inside passes in
+          omega arith
+      | inr fails ↦
+          let none = suffix_len-take_no p xs (n + suc m) d (omega arith) inside fails in
+          omega arith
     ]
 
 -- each item of that end passes it
@@ -60,7 +65,8 @@ all_blank : (n : ℕ) → list_all (λ (byte : ℕ). eqb byte 255) (replicate n 
 all_blank zero = refl
 all_blank (suc n) = all_blank n
 
-blank_all : (bytes : List ℕ) → list_all (λ (byte : ℕ). eqb byte 255) bytes ≡ true → bytes ≡ replicate (length bytes) 255
+blank_all : (bytes : List ℕ) → list_all (λ (byte : ℕ). eqb byte 255) bytes ≡ true →
+    bytes ≡ replicate (length bytes) 255
 blank_all [] all = refl
 blank_all (byte ∷ bytes) all =
     let parts = and_parts (eqb byte 255) (list_all (λ (b : ℕ). eqb b 255) bytes) all in
@@ -82,11 +88,13 @@ pub blank_page :
     IsBlank page block (k * page) page → is_blank (page_at page block k) ≡ true
 blank_page page block k blank =
     let kept = kept_health (health_of page block (k * page) page) blank.alive in
-    let all : list_all (λ (byte : ℕ). eqb byte 255) (take page (drop (k * page) block.bytes)) ≡ true =
+    let all : list_all (λ (byte : ℕ). eqb byte 255) (take page (drop (k * page) block.bytes))
+    ≡ true =
     ap (list_all (λ (byte : ℕ). eqb byte 255)) blank.clean ∙ all_blank page in
     and_from _ _ (ap not kept) all
 
-both_kept : (one two : Health) → is_lost one ≡ false → is_lost two ≡ false → is_lost (worse_of one two) ≡ false
+both_kept : (one two : Health) → is_lost one ≡ false → is_lost two ≡ false →
+    is_lost (worse_of one two) ≡ false
 both_kept Fine two h k = k
 both_kept Worn Fine h k = refl
 both_kept Worn Worn h k = refl
@@ -97,27 +105,33 @@ lost_stays : (pages : List Health) → fold worse_of Lost pages ≡ Lost
 lost_stays [] = refl
 lost_stays (one ∷ pages) = lost_stays pages
 
-first_kept : (one : Health) (pages : List Health) → is_lost (fold worse_of (worse_of Fine one) pages) ≡ false → is_lost one ≡ false
+first_kept : (one : Health) (pages : List Health) →
+    is_lost (fold worse_of (worse_of Fine one) pages) ≡ false → is_lost one ≡ false
 first_kept Fine pages h = refl
 first_kept Worn pages h = refl
 first_kept Lost pages h = ap is_lost (sym (lost_stays pages)) ∙ h
 
-worn_kept : (pages : List Health) → is_lost (fold worse_of Worn pages) ≡ false → is_lost (fold worse_of Fine pages) ≡ false
+worn_kept : (pages : List Health) → is_lost (fold worse_of Worn pages) ≡ false →
+    is_lost (fold worse_of Fine pages) ≡ false
 worn_kept [] h = refl
 worn_kept (Fine ∷ pages) h = worn_kept pages h
 worn_kept (Worn ∷ pages) h = h
 worn_kept (Lost ∷ pages) h = h
 
-rest_kept : (one : Health) (pages : List Health) → is_lost (fold worse_of (worse_of Fine one) pages) ≡ false → is_lost (fold worse_of Fine pages) ≡ false
+rest_kept : (one : Health) (pages : List Health) →
+    is_lost (fold worse_of (worse_of Fine one) pages) ≡ false →
+    is_lost (fold worse_of Fine pages) ≡ false
 rest_kept Fine pages h = h
 rest_kept Worn pages h = worn_kept pages h
 rest_kept Lost pages h = absurd (false≢true (sym h ∙ ap is_lost (lost_stays pages)))
 
 -- pages of which none is Lost, behind others
-worse_worst : (health : Health) (pages : List Health) → is_lost health ≡ false → is_lost (worst_of pages) ≡ false → is_lost (fold worse_of health pages) ≡ false
+worse_worst : (health : Health) (pages : List Health) → is_lost health ≡ false →
+    is_lost (worst_of pages) ≡ false → is_lost (fold worse_of health pages) ≡ false
 worse_worst health [] kept others = kept
 worse_worst health (one ∷ pages) kept others =
-    worse_worst (worse_of health one) pages (both_kept health one kept (first_kept one pages others)) (rest_kept one pages others)
+    worse_worst (worse_of health one) pages
+    (both_kept health one kept (first_kept one pages others)) (rest_kept one pages others)
 
 -- two ranges of whole pages one behind the other
 health_joined :
@@ -130,9 +144,13 @@ health_joined page at a b pages some first whole_a whole_b =
     ∙ ap (λ n. take n (drop (at / page) pages)) (div_moved page a b some whole_a)
     ∙ take-add (a / page) (b / page) (drop (at / page) pages)
     ∙ ap (λ xs. take (a / page) (drop (at / page) pages) ++ take (b / page) xs)
-    (drop-drop (a / page) (at / page) pages ∙ ap (λ k. drop k pages) (sym (div_moved page at a some first)))
-    ∙ ap (λ xs. xs ++ take (b / page) (drop ((at + a) / page) pages)) (sym (touched_region page at a pages some first whole_a))
-    ∙ ap (λ xs. touched_pages page at a pages ++ xs) (sym (touched_region page (at + a) b pages some (sum_aligned page at a first whole_a) whole_b))
+    (drop-drop (a / page) (at / page) pages
+    ∙ ap (λ k. drop k pages) (sym (div_moved page at a some first)))
+    ∙ ap (λ xs. xs ++ take (b / page) (drop ((at + a) / page) pages))
+    (sym (touched_region page at a pages some first whole_a))
+    ∙ ap (λ xs. touched_pages page at a pages ++ xs)
+    (sym (touched_region page (at + a) b pages some
+    (sum_aligned page at a first whole_a) whole_b))
 
 pub blank_joined :
     (page : ℕ) (block : Image) (at a b : ℕ) →
@@ -147,10 +165,14 @@ blank_joined page block at a b some first whole_a whole_b one two = record {
       ∙ replicate-append-replicate a b 255;
   alive =
       not_lost (health_of page block at (a + b))
-      (ap (λ pages. is_lost (worst_of pages)) (health_joined page at a b block.health some first whole_a whole_b)
-      ∙ ap is_lost (fold-append worse_of Fine (touched_pages page at a block.health) (touched_pages page (at + a) b block.health))
-      ∙ worse_worst (worst_of (touched_pages page at a block.health)) (touched_pages page (at + a) b block.health)
-      (kept_health (health_of page block at a) one.alive) (kept_health (health_of page block (at + a) b) two.alive));
+      (ap (λ pages. is_lost (worst_of pages))
+      (health_joined page at a b block.health some first whole_a whole_b)
+      ∙ ap is_lost (fold-append worse_of Fine (touched_pages page at a block.health)
+      (touched_pages page (at + a) b block.health))
+      ∙ worse_worst (worst_of (touched_pages page at a block.health))
+      (touched_pages page (at + a) b block.health)
+      (kept_health (health_of page block at a) one.alive)
+      (kept_health (health_of page block (at + a) b) two.alive));
 }
 
 -- a look from the end backwards came down to the first n pages: n and the blank pages at the end of
@@ -173,10 +195,12 @@ module _ (page size : ℕ) (block : Image) (paged : IsPaged page size block) whe
       length-map-range_with_len (page_at page block) 0 (length block.bytes / page)
       ∙ ap (λ n. n / page) paged.bytes
 
-  pub page_of : (k : ℕ) (d : Page) → k < size / page → get_or (pages_of page block) k d ≡ page_at page block k
+  pub page_of : (k : ℕ) (d : Page) → k < size / page →
+      get_or (pages_of page block) k d ≡ page_at page block k
   page_of k d inside =
       let same : length block.bytes / page ≡ size / page = ap (λ n. n / page) paged.bytes in
-      get_or-map-range_with_len (page_at page block) 0 (length block.bytes / page) k k d (omega arith) (omega arith)
+      get_or-map-range_with_len (page_at page block) 0 (length block.bytes / page) k k d
+      (omega arith) (omega arith)
 
   -- the number of pages up to the last that isn't blank is fixed by what blank pages there are
   pub written_is :
@@ -210,18 +234,22 @@ module _ (page size : ℕ) (block : Image) (paged : IsPaged page size block) whe
       ∙ passes_behind is_blank (pages_of page block) k d from (omega arith)
 
   -- a blank page holds 0xFF alone, and isn't Lost
-  page_blank : (k : ℕ) → k < size / page → is_blank (page_at page block k) ≡ true → IsBlank page block (k * page) page
+  page_blank : (k : ℕ) → k < size / page → is_blank (page_at page block k) ≡ true →
+      IsBlank page block (k * page) page
   page_blank k inside blank =
-      let parts = and_parts (not (is_lost (page_at page block k).health)) (list_all (λ (byte : ℕ). eqb byte 255) (page_at page block k).bytes) blank in
+      let parts = and_parts (not (is_lost (page_at page block k).health))
+      (list_all (λ (byte : ℕ). eqb byte 255) (page_at page block k).bytes) blank in
       let times = whole_times size page paged.whole in
       let product : (k + 1) * page ≤ size / page * page = mul-le-mul_right page (omega arith) in
       let next : (k + 1) * page ≡ k * page + page = add-mul k 1 page ∙ (omega arith) in
       let room = length-drop (k * page) block.bytes in
       let bytes = paged.bytes in
-      let long : length (take page (drop (k * page) block.bytes)) ≡ page = length-take-le page (drop (k * page) block.bytes) (omega arith) in
+      let long : length (take page (drop (k * page) block.bytes)) ≡ page =
+      length-take-le page (drop (k * page) block.bytes) (omega arith) in
       record {
         clean = blank_all (page_at page block k).bytes parts.1 ∙ ap (λ n. replicate n 255) long;
-        alive = not_lost (page_at page block k).health (not-true (is_lost (page_at page block k).health) parts.0);
+        alive = not_lost (page_at page block k).health
+            (not-true (is_lost (page_at page block k).health) parts.0);
       }
 
   -- pages that are blank one by one are blank together
@@ -231,7 +259,8 @@ module _ (page size : ℕ) (block : Image) (paged : IsPaged page size block) whe
       IsBlank page block (n * page) (m * page)
   pages_blank n zero inside blank =
       let none : 0 ≡ 0 * page = omega arith in
-      subst (λ len. IsBlank page block (n * page) len) none (record { clean = refl; alive = λ lost. (let clash : Fine ≡ Lost = lost in absurd cc) })
+      subst (λ len. IsBlank page block (n * page) len) none
+      (record { clean = refl; alive = λ lost. (let clash : Fine ≡ Lost = lost in absurd cc) })
   pages_blank n (suc m) inside blank =
       let some : 0 < page = omega (arith, paged.page_least) in
       let before = pages_blank n m (omega arith) (λ k from below. blank k from (omega arith)) in
@@ -239,5 +268,6 @@ module _ (page size : ℕ) (block : Image) (paged : IsPaged page size block) whe
       let place : (n + m) * page ≡ n * page + m * page = add-mul n m page in
       let len : m * page + page ≡ suc m * page = omega (arith, add-mul m 1 page) in
       subst (λ l. IsBlank page block (n * page) l) len
-      (blank_joined page block (n * page) (m * page) page some (mul-mod_left n page) (mul-mod_left m page) (mod_self page) before
+      (blank_joined page block (n * page) (m * page) page some (mul-mod_left n page)
+      (mul-mod_left m page) (mod_self page) before
       (subst (λ at. IsBlank page block at page) place last))

@@ -8,7 +8,7 @@ use Rattle.bb_bucket.specs.declared.block.Block.{Block}
 use Rattle.bb_bucket.specs.Blocks.{is_block_of}
 use Rattle.bb_bucket.specs.Calls.{ErasesWhere, Leaves}
 use Rattle.bb_circular.specs.Circular.{circular_kind}
-use Rattle.bb_circular.specs.Entries.{entry_len}
+use Rattle.bb_circular.specs.Entries.{closing_len, entry_len}
 
 -- how many entries of records of this length the block holds
 abbrev pub entries_in : Block → ℕ → ℕ
@@ -35,6 +35,7 @@ pub record IsIdle (block : Block) (from to : Device) : Type 0 where
       (λ before.
       ForSome (erases to) (λ after. number_of block from after ≡ number_of block from before))
 
+-- what may be done to a block
 pub data Deed : Type 0 where
   Idle : Deed
   Write : List ℕ → Deed
@@ -44,6 +45,7 @@ pub record Event : Type 0 where
   pub deed : Deed
   pub device : Device
 
+-- a deed brings one device from another
 abbrev pub Follows : Block → ℕ → Device → Deed → Device → Type 0
 Follows block len from Idle to = IsIdle block from to
 Follows block len from (Write rec) to = IsWritten block len rec from to
@@ -60,6 +62,7 @@ abbrev pub written_by : Deed → List (List ℕ) → List (List ℕ)
 written_by Idle later = later
 written_by (Write rec) later = rec ∷ later
 
+-- the same of a list of events
 abbrev pub records_in : List Event → List (List ℕ)
 records_in [] = []
 records_in (event ∷ later) = written_by event.deed (records_in later)
@@ -74,7 +77,8 @@ last_device from (event ∷ later) = last_device event.device later
 abbrev pub WearLaw : Type 0
 WearLaw =
     (block : Block) (len : ℕ) (from : Device) (events : List Event) →
-    IsTrue (is_block_of block from.geometry) → IsDevice from → len + 8 ≤ block.region.size →
+    IsTrue (is_block_of block from.geometry) → IsDevice from →
+    len + closing_len ≤ block.region.size →
     History block len from events →
     ForSome (erases from)
     (λ before.

@@ -2,14 +2,15 @@ ghost use Rattle.std.specs.Prelude.{◌≡◌, ◌≤◌, ◌<◌, ◌+◌, ◌-
 ghost use Rattle.bb_bucket.specs.Blocks.{filled_to};
 ghost use Rattle.bb_bucket.specs.Front.{is_lost};
 ghost use Rattle.bb_circular.specs.Circular.{IsEntryIn};
-ghost use Rattle.bb_circular.specs.Entries.{closed_entry, closes, closing_words, entry_len, len_of, log_entry};
+ghost use Rattle.bb_circular.specs.Entries.{closed_entry, closes, closing_len, closing_words, entry_len, log_entry};
 
 use crate::kept::Entry;
 use crate::last_page::{LastPage, is_lost};
 use bb_bucket::{Block, whole_pages};
 use byteorder::{ByteOrder, LittleEndian};
 
-/// The words behind a record: the magic one, and the entry's whole length.
+/// In bytes: the words behind a record, the magic one and the entry's whole length (this project's
+/// profile).
 pub(crate) const CLOSING_LEN: u32 = 8;
 
 const CLOSING_MAGIC: u32 = 0x14fa_2d02;
@@ -34,20 +35,20 @@ pub(crate) fn closed_entry(last: LastPage, page: &[u8], block: Block) -> Option<
     }
 }
 
-// Whether the last page ends an entry, whose closing words are these 8 bytes.
+// Whether the last page ends an entry, whose closing words are these bytes.
 fn ends_entry(last: LastPage, page: u32, end: u32, words: &[u8]) -> bool
     requires some { 0 < page }
-    requires whole { length words.now ≡ 8 }
+    requires whole { length words.now ≡ closing_len }
     ensures { result ≡ (nat_le 1 last.pages
         && (not (is_lost last.health) && closes page end words.now)) }
 {
     1 <= last.pages && !is_lost(last.health) && is_closing(page, end, words)
 }
 
-// Whether these 8 bytes close an entry that ends at this place of its block.
+// Whether these bytes close an entry that ends at this place of its block.
 fn is_closing(page: u32, end: u32, words: &[u8]) -> bool
     requires some { 0 < page }
-    requires whole { length words.now ≡ 8 }
+    requires whole { length words.now ≡ closing_len }
     ensures { result ≡ closes page end words.now }
 {
     let len = LittleEndian::read_u32(&words[4..]);
@@ -59,7 +60,7 @@ pub(crate) fn pack_entry(block: Block, rec: &[u8], memory: &mut [u8]) -> u32
     requires least { 16 ≤ block.page }
     requires pages { block.region.size % block.page ≡ 0 }
     requires small { block.region.size + block.page < 2 ^ 32 }
-    requires room { length rec.now + 8 ≤ block.region.size }
+    requires room { length rec.now + closing_len ≤ block.region.size }
     requires memory { length memory.old ≡ block.region.size }
     ensures len { result ≡ entry_len block.page (length rec.now) }
     ensures inside { result ≤ block.region.size }
@@ -73,8 +74,9 @@ pub(crate) fn pack_entry(block: Block, rec: &[u8], memory: &mut [u8]) -> u32
 // Writes a record, 0xFF and the closing words into `out`, which is as long as the entry.
 fn write_entry(rec: &[u8], out: &mut [u8])
     requires small { length out.old < 2 ^ 32 }
-    requires room { length rec.now + 8 ≤ length out.old }
-    ensures { out.new ≡ filled_to (length out.old - 8) rec.now ++ closing_words (length out.old) }
+    requires room { length rec.now + closing_len ≤ length out.old }
+    ensures { out.new
+        ≡ filled_to (length out.old - closing_len) rec.now ++ closing_words (length out.old) }
 {
     let len = out.len();
     let (front, words) = out.split_at_mut(len - CLOSING_LEN as usize);

@@ -1,11 +1,10 @@
-ghost use Rattle.std.specs.Prelude.{◌≡◌, ◌≤◌, ◌/◌, ◌==◌, ◌&&◌, IfOk, IsErr, IsTrue, length, not};
+ghost use Rattle.std.specs.Prelude.{◌≡◌, ◌≤◌, ◌/◌, ◌==◌, ◌&&◌, IfOk, IsErr, IsTrue, length};
 ghost use Rattle.std.specs.List.{list_all};
 ghost use Rattle.std.specs.Option.{ForSome};
 ghost use Rattle.bb_base.specs.Faults.{HasCause};
-ghost use Rattle.bb_flash.specs.Cuts.{IsLater};
-ghost use Rattle.bb_flash.specs.Device.{IsDevice, ReadKeeps, content};
+ghost use Rattle.bb_flash.specs.Device.{content};
 ghost use Rattle.bb_bucket.specs.Blocks.{is_block_of};
-ghost use Rattle.bb_bucket.specs.Calls.{told_but_reads};
+ghost use Rattle.bb_bucket.specs.Calls.{IsQuiet};
 ghost use Rattle.bb_bucket.specs.Front.{is_lost};
 ghost use Rattle.bb_bucket.specs.Kind.{part_of};
 ghost use Rattle.bb_circular.specs.Looking.{IsLastPage};
@@ -36,10 +35,7 @@ pub(crate) fn find_last_page<F: Flash>(
     ensures done { IfOk result (λ last. ForSome (content (F.device flash.old)) (λ image.
         IsLastPage block.page (part_of block.page block.region image) page.new last)) }
     ensures inside { IfOk result (λ last. last.pages ≤ block.region.size / block.page) }
-    ensures keeps { ReadKeeps (F.device flash.old) (F.device flash.new) }
-    ensures told { told_but_reads (F.device flash.new) ≡ told_but_reads (F.device flash.old) }
-    ensures later { IsLater (F.device flash.old) (F.device flash.new) }
-    ensures whole { IsDevice (F.device flash.new) }
+    ensures quiet { IsQuiet (F.device flash.old) (F.device flash.new) }
     ensures faults { HasCause (F.device flash.old).faults
         (F.device flash.new).faults (IsErr result) }
     ensures read_faults { HasCause (F.device flash.old).read_faults

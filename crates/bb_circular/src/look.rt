@@ -1,12 +1,12 @@
 ghost use Rattle.std.specs.Prelude.{◌≡◌, ◌≤◌, ◌-◌, IfOk, IfSome, IsErr, IsTrue, Some, None, is_some, length, option_map, option_and_then, if◌then◌else◌};
 ghost use Rattle.std.specs.Option.{ForSome};
 ghost use Rattle.bb_base.specs.Faults.{HasCause};
-ghost use Rattle.bb_flash.specs.Cuts.{IsLater};
-ghost use Rattle.bb_flash.specs.Device.{IsDevice, ReadKeeps, content, reads};
+ghost use Rattle.bb_flash.specs.Device.{content, reads};
 ghost use Rattle.bb_bucket.specs.Blocks.{is_block_of};
-ghost use Rattle.bb_bucket.specs.Calls.{IsFoundAs, told_but_reads};
+ghost use Rattle.bb_bucket.specs.Calls.{IsFoundAs, IsQuiet};
 ghost use Rattle.bb_bucket.specs.Kind.{part_of};
 ghost use Rattle.bb_circular.specs.Circular.{IsEntryIn, IsKeptIn, agrees_with, circular_candidate, circular_is_worn, kept_of, readable, record_of};
+ghost use Rattle.bb_circular.specs.Entries.{closing_len};
 ghost use Rattle.bb_circular.specs.Looking.{IsKnown, worn_of};
 
 use crate::entry::{CLOSING_LEN, closed_entry};
@@ -21,6 +21,7 @@ const NOTHING: Found = Found {
     worn: false,
 };
 
+#[tactic(auto, using(bb_bucket::proofs::Quiet::quiet_joined))]
 /// Looks for the record of a block, by what is kept of it or else from its end backwards. The answer
 /// is what was found, and what there is to keep.
 pub(crate) fn read_log<F: Flash>(
@@ -35,20 +36,17 @@ pub(crate) fn read_log<F: Flash>(
         IsTrue (agrees_with block.page kept (part_of block.page block.region image))) }
     requires inside { IfSome kept (IsKeptIn block) }
     requires memory { length memory.old ≡ block.region.size }
-    requires room { length out.old ≡ block.region.size - 8 }
+    requires room { length out.old ≡ block.region.size - closing_len }
     ensures done { IfOk result (λ answer. ForSome (content (F.device flash.old)) (λ image.
         let old = part_of block.page block.region image in
         IsFoundAs (circular_candidate block.page old) (circular_is_worn block.page old)
         out.new answer.0)) }
     ensures fits { IfOk result (λ answer.
-        IfSome answer.0.len (λ len. len ≤ block.region.size - 8)) }
+        IfSome answer.0.len (λ len. len ≤ block.region.size - closing_len)) }
     ensures kept { IfOk result (λ answer. ForSome (content (F.device flash.old)) (λ image.
         answer.1 ≡ kept_of block.page (part_of block.page block.region image))) }
     ensures inside { IfOk result (λ answer. IsKeptIn block answer.1) }
-    ensures keeps { ReadKeeps (F.device flash.old) (F.device flash.new) }
-    ensures told { told_but_reads (F.device flash.new) ≡ told_but_reads (F.device flash.old) }
-    ensures later { IsLater (F.device flash.old) (F.device flash.new) }
-    ensures whole { IsDevice (F.device flash.new) }
+    ensures quiet { IsQuiet (F.device flash.old) (F.device flash.new) }
     ensures faults { HasCause (F.device flash.old).faults
         (F.device flash.new).faults (IsErr result) }
     ensures read_faults { HasCause (F.device flash.old).read_faults
@@ -77,10 +75,7 @@ pub(crate) fn look_up<F: Flash>(
     ensures inside { IfOk result (IsKeptIn block) }
     ensures reads { IsTrue (is_some kept) →
         reads (F.device flash.new) ≡ reads (F.device flash.old) }
-    ensures keeps { ReadKeeps (F.device flash.old) (F.device flash.new) }
-    ensures told { told_but_reads (F.device flash.new) ≡ told_but_reads (F.device flash.old) }
-    ensures later { IsLater (F.device flash.old) (F.device flash.new) }
-    ensures whole { IsDevice (F.device flash.new) }
+    ensures quiet { IsQuiet (F.device flash.old) (F.device flash.new) }
     ensures faults { HasCause (F.device flash.old).faults
         (F.device flash.new).faults (IsErr result) }
     ensures read_faults { HasCause (F.device flash.old).read_faults
@@ -100,10 +95,7 @@ fn find_newest<F: Flash>(flash: &mut F, block: Block, memory: &mut [u8]) -> Resu
     ensures done { IfOk result (λ known. ForSome (content (F.device flash.old)) (λ image.
         IsKnown block.page (part_of block.page block.region image) known)) }
     ensures inside { IfOk result (IsKeptIn block) }
-    ensures keeps { ReadKeeps (F.device flash.old) (F.device flash.new) }
-    ensures told { told_but_reads (F.device flash.new) ≡ told_but_reads (F.device flash.old) }
-    ensures later { IsLater (F.device flash.old) (F.device flash.new) }
-    ensures whole { IsDevice (F.device flash.new) }
+    ensures quiet { IsQuiet (F.device flash.old) (F.device flash.new) }
     ensures faults { HasCause (F.device flash.old).faults
         (F.device flash.new).faults (IsErr result) }
     ensures read_faults { HasCause (F.device flash.old).read_faults
@@ -117,6 +109,7 @@ fn find_newest<F: Flash>(flash: &mut F, block: Block, memory: &mut [u8]) -> Resu
     })
 }
 
+#[tactic(auto, using(bb_bucket::proofs::Quiet::quiet_same))]
 // Reads the record of an entry, if there is one and none of its pages is Lost.
 fn read_newest<F: Flash>(
     flash: &mut F,
@@ -126,17 +119,14 @@ fn read_newest<F: Flash>(
 ) -> Result<Found, Failed>
     requires held { IsTrue (is_block_of block (F.device flash.old).geometry) }
     requires inside { IfSome newest (IsEntryIn block) }
-    requires room { length out.old ≡ block.region.size - 8 }
+    requires room { length out.old ≡ block.region.size - closing_len }
     ensures done { IfOk result (λ found. ForSome (content (F.device flash.old)) (λ image.
         let old = part_of block.page block.region image in
         let read = option_and_then (readable block.page old) newest in
         IsFoundAs (option_map (record_of old) read) (worn_of block.page old read) out.new found)) }
     ensures fits { IfOk result (λ found.
-        IfSome found.len (λ len. len ≤ block.region.size - 8)) }
-    ensures keeps { ReadKeeps (F.device flash.old) (F.device flash.new) }
-    ensures told { told_but_reads (F.device flash.new) ≡ told_but_reads (F.device flash.old) }
-    ensures later { IsLater (F.device flash.old) (F.device flash.new) }
-    ensures whole { IsDevice (F.device flash.new) }
+        IfSome found.len (λ len. len ≤ block.region.size - closing_len)) }
+    ensures quiet { IsQuiet (F.device flash.old) (F.device flash.new) }
     ensures faults { HasCause (F.device flash.old).faults
         (F.device flash.new).faults (IsErr result) }
     ensures read_faults { HasCause (F.device flash.old).read_faults

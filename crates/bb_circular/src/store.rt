@@ -1,13 +1,12 @@
 ghost use Rattle.std.specs.Prelude.{◌≡◌, ◌≤◌, ◌<◌, ◌+◌, ◌%◌, ◌^◌, IfOk, IfSome, IsErr, IsTrue, OnOk, false, is_some, length};
 ghost use Rattle.std.specs.Option.{ForSome};
 ghost use Rattle.bb_base.specs.Faults.{HasCause};
-ghost use Rattle.bb_flash.specs.Cuts.{EachTorn, IsLater};
-ghost use Rattle.bb_flash.specs.Device.{IsDevice, LeavesStarts, content, reads};
+ghost use Rattle.bb_flash.specs.Device.{IsDevice, content, reads};
 ghost use Rattle.bb_bucket.specs.Blocks.{is_block_of};
-ghost use Rattle.bb_bucket.specs.Calls.{EachCall, EndsTorn, ErasesWhere, IsVoidCall, IsWriteCall, Leaves};
+ghost use Rattle.bb_bucket.specs.Calls.{ChangesWithin, EachCall, ErasesWhere, IsVoidCall, IsWriteCall, Leaves};
 ghost use Rattle.bb_bucket.specs.Kind.{part_of};
 ghost use Rattle.bb_circular.specs.Circular.{IsKeptIn, agrees_with, circular_kind, fits_behind, kept_of, next_place};
-ghost use Rattle.bb_circular.specs.Entries.{entry_len};
+ghost use Rattle.bb_circular.specs.Entries.{closing_len, entry_len};
 ghost use Rattle.bb_circular.specs.Looking.{kept_at};
 
 use crate::entry::{CLOSING_LEN, pack_entry};
@@ -31,7 +30,7 @@ pub(crate) fn write_log<F: Flash>(
     requires agreed { ForSome (content (F.device flash.old)) (λ image.
         IsTrue (agrees_with block.page kept (part_of block.page block.region image))) }
     requires inside { IfSome kept (IsKeptIn block) }
-    requires room { length rec.now + 8 ≤ block.region.size }
+    requires room { length rec.now + closing_len ≤ block.region.size }
     requires memory { length memory.old ≡ block.region.size }
     ensures done { OnOk result (Leaves block.region ((circular_kind block).after_write rec.now)
         (F.device flash.old) (F.device flash.new)) }
@@ -41,15 +40,10 @@ pub(crate) fn write_log<F: Flash>(
     ensures calls { EachCall
         (IsWriteCall (circular_kind block) (F.device flash.old).geometry.page rec.now)
         (F.device flash.old) (F.device flash.new) }
-    ensures ends { EndsTorn (F.device flash.old) (F.device flash.new) }
-    ensures images { EachTorn block.region.at block.region.size
-        (F.device flash.old) (F.device flash.new) }
+    ensures within { ChangesWithin block.region (F.device flash.old) (F.device flash.new) }
     ensures erases { OnOk result (ErasesWhere block.region
         ((circular_kind block).write_erases rec.now)
         (F.device flash.old) (F.device flash.new)) }
-    ensures later { IsLater (F.device flash.old) (F.device flash.new) }
-    ensures starts { LeavesStarts (F.device flash.old) (F.device flash.new) }
-    ensures whole { IsDevice (F.device flash.new) }
     ensures faults { HasCause (F.device flash.old).faults
         (F.device flash.new).faults (IsErr result) }
     ensures reads { IsTrue (is_some kept) →
@@ -73,7 +67,7 @@ fn put_entry<F: Flash>(
     requires inside { next ≤ block.region.size }
     requires aligned { next % block.page ≡ 0 }
     requires whole { IsDevice (F.device flash.old) }
-    requires room { length rec.now + 8 ≤ block.region.size }
+    requires room { length rec.now + closing_len ≤ block.region.size }
     requires memory { length memory.old ≡ block.region.size }
     ensures done { OnOk result (Leaves block.region ((circular_kind block).after_write rec.now)
         (F.device flash.old) (F.device flash.new)) }
@@ -83,15 +77,10 @@ fn put_entry<F: Flash>(
     ensures calls { EachCall
         (IsWriteCall (circular_kind block) (F.device flash.old).geometry.page rec.now)
         (F.device flash.old) (F.device flash.new) }
-    ensures ends { EndsTorn (F.device flash.old) (F.device flash.new) }
-    ensures images { EachTorn block.region.at block.region.size
-        (F.device flash.old) (F.device flash.new) }
+    ensures within { ChangesWithin block.region (F.device flash.old) (F.device flash.new) }
     ensures erases { OnOk result (ErasesWhere block.region
         ((circular_kind block).write_erases rec.now)
         (F.device flash.old) (F.device flash.new)) }
-    ensures later { IsLater (F.device flash.old) (F.device flash.new) }
-    ensures starts { LeavesStarts (F.device flash.old) (F.device flash.new) }
-    ensures whole { IsDevice (F.device flash.new) }
     ensures faults { HasCause (F.device flash.old).faults
         (F.device flash.new).faults (IsErr result) }
     ensures reads { reads (F.device flash.new) ≡ reads (F.device flash.old) }
@@ -131,7 +120,7 @@ fn append<F: Flash>(
     requires aligned { next % block.page ≡ 0 }
     requires whole { IsDevice (F.device flash.old) }
     requires fits { next + entry_len block.page (length rec.now) ≤ block.region.size }
-    requires room { length rec.now + 8 ≤ block.region.size }
+    requires room { length rec.now + closing_len ≤ block.region.size }
     requires memory { length memory.old ≡ block.region.size }
     ensures done { OnOk result (Leaves block.region ((circular_kind block).after_write rec.now)
         (F.device flash.old) (F.device flash.new)) }
@@ -141,15 +130,10 @@ fn append<F: Flash>(
     ensures calls { EachCall
         (IsWriteCall (circular_kind block) (F.device flash.old).geometry.page rec.now)
         (F.device flash.old) (F.device flash.new) }
-    ensures ends { EndsTorn (F.device flash.old) (F.device flash.new) }
-    ensures images { EachTorn block.region.at block.region.size
-        (F.device flash.old) (F.device flash.new) }
+    ensures within { ChangesWithin block.region (F.device flash.old) (F.device flash.new) }
     ensures erases { OnOk result (ErasesWhere block.region
         ((circular_kind block).write_erases rec.now)
         (F.device flash.old) (F.device flash.new)) }
-    ensures later { IsLater (F.device flash.old) (F.device flash.new) }
-    ensures starts { LeavesStarts (F.device flash.old) (F.device flash.new) }
-    ensures whole { IsDevice (F.device flash.new) }
     ensures faults { HasCause (F.device flash.old).faults
         (F.device flash.new).faults (IsErr result) }
     ensures reads { reads (F.device flash.new) ≡ reads (F.device flash.old) }
@@ -169,7 +153,7 @@ fn start_anew<F: Flash>(
     requires held { IsTrue (is_block_of block (F.device flash.old).geometry) }
     requires full { ForSome (content (F.device flash.old)) (λ image.
         fits_behind block rec.now (part_of block.page block.region image) ≡ false) }
-    requires room { length rec.now + 8 ≤ block.region.size }
+    requires room { length rec.now + closing_len ≤ block.region.size }
     requires memory { length memory.old ≡ block.region.size }
     ensures done { OnOk result (Leaves block.region ((circular_kind block).after_write rec.now)
         (F.device flash.old) (F.device flash.new)) }
@@ -179,15 +163,10 @@ fn start_anew<F: Flash>(
     ensures calls { EachCall
         (IsWriteCall (circular_kind block) (F.device flash.old).geometry.page rec.now)
         (F.device flash.old) (F.device flash.new) }
-    ensures ends { EndsTorn (F.device flash.old) (F.device flash.new) }
-    ensures images { EachTorn block.region.at block.region.size
-        (F.device flash.old) (F.device flash.new) }
+    ensures within { ChangesWithin block.region (F.device flash.old) (F.device flash.new) }
     ensures erases { OnOk result (ErasesWhere block.region
         ((circular_kind block).write_erases rec.now)
         (F.device flash.old) (F.device flash.new)) }
-    ensures later { IsLater (F.device flash.old) (F.device flash.new) }
-    ensures starts { LeavesStarts (F.device flash.old) (F.device flash.new) }
-    ensures whole { IsDevice (F.device flash.new) }
     ensures faults { HasCause (F.device flash.old).faults
         (F.device flash.new).faults (IsErr result) }
     ensures reads { reads (F.device flash.new) ≡ reads (F.device flash.old) }
@@ -208,15 +187,10 @@ pub(crate) fn void_log<F: Flash>(flash: &mut F, block: Block) -> Result<Kept, Fa
     ensures calls { EachCall
         (IsVoidCall (circular_kind block) (F.device flash.old).geometry.page)
         (F.device flash.old) (F.device flash.new) }
-    ensures ends { EndsTorn (F.device flash.old) (F.device flash.new) }
-    ensures images { EachTorn block.region.at block.region.size
-        (F.device flash.old) (F.device flash.new) }
+    ensures within { ChangesWithin block.region (F.device flash.old) (F.device flash.new) }
     ensures erases { OnOk result (ErasesWhere block.region
         (λ region. (circular_kind block).void_erases)
         (F.device flash.old) (F.device flash.new)) }
-    ensures later { IsLater (F.device flash.old) (F.device flash.new) }
-    ensures starts { LeavesStarts (F.device flash.old) (F.device flash.new) }
-    ensures whole { IsDevice (F.device flash.new) }
     ensures faults { HasCause (F.device flash.old).faults
         (F.device flash.new).faults (IsErr result) }
     ensures reads { reads (F.device flash.new) ≡ reads (F.device flash.old) }

@@ -12,7 +12,7 @@ use Rattle.bb_flash.specs.Cuts.{IsLater}
 use Rattle.bb_flash.specs.Device.{Device, IsDevice, content}
 use Rattle.bb_flash.specs.Image.{Image}
 use Rattle.bb_bucket.specs.Calls.{Leaves}
-use Rattle.bb_bucket.specs.Kind.{Kind, part_of}
+use Rattle.bb_bucket.specs.Kind.{BucketKind, part_of}
 use Rattle.bb_copies.specs.Buckets.{EachCopy}
 use Rattle.bb_copies.specs.Erasing.{ErasesBy, unmarked_kinds}
 use Rattle.bb_copies.specs.Passing.{passing_of}
@@ -27,7 +27,7 @@ use Rattle.bb_copies.proofs.Runs.{none_refreshes, none_untouched, refreshes_join
 abbrev pub IsLeft : List Bool → ℕ → ℕ → Type 0
 IsLeft marked bound copy = (is_marked marked copy ≡ true) ⊎ (bound ≤ copy)
 
-pub record RefreshedBelow (form : Form) (kinds : List Kind) (area rec : List ℕ) (marked good : List Bool) (bound : ℕ) (from to : Device) : Type 0 where
+pub record RefreshedBelow (form : Form) (kinds : List BucketKind) (area rec : List ℕ) (marked good : List Bool) (bound : ℕ) (from to : Device) : Type 0 where
   pub refreshes : Refreshes form kinds area from to
   pub kept : EachCopy kinds (λ copy kind. IsLeft marked bound copy → IsUntouched kind from to)
   pub same : (copy : ℕ) → IsLeft marked bound copy → is_marked good copy ≡ is_marked marked copy
@@ -40,7 +40,7 @@ pub record RefreshedBelow (form : Form) (kinds : List Kind) (area rec : List ℕ
   pub exact : IsUndisturbed from to → EachCopy kinds (λ copy kind. copy < bound → is_marked marked copy ≡ false → Leaves kind.region (kind.after_write rec) from to)
   pub erased : IsUndisturbed from to → ErasesBy (unmarked_kinds (take bound marked) (take bound kinds)) rec from to
 
-pub none_refreshed : (form : Form) (kinds : List Kind) (area rec : List ℕ) (marked : List Bool) (device : Device) → IsDevice device → RefreshedBelow form kinds area rec marked marked 0 device device
+pub none_refreshed : (form : Form) (kinds : List BucketKind) (area rec : List ℕ) (marked : List Bool) (device : Device) → IsDevice device → RefreshedBelow form kinds area rec marked marked 0 device device
 none_refreshed form kinds area rec marked device whole = record {
   refreshes = none_refreshes form kinds area device whole;
   kept = λ copy kind e left. none_untouched kind device;
@@ -51,7 +51,7 @@ none_refreshed form kinds area rec marked device whole = record {
   erased = λ quiet. none_erased rec device;
 }
 
-pub kind_inside : (kinds : List Kind) (copy : ℕ) → copy < length kinds → (kind : Kind) × (slice_get kinds copy ≡ Some kind)
+pub kind_inside : (kinds : List BucketKind) (copy : ℕ) → copy < length kinds → (kind : BucketKind) × (slice_get kinds copy ≡ Some kind)
 kind_inside [] copy inside = absurd (omega arith)
 kind_inside (kind ∷ kinds) zero inside = (kind, refl)
 kind_inside (kind ∷ kinds) (suc copy) inside = kind_inside kinds copy (omega arith)
@@ -70,13 +70,13 @@ left_before marked bound copy (inl m) = inl m
 left_before marked bound copy (inr high) = inr (omega arith)
 
 -- one more copy, said of the list of those that were written
-erased_next : (kinds : List Kind) (rec : List ℕ) (marked : List Bool) (bound : ℕ) (written : List Kind) (from to : Device) → unmarked_kinds (take (suc bound) marked) (take (suc bound) kinds) ≡ written → ErasesBy written rec from to → ErasesBy (unmarked_kinds (take (bound + 1) marked) (take (bound + 1) kinds)) rec from to
+erased_next : (kinds : List BucketKind) (rec : List ℕ) (marked : List Bool) (bound : ℕ) (written : List BucketKind) (from to : Device) → unmarked_kinds (take (suc bound) marked) (take (suc bound) kinds) ≡ written → ErasesBy written rec from to → ErasesBy (unmarked_kinds (take (bound + 1) marked) (take (bound + 1) kinds)) rec from to
 erased_next kinds rec marked bound written from to is erased =
     let next : bound + 1 ≡ suc bound = omega arith in
     subst (λ (n : ℕ). ErasesBy (unmarked_kinds (take n marked) (take n kinds)) rec from to) (sym next)
-    (subst (λ (ks : List Kind). ErasesBy ks rec from to) (sym is) erased)
+    (subst (λ (ks : List BucketKind). ErasesBy ks rec from to) (sym is) erased)
 
-pub skipped : (form : Form) (kinds : List Kind) (area rec : List ℕ) (marked good : List Bool) (bound : ℕ) (from to : Device) → bound < length good → is_marked good bound ≡ true → RefreshedBelow form kinds area rec marked good bound from to → RefreshedBelow form kinds area rec marked good (bound + 1) from to
+pub skipped : (form : Form) (kinds : List BucketKind) (area rec : List ℕ) (marked good : List Bool) (bound : ℕ) (from to : Device) → bound < length good → is_marked good bound ≡ true → RefreshedBelow form kinds area rec marked good bound from to → RefreshedBelow form kinds area rec marked good (bound + 1) from to
 skipped form kinds area rec marked good bound from to inside mark below =
     let here : is_marked marked bound ≡ true = sym (below.same bound (inr (omega arith))) ∙ mark in
     let still : count_by not (take (bound + 1) good) ≡ count_by not (take bound good) = count_by_more_no not good bound false inside (ap not mark) in
@@ -99,7 +99,7 @@ skipped form kinds area rec marked good bound from to inside mark below =
 -- ---- over a copy that was settled
 
 -- what a copy passes that a later run didn't touch
-pub passes_still : (form : Form) (kind : Kind) (page : ℕ) (passes : Option (List ℕ)) (mid to : Device) → mid.geometry.page ≡ page → IsLater mid to → IsUntouched kind mid to → ForSome (content mid) (λ image. passing_of form page kind image ≡ passes) → ForSome (content to) (λ image. passing_of form page kind image ≡ passes)
+pub passes_still : (form : Form) (kind : BucketKind) (page : ℕ) (passes : Option (List ℕ)) (mid to : Device) → mid.geometry.page ≡ page → IsLater mid to → IsUntouched kind mid to → ForSome (content mid) (λ image. passing_of form page kind image ≡ passes) → ForSome (content to) (λ image. passing_of form page kind image ≡ passes)
 passes_still form kind page passes mid to same later untouched before = λ after f.
     let there = content_before mid to later after f in
     let region = images_now _ mid to untouched there.0 after there.1 f in
@@ -108,7 +108,7 @@ passes_still form kind page passes mid to same later untouched before = λ after
     subst (λ (p : ℕ). passing_of form p kind after ≡ passing_of form p kind there.0) same kept ∙ old
 
 -- a region that a run left, and a later run didn't touch
-pub leaves_still : (kind : Kind) (f : Image → Image) (one two three : Device) → IsLater one two → IsLater two three → IsUntouched kind two three → Leaves kind.region f one two → Leaves kind.region f one three
+pub leaves_still : (kind : BucketKind) (f : Image → Image) (one two three : Device) → IsLater one two → IsLater two three → IsUntouched kind two three → Leaves kind.region f one two → Leaves kind.region f one three
 leaves_still kind f one two three h k untouched leaves = record {
   there = λ before e after g.
       let mid = content_before two three k after g in
@@ -118,7 +118,7 @@ leaves_still kind f one two three h k untouched leaves = record {
 }
 
 -- a region that a first run didn't touch, and a later one left
-pub still_leaves : (kind : Kind) (f : Image → Image) (one two three : Device) → IsLater one two → IsLater two three → IsUntouched kind one two → Leaves kind.region f two three → Leaves kind.region f one three
+pub still_leaves : (kind : BucketKind) (f : Image → Image) (one two three : Device) → IsLater one two → IsLater two three → IsUntouched kind one two → Leaves kind.region f two three → Leaves kind.region f one three
 still_leaves kind f one two three h k untouched leaves = record {
   there = λ before e after g.
       let mid = content_before two three k after g in
@@ -142,7 +142,7 @@ dead_more good bound false one two three inside here k cause rose =
     let more : count_by not (take (bound + 1) (set good bound false)) ≡ count_by not (take bound good) + 1 = count_by_more_yes not (set good bound false) bound false inside (ap not here) ∙ ap (λ xs. count_by not xs + 1) (take-set good bound false) in
     subst (λ (n : ℕ). RoseBy n one.faults three.faults) (sym more) (rose_again (count_by not (take bound good)) one two three rose (cause refl))
 
-pub settled_more : (form : Form) (kinds : List Kind) (area rec : List ℕ) (marked good : List Bool) (bound : ℕ) (g : Bool) (from mid to : Device) → bound < length good → bound < length (set good bound g) → bound < length marked → bound < length kinds → is_marked good bound ≡ false → RefreshedBelow form kinds area rec marked good bound from mid → Refreshes form kinds area mid to → LeavesOthers kinds bound mid to → IsSettledAt form kinds area bound mid to g → (IsUndisturbed mid to → IsWrittenAt kinds bound rec mid to) → RefreshedBelow form kinds area rec marked (set good bound g) (bound + 1) from to
+pub settled_more : (form : Form) (kinds : List BucketKind) (area rec : List ℕ) (marked good : List Bool) (bound : ℕ) (g : Bool) (from mid to : Device) → bound < length good → bound < length (set good bound g) → bound < length marked → bound < length kinds → is_marked good bound ≡ false → RefreshedBelow form kinds area rec marked good bound from mid → Refreshes form kinds area mid to → LeavesOthers kinds bound mid to → IsSettledAt form kinds area bound mid to g → (IsUndisturbed mid to → IsWrittenAt kinds bound rec mid to) → RefreshedBelow form kinds area rec marked (set good bound g) (bound + 1) from to
 settled_more form kinds area rec marked good bound g from mid to inside within among there fresh_here below run others settled exact =
     let page : mid.geometry.page ≡ from.geometry.page = ap (λ geo. geo.page) below.refreshes.later.geometry in
     let new : is_marked marked bound ≡ false = sym (below.same bound (inr (omega arith))) ∙ fresh_here in
@@ -179,7 +179,7 @@ settled_more form kinds area rec marked good bound g from mid to inside within a
           let kind = kind_inside kinds bound there in
           let before : ErasesBy (unmarked_kinds (take bound marked) (take bound kinds)) rec from mid = below.erased (undisturbed_first from mid to run.later quiet) in
           let last = written_erases kind.0 rec mid to (exact (undisturbed_second from mid to below.refreshes.later quiet) bound kind.0 kind.1 refl).erases in
-          let whole : List Kind = unmarked_kinds (take bound marked) (take bound kinds) ++ kind.0 ∷ [] in
+          let whole : List BucketKind = unmarked_kinds (take bound marked) (take bound kinds) ++ kind.0 ∷ [] in
           erased_next kinds rec marked bound whole from to (unmarked_more marked kinds bound kind.0 kind.1 among new)
           (erases_joined (unmarked_kinds (take bound marked) (take bound kinds)) whole kind.0 rec from mid to below.refreshes.later run.later
           (below.kept bound kind.0 kind.1 (inr (omega arith))) before last (λ p. count_append p (unmarked_kinds (take bound marked) (take bound kinds)) (kind.0 ∷ [])));
@@ -187,29 +187,29 @@ settled_more form kinds area rec marked good bound g from mid to inside within a
 
 -- ---- at the end
 
-pub all_settled : (form : Form) (kinds : List Kind) (area rec : List ℕ) (marked good : List Bool) (from to : Device) → length good ≡ length kinds → RefreshedBelow form kinds area rec marked good (length good) from to → AllSettled form kinds area marked good from to
+pub all_settled : (form : Form) (kinds : List BucketKind) (area rec : List ℕ) (marked good : List Bool) (from to : Device) → length good ≡ length kinds → RefreshedBelow form kinds area rec marked good (length good) from to → AllSettled form kinds area marked good from to
 all_settled form kinds area rec marked good from to many below = record {
   each = λ copy kind e fresh. below.each copy kind e (omega (arith, slice_get_within kinds copy kind e, many)) fresh;
   stays = λ copy mark. below.same copy (inl mark) ∙ mark;
   dead = subst (λ (xs : List Bool). RoseBy (count_by not xs) from.faults to.faults) (take-length good) below.dead;
 }
 
-pub all_written : (form : Form) (kinds : List Kind) (area rec : List ℕ) (marked good : List Bool) (from to : Device) → length good ≡ length kinds → RefreshedBelow form kinds area rec marked good (length good) from to → IsUndisturbed from to → AllWritten kinds rec marked from to
+pub all_written : (form : Form) (kinds : List BucketKind) (area rec : List ℕ) (marked good : List Bool) (from to : Device) → length good ≡ length kinds → RefreshedBelow form kinds area rec marked good (length good) from to → IsUndisturbed from to → AllWritten kinds rec marked from to
 all_written form kinds area rec marked good from to many below quiet =
     let some : unmarked_kinds (take (length good) marked) (take (length good) kinds) ≡ unmarked_kinds marked kinds =
     ap (λ n. unmarked_kinds (take (length good) marked) (take n kinds)) many ∙ ap (unmarked_kinds (take (length good) marked)) (take-length kinds)
     ∙ unmarked_enough marked kinds (length good) (omega (arith, many)) in
     record {
       each = λ copy kind e fresh. below.exact quiet copy kind e (omega (arith, slice_get_within kinds copy kind e, many)) fresh;
-      erases = subst (λ (ks : List Kind). ErasesBy ks rec from to) some (below.erased quiet);
+      erases = subst (λ (ks : List BucketKind). ErasesBy ks rec from to) some (below.erased quiet);
     }
 
-pub keeps_marked : (form : Form) (kinds : List Kind) (area rec : List ℕ) (marked good : List Bool) (bound : ℕ) (from to : Device) → RefreshedBelow form kinds area rec marked good bound from to → KeepsMarked kinds marked from to
+pub keeps_marked : (form : Form) (kinds : List BucketKind) (area rec : List ℕ) (marked good : List Bool) (bound : ℕ) (from to : Device) → RefreshedBelow form kinds area rec marked good bound from to → KeepsMarked kinds marked from to
 keeps_marked form kinds area rec marked good bound from to below = λ copy kind e mark. below.kept copy kind e (inl mark)
 
 -- ---- where a copy is stuck
 
-cause_earlier : (form : Form) (kind : Kind) (area : List ℕ) (from mid to : Device) → IsLater from mid → IsLater mid to → IsStale form kind area mid to ⊎ IsUnread mid to → IsStale form kind area from to ⊎ IsUnread from to
+cause_earlier : (form : Form) (kind : BucketKind) (area : List ℕ) (from mid to : Device) → IsLater from mid → IsLater mid to → IsStale form kind area mid to ⊎ IsUnread mid to → IsStale form kind area from to ⊎ IsUnread from to
 cause_earlier form kind area from mid to h k (inl stale) =
     let before = h.faults in
     let cause = stale.cause in
@@ -224,23 +224,23 @@ cause_earlier form kind area from mid to h k (inr unread) =
     let read = unread.read in
     inr (record { cause = omega (arith, before, cause); read = omega (arith, reads, read) })
 
-pub stuck_earlier : (form : Form) (kinds : List Kind) (area : List ℕ) (copy : ℕ) (from mid to : Device) → IsLater from mid → IsLater mid to → IsStuckAt form kinds area copy mid to → IsStuckAt form kinds area copy from to
+pub stuck_earlier : (form : Form) (kinds : List BucketKind) (area : List ℕ) (copy : ℕ) (from mid to : Device) → IsLater from mid → IsLater mid to → IsStuckAt form kinds area copy mid to → IsStuckAt form kinds area copy from to
 stuck_earlier form kinds area copy from mid to h k stuck = record {
   inside = stuck.inside;
   cause = λ place kind e same. cause_earlier form kind area from mid to h k (stuck.cause place kind e same);
 }
 
-cause_rose : (form : Form) (kind : Kind) (area : List ℕ) (from to : Device) → IsStale form kind area from to ⊎ IsUnread from to → Rose from.faults to.faults
+cause_rose : (form : Form) (kind : BucketKind) (area : List ℕ) (from to : Device) → IsStale form kind area from to ⊎ IsUnread from to → Rose from.faults to.faults
 cause_rose form kind area from to (inl stale) = let cause = stale.cause in omega (arith, cause)
 cause_rose form kind area from to (inr unread) = let cause = unread.cause in omega (arith, cause)
 
 -- where a copy is stuck a call failed
-pub stuck_rose : (form : Form) (kinds : List Kind) (area : List ℕ) (copy : ℕ) (from to : Device) → IsStuckAt form kinds area copy from to → Rose from.faults to.faults
+pub stuck_rose : (form : Form) (kinds : List BucketKind) (area : List ℕ) (copy : ℕ) (from to : Device) → IsStuckAt form kinds area copy from to → Rose from.faults to.faults
 stuck_rose form kinds area copy from to stuck =
     let there = kind_inside kinds copy stuck.inside in
     cause_rose form there.0 area from to (stuck.cause copy there.0 there.1 refl)
 
-pub stuck_keeps : (form : Form) (kinds : List Kind) (area rec : List ℕ) (marked good : List Bool) (bound : ℕ) (from mid to : Device) → is_marked good bound ≡ false → RefreshedBelow form kinds area rec marked good bound from mid → IsLater mid to → LeavesOthers kinds bound mid to → KeepsMarked kinds marked from to
+pub stuck_keeps : (form : Form) (kinds : List BucketKind) (area rec : List ℕ) (marked good : List Bool) (bound : ℕ) (from mid to : Device) → is_marked good bound ≡ false → RefreshedBelow form kinds area rec marked good bound from mid → IsLater mid to → LeavesOthers kinds bound mid to → KeepsMarked kinds marked from to
 stuck_keeps form kinds area rec marked good bound from mid to unmarked below later others = λ copy kind e mark.
     let new : is_marked marked bound ≡ false = sym (below.same bound (inr (omega arith))) ∙ unmarked in
     untouched_joined kind from mid to below.refreshes.later later (below.kept copy kind e (inl mark))

@@ -8,7 +8,7 @@ use Rattle.bb_flash.specs.Cuts.{IsLater}
 use Rattle.bb_flash.specs.Device.{Device, IsDevice, Told, content}
 use Rattle.bb_flash.specs.Image.{Image}
 use Rattle.bb_bucket.specs.Calls.{Leaves}
-use Rattle.bb_bucket.specs.Kind.{IsKind, Kind, part_of}
+use Rattle.bb_bucket.specs.Kind.{BucketKind, IsKind, part_of}
 use Rattle.bb_copies.specs.declared.settle.Settled.{Settled}
 use Rattle.bb_copies.specs.declared.settle.Settled.TheVariants.{Good, Dead, Stuck}
 use Rattle.bb_copies.specs.Passing.{passing_of}
@@ -30,7 +30,7 @@ content_before from to later after e =
     let told : is_some to.told ≡ true = sym (is_some_map map to.told) ∙ ap is_some e in
     some_of (content from) (is_some_map map from.told ∙ sym later.told ∙ told)
 
-pub written_good : (form : Form) (kind : Kind) (area : List ℕ) (from to : Device) → IsForm form → IsKind kind → IsTrue (kind.serves from.geometry) → IsTrue (form.fits area) → form.length ≤ kind.room → IsDevice from → IsLater from to → Leaves kind.region (kind.after_write (form.text area)) from to → IsGood form kind area from to
+pub written_good : (form : Form) (kind : BucketKind) (area : List ℕ) (from to : Device) → IsForm form → IsKind kind → IsTrue (kind.serves from.geometry) → IsTrue (form.fits area) → form.length ≤ kind.room → IsDevice from → IsLater from to → Leaves kind.region (kind.after_write (form.text area)) from to → IsGood form kind area from to
 written_good form kind area from to laws kinds serves fits room whole later leaves = record {
   passes = λ after e.
       let there = content_before from to later after e in
@@ -38,25 +38,25 @@ written_good form kind area from to laws kinds serves fits room whole later leav
       ap (λ region. option_and_then form.passes (kind.candidate_of region)) (leaves.there there.0 there.1 after e) ∙ begun_passes form area _ laws fits begun;
 }
 
-pub voided_nothing : (form : Form) (kind : Kind) (from to : Device) → IsKind kind → IsLater from to → Leaves kind.region kind.after_void from to → ForSome (content to) (λ image. passing_of form from.geometry.page kind image ≡ None)
+pub voided_nothing : (form : Form) (kind : BucketKind) (from to : Device) → IsKind kind → IsLater from to → Leaves kind.region kind.after_void from to → ForSome (content to) (λ image. passing_of form from.geometry.page kind image ≡ None)
 voided_nothing form kind from to kinds later leaves = λ after e.
     let there = content_before from to later after e in
     ap (λ region. option_and_then form.passes (kind.candidate_of region)) (leaves.there there.0 there.1 after e) ∙ ap (option_and_then form.passes) (kinds.voided (part_of from.geometry.page kind.region there.0))
 
-pub read_as : (form : Form) (kind : Kind) (area out : List ℕ) (from to : Device) (result : Settled) → IsCompared out area result → content to ≡ content from → ForSome (content from) (λ image. Some out ≡ passing_of form from.geometry.page kind image) → ReadsAs form kind area from to result
+pub read_as : (form : Form) (kind : BucketKind) (area out : List ℕ) (from to : Device) (result : Settled) → IsCompared out area result → content to ≡ content from → ForSome (content from) (λ image. Some out ≡ passing_of form from.geometry.page kind image) → ReadsAs form kind area from to result
 read_as form kind area out from to Good same kept passes = record { passes = λ image e. sym (passes image (sym kept ∙ e)) ∙ ap Some same }
 read_as form kind area out from to Dead same kept passes = absurd same
 read_as form kind area out from to Stuck differs kept passes = inl (λ image e. record { other = out; passed = sym (passes image (sym kept ∙ e)); differs = differs })
 
-pub voided_dead : (form : Form) (kind later : Kind) (from mid to : Device) → later ≡ kind → IsKind later → IsLater from mid → IsLater mid to → Leaves later.region later.after_void mid to → Rose from.faults to.faults → IsDead form kind from to
+pub voided_dead : (form : Form) (kind later : BucketKind) (from mid to : Device) → later ≡ kind → IsKind later → IsLater from mid → IsLater mid to → Leaves later.region later.after_void mid to → Rose from.faults to.faults → IsDead form kind from to
 voided_dead form kind later from mid to same kinds h k leaves rose =
     let page : ℕ = from.geometry.page in
     let there = voided_nothing form later mid to kinds k leaves in
     let paged : ForSome (content to) (λ image. passing_of form page later image ≡ None) = subst (λ (p : ℕ). ForSome (content to) (λ image. passing_of form p later image ≡ None)) (ap (λ geo. geo.page) h.geometry) there in
-    record { passes = subst (λ (l : Kind). ForSome (content to) (λ image. passing_of form page l image ≡ None)) same paged; cause = rose }
+    record { passes = subst (λ (l : BucketKind). ForSome (content to) (λ image. passing_of form page l image ≡ None)) same paged; cause = rose }
 
 -- the ends after a write and a void that both failed, by what was read back then
-ends_read : (form : Form) (kind : Kind) (area : List ℕ) (from mid to : Device) (result : Settled) → IsLater from mid → RoseBy 2 from.faults mid.faults → IsLater mid to → ReadsAs form kind area mid to result → EndsAs form kind area from to result
+ends_read : (form : Form) (kind : BucketKind) (area : List ℕ) (from mid to : Device) (result : Settled) → IsLater from mid → RoseBy 2 from.faults mid.faults → IsLater mid to → ReadsAs form kind area mid to result → EndsAs form kind area from to result
 ends_read form kind area from mid to Good later rose after reading =
     record { passes = subst (λ (p : ℕ). ForSome (content to) (λ image. passing_of form p kind image ≡ Some area)) (ap (λ geo. geo.page) later.geometry) reading.passes }
 ends_read form kind area from mid to Dead later rose after reading =
@@ -75,9 +75,9 @@ ends_read form kind area from mid to Stuck later rose after (inr failed) =
     let reads = later.read_faults in
     inr (record { cause = omega (arith, rose, failed.0); read = omega (arith, reads, failed.1) })
 
-pub ends_read_as : (form : Form) (kind here : Kind) (area : List ℕ) (from mid to : Device) (result : Settled) → here ≡ kind → IsLater from mid → RoseBy 2 from.faults mid.faults → IsLater mid to → ReadsAs form here area mid to result → EndsAs form kind area from to result
+pub ends_read_as : (form : Form) (kind here : BucketKind) (area : List ℕ) (from mid to : Device) (result : Settled) → here ≡ kind → IsLater from mid → RoseBy 2 from.faults mid.faults → IsLater mid to → ReadsAs form here area mid to result → EndsAs form kind area from to result
 ends_read_as form kind here area from mid to result same later rose after reading =
-    subst (λ (l : Kind). EndsAs form l area from to result) same (ends_read form here area from mid to result later rose after reading)
+    subst (λ (l : BucketKind). EndsAs form l area from to result) same (ends_read form here area from mid to result later rose after reading)
 
 pub ok_gives : {T E : Type 0} (r : Result T E) (P : Type 0) → OnOk r P → is_ok r ≡ true → P
 ok_gives (Ok x) P p e = p
@@ -91,6 +91,6 @@ not_ok (Err x) e = refl
 pub whole_slice : {X : Type 0} (xs ys : List X) (n : ℕ) → length xs ≡ n → take n (xs ++ drop (length xs) ys) ≡ xs
 whole_slice xs ys n e = ap (λ k. take k (xs ++ drop (length xs) ys)) (sym e) ∙ take-append_seam xs (drop (length xs) ys)
 
-pub written_good_as : (form : Form) (kind : Kind) (area rec : List ℕ) (from to : Device) → rec ≡ form.text area → IsForm form → IsKind kind → IsTrue (kind.serves from.geometry) → IsTrue (form.fits area) → form.length ≤ kind.room → IsDevice from → IsLater from to → Leaves kind.region (kind.after_write rec) from to → IsGood form kind area from to
+pub written_good_as : (form : Form) (kind : BucketKind) (area rec : List ℕ) (from to : Device) → rec ≡ form.text area → IsForm form → IsKind kind → IsTrue (kind.serves from.geometry) → IsTrue (form.fits area) → form.length ≤ kind.room → IsDevice from → IsLater from to → Leaves kind.region (kind.after_write rec) from to → IsGood form kind area from to
 written_good_as form kind area rec from to packed laws kinds serves fits room whole later leaves =
     written_good form kind area from to laws kinds serves fits room whole later (subst (λ (r : List ℕ). Leaves kind.region (kind.after_write r) from to) packed leaves)

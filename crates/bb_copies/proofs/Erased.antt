@@ -11,7 +11,7 @@ use Rattle.bb_flash.specs.Cuts.{IsLater}
 use Rattle.bb_flash.specs.Device.{Device, ReadKeeps, Told, content, erases}
 use Rattle.bb_flash.specs.Image.{Image}
 use Rattle.bb_bucket.specs.Calls.{ErasesWhere, but_reads, erases_after, told_but_reads}
-use Rattle.bb_bucket.specs.Kind.{Kind, part_of}
+use Rattle.bb_bucket.specs.Kind.{BucketKind, part_of}
 use Rattle.bb_copies.specs.Erasing.{ErasesBy, erases_block, unmarked_kinds}
 use Rattle.bb_copies.specs.Refreshing.{IsUntouched, is_marked}
 use Rattle.bb_copies.proofs.Ends.{is_some_map, some_of}
@@ -19,18 +19,18 @@ use Rattle.bb_copies.proofs.Many.{get_set_other, images_now, same_or_not, same_p
 
 -- ---- counts
 
-count_cons : (p : Kind → Bool) (kind : Kind) (kinds : List Kind) → count_by p (kind ∷ kinds) ≡ cond (p kind) 1 0 + count_by p kinds
-count_cons p kind kinds = let f : Kind → ℕ = λ k. cond (p k) 1 0 in sum_by-cons f kind kinds
+count_cons : (p : BucketKind → Bool) (kind : BucketKind) (kinds : List BucketKind) → count_by p (kind ∷ kinds) ≡ cond (p kind) 1 0 + count_by p kinds
+count_cons p kind kinds = let f : BucketKind → ℕ = λ k. cond (p k) 1 0 in sum_by-cons f kind kinds
 
-count_one : (p : Kind → Bool) (kind : Kind) → count_by p (kind ∷ []) ≡ cond (p kind) 1 0
+count_one : (p : BucketKind → Bool) (kind : BucketKind) → count_by p (kind ∷ []) ≡ cond (p kind) 1 0
 count_one p kind = count_cons p kind [] ∙ add-zero (cond (p kind) 1 0)
 
-pub count_append : (p : Kind → Bool) (xs ys : List Kind) → count_by p (xs ++ ys) ≡ count_by p xs + count_by p ys
-count_append p xs ys = let f : Kind → ℕ = λ k. cond (p k) 1 0 in sum_by-append f xs ys
+pub count_append : (p : BucketKind → Bool) (xs ys : List BucketKind) → count_by p (xs ++ ys) ≡ count_by p xs + count_by p ys
+count_append p xs ys = let f : BucketKind → ℕ = λ k. cond (p k) 1 0 in sum_by-append f xs ys
 
 -- ---- the copies that aren't marked
 
-pub unmarked_skip : (marked : List Bool) (kinds : List Kind) (bound : ℕ) → is_marked marked bound ≡ true → unmarked_kinds (take (suc bound) marked) (take (suc bound) kinds) ≡ unmarked_kinds (take bound marked) (take bound kinds)
+pub unmarked_skip : (marked : List Bool) (kinds : List BucketKind) (bound : ℕ) → is_marked marked bound ≡ true → unmarked_kinds (take (suc bound) marked) (take (suc bound) kinds) ≡ unmarked_kinds (take bound marked) (take bound kinds)
 unmarked_skip [] kinds bound mark = absurd cc
 unmarked_skip (m ∷ marked) [] zero mark = refl
 unmarked_skip (m ∷ marked) [] (suc bound) mark = refl
@@ -39,7 +39,7 @@ unmarked_skip (false ∷ marked) (kind ∷ kinds) zero mark = absurd cc
 unmarked_skip (true ∷ marked) (kind ∷ kinds) (suc bound) mark = unmarked_skip marked kinds bound mark
 unmarked_skip (false ∷ marked) (kind ∷ kinds) (suc bound) mark = ap (λ ks. kind ∷ ks) (unmarked_skip marked kinds bound mark)
 
-pub unmarked_more : (marked : List Bool) (kinds : List Kind) (bound : ℕ) (here : Kind) → slice_get kinds bound ≡ Some here → bound < length marked → is_marked marked bound ≡ false → unmarked_kinds (take (suc bound) marked) (take (suc bound) kinds) ≡ unmarked_kinds (take bound marked) (take bound kinds) ++ here ∷ []
+pub unmarked_more : (marked : List Bool) (kinds : List BucketKind) (bound : ℕ) (here : BucketKind) → slice_get kinds bound ≡ Some here → bound < length marked → is_marked marked bound ≡ false → unmarked_kinds (take (suc bound) marked) (take (suc bound) kinds) ≡ unmarked_kinds (take bound marked) (take bound kinds) ++ here ∷ []
 unmarked_more [] kinds bound here e inside mark = absurd (omega arith)
 unmarked_more (m ∷ marked) [] bound here e inside mark = absurd cc
 unmarked_more (true ∷ marked) (kind ∷ kinds) zero here e inside mark = absurd cc
@@ -47,7 +47,7 @@ unmarked_more (false ∷ marked) (kind ∷ kinds) zero here e inside mark = let 
 unmarked_more (true ∷ marked) (kind ∷ kinds) (suc bound) here e inside mark = unmarked_more marked kinds bound here e (omega arith) mark
 unmarked_more (false ∷ marked) (kind ∷ kinds) (suc bound) here e inside mark = ap (λ ks. kind ∷ ks) (unmarked_more marked kinds bound here e (omega arith) mark)
 
-pub unmarked_enough : (marked : List Bool) (kinds : List Kind) (n : ℕ) → length kinds ≤ n → unmarked_kinds (take n marked) kinds ≡ unmarked_kinds marked kinds
+pub unmarked_enough : (marked : List Bool) (kinds : List BucketKind) (n : ℕ) → length kinds ≤ n → unmarked_kinds (take n marked) kinds ≡ unmarked_kinds marked kinds
 unmarked_enough [] kinds zero all = refl
 unmarked_enough [] kinds (suc n) all = refl
 unmarked_enough (m ∷ marked) [] zero all = refl
@@ -56,21 +56,21 @@ unmarked_enough (m ∷ marked) (kind ∷ kinds) zero all = absurd (omega arith)
 unmarked_enough (true ∷ marked) (kind ∷ kinds) (suc n) all = unmarked_enough marked kinds n (omega arith)
 unmarked_enough (false ∷ marked) (kind ∷ kinds) (suc n) all = ap (λ ks. kind ∷ ks) (unmarked_enough marked kinds n (omega arith))
 
-pub none_marked : (marked : List Bool) (kinds : List Kind) → ((copy : ℕ) → is_marked marked copy ≡ false) → unmarked_kinds marked kinds ≡ kinds
+pub none_marked : (marked : List Bool) (kinds : List BucketKind) → ((copy : ℕ) → is_marked marked copy ≡ false) → unmarked_kinds marked kinds ≡ kinds
 none_marked [] kinds none = refl
 none_marked (m ∷ marked) [] none = refl
 none_marked (true ∷ marked) (kind ∷ kinds) none = let clash : true ≡ false = none 0 in absurd cc
 none_marked (false ∷ marked) (kind ∷ kinds) none = ap (λ ks. kind ∷ ks) (none_marked marked kinds (λ copy. none (suc copy)))
 
 -- the copy of this number is one more
-pub one_more : (marked : List Bool) (kinds : List Kind) (used : ℕ) (here : Kind) → slice_get kinds used ≡ Some here → used < length marked → is_marked marked used ≡ false → (p : Kind → Bool) → count_by p (unmarked_kinds marked kinds) ≡ count_by p (unmarked_kinds (set marked used true) kinds) + count_by p (here ∷ [])
+pub one_more : (marked : List Bool) (kinds : List BucketKind) (used : ℕ) (here : BucketKind) → slice_get kinds used ≡ Some here → used < length marked → is_marked marked used ≡ false → (p : BucketKind → Bool) → count_by p (unmarked_kinds marked kinds) ≡ count_by p (unmarked_kinds (set marked used true) kinds) + count_by p (here ∷ [])
 one_more [] kinds used here e inside mark p = absurd (omega arith)
 one_more (m ∷ marked) [] used here e inside mark p = absurd cc
 one_more (true ∷ marked) (kind ∷ kinds) zero here e inside mark p = absurd cc
 one_more (false ∷ marked) (kind ∷ kinds) zero here e inside mark p =
     let is : kind ≡ here = cc in
     let one = count_cons p kind (unmarked_kinds marked kinds) in
-    let f : Kind → ℕ = λ k. cond (p k) 1 0 in
+    let f : BucketKind → ℕ = λ k. cond (p k) 1 0 in
     let two : f kind ≡ f here = ap f is in
     let three = count_one p here in
     omega (arith, one, two, three)
@@ -108,7 +108,7 @@ erased_there geometry region true old block n e = elim (same_or_not block (regio
       get_set_other old here block (slice_index old here + 1) other ∙ e ∙ ap Some (sym (add-zero n)) ∙ ap (λ b. Some (n + cond b 1 0)) (sym test)
 ]
 
-pub written_erases : (kind : Kind) (rec : List ℕ) (from to : Device) → ErasesWhere kind.region (kind.write_erases rec) from to → ErasesBy (kind ∷ []) rec from to
+pub written_erases : (kind : BucketKind) (rec : List ℕ) (from to : Device) → ErasesWhere kind.region (kind.write_erases rec) from to → ErasesBy (kind ∷ []) rec from to
 written_erases kind rec from to where_so = record {
   counted = λ image e old f new g block n h.
       let erased : Bool = kind.write_erases rec (part_of from.geometry.page kind.region image) in
@@ -135,17 +135,17 @@ told_before from to new later e =
     let told : is_some to.told ≡ true = sym (is_some_map f to.told) ∙ ap is_some e in
     some_of from.told (sym later.told ∙ told)
 
-same_count : (p q : Kind → Bool) (kind : Kind) → q kind ≡ p kind → count_by q (kind ∷ []) ≡ count_by p (kind ∷ [])
+same_count : (p q : BucketKind → Bool) (kind : BucketKind) → q kind ≡ p kind → count_by q (kind ∷ []) ≡ count_by p (kind ∷ [])
 same_count p q kind same = count_one q kind ∙ ap (λ b. cond b 1 0) same ∙ sym (count_one p kind)
 
-pub erases_joined : (kinds sum : List Kind) (kind : Kind) (rec : List ℕ) (one two three : Device) → IsLater one two → IsLater two three → IsUntouched kind one two → ErasesBy kinds rec one two → ErasesBy (kind ∷ []) rec two three → ((p : Kind → Bool) → count_by p sum ≡ count_by p kinds + count_by p (kind ∷ [])) → ErasesBy sum rec one three
+pub erases_joined : (kinds sum : List BucketKind) (kind : BucketKind) (rec : List ℕ) (one two three : Device) → IsLater one two → IsLater two three → IsUntouched kind one two → ErasesBy kinds rec one two → ErasesBy (kind ∷ []) rec two three → ((p : BucketKind → Bool) → count_by p sum ≡ count_by p kinds + count_by p (kind ∷ [])) → ErasesBy sum rec one three
 erases_joined kinds sum kind rec one two three h k untouched first second sums = record {
   counted = λ image e old f new g block n there.
       let mid = told_before two three new k g in
       let held : content two ≡ Some mid.0.image = let map : Told → Image = λ t. t.image in ap (option_map map) mid.1 in
       let numbers : erases two ≡ Some mid.0.erases = let map : Told → List ℕ = λ t. t.erases in ap (option_map map) mid.1 in
-      let p : Kind → Bool = erases_block one.geometry image rec block in
-      let q : Kind → Bool = erases_block two.geometry mid.0.image rec block in
+      let p : BucketKind → Bool = erases_block one.geometry image rec block in
+      let q : BucketKind → Bool = erases_block two.geometry mid.0.image rec block in
       let region = images_now _ one two untouched image mid.0.image e held in
       let part : part_of one.geometry.page kind.region mid.0.image ≡ part_of one.geometry.page kind.region image = same_part one.geometry.page kind.region image mid.0.image region in
       let at : Geometry → Image → Bool = λ geometry there. kind.write_erases rec there && (kind.region.at / geometry.block == block) in
@@ -167,7 +167,7 @@ read_erases from to told =
     let map : Told → List ℕ = λ t. t.erases in
     sym (erases_but to.told) ∙ ap (option_map map) told ∙ erases_but from.told
 
-pub erases_behind : (kinds : List Kind) (rec : List ℕ) (from mid to : Device) → told_but_reads mid ≡ told_but_reads from → ReadKeeps from mid → ErasesBy kinds rec mid to → ErasesBy kinds rec from to
+pub erases_behind : (kinds : List BucketKind) (rec : List ℕ) (from mid to : Device) → told_but_reads mid ≡ told_but_reads from → ReadKeeps from mid → ErasesBy kinds rec mid to → ErasesBy kinds rec from to
 erases_behind kinds rec from mid to told keeps by = record {
   counted = λ image e old f new g block n h.
       let there = by.counted image (keeps.content ∙ e) old (read_erases from mid told ∙ f) new g block n h in

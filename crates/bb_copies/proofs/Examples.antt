@@ -5,7 +5,7 @@ use Rattle.bb_base.specs.Form.{Form}
 use Rattle.bb_flash.specs.declared.health.Health.TheVariants.{Fine}
 use Rattle.bb_flash.specs.Device.{Change}
 use Rattle.bb_flash.specs.Image.{Image}
-use Rattle.bb_bucket.specs.Kind.{Kind}
+use Rattle.bb_bucket.specs.Kind.{BucketKind}
 use Rattle.bb_copies.specs.Luck.{IsLucky}
 use Rattle.bb_copies.specs.Passing.{passes_at, passings}
 
@@ -25,7 +25,7 @@ form = record {
     passes_twice (a ∷ b ∷ rest) = if a == b then Some (a ∷ []) else None
 
 -- two bytes from a place on, which hold a record where the first isn't 255
-kind_at : ℕ → Kind
+kind_at : ℕ → BucketKind
 kind_at at = record {
   region = record { at = at; size = 2 };
   room = 2;
@@ -44,7 +44,7 @@ kind_at at = record {
 content : Image
 content = record { bytes = 7 ∷ 7 ∷ 7 ∷ 8 ∷ 255 ∷ 255 ∷ []; health = Fine ∷ Fine ∷ Fine ∷ Fine ∷ Fine ∷ Fine ∷ [] }
 
-copies : List Kind
+copies : List BucketKind
 copies = kind_at 0 ∷ kind_at 2 ∷ kind_at 4 ∷ []
 
 only_the_first_passes : passings form 1 copies content ≡ Some (7 ∷ []) ∷ None ∷ None ∷ []

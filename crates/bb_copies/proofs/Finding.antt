@@ -9,7 +9,7 @@ use Rattle.bb_flash.specs.declared.geometry.Geometry.{Geometry}
 use Rattle.bb_flash.specs.Device.{Device, ReadKeeps}
 use Rattle.bb_flash.specs.Image.{Image}
 use Rattle.bb_bucket.specs.Calls.{Agrees}
-use Rattle.bb_bucket.specs.Kind.{Holding, Kind, part_of}
+use Rattle.bb_bucket.specs.Kind.{BucketKind, Holding, part_of}
 use Rattle.bb_copies.specs.declared.read.Passed.{Passed}
 use Rattle.bb_copies.specs.Buckets.{AllAgree, EachCopy}
 use Rattle.bb_copies.specs.Looking.{FindsBelow, IsFresh, IsReadAt, PassNothing, area_by, good_by, used_by}
@@ -38,14 +38,14 @@ ok_weaker (Err e) P Q weaker p = tt
 
 -- ---- whether a copy is fresh
 
-decides_fresh : (form : Form) (page : ℕ) (kind : Kind) (image : Image) (found area : List ℕ) (worn same : Bool) → Some found ≡ passing_of form page kind image → worn ≡ kind.is_worn (part_of page kind.region image) → Decides same (found ≡ area) → Decides (not worn && same) (IsFresh form page kind area image)
+decides_fresh : (form : Form) (page : ℕ) (kind : BucketKind) (image : Image) (found area : List ℕ) (worn same : Bool) → Some found ≡ passing_of form page kind image → worn ≡ kind.is_worn (part_of page kind.region image) → Decides same (found ≡ area) → Decides (not worn && same) (IsFresh form page kind area image)
 decides_fresh form page kind image found area true same passes is_worn test = (λ e. absurd cc, λ fresh. let sound = fresh.sound in absurd cc)
 decides_fresh form page kind image found area false same passes is_worn test = (
   λ e. record { passes = sym passes ∙ ap Some (test.0 e); sound = sym is_worn },
   λ fresh. test.1 (let both : Some found ≡ Some area = passes ∙ fresh.passes in cc),
 )
 
-good_decides : (form : Form) (page : ℕ) (kind : Kind) (image : Image) (found area : List ℕ) (passed : Option Passed) → IsReading form page kind image found passed → Decides (good_by found passed area) (IsFresh form page kind area image)
+good_decides : (form : Form) (page : ℕ) (kind : BucketKind) (image : Image) (found area : List ℕ) (passed : Option Passed) → IsReading form page kind image found passed → Decides (good_by found passed area) (IsFresh form page kind area image)
 good_decides form page kind image found area None reading = (λ e. absurd cc, λ fresh. let both : None ≡ Some area = reading.area ∙ fresh.passes in absurd cc)
 good_decides form page kind image found area (Some passed) reading =
     decides_fresh form page kind image found area passed.worn (bytes_eq found area) reading.area reading.worn (bytes_eq-Decides found area)
@@ -59,7 +59,7 @@ mark_other : (good : List Bool) (bound copy : ℕ) (g : Bool) → copy < bound �
 mark_other good bound copy g low = get_or-set_other good bound copy g false (λ same. absurd (omega arith))
 
 -- the marks of the copies that were read, where those before are known
-fresh_more : (form : Form) (page : ℕ) (kinds : List Kind) (bound : ℕ) (found area : List ℕ) (good : List Bool) (passed : Option Passed) (image : Image) → bound < length good → EachCopy kinds (λ copy kind. copy < bound → Decides (is_marked good copy) (IsFresh form page kind area image)) → IsReadAt form page kinds bound image found passed → EachCopy kinds (λ copy kind. copy < bound + 1 → Decides (is_marked (set good bound (good_by found passed area)) copy) (IsFresh form page kind area image))
+fresh_more : (form : Form) (page : ℕ) (kinds : List BucketKind) (bound : ℕ) (found area : List ℕ) (good : List Bool) (passed : Option Passed) (image : Image) → bound < length good → EachCopy kinds (λ copy kind. copy < bound → Decides (is_marked good copy) (IsFresh form page kind area image)) → IsReadAt form page kinds bound image found passed → EachCopy kinds (λ copy kind. copy < bound + 1 → Decides (is_marked (set good bound (good_by found passed area)) copy) (IsFresh form page kind area image))
 fresh_more form page kinds bound found area good passed image inside fresh reading = λ copy kind e low. elim (below_or_at copy bound low) [
   | inl lower ↦ subst (λ (b : Bool). Decides b (IsFresh form page kind area image)) (sym (mark_other good bound copy (good_by found passed area) lower)) (fresh copy kind e lower)
   | inr at ↦
@@ -68,13 +68,13 @@ fresh_more form page kinds bound found area good passed image inside fresh readi
 ]
 
 -- copies that pass nothing aren't fresh
-none_fresh : (form : Form) (page : ℕ) (kinds : List Kind) (bound : ℕ) (area : List ℕ) (good : List Bool) (image : Image) → PassNothing form page kinds bound good image → EachCopy kinds (λ copy kind. copy < bound → Decides (is_marked good copy) (IsFresh form page kind area image))
+none_fresh : (form : Form) (page : ℕ) (kinds : List BucketKind) (bound : ℕ) (area : List ℕ) (good : List Bool) (image : Image) → PassNothing form page kinds bound good image → EachCopy kinds (λ copy kind. copy < bound → Decides (is_marked good copy) (IsFresh form page kind area image))
 none_fresh form page kinds bound area good image none = λ copy kind e low. (
   λ mark. let clash = none.unmarked copy low in absurd cc,
   λ fresh. let both : None ≡ Some area = sym (none.each copy kind e low) ∙ fresh.passes in absurd cc,
 )
 
-pub finds_more : (form : Form) (page : ℕ) (kinds : List Kind) (bound : ℕ) (found area : List ℕ) (good : List Bool) (passed : Option Passed) (image : Image) (used : Option ℕ) → bound < length good → FindsBelow form page kinds bound area good image used → IsReadAt form page kinds bound image found passed → FindsBelow form page kinds (bound + 1) (area_by found passed area used) (set good bound (good_by found passed (area_by found passed area used))) image (used_by bound passed used)
+pub finds_more : (form : Form) (page : ℕ) (kinds : List BucketKind) (bound : ℕ) (found area : List ℕ) (good : List Bool) (passed : Option Passed) (image : Image) (used : Option ℕ) → bound < length good → FindsBelow form page kinds bound area good image used → IsReadAt form page kinds bound image found passed → FindsBelow form page kinds (bound + 1) (area_by found passed area used) (set good bound (good_by found passed (area_by found passed area used))) image (used_by bound passed used)
 finds_more form page kinds bound found area good passed image (Some used) inside first reading =
     record { passes = first.passes; before = first.before; fresh = fresh_more form page kinds bound found area good passed image inside first.fresh reading }
 finds_more form page kinds bound found area good (Some passed) image None inside none reading = record {
@@ -90,10 +90,10 @@ finds_more form page kinds bound found area good None image None inside none rea
   ];
 }
 
-pub finds_none : (form : Form) (page : ℕ) (kinds : List Kind) (area : List ℕ) (good : List Bool) (image : Image) → FindsBelow form page kinds 0 area good image None
+pub finds_none : (form : Form) (page : ℕ) (kinds : List BucketKind) (area : List ℕ) (good : List Bool) (image : Image) → FindsBelow form page kinds 0 area good image None
 finds_none form page kinds area good image = record { each = λ copy kind e low. absurd (omega arith); unmarked = λ copy low. absurd (omega arith) }
 
-pub finds_step : (form : Form) (page : ℕ) (kinds : List Kind) (bound : ℕ) (found area after : List ℕ) (good : List Bool) (g : Bool) (passed : Option Passed) (image : Image) (used now : Option ℕ) → now ≡ used_by bound passed used → after ≡ area_by found passed area used → g ≡ good_by found passed after → bound < length good → FindsBelow form page kinds bound area good image used → IsReadAt form page kinds bound image found passed → FindsBelow form page kinds (bound + 1) after (set good bound g) image now
+pub finds_step : (form : Form) (page : ℕ) (kinds : List BucketKind) (bound : ℕ) (found area after : List ℕ) (good : List Bool) (g : Bool) (passed : Option Passed) (image : Image) (used now : Option ℕ) → now ≡ used_by bound passed used → after ≡ area_by found passed area used → g ≡ good_by found passed after → bound < length good → FindsBelow form page kinds bound area good image used → IsReadAt form page kinds bound image found passed → FindsBelow form page kinds (bound + 1) after (set good bound g) image now
 finds_step form page kinds bound found area after good g passed image used now is_used is_area is_good inside finds reading =
     subst (λ (u : Option ℕ). FindsBelow form page kinds (bound + 1) after (set good bound g) image u) (sym is_used)
     (subst (λ (b : Bool). FindsBelow form page kinds (bound + 1) after (set good bound b) image (used_by bound passed used)) (sym is_good)
@@ -118,22 +118,19 @@ fits_step form bound found area after passed used now is_used is_area before her
     subst (λ (u : Option ℕ). IfSome u (λ _. IsTrue (form.fits after))) (sym is_used)
     (subst (λ (a : List ℕ). IfSome (used_by bound passed used) (λ _. IsTrue (form.fits a))) (sym is_area) (fits_by form bound found area passed used before here))
 
-pub keeps_joined : (one two three : Device) → ReadKeeps one two → ReadKeeps two three → ReadKeeps one three
-keeps_joined one two three h k = record { geometry = k.geometry ∙ h.geometry; content = k.content ∙ h.content; starts = k.starts ∙ h.starts; start_faults = k.start_faults ∙ h.start_faults }
-
 -- what a read gave of a device that reads alone brought from another
-pub reading_from : (form : Form) (kinds here : List Kind) (copy : ℕ) (image : Image) (found : List ℕ) (passed : Option Passed) (from mid : Device) → ReadKeeps from mid → here ≡ kinds → IsReadAt form mid.geometry.page here copy image found passed → IsReadAt form from.geometry.page kinds copy image found passed
+pub reading_from : (form : Form) (kinds here : List BucketKind) (copy : ℕ) (image : Image) (found : List ℕ) (passed : Option Passed) (from mid : Device) → ReadKeeps from mid → here ≡ kinds → IsReadAt form mid.geometry.page here copy image found passed → IsReadAt form from.geometry.page kinds copy image found passed
 reading_from form kinds here copy image found passed from mid keeps same reading =
-    subst (λ (ks : List Kind). IsReadAt form from.geometry.page ks copy image found passed) same
+    subst (λ (ks : List BucketKind). IsReadAt form from.geometry.page ks copy image found passed) same
     (subst (λ (p : ℕ). IsReadAt form p here copy image found passed) (ap (λ geo. geo.page) keeps.geometry) reading)
 
 -- ---- the room that every copy fits
 
-pub most_more : (kinds : List Kind) (copy : ℕ) (here : Kind) (most new : ℕ) → slice_get kinds copy ≡ Some here → EachCopy kinds (λ place kind. place < copy → kind.room ≤ most) → most ≤ new → here.room ≤ new → EachCopy kinds (λ place kind. place < copy + 1 → kind.room ≤ new)
+pub most_more : (kinds : List BucketKind) (copy : ℕ) (here : BucketKind) (most new : ℕ) → slice_get kinds copy ≡ Some here → EachCopy kinds (λ place kind. place < copy → kind.room ≤ most) → most ≤ new → here.room ≤ new → EachCopy kinds (λ place kind. place < copy + 1 → kind.room ≤ new)
 most_more kinds copy here most new e before more fits = λ place kind f low. elim (below_or_at place copy low) [
   | inl lower ↦ let old = before place kind f lower in omega arith
   | inr at ↦
       let both : Some here ≡ Some kind = sym e ∙ ap (slice_get kinds) (sym at) ∙ f in
       let same : here ≡ kind = cc in
-      subst (λ (k : Kind). k.room ≤ new) same fits
+      subst (λ (k : BucketKind). k.room ≤ new) same fits
 ]

@@ -11,7 +11,7 @@ use Rattle.bb_flash.specs.Cuts.{EachImage, IsLater}
 use Rattle.bb_flash.specs.Device.{Device, Told, content}
 use Rattle.bb_flash.specs.Image.{Image}
 use Rattle.bb_flash.proofs.Moments.{images_joined}
-use Rattle.bb_bucket.specs.Kind.{Kind}
+use Rattle.bb_bucket.specs.Kind.{BucketKind}
 use Rattle.bb_copies.specs.Buckets.{EachCopy}
 use Rattle.bb_copies.specs.Erasing.{unmarked_kinds}
 use Rattle.bb_copies.specs.Looking.{IsFirst}
@@ -63,7 +63,7 @@ set_again (b ∷ good) (suc copy) mark = ap (λ xs. b ∷ xs) (set_again good co
 
 -- ---- some copy passes in every image
 
-pub spares_by : (form : Form) (kinds : List Kind) (copy : ℕ) (kind : Kind) (area : List ℕ) (from to : Device) → slice_get kinds copy ≡ Some kind → IsUntouched kind from to → ForSome (content from) (λ image. passing_of form from.geometry.page kind image ≡ Some area) → NeverEmpty form kinds from to
+pub spares_by : (form : Form) (kinds : List BucketKind) (copy : ℕ) (kind : BucketKind) (area : List ℕ) (from to : Device) → slice_get kinds copy ≡ Some kind → IsUntouched kind from to → ForSome (content from) (λ image. passing_of form from.geometry.page kind image ≡ Some area) → NeverEmpty form kinds from to
 spares_by form kinds copy kind area from to e untouched passes = record {
   each = λ first f last h image cut.
       let page : ℕ = from.geometry.page in
@@ -73,7 +73,7 @@ spares_by form kinds copy kind area from to e untouched passes = record {
       some_passes (λ k. passing_of form page k image) kinds copy kind area e (kept ∙ old);
 }
 
-pub never_joined : (form : Form) (kinds : List Kind) (one two three : Device) → IsLater one two → IsLater two three → NeverEmpty form kinds one two → NeverEmpty form kinds two three → NeverEmpty form kinds one three
+pub never_joined : (form : Form) (kinds : List BucketKind) (one two three : Device) → IsLater one two → IsLater two three → NeverEmpty form kinds one two → NeverEmpty form kinds two three → NeverEmpty form kinds one three
 never_joined form kinds one two three h k first second =
     let page : ℕ = one.geometry.page in
     let some : Image → Image → Type 0 = λ before image. SomePasses (passings form page kinds image) in
@@ -83,10 +83,10 @@ never_joined form kinds one two three h k first second =
 -- ---- after the others were settled
 
 -- the copies that were marked before passed the area
-pub MarkedPass : Form → List Kind → List ℕ → List Bool → Device → Type 0
+pub MarkedPass : Form → List BucketKind → List ℕ → List Bool → Device → Type 0
 MarkedPass form kinds area marked device = EachCopy kinds (λ copy kind. is_marked marked copy ≡ true → ForSome (content device) (λ image. passing_of form device.geometry.page kind image ≡ Some area))
 
-pub first_marked : (form : Form) (kinds : List Kind) (area : List ℕ) (good : List Bool) (bound used : ℕ) (device : Device) → bound ≡ length kinds → ForSome (content device) (λ image. IsFirst form device.geometry.page kinds bound area good image used) → MarkedPass form kinds area (set good used true) device
+pub first_marked : (form : Form) (kinds : List BucketKind) (area : List ℕ) (good : List Bool) (bound used : ℕ) (device : Device) → bound ≡ length kinds → ForSome (content device) (λ image. IsFirst form device.geometry.page kinds bound area good image used) → MarkedPass form kinds area (set good used true) device
 unfolding MarkedPass
 first_marked form kinds area good bound used device many first = λ copy kind e mark image f. elim (same_or_not copy used) [
   | inl same ↦ (first image f).passes copy kind e same
@@ -96,7 +96,7 @@ first_marked form kinds area good bound used device many first = λ copy kind e 
 ]
 
 -- the used copy isn't touched while the others are settled
-pub used_spares : (form : Form) (kinds : List Kind) (area : List ℕ) (good : List Bool) (bound used : ℕ) (from to : Device) → bound ≡ length kinds → used < bound → used < length good → ForSome (content from) (λ image. IsFirst form from.geometry.page kinds bound area good image used) → KeepsMarked kinds (set good used true) from to → NeverEmpty form kinds from to
+pub used_spares : (form : Form) (kinds : List BucketKind) (area : List ℕ) (good : List Bool) (bound used : ℕ) (from to : Device) → bound ≡ length kinds → used < bound → used < length good → ForSome (content from) (λ image. IsFirst form from.geometry.page kinds bound area good image used) → KeepsMarked kinds (set good used true) from to → NeverEmpty form kinds from to
 used_spares form kinds area good bound used from to many low inside first kept =
     let there = kind_inside kinds used (omega (arith, many)) in
     spares_by form kinds used there.0 area from to there.1 (kept used there.0 there.1 (get_or-set_same good used true false inside)) (λ image f. (first image f).passes used there.0 there.1 refl)
@@ -109,7 +109,7 @@ pub some_of_match : {X : Type 0} (r : Option X) (P : Type 0) (Q : X → Type 0) 
 some_of_match None P Q h e = absurd cc
 some_of_match (Some x) P Q h e = (x, h)
 
-pub held_all : (form : Form) (kinds : List Kind) (area : List ℕ) (marked good : List Bool) (from to : Device) → IsLater from to → MarkedPass form kinds area marked from → KeepsMarked kinds marked from to → AllSettled form kinds area marked good from to → AllHeld form kinds area good from to
+pub held_all : (form : Form) (kinds : List BucketKind) (area : List ℕ) (marked good : List Bool) (from to : Device) → IsLater from to → MarkedPass form kinds area marked from → KeepsMarked kinds marked from to → AllSettled form kinds area marked good from to → AllHeld form kinds area good from to
 unfolding MarkedPass
 held_all form kinds area marked good from to later before kept settled = record {
   each = λ copy kind e. elim (true_or_false (is_marked marked copy)) [
@@ -131,7 +131,7 @@ dead_set good used false one two three mark k cause rose =
     let more = cause refl in
     subst (λ (n : ℕ). RoseBy n one.faults three.faults) (sym (set_counts good used mark)) (omega (arith, rose, more))
 
-pub held_more : (form : Form) (kinds : List Kind) (area : List ℕ) (good : List Bool) (used : ℕ) (g : Bool) (from mid to : Device) → used < length good → is_marked good used ≡ true → IsLater from mid → IsLater mid to → AllHeld form kinds area good from mid → LeavesOthers kinds used mid to → IsSettledAt form kinds area used mid to g → AllHeld form kinds area (set good used g) from to
+pub held_more : (form : Form) (kinds : List BucketKind) (area : List ℕ) (good : List Bool) (used : ℕ) (g : Bool) (from mid to : Device) → used < length good → is_marked good used ≡ true → IsLater from mid → IsLater mid to → AllHeld form kinds area good from mid → LeavesOthers kinds used mid to → IsSettledAt form kinds area used mid to g → AllHeld form kinds area (set good used g) from to
 held_more form kinds area good used g from mid to inside mark h k before others settled =
     let page : mid.geometry.page ≡ from.geometry.page = ap (λ geo. geo.page) h.geometry in
     record {
@@ -149,7 +149,7 @@ held_more form kinds area good used g from mid to inside mark h k before others 
     }
 
 -- a copy other than the used one is good, so that some copy passes while the used one is settled
-pub spares_other : (form : Form) (kinds : List Kind) (area : List ℕ) (good : List Bool) (used copy : ℕ) (from mid to : Device) → IsLater from mid → length good ≡ length kinds → IsFirstMarked good used copy → AllHeld form kinds area good from mid → LeavesOthers kinds used mid to → NeverEmpty form kinds mid to
+pub spares_other : (form : Form) (kinds : List BucketKind) (area : List ℕ) (good : List Bool) (used copy : ℕ) (from mid to : Device) → IsLater from mid → length good ≡ length kinds → IsFirstMarked good used copy → AllHeld form kinds area good from mid → LeavesOthers kinds used mid to → NeverEmpty form kinds mid to
 spares_other form kinds area good used copy from mid to h many first before others =
     let there = kind_inside kinds copy (omega (arith, first.inside)) in
     let page : mid.geometry.page ≡ from.geometry.page = ap (λ geo. geo.page) h.geometry in
@@ -164,14 +164,14 @@ other_of n zero many = (1, omega arith, λ e. absurd (omega arith))
 other_of n (suc used) many = (0, omega arith, λ e. absurd (omega arith))
 
 -- no copy is dead, so that another is good
-pub quiet_other : (form : Form) (kinds : List Kind) (area : List ℕ) (good : List Bool) (used : ℕ) (from to : Device) → 2 ≤ length good → NoOther good used → AllHeld form kinds area good from to → IsUndisturbed from to → ⊥
+pub quiet_other : (form : Form) (kinds : List BucketKind) (area : List ℕ) (good : List Bool) (used : ℕ) (from to : Device) → 2 ≤ length good → NoOther good used → AllHeld form kinds area good from to → IsUndisturbed from to → ⊥
 quiet_other form kinds area good used from to many none all quiet =
     let other = other_of (length good) used many in
     let some = unmarked_counts good other.0 other.1 (none other.0 other.1 other.2) in
     let dead = all.dead in
     quiet (omega (arith, some, dead))
 
-pub written_others : (kinds : List Kind) (rec : List ℕ) (good : List Bool) (used : ℕ) (from mid to : Device) → IsLater from mid → IsLater mid to → KeepsMarked kinds (set good used true) from mid → AllWritten kinds rec (set good used true) from mid → LeavesOthers kinds used mid to → IsWrittenAt kinds used rec mid to → used < length good → used < length kinds → is_marked good used ≡ false → AllWritten kinds rec good from to
+pub written_others : (kinds : List BucketKind) (rec : List ℕ) (good : List Bool) (used : ℕ) (from mid to : Device) → IsLater from mid → IsLater mid to → KeepsMarked kinds (set good used true) from mid → AllWritten kinds rec (set good used true) from mid → LeavesOthers kinds used mid to → IsWrittenAt kinds used rec mid to → used < length good → used < length kinds → is_marked good used ≡ false → AllWritten kinds rec good from to
 written_others kinds rec good used from mid to h k kept written others last inside there stale = record {
   each = λ copy kind e fresh. elim (same_or_not copy used) [
     | inl same ↦
@@ -188,19 +188,19 @@ written_others kinds rec good used from mid to h k kept written others last insi
       (written_erases kind.0 rec mid to (last used kind.0 kind.1 refl).erases) (one_more good kinds used kind.0 kind.1 inside stale);
 }
 
-pub kept_others : (kinds : List Kind) (good : List Bool) (used : ℕ) (from mid to : Device) → IsLater from mid → IsLater mid to → is_marked good used ≡ false → KeepsMarked kinds (set good used true) from mid → LeavesOthers kinds used mid to → KeepsMarked kinds good from to
+pub kept_others : (kinds : List BucketKind) (good : List Bool) (used : ℕ) (from mid to : Device) → IsLater from mid → IsLater mid to → is_marked good used ≡ false → KeepsMarked kinds (set good used true) from mid → LeavesOthers kinds used mid to → KeepsMarked kinds good from to
 kept_others kinds good used from mid to h k stale kept others = λ copy kind e mark.
     let other : copy ≢ used = λ same. let clash : is_marked good used ≡ true = ap (is_marked good) (sym same) ∙ mark in absurd cc in
     untouched_joined kind from mid to h k (kept copy kind e (get_or-set_other good used copy true false other ∙ mark)) (others copy kind e other)
 
 -- where the used one is fresh, or there is no other
-pub kept_marked : (kinds : List Kind) (good : List Bool) (used : ℕ) (from to : Device) → used < length good → KeepsMarked kinds (set good used true) from to → KeepsMarked kinds good from to
+pub kept_marked : (kinds : List BucketKind) (good : List Bool) (used : ℕ) (from to : Device) → used < length good → KeepsMarked kinds (set good used true) from to → KeepsMarked kinds good from to
 kept_marked kinds good used from to inside kept = λ copy kind e mark. kept copy kind e (elim (same_or_not copy used) [
   | inl same ↦ ap (is_marked (set good used true)) same ∙ get_or-set_same good used true false inside
   | inr other ↦ get_or-set_other good used copy true false other ∙ mark
 ])
 
-pub written_fresh : (kinds : List Kind) (rec : List ℕ) (good : List Bool) (used : ℕ) (from to : Device) → is_marked good used ≡ true → AllWritten kinds rec (set good used true) from to → AllWritten kinds rec good from to
+pub written_fresh : (kinds : List BucketKind) (rec : List ℕ) (good : List Bool) (used : ℕ) (from to : Device) → is_marked good used ≡ true → AllWritten kinds rec (set good used true) from to → AllWritten kinds rec good from to
 written_fresh kinds rec good used from to mark written =
     subst (λ (xs : List Bool). AllWritten kinds rec xs from to) (set_again good used mark) written
 

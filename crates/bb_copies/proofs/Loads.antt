@@ -10,7 +10,7 @@ use Rattle.bb_flash.specs.Image.{Image}
 use Rattle.bb_flash.proofs.Counting.{counted_both, counted_of_images}
 use Rattle.bb_flash.proofs.Moments.{images_weaker}
 use Rattle.bb_bucket.specs.Calls.{told_but_reads}
-use Rattle.bb_bucket.specs.Kind.{Kind, part_of}
+use Rattle.bb_bucket.specs.Kind.{BucketKind, part_of}
 use Rattle.bb_copies.specs.declared.answers.Loaded.{Loaded}
 use Rattle.bb_copies.specs.declared.answers.Loaded.TheVariants.{Copy, NoCopy}
 use Rattle.bb_copies.specs.declared.read.Passed.{Passed}
@@ -36,7 +36,7 @@ use Rattle.bb_copies.proofs.Runs.{read_images, refreshes_joined, unchanged_refre
 still : (passing : Image → List (Option (List ℕ))) (before image : Image) → image ≡ before → StandsStill (passing before) (passing image)
 still passing before image same = λ first h a marks stands. subst (λ (i : Image). Stands first (passing i) h a) (sym same) (record { marks = marks; stands = stands })
 
-pub unchanged_runs : (form : Form) (kinds : List Kind) (from to : Device) → told_but_reads to ≡ told_but_reads from → ReadKeeps from to → IsLater from to → IsDevice to → LoadRuns form kinds from to
+pub unchanged_runs : (form : Form) (kinds : List BucketKind) (from to : Device) → told_but_reads to ≡ told_but_reads from → ReadKeeps from to → IsLater from to → IsDevice to → LoadRuns form kinds from to
 unchanged_runs form kinds from to told keeps later whole =
     let passing : Image → List (Option (List ℕ)) = passings form from.geometry.page kinds in
     let same : EachImage (λ before image. image ≡ before) from to = read_images from to told in
@@ -49,7 +49,7 @@ unchanged_runs form kinds from to told keeps later whole =
       whole = whole;
     }
 
-pub none_found : (form : Form) (kinds : List Kind) (bound : ℕ) (good : List Bool) (from to : Device) → bound ≡ length kinds → content to ≡ content from → ForSome (content from) (λ image. PassNothing form from.geometry.page kinds bound good image) → IsEmpty form kinds from to
+pub none_found : (form : Form) (kinds : List BucketKind) (bound : ℕ) (good : List Bool) (from to : Device) → bound ≡ length kinds → content to ≡ content from → ForSome (content from) (λ image. PassNothing form from.geometry.page kinds bound good image) → IsEmpty form kinds from to
 none_found form kinds bound good from to many same none = record {
   none = λ image e. none_passes (λ kind. passing_of form from.geometry.page kind image) kinds (λ copy kind f. (none image e).each copy kind f (omega (arith, slice_get_within kinds copy kind f, many)));
   content = same;
@@ -57,25 +57,25 @@ none_found form kinds bound good from to many same none = record {
 
 -- ---- the first that passes
 
-pub first_area : (form : Form) (kinds : List Kind) (area : List ℕ) (good : List Bool) (bound used : ℕ) (from : Device) → bound ≡ length kinds → used < bound → ForSome (content from) (λ image. IsFirst form from.geometry.page kinds bound area good image used) → ForSome (content from) (λ image. IsFirstArea area (passings form from.geometry.page kinds image))
+pub first_area : (form : Form) (kinds : List BucketKind) (area : List ℕ) (good : List Bool) (bound used : ℕ) (from : Device) → bound ≡ length kinds → used < bound → ForSome (content from) (λ image. IsFirst form from.geometry.page kinds bound area good image used) → ForSome (content from) (λ image. IsFirstArea area (passings form from.geometry.page kinds image))
 first_area form kinds area good bound used from many inside first = λ image e.
     let there = kind_inside kinds used (omega (arith, many)) in
-    let passing : Kind → Option (List ℕ) = λ kind. passing_of form from.geometry.page kind image in
+    let passing : BucketKind → Option (List ℕ) = λ kind. passing_of form from.geometry.page kind image in
     let here = (first image e).passes used there.0 there.1 refl in
     record {
       some = some_passes passing kinds used there.0 area there.1 here;
       first = λ blank. first_found passing blank kinds used there.0 area there.1 here (λ k other low f. (first image e).before k other f low);
     }
 
-pub first_again : (form : Form) (kinds here : List Kind) (area : List ℕ) (good : List Bool) (bound again used : ℕ) (from mid : Device) → here ≡ kinds → again ≡ bound → ReadKeeps from mid → ForSome (content from) (λ image. IsFirst form from.geometry.page kinds bound area good image used) → ForSome (content mid) (λ image. IsFirst form mid.geometry.page here again area good image used)
+pub first_again : (form : Form) (kinds here : List BucketKind) (area : List ℕ) (good : List Bool) (bound again used : ℕ) (from mid : Device) → here ≡ kinds → again ≡ bound → ReadKeeps from mid → ForSome (content from) (λ image. IsFirst form from.geometry.page kinds bound area good image used) → ForSome (content mid) (λ image. IsFirst form mid.geometry.page here again area good image used)
 first_again form kinds here area good bound again used from mid same many keeps first = λ image e.
     subst (λ (p : ℕ). IsFirst form p here again area good image used) (sym (ap (λ geo. geo.page) keeps.geometry))
-    (subst (λ (ks : List Kind). IsFirst form from.geometry.page ks again area good image used) (sym same)
+    (subst (λ (ks : List BucketKind). IsFirst form from.geometry.page ks again area good image used) (sym same)
     (subst (λ (n : ℕ). IsFirst form from.geometry.page kinds n area good image used) (sym many) (first image (sym keeps.content ∙ e))))
 
 -- ---- what cuts leave
 
-spares_read : (form : Form) (kinds : List Kind) (area : List ℕ) (from to : Device) → EachImage (λ before image. image ≡ before) from to → ForSome (content from) (λ image. IsFirstArea area (passings form from.geometry.page kinds image)) → NeverEmpty form kinds from to
+spares_read : (form : Form) (kinds : List BucketKind) (area : List ℕ) (from to : Device) → EachImage (λ before image. image ≡ before) from to → ForSome (content from) (λ image. IsFirstArea area (passings form from.geometry.page kinds image)) → NeverEmpty form kinds from to
 spares_read form kinds area from to same entry = record {
   each = λ first e last f image cut.
       let map : Told → Image = λ t. t.image in
@@ -85,7 +85,7 @@ spares_read form kinds area from to same entry = record {
 Spared : List ℕ → List (Option (List ℕ)) → List (Option (List ℕ)) → Type 0
 Spared area before image = SomePasses image × ((blank : List ℕ) → first_passed blank before ≡ area)
 
-load_images : (form : Form) (kinds : List Kind) (area : List ℕ) (from to : Device) → Refreshes form kinds area from to → NeverEmpty form kinds from to → ForSome (content from) (λ image. IsFirstArea area (passings form from.geometry.page kinds image)) → LoadImages form kinds from to
+load_images : (form : Form) (kinds : List BucketKind) (area : List ℕ) (from to : Device) → Refreshes form kinds area from to → NeverEmpty form kinds from to → ForSome (content from) (λ image. IsFirstArea area (passings form from.geometry.page kinds image)) → LoadImages form kinds from to
 unfolding Spared
 load_images form kinds area from to run never entry =
     let passing : Image → List (Option (List ℕ)) = passings form from.geometry.page kinds in
@@ -100,7 +100,7 @@ load_images form kinds area from to run never entry =
           (never.each first e last f image cut, (entry first.image (ap (option_map map) e)).first);
     })
 
-pub fresh_runs : (form : Form) (kinds : List Kind) (area : List ℕ) (from mid to : Device) → told_but_reads mid ≡ told_but_reads from → ReadKeeps from mid → IsLater from mid → IsDevice mid → ForSome (content from) (λ image. IsFirstArea area (passings form from.geometry.page kinds image)) → Refreshes form kinds area mid to → NeverEmpty form kinds mid to → LoadRuns form kinds from to
+pub fresh_runs : (form : Form) (kinds : List BucketKind) (area : List ℕ) (from mid to : Device) → told_but_reads mid ≡ told_but_reads from → ReadKeeps from mid → IsLater from mid → IsDevice mid → ForSome (content from) (λ image. IsFirstArea area (passings form from.geometry.page kinds image)) → Refreshes form kinds area mid to → NeverEmpty form kinds mid to → LoadRuns form kinds from to
 fresh_runs form kinds area from mid to told keeps later whole entry run never =
     let same : EachImage (λ before image. image ≡ before) from mid = read_images from mid told in
     let read = unchanged_refreshes form kinds area from mid same later (record { starts = keeps.starts; start_faults = keeps.start_faults }) whole in
@@ -115,7 +115,7 @@ fresh_runs form kinds area from mid to told keeps later whole entry run never =
 
 -- ---- what is answered
 
-held_or_none : (form : Form) (page : ℕ) (kind : Kind) (area : List ℕ) (image : Image) (g : Bool) → passing_of form page kind image ≡ area_if area g → IsAreaOrNone area (passing_of form page kind image)
+held_or_none : (form : Form) (page : ℕ) (kind : BucketKind) (area : List ℕ) (image : Image) (g : Bool) → passing_of form page kind image ≡ area_if area g → IsAreaOrNone area (passing_of form page kind image)
 held_or_none form page kind area image true e = inl e
 held_or_none form page kind area image false e = inr e
 
@@ -126,7 +126,7 @@ held_count : (area : List ℕ) (g : Bool) → one_if (is_some (area_if area g)) 
 held_count area true = refl
 held_count area false = refl
 
-counts_live : (form : Form) (page : ℕ) (area : List ℕ) (image : Image) (kinds : List Kind) (good : List Bool) → length good ≡ length kinds → EachCopy kinds (λ copy kind. passing_of form page kind image ≡ area_if area (is_marked good copy)) → count_by is_some (passings form page kinds image) ≡ count_by (λ marked. marked) good
+counts_live : (form : Form) (page : ℕ) (area : List ℕ) (image : Image) (kinds : List BucketKind) (good : List Bool) → length good ≡ length kinds → EachCopy kinds (λ copy kind. passing_of form page kind image ≡ area_if area (is_marked good copy)) → count_by is_some (passings form page kinds image) ≡ count_by (λ marked. marked) good
 counts_live form page area image [] [] many each = refl
 counts_live form page area image [] (g ∷ good) many each = absurd (omega arith)
 counts_live form page area image (kind ∷ kinds) [] many each = absurd (omega arith)
@@ -151,7 +151,7 @@ live_and_dead (g ∷ good) =
     let size : length (g ∷ good) ≡ length good + 1 = omega arith in
     omega (arith, one, two, rest, both, size)
 
-pub all_kept : (form : Form) (kinds : List Kind) (area : List ℕ) (good : List Bool) (used live : ℕ) (from mid to : Device) → length good ≡ length kinds → IsLater from mid → IsFirstMarked good (length good) used → live ≡ count_by (λ marked. marked) good → AllHeld form kinds area good mid to → IsAllKept form kinds area used live from to
+pub all_kept : (form : Form) (kinds : List BucketKind) (area : List ℕ) (good : List Bool) (used live : ℕ) (from mid to : Device) → length good ≡ length kinds → IsLater from mid → IsFirstMarked good (length good) used → live ≡ count_by (λ marked. marked) good → AllHeld form kinds area good mid to → IsAllKept form kinds area used live from to
 all_kept form kinds area good used live from mid to many h first is_live all =
     let page : mid.geometry.page ≡ from.geometry.page = ap (λ geo. geo.page) h.geometry in
     let each : EachCopy kinds (λ copy kind. ForSome (content to) (λ image. passing_of form from.geometry.page kind image ≡ area_if area (is_marked good copy))) =
@@ -181,15 +181,15 @@ all_kept form kinds area good used live from mid to many h first is_live all =
           subst (λ (k : ℕ). RoseBy k from.faults to.faults) (sym n) (omega (arith, dead, before));
     }
 
-pub load_gives : (form : Form) (kinds : List Kind) (area : List ℕ) (good : List Bool) (used live : ℕ) (from mid to : Device) → length good ≡ length kinds → IsLater from mid → ForSome (content from) (λ image. IsFirstArea area (passings form from.geometry.page kinds image)) → AllHeld form kinds area good mid to → IsFirstMarked good (length good) used → live ≡ count_by (λ marked. marked) good → LoadGives form kinds area from to (Copy used live)
+pub load_gives : (form : Form) (kinds : List BucketKind) (area : List ℕ) (good : List Bool) (used live : ℕ) (from mid to : Device) → length good ≡ length kinds → IsLater from mid → ForSome (content from) (λ image. IsFirstArea area (passings form from.geometry.page kinds image)) → AllHeld form kinds area good mid to → IsFirstMarked good (length good) used → live ≡ count_by (λ marked. marked) good → LoadGives form kinds area from to (Copy used live)
 load_gives form kinds area good used live from mid to many h entry all first counted = record { entry = entry; exit = all_kept form kinds area good used live from mid to many h first counted all }
 
-pub load_stuck : (form : Form) (kinds : List Kind) (area : List ℕ) (copy : ℕ) (from mid to : Device) → IsLater from mid → IsLater mid to → ForSome (content from) (λ image. IsFirstArea area (passings form from.geometry.page kinds image)) → IsStuckAt form kinds area copy mid to → IsLoadStuck form kinds area copy from to
+pub load_stuck : (form : Form) (kinds : List BucketKind) (area : List ℕ) (copy : ℕ) (from mid to : Device) → IsLater from mid → IsLater mid to → ForSome (content from) (λ image. IsFirstArea area (passings form from.geometry.page kinds image)) → IsStuckAt form kinds area copy mid to → IsLoadStuck form kinds area copy from to
 load_stuck form kinds area copy from mid to h k entry stuck = record { entry = entry; stuck = stuck_earlier form kinds area copy from mid to h k stuck }
 
 -- ---- without a fault
 
-exact_copies : (form : Form) (kinds : List Kind) (area : List ℕ) (good : List Bool) (bound used : ℕ) (from mid to : Device) → bound ≡ length kinds → ReadKeeps from mid → ForSome (content from) (λ image. IsFirst form from.geometry.page kinds bound area good image used) → KeepsMarked kinds good mid to → AllWritten kinds (form.text area) good mid to → ForSome (content from) (λ before. ForSome (content to) (λ after. EachCopy kinds (λ copy kind. IsExact form from.geometry.page kind area before after)))
+exact_copies : (form : Form) (kinds : List BucketKind) (area : List ℕ) (good : List Bool) (bound used : ℕ) (from mid to : Device) → bound ≡ length kinds → ReadKeeps from mid → ForSome (content from) (λ image. IsFirst form from.geometry.page kinds bound area good image used) → KeepsMarked kinds good mid to → AllWritten kinds (form.text area) good mid to → ForSome (content from) (λ before. ForSome (content to) (λ after. EachCopy kinds (λ copy kind. IsExact form from.geometry.page kind area before after)))
 exact_copies form kinds area good bound used from mid to many keeps first kept written = λ before e after f copy kind there.
     let page : mid.geometry.page ≡ from.geometry.page = ap (λ geo. geo.page) keeps.geometry in
     let test = (first before e).fresh copy kind there (omega (arith, slice_get_within kinds copy kind there, many)) in
@@ -204,14 +204,14 @@ exact_copies form kinds area good bound used from mid to many keeps first kept w
           subst (λ (p : ℕ). part_of p kind.region after ≡ kind.after_write (form.text area) (part_of p kind.region before)) page left;
     }
 
-pub loads_exactly : (form : Form) (kinds : List Kind) (area rec : List ℕ) (good : List Bool) (bound used : ℕ) (from mid to : Device) (loaded : Loaded) → bound ≡ length kinds → rec ≡ form.text area → IsLater from mid → ReadKeeps from mid → ForSome (content from) (λ image. IsFirst form from.geometry.page kinds bound area good image used) → (IsUndisturbed mid to → KeepsMarked kinds good mid to) → (IsUndisturbed mid to → AllWritten kinds rec good mid to) → LoadsExactly form kinds area from to loaded
+pub loads_exactly : (form : Form) (kinds : List BucketKind) (area rec : List ℕ) (good : List Bool) (bound used : ℕ) (from mid to : Device) (loaded : Loaded) → bound ≡ length kinds → rec ≡ form.text area → IsLater from mid → ReadKeeps from mid → ForSome (content from) (λ image. IsFirst form from.geometry.page kinds bound area good image used) → (IsUndisturbed mid to → KeepsMarked kinds good mid to) → (IsUndisturbed mid to → AllWritten kinds rec good mid to) → LoadsExactly form kinds area from to loaded
 loads_exactly form kinds area rec good bound used from mid to NoCopy many packed h keeps first kept written = tt
 loads_exactly form kinds area rec good bound used from mid to (Copy taken live) many packed h keeps first kept written = λ quiet.
     let here = undisturbed_second from mid to h quiet in
     exact_copies form kinds area good bound used from mid to many keeps first (kept here) (subst (λ (r : List ℕ). AllWritten kinds r good mid to) packed (written here))
 
 -- what was erased, from the marks that reading all copies left
-pub loads_erasing : (form : Form) (kinds : List Kind) (area rec : List ℕ) (good : List Bool) (bound used : ℕ) (from mid to : Device) → bound ≡ length kinds → rec ≡ form.text area → told_but_reads mid ≡ told_but_reads from → IsLater from mid → ReadKeeps from mid → ForSome (content from) (λ image. IsFirst form from.geometry.page kinds bound area good image used) → (IsUndisturbed mid to → AllWritten kinds rec good mid to) → IsUndisturbed from to → LoadErases form kinds area from to
+pub loads_erasing : (form : Form) (kinds : List BucketKind) (area rec : List ℕ) (good : List Bool) (bound used : ℕ) (from mid to : Device) → bound ≡ length kinds → rec ≡ form.text area → told_but_reads mid ≡ told_but_reads from → IsLater from mid → ReadKeeps from mid → ForSome (content from) (λ image. IsFirst form from.geometry.page kinds bound area good image used) → (IsUndisturbed mid to → AllWritten kinds rec good mid to) → IsUndisturbed from to → LoadErases form kinds area from to
 loads_erasing form kinds area rec good bound used from mid to many packed told h keeps first written quiet = record {
   fresh = good;
   marks = λ image e copy kind there. (first image e).fresh copy kind there (omega (arith, slice_get_within kinds copy kind there, many));
@@ -223,11 +223,11 @@ loads_erasing form kinds area rec good bound used from mid to many packed told h
 -- ---- a look
 
 -- the copies below one pass nothing, and it passes the area
-pub look_found : (form : Form) (kinds : List Kind) (area : List ℕ) (copy : ℕ) (passed : Option Passed) (from : Device) → copy < length kinds → is_some passed ≡ true → ForSome (content from) (λ image. EachCopy kinds (λ place kind. place < copy → passing_of form from.geometry.page kind image ≡ None)) → ForSome (content from) (λ image. IsReadAt form from.geometry.page kinds copy image area passed) → ForSome (content from) (λ image. IsFirstArea area (passings form from.geometry.page kinds image))
+pub look_found : (form : Form) (kinds : List BucketKind) (area : List ℕ) (copy : ℕ) (passed : Option Passed) (from : Device) → copy < length kinds → is_some passed ≡ true → ForSome (content from) (λ image. EachCopy kinds (λ place kind. place < copy → passing_of form from.geometry.page kind image ≡ None)) → ForSome (content from) (λ image. IsReadAt form from.geometry.page kinds copy image area passed) → ForSome (content from) (λ image. IsFirstArea area (passings form from.geometry.page kinds image))
 look_found form kinds area copy None from inside some none reading = absurd cc
 look_found form kinds area copy (Some passed) from inside some none reading = λ image e.
     let there = kind_inside kinds copy inside in
-    let passing : Kind → Option (List ℕ) = λ kind. passing_of form from.geometry.page kind image in
+    let passing : BucketKind → Option (List ℕ) = λ kind. passing_of form from.geometry.page kind image in
     let here : passing there.0 ≡ Some area = sym (reading image e copy there.0 there.1 refl).area in
     record {
       some = some_passes passing kinds copy there.0 area there.1 here;
@@ -235,13 +235,13 @@ look_found form kinds area copy (Some passed) from inside some none reading = λ
     }
 
 -- so does this one
-pub none_more : (form : Form) (page : ℕ) (kinds : List Kind) (area : List ℕ) (copy : ℕ) (passed : Option Passed) (image : Image) → is_some passed ≡ false → EachCopy kinds (λ place kind. place < copy → passing_of form page kind image ≡ None) → IsReadAt form page kinds copy image area passed → EachCopy kinds (λ place kind. place < copy + 1 → passing_of form page kind image ≡ None)
+pub none_more : (form : Form) (page : ℕ) (kinds : List BucketKind) (area : List ℕ) (copy : ℕ) (passed : Option Passed) (image : Image) → is_some passed ≡ false → EachCopy kinds (λ place kind. place < copy → passing_of form page kind image ≡ None) → IsReadAt form page kinds copy image area passed → EachCopy kinds (λ place kind. place < copy + 1 → passing_of form page kind image ≡ None)
 none_more form page kinds area copy (Some passed) image some none reading = absurd cc
 none_more form page kinds area copy None image some none reading = λ place kind e low. elim (same_or_not place copy) [
   | inl same ↦ sym (reading place kind e same).area
   | inr other ↦ none place kind e (omega arith)
 ]
 
-pub look_none : (form : Form) (kinds : List Kind) (bound : ℕ) (from : Device) → bound ≡ length kinds → ForSome (content from) (λ image. EachCopy kinds (λ place kind. place < bound → passing_of form from.geometry.page kind image ≡ None)) → ForSome (content from) (λ image. SomePasses (passings form from.geometry.page kinds image) → ⊥)
+pub look_none : (form : Form) (kinds : List BucketKind) (bound : ℕ) (from : Device) → bound ≡ length kinds → ForSome (content from) (λ image. EachCopy kinds (λ place kind. place < bound → passing_of form from.geometry.page kind image ≡ None)) → ForSome (content from) (λ image. SomePasses (passings form from.geometry.page kinds image) → ⊥)
 look_none form kinds bound from many none = λ image e.
     none_passes (λ kind. passing_of form from.geometry.page kind image) kinds (λ copy kind f. none image e copy kind f (omega (arith, slice_get_within kinds copy kind f, many)))

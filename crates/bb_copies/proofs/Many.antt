@@ -13,7 +13,7 @@ use Rattle.bb_flash.proofs.Counting.{counted_both, counted_fewer}
 use Rattle.bb_flash.proofs.Moments.{Cuts-now, images_weaker}
 use Rattle.bb_flash.proofs.Regions.{Torn-region}
 use Rattle.bb_bucket.specs.Calls.{Agrees}
-use Rattle.bb_bucket.specs.Kind.{Holding, IsKind, Kind, part_of}
+use Rattle.bb_bucket.specs.Kind.{BucketKind, Holding, IsKind, part_of}
 use Rattle.bb_copies.specs.Buckets.{AllAgree, AllServe, AreApart, EachCopy, IsApart, kinds_of}
 use Rattle.bb_copies.specs.Luck.{IsLucky}
 use Rattle.bb_copies.specs.Passing.{passes_at, passing_of, passings}
@@ -47,7 +47,7 @@ some_of_map f None y e = absurd cc
 some_of_map f (Some x) y e = (x, refl, cc)
 
 -- the relation holds between what two functions make of each kind
-pub zip_kinds : {X : Type 0} (R : X → X → Type 0) (f g : Kind → X) (kinds : List Kind) → EachCopy kinds (λ copy kind. R (f kind) (g kind)) → AllZip R (map f kinds) (map g kinds)
+pub zip_kinds : {X : Type 0} (R : X → X → Type 0) (f g : BucketKind → X) (kinds : List BucketKind) → EachCopy kinds (λ copy kind. R (f kind) (g kind)) → AllZip R (map f kinds) (map g kinds)
 zip_kinds R f g [] each = tt
 zip_kinds R f g (kind ∷ kinds) each = (each 0 kind refl, zip_kinds R f g kinds (λ copy other e. each (suc copy) other e))
 
@@ -60,14 +60,14 @@ zip_joined R trans (x ∷ xs) (y ∷ ys) (z ∷ zs) h k = (trans x y z h.0 k.0, 
 
 -- ---- kinds of buckets
 
-pub bucket_at : {B : Type 0} (holding : B → Holding) (buckets : List B) (copy : ℕ) (kind : Kind) → slice_get (kinds_of holding buckets) copy ≡ Some kind → (bucket : B) × (slice_get buckets copy ≡ Some bucket) × ((holding bucket).kind ≡ kind)
+pub bucket_at : {B : Type 0} (holding : B → Holding) (buckets : List B) (copy : ℕ) (kind : BucketKind) → slice_get (kinds_of holding buckets) copy ≡ Some kind → (bucket : B) × (slice_get buckets copy ≡ Some bucket) × ((holding bucket).kind ≡ kind)
 bucket_at holding buckets copy kind e =
-    let map : _ → Kind = λ bucket. (holding bucket).kind in
+    let map : _ → BucketKind = λ bucket. (holding bucket).kind in
     some_of_map map (slice_get buckets copy) kind (sym (slice_get-map map buckets copy) ∙ e)
 
 pub kind_at : {B : Type 0} (holding : B → Holding) (buckets : List B) (copy : ℕ) (bucket : B) → slice_get buckets copy ≡ Some bucket → slice_get (kinds_of holding buckets) copy ≡ Some (holding bucket).kind
 kind_at holding buckets copy bucket e =
-    let map : _ → Kind = λ bucket. (holding bucket).kind in
+    let map : _ → BucketKind = λ bucket. (holding bucket).kind in
     slice_get-map map buckets copy ∙ ap (option_map map) e
 
 pub all_kinds : {B : Type 0} (holding : B → Holding) (buckets : List B) → ((bucket : B) → IsKind (holding bucket).kind) → EachCopy (kinds_of holding buckets) (λ copy kind. IsKind kind)
@@ -91,7 +91,7 @@ same_part page region before image same =
     let new : Image = part_of page region image in
     ap (λ bytes. with bytes new.health) same.bytes ∙ ap (with old.bytes) same.health
 
-pub same_passing : (form : Form) (page : ℕ) (kind : Kind) (before image : Image) → IsSameRegion page kind.region.at kind.region.size before image → passing_of form page kind image ≡ passing_of form page kind before
+pub same_passing : (form : Form) (page : ℕ) (kind : BucketKind) (before image : Image) → IsSameRegion page kind.region.at kind.region.size before image → passing_of form page kind image ≡ passing_of form page kind before
 same_passing form page kind before image same = ap (λ part. option_and_then form.passes (kind.candidate_of part)) (same_part page kind.region before image same)
 
 behind_or_before : (one two : Region) → IsApart one two → (two.at + two.size ≤ one.at) ⊎ (one.at + one.size ≤ two.at)
@@ -99,24 +99,24 @@ behind_or_before one two (inl h) = inr h
 behind_or_before one two (inr h) = inl h
 
 -- what a call on one copy tears leaves each region beside that copy
-torn_beside : (kind : Kind) (region : Region) (from : Device) (before image : Image) → IsKind kind → IsTrue (kind.serves from.geometry) → IsDevice from → IsApart kind.region region → Torn from.geometry.page kind.region.at kind.region.size before image → IsSameRegion from.geometry.page region.at region.size before image
+torn_beside : (kind : BucketKind) (region : Region) (from : Device) (before image : Image) → IsKind kind → IsTrue (kind.serves from.geometry) → IsDevice from → IsApart kind.region region → Torn from.geometry.page kind.region.at kind.region.size before image → IsSameRegion from.geometry.page region.at region.size before image
 torn_beside kind region from before image laws serves whole apart torn =
     let lies = laws.lies from.geometry serves in
     Torn-region from.geometry.page kind.region.at kind.region.size region.at region.size before image whole.geometry.page_some lies.aligned lies.whole torn (behind_or_before kind.region region apart)
 
-images_apart : (kind : Kind) (region : Region) (from to : Device) → IsKind kind → IsTrue (kind.serves from.geometry) → IsDevice from → IsApart kind.region region → EachTorn kind.region.at kind.region.size from to → EachImage (IsSameRegion from.geometry.page region.at region.size) from to
+images_apart : (kind : BucketKind) (region : Region) (from to : Device) → IsKind kind → IsTrue (kind.serves from.geometry) → IsDevice from → IsApart kind.region region → EachTorn kind.region.at kind.region.size from to → EachImage (IsSameRegion from.geometry.page region.at region.size) from to
 images_apart kind region from to laws serves whole apart torn =
     images_weaker (Torn from.geometry.page kind.region.at kind.region.size) (IsSameRegion from.geometry.page region.at region.size) from to
     (λ before image t. torn_beside kind region from before image laws serves whole apart t) torn.images
 
 -- ---- one copy of many
 
-pub passes_kind : (form : Form) (page : ℕ) (kinds : List Kind) (copy : ℕ) (kind : Kind) (image : Image) → slice_get kinds copy ≡ Some kind → passes_at (passings form page kinds image) copy ≡ passing_of form page kind image
+pub passes_kind : (form : Form) (page : ℕ) (kinds : List BucketKind) (copy : ℕ) (kind : BucketKind) (image : Image) → slice_get kinds copy ≡ Some kind → passes_at (passings form page kinds image) copy ≡ passing_of form page kind image
 passes_kind form page kinds copy kind image e =
-    let f : Kind → Option (List ℕ) = λ k. passing_of form page k image in
+    let f : BucketKind → Option (List ℕ) = λ k. passing_of form page k image in
     ap (option_and_then (λ (area : Option (List ℕ)). area)) (slice_get-map f kinds copy ∙ ap (option_map f) e)
 
-lucky_at : (form : Form) (page : ℕ) (kinds : List Kind) (copy : ℕ) (kind : Kind) (change : Change) (image : Image) (place : ℕ) (area : List ℕ) → slice_get kinds copy ≡ Some kind → passes_at (passings form page (kind ∷ []) image) place ≡ Some area → passes_at (passings form page (kind ∷ []) change.before) place ≢ Some area → passes_at (passings form page (kind ∷ []) change.after) place ≢ Some area → IsLucky (passings form page kinds) change image
+lucky_at : (form : Form) (page : ℕ) (kinds : List BucketKind) (copy : ℕ) (kind : BucketKind) (change : Change) (image : Image) (place : ℕ) (area : List ℕ) → slice_get kinds copy ≡ Some kind → passes_at (passings form page (kind ∷ []) image) place ≡ Some area → passes_at (passings form page (kind ∷ []) change.before) place ≢ Some area → passes_at (passings form page (kind ∷ []) change.after) place ≢ Some area → IsLucky (passings form page kinds) change image
 lucky_at form page kinds copy kind change image zero area e passes not_before not_after = record {
   copy = copy;
   area = area;
@@ -127,10 +127,10 @@ lucky_at form page kinds copy kind change image zero area e passes not_before no
 lucky_at form page kinds copy kind change image (suc place) area e passes not_before not_after = absurd cc
 
 -- the others pass what they passed before
-OthersPass : Form → ℕ → List Kind → ℕ → Image → Image → Type 0
+OthersPass : Form → ℕ → List BucketKind → ℕ → Image → Image → Type 0
 OthersPass form page kinds copy before image = EachCopy kinds (λ place kind. place ≢ copy → passing_of form page kind image ≡ passing_of form page kind before)
 
-one_of_all : (form : Form) (page : ℕ) (kinds : List Kind) (copy : ℕ) (kind : Kind) (area : List ℕ) (before image : Image) → slice_get kinds copy ≡ Some kind → IsKeptOrTaken area (passing_of form page kind before) (passing_of form page kind image) → OthersPass form page kinds copy before image → KeepsOrTakes area (passings form page kinds before) (passings form page kinds image)
+one_of_all : (form : Form) (page : ℕ) (kinds : List BucketKind) (copy : ℕ) (kind : BucketKind) (area : List ℕ) (before image : Image) → slice_get kinds copy ≡ Some kind → IsKeptOrTaken area (passing_of form page kind before) (passing_of form page kind image) → OthersPass form page kinds copy before image → KeepsOrTakes area (passings form page kinds before) (passings form page kinds image)
 unfolding OthersPass
 one_of_all form page kinds copy kind area before image e here others =
     zip_kinds (IsKeptOrTaken area) (λ k. passing_of form page k before) (λ k. passing_of form page k image) kinds
@@ -138,15 +138,15 @@ one_of_all form page kinds copy kind area before image e here others =
       | inl same ↦
           let found : Some kind ≡ Some beside = sym e ∙ ap (slice_get kinds) (sym same) ∙ f in
           let is : kind ≡ beside = cc in
-          subst (λ (k : Kind). IsKeptOrTaken area (passing_of form page k before) (passing_of form page k image)) is here
+          subst (λ (k : BucketKind). IsKeptOrTaken area (passing_of form page k before) (passing_of form page k image)) is here
       | inr other ↦ inl (inl (others place beside f other))
     ])
 
-pub settled_others : (kinds : List Kind) (copy : ℕ) (kind : Kind) (from to : Device) → EachCopy kinds (λ place other. IsKind other) → AreApart kinds → AllServe kinds from.geometry → IsDevice from → slice_get kinds copy ≡ Some kind → EachTorn kind.region.at kind.region.size from to → LeavesOthers kinds copy from to
+pub settled_others : (kinds : List BucketKind) (copy : ℕ) (kind : BucketKind) (from to : Device) → EachCopy kinds (λ place other. IsKind other) → AreApart kinds → AllServe kinds from.geometry → IsDevice from → slice_get kinds copy ≡ Some kind → EachTorn kind.region.at kind.region.size from to → LeavesOthers kinds copy from to
 settled_others kinds copy kind from to laws apart serves whole e torn = λ place beside f other.
     images_apart kind beside.region from to (laws copy kind e) (serves copy kind e) whole (apart copy kind e place beside f other) torn
 
-pub settled_refreshes : (form : Form) (kinds : List Kind) (area : List ℕ) (copy : ℕ) (kind : Kind) (from to : Device) → EachCopy kinds (λ place other. IsKind other) → AreApart kinds → AllServe kinds from.geometry → IsDevice from → slice_get kinds copy ≡ Some kind → SettlesCopy form kind area from to → Refreshes form kinds area from to
+pub settled_refreshes : (form : Form) (kinds : List BucketKind) (area : List ℕ) (copy : ℕ) (kind : BucketKind) (from to : Device) → EachCopy kinds (λ place other. IsKind other) → AreApart kinds → AllServe kinds from.geometry → IsDevice from → slice_get kinds copy ≡ Some kind → SettlesCopy form kind area from to → Refreshes form kinds area from to
 unfolding OthersPass
 settled_refreshes form kinds area copy kind from to laws apart serves whole e settles =
     let page : ℕ = from.geometry.page in

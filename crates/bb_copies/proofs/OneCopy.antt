@@ -9,7 +9,7 @@ use Rattle.bb_flash.proofs.Counting.{counted_joined, counted_of_images, images_u
 use Rattle.bb_flash.proofs.Moments.{images_weaker, later_joined, torn_joined}
 use Rattle.bb_flash.proofs.Tearing.{Torn-refl}
 use Rattle.bb_bucket.specs.Calls.{EachCall, EndsTorn, IsOldOrBegun, IsOldOrNone, IsVoidCall, IsWriteCall, told_but_reads}
-use Rattle.bb_bucket.specs.Kind.{IsBegun, Kind}
+use Rattle.bb_bucket.specs.Kind.{BucketKind, IsBegun}
 use Rattle.bb_copies.specs.Luck.{IsLucky}
 use Rattle.bb_copies.specs.Passing.{passing_of, passings}
 use Rattle.bb_copies.specs.Settling.{SettlesCopy}
@@ -33,17 +33,17 @@ kept_by_call area old before after (Some other) begins leaves some = elim (some 
 pub begun_passes : (form : Form) (area : List ℕ) (candidate : Option (List ℕ)) → IsForm form → IsTrue (form.fits area) → IsBegun (form.text area) candidate → option_and_then form.passes candidate ≡ Some area
 begun_passes form area candidate laws fits begun = ap (option_and_then form.passes) begun.begins ∙ laws.text_passes area begun.rest fits
 
-old_kept : (form : Form) (page : ℕ) (kind : Kind) (before image : Image) → IsOldOrNone kind page before image → IsKeptOrLost (passing_of form page kind before) (passing_of form page kind image)
+old_kept : (form : Form) (page : ℕ) (kind : BucketKind) (before image : Image) → IsOldOrNone kind page before image → IsKeptOrLost (passing_of form page kind before) (passing_of form page kind image)
 old_kept form page kind before image (inl same) = inl (ap (option_and_then form.passes) same)
 old_kept form page kind before image (inr none) = inr (ap (option_and_then form.passes) none)
 
-begun_kept : (form : Form) (page : ℕ) (kind : Kind) (area : List ℕ) (before image : Image) → IsForm form → IsTrue (form.fits area) → IsOldOrBegun kind page (form.text area) before image → IsKeptOrTaken area (passing_of form page kind before) (passing_of form page kind image)
+begun_kept : (form : Form) (page : ℕ) (kind : BucketKind) (area : List ℕ) (before image : Image) → IsForm form → IsTrue (form.fits area) → IsOldOrBegun kind page (form.text area) before image → IsKeptOrTaken area (passing_of form page kind before) (passing_of form page kind image)
 begun_kept form page kind area before image laws fits (inl old) = inl (old_kept form page kind before image old)
 begun_kept form page kind area before image laws fits (inr begun) = inr (begun_passes form area _ laws fits begun)
 
 -- ---- the runs of a bucket's calls
 
-pub written_copy : (form : Form) (kind : Kind) (area : List ℕ) (from to : Device) → IsForm form → IsTrue (form.fits area) → EachCall (IsWriteCall kind from.geometry.page (form.text area)) from to → EndsTorn from to → EachTorn kind.region.at kind.region.size from to → IsLater from to → LeavesStarts from to → IsDevice to → SettlesCopy form kind area from to
+pub written_copy : (form : Form) (kind : BucketKind) (area : List ℕ) (from to : Device) → IsForm form → IsTrue (form.fits area) → EachCall (IsWriteCall kind from.geometry.page (form.text area)) from to → EndsTorn from to → EachTorn kind.region.at kind.region.size from to → IsLater from to → LeavesStarts from to → IsDevice to → SettlesCopy form kind area from to
 written_copy form kind area from to laws fits calls ends torn later starts whole = record {
   counted =
       counted_of_calls (IsLucky (passings form from.geometry.page (kind ∷ []))) (IsWriteCall kind from.geometry.page (form.text area))
@@ -64,7 +64,7 @@ written_copy form kind area from to laws fits calls ends torn later starts whole
   whole = whole;
 }
 
-pub voided_copy : (form : Form) (kind : Kind) (area : List ℕ) (from to : Device) → EachCall (IsVoidCall kind from.geometry.page) from to → EndsTorn from to → EachTorn kind.region.at kind.region.size from to → IsLater from to → LeavesStarts from to → IsDevice to → SettlesCopy form kind area from to
+pub voided_copy : (form : Form) (kind : BucketKind) (area : List ℕ) (from to : Device) → EachCall (IsVoidCall kind from.geometry.page) from to → EndsTorn from to → EachTorn kind.region.at kind.region.size from to → IsLater from to → LeavesStarts from to → IsDevice to → SettlesCopy form kind area from to
 voided_copy form kind area from to calls ends torn later starts whole = record {
   counted =
       counted_of_calls (IsLucky (passings form from.geometry.page (kind ∷ []))) (IsVoidCall kind from.geometry.page)
@@ -85,7 +85,7 @@ voided_copy form kind area from to calls ends torn later starts whole = record {
   whole = whole;
 }
 
-pub read_copy_settles : (form : Form) (kind : Kind) (area : List ℕ) (from to : Device) → told_but_reads to ≡ told_but_reads from → ReadKeeps from to → IsLater from to → IsDevice to → SettlesCopy form kind area from to
+pub read_copy_settles : (form : Form) (kind : BucketKind) (area : List ℕ) (from to : Device) → told_but_reads to ≡ told_but_reads from → ReadKeeps from to → IsLater from to → IsDevice to → SettlesCopy form kind area from to
 read_copy_settles form kind area from to told keeps later whole =
     let same : EachImage (λ before image. image ≡ before) from to = images_untouched from to (reads_untouched from to told) in
     record {
@@ -104,7 +104,7 @@ read_copy_settles form kind area from to told keeps later whole =
       whole = whole;
     }
 
-pub settles_joined : (form : Form) (kind : Kind) (area : List ℕ) (one two three : Device) → SettlesCopy form kind area one two → SettlesCopy form kind area two three → SettlesCopy form kind area one three
+pub settles_joined : (form : Form) (kind : BucketKind) (area : List ℕ) (one two three : Device) → SettlesCopy form kind area one two → SettlesCopy form kind area two three → SettlesCopy form kind area one three
 settles_joined form kind area one two three h k =
     let page : ℕ = one.geometry.page in
     let kept : Image → Image → Type 0 = λ before image. IsKeptOrTaken area (passing_of form page kind before) (passing_of form page kind image) in
@@ -121,11 +121,11 @@ settles_joined form kind area one two three h k =
     }
 
 -- the record that was written is that of the area
-pub written_copy_as : (form : Form) (kind : Kind) (area rec : List ℕ) (from to : Device) → rec ≡ form.text area → IsForm form → IsTrue (form.fits area) → EachCall (IsWriteCall kind from.geometry.page rec) from to → EndsTorn from to → EachTorn kind.region.at kind.region.size from to → IsLater from to → LeavesStarts from to → IsDevice to → SettlesCopy form kind area from to
+pub written_copy_as : (form : Form) (kind : BucketKind) (area rec : List ℕ) (from to : Device) → rec ≡ form.text area → IsForm form → IsTrue (form.fits area) → EachCall (IsWriteCall kind from.geometry.page rec) from to → EndsTorn from to → EachTorn kind.region.at kind.region.size from to → IsLater from to → LeavesStarts from to → IsDevice to → SettlesCopy form kind area from to
 written_copy_as form kind area rec from to packed laws fits calls ends torn later starts whole =
     written_copy form kind area from to laws fits (subst (λ (r : List ℕ). EachCall (IsWriteCall kind from.geometry.page r) from to) packed calls) ends torn later starts whole
 
 -- a bucket's kind stays, so that the second run may name it as the bucket is then
-pub settles_joined_as : (form : Form) (kind later : Kind) (area : List ℕ) (one two three : Device) → later ≡ kind → SettlesCopy form kind area one two → SettlesCopy form later area two three → SettlesCopy form kind area one three
+pub settles_joined_as : (form : Form) (kind later : BucketKind) (area : List ℕ) (one two three : Device) → later ≡ kind → SettlesCopy form kind area one two → SettlesCopy form later area two three → SettlesCopy form kind area one three
 settles_joined_as form kind later area one two three same h k =
-    settles_joined form kind area one two three h (subst (λ (l : Kind). SettlesCopy form l area two three) same k)
+    settles_joined form kind area one two three h (subst (λ (l : BucketKind). SettlesCopy form l area two three) same k)

@@ -16,11 +16,11 @@ on_ok (Err e) P Q weaker p = tt
 
 -- ---- one bucket
 
-pub set_places : {B : Type 0} (holding : B → Holding) (buckets : List B) (copy : ℕ) (new : B) → IsTrue (holding new).placed → PlacesCopy holding copy buckets (set buckets copy new)
+pub set_places : {B : Type 0} (holding : B → Holding) (buckets : List B) (copy : ℕ) (new : B) → IsTrue (holding new).knows_place → PlacesCopy holding copy buckets (set buckets copy new)
 set_places holding buckets copy new here = λ place before bucket e. elim (same_or_not place copy) [
   | inl same ↦
       let is : bucket ≡ new = get_set_same buckets copy new bucket (ap (slice_get (set buckets copy new)) (sym same) ∙ e) in
-      subst (λ b. IsTrue (holding b).placed) (sym is) here
+      subst (λ b. IsTrue (holding b).knows_place) (sym is) here
   | inr other ↦ before other bucket (sym (get_set_other buckets copy place new other) ∙ e)
 ]
 

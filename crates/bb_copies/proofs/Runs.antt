@@ -10,7 +10,7 @@ use Rattle.bb_flash.specs.Image.{Image}
 use Rattle.bb_flash.proofs.Counting.{counted_joined, counted_of_images, images_untouched}
 use Rattle.bb_flash.proofs.Moments.{image_at-now, images_same_joined, images_weaker, later_joined}
 use Rattle.bb_bucket.specs.Calls.{told_but_reads}
-use Rattle.bb_bucket.specs.Kind.{Kind}
+use Rattle.bb_bucket.specs.Kind.{BucketKind}
 use Rattle.bb_copies.specs.Luck.{IsLucky}
 use Rattle.bb_copies.specs.Passing.{passing_of, passings}
 use Rattle.bb_copies.specs.Refreshing.{IsUntouched, Refreshes}
@@ -25,10 +25,10 @@ use Rattle.bb_copies.proofs.OneCopy.{kept_joined}
 same_region : (page at size : ℕ) (before image : Image) → image ≡ before → IsSameRegion page at size before image
 same_region page at size before image e = subst (λ (i : Image). IsSameRegion page at size before i) (sym e) (record { bytes = refl; health = refl })
 
-pub kept_same : (form : Form) (page : ℕ) (kinds : List Kind) (area : List ℕ) (before image : Image) → image ≡ before → KeepsOrTakes area (passings form page kinds before) (passings form page kinds image)
+pub kept_same : (form : Form) (page : ℕ) (kinds : List BucketKind) (area : List ℕ) (before image : Image) → image ≡ before → KeepsOrTakes area (passings form page kinds before) (passings form page kinds image)
 kept_same form page kinds area before image e = zip_kinds (IsKeptOrTaken area) (λ k. passing_of form page k before) (λ k. passing_of form page k image) kinds (λ copy kind f. inl (inl (ap (passing_of form page kind) e)))
 
-pub unchanged_refreshes : (form : Form) (kinds : List Kind) (area : List ℕ) (from to : Device) → EachImage (λ before image. image ≡ before) from to → IsLater from to → LeavesStarts from to → IsDevice to → Refreshes form kinds area from to
+pub unchanged_refreshes : (form : Form) (kinds : List BucketKind) (area : List ℕ) (from to : Device) → EachImage (λ before image. image ≡ before) from to → IsLater from to → LeavesStarts from to → IsDevice to → Refreshes form kinds area from to
 unchanged_refreshes form kinds area from to same later starts whole = record {
   counted =
       counted_of_images (IsLucky (passings form from.geometry.page kinds)) _ from to
@@ -41,7 +41,7 @@ unchanged_refreshes form kinds area from to same later starts whole = record {
   whole = whole;
 }
 
-pub unchanged_untouched : (kind : Kind) (from to : Device) → EachImage (λ before image. image ≡ before) from to → IsUntouched kind from to
+pub unchanged_untouched : (kind : BucketKind) (from to : Device) → EachImage (λ before image. image ≡ before) from to → IsUntouched kind from to
 unchanged_untouched kind from to same = images_weaker (λ before image. image ≡ before) (IsSameRegion from.geometry.page kind.region.at kind.region.size) from to (same_region from.geometry.page kind.region.at kind.region.size) same
 
 same_told : (device : Device) (first last : Told) → device.told ≡ Some first → device.told ≡ Some last → first ≡ last
@@ -59,10 +59,10 @@ later_refl device = record {
 pub same_images : (device : Device) → EachImage (λ before image. image ≡ before) device device
 same_images device = images_untouched device device (λ first e last f. subst (λ (t : Told). IsUnchanged first t) (same_told device first last e f) (record { image = refl; changes = refl }))
 
-pub none_refreshes : (form : Form) (kinds : List Kind) (area : List ℕ) (device : Device) → IsDevice device → Refreshes form kinds area device device
+pub none_refreshes : (form : Form) (kinds : List BucketKind) (area : List ℕ) (device : Device) → IsDevice device → Refreshes form kinds area device device
 none_refreshes form kinds area device whole = unchanged_refreshes form kinds area device device (same_images device) (later_refl device) (record { starts = refl; start_faults = refl }) whole
 
-pub none_untouched : (kind : Kind) (device : Device) → IsUntouched kind device device
+pub none_untouched : (kind : BucketKind) (device : Device) → IsUntouched kind device device
 none_untouched kind device = unchanged_untouched kind device device (same_images device)
 
 -- reads change nothing
@@ -71,12 +71,12 @@ read_images from to told = images_untouched from to (reads_untouched from to tol
 
 -- ---- two runs
 
-pub untouched_joined : (kind : Kind) (one two three : Device) → IsLater one two → IsLater two three → IsUntouched kind one two → IsUntouched kind two three → IsUntouched kind one three
+pub untouched_joined : (kind : BucketKind) (one two three : Device) → IsLater one two → IsLater two three → IsUntouched kind one two → IsUntouched kind two three → IsUntouched kind one three
 untouched_joined kind one two three h k first second =
     images_same_joined one.geometry.page kind.region.at kind.region.size one two three h k first
     (subst (λ (p : ℕ). EachImage (IsSameRegion p kind.region.at kind.region.size) two three) (ap (λ geo. geo.page) h.geometry) second)
 
-pub refreshes_joined : (form : Form) (kinds : List Kind) (area : List ℕ) (one two three : Device) → Refreshes form kinds area one two → Refreshes form kinds area two three → Refreshes form kinds area one three
+pub refreshes_joined : (form : Form) (kinds : List BucketKind) (area : List ℕ) (one two three : Device) → Refreshes form kinds area one two → Refreshes form kinds area two three → Refreshes form kinds area one three
 refreshes_joined form kinds area one two three h k =
     let page : ℕ = one.geometry.page in
     let same : two.geometry.page ≡ page = ap (λ geo. geo.page) h.later.geometry in

@@ -8,7 +8,7 @@ use Rattle.bb_flash.specs.Device.{Device, IsDevice, content}
 use Rattle.bb_flash.specs.Image.{Image}
 use Rattle.bb_flash.proofs.Counting.{counted_both}
 use Rattle.bb_flash.proofs.Moments.{images_joined, images_weaker}
-use Rattle.bb_bucket.specs.Kind.{Kind}
+use Rattle.bb_bucket.specs.Kind.{BucketKind}
 use Rattle.bb_copies.specs.Buckets.{EachCopy}
 use Rattle.bb_copies.specs.Erasing.{ErasesBy, unmarked_kinds}
 use Rattle.bb_copies.specs.Luck.{IsLucky}
@@ -26,7 +26,7 @@ use Rattle.bb_copies.proofs.Runs.{none_refreshes, same_images}
 
 -- ---- where no copy is used
 
-pub hopeless : (form : Form) (kinds : List Kind) (area : List ℕ) (marked good : List Bool) (last : ℕ) (from to : Device) → ((copy : ℕ) → is_marked marked copy ≡ false) → length good ≡ length kinds → last + 1 ≡ length kinds → NoOther good (length good) → AllSettled form kinds area marked good from to → IsHopeless form kinds None last from to
+pub hopeless : (form : Form) (kinds : List BucketKind) (area : List ℕ) (marked good : List Bool) (last : ℕ) (from to : Device) → ((copy : ℕ) → is_marked marked copy ≡ false) → length good ≡ length kinds → last + 1 ≡ length kinds → NoOther good (length good) → AllSettled form kinds area marked good from to → IsHopeless form kinds None last from to
 hopeless form kinds area marked good last from to unmarked many is_last none settled =
     let each_dead : (copy : ℕ) → copy < length good → is_marked good copy ≡ false = λ copy low. none copy low (λ e. absurd (omega arith)) in
     let all = none_live good each_dead in
@@ -44,7 +44,7 @@ some_passed : (p : Option (List ℕ)) → is_some p ≡ true → (area : List �
 some_passed None e = absurd cc
 some_passed (Some area) e = (area, refl)
 
-pub over_spares : (form : Form) (kinds : List Kind) (good : List Bool) (used : ℕ) (from to : Device) → used < length kinds → used < length good → KeepsMarked kinds (set good used true) from to → SparesUsed form kinds (Some used) from to
+pub over_spares : (form : Form) (kinds : List BucketKind) (good : List Bool) (used : ℕ) (from to : Device) → used < length kinds → used < length good → KeepsMarked kinds (set good used true) from to → SparesUsed form kinds (Some used) from to
 over_spares form kinds good used from to inside within kept = record {
   each = λ first f last h image cut keeps some.
       let page : ℕ = from.geometry.page in
@@ -55,10 +55,10 @@ over_spares form kinds good used from to inside within kept = record {
 }
 
 -- the others that weren't marked are settled
-over_each : (form : Form) (kinds : List Kind) (area : List ℕ) (marked good : List Bool) (used : ℕ) (from to : Device) → ((copy : ℕ) → is_marked marked copy ≡ false) → AllSettled form kinds area (set marked used true) good from to → EachCopy kinds (λ copy kind. copy ≢ used → ForSome (content to) (λ image. passing_of form from.geometry.page kind image ≡ area_if area (is_marked good copy)))
+over_each : (form : Form) (kinds : List BucketKind) (area : List ℕ) (marked good : List Bool) (used : ℕ) (from to : Device) → ((copy : ℕ) → is_marked marked copy ≡ false) → AllSettled form kinds area (set marked used true) good from to → EachCopy kinds (λ copy kind. copy ≢ used → ForSome (content to) (λ image. passing_of form from.geometry.page kind image ≡ area_if area (is_marked good copy)))
 over_each form kinds area marked good used from to unmarked settled = λ copy kind e other. settled.each copy kind e (get_or-set_other marked used copy true false other ∙ unmarked copy)
 
-pub alone : (form : Form) (kinds : List Kind) (area : List ℕ) (marked good : List Bool) (used : ℕ) (from to : Device) → ((copy : ℕ) → is_marked marked copy ≡ false) → length good ≡ length kinds → used < length marked → NoOther good used → KeepsMarked kinds (set marked used true) from to → AllSettled form kinds area (set marked used true) good from to → IsAlone form kinds (Some used) used from to
+pub alone : (form : Form) (kinds : List BucketKind) (area : List ℕ) (marked good : List Bool) (used : ℕ) (from to : Device) → ((copy : ℕ) → is_marked marked copy ≡ false) → length good ≡ length kinds → used < length marked → NoOther good used → KeepsMarked kinds (set marked used true) from to → AllSettled form kinds area (set marked used true) good from to → IsAlone form kinds (Some used) used from to
 alone form kinds area marked good used from to unmarked many within none kept settled =
     let few = few_live good used none in
     let dead = settled.dead in
@@ -69,7 +69,7 @@ alone form kinds area marked good used from to unmarked many within none kept se
       cause = omega (arith, few, dead, many);
     }
 
-pub over_other : (form : Form) (kinds : List Kind) (area : List ℕ) (marked good : List Bool) (used copy : ℕ) (from mid to : Device) → ((copy : ℕ) → is_marked marked copy ≡ false) → IsLater from mid → length good ≡ length kinds → IsFirstMarked good used copy → AllSettled form kinds area (set marked used true) good from mid → LeavesOthers kinds used mid to → NeverEmpty form kinds mid to
+pub over_other : (form : Form) (kinds : List BucketKind) (area : List ℕ) (marked good : List Bool) (used copy : ℕ) (from mid to : Device) → ((copy : ℕ) → is_marked marked copy ≡ false) → IsLater from mid → length good ≡ length kinds → IsFirstMarked good used copy → AllSettled form kinds area (set marked used true) good from mid → LeavesOthers kinds used mid to → NeverEmpty form kinds mid to
 over_other form kinds area marked good used copy from mid to unmarked h many first settled others =
     let there = kind_inside kinds copy (omega (arith, first.inside, many)) in
     let page : mid.geometry.page ≡ from.geometry.page = ap (λ geo. geo.page) h.geometry in
@@ -77,7 +77,7 @@ over_other form kinds area marked good used copy from mid to unmarked h many fir
     spares_by form kinds copy there.0 area mid to there.1 (others copy there.0 there.1 first.other)
     (subst (λ (p : ℕ). ForSome (content mid) (λ image. passing_of form p there.0 image ≡ Some area)) (sym page) passes)
 
-pub spares_joined : (form : Form) (kinds : List Kind) (used : Option ℕ) (one two three : Device) → IsLater one two → IsLater two three → SparesUsed form kinds used one two → NeverEmpty form kinds two three → SparesUsed form kinds used one three
+pub spares_joined : (form : Form) (kinds : List BucketKind) (used : Option ℕ) (one two three : Device) → IsLater one two → IsLater two three → SparesUsed form kinds used one two → NeverEmpty form kinds two three → SparesUsed form kinds used one three
 spares_joined form kinds used one two three h k first second =
     let page : ℕ = one.geometry.page in
     let spared : Image → Image → Type 0 = λ before image. KeepsUsed used (passings form page kinds before) → SomeIsSpared (passings form page kinds before) (passings form page kinds image) in
@@ -85,7 +85,7 @@ spares_joined form kinds used one two three h k first second =
     images_joined spared some spared one two three (λ x y s. s) (λ x y z s t keeps passed. t) h k first
     (subst (λ (p : ℕ). EachImage (λ before image. SomePasses (passings form p kinds image)) two three) (ap (λ geo. geo.page) h.geometry) second)
 
-pub over_held : (form : Form) (kinds : List Kind) (area : List ℕ) (marked good : List Bool) (used : ℕ) (g : Bool) (from mid to : Device) → ((copy : ℕ) → is_marked marked copy ≡ false) → used < length good → is_marked good used ≡ true → IsLater from mid → IsLater mid to → AllSettled form kinds area (set marked used true) good from mid → LeavesOthers kinds used mid to → IsSettledAt form kinds area used mid to g → AllHeld form kinds area (set good used g) from to
+pub over_held : (form : Form) (kinds : List BucketKind) (area : List ℕ) (marked good : List Bool) (used : ℕ) (g : Bool) (from mid to : Device) → ((copy : ℕ) → is_marked marked copy ≡ false) → used < length good → is_marked good used ≡ true → IsLater from mid → IsLater mid to → AllSettled form kinds area (set marked used true) good from mid → LeavesOthers kinds used mid to → IsSettledAt form kinds area used mid to g → AllHeld form kinds area (set good used g) from to
 over_held form kinds area marked good used g from mid to unmarked inside mark h k before others settled =
     let page : mid.geometry.page ≡ from.geometry.page = ap (λ geo. geo.page) h.geometry in
     record {
@@ -102,7 +102,7 @@ over_held form kinds area marked good used g from mid to unmarked inside mark h 
       dead = dead_set good used g from mid to mark k settled.cause before.dead;
     }
 
-pub over_written : (kinds : List Kind) (rec : List ℕ) (marked : List Bool) (used : ℕ) (from mid to : Device) → ((copy : ℕ) → is_marked marked copy ≡ false) → used < length marked → IsLater from mid → IsLater mid to → KeepsMarked kinds (set marked used true) from mid → AllWritten kinds rec (set marked used true) from mid → LeavesOthers kinds used mid to → IsWrittenAt kinds used rec mid to → EachWritten kinds rec from to
+pub over_written : (kinds : List BucketKind) (rec : List ℕ) (marked : List Bool) (used : ℕ) (from mid to : Device) → ((copy : ℕ) → is_marked marked copy ≡ false) → used < length marked → IsLater from mid → IsLater mid to → KeepsMarked kinds (set marked used true) from mid → AllWritten kinds rec (set marked used true) from mid → LeavesOthers kinds used mid to → IsWrittenAt kinds used rec mid to → EachWritten kinds rec from to
 over_written kinds rec marked used from mid to unmarked within h k kept written others last = λ copy kind e. elim (same_or_not copy used) [
   | inl same ↦
       let mark : is_marked (set marked used true) copy ≡ true = ap (is_marked (set marked used true)) same ∙ get_or-set_same marked used true false within in
@@ -112,7 +112,7 @@ over_written kinds rec marked used from mid to unmarked within h k kept written 
 ]
 
 -- the used copy was written behind the others, and each block was erased by all these writes
-pub over_erases : (kinds : List Kind) (rec : List ℕ) (marked : List Bool) (used : ℕ) (from mid to : Device) → ((copy : ℕ) → is_marked marked copy ≡ false) → used < length marked → used < length kinds → IsLater from mid → IsLater mid to → KeepsMarked kinds (set marked used true) from mid → AllWritten kinds rec (set marked used true) from mid → IsWrittenAt kinds used rec mid to → ErasesBy kinds rec from to
+pub over_erases : (kinds : List BucketKind) (rec : List ℕ) (marked : List Bool) (used : ℕ) (from mid to : Device) → ((copy : ℕ) → is_marked marked copy ≡ false) → used < length marked → used < length kinds → IsLater from mid → IsLater mid to → KeepsMarked kinds (set marked used true) from mid → AllWritten kinds rec (set marked used true) from mid → IsWrittenAt kinds used rec mid to → ErasesBy kinds rec from to
 over_erases kinds rec marked used from mid to none within there h k kept written last =
     let kind = kind_inside kinds used there in
     erases_joined (unmarked_kinds (set marked used true) kinds) kinds kind.0 rec from mid to h k
@@ -121,20 +121,20 @@ over_erases kinds rec marked used from mid to none within there h k kept written
     (λ p. ap (count_by p) (sym (none_marked marked kinds none)) ∙ one_more marked kinds used kind.0 kind.1 within (none used) p)
 
 -- where no copy is used all are written at once
-pub first_erases : (kinds : List Kind) (rec : List ℕ) (marked : List Bool) (from to : Device) → ((copy : ℕ) → is_marked marked copy ≡ false) → AllWritten kinds rec marked from to → ErasesBy kinds rec from to
+pub first_erases : (kinds : List BucketKind) (rec : List ℕ) (marked : List Bool) (from to : Device) → ((copy : ℕ) → is_marked marked copy ≡ false) → AllWritten kinds rec marked from to → ErasesBy kinds rec from to
 first_erases kinds rec marked from to none written =
-    subst (λ (ks : List Kind). ErasesBy ks rec from to) (none_marked marked kinds none) written.erases
+    subst (λ (ks : List BucketKind). ErasesBy ks rec from to) (none_marked marked kinds none) written.erases
 
 -- ---- what cuts leave
 
-pub save_images : (form : Form) (kinds : List Kind) (used : Option ℕ) (area : List ℕ) (from to : Device) → Refreshes form kinds area from to → SparesUsed form kinds used from to → SaveImages form kinds used area from to
+pub save_images : (form : Form) (kinds : List BucketKind) (used : Option ℕ) (area : List ℕ) (from to : Device) → Refreshes form kinds area from to → SparesUsed form kinds used from to → SaveImages form kinds used area from to
 save_images form kinds used area from to run spares =
     let passing : Image → List (Option (List ℕ)) = passings form from.geometry.page kinds in
     counted_both (IsLucky passing) (λ before image. KeepsOrTakes area (passing before) (passing image)) (λ before image. KeepsUsed used (passing before) → SomeIsSpared (passing before) (passing image)) (λ before image. StandsLonger used area (passing before) (passing image)) from to
     (λ before image takes spared keeps first h a marks stands. save_during first (passing before) h a marks area stands (passing image) takes (spared keeps))
     run.counted spares
 
-pub save_runs : (form : Form) (kinds : List Kind) (used : Option ℕ) (area : List ℕ) (from to : Device) → Refreshes form kinds area from to → SparesUsed form kinds used from to → SaveRuns form kinds used area from to
+pub save_runs : (form : Form) (kinds : List BucketKind) (used : Option ℕ) (area : List ℕ) (from to : Device) → Refreshes form kinds area from to → SparesUsed form kinds used from to → SaveRuns form kinds used area from to
 save_runs form kinds used area from to run spares = record {
   images = save_images form kinds used area from to run spares;
   outside = run.outside;
@@ -144,7 +144,7 @@ save_runs form kinds used area from to run spares = record {
 }
 
 -- a save that isn't begun
-pub none_saved : (form : Form) (kinds : List Kind) (used : Option ℕ) (area : List ℕ) (device : Device) → IsDevice device → SaveRuns form kinds used area device device
+pub none_saved : (form : Form) (kinds : List BucketKind) (used : Option ℕ) (area : List ℕ) (device : Device) → IsDevice device → SaveRuns form kinds used area device device
 none_saved form kinds used area device whole =
     let passing : Image → List (Option (List ℕ)) = passings form device.geometry.page kinds in
     save_runs form kinds used area device device (none_refreshes form kinds area device whole)

@@ -5,7 +5,7 @@ use Rattle.std.specs.Option.{ForSome}
 use Rattle.std.proofs.lemmas.Option.{slice_get_within}
 use Rattle.bb_base.specs.Form.{Form}
 use Rattle.bb_flash.specs.Device.{Device, content}
-use Rattle.bb_bucket.specs.Kind.{Kind}
+use Rattle.bb_bucket.specs.Kind.{BucketKind}
 use Rattle.bb_copies.specs.declared.settle.Settled.{Settled}
 use Rattle.bb_copies.specs.declared.settle.Settled.TheVariants.{Good, Dead, Stuck}
 use Rattle.bb_copies.specs.Buckets.{EachCopy}
@@ -14,13 +14,13 @@ use Rattle.bb_copies.specs.Refreshing.{IsSettledAt, IsStuckAt, answer_of, area_i
 use Rattle.bb_copies.specs.Settling.{EndsAs, IsStale, IsUnread}
 
 -- what holds of the copy of a number
-pub at_copy : (P : Kind → Type 0) (kinds : List Kind) (copy : ℕ) (kind : Kind) → slice_get kinds copy ≡ Some kind → P kind → EachCopy kinds (λ place other. place ≡ copy → P other)
+pub at_copy : (P : BucketKind → Type 0) (kinds : List BucketKind) (copy : ℕ) (kind : BucketKind) → slice_get kinds copy ≡ Some kind → P kind → EachCopy kinds (λ place other. place ≡ copy → P other)
 at_copy P kinds copy kind e holds = λ place other f same.
     let found : Some kind ≡ Some other = sym e ∙ ap (slice_get kinds) (sym same) ∙ f in
     let is : kind ≡ other = cc in
     subst P is holds
 
-pub settled_at : (form : Form) (kinds : List Kind) (area : List ℕ) (copy : ℕ) (kind : Kind) (from to : Device) (settled : Settled) → slice_get kinds copy ≡ Some kind → EndsAs form kind area from to settled → IfOk (answer_of copy settled) (IsSettledAt form kinds area copy from to)
+pub settled_at : (form : Form) (kinds : List BucketKind) (area : List ℕ) (copy : ℕ) (kind : BucketKind) (from to : Device) (settled : Settled) → slice_get kinds copy ≡ Some kind → EndsAs form kind area from to settled → IfOk (answer_of copy settled) (IsSettledAt form kinds area copy from to)
 settled_at form kinds area copy kind from to Good e ends = record {
   passes = at_copy (λ k. ForSome (content to) (λ image. passing_of form from.geometry.page k image ≡ area_if area true)) kinds copy kind e ends.passes;
   cause = λ h. absurd cc;
@@ -31,7 +31,7 @@ settled_at form kinds area copy kind from to Dead e ends = record {
 }
 settled_at form kinds area copy kind from to Stuck e ends = tt
 
-pub stuck_at : (form : Form) (kinds : List Kind) (area : List ℕ) (copy : ℕ) (kind : Kind) (from to : Device) (settled : Settled) → slice_get kinds copy ≡ Some kind → EndsAs form kind area from to settled → IfErr (answer_of copy settled) (λ at. IsStuckAt form kinds area at from to)
+pub stuck_at : (form : Form) (kinds : List BucketKind) (area : List ℕ) (copy : ℕ) (kind : BucketKind) (from to : Device) (settled : Settled) → slice_get kinds copy ≡ Some kind → EndsAs form kind area from to settled → IfErr (answer_of copy settled) (λ at. IsStuckAt form kinds area at from to)
 stuck_at form kinds area copy kind from to Good e ends = tt
 stuck_at form kinds area copy kind from to Dead e ends = tt
 stuck_at form kinds area copy kind from to Stuck e ends = record {

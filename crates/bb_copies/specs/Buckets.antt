@@ -5,9 +5,10 @@ use Rattle.bb_flash.specs.declared.geometry.Geometry.{Geometry}
 use Rattle.bb_flash.specs.declared.region.Region.{Region}
 use Rattle.bb_flash.specs.Device.{Device}
 use Rattle.bb_bucket.specs.Calls.{Agrees}
-use Rattle.bb_bucket.specs.Kind.{Holding, Kind}
+use Rattle.bb_bucket.specs.Kind.{BucketKind, Holding}
 
-abbrev pub kinds_of : {B : Type 0} → (B → Holding) → List B → List Kind
+-- the kind of each bucket
+abbrev pub kinds_of : {B : Type 0} → (B → Holding) → List B → List BucketKind
 kinds_of holding buckets = map (λ bucket. (holding bucket).kind) buckets
 
 -- each bucket keeps of its region what stands there
@@ -16,32 +17,32 @@ AllAgree {B} holding device buckets =
     (copy : ℕ) (bucket : B) → slice_get buckets copy ≡ Some bucket → Agrees (holding bucket) device
 
 -- P holds of each copy's number and kind
-abbrev pub EachCopy : List Kind → (ℕ → Kind → Type 0) → Type 0
-EachCopy kinds P = (copy : ℕ) (kind : Kind) → slice_get kinds copy ≡ Some kind → P copy kind
+abbrev pub EachCopy : List BucketKind → (ℕ → BucketKind → Type 0) → Type 0
+EachCopy kinds P = (copy : ℕ) (kind : BucketKind) → slice_get kinds copy ≡ Some kind → P copy kind
 
 -- two regions share no byte
 abbrev pub IsApart : Region → Region → Type 0
 IsApart one two = (one.at + one.size ≤ two.at) ⊎ (two.at + two.size ≤ one.at)
 
 -- a region shares no byte with any copy's
-abbrev pub IsOutside : List Kind → Region → Type 0
+abbrev pub IsOutside : List BucketKind → Region → Type 0
 IsOutside kinds region = EachCopy kinds (λ copy kind. IsApart kind.region region)
 
 -- no two copies share a byte
-abbrev pub AreApart : List Kind → Type 0
+abbrev pub AreApart : List BucketKind → Type 0
 AreApart kinds =
     EachCopy kinds
     (λ copy kind. EachCopy kinds (λ other beside. other ≢ copy → IsApart kind.region beside.region))
 
 -- the copies have room for the form's records, and stand apart
-pub record HaveRoom (form : Form) (kinds : List Kind) : Type 0 where
+pub record HaveRoom (form : Form) (kinds : List BucketKind) : Type 0 where
   pub room : EachCopy kinds (λ copy kind. form.length ≤ kind.room)
   pub apart : AreApart kinds
 
 -- they are made for devices of this geometry
-abbrev pub AllServe : List Kind → Geometry → Type 0
+abbrev pub AllServe : List BucketKind → Geometry → Type 0
 AllServe kinds geometry = EachCopy kinds (λ copy kind. IsTrue (kind.serves geometry))
 
 -- what is read of a copy fits a memory of this length
-abbrev pub AllFit : List Kind → ℕ → Type 0
+abbrev pub AllFit : List BucketKind → ℕ → Type 0
 AllFit kinds len = EachCopy kinds (λ copy kind. kind.room ≤ len)

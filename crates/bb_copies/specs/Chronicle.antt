@@ -13,6 +13,7 @@ pub record Content : Type 0 where
   pub acked : ℕ
   pub marks : List (Option ℕ)
 
+-- a content stands for its list of areas
 abbrev pub IsStanding : List ℕ → Content → Type 0
 IsStanding first content = StandsFor first content.passed content.areas content.acked content.marks
 
@@ -56,6 +57,7 @@ Step before (Loaded place saves ok started) h2 a2 = IsSaved before place saves o
 
 -- ---- one after another
 
+-- what happens to the copies
 pub data Event : Type 0 where
   -- a session that came to its end
   Finished : Turn → Event
@@ -77,6 +79,7 @@ pub record IsAfterDecay (before after : Content) : Type 0 where
   pub acked : after.acked ≡ before.acked
   pub marks : after.marks ≡ marks_left before.marks after.passed
 
+-- an event brings one content from another
 abbrev pub Follows : List ℕ → Content → Event → Content → Type 0
 Follows first before (Finished turn) after = IsAfterTurn first before turn after
 Follows first before (CutOff turn) after = IsAfterTurn first before turn after
@@ -111,6 +114,7 @@ place_of Looked = None
 place_of Unloaded = None
 place_of (Loaded place saves ok started) = Some place
 
+-- the same of an event
 abbrev pub loaded_in : Event → Option ℕ
 loaded_in (Finished turn) = place_of turn
 loaded_in (CutOff turn) = place_of turn

@@ -1,4 +1,5 @@
--- Definitions that contracts cite.
+-- Definitions that contracts cite. These a reader has to believe, and of those inside IsUndisturbed
+-- and RoseBy (Settling), IsStuckAt, IsUntouched and is_marked (Refreshing), and IsFresh (Looking).
 pub use Rattle.bb_base.specs.Faults
 pub use Rattle.bb_base.specs.Form
 pub use Rattle.bb_flash.specs.Counted
@@ -10,13 +11,14 @@ pub mod Buckets
 pub mod Chronicle
 pub mod Erasing
 pub mod Loading
-pub mod Looking
 pub mod Luck
 pub mod Passing
 pub mod Placing
-pub mod Refreshing
 pub mod Saving
-pub mod Settling
 pub mod StandsFor
 pub mod Store
 pub mod Trail
+-- Inside: what the steps of a load and of a save promise.
+pub mod Looking
+pub mod Refreshing
+pub mod Settling

@@ -10,7 +10,7 @@ use Rattle.bb_flash.specs.Counted.{EachCounted}
 use Rattle.bb_flash.specs.Cuts.{EachImage, IsLater, IsSameRegion}
 use Rattle.bb_flash.specs.Device.{Device, IsDevice, LeavesStarts, content, erases}
 use Rattle.bb_flash.specs.Image.{Image}
-use Rattle.bb_bucket.specs.Kind.{Kind, part_of}
+use Rattle.bb_bucket.specs.Kind.{BucketKind, part_of}
 use Rattle.bb_copies.specs.declared.answers.CopyFault.{CopyFault}
 use Rattle.bb_copies.specs.declared.answers.CopyFault.TheVariants.{ReadFault, WriteFault, Unsure}
 use Rattle.bb_copies.specs.declared.answers.Loaded.{Loaded}
@@ -32,14 +32,14 @@ StandsStill before image =
     StandsFor first before h a marks → Stands first image h a
 
 -- so it is in each image of a load that counts
-abbrev pub LoadImages : Form → List Kind → Device → Device → Type 0
+abbrev pub LoadImages : Form → List BucketKind → Device → Device → Type 0
 LoadImages form kinds from to =
     let passing = passings form from.geometry.page kinds in
     EachCounted (IsLucky passing)
     (λ before image. StandsStill (passing before) (passing image)) from to
 
 -- in every image what lies outside the copies is as before, and so are the pages in which it stands
-abbrev pub KeepsOutside : List Kind → Device → Device → Type 0
+abbrev pub KeepsOutside : List BucketKind → Device → Device → Type 0
 KeepsOutside kinds from to =
     (region : Region) → IsOutside kinds region →
     EachImage (IsSameRegion from.geometry.page region.at region.size) from to
@@ -58,7 +58,7 @@ pub record IsKept (area : List ℕ) (used live : ℕ) (passing : List (Option (L
   pub counted : live ≡ count_by is_some passing
 
 -- after a load or a save that answered Ok: a call failed for each copy that passes nothing
-pub record IsAllKept (form : Form) (kinds : List Kind) (area : List ℕ) (used live : ℕ)
+pub record IsAllKept (form : Form) (kinds : List BucketKind) (area : List ℕ) (used live : ℕ)
     (from to : Device) : Type 0 where
   pub kept :
       ForSome (content to)
@@ -68,7 +68,7 @@ pub record IsAllKept (form : Form) (kinds : List Kind) (area : List ℕ) (used l
   pub dead : RoseBy (length kinds - live) from.faults to.faults
 
 -- the first copy that passed at entry was taken
-pub record IsTaken (form : Form) (kinds : List Kind) (area : List ℕ) (used live : ℕ)
+pub record IsTaken (form : Form) (kinds : List BucketKind) (area : List ℕ) (used live : ℕ)
     (from to : Device) : Type 0 where
   pub entry :
       ForSome (content from)
@@ -76,14 +76,14 @@ pub record IsTaken (form : Form) (kinds : List Kind) (area : List ℕ) (used liv
   pub exit : IsAllKept form kinds area used live from to
 
 -- no copy passed, and nothing changed
-pub record IsEmpty (form : Form) (kinds : List Kind) (from to : Device) : Type 0 where
+pub record IsEmpty (form : Form) (kinds : List BucketKind) (from to : Device) : Type 0 where
   pub none :
       ForSome (content from)
       (λ image. SomePasses (passings form from.geometry.page kinds image) → ⊥)
   pub content : content to ≡ content from
 
 -- what a load answers
-abbrev pub LoadGives : Form → List Kind → List ℕ → Device → Device → Loaded → Type 0
+abbrev pub LoadGives : Form → List BucketKind → List ℕ → Device → Device → Loaded → Type 0
 LoadGives form kinds area from to (Copy used live) = IsTaken form kinds area used live from to
 LoadGives form kinds area from to NoCopy = IsEmpty form kinds from to
 
@@ -94,7 +94,7 @@ pub record IsReadFault (from to : Device) : Type 0 where
   pub content : content to ≡ content from
 
 -- the copy of this number couldn't be settled with the area of the first that passed
-pub record IsLoadStuck (form : Form) (kinds : List Kind) (area : List ℕ) (copy : ℕ)
+pub record IsLoadStuck (form : Form) (kinds : List BucketKind) (area : List ℕ) (copy : ℕ)
     (from to : Device) : Type 0 where
   pub entry :
       ForSome (content from)
@@ -102,14 +102,14 @@ pub record IsLoadStuck (form : Form) (kinds : List Kind) (area : List ℕ) (copy
   pub stuck : IsStuckAt form kinds area copy from to
 
 -- how a load is refused
-abbrev pub LoadFails : Form → List Kind → List ℕ → Device → Device → CopyFault → Type 0
+abbrev pub LoadFails : Form → List BucketKind → List ℕ → Device → Device → CopyFault → Type 0
 LoadFails form kinds area from to ReadFault = IsReadFault from to
 LoadFails form kinds area from to (WriteFault copy) = IsLoadStuck form kinds area copy from to
 LoadFails form kinds area from to Unsure = ⊥
 
 -- a region is as before where its copy passed the area from a record without a Worn page, else as
 -- after a write
-pub record IsExact (form : Form) (page : ℕ) (kind : Kind) (area : List ℕ)
+pub record IsExact (form : Form) (page : ℕ) (kind : BucketKind) (area : List ℕ)
     (before after : Image) : Type 0 where
   pub fresh :
       IsFresh form page kind area before →
@@ -120,7 +120,7 @@ pub record IsExact (form : Form) (page : ℕ) (kind : Kind) (area : List ℕ)
       ≡ kind.after_write (form.text area) (part_of page kind.region before)
 
 -- without a fault a load that took a copy wrote exactly the copies that had to be written
-abbrev pub LoadsExactly : Form → List Kind → List ℕ → Device → Device → Loaded → Type 0
+abbrev pub LoadsExactly : Form → List BucketKind → List ℕ → Device → Device → Loaded → Type 0
 LoadsExactly form kinds area from to (Copy used live) =
     IsUndisturbed from to →
     ForSome (content from)
@@ -129,7 +129,7 @@ LoadsExactly form kinds area from to (Copy used live) =
 LoadsExactly form kinds area from to NoCopy = Unit {0}
 
 -- each block was erased by the writes of the area's record to the copies that had to be written
-pub record LoadErases (form : Form) (kinds : List Kind) (area : List ℕ)
+pub record LoadErases (form : Form) (kinds : List BucketKind) (area : List ℕ)
     (from to : Device) : Type 0 where
   -- one mark a copy, which says whether it is fresh
   pub fresh : List Bool
@@ -142,13 +142,13 @@ pub record LoadErases (form : Form) (kinds : List Kind) (area : List ℕ)
   pub erases : ErasesBy (unmarked_kinds fresh kinds) (form.text area) from to
 
 -- without a fault a load erased as those writes do, and nothing where no copy passes
-abbrev pub LoadsErasing : Form → List Kind → List ℕ → Device → Device → Loaded → Type 0
+abbrev pub LoadsErasing : Form → List BucketKind → List ℕ → Device → Device → Loaded → Type 0
 LoadsErasing form kinds area from to (Copy used live) =
     IsUndisturbed from to → LoadErases form kinds area from to
 LoadsErasing form kinds area from to NoCopy = erases to ≡ erases from
 
 -- what holds of every load, whatever it answers
-pub record LoadRuns (form : Form) (kinds : List Kind) (from to : Device) : Type 0 where
+pub record LoadRuns (form : Form) (kinds : List BucketKind) (from to : Device) : Type 0 where
   pub images : LoadImages form kinds from to
   pub outside : KeepsOutside kinds from to
   pub later : IsLater from to
@@ -156,7 +156,7 @@ pub record LoadRuns (form : Form) (kinds : List Kind) (from to : Device) : Type 
   pub whole : IsDevice to
 
 -- what a look answers: whether a copy passes, and the area of the first
-abbrev pub LookGives : Form → List Kind → List ℕ → Device → Bool → Type 0
+abbrev pub LookGives : Form → List BucketKind → List ℕ → Device → Bool → Type 0
 LookGives form kinds area from true =
     ForSome (content from)
     (λ image. IsFirstArea area (passings form from.geometry.page kinds image))

@@ -4,21 +4,21 @@ use Rattle.std.specs.Bool.{Decides}
 use Rattle.std.specs.Str.{bytes_eq}
 use Rattle.bb_base.specs.Form.{Form}
 use Rattle.bb_flash.specs.Image.{Image}
-use Rattle.bb_bucket.specs.Kind.{Kind, part_of}
+use Rattle.bb_bucket.specs.Kind.{BucketKind, part_of}
 use Rattle.bb_copies.specs.declared.read.Passed.{Passed}
 use Rattle.bb_copies.specs.Buckets.{EachCopy}
 use Rattle.bb_copies.specs.Passing.{IsReading, passing_of}
 use Rattle.bb_copies.specs.Refreshing.{is_marked}
 
 -- a copy passes the area, and no page of its record is Worn
-pub record IsFresh (form : Form) (page : ℕ) (kind : Kind) (area : List ℕ)
+pub record IsFresh (form : Form) (page : ℕ) (kind : BucketKind) (area : List ℕ)
     (image : Image) : Type 0 where
   pub passes : passing_of form page kind image ≡ Some area
   pub sound : kind.is_worn (part_of page kind.region image) ≡ false
 
 -- the copy of this number is the first of those below `bound` that passes, as this area, and the
 -- fresh ones are marked
-pub record IsFirst (form : Form) (page : ℕ) (kinds : List Kind) (bound : ℕ) (area : List ℕ)
+pub record IsFirst (form : Form) (page : ℕ) (kinds : List BucketKind) (bound : ℕ) (area : List ℕ)
     (good : List Bool) (image : Image) (used : ℕ) : Type 0 where
   pub passes :
       EachCopy kinds (λ copy kind. copy ≡ used → passing_of form page kind image ≡ Some area)
@@ -29,13 +29,15 @@ pub record IsFirst (form : Form) (page : ℕ) (kinds : List Kind) (bound : ℕ) 
       Decides (is_marked good copy) (IsFresh form page kind area image))
 
 -- none of the copies below `bound` passes
-pub record PassNothing (form : Form) (page : ℕ) (kinds : List Kind) (bound : ℕ) (good : List Bool)
+pub record PassNothing (form : Form) (page : ℕ) (kinds : List BucketKind) (bound : ℕ)
+    (good : List Bool)
     (image : Image) : Type 0 where
   pub each : EachCopy kinds (λ copy kind. copy < bound → passing_of form page kind image ≡ None)
   pub unmarked : (copy : ℕ) → copy < bound → is_marked good copy ≡ false
 
 -- what was found in the copies below `bound`
-abbrev pub FindsBelow : Form → ℕ → List Kind → ℕ → List ℕ → List Bool → Image → Option ℕ → Type 0
+abbrev pub FindsBelow : Form → ℕ → List BucketKind → ℕ → List ℕ → List Bool → Image → Option ℕ →
+    Type 0
 FindsBelow form page kinds bound area good image None = PassNothing form page kinds bound good image
 FindsBelow form page kinds bound area good image (Some used) =
     IsFirst form page kinds bound area good image used
@@ -58,6 +60,6 @@ good_by found (Some passed) area = not passed.worn && bytes_eq found area
 good_by found None area = false
 
 -- the copy of a number was read
-abbrev pub IsReadAt : Form → ℕ → List Kind → ℕ → Image → List ℕ → Option Passed → Type 0
+abbrev pub IsReadAt : Form → ℕ → List BucketKind → ℕ → Image → List ℕ → Option Passed → Type 0
 IsReadAt form page kinds copy image out passed =
     EachCopy kinds (λ place kind. place ≡ copy → IsReading form page kind image out passed)

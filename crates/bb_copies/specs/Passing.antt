@@ -4,16 +4,16 @@ use Rattle.std.specs.Prelude.{◌≡◌, ℕ, List, map, slice_get, Option, IfSo
 use Rattle.std.specs.Prelude.{option_map}
 use Rattle.bb_base.specs.Form.{Form}
 use Rattle.bb_flash.specs.Image.{Image}
-use Rattle.bb_bucket.specs.Kind.{Kind, part_of}
+use Rattle.bb_bucket.specs.Kind.{BucketKind, part_of}
 use Rattle.bb_copies.specs.declared.read.Passed.{Passed}
 
 -- the area that a copy of this kind passes as: what stands in its region as its record passes
-abbrev pub passing_of : Form → ℕ → Kind → Image → Option (List ℕ)
+abbrev pub passing_of : Form → ℕ → BucketKind → Image → Option (List ℕ)
 passing_of form page kind image =
     option_and_then form.passes (kind.candidate_of (part_of page kind.region image))
 
 -- what each copy passes as, in their order
-abbrev pub passings : Form → ℕ → List Kind → Image → List (Option (List ℕ))
+abbrev pub passings : Form → ℕ → List BucketKind → Image → List (Option (List ℕ))
 passings form page kinds image = map (λ kind. passing_of form page kind image) kinds
 
 -- what the copy of a number passes as, counted from 0: nothing where there is no such copy
@@ -22,7 +22,7 @@ passes_at passing copy = option_and_then (λ area. area) (slice_get passing copy
 
 -- what reading a copy gave: the area that it passes as, in `out`, and whether a page of its record
 -- is Worn
-pub record IsReading (form : Form) (page : ℕ) (kind : Kind) (image : Image) (out : List ℕ)
+pub record IsReading (form : Form) (page : ℕ) (kind : BucketKind) (image : Image) (out : List ℕ)
     (passed : Option Passed) : Type 0 where
   pub area : option_map (λ _. out) passed ≡ passing_of form page kind image
   pub worn : IfSome passed (λ found. found.worn ≡ kind.is_worn (part_of page kind.region image))

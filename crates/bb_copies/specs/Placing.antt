@@ -9,7 +9,7 @@ use Rattle.bb_copies.specs.Settling.{IsUndisturbed}
 -- the bucket of this number is placed
 abbrev pub IsPlacedAt : {B : Type 0} → (B → Holding) → List B → ℕ → Type 0
 IsPlacedAt {B} holding buckets copy =
-    (bucket : B) → slice_get buckets copy ≡ Some bucket → IsTrue (holding bucket).placed
+    (bucket : B) → slice_get buckets copy ≡ Some bucket → IsTrue (holding bucket).knows_place
 
 -- every bucket is placed
 abbrev pub AllPlaced : {B : Type 0} → (B → Holding) → List B → Type 0

@@ -9,7 +9,7 @@ use Rattle.bb_flash.specs.Counted.{EachCounted}
 use Rattle.bb_flash.specs.Cuts.{EachImage, IsLater, IsSameRegion}
 use Rattle.bb_flash.specs.Device.{Device, IsDevice, LeavesStarts, content}
 use Rattle.bb_bucket.specs.Calls.{Leaves}
-use Rattle.bb_bucket.specs.Kind.{Kind}
+use Rattle.bb_bucket.specs.Kind.{BucketKind}
 use Rattle.bb_copies.specs.declared.settle.Settled.{Settled}
 use Rattle.bb_copies.specs.declared.settle.Settled.TheVariants.{Good, Dead, Stuck}
 use Rattle.bb_copies.specs.Buckets.{EachCopy, IsOutside}
@@ -21,7 +21,7 @@ use Rattle.bb_copies.specs.StandsFor.{KeepsOrTakes, SomePasses}
 
 -- In every image what lies outside the copies is as before. In each that counts each copy passes
 -- what it passed before, nothing, or the area.
-pub record Refreshes (form : Form) (kinds : List Kind) (area : List ℕ)
+pub record Refreshes (form : Form) (kinds : List BucketKind) (area : List ℕ)
     (from to : Device) : Type 0 where
   pub counted :
       EachCounted
@@ -43,12 +43,12 @@ abbrev pub is_marked : List Bool → ℕ → Bool
 is_marked marked copy = slice_index_or marked copy false
 
 -- a copy's region is the same in every image
-abbrev pub IsUntouched : Kind → Device → Device → Type 0
+abbrev pub IsUntouched : BucketKind → Device → Device → Type 0
 IsUntouched kind from to =
     EachImage (IsSameRegion from.geometry.page kind.region.at kind.region.size) from to
 
 -- the marked copies weren't touched
-abbrev pub KeepsMarked : List Kind → List Bool → Device → Device → Type 0
+abbrev pub KeepsMarked : List BucketKind → List Bool → Device → Device → Type 0
 KeepsMarked kinds marked from to =
     EachCopy kinds (λ copy kind. is_marked marked copy ≡ true → IsUntouched kind from to)
 
@@ -58,7 +58,8 @@ area_if area good = if good then Some area else None
 
 -- Each copy that wasn't marked is settled: it passes the area where it is marked now, and nothing
 -- where it isn't. A call failed for each that passes nothing.
-pub record AllSettled (form : Form) (kinds : List Kind) (area : List ℕ) (marked good : List Bool)
+pub record AllSettled (form : Form) (kinds : List BucketKind) (area : List ℕ)
+    (marked good : List Bool)
     (from to : Device) : Type 0 where
   pub each :
       EachCopy
@@ -70,7 +71,7 @@ pub record AllSettled (form : Form) (kinds : List Kind) (area : List ℕ) (marke
   pub dead : RoseBy (count_by not good) from.faults to.faults
 
 -- the copy of this number couldn't be settled
-pub record IsStuckAt (form : Form) (kinds : List Kind) (area : List ℕ) (copy : ℕ)
+pub record IsStuckAt (form : Form) (kinds : List BucketKind) (area : List ℕ) (copy : ℕ)
     (from to : Device) : Type 0 where
   pub inside : copy < length kinds
   pub cause :
@@ -78,7 +79,7 @@ pub record IsStuckAt (form : Form) (kinds : List Kind) (area : List ℕ) (copy :
       (λ place kind. place ≡ copy → IsStale form kind area from to ⊎ IsUnread from to)
 
 -- the record was written once to each copy that wasn't marked, and nothing else was done
-pub record AllWritten (kinds : List Kind) (rec : List ℕ) (marked : List Bool)
+pub record AllWritten (kinds : List BucketKind) (rec : List ℕ) (marked : List Bool)
     (from to : Device) : Type 0 where
   pub each :
       EachCopy kinds
@@ -87,13 +88,13 @@ pub record AllWritten (kinds : List Kind) (rec : List ℕ) (marked : List Bool)
   pub erases : ErasesBy (unmarked_kinds marked kinds) rec from to
 
 -- no other copy was touched
-abbrev pub LeavesOthers : List Kind → ℕ → Device → Device → Type 0
+abbrev pub LeavesOthers : List BucketKind → ℕ → Device → Device → Type 0
 LeavesOthers kinds copy from to =
     EachCopy kinds (λ place kind. place ≢ copy → IsUntouched kind from to)
 
 -- The copy of this number is settled: it passes the area where it is good, else nothing, and then a
 -- call failed.
-pub record IsSettledAt (form : Form) (kinds : List Kind) (area : List ℕ) (copy : ℕ)
+pub record IsSettledAt (form : Form) (kinds : List BucketKind) (area : List ℕ) (copy : ℕ)
     (from to : Device) (good : Bool) : Type 0 where
   pub passes :
       EachCopy kinds
@@ -103,7 +104,7 @@ pub record IsSettledAt (form : Form) (kinds : List Kind) (area : List ℕ) (copy
   pub cause : good ≡ false → Rose from.faults to.faults
 
 -- the record was written to the copy of this number, and nothing else was done
-abbrev pub IsWrittenAt : List Kind → ℕ → List ℕ → Device → Device → Type 0
+abbrev pub IsWrittenAt : List BucketKind → ℕ → List ℕ → Device → Device → Type 0
 IsWrittenAt kinds copy rec from to =
     EachCopy kinds (λ place kind. place ≡ copy → IsWritten kind rec from to)
 
@@ -115,7 +116,7 @@ answer_of copy Stuck = Err copy
 
 -- every copy is settled: it passes the area where it is marked, else nothing, and a call failed for
 -- each of those
-pub record AllHeld (form : Form) (kinds : List Kind) (area : List ℕ) (good : List Bool)
+pub record AllHeld (form : Form) (kinds : List BucketKind) (area : List ℕ) (good : List Bool)
     (from to : Device) : Type 0 where
   pub each :
       EachCopy
@@ -126,7 +127,7 @@ pub record AllHeld (form : Form) (kinds : List Kind) (area : List ℕ) (good : L
   pub dead : RoseBy (count_by not good) from.faults to.faults
 
 -- some copy passes, in every image
-abbrev pub NeverEmpty : Form → List Kind → Device → Device → Type 0
+abbrev pub NeverEmpty : Form → List BucketKind → Device → Device → Type 0
 NeverEmpty form kinds from to =
     EachImage (λ before image. SomePasses (passings form from.geometry.page kinds image)) from to
 

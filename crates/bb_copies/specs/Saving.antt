@@ -7,7 +7,7 @@ use Rattle.bb_flash.specs.Counted.{EachCounted}
 use Rattle.bb_flash.specs.Cuts.{EachImage, IsLater}
 use Rattle.bb_flash.specs.Device.{Device, IsDevice, LeavesStarts, content}
 use Rattle.bb_bucket.specs.Calls.{Leaves}
-use Rattle.bb_bucket.specs.Kind.{Kind}
+use Rattle.bb_bucket.specs.Kind.{BucketKind}
 use Rattle.bb_copies.specs.declared.answers.CopyFault.{CopyFault}
 use Rattle.bb_copies.specs.declared.answers.CopyFault.TheVariants.{ReadFault, WriteFault, Unsure}
 use Rattle.bb_copies.specs.Buckets.{EachCopy}
@@ -33,14 +33,14 @@ StandsLonger used area before image =
     StandsFor first before h a marks → Stands first image (h ++ area ∷ []) a
 
 -- so it is in each image of a save that counts
-abbrev pub SaveImages : Form → List Kind → Option ℕ → List ℕ → Device → Device → Type 0
+abbrev pub SaveImages : Form → List BucketKind → Option ℕ → List ℕ → Device → Device → Type 0
 SaveImages form kinds used area from to =
     let passing = passings form from.geometry.page kinds in
     EachCounted (IsLucky passing)
     (λ before image. StandsLonger used area (passing before) (passing image)) from to
 
 -- where the used copy passes, some copy passes in every image
-abbrev pub SparesUsed : Form → List Kind → Option ℕ → Device → Device → Type 0
+abbrev pub SparesUsed : Form → List BucketKind → Option ℕ → Device → Device → Type 0
 SparesUsed form kinds used from to =
     let passing = passings form from.geometry.page kinds in
     EachImage
@@ -48,7 +48,7 @@ SparesUsed form kinds used from to =
     SomeIsSpared (passing before) (passing image)) from to
 
 -- no other copy took the area, so that the used one wasn't touched
-pub record IsAlone (form : Form) (kinds : List Kind) (used : Option ℕ) (copy : ℕ)
+pub record IsAlone (form : Form) (kinds : List BucketKind) (used : Option ℕ) (copy : ℕ)
     (from to : Device) : Type 0 where
   pub is : used ≡ Some copy
   pub untouched : EachCopy kinds (λ place kind. place ≡ copy → IsUntouched kind from to)
@@ -60,7 +60,7 @@ pub record IsAlone (form : Form) (kinds : List Kind) (used : Option ℕ) (copy :
   pub cause : RoseBy (length kinds - 1) from.faults to.faults
 
 -- no copy was used, and none took the area: the answer names the last
-pub record IsHopeless (form : Form) (kinds : List Kind) (used : Option ℕ) (copy : ℕ)
+pub record IsHopeless (form : Form) (kinds : List BucketKind) (used : Option ℕ) (copy : ℕ)
     (from to : Device) : Type 0 where
   pub is : used ≡ None
   pub last : copy + 1 ≡ length kinds
@@ -71,18 +71,18 @@ pub record IsHopeless (form : Form) (kinds : List Kind) (used : Option ℕ) (cop
   pub cause : RoseBy (length kinds) from.faults to.faults
 
 -- why a save names a copy that it couldn't write
-abbrev pub IsWriteFault : Form → List Kind → Option ℕ → List ℕ → Device → Device → ℕ → Type 0
+abbrev pub IsWriteFault : Form → List BucketKind → Option ℕ → List ℕ → Device → Device → ℕ → Type 0
 IsWriteFault form kinds used area from to copy =
     IsStuckAt form kinds area copy from to
     ⊎ (IsAlone form kinds used copy from to ⊎ IsHopeless form kinds used copy from to)
 
 -- every copy's region is as after a write of the record
-abbrev pub EachWritten : List Kind → List ℕ → Device → Device → Type 0
+abbrev pub EachWritten : List BucketKind → List ℕ → Device → Device → Type 0
 EachWritten kinds rec from to =
     EachCopy kinds (λ copy kind. Leaves kind.region (kind.after_write rec) from to)
 
 -- what holds of every save, whatever it answers
-pub record SaveRuns (form : Form) (kinds : List Kind) (used : Option ℕ) (area : List ℕ)
+pub record SaveRuns (form : Form) (kinds : List BucketKind) (used : Option ℕ) (area : List ℕ)
     (from to : Device) : Type 0 where
   pub images : SaveImages form kinds used area from to
   pub outside : KeepsOutside kinds from to
@@ -92,14 +92,16 @@ pub record SaveRuns (form : Form) (kinds : List Kind) (used : Option ℕ) (area 
 
 -- how a save is refused that was begun: a save reads nothing but a copy that it could neither write
 -- nor void
-abbrev pub SaveFails : Form → List Kind → Option ℕ → List ℕ → Device → Device → CopyFault → Type 0
+abbrev pub SaveFails : Form → List BucketKind → Option ℕ → List ℕ → Device → Device → CopyFault →
+    Type 0
 SaveFails form kinds used area from to ReadFault = ⊥
 SaveFails form kinds used area from to (WriteFault copy) =
     IsWriteFault form kinds used area from to copy
 SaveFails form kinds used area from to Unsure = from ≡ to
 
 -- every copy passes the new area or nothing, and the copies keep the first that passes it
-pub record IsSaved (form : Form) (kinds : List Kind) (area : List ℕ) (now : Option ℕ) (live : ℕ)
+pub record IsSaved (form : Form) (kinds : List BucketKind) (area : List ℕ) (now : Option ℕ)
+    (live : ℕ)
     (from to : Device) : Type 0 where
   pub used : ℕ
   pub is : now ≡ Some used

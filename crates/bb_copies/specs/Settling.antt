@@ -8,7 +8,7 @@ use Rattle.bb_flash.specs.Counted.{EachCounted}
 use Rattle.bb_flash.specs.Cuts.{EachTorn, IsLater}
 use Rattle.bb_flash.specs.Device.{Device, IsDevice, LeavesStarts, content}
 use Rattle.bb_bucket.specs.Calls.{ErasesWhere, Leaves}
-use Rattle.bb_bucket.specs.Kind.{Kind}
+use Rattle.bb_bucket.specs.Kind.{BucketKind}
 use Rattle.bb_copies.specs.declared.settle.Settled.{Settled}
 use Rattle.bb_copies.specs.declared.settle.Settled.TheVariants.{Good, Dead, Stuck}
 use Rattle.bb_copies.specs.Luck.{IsLucky}
@@ -25,7 +25,8 @@ IsUndisturbed from to = Rose from.faults to.faults → ⊥
 
 -- In each image that counts the copy passes what it passed before, nothing, or the area. Its region
 -- alone changed, in every image.
-pub record SettlesCopy (form : Form) (kind : Kind) (area : List ℕ) (from to : Device) : Type 0 where
+pub record SettlesCopy (form : Form) (kind : BucketKind) (area : List ℕ)
+    (from to : Device) : Type 0 where
   pub counted :
       EachCounted
       (IsLucky (passings form from.geometry.page (kind ∷ [])))
@@ -46,17 +47,19 @@ pub record PassesAnother (area : List ℕ) (passes : Option (List ℕ)) : Type 0
   pub differs : other ≢ area
 
 -- it passes the area
-pub record IsGood (form : Form) (kind : Kind) (area : List ℕ) (from to : Device) : Type 0 where
+pub record IsGood (form : Form) (kind : BucketKind) (area : List ℕ)
+    (from to : Device) : Type 0 where
   pub passes :
       ForSome (content to) (λ image. passing_of form from.geometry.page kind image ≡ Some area)
 
 -- it passes nothing, and a call failed
-pub record IsDead (form : Form) (kind : Kind) (from to : Device) : Type 0 where
+pub record IsDead (form : Form) (kind : BucketKind) (from to : Device) : Type 0 where
   pub passes : ForSome (content to) (λ image. passing_of form from.geometry.page kind image ≡ None)
   pub cause : Rose from.faults to.faults
 
 -- it passes another area, and two calls failed
-pub record IsStale (form : Form) (kind : Kind) (area : List ℕ) (from to : Device) : Type 0 where
+pub record IsStale (form : Form) (kind : BucketKind) (area : List ℕ)
+    (from to : Device) : Type 0 where
   pub passes :
       ForSome (content to)
       (λ image. PassesAnother area (passing_of form from.geometry.page kind image))
@@ -68,18 +71,18 @@ pub record IsUnread (from to : Device) : Type 0 where
   pub read : Rose from.read_faults to.read_faults
 
 -- how a copy ends that was to be settled
-abbrev pub EndsAs : Form → Kind → List ℕ → Device → Device → Settled → Type 0
+abbrev pub EndsAs : Form → BucketKind → List ℕ → Device → Device → Settled → Type 0
 EndsAs form kind area from to Good = IsGood form kind area from to
 EndsAs form kind area from to Dead = IsDead form kind from to
 EndsAs form kind area from to Stuck = IsStale form kind area from to ⊎ IsUnread from to
 
 -- the record was written to the copy, and nothing else was done
-pub record IsWritten (kind : Kind) (rec : List ℕ) (from to : Device) : Type 0 where
+pub record IsWritten (kind : BucketKind) (rec : List ℕ) (from to : Device) : Type 0 where
   pub leaves : Leaves kind.region (kind.after_write rec) from to
   pub erases : ErasesWhere kind.region (kind.write_erases rec) from to
 
 -- what a copy passes as that is read back: the area, nothing, or another area; or it can't be read
-abbrev pub ReadsAs : Form → Kind → List ℕ → Device → Device → Settled → Type 0
+abbrev pub ReadsAs : Form → BucketKind → List ℕ → Device → Device → Settled → Type 0
 ReadsAs form kind area from to Good = IsGood form kind area from to
 ReadsAs form kind area from to Dead =
     ForSome (content to) (λ image. passing_of form from.geometry.page kind image ≡ None)

@@ -7,6 +7,7 @@ use Rattle.std.specs.List.{AllZip, list_any}
 
 -- ---- what the copies pass
 
+-- some copy passes an area
 abbrev pub SomePasses : List (Option (List ℕ)) → Type 0
 SomePasses passed = IsTrue (list_any is_some passed)
 
@@ -20,6 +21,7 @@ first_passed first (Some area ∷ passed) = area
 abbrev pub IsAreaOrNone : List ℕ → Option (List ℕ) → Type 0
 IsAreaOrNone area passes = (passes ≡ Some area) ⊎ (passes ≡ None)
 
+-- each copy does
 abbrev pub EachPassesOrNothing : List ℕ → List (Option (List ℕ)) → Type 0
 EachPassesOrNothing area passed = All (IsAreaOrNone area) passed
 
@@ -33,6 +35,7 @@ IsKeptOrLost before after = (after ≡ before) ⊎ (after ≡ None)
 abbrev pub IsKeptOrTaken : List ℕ → Option (List ℕ) → Option (List ℕ) → Type 0
 IsKeptOrTaken area before image = IsKeptOrLost before image ⊎ (image ≡ Some area)
 
+-- each copy does
 abbrev pub KeepsOrTakes : List ℕ → List (Option (List ℕ)) → List (Option (List ℕ)) → Type 0
 KeepsOrTakes area before image = AllZip (IsKeptOrTaken area) before image
 

@@ -1,11 +1,12 @@
 -- What copies mean to those who load and save through them.
 use Rattle.std.specs.Prelude.{◌≡◌, ℕ, ◌<◌, ◌≤◌, Bool, List, length, Option, Some, None, IfSome}
 use Rattle.bb_base.specs.Form.{Form}
-use Rattle.bb_bucket.specs.Kind.{Kind}
+use Rattle.bb_bucket.specs.Kind.{BucketKind}
 use Rattle.bb_copies.specs.declared.answers.Loaded.{Loaded}
 use Rattle.bb_copies.specs.declared.answers.Loaded.TheVariants.{Copy, NoCopy}
 use Rattle.bb_copies.specs.Buckets.{AllFit, HaveRoom}
 
+-- the copies, and what is known of them
 pub record Store (B M : Type 0) : Type 0 where
   -- one bucket a copy
   pub buckets : List B
@@ -17,7 +18,7 @@ pub record Store (B M : Type 0) : Type 0 where
 
 -- what always holds of copies that are mounted: `marks` of them may be marked, `found`, `rec` and
 -- `area` bytes are at hand to read a copy, for its record and for its area
-pub record IsMounted (form : Form) (kinds : List Kind) (used : Option ℕ)
+pub record IsMounted (form : Form) (kinds : List BucketKind) (used : Option ℕ)
     (marks found rec area : ℕ) : Type 0 where
   pub room : HaveRoom form kinds
   pub many : 2 ≤ length kinds

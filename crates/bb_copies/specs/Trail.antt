@@ -33,6 +33,7 @@ session_stages h a place saves =
     ∷ record { areas = loaded; acked = place }
     ∷ stages_of loaded place saves
 
+-- a content stands for what a stage says
 abbrev pub StandsAt : List ℕ → List (Option (List ℕ)) → Stage → Type 0
 StandsAt first passed stage = Stands first passed stage.areas stage.acked
 
@@ -55,9 +56,11 @@ pub record Milestone : Type 0 where
   pub stage : Stage
   pub since : Option ℕ
 
+-- the stages of a trail
 abbrev pub stages_in : List Milestone → List Stage
 stages_in trail = map (λ milestone. milestone.stage) trail
 
+-- a stage that holds since a moment
 abbrev pub milestone_of : List (List ℕ) → ℕ → ℕ → Milestone
 milestone_of h a moment = record { stage = record { areas = h; acked = a }; since = Some moment }
 

@@ -2,10 +2,10 @@ ghost use Rattle.std.specs.Prelude.{◌≡◌, ◌≢◌, ◌≤◌, ◌↔◌, 
 ghost use Rattle.std.specs.Prelude.{None, OnOk, false, is_ok, length};
 ghost use Rattle.bb_flash.specs.Cuts.{IsLater};
 ghost use Rattle.bb_base.specs.Faults.{HasCause};
-ghost use Rattle.bb_flash.specs.Device.{IsDevice, LeavesStarts, ReadKeeps};
-ghost use Rattle.bb_bucket.specs.Calls.{told_but_reads};
+ghost use Rattle.bb_flash.specs.Device.{IsDevice, LeavesStarts};
+ghost use Rattle.bb_bucket.specs.Calls.{IsQuiet};
 ghost use Rattle.bb_copies.specs.declared.answers.Loaded.TheVariants.{NoCopy};
-ghost use Rattle.bb_copies.specs.Buckets.{AllAgree, AllFit, AllServe, HaveRoom, kinds_of};
+ghost use Rattle.bb_copies.specs.Buckets.{AllAgree, AllServe, HaveRoom, kinds_of};
 ghost use Rattle.bb_copies.specs.Erasing.{ErasesBy};
 ghost use Rattle.bb_copies.specs.Loading.{KeepsOutside, LoadFails, LoadGives, LoadImages};
 ghost use Rattle.bb_copies.specs.Loading.{LoadsErasing, LoadsExactly, LookGives};
@@ -223,10 +223,7 @@ impl<B: Bucket + Drop, M: Format + Drop> Copies<B, M> {
         ensures gives { IfOk result (LookGives (M.form self.old.format)
             (kinds_of B.holding self.old.buckets) area.new (F.device flash.old)) }
         ensures fails { IfErr result (λ fault. fault ≡ ReadFault) }
-        ensures keeps { ReadKeeps (F.device flash.old) (F.device flash.new) }
-        ensures told { told_but_reads (F.device flash.new) ≡ told_but_reads (F.device flash.old) }
-        ensures later { IsLater (F.device flash.old) (F.device flash.new) }
-        ensures whole { IsDevice (F.device flash.new) }
+        ensures quiet { IsQuiet (F.device flash.old) (F.device flash.new) }
         ensures faults { HasCause (F.device flash.old).faults (F.device flash.new).faults
             (IsErr result) }
         ensures read_faults { HasCause (F.device flash.old).read_faults

@@ -1,9 +1,8 @@
-ghost use Rattle.std.specs.Prelude.{◌≡◌, ◌<◌, ◌≤◌, IfOk, IfSome, IsErr, IsTrue, OnOk, length};
+ghost use Rattle.std.specs.Prelude.{◌≡◌, ◌<◌, IfOk, IfSome, IsErr, IsTrue, OnOk, length};
 ghost use Rattle.std.specs.Option.{ForSome};
 ghost use Rattle.bb_base.specs.Faults.{HasCause};
-ghost use Rattle.bb_flash.specs.Cuts.{IsLater};
-ghost use Rattle.bb_flash.specs.Device.{IsDevice, ReadKeeps, content};
-ghost use Rattle.bb_bucket.specs.Calls.{told_but_reads};
+ghost use Rattle.bb_flash.specs.Device.{IsDevice, content};
+ghost use Rattle.bb_bucket.specs.Calls.{IsQuiet};
 ghost use Rattle.bb_copies.specs.Buckets.{AllAgree, AllFit, AllServe, kinds_of};
 ghost use Rattle.bb_copies.specs.Loading.{LookGives};
 ghost use Rattle.bb_copies.specs.Looking.{FindsBelow, IsReadAt, area_by, good_by, used_by};
@@ -15,6 +14,7 @@ use bb_base::{Failed, Format};
 use bb_bucket::Bucket;
 use bb_flash::Flash;
 
+#[tactic(auto, using(bb_bucket::proofs::Quiet::quiet_same))]
 /// Reads all copies. `area` is then that of the first that passes, whose number is the answer;
 /// those that pass it too, and have no Worn page, are marked. Where none passes `area` is as
 /// before. Nothing changes on the device.
@@ -41,10 +41,7 @@ pub(crate) fn look_over<B: Bucket, M: Format, F: Flash>(
     ensures inside { IfOk result (λ used. IfSome used (λ copy. copy < length buckets.old.items)) }
     ensures fits { IfOk result (λ used. IfSome used (λ _. IsTrue
         ((M.form format.now).fits area.new))) }
-    ensures keeps { ReadKeeps (F.device flash.old) (F.device flash.new) }
-    ensures told { told_but_reads (F.device flash.new) ≡ told_but_reads (F.device flash.old) }
-    ensures later { IsLater (F.device flash.old) (F.device flash.new) }
-    ensures whole { IsDevice (F.device flash.new) }
+    ensures quiet { IsQuiet (F.device flash.old) (F.device flash.new) }
     ensures faults { HasCause (F.device flash.old).faults (F.device flash.new).faults
         (IsErr result) }
     ensures read_faults { HasCause (F.device flash.old).read_faults (F.device flash.new).read_faults
@@ -74,6 +71,7 @@ pub(crate) fn look_over<B: Bucket, M: Format, F: Flash>(
     Ok(used)
 }
 
+#[tactic(auto, using(bb_bucket::proofs::Quiet::quiet_same))]
 /// Reads the copies in their order up to the first that passes, and leaves its area in `area`. The
 /// answer is whether there is one. Nothing changes on the device.
 pub(crate) fn find_first<B: Bucket, M: Format, F: Flash>(
@@ -91,10 +89,7 @@ pub(crate) fn find_first<B: Bucket, M: Format, F: Flash>(
     requires area { length area.old ≡ (M.form format.now).area_len }
     ensures gives { IfOk result (LookGives (M.form format.now)
         (kinds_of B.holding buckets.old.items) area.new (F.device flash.old)) }
-    ensures keeps { ReadKeeps (F.device flash.old) (F.device flash.new) }
-    ensures told { told_but_reads (F.device flash.new) ≡ told_but_reads (F.device flash.old) }
-    ensures later { IsLater (F.device flash.old) (F.device flash.new) }
-    ensures whole { IsDevice (F.device flash.new) }
+    ensures quiet { IsQuiet (F.device flash.old) (F.device flash.new) }
     ensures faults { HasCause (F.device flash.old).faults (F.device flash.new).faults
         (IsErr result) }
     ensures read_faults { HasCause (F.device flash.old).read_faults (F.device flash.new).read_faults
@@ -137,10 +132,7 @@ fn read_at<B: Bucket, M: Format, F: Flash>(
         copy image area.new passed)) }
     ensures fits { IfOk result (λ passed.
         IfSome passed (λ _. IsTrue ((M.form format.now).fits area.new))) }
-    ensures keeps { ReadKeeps (F.device flash.old) (F.device flash.new) }
-    ensures told { told_but_reads (F.device flash.new) ≡ told_but_reads (F.device flash.old) }
-    ensures later { IsLater (F.device flash.old) (F.device flash.new) }
-    ensures whole { IsDevice (F.device flash.new) }
+    ensures quiet { IsQuiet (F.device flash.old) (F.device flash.new) }
     ensures faults { HasCause (F.device flash.old).faults (F.device flash.new).faults
         (IsErr result) }
     ensures read_faults { HasCause (F.device flash.old).read_faults (F.device flash.new).read_faults

@@ -1,10 +1,8 @@
 ghost use Rattle.std.specs.Prelude.{◌≡◌, ◌≤◌, IfOk, IfSome, IsErr, IsTrue, OnOk, length};
-ghost use Rattle.std.specs.Prelude.{option_map};
 ghost use Rattle.std.specs.Option.{ForSome};
 ghost use Rattle.bb_base.specs.Faults.{HasCause};
-ghost use Rattle.bb_flash.specs.Cuts.{IsLater};
-ghost use Rattle.bb_flash.specs.Device.{IsDevice, ReadKeeps, content};
-ghost use Rattle.bb_bucket.specs.Calls.{Agrees, told_but_reads};
+ghost use Rattle.bb_flash.specs.Device.{content};
+ghost use Rattle.bb_bucket.specs.Calls.{Agrees, IsQuiet};
 ghost use Rattle.bb_copies.specs.Passing.{IsReading};
 
 use bb_base::{Failed, Format};
@@ -36,17 +34,14 @@ pub(crate) fn read_copy<B: Bucket, M: Format, F: Flash>(
         image area.new passed)) }
     ensures fits { IfOk result (λ passed. IfSome passed (λ _. IsTrue
         ((M.form format.now).fits area.new))) }
-    ensures keeps { ReadKeeps (F.device flash.old) (F.device flash.new) }
-    ensures told { told_but_reads (F.device flash.new) ≡ told_but_reads (F.device flash.old) }
-    ensures later { IsLater (F.device flash.old) (F.device flash.new) }
-    ensures whole { IsDevice (F.device flash.new) }
+    ensures quiet { IsQuiet (F.device flash.old) (F.device flash.new) }
     ensures faults { HasCause (F.device flash.old).faults (F.device flash.new).faults
         (IsErr result) }
     ensures read_faults { HasCause (F.device flash.old).read_faults (F.device flash.new).read_faults
         (IsErr result) }
     ensures kind { (B.holding bucket.new).kind ≡ (B.holding bucket.old).kind }
     ensures agrees { Agrees (B.holding bucket.new) (F.device flash.new) }
-    ensures placed { OnOk result (IsTrue (B.holding bucket.new).placed) }
+    ensures placed { OnOk result (IsTrue (B.holding bucket.new).knows_place) }
 {
     let room = bucket.room() as usize;
     let found = &mut found[..room];

@@ -49,8 +49,8 @@ pub(crate) fn settle<B: Bucket, M: Format, F: Flash>(
         (F.device flash.new) }
     ensures kind { (B.holding bucket.new).kind ≡ (B.holding bucket.old).kind }
     ensures agrees { Agrees (B.holding bucket.new) (F.device flash.new) }
-    ensures placed { result ≢ Stuck → IsTrue (B.holding bucket.new).placed }
-    ensures reads { IsTrue (B.holding bucket.old).placed
+    ensures placed { result ≢ Stuck → IsTrue (B.holding bucket.new).knows_place }
+    ensures reads { IsTrue (B.holding bucket.old).knows_place
         → ReadsNothing (F.device flash.old) (F.device flash.new) }
     ensures record { room.new.record.items ≡ room.old.record.items }
     ensures found { length room.new.found.items ≡ length room.old.found.items }
@@ -83,7 +83,7 @@ fn read_back<B: Bucket, M: Format, F: Flash>(
         (F.device flash.old) (F.device flash.new) }
     ensures kind { (B.holding bucket.new).kind ≡ (B.holding bucket.old).kind }
     ensures agrees { Agrees (B.holding bucket.new) (F.device flash.new) }
-    ensures placed { result ≢ Stuck → IsTrue (B.holding bucket.new).placed }
+    ensures placed { result ≢ Stuck → IsTrue (B.holding bucket.new).knows_place }
     ensures record { room.new.record.items ≡ room.old.record.items }
     ensures found { length room.new.found.items ≡ length room.old.found.items }
     ensures scratch { length room.new.area.items ≡ length room.old.area.items }

@@ -53,6 +53,6 @@ fn says(
         status,
         "{sends}"
     );
-    assert_eq!(rt; out.sent(), sends.as_bytes());
+    assert_eq!(rt; out.sent_bytes(), sends.as_bytes());
     Ok(())
 }

@@ -8,64 +8,82 @@ use Rattle.std.proofs.lemmas.Bool.{false≢true}
 use Rattle.std.proofs.lemmas.Bool.Decides.{nat_tests}
 use Rattle.std.proofs.lemmas.Str.{IsUtf8-from_is_utf8, is_utf8-from_IsUtf8, IsUtf8-from_ascii}
 use Rattle.std.proofs.lemmas.Str.Ascii.{IsAscii-nil, IsAscii-cons}
-use Rattle.bb_tree.specs.Draft.{Drafted, nothing_drafted}
+use Rattle.bb_tree.specs.Draft.{DraftValue, empty_draft}
 use Rattle.bb_dts.specs.declared.error.DtsError.{DtsError}
 use Rattle.bb_dts.specs.declared.error.DtsError.TheVariants as refusal
 use Rattle.bb_dts.specs.declared.label.Level.TheVariants.{AtHead}
-use Rattle.bb_dts.specs.Descent.{Onward, from, refused, labels_from, spoken}
-use Rattle.bb_dts.specs.Outermost.{concluded, outer_from}
+use Rattle.bb_dts.specs.Descent.{Onward, walk_from, refusal_walk, labels_walk_from, unless_memory}
+use Rattle.bb_dts.specs.Outermost.{outcome_of, outcome_from_labels}
 use Rattle.bb_dts.specs.Source.{source_of, tree_of}
-use Rattle.bb_dts.specs.Walk.{Walked, root, start, walk, walked}
+use Rattle.bb_dts.specs.Walk.{WalkResult, root, start, walk, walk_of}
 
-tree_of-concluded : (total : ℕ) (w : Walked) → tree_of total w ≡ concluded total nothing_drafted.tree nothing_drafted.reserved w
-tree_of-concluded total (Ok s) = refl
-tree_of-concluded total (Err e) = refl
+tree_of-outcome_of : (total : ℕ) (w : WalkResult)
+    → tree_of total w ≡ outcome_of total empty_draft.tree empty_draft.reserved w
+tree_of-outcome_of total (Ok s) = refl
+tree_of-outcome_of total (Err e) = refl
 
-walked-from : (text : List ℕ) → walked text ≡ from (length text) start text []
-unfolding from
-walked-from text = refl
+walk_of-walk_from : (text : List ℕ) → walk_of text ≡ walk_from (length text) start text []
+unfolding walk_from
+walk_of-walk_from text = refl
 
-tree_of-walked : (text : List ℕ) → tree_of (length text) (walked text) ≡ concluded (length text) nothing_drafted.tree nothing_drafted.reserved (from (length text) start text [])
-tree_of-walked text = tree_of-concluded (length text) (walked text) ∙ ap (concluded (length text) nothing_drafted.tree nothing_drafted.reserved) (walked-from text)
+tree_of-walk_of : (text : List ℕ)
+    → tree_of (length text) (walk_of text)
+    ≡ outcome_of (length text) empty_draft.tree empty_draft.reserved
+    (walk_from (length text) start text [])
+tree_of-walk_of text = tree_of-outcome_of (length text) (walk_of text)
+    ∙ ap (outcome_of (length text) empty_draft.tree empty_draft.reserved) (walk_of-walk_from text)
 
 -- a refusal before the outermost level
-pub start_refused : (total : ℕ) (text : List ℕ) (e : DtsError) → total ≡ length text → from total start text ≡ refused e → tree_of (length text) (walked text) ≡ Err e
-unfolding refused
+pub start_refused : (total : ℕ) (text : List ℕ) (e : DtsError) → total ≡ length text
+    → walk_from total start text ≡ refusal_walk e → tree_of (length text) (walk_of text) ≡ Err e
+unfolding refusal_walk
 start_refused total text e whole refuses =
-    let here : from (length text) start text ≡ refused e = cc in
-    tree_of-walked text ∙ ap (λ (w : Onward). concluded (length text) nothing_drafted.tree nothing_drafted.reserved (w [])) here
+    let here : walk_from (length text) start text ≡ refusal_walk e = cc in
+    tree_of-walk_of text
+    ∙ ap (λ (w : Onward). outcome_of (length text) empty_draft.tree empty_draft.reserved (w []))
+    here
 
 -- the source of a text is what its outermost level comes to
-pub start_read : (total : ℕ) (text rest : List ℕ) (draft : Drafted) → total ≡ length text → draft ≡ nothing_drafted → from total start text ≡ labels_from total AtHead [] rest [] root → tree_of (length text) (walked text) ≡ outer_from total AtHead draft rest
+pub start_read : (total : ℕ) (text rest : List ℕ) (draft : DraftValue) → total ≡ length text
+    → draft ≡ empty_draft
+    → walk_from total start text ≡ labels_walk_from total AtHead [] rest [] root
+    → tree_of (length text) (walk_of text) ≡ outcome_from_labels total AtHead draft rest
 start_read total text rest draft whole none reads =
-    rw (whole, none) (tree_of-walked text ∙ ap (λ (w : Onward). concluded (length text) nothing_drafted.tree nothing_drafted.reserved (w [])) (rw whole at reads))
+    rw (whole, none) (tree_of-walk_of text
+    ∙ ap (λ (w : Onward). outcome_of (length text) empty_draft.tree empty_draft.reserved (w []))
+    (rw whole at reads))
 
 -- a refusal that isn't one of memory is the text's
-pub spoken-told : {A : Type 0} (e : DtsError) (walk walk' : A) → (e ≡ refusal.NoMemory → ⊥) → spoken e walk ≡ spoken e walk' → walk ≡ walk'
-spoken-told (refusal.NotText at) walk walk' told same = cc
-spoken-told (refusal.BadToken at) walk walk' told same = cc
-spoken-told (refusal.Unexpected at) walk walk' told same = cc
-spoken-told (refusal.NumberTooLarge at) walk walk' told same = cc
-spoken-told (refusal.LeftOut at) walk walk' told same = cc
-spoken-told (refusal.TooDeep at) walk walk' told same = cc
-spoken-told (refusal.DuplicateLabel at) walk walk' told same = cc
-spoken-told (refusal.DuplicatePhandle at) walk walk' told same = cc
-spoken-told (refusal.NoSuchLabel at) walk walk' told same = cc
-spoken-told refusal.NoMemory walk walk' told same = absurd (told refl)
+pub unless_memory-told : {A : Type 0} (e : DtsError) (walk walk' : A) → (e ≡ refusal.NoMemory → ⊥)
+    → unless_memory e walk ≡ unless_memory e walk' → walk ≡ walk'
+unless_memory-told (refusal.NotText at) walk walk' told same = cc
+unless_memory-told (refusal.BadToken at) walk walk' told same = cc
+unless_memory-told (refusal.Unexpected at) walk walk' told same = cc
+unless_memory-told (refusal.NumberTooLarge at) walk walk' told same = cc
+unless_memory-told (refusal.LeftOut at) walk walk' told same = cc
+unless_memory-told (refusal.TooDeep at) walk walk' told same = cc
+unless_memory-told (refusal.DuplicateLabel at) walk walk' told same = cc
+unless_memory-told (refusal.DuplicatePhandle at) walk walk' told same = cc
+unless_memory-told (refusal.NoSuchLabel at) walk walk' told same = cc
+unless_memory-told refusal.NoMemory walk walk' told same = absurd (told refl)
 
-pub source_of-text : (text : List ℕ) → IsUtf8 text → source_of text ≡ tree_of (length text) (walked text)
+pub source_of-text : (text : List ℕ) → IsUtf8 text
+    → source_of text ≡ tree_of (length text) (walk_of text)
 unfolding source_of
 source_of-text text is = rw (is_utf8-from_IsUtf8 text is) refl
 
-not_utf8 : (text : List ℕ) → (IsUtf8 text → ⊥) → (b : Bool) → is_utf8 text ≡ b → is_utf8 text ≡ false
+not_utf8 : (text : List ℕ) → (IsUtf8 text → ⊥) → (b : Bool) → is_utf8 text ≡ b
+    → is_utf8 text ≡ false
 not_utf8 text none true is = absurd (none (IsUtf8-from_is_utf8 text is))
 not_utf8 text none false is = is
 
-pub source_of-no_text : (text : List ℕ) → (IsUtf8 text → ⊥) → source_of text ≡ Err (refusal.NotText (utf8_valid_len text))
+pub source_of-no_text : (text : List ℕ) → (IsUtf8 text → ⊥)
+    → source_of text ≡ Err (refusal.NotText (utf8_valid_len text))
 unfolding source_of
 source_of-no_text text none = rw (not_utf8 text none (is_utf8 text) refl) refl
 
-ascii-here : (c : ℕ) (cs : List ℕ) → (list_all is_ascii cs ≡ true → IsAscii cs) → (b : Bool) → is_ascii c ≡ b → (b && list_all is_ascii cs) ≡ true → IsAscii (c ∷ cs)
+ascii-here : (c : ℕ) (cs : List ℕ) → (list_all is_ascii cs ≡ true → IsAscii cs) → (b : Bool)
+    → is_ascii c ≡ b → (b && list_all is_ascii cs) ≡ true → IsAscii (c ∷ cs)
 ascii-here c cs behind true is all = IsAscii-cons c cs (grind (arith, nat_tests)) (behind all)
 ascii-here c cs behind false is all = absurd (false≢true all)
 
@@ -74,5 +92,6 @@ all_ascii [] all = IsAscii-nil
 all_ascii (c ∷ cs) all = ascii-here c cs (all_ascii cs) (is_ascii c) refl all
 
 -- the source of a text in ASCII
-pub source_of-ascii : (text : List ℕ) → list_all is_ascii text ≡ true → source_of text ≡ tree_of (length text) (walked text)
+pub source_of-ascii : (text : List ℕ) → list_all is_ascii text ≡ true
+    → source_of text ≡ tree_of (length text) (walk_of text)
 source_of-ascii text all = source_of-text text (IsUtf8-from_ascii text (all_ascii text all))

@@ -1,9 +1,9 @@
 -- The places of a source's grammar, and the tokens that may come at each.
 use Rattle.std.specs.Prelude.{Option, Some, None}
-use Rattle.bb_dts.specs.declared.kind.Kind.{Kind}
-use Rattle.bb_dts.specs.declared.kind.Kind.TheVariants.{DtsV1, Memreserve, Slash, OpenBrace, CloseBrace, Semicolon, Equals, Less, Greater, OpenBracket, CloseBracket, Comma, Quoted, Reference, Label, Name, Number, Byte, End}
-use Rattle.bb_dts.specs.declared.kind.Mode.{Mode}
-use Rattle.bb_dts.specs.declared.kind.Mode.TheVariants.{Directives, Names, Values, Numbers, Pairs}
+use Rattle.bb_dts.specs.declared.token_kind.TokenKind.{TokenKind}
+use Rattle.bb_dts.specs.declared.token_kind.TokenKind.TheVariants.{DtsV1, Memreserve, Slash, OpenBrace, CloseBrace, Semicolon, Equals, Less, Greater, OpenBracket, CloseBracket, Comma, Quoted, Reference, Label, Name, Number, Byte, End}
+use Rattle.bb_dts.specs.declared.token_kind.Mode.{Mode}
+use Rattle.bb_dts.specs.declared.token_kind.Mode.TheVariants.{Directives, Names, Values, Numbers, Pairs}
 
 -- what was read last, or what comes next. A body is what stands between a node's `{` and `}`
 pub data Place : Type 0 where
@@ -11,9 +11,9 @@ pub data Place : Type 0 where
   Props PropsLabel PropName Value Cells Bytes After : Place
   Close TopClose Nodes NodesLabel NodeName : Place
 
--- The table of places: a place, a token that may come there, and the place behind it. The walk begins at Start.
--- Any other token is refused, as is the end of the text anywhere but at Top.
-abbrev pub follows : Place → Kind → Option Place
+-- The table of places: a place, a token that may come there, and the place behind it. The walk
+-- begins at Start. Any other token is refused, as is the end of the text anywhere but at Top.
+abbrev pub follows : Place → TokenKind → Option Place
 follows Start DtsV1 = Some Version
 follows Version Semicolon = Some Head
 follows Head Label = Some Head
@@ -61,8 +61,8 @@ follows NodesLabel Name = Some NodeName
 follows NodeName OpenBrace = Some Props
 follows _ _ = None
 
--- how words are read at a place: with the lines of C's preprocessor left out where a property or a node may begin and
--- where no body is open
+-- how words are read at a place: with the lines of C's preprocessor left out where a property or a
+-- node may begin and where no body is open
 abbrev pub mode_of : Place → Mode
 mode_of Start = Directives
 mode_of Version = Directives

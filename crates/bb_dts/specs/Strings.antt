@@ -5,7 +5,8 @@ use Rattle.std.specs.List.{prefix_len}
 use Rattle.bb_dts.specs.Characters.{is_octal, is_hexadecimal}
 use Rattle.bb_dts.specs.Numbers.{numeral_value}
 
--- the byte that a letter stands for behind a `\`: `\a \b \t \n \v \f \r`, and any other character itself
+-- the byte that a letter stands for behind a `\`: `\a \b \t \n \v \f \r`, and any other character
+-- itself
 abbrev pub named_escape : ℕ → ℕ
 named_escape c =
     if c == 97 then 7 else (
@@ -28,28 +29,36 @@ octal_len text = prefix_len is_octal (take 3 text)
 abbrev pub hexadecimal_len : List ℕ → ℕ
 hexadecimal_len text = prefix_len is_hexadecimal (take 2 text)
 
--- the byte that an escape gives, and how many characters it has behind its `\`; or no escape stands there
+-- the byte of an escape, and how many characters stand behind its `\`, where there is such a byte
+abbrev pub escape_with : ℕ → Option ℕ → Option (ℕ × ℕ)
+escape_with len value = option_map (λ byte. (byte, len)) (byte_of value)
+
+-- the byte that an escape gives, and how many characters it has behind its `\`; or no escape stands
+-- there
 unfoldable pub escape_of : List ℕ → Option (ℕ × ℕ)
 escape_of [] = None
 escape_of (c ∷ cs) =
     let octal = octal_len (c ∷ cs) in
     let hexadecimal = hexadecimal_len cs in
-    if nat_lt 0 octal then option_map (λ byte. (byte, octal)) (byte_of (numeral_value 8 (take octal (c ∷ cs)))) else (
-    if c == 120 then option_map (λ byte. (byte, hexadecimal + 1)) (byte_of (numeral_value 16 (take hexadecimal cs)))
+    if nat_lt 0 octal then escape_with octal (numeral_value 8 (take octal (c ∷ cs))) else (
+    if c == 120 then escape_with (hexadecimal + 1) (numeral_value 16 (take hexadecimal cs))
     else Some (named_escape c, 1))
 
--- how many bytes stand before the `"` that ends a string, where an escape stands behind each `\`. The first is behind
--- a `\` where `escaped`
+-- how many bytes stand before the `"` that ends a string, where an escape stands behind each `\`.
+-- The first is behind a `\` where `escaped`
 unfoldable pub string_len : Bool → List ℕ → Option ℕ
 string_len escaped [] = None
-string_len true (c ∷ cs) = option_and_then (λ _. option_map (λ n. n + 1) (string_len false cs)) (escape_of (c ∷ cs))
-string_len false (c ∷ cs) = if c == 34 then Some 0 else option_map (λ n. n + 1) (string_len (c == 92) cs)
+string_len true (c ∷ cs) =
+    option_and_then (λ _. option_map (λ n. n + 1) (string_len false cs)) (escape_of (c ∷ cs))
+string_len false (c ∷ cs) =
+    if c == 34 then Some 0 else option_map (λ n. n + 1) (string_len (c == 92) cs)
 
--- the bytes of a string from the text between its quotes; the first `skip` belong to an escape that is read
-unfoldable pub unescaped : ℕ → List ℕ → List ℕ
-unescaped skip [] = []
-unescaped (suc skip) (c ∷ cs) = unescaped skip cs
-unescaped zero (c ∷ cs) =
+-- the bytes of a string from the text between its quotes; the first `skip` belong to an escape that
+-- is read
+unfoldable pub quoted_bytes : ℕ → List ℕ → List ℕ
+quoted_bytes skip [] = []
+quoted_bytes (suc skip) (c ∷ cs) = quoted_bytes skip cs
+quoted_bytes zero (c ∷ cs) =
     if c == 92
-    then option_map_or (λ e. e.0 ∷ unescaped e.1 cs) (escape_of cs) []
-    else c ∷ unescaped 0 cs
+    then option_map_or (λ e. e.0 ∷ quoted_bytes e.1 cs) (escape_of cs) []
+    else c ∷ quoted_bytes 0 cs

@@ -1,24 +1,21 @@
-ghost use Rattle.std.specs.Prelude.{◌≡◌, ◌≤◌, ◌<◌, ◌+◌, ◌++◌, ◌∷◌, [], false, IfOk, IfErr, OnOk, length};
+ghost use Rattle.std.specs.Prelude.{◌≡◌, ◌≤◌, ◌<◌, ◌+◌, IfOk, IfErr, OnOk, length};
 ghost use Rattle.std.specs.Str.{IsAscii};
-ghost use Rattle.std.specs.String.{string_bytes};
-ghost use Rattle.bb_dts.specs.Walk.{body_at, label_all};
-ghost use Rattle.bb_dts.specs.Descent.{labels_from, item_behind, named_from, entered, left, refused, body_of, items_at, count_of, spoken};
-ghost use Rattle.bb_dts.specs.declared.label.Level.TheVariants.{AtProps, AtNodes};
+ghost use Rattle.bb_tree.specs.Depth.{depth_limit};
+ghost use Rattle.bb_dts.specs.Descent.{count_of, items_at, RefusesWalk};
+ghost use Rattle.bb_dts.specs.declared.content.Item.TheVariants.{IsNode};
 
 use crate::DtsError;
 use crate::content::{Content, Item};
-use crate::kind::{Kind, Mode};
 use crate::label::{Level, Waiting, read_labels};
 use crate::next_token::next_token;
 use crate::reader::Reader;
+use crate::token_kind::{Mode, TokenKind};
 use crate::value::{empty_prop, read_property};
 use crate::word::word_text;
-
-/// The level of the deepest nodes, where the root's is 1.
-const DEEPEST: usize = 32;
+use bb_tree::DEPTH_LIMIT;
 
 impl Reader {
-    ghost use Rattle.bb_dts.specs.Readers.{LabelsOnly};
+    ghost use Rattle.bb_dts.specs.Readers.{AddsFewNodes, LabelsOnly, body_walk, items_walk, name_walk, node_walk, walk_after_body_read, walk_after_item_read};
 
     /// Reads the body of the node at this level, behind its `{`, with its `}`.
     #[cycle(body)]
@@ -28,12 +25,12 @@ impl Reader {
         text: &'a [u8],
     ) -> Result<(Content, &'a [u8]), DtsError>
         requires within { length text.now ≤ self.old.input.total }
-        requires shallow { level ≤ 32 }
-        ensures ok { IfOk result (λ r. labels_from self.old.input.total AtProps [] text.now self.old.draft.labels (body_at (string_bytes self.old.path) level)
-            ≡ left self.old.input.total self.new.draft.labels (body_of (string_bytes self.old.path) level r.0) r.1.now) }
+        requires shallow { level ≤ depth_limit }
+        ensures ok { IfOk result (λ r. body_walk self.old level text.now
+            ≡ walk_after_body_read self.old self.new level r.0 r.1.now) }
         ensures kept { OnOk result (LabelsOnly self.old self.new) }
         ensures counted { IfOk result (λ r. count_of r.0 + length r.1.now ≤ length text.now) }
-        ensures refused { IfErr result (λ e. spoken e (labels_from self.old.input.total AtProps [] text.now self.old.draft.labels (body_at (string_bytes self.old.path) level)) ≡ spoken e (refused e)) }
+        ensures refused { IfErr result (RefusesWalk (body_walk self.old level text.now)) }
         ensures shorter { IfOk result (λ r. length r.1.now < length text.now) }
     {
         let mut content = Content::none(self.input.alloc);
@@ -60,18 +57,20 @@ impl Reader {
         text: &'a [u8],
     ) -> Result<(Item, &'a [u8]), DtsError>
         requires within { length text.now ≤ self.old.input.total }
-        requires shallow { level ≤ 32 }
-        ensures ok { IfOk result (λ r. labels_from self.old.input.total (items_at has_nodes) [] text.now self.old.draft.labels (body_of (string_bytes self.old.path) level content.old)
-            ≡ item_behind self.old.input.total r.0 self.new.draft.labels (body_of (string_bytes self.old.path) level content.new) r.1.now) }
+        requires shallow { level ≤ depth_limit }
+        ensures ok { IfOk result (λ r. items_walk self.old level has_nodes content.old text.now
+            ≡ walk_after_item_read self.old self.new level content.new r.0 r.1.now) }
         ensures kept { OnOk result (LabelsOnly self.old self.new) }
-        ensures counted { IfOk result (λ r. count_of content.new + length r.1.now ≤ count_of content.old + length text.now) }
-        ensures refused { IfErr result (λ e. spoken e (labels_from self.old.input.total (items_at has_nodes) [] text.now self.old.draft.labels (body_of (string_bytes self.old.path) level content.old)) ≡ spoken e (refused e)) }
+        ensures counted { IfOk result
+            (λ r. AddsFewNodes content.old content.new (length text.now) (length r.1.now)) }
+        ensures refused { IfErr result
+            (RefusesWalk (items_walk self.old level has_nodes content.old text.now)) }
         ensures shorter { IfOk result (λ r. length r.1.now < length text.now) }
     {
         let (waiting, token) = read_labels(self.input, items_at(has_nodes), text)?;
         match token.kind {
-            Kind::CloseBrace if waiting.is_empty() => Ok((Item::IsEnd, token.rest)),
-            Kind::Name => {
+            TokenKind::CloseBrace if waiting.is_empty() => Ok((Item::IsEnd, token.rest)),
+            TokenKind::Name => {
                 self.read_named(level, has_nodes, content, &waiting, token.word, token.rest)
             }
             _ => Err(DtsError::Unexpected(token.at)),
@@ -80,7 +79,7 @@ impl Reader {
 
     // Reads what follows the name of a property or a node.
     #[cycle(body)]
-    #[tactic(auto, using(crate::proofs::BodyLemmas::named_step, crate::proofs::BodyLemmas::prop_read_at))]
+    #[tactic(auto, using(crate::proofs::BodyLemmas::named_step, crate::proofs::BodyLemmas::walk_after_prop_at))]
     fn read_named<'a>(
         &mut self,
         level: usize,
@@ -91,27 +90,30 @@ impl Reader {
         text: &'a [u8],
     ) -> Result<(Item, &'a [u8]), DtsError>
         requires within { length text.now ≤ self.old.input.total }
-        requires shallow { level ≤ 32 }
+        requires shallow { level ≤ depth_limit }
         requires plain { IsAscii name.now }
-        ensures ok { IfOk result (λ r. named_from self.old.input.total has_nodes waiting.now.items name.now text.now self.old.draft.labels (body_of (string_bytes self.old.path) level content.old)
-            ≡ item_behind self.old.input.total r.0 self.new.draft.labels (body_of (string_bytes self.old.path) level content.new) r.1.now) }
+        ensures ok { IfOk result (λ r.
+            name_walk self.old level has_nodes content.old waiting.now.items name.now text.now
+            ≡ walk_after_item_read self.old self.new level content.new r.0 r.1.now) }
         ensures kept { OnOk result (LabelsOnly self.old self.new) }
-        ensures counted { IfOk result (λ r. count_of content.new + length r.1.now ≤ count_of content.old + length text.now) }
-        ensures refused { IfErr result (λ e. spoken e (named_from self.old.input.total has_nodes waiting.now.items name.now text.now self.old.draft.labels (body_of (string_bytes self.old.path) level content.old)) ≡ spoken e (refused e)) }
+        ensures counted { IfOk result
+            (λ r. AddsFewNodes content.old content.new (length text.now) (length r.1.now)) }
+        ensures refused { IfErr result (RefusesWalk
+            (name_walk self.old level has_nodes content.old waiting.now.items name.now text.now)) }
         ensures shorter { IfOk result (λ r. length r.1.now < length text.now) }
     {
         let token = next_token(Mode::Names, self.input.total, text)?;
         match token.kind {
-            Kind::OpenBrace => {
+            TokenKind::OpenBrace => {
                 let rest = self.read_node(level, content, waiting, name, token.at, token.rest)?;
                 Ok((Item::IsNode, rest))
             }
-            Kind::Equals if !has_nodes => {
+            TokenKind::Equals if !has_nodes => {
                 let (prop, rest) = read_property(self.input, name, token.rest)?;
                 content.props.push(prop)?;
                 Ok((Item::IsProp, rest))
             }
-            Kind::Semicolon if !has_nodes => {
+            TokenKind::Semicolon if !has_nodes => {
                 content.props.push(empty_prop(self.input.alloc, name)?)?;
                 Ok((Item::IsProp, token.rest))
             }
@@ -121,7 +123,7 @@ impl Reader {
 
     // Reads the body of a node inside another one, behind its `{`, and its `;`.
     #[cycle(body)]
-    #[tactic(auto, using(crate::proofs::BodyLemmas::close_step, crate::proofs::BodyLemmas::within_left, crate::proofs::BodyLemmas::within_refused, crate::proofs::BodyLemmas::within_spoken))]
+    #[tactic(auto, using(crate::proofs::BodyLemmas::close_step, crate::proofs::BodyLemmas::inside_after_body, crate::proofs::BodyLemmas::inside_refusal_walk, crate::proofs::BodyLemmas::inside_unless_memory))]
     fn read_node<'a>(
         &mut self,
         level: usize,
@@ -132,24 +134,21 @@ impl Reader {
         text: &'a [u8],
     ) -> Result<&'a [u8], DtsError>
         requires within { length text.now ≤ self.old.input.total }
-        requires shallow { level ≤ 32 }
+        requires shallow { level ≤ depth_limit }
         requires plain { IsAscii name.now }
         ensures ok { IfOk result (λ rest.
-            entered self.old.input.total (record { body = body_of (string_bytes self.old.path) level content.old; name = name.now })
-            (body_at (string_bytes self.old.path ++ 47 ∷ name.now) (level + 1)) at text.now
-            (label_all (string_bytes self.old.path ++ 47 ∷ name.now) waiting.now.items self.old.draft.labels)
-            ≡ labels_from self.old.input.total AtNodes [] rest.now self.new.draft.labels (body_of (string_bytes self.old.path) level content.new)) }
+            node_walk self.old level content.old waiting.now.items name.now at text.now
+            ≡ walk_after_item_read self.old self.new level content.new IsNode rest.now) }
         ensures kept { OnOk result (LabelsOnly self.old self.new) }
-        ensures counted { IfOk result (λ rest. count_of content.new + length rest.now ≤ count_of content.old + length text.now) }
-        ensures refused { IfErr result (λ e. spoken e (
-            entered self.old.input.total (record { body = body_of (string_bytes self.old.path) level content.old; name = name.now })
-            (body_at (string_bytes self.old.path ++ 47 ∷ name.now) (level + 1)) at text.now
-            (label_all (string_bytes self.old.path ++ 47 ∷ name.now) waiting.now.items self.old.draft.labels)) ≡ spoken e (refused e)) }
+        ensures counted { IfOk result
+            (λ rest. AddsFewNodes content.old content.new (length text.now) (length rest.now)) }
+        ensures refused { IfErr result (RefusesWalk
+            (node_walk self.old level content.old waiting.now.items name.now at text.now)) }
         ensures shorter { IfOk result (λ rest. length rest.now < length text.now) }
     {
         let len = self.path.len();
         self.enter(waiting, name)?;
-        if level == DEEPEST {
+        if level == DEPTH_LIMIT {
             return Err(DtsError::TooDeep(at));
         }
         let (child, rest) = self.read_body(level + 1, text)?;
@@ -158,7 +157,7 @@ impl Reader {
         content.add_node(name, child)?;
         let end = next_token(Mode::Names, self.input.total, rest)?;
         match end.kind {
-            Kind::Semicolon => Ok(end.rest),
+            TokenKind::Semicolon => Ok(end.rest),
             _ => Err(DtsError::Unexpected(end.at)),
         }
     }

@@ -10,10 +10,9 @@ pub(crate) struct Content {
 }
 
 impl Content {
-    ghost use Rattle.std.specs.Prelude.{◌≡◌, ◌++◌, ◌∷◌, [], OnOk, map};
+    ghost use Rattle.std.specs.Prelude.{◌≡◌, ◌++◌, ◌∷◌, [], OnOk};
     ghost use Rattle.bb_tree.specs.DraftViews.{drafts_of};
-    ghost use Rattle.bb_tree.specs.Node.{forest};
-    ghost use Rattle.bb_dts.specs.Descent.{count_of};
+    ghost use Rattle.bb_dts.specs.Descent.{count_of, node_of_content};
 
     pub(crate) fn none(alloc: Global) -> Content
         ensures props { result.props ≡ [] }
@@ -28,8 +27,8 @@ impl Content {
 
     /// Adds a node with this content.
     pub(crate) fn add_node(&mut self, name: Text, content: Content) -> Result<(), NoMemory>
-        ensures nodes { OnOk result (drafts_of self.new.nodes ≡ drafts_of self.old.nodes
-            ++ record { name = name; props = map (λ p. (p.name, p.parts)) content.props; nodes = forest (drafts_of content.nodes) } ∷ []) }
+        ensures nodes { OnOk result (drafts_of self.new.nodes
+            ≡ drafts_of self.old.nodes ++ node_of_content name content ∷ []) }
         ensures props { OnOk result (self.new.props ≡ self.old.props) }
     {
         let Content { props, nodes } = content;

@@ -1,14 +1,14 @@
 ghost use Rattle.std.specs.Prelude.{◌≡◌, ◌≢◌, ◌<◌, ◌≤◌, ◌++◌, ◌∷◌, IfOk, IfErr, OnOk, length, []};
 ghost use Rattle.std.specs.Str.{IsAscii};
-ghost use Rattle.bb_dts.specs.declared.kind.Kind.TheVariants.{End, Label};
-ghost use Rattle.bb_dts.specs.Descent.{labels_from, labels_at, labels_refused, place_at, spoken};
+ghost use Rattle.bb_dts.specs.declared.token_kind.TokenKind.TheVariants.{End, Label};
+ghost use Rattle.bb_dts.specs.Descent.{labels_walk_from, labels_walk_at, place_at, RefusesLabels};
 ghost use Rattle.bb_dts.specs.Places.{mode_of};
-ghost use Rattle.bb_dts.specs.Tokens.{IsPlainWord};
+ghost use Rattle.bb_dts.specs.Tokens.{token_seen, IsPlainWord};
 
 use crate::DtsError;
 use crate::input::Input;
-use crate::kind::{Kind, Mode};
 use crate::next_token::{Token, next_token};
+use crate::token_kind::{Mode, TokenKind};
 use crate::word::word_text;
 use bb_base::{NoMemory, Text};
 use std::alloc::Global;
@@ -41,9 +41,10 @@ pub(crate) fn read_labels(
     text: &[u8],
 ) -> Result<(Vec<Waiting>, Token<'_>), DtsError>
     requires { length text.now ≤ input.total }
-    ensures ok { IfOk result (λ r. labels_from input.total level [] text.now
-        ≡ labels_at input.total level r.0.items (record { kind = r.1.kind; word = r.1.word.now; at = r.1.at; rest = r.1.rest.now })) }
-    ensures refused { IfErr result (λ e. spoken e (labels_from input.total level [] text.now) ≡ spoken e (labels_refused e)) }
+    ensures ok { IfOk result (λ r. labels_walk_from input.total level [] text.now
+        ≡ labels_walk_at input.total level r.0.items (token_seen r.1)) }
+    ensures refused { IfErr result
+        (RefusesLabels (labels_walk_from input.total level [] text.now)) }
     ensures plain { IfOk result (λ r. IsPlainWord r.1.kind r.1.word.now) }
     ensures other { IfOk result (λ r. r.1.kind ≢ Label) }
     ensures within { IfOk result (λ r. length r.1.rest.now ≤ length text.now) }
@@ -53,7 +54,7 @@ pub(crate) fn read_labels(
     let mut rest = text;
     loop {
         let token = next_token(mode_at(level, &waiting), input.total, rest)?;
-        if token.kind != Kind::Label {
+        if token.kind != TokenKind::Label {
             return Ok((waiting, token));
         }
         add_label(input.alloc, &mut waiting, token.word, token.at)?;
@@ -84,7 +85,8 @@ fn add_label(
     at: usize,
 ) -> Result<(), NoMemory>
     requires { IsAscii word.now }
-    ensures { OnOk result (waiting.new.items ≡ waiting.old.items ++ record { name = word.now; at = at } ∷ []) }
+    ensures { OnOk result (waiting.new.items
+        ≡ waiting.old.items ++ record { name = word.now; at = at } ∷ []) }
 {
     let name = word_text(alloc, word)?;
     waiting.push(Waiting { name, at })?;

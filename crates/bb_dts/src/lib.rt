@@ -7,21 +7,19 @@ mod character;
 mod content;
 mod error;
 mod input;
-mod kind;
 mod label;
 mod next_token;
 mod number;
 mod outermost;
 mod property;
 mod reader;
+mod reserve;
 mod source;
 mod string;
 mod token;
+mod token_kind;
 mod value;
 mod word;
 
 pub use error::DtsError;
 pub use source::read_source;
-
-#[cfg(test)]
-mod tests;

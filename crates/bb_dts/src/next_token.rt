@@ -1,15 +1,15 @@
 ghost use Rattle.std.specs.Prelude.{◌≡◌, ◌≢◌, ◌<◌, ◌≤◌, ◌-◌, Ok, Err, IfOk, IfErr, length};
-ghost use Rattle.bb_dts.specs.declared.kind.Kind.TheVariants.{End};
-ghost use Rattle.bb_dts.specs.Tokens.{first_token, word_of, IsPlainWord};
+ghost use Rattle.bb_dts.specs.declared.token_kind.TokenKind.TheVariants.{End};
+ghost use Rattle.bb_dts.specs.Tokens.{first_token, token_seen, word_of, IsPlainWord};
 
 use crate::DtsError;
-use crate::kind::{Kind, Lexed, Mode};
 use crate::token::token_at;
+use crate::token_kind::{Lexed, Mode, TokenKind};
 
 /// A token of the text.
 #[derive(Clone, Copy, Debug)]
 pub(crate) struct Token<'a> {
-    pub kind: Kind,
+    pub kind: TokenKind,
     /// What it says: a label's name, a string's inside, and otherwise all its bytes.
     pub word: &'a [u8],
     /// The offset at which it begins.
@@ -21,8 +21,7 @@ pub(crate) struct Token<'a> {
 /// The first token of the text, behind blanks and comments. The text is the end of one of `total` bytes.
 pub(crate) fn next_token(mode: Mode, total: usize, text: &[u8]) -> Result<Token<'_>, DtsError>
     requires { length text.now ≤ total }
-    ensures found { IfOk result (λ t. first_token mode total 0 text.now
-        ≡ Ok (record { kind = t.kind; word = t.word.now; at = t.at; rest = t.rest.now })) }
+    ensures found { IfOk result (λ t. first_token mode total 0 text.now ≡ Ok (token_seen t)) }
     ensures refused { IfErr result (λ e. first_token mode total 0 text.now ≡ Err e) }
     ensures plain { IfOk result (λ t. IsPlainWord t.kind t.word.now) }
     ensures within { IfOk result (λ t. length t.rest.now ≤ length text.now) }
@@ -48,7 +47,7 @@ pub(crate) fn next_token(mode: Mode, total: usize, text: &[u8]) -> Result<Token<
         }
     }
     Ok(Token {
-        kind: Kind::End,
+        kind: TokenKind::End,
         word: &[],
         at: total,
         rest: &[],
@@ -56,14 +55,14 @@ pub(crate) fn next_token(mode: Mode, total: usize, text: &[u8]) -> Result<Token<
 }
 
 #[tactic(auto, unfolding(crate::specs::Tokens::word_of))]
-fn word_of(kind: Kind, bytes: &[u8]) -> &[u8]
+fn word_of(kind: TokenKind, bytes: &[u8]) -> &[u8]
     requires { 1 ≤ length bytes.now }
     ensures { result.now ≡ word_of kind bytes.now }
 {
     match kind {
-        Kind::Reference => &bytes[1..],
-        Kind::Label => &bytes[..bytes.len() - 1],
-        Kind::Quoted => {
+        TokenKind::Reference => &bytes[1..],
+        TokenKind::Label => &bytes[..bytes.len() - 1],
+        TokenKind::Quoted => {
             let inside = &bytes[1..];
             &inside[..bytes.len().saturating_sub(2)]
         }

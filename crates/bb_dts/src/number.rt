@@ -63,13 +63,13 @@ pub(crate) fn read_digits(radix: u32, digits: &[u8]) -> Result<u64, NumberFault>
         let Some(digit) = char::from(*c).to_digit(radix) else {
             return Err(NumberFault::Malformed);
         };
-        value = appended(value, u64::from(radix), u64::from(digit));
+        value = with_digit(value, u64::from(radix), u64::from(digit));
     }
     value.ok_or(NumberFault::TooLarge)
 }
 
 // A number with one digit more, where it still has 64 bits.
-fn appended(value: Option<u64>, radix: u64, digit: u64) -> Option<u64>
+fn with_digit(value: Option<u64>, radix: u64, digit: u64) -> Option<u64>
     ensures { result ≡ option_and_then (λ v. fits_64 (v * radix + digit)) value }
 {
     value?.checked_mul(radix)?.checked_add(digit)

@@ -1,34 +1,27 @@
-ghost use Rattle.std.specs.Prelude.{◌≡◌, ◌≢◌, ◌≤◌, ◌<◌, ◌+◌, ◌^◌, [], Ok, Err, Some, None, map, IfOk, IfErr, OnOk, length};
+ghost use Rattle.std.specs.Prelude.{◌≡◌, ◌≢◌, ◌≤◌, ◌<◌, ◌+◌, [], Ok, Err, Some, None, IfOk, IfErr, OnOk, length};
 ghost use Rattle.std.specs.Str.{IsAscii};
 ghost use Rattle.std.specs.String.{string_bytes};
-ghost use Rattle.bb_tree.specs.Draft.{path_labelled};
-ghost use Rattle.bb_tree.specs.DraftViews.{draft_of, drafts_of};
-ghost use Rattle.bb_tree.specs.Merge.{merged};
-ghost use Rattle.bb_tree.specs.Node.{forest};
-ghost use Rattle.bb_dts.specs.Places.{Address, TopClose};
-ghost use Rattle.bb_dts.specs.Walk.{limited, root, state_at, body_at, stem_of, path_text};
-ghost use Rattle.bb_dts.specs.Descent.{spoken, node_count};
-ghost use Rattle.bb_dts.specs.Outermost.{outer, outer_from, outer_at, outer_open, outer_level, finished_on, comes_to, rest_len, opened_body, led_to, with_reserve, reserved_of, semicolon_of, StaysAtHead, IsShorter};
-ghost use Rattle.bb_dts.specs.Tokens.{first_token, IsPlainWord};
-ghost use Rattle.bb_dts.specs.declared.kind.Kind.TheVariants.{Label};
+ghost use Rattle.bb_tree.specs.Draft.{path_labelled, draft_with_body, draft_with_pair};
+ghost use Rattle.bb_tree.specs.DraftViews.{draft_of};
+ghost use Rattle.bb_dts.specs.Walk.{stem_of};
+ghost use Rattle.bb_dts.specs.Descent.{node_count, node_of_content, RefusesResult};
+ghost use Rattle.bb_dts.specs.Outermost.{outer_level, rest_len, led_to, semicolon_of, StaysAtHead, IsShorter};
+ghost use Rattle.bb_dts.specs.Tokens.{first_token, token_seen, IsPlainWord};
+ghost use Rattle.bb_dts.specs.declared.token_kind.TokenKind.TheVariants.{Label};
 ghost use Rattle.bb_dts.specs.declared.label.Level.TheVariants.{AtHead, AtTop};
-ghost use Rattle.bb_dts.specs.declared.kind.Mode.TheVariants.{Numbers};
 
 use crate::DtsError;
 use crate::content::Content;
 use crate::input::Input;
-use crate::kind::{Kind, Mode};
 use crate::label::{Level, Waiting, read_labels};
 use crate::next_token::{Token, next_token};
-use crate::number::{NumberFault, read_number};
 use crate::reader::{Reader, path_text};
+use crate::reserve::read_reserved;
+use crate::token_kind::{Mode, TokenKind};
 use crate::word::word_str;
 use bb_base::Text;
-use bb_tree::{Draft, DraftNode};
+use bb_tree::{DEPTH_LIMIT, Draft, DraftNode};
 use std::mem;
-
-/// The level of the deepest nodes, where the root's is 1.
-const DEEPEST: usize = 32;
 
 /// What comes behind a step at the outermost level.
 #[derive(Clone, Copy)]
@@ -42,13 +35,17 @@ pub(crate) enum Next<'a> {
 }
 
 impl Reader {
+    ghost use Rattle.bb_dts.specs.Readers.{TreeAddsFewNodes, node_path, source_end, source_end_after_body, source_end_after_step, source_end_at_address, source_end_at_body, source_end_at_token, source_end_in_body, source_end_read, tree_read};
+
     /// Reads the reserves and the bodies behind the version, to the text's end.
     pub(crate) fn read_outermost(&mut self, text: &[u8]) -> Result<(), DtsError>
         requires { length text.now ≤ self.old.input.total }
-        ensures ok { OnOk result (outer_from self.old.input.total AtHead self.old.draft text.now ≡ finished_on self.old.input.total self.new.draft) }
-        ensures counted { OnOk result (node_count self.new.draft.tree.nodes ≤ node_count self.old.draft.tree.nodes + length text.now) }
+        ensures ok { OnOk result
+            (source_end self.old AtHead text.now ≡ tree_read self.old self.new) }
+        ensures counted { OnOk result (node_count self.new.draft.tree.nodes
+            ≤ node_count self.old.draft.tree.nodes + length text.now) }
         ensures input { OnOk result (self.new.input ≡ self.old.input) }
-        ensures refused { IfErr result (λ e. spoken e (outer_from self.old.input.total AtHead self.old.draft text.now) ≡ spoken e (Err e)) }
+        ensures refused { IfErr result (RefusesResult (source_end self.old AtHead text.now)) }
     {
         let mut at_top = false;
         let mut rest = text;
@@ -67,10 +64,13 @@ impl Reader {
     // Reads a reserve, a body with its `;` or the text's end.
     fn read_next<'a>(&mut self, at_top: bool, text: &'a [u8]) -> Result<Next<'a>, DtsError>
         requires { length text.now ≤ self.old.input.total }
-        ensures ok { IfOk result (λ next. outer_from self.old.input.total (outer_level at_top) self.old.draft text.now ≡ comes_to self.old.input.total self.new.draft next) }
-        ensures counted { IfOk result (λ next. node_count self.new.draft.tree.nodes + rest_len next ≤ node_count self.old.draft.tree.nodes + length text.now) }
+        ensures ok { IfOk result (λ next. source_end self.old (outer_level at_top) text.now
+            ≡ source_end_after_step self.old self.new next) }
+        ensures counted { IfOk result
+            (λ next. TreeAddsFewNodes self.old self.new (length text.now) (rest_len next)) }
         ensures input { OnOk result (self.new.input ≡ self.old.input) }
-        ensures refused { IfErr result (λ e. spoken e (outer_from self.old.input.total (outer_level at_top) self.old.draft text.now) ≡ spoken e (Err e)) }
+        ensures refused { IfErr result
+            (RefusesResult (source_end self.old (outer_level at_top) text.now)) }
         ensures head { IfOk result (λ next. StaysAtHead at_top next) }
         ensures shorter { IfOk result (λ next. IsShorter next (length text.now)) }
     {
@@ -89,24 +89,27 @@ impl Reader {
         requires within { length token.now.rest.now ≤ self.old.input.total }
         requires plain { IsPlainWord token.now.kind token.now.word.now }
         requires other { token.now.kind ≢ Label }
-        ensures ok { IfOk result (λ next. outer_at self.old.input.total (outer_level at_top) waiting.now.items
-            (record { kind = token.now.kind; word = token.now.word.now; at = token.now.at; rest = token.now.rest.now }) self.old.draft
-            ≡ comes_to self.old.input.total self.new.draft next) }
-        ensures counted { IfOk result (λ next. node_count self.new.draft.tree.nodes + rest_len next ≤ node_count self.old.draft.tree.nodes + length token.now.rest.now) }
+        ensures ok { IfOk result (λ next.
+            source_end_at_token self.old (outer_level at_top) waiting.now.items
+            (token_seen token.now)
+            ≡ source_end_after_step self.old self.new next) }
+        ensures counted { IfOk result (λ next.
+            TreeAddsFewNodes self.old self.new (length token.now.rest.now) (rest_len next)) }
         ensures input { OnOk result (self.new.input ≡ self.old.input) }
-        ensures refused { IfErr result (λ e. spoken e (outer_at self.old.input.total (outer_level at_top) waiting.now.items
-            (record { kind = token.now.kind; word = token.now.word.now; at = token.now.at; rest = token.now.rest.now }) self.old.draft) ≡ spoken e (Err e)) }
+        ensures refused { IfErr result (RefusesResult
+            (source_end_at_token self.old (outer_level at_top) waiting.now.items
+            (token_seen token.now))) }
         ensures head { IfOk result (λ next. StaysAtHead at_top next) }
         ensures shorter { IfOk result (λ next. IsShorter next (length token.now.rest.now)) }
     {
         match token.kind {
-            Kind::End if at_top && waiting.is_empty() => Ok(Next::IsDone),
-            Kind::Memreserve if !at_top => Ok(Next::IsHead(self.read_reserve(token.rest)?)),
-            Kind::Slash => {
+            TokenKind::End if at_top && waiting.is_empty() => Ok(Next::IsDone),
+            TokenKind::Memreserve if !at_top => Ok(Next::IsHead(self.read_reserve(token.rest)?)),
+            TokenKind::Slash => {
                 self.path.clear();
                 Ok(Next::IsTop(self.read_top(1, waiting, token.rest)?))
             }
-            Kind::Reference => {
+            TokenKind::Reference => {
                 let level = self.go_to(token.word, token.at)?;
                 Ok(Next::IsTop(self.read_top(level, waiting, token.rest)?))
             }
@@ -118,11 +121,11 @@ impl Reader {
     #[tactic(auto, using(crate::proofs::OuterLemmas::address_step, crate::proofs::OuterLemmas::length_step, crate::proofs::OuterLemmas::reserve_end_step))]
     fn read_reserve<'a>(&mut self, text: &'a [u8]) -> Result<&'a [u8], DtsError>
         requires { length text.now ≤ self.old.input.total }
-        ensures ok { IfOk result (λ rest. outer self.old.input.total self.old.draft.tree self.old.draft.reserved (state_at Address self.old.draft.labels root) text.now
-            ≡ outer_from self.old.input.total AtHead self.new.draft rest.now) }
+        ensures ok { IfOk result (λ rest. source_end_at_address self.old text.now
+            ≡ source_end_read self.old self.new AtHead rest.now) }
         ensures tree { OnOk result (self.new.draft.tree ≡ self.old.draft.tree) }
         ensures input { OnOk result (self.new.input ≡ self.old.input) }
-        ensures refused { IfErr result (λ e. spoken e (outer self.old.input.total self.old.draft.tree self.old.draft.reserved (state_at Address self.old.draft.labels root) text.now) ≡ spoken e (Err e)) }
+        ensures refused { IfErr result (RefusesResult (source_end_at_address self.old text.now)) }
         ensures shorter { IfOk result (λ rest. length rest.now < length text.now) }
     {
         let (address, rest) = read_reserved(self.input, text)?;
@@ -132,7 +135,7 @@ impl Reader {
     }
 
     fn reserve(&mut self, address: u64, length: u64) -> Result<(), DtsError>
-        ensures ok { OnOk result (self.new.draft ≡ with_reserve self.old.draft address length) }
+        ensures ok { OnOk result (self.new.draft ≡ draft_with_pair self.old.draft address length) }
         ensures input { OnOk result (self.new.input ≡ self.old.input) }
         ensures only_memory { IfErr result (λ e. e ≡ DtsError.NoMemory) }
     {
@@ -143,7 +146,7 @@ impl Reader {
     }
 
     // Reads a body at the outermost level, with its braces and its `;`, and merges it into the node at the path.
-    #[tactic(auto, using(crate::proofs::OuterLemmas::open_step, crate::proofs::OuterLemmas::outer_left, crate::proofs::OuterLemmas::top_close_step))]
+    #[tactic(auto, using(crate::proofs::OuterLemmas::open_step, crate::proofs::OuterLemmas::outcome_after_body, crate::proofs::OuterLemmas::top_close_step))]
     fn read_top<'a>(
         &mut self,
         level: usize,
@@ -151,16 +154,19 @@ impl Reader {
         text: &'a [u8],
     ) -> Result<&'a [u8], DtsError>
         requires { length text.now ≤ self.old.input.total }
-        ensures ok { IfOk result (λ rest. outer_open self.old.input.total waiting.now.items (body_at (string_bytes self.old.path) level) self.old.draft text.now
-            ≡ outer_from self.old.input.total AtTop self.new.draft rest.now) }
-        ensures counted { IfOk result (λ rest. node_count self.new.draft.tree.nodes + length rest.now ≤ node_count self.old.draft.tree.nodes + length text.now) }
+        ensures ok { IfOk result (λ rest.
+            source_end_at_body self.old level waiting.now.items text.now
+            ≡ source_end_read self.old self.new AtTop rest.now) }
+        ensures counted { IfOk result
+            (λ rest. TreeAddsFewNodes self.old self.new (length text.now) (length rest.now)) }
         ensures input { OnOk result (self.new.input ≡ self.old.input) }
-        ensures refused { IfErr result (λ e. spoken e (outer_open self.old.input.total waiting.now.items (body_at (string_bytes self.old.path) level) self.old.draft text.now) ≡ spoken e (Err e)) }
+        ensures refused { IfErr result
+            (RefusesResult (source_end_at_body self.old level waiting.now.items text.now)) }
         ensures shorter { IfOk result (λ rest. length rest.now < length text.now) }
     {
         let token = next_token(Mode::Directives, self.input.total, text)?;
         match token.kind {
-            Kind::OpenBrace => {
+            TokenKind::OpenBrace => {
                 self.label_all(waiting)?;
                 let rest = self.read_top_body(level, token.at, token.rest)?;
                 read_semicolon(Mode::Directives, self.input, rest)
@@ -170,7 +176,7 @@ impl Reader {
     }
 
     // Reads a body at the outermost level, behind its `{`, and merges it.
-    #[tactic(auto, using(crate::proofs::OuterLemmas::outer_left))]
+    #[tactic(auto, using(crate::proofs::OuterLemmas::outcome_after_body))]
     fn read_top_body<'a>(
         &mut self,
         level: usize,
@@ -178,14 +184,16 @@ impl Reader {
         text: &'a [u8],
     ) -> Result<&'a [u8], DtsError>
         requires { length text.now ≤ self.old.input.total }
-        ensures ok { IfOk result (λ rest. opened_body self.old.input.total (body_at (string_bytes self.old.path) level) self.old.draft at text.now
-            ≡ outer self.old.input.total self.new.draft.tree self.new.draft.reserved (state_at TopClose self.new.draft.labels root) rest.now) }
-        ensures counted { IfOk result (λ rest. node_count self.new.draft.tree.nodes + length rest.now ≤ node_count self.old.draft.tree.nodes + length text.now) }
+        ensures ok { IfOk result (λ rest. source_end_in_body self.old level at text.now
+            ≡ source_end_after_body self.old self.new rest.now) }
+        ensures counted { IfOk result
+            (λ rest. TreeAddsFewNodes self.old self.new (length text.now) (length rest.now)) }
         ensures input { OnOk result (self.new.input ≡ self.old.input) }
-        ensures refused { IfErr result (λ e. spoken e (opened_body self.old.input.total (body_at (string_bytes self.old.path) level) self.old.draft at text.now) ≡ spoken e (Err e)) }
+        ensures refused { IfErr result
+            (RefusesResult (source_end_in_body self.old level at text.now)) }
         ensures shorter { IfOk result (λ rest. length rest.now < length text.now) }
     {
-        if level > DEEPEST {
+        if level > DEPTH_LIMIT {
             return Err(DtsError::TooDeep(at));
         }
         let (content, rest) = self.read_body(level, text)?;
@@ -195,10 +203,8 @@ impl Reader {
 
     // Merges a body into the node at the path.
     fn merge(&mut self, content: Content) -> Result<(), DtsError>
-        ensures draft { OnOk result (self.new.draft ≡ record self.old.draft {
-          tree = merged self.old.draft.tree (path_text (string_bytes self.old.path))
-              (record { name = []; props = map (λ p. (p.name, p.parts)) content.props; nodes = forest (drafts_of content.nodes) });
-        }) }
+        ensures draft { OnOk result (self.new.draft
+            ≡ draft_with_body self.old.draft (node_path self.old) (node_of_content [] content)) }
         ensures input { OnOk result (self.new.input ≡ self.old.input) }
         ensures only_memory { IfErr result (λ e. e ≡ DtsError.NoMemory) }
     {
@@ -207,18 +213,21 @@ impl Reader {
         let Content { props, nodes } = content;
         let node = DraftNode { name, props, nodes };
         let draft = mem::replace(&mut self.draft, Draft::none(alloc));
-        self.draft = merged(draft, path_text(&self.path), node)?;
+        self.draft = with_body(draft, path_text(&self.path), node)?;
         Ok(())
     }
 
     // Goes to the node that a reference names, and gives its level.
     fn go_to(&mut self, label: &[u8], at: usize) -> Result<usize, DtsError>
         requires { IsAscii label.now }
-        ensures ok { IfOk result (λ level. led_to (path_labelled self.old.draft.labels label.now) ≡ Some (string_bytes self.new.path, level)) }
+        ensures ok { IfOk result (λ level.
+            led_to (path_labelled self.old.draft.labels label.now)
+            ≡ Some (string_bytes self.new.path, level)) }
         ensures draft { OnOk result (self.new.draft ≡ self.old.draft) }
         ensures input { OnOk result (self.new.input ≡ self.old.input) }
         ensures refused { IfErr result (λ e. e ≢ DtsError.NoMemory → e ≡ DtsError.NoSuchLabel at) }
-        ensures unknown { IfErr result (λ e. e ≢ DtsError.NoMemory → path_labelled self.old.draft.labels label.now ≡ None) }
+        ensures unknown { IfErr result
+            (λ e. e ≢ DtsError.NoMemory → path_labelled self.old.draft.labels label.now ≡ None) }
     {
         let Some(path) = self.draft.by_label(word_str(label)) else {
             return Err(DtsError::NoSuchLabel(at));
@@ -236,39 +245,17 @@ fn outer_level(at_top: bool) -> Level
     if at_top { Level::AtTop } else { Level::AtHead }
 }
 
-// Reads the address or the length of a reserve.
-fn read_reserved(input: Input, text: &[u8]) -> Result<(u64, &[u8]), DtsError>
-    requires { length text.now ≤ input.total }
-    ensures ok { IfOk result (λ r. reserved_of (first_token Numbers input.total 0 text.now) ≡ Ok (r.0, r.1.now)) }
-    ensures refused { IfErr result (λ e. reserved_of (first_token Numbers input.total 0 text.now) ≡ Err e) }
-    ensures shorter { IfOk result (λ r. length r.1.now < length text.now) }
-{
-    let token = next_token(Mode::Numbers, input.total, text)?;
-    match token.kind {
-        Kind::Number => Ok((long_number(token.word, token.at)?, token.rest)),
-        _ => Err(DtsError::Unexpected(token.at)),
-    }
-}
-
-fn long_number(word: &[u8], at: usize) -> Result<u64, DtsError>
-    ensures { result ≡ limited (2 ^ 64) word.now at }
-{
-    match read_number(word) {
-        Ok(n) => Ok(n),
-        Err(NumberFault::Malformed) => Err(DtsError::BadToken(at)),
-        Err(NumberFault::TooLarge) => Err(DtsError::NumberTooLarge(at)),
-    }
-}
-
 pub(crate) fn read_semicolon(mode: Mode, input: Input, text: &[u8]) -> Result<&[u8], DtsError>
     requires { length text.now ≤ input.total }
-    ensures ok { IfOk result (λ rest. semicolon_of (first_token mode input.total 0 text.now) ≡ Ok rest.now) }
-    ensures refused { IfErr result (λ e. semicolon_of (first_token mode input.total 0 text.now) ≡ Err e) }
+    ensures ok { IfOk result
+        (λ rest. semicolon_of (first_token mode input.total 0 text.now) ≡ Ok rest.now) }
+    ensures refused { IfErr result
+        (λ e. semicolon_of (first_token mode input.total 0 text.now) ≡ Err e) }
     ensures shorter { IfOk result (λ rest. length rest.now < length text.now) }
 {
     let token = next_token(mode, input.total, text)?;
     match token.kind {
-        Kind::Semicolon => Ok(token.rest),
+        TokenKind::Semicolon => Ok(token.rest),
         _ => Err(DtsError::Unexpected(token.at)),
     }
 }
@@ -281,8 +268,8 @@ fn stem_of(path: &str) -> &str
 }
 
 // The draft with a body merged into the node at the path. Where no node stands there nothing is merged.
-fn merged(draft: Draft, path: &str, node: DraftNode) -> Result<Draft, DtsError>
-    ensures ok { IfOk result (λ d. d ≡ record draft { tree = merged draft.tree path.now (draft_of node) }) }
+fn with_body(draft: Draft, path: &str, node: DraftNode) -> Result<Draft, DtsError>
+    ensures ok { IfOk result (λ d. d ≡ draft_with_body draft path.now (draft_of node)) }
     ensures only_memory { IfErr result (λ e. e ≡ DtsError.NoMemory) }
 {
     if !draft.has(path) {

@@ -1,4 +1,4 @@
-ghost use Rattle.std.specs.Prelude.{◌≡◌, [], OnOk, IfOk, codes};
+ghost use Rattle.std.specs.Prelude.{◌≡◌, OnOk, IfOk, codes};
 ghost use Rattle.std.specs.Str.{bytes_eq};
 
 use bb_base::{Bytes, NoMemory, Text};
@@ -15,11 +15,11 @@ pub(crate) struct Property {
 }
 
 impl Property {
-    ghost use Rattle.bb_dts.specs.Walk.{with_bytes, with_part, value_of};
+    ghost use Rattle.bb_dts.specs.Walk.{property_of_name, with_bytes, with_part, value_of};
 
     /// A property without a value so far.
-    pub(crate) fn named(alloc: Global, name: Text) -> Property
-        ensures { result ≡ record { name = name; parts = []; bytes = [] } }
+    pub(crate) fn of_name(alloc: Global, name: Text) -> Property
+        ensures { result ≡ property_of_name name }
     {
         Property {
             name,

@@ -1,9 +1,9 @@
-ghost use Rattle.std.specs.Prelude.{◌≡◌, ◌≢◌, ◌<◌, ◌+◌, ◌++◌, ◌∷◌, Ok, Err, true, false, IfErr, OnOk, Some, take, slice_get};
+ghost use Rattle.std.specs.Prelude.{◌≡◌, ◌≢◌, Ok, true, false, IfErr, OnOk, Some, take, slice_get};
 ghost use Rattle.std.specs.Str.{IsAscii};
 ghost use Rattle.std.specs.String.{string_bytes};
-ghost use Rattle.bb_tree.specs.Draft.{labelled, names_another};
-ghost use Rattle.bb_dts.specs.Walk.{label_all, path_text};
-ghost use Rattle.bb_dts.specs.Descent.{spoken};
+ghost use Rattle.bb_tree.specs.Draft.{with_label};
+ghost use Rattle.bb_dts.specs.Walk.{path_text};
+ghost use Rattle.bb_dts.specs.Descent.{RefusesResult};
 
 use crate::DtsError;
 use crate::input::Input;
@@ -20,14 +20,16 @@ pub(crate) struct Reader {
 }
 
 impl Reader {
-    ghost use Rattle.bb_dts.specs.Readers.{LabelsOnly, Entered};
+    ghost use Rattle.bb_dts.specs.Readers.{LabelsOnly, GoesInto, labels_of_child, labels_of_node, names_other_node, node_path};
 
     /// Goes into the node of that name, and gives it the labels. The name must be ASCII.
     pub(crate) fn enter(&mut self, waiting: &Vec<Waiting>, name: &[u8]) -> Result<(), DtsError>
         requires { IsAscii name.now }
-        ensures ok { OnOk result (label_all (string_bytes self.old.path ++ 47 ∷ name.now) waiting.now.items self.old.draft.labels ≡ Ok self.new.draft.labels) }
-        ensures kept { OnOk result (Entered self.old self.new name.now) }
-        ensures refused { IfErr result (λ e. spoken e (label_all (string_bytes self.old.path ++ 47 ∷ name.now) waiting.now.items self.old.draft.labels) ≡ spoken e (Err e)) }
+        ensures ok { OnOk result (labels_of_child self.old waiting.now.items name.now
+            ≡ Ok self.new.draft.labels) }
+        ensures kept { OnOk result (GoesInto self.old self.new name.now) }
+        ensures refused { IfErr result
+            (RefusesResult (labels_of_child self.old waiting.now.items name.now)) }
     {
         self.path.push('/')?;
         self.path.push_str(word_str(name))?;
@@ -46,9 +48,10 @@ impl Reader {
 
     /// Gives the labels to the node whose body is read.
     pub(crate) fn label_all(&mut self, waiting: &Vec<Waiting>) -> Result<(), DtsError>
-        ensures ok { OnOk result (label_all (string_bytes self.old.path) waiting.now.items self.old.draft.labels ≡ Ok self.new.draft.labels) }
+        ensures ok { OnOk result
+            (labels_of_node self.old waiting.now.items ≡ Ok self.new.draft.labels) }
         ensures kept { OnOk result (LabelsOnly self.old self.new) }
-        ensures refused { IfErr result (λ e. spoken e (label_all (string_bytes self.old.path) waiting.now.items self.old.draft.labels) ≡ spoken e (Err e)) }
+        ensures refused { IfErr result (RefusesResult (labels_of_node self.old waiting.now.items)) }
     {
         for label in waiting {
             self.label(label)?;
@@ -57,11 +60,14 @@ impl Reader {
     }
 
     fn label(&mut self, label: &Waiting) -> Result<(), DtsError>
-        ensures other { OnOk result (names_another self.old.draft.labels label.now.name (path_text (string_bytes self.old.path)) ≡ false) }
-        ensures ok { OnOk result (self.new.draft.labels ≡ labelled self.old.draft.labels label.now.name (path_text (string_bytes self.old.path))) }
+        ensures other { OnOk result (names_other_node self.old label.now.name ≡ false) }
+        ensures ok { OnOk result (self.new.draft.labels
+            ≡ with_label self.old.draft.labels label.now.name (node_path self.old)) }
         ensures kept { OnOk result (LabelsOnly self.old self.new) }
-        ensures refused { IfErr result (λ e. e ≢ DtsError.NoMemory → e ≡ DtsError.DuplicateLabel label.now.at) }
-        ensures another { IfErr result (λ e. e ≢ DtsError.NoMemory → names_another self.old.draft.labels label.now.name (path_text (string_bytes self.old.path)) ≡ true) }
+        ensures refused { IfErr result
+            (λ e. e ≢ DtsError.NoMemory → e ≡ DtsError.DuplicateLabel label.now.at) }
+        ensures another { IfErr result
+            (λ e. e ≢ DtsError.NoMemory → names_other_node self.old label.now.name ≡ true) }
     {
         let path = path_text(&self.path);
         match self.draft.label(label.name.as_str(), path) {

@@ -1,19 +1,20 @@
-ghost use Rattle.std.specs.Prelude.{◌≡◌, ◌≢◌, ◌+◌, ◌≤◌, [], Ok, Err, IfOk, IfErr, length};
-ghost use Rattle.bb_tree.specs.Draft.{nothing_drafted};
+ghost use Rattle.std.specs.Prelude.{◌≡◌, ◌+◌, ◌≤◌, [], Ok, IfOk, IfErr, length};
+ghost use Rattle.bb_tree.specs.Blob.{devicetree_of};
+ghost use Rattle.bb_tree.specs.Draft.{empty_draft};
 ghost use Rattle.bb_tree.specs.Node.{preorder};
 ghost use Rattle.bb_dts.specs.declared.label.Level.TheVariants.{AtHead};
-ghost use Rattle.bb_dts.specs.Descent.{from, refused, labels_from};
-ghost use Rattle.bb_dts.specs.Outermost.{finished_on};
-ghost use Rattle.bb_dts.specs.Source.{source_of, tree_of, refused_last};
-ghost use Rattle.bb_dts.specs.Trees.{read_of};
-ghost use Rattle.bb_dts.specs.Walk.{root, start, walked};
+ghost use Rattle.bb_dts.specs.Descent.{walk_from, refusal_walk, labels_walk_from};
+ghost use Rattle.bb_dts.specs.Outermost.{tree_of_draft};
+ghost use Rattle.bb_dts.specs.Refusals.{Refuses};
+ghost use Rattle.bb_dts.specs.Source.{source_of, tree_of_text, refused_last};
+ghost use Rattle.bb_dts.specs.Walk.{root, start};
 
 use crate::DtsError;
 use crate::input::Input;
-use crate::kind::{Kind, Mode};
 use crate::next_token::next_token;
 use crate::outermost::read_semicolon;
 use crate::reader::Reader;
+use crate::token_kind::{Mode, TokenKind};
 use bb_tree::{Draft, Tree, TreeError};
 use std::alloc::Global;
 use std::str;
@@ -23,8 +24,8 @@ use std::str;
 /// UTF-8 is refused before all others.
 pub fn read_source(alloc: Global, text: &[u8]) -> Result<Tree, DtsError>
     requires { length text.now ≤ 4294967295 }
-    ensures ok { IfOk result (λ tree. source_of text.now ≡ Ok (read_of tree)) }
-    ensures refused { IfErr result (λ e. e ≢ DtsError.NoMemory → source_of text.now ≡ Err e) }
+    ensures ok { IfOk result (λ tree. source_of text.now ≡ Ok (devicetree_of tree)) }
+    ensures refused { IfErr result (Refuses (source_of text.now)) }
 {
     if let Err(fault) = str::from_utf8(text) {
         return Err(DtsError::NotText(fault.valid_up_to()));
@@ -36,8 +37,8 @@ pub fn read_source(alloc: Global, text: &[u8]) -> Result<Tree, DtsError>
 fn read_text(input: Input, text: &[u8]) -> Result<Tree, DtsError>
     requires whole { input.total ≡ length text.now }
     requires short { length text.now ≤ 4294967295 }
-    ensures ok { IfOk result (λ tree. tree_of (length text.now) (walked text.now) ≡ Ok (read_of tree)) }
-    ensures refused { IfErr result (λ e. e ≢ DtsError.NoMemory → tree_of (length text.now) (walked text.now) ≡ Err e) }
+    ensures ok { IfOk result (λ tree. tree_of_text text.now ≡ Ok (devicetree_of tree)) }
+    ensures refused { IfErr result (Refuses (tree_of_text text.now)) }
 {
     let rest = read_version(input, text)?;
     let mut reader = Reader::new(input);
@@ -49,13 +50,14 @@ fn read_text(input: Input, text: &[u8]) -> Result<Tree, DtsError>
 #[tactic(auto, using(crate::proofs::OuterLemmas::start_step, crate::proofs::OuterLemmas::version_step))]
 fn read_version(input: Input, text: &[u8]) -> Result<&[u8], DtsError>
     requires { length text.now ≤ input.total }
-    ensures ok { IfOk result (λ rest. from input.total start text.now ≡ labels_from input.total AtHead [] rest.now [] root) }
-    ensures refused { IfErr result (λ e. from input.total start text.now ≡ refused e) }
+    ensures ok { IfOk result (λ rest. walk_from input.total start text.now
+        ≡ labels_walk_from input.total AtHead [] rest.now [] root) }
+    ensures refused { IfErr result (λ e. walk_from input.total start text.now ≡ refusal_walk e) }
     ensures shorter { IfOk result (λ rest. length rest.now + 2 ≤ length text.now) }
 {
     let token = next_token(Mode::Directives, input.total, text)?;
     match token.kind {
-        Kind::DtsV1 => read_semicolon(Mode::Directives, input, token.rest),
+        TokenKind::DtsV1 => read_semicolon(Mode::Directives, input, token.rest),
         _ => Err(DtsError::Unexpected(token.at)),
     }
 }
@@ -63,7 +65,7 @@ fn read_version(input: Input, text: &[u8]) -> Result<&[u8], DtsError>
 impl Reader {
     fn new(input: Input) -> Reader
         ensures input { result.input ≡ input }
-        ensures draft { result.draft ≡ nothing_drafted }
+        ensures draft { result.draft ≡ empty_draft }
     {
         Reader {
             input,
@@ -75,8 +77,9 @@ impl Reader {
     // The tree, with its references resolved.
     fn finish(self) -> Result<Tree, DtsError>
         requires { length (preorder self.draft.tree) ≤ 4294967294 }
-        ensures ok { IfOk result (λ tree. finished_on self.input.total self.draft ≡ Ok (read_of tree)) }
-        ensures refused { IfErr result (λ e. e ≢ DtsError.NoMemory → finished_on self.input.total self.draft ≡ Err e) }
+        ensures ok { IfOk result
+            (λ tree. tree_of_draft self.input.total self.draft ≡ Ok (devicetree_of tree)) }
+        ensures refused { IfErr result (Refuses (tree_of_draft self.input.total self.draft)) }
     {
         let Reader {
             input,

@@ -2,7 +2,7 @@ ghost use Rattle.std.specs.Prelude.{◌≡◌, ◌++◌, ◌<◌, ◌≤◌, ◌
 ghost use Rattle.std.specs.List.{prefix_len};
 ghost use Rattle.bb_dts.specs.Characters.{is_octal, is_hexadecimal};
 ghost use Rattle.bb_dts.specs.Numbers.{numeral_value};
-ghost use Rattle.bb_dts.specs.Strings.{named_escape, byte_of, octal_len, hexadecimal_len, escape_of, string_len, unescaped};
+ghost use Rattle.bb_dts.specs.Strings.{named_escape, byte_of, octal_len, hexadecimal_len, escape_of, string_len, quoted_bytes};
 
 use crate::character::{is_hexadecimal, is_octal};
 use crate::number::read_digits;
@@ -30,7 +30,7 @@ pub(crate) fn string_len(text: &[u8]) -> Option<usize>
 
 /// Appends the bytes of a string, from the text between its quotes. After an `Err` some of them are appended.
 pub(crate) fn unescape(value: &mut Bytes, text: &[u8]) -> Result<(), NoMemory>
-    ensures { OnOk result (value.new ≡ value.old ++ unescaped 0 text.now) }
+    ensures { OnOk result (value.new ≡ value.old ++ quoted_bytes 0 text.now) }
 {
     let mut rest = text;
     while !rest.is_empty() {
@@ -42,7 +42,8 @@ pub(crate) fn unescape(value: &mut Bytes, text: &[u8]) -> Result<(), NoMemory>
 // Appends the bytes of an escape, or of all characters before the next one. The rest is left.
 fn unescape_front<'a>(value: &mut Bytes, text: &'a [u8]) -> Result<&'a [u8], NoMemory>
     requires { 0 < length text.now }
-    ensures ok { IfOk result (λ rest. value.new ++ unescaped 0 rest.now ≡ value.old ++ unescaped 0 text.now) }
+    ensures ok { IfOk result (λ rest. value.new ++ quoted_bytes 0 rest.now
+        ≡ value.old ++ quoted_bytes 0 text.now) }
     ensures shorter { IfOk result (λ rest. length rest.now < length text.now) }
 {
     if text[0] == b'\\' {

@@ -6,9 +6,9 @@ ghost use Rattle.bb_dts.specs.Numbers.{number_value};
 ghost use Rattle.bb_dts.specs.Tokens.{token_at, slash_at, quoted_at, reference_at, word_at, name_at, number_at, value_at, byte_at, mark_of, comment_len, label_len, left_out_words, directives, IsWithin, IsPlain};
 
 use crate::character::{begins_label, is_blank, is_hexadecimal, is_name, is_word};
-use crate::kind::{Kind, Lexed, Mode};
 use crate::number::{NumberFault, read_number};
 use crate::string::string_len;
+use crate::token_kind::{Lexed, Mode, TokenKind};
 
 /// What the text begins with.
 #[tactic(auto, unfolding(crate::specs::Tokens::token_at))]
@@ -40,18 +40,18 @@ fn blank_len(text: &[u8]) -> usize
     text.iter().take_while(|c| is_blank(**c)).count()
 }
 
-fn mark_of(c: u8) -> Option<Kind>
+fn mark_of(c: u8) -> Option<TokenKind>
     ensures { result ≡ mark_of c }
 {
     match c {
-        b'{' => Some(Kind::OpenBrace),
-        b'}' => Some(Kind::CloseBrace),
-        b';' => Some(Kind::Semicolon),
-        b'=' => Some(Kind::Equals),
-        b'<' => Some(Kind::Less),
-        b'>' => Some(Kind::Greater),
-        b'[' => Some(Kind::OpenBracket),
-        b']' => Some(Kind::CloseBracket),
+        b'{' => Some(TokenKind::OpenBrace),
+        b'}' => Some(TokenKind::CloseBrace),
+        b';' => Some(TokenKind::Semicolon),
+        b'=' => Some(TokenKind::Equals),
+        b'<' => Some(TokenKind::Less),
+        b'>' => Some(TokenKind::Greater),
+        b'[' => Some(TokenKind::OpenBracket),
+        b']' => Some(TokenKind::CloseBracket),
         _ => None,
     }
 }
@@ -61,7 +61,7 @@ fn quoted_at(tail: &[u8]) -> Lexed
     ensures within { IsWithin result (length tail.now + 1) }
 {
     match string_len(tail) {
-        Some(n) => Lexed::Token(Kind::Quoted, n + 1),
+        Some(n) => Lexed::Token(TokenKind::Quoted, n + 1),
         None => Lexed::BadToken,
     }
 }
@@ -81,13 +81,13 @@ fn slash_at(tail: &[u8]) -> Lexed
             None => Lexed::BadToken,
         }
     } else if tail.starts_with(b"dts-v1/") {
-        Lexed::Token(Kind::DtsV1, 7)
+        Lexed::Token(TokenKind::DtsV1, 7)
     } else if tail.starts_with(b"memreserve/") {
-        Lexed::Token(Kind::Memreserve, 11)
+        Lexed::Token(TokenKind::Memreserve, 11)
     } else if is_left_out(tail) {
         Lexed::LeftOut
     } else {
-        Lexed::Token(Kind::Slash, 0)
+        Lexed::Token(TokenKind::Slash, 0)
     }
 }
 
@@ -135,7 +135,7 @@ fn reference_at(tail: &[u8]) -> Lexed
     }
     match label_len(tail) {
         0 => Lexed::BadToken,
-        n => Lexed::Token(Kind::Reference, n),
+        n => Lexed::Token(TokenKind::Reference, n),
     }
 }
 
@@ -179,13 +179,13 @@ fn name_at(with_directives: bool, text: &[u8]) -> Lexed
 {
     let label = label_len(text);
     if label > 0 && text[label..].starts_with(b":") {
-        return Lexed::Token(Kind::Label, label);
+        return Lexed::Token(TokenKind::Label, label);
     }
     let name = name_len(text);
     if with_directives && is_directive(&text[..name]) {
         Lexed::LeftOut
     } else if name > 0 {
-        Lexed::Token(Kind::Name, name - 1)
+        Lexed::Token(TokenKind::Name, name - 1)
     } else {
         Lexed::BadToken
     }
@@ -219,11 +219,11 @@ fn value_at(text: &[u8]) -> Lexed
     ensures plain { IsPlain result text.now }
 {
     if text.starts_with(b",") {
-        return Lexed::Token(Kind::Comma, 0);
+        return Lexed::Token(TokenKind::Comma, 0);
     }
     match name_in_value_len(text) {
         0 => Lexed::BadToken,
-        n => Lexed::Token(Kind::Name, n - 1),
+        n => Lexed::Token(TokenKind::Name, n - 1),
     }
 }
 
@@ -244,7 +244,7 @@ fn number_at(text: &[u8]) -> Lexed
 {
     let n = word_len(text);
     if is_number(&text[..n]) {
-        Lexed::Token(Kind::Number, n - 1)
+        Lexed::Token(TokenKind::Number, n - 1)
     } else {
         Lexed::BadToken
     }
@@ -266,7 +266,7 @@ fn byte_at(text: &[u8]) -> Lexed
 {
     match text {
         [high, low, ..] if is_hexadecimal(*high) && is_hexadecimal(*low) => {
-            Lexed::Token(Kind::Byte, 1)
+            Lexed::Token(TokenKind::Byte, 1)
         }
         _ => Lexed::BadToken,
     }

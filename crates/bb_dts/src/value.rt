@@ -1,17 +1,17 @@
-ghost use Rattle.std.specs.Prelude.{◌≡◌, ◌≤◌, ◌<◌, ◌^◌, ◌++◌, ◌∷◌, [], Ok, Err, IfOk, IfErr, OnOk, length};
+ghost use Rattle.std.specs.Prelude.{◌≡◌, ◌≤◌, ◌<◌, ◌^◌, ◌++◌, ◌∷◌, [], Ok, IfOk, IfErr, OnOk, length};
 ghost use Rattle.std.specs.Str.{IsAscii};
 ghost use Rattle.bb_dts.specs.Places.{Value, Cells, Bytes, After};
-ghost use Rattle.bb_dts.specs.Strings.{unescaped};
-ghost use Rattle.bb_dts.specs.Walk.{limited, byte_value, referring, with_bytes};
-ghost use Rattle.bb_dts.specs.Descent.{value_from, value_refused, value_done, prop_read, spoken};
+ghost use Rattle.bb_dts.specs.Strings.{quoted_bytes};
+ghost use Rattle.bb_dts.specs.Walk.{number_below, byte_value, property_of_name, with_reference, with_bytes};
+ghost use Rattle.bb_dts.specs.Descent.{value_walk_from, walk_after_value, walk_after_prop, RefusesResult, RefusesValue};
 
 use crate::DtsError;
 use crate::input::Input;
-use crate::kind::{Kind, Mode};
-use crate::next_token::{Token, next_token};
+use crate::next_token::next_token;
 use crate::number::{NumberFault, read_number};
 use crate::property::Property;
 use crate::string::{read_byte, unescape};
+use crate::token_kind::{Mode, TokenKind};
 use crate::word::word_text;
 use bb_base::NoMemory;
 use bb_tree::{DraftProp, Part, PartList};
@@ -29,7 +29,7 @@ pub(crate) fn empty_prop(alloc: Global, name: &[u8]) -> Result<DraftProp, NoMemo
 }
 
 /// Reads a property, behind its `=`, with its `;`. Its name must be ASCII.
-#[tactic(auto, using(crate::proofs::WalkLemmas::value_done_is))]
+#[tactic(auto, using(crate::proofs::WalkLemmas::walk_after_value_is))]
 pub(crate) fn read_property<'a>(
     input: Input,
     name: &[u8],
@@ -38,17 +38,20 @@ pub(crate) fn read_property<'a>(
     requires within { length text.now ≤ input.total }
     requires plain { IsAscii name.now }
     ensures name { IfOk result (λ r. r.0.name ≡ name.now) }
-    ensures ok { IfOk result (λ r. value_from input.total Value (record { name = name.now; parts = []; bytes = [] }) text.now ≡ prop_read input.total r.0.name r.0.parts r.1.now) }
-    ensures refused { IfErr result (λ e. spoken e (value_from input.total Value (record { name = name.now; parts = []; bytes = [] }) text.now) ≡ spoken e (value_refused e)) }
+    ensures ok { IfOk result (λ r.
+        value_walk_from input.total Value (property_of_name name.now) text.now
+        ≡ walk_after_prop input.total r.0.name r.0.parts r.1.now) }
+    ensures refused { IfErr result
+        (RefusesValue (value_walk_from input.total Value (property_of_name name.now) text.now)) }
     ensures shorter { IfOk result (λ r. length r.1.now < length text.now) }
 {
-    let mut property = Property::named(input.alloc, word_text(input.alloc, name)?);
+    let mut property = Property::of_name(input.alloc, word_text(input.alloc, name)?);
     let rest = read_value(input, &mut property, text)?;
     Ok((property.finish()?, rest))
 }
 
 // Reads a property's value, behind the `=`, with the `;`.
-#[tactic(auto, using(crate::proofs::WalkLemmas::value_from_after))]
+#[tactic(auto, using(crate::proofs::WalkLemmas::value_walk_from_after))]
 fn read_value<'a>(
     input: Input,
     property: &mut Property,
@@ -56,23 +59,25 @@ fn read_value<'a>(
 ) -> Result<&'a [u8], DtsError>
     requires { length text.now ≤ input.total }
     ensures name { OnOk result (property.new.name ≡ property.old.name) }
-    ensures ok { IfOk result (λ rest. value_from input.total Value property.old text.now ≡ value_done input.total property.new rest.now) }
-    ensures refused { IfErr result (λ e. spoken e (value_from input.total Value property.old text.now) ≡ spoken e (value_refused e)) }
+    ensures ok { IfOk result (λ rest. value_walk_from input.total Value property.old text.now
+        ≡ walk_after_value input.total property.new rest.now) }
+    ensures refused { IfErr result
+        (RefusesValue (value_walk_from input.total Value property.old text.now)) }
     ensures shorter { IfOk result (λ rest. length rest.now < length text.now) }
 {
     let mut rest = read_part(input, property, text)?;
     loop {
         let token = next_token(Mode::Values, input.total, rest)?;
         match token.kind {
-            Kind::Comma => rest = read_part(input, property, token.rest)?,
-            Kind::Semicolon => return Ok(token.rest),
+            TokenKind::Comma => rest = read_part(input, property, token.rest)?,
+            TokenKind::Semicolon => return Ok(token.rest),
             _ => return Err(DtsError::Unexpected(token.at)),
         }
     }
 }
 
 // Reads a string, the cells between `< >`, the bytes between `[ ]` or a reference.
-#[tactic(auto, using(crate::proofs::WalkLemmas::value_from_value))]
+#[tactic(auto, using(crate::proofs::WalkLemmas::value_walk_from_value))]
 fn read_part<'a>(
     input: Input,
     property: &mut Property,
@@ -80,17 +85,19 @@ fn read_part<'a>(
 ) -> Result<&'a [u8], DtsError>
     requires { length text.now ≤ input.total }
     ensures name { OnOk result (property.new.name ≡ property.old.name) }
-    ensures ok { IfOk result (λ rest. value_from input.total Value property.old text.now ≡ value_from input.total After property.new rest.now) }
-    ensures refused { IfErr result (λ e. spoken e (value_from input.total Value property.old text.now) ≡ spoken e (value_refused e)) }
+    ensures ok { IfOk result (λ rest. value_walk_from input.total Value property.old text.now
+        ≡ value_walk_from input.total After property.new rest.now) }
+    ensures refused { IfErr result
+        (RefusesValue (value_walk_from input.total Value property.old text.now)) }
     ensures shorter { IfOk result (λ rest. length rest.now < length text.now) }
 {
     let token = next_token(Mode::Values, input.total, text)?;
     match token.kind {
-        Kind::Quoted => {
+        TokenKind::Quoted => {
             add_string(property, token.word)?;
             Ok(token.rest)
         }
-        Kind::Reference => {
+        TokenKind::Reference => {
             let label = word_text(input.alloc, token.word)?;
             refer(
                 input,
@@ -103,23 +110,24 @@ fn read_part<'a>(
             )?;
             Ok(token.rest)
         }
-        Kind::Less => read_cells(input, property, token.rest),
-        Kind::OpenBracket => read_bytes(input, property, token.rest),
+        TokenKind::Less => read_cells(input, property, token.rest),
+        TokenKind::OpenBracket => read_bytes(input, property, token.rest),
         _ => Err(DtsError::Unexpected(token.at)),
     }
 }
 
 fn add_string(property: &mut Property, word: &[u8]) -> Result<(), NoMemory>
-    ensures { OnOk result (property.new ≡ with_bytes property.old (unescaped 0 word.now ++ 0 ∷ [])) }
+    ensures { OnOk result
+        (property.new ≡ with_bytes property.old (quoted_bytes 0 word.now ++ 0 ∷ [])) }
 {
     unescape(&mut property.bytes, word)?;
     property.add(&[0])
 }
 
 fn refer(input: Input, property: &mut Property, reference: Part, at: usize) -> Result<(), DtsError>
-    ensures ok { OnOk result (referring property.old reference at ≡ Ok property.new) }
+    ensures ok { OnOk result (with_reference property.old reference at ≡ Ok property.new) }
     ensures name { OnOk result (property.new.name ≡ property.old.name) }
-    ensures refused { IfErr result (λ e. spoken e (referring property.old reference at) ≡ spoken e (Err e)) }
+    ensures refused { IfErr result (RefusesResult (with_reference property.old reference at)) }
 {
     if property.is_phandle() {
         return Err(DtsError::Unexpected(at));
@@ -129,7 +137,7 @@ fn refer(input: Input, property: &mut Property, reference: Part, at: usize) -> R
 }
 
 // Reads the cells behind a `<`, with the `>`.
-#[tactic(auto, using(crate::proofs::WalkLemmas::value_from_cells))]
+#[tactic(auto, using(crate::proofs::WalkLemmas::value_walk_from_cells))]
 fn read_cells<'a>(
     input: Input,
     property: &mut Property,
@@ -137,17 +145,19 @@ fn read_cells<'a>(
 ) -> Result<&'a [u8], DtsError>
     requires { length text.now ≤ input.total }
     ensures name { OnOk result (property.new.name ≡ property.old.name) }
-    ensures ok { IfOk result (λ rest. value_from input.total Cells property.old text.now ≡ value_from input.total After property.new rest.now) }
-    ensures refused { IfErr result (λ e. spoken e (value_from input.total Cells property.old text.now) ≡ spoken e (value_refused e)) }
+    ensures ok { IfOk result (λ rest. value_walk_from input.total Cells property.old text.now
+        ≡ value_walk_from input.total After property.new rest.now) }
+    ensures refused { IfErr result
+        (RefusesValue (value_walk_from input.total Cells property.old text.now)) }
     ensures shorter { IfOk result (λ rest. length rest.now < length text.now) }
 {
     let mut rest = text;
     loop {
         let token = next_token(Mode::Numbers, input.total, rest)?;
         match token.kind {
-            Kind::Greater => return Ok(token.rest),
-            Kind::Number => property.add(&cell(token.word, token.at)?.to_be_bytes())?,
-            Kind::Reference => {
+            TokenKind::Greater => return Ok(token.rest),
+            TokenKind::Number => property.add(&cell(token.word, token.at)?.to_be_bytes())?,
+            TokenKind::Reference => {
                 let label = word_text(input.alloc, token.word)?;
                 refer(
                     input,
@@ -166,7 +176,7 @@ fn read_cells<'a>(
 }
 
 fn cell(word: &[u8], at: usize) -> Result<u32, DtsError>
-    ensures { result ≡ limited (2 ^ 32) word.now at }
+    ensures { result ≡ number_below (2 ^ 32) word.now at }
 {
     match read_number(word) {
         Ok(n) => u32::try_from(n).map_err(|_| DtsError::NumberTooLarge(at)),
@@ -176,7 +186,7 @@ fn cell(word: &[u8], at: usize) -> Result<u32, DtsError>
 }
 
 // Reads the bytes behind a `[`, with the `]`.
-#[tactic(auto, using(crate::proofs::WalkLemmas::value_from_bytes))]
+#[tactic(auto, using(crate::proofs::WalkLemmas::value_walk_from_bytes))]
 fn read_bytes<'a>(
     input: Input,
     property: &mut Property,
@@ -184,16 +194,18 @@ fn read_bytes<'a>(
 ) -> Result<&'a [u8], DtsError>
     requires { length text.now ≤ input.total }
     ensures name { OnOk result (property.new.name ≡ property.old.name) }
-    ensures ok { IfOk result (λ rest. value_from input.total Bytes property.old text.now ≡ value_from input.total After property.new rest.now) }
-    ensures refused { IfErr result (λ e. spoken e (value_from input.total Bytes property.old text.now) ≡ spoken e (value_refused e)) }
+    ensures ok { IfOk result (λ rest. value_walk_from input.total Bytes property.old text.now
+        ≡ value_walk_from input.total After property.new rest.now) }
+    ensures refused { IfErr result
+        (RefusesValue (value_walk_from input.total Bytes property.old text.now)) }
     ensures shorter { IfOk result (λ rest. length rest.now < length text.now) }
 {
     let mut rest = text;
     loop {
         let token = next_token(Mode::Pairs, input.total, rest)?;
         match token.kind {
-            Kind::CloseBracket => return Ok(token.rest),
-            Kind::Byte => property.add(&[byte(token.word, token.at)?])?,
+            TokenKind::CloseBracket => return Ok(token.rest),
+            TokenKind::Byte => property.add(&[byte(token.word, token.at)?])?,
             _ => return Err(DtsError::Unexpected(token.at)),
         }
         rest = token.rest;

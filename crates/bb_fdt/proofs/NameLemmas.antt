@@ -6,19 +6,20 @@ use Rattle.std.proofs.lemmas.Bool.{and_parts}
 use Rattle.std.proofs.lemmas.List.{drop_all}
 use Rattle.std.proofs.lemmas.Bool.Decides.{nat_tests}
 use Rattle.std.proofs.lemmas.Str.Ascii.{IsAscii-nil, IsAscii-cons}
-use Rattle.bb_fdt.specs.Tokens.{is_name, is_name_byte, ended, name_in}
+use Rattle.bb_fdt.specs.Tokens.{is_name, is_name_byte, up_to_zero, name_in}
 
 small : (c : ℕ) → is_name_byte c ≡ true → c < 128
 small c is = grind (arith, nat_tests)
 
 all_small : (name : List ℕ) → list_all is_name_byte name ≡ true → IsAscii name
 all_small [] is = IsAscii-nil
-all_small (c ∷ cs) is = let parts = and_parts _ _ is in IsAscii-cons c cs (small c parts.0) (all_small cs parts.1)
+all_small (c ∷ cs) is = let parts = and_parts _ _ is in
+    IsAscii-cons c cs (small c parts.0) (all_small cs parts.1)
 
 pub IsAscii-name : (name : List ℕ) → is_name name ≡ true → IsAscii name
 IsAscii-name name is = all_small name (and_parts _ _ is).1
 
 -- no name begins at the end of the strings block or behind it
 pub name_in-past : (strings : List ℕ) (at : ℕ) → length strings ≤ at → name_in strings at ≡ None
-unfolding name_in ended
+unfolding name_in up_to_zero
 name_in-past strings at past = rw (drop_all at strings past) refl

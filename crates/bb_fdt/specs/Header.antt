@@ -17,9 +17,11 @@ use Rattle.bb_fdt.specs.declared.error.FdtError.TheVariants.{NotBlob, Version, O
 use Rattle.bb_fdt.specs.declared.error.Field.TheVariants.{Total, Struct, Strings, Reserve}
 use Rattle.bb_fdt.specs.declared.header.Header.{Header}
 
+-- the word at a place
 unfoldable pub word_at : ℕ → List ℕ → ℕ
 word_at at bytes = big_number 4 (drop at bytes)
 
+-- the words that are looked at
 abbrev pub fields_of : List ℕ → Header
 fields_of bytes = record {
   total = word_at 4 bytes;
@@ -37,14 +39,19 @@ abbrev pub is_outside : ℕ → ℕ → ℕ → Bool
 is_outside total at len = nat_lt total (at + len)
 
 -- the header of a blob among so many bytes, or the first of its faults
-abbrev pub checked : ℕ → Header → Result Header FdtError
-checked len h =
+abbrev pub header_or_fault : ℕ → Header → Result Header FdtError
+header_or_fault len h =
     if nat_lt h.version 17 || nat_lt 17 h.last_version then Err Version else (
     if nat_lt h.total 40 || nat_lt len h.total then Err (OutOfBounds Total) else (
-    if not (h.struct_at % 4 == 0) || is_outside h.total h.struct_at h.struct_len then Err (OutOfBounds Struct) else (
+    if not (h.struct_at % 4 == 0) || is_outside h.total h.struct_at h.struct_len
+    then Err (OutOfBounds Struct)
+    else (
     if is_outside h.total h.strings_at h.strings_len then Err (OutOfBounds Strings) else (
     if not (h.reserve_at % 8 == 0) then Err (OutOfBounds Reserve) else Ok h))))
 
+-- the header that bytes begin with, or the first of its faults
 abbrev pub header_of : List ℕ → Result Header FdtError
 header_of bytes =
-    if nat_lt (length bytes) 40 || not (word_at 0 bytes == 0xD00DFEED) then Err NotBlob else checked (length bytes) (fields_of bytes)
+    if nat_lt (length bytes) 40 || not (word_at 0 bytes == 0xD00DFEED)
+    then Err NotBlob
+    else header_or_fault (length bytes) (fields_of bytes)

@@ -5,13 +5,15 @@ use Rattle.bb_tree.specs.Texts.{texts_in}
 use Rattle.bb_fdt.specs.declared.names.Names.TheInside.{Inside}
 
 -- each name with where it begins, where the first one begins at `at`
-abbrev pub placed : ℕ → List (List ℕ) → List (List ℕ × ℕ)
-placed at [] = []
-placed at (name ∷ names) = (name, at) ∷ placed (at + (length name + 1)) names
+abbrev pub with_places : ℕ → List (List ℕ) → List (List ℕ × ℕ)
+with_places at [] = []
+with_places at (name ∷ names) = (name, at) ∷ with_places (at + (length name + 1)) names
 
+-- the names alone
 abbrev pub names_in : Inside → List (List ℕ)
 names_in n = map (λ e. e.0) (texts_in n.places.entries)
 
+-- each name stands with its place, and the length is the strings block's
 pub record ArePlaced (n : Inside) : Type 0 where
-  pub places : texts_in n.places.entries ≡ placed 0 (names_in n)
+  pub places : texts_in n.places.entries ≡ with_places 0 (names_in n)
   pub len : n.len ≡ length (strings_block (names_in n))

@@ -1,5 +1,5 @@
 ghost use Rattle.std.specs.Prelude.{◌≡◌, ◌≤◌, ◌+◌, Ok, length};
-ghost use Rattle.bb_fdt.specs.Header.{header_of, fields_of, checked, is_outside, word_at};
+ghost use Rattle.bb_fdt.specs.Header.{header_of, fields_of, header_or_fault, is_outside, word_at};
 
 use crate::{FdtError, Field};
 use byteorder::{BigEndian, ByteOrder};
@@ -30,7 +30,7 @@ pub(crate) fn read_header(bytes: &[u8]) -> Result<Header, FdtError>
     if bytes.len() < HEADER_LEN || word_at(bytes, 0) != MAGIC {
         return Err(FdtError::NotBlob);
     }
-    checked(bytes.len(), header_fields(bytes))
+    header_or_fault(bytes.len(), header_fields(bytes))
 }
 
 fn header_fields(bytes: &[u8]) -> Header
@@ -50,8 +50,8 @@ fn header_fields(bytes: &[u8]) -> Header
 }
 
 // The header, where its parts are in bounds.
-fn checked(len: usize, header: Header) -> Result<Header, FdtError>
-    ensures { result ≡ checked len header }
+fn header_or_fault(len: usize, header: Header) -> Result<Header, FdtError>
+    ensures { result ≡ header_or_fault len header }
 {
     if header.version < VERSION || VERSION < header.last_version {
         return Err(FdtError::Version);

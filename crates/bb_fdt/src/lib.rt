@@ -6,7 +6,6 @@
 mod error;
 mod header;
 mod input;
-mod kind;
 mod law;
 mod name;
 mod names;
@@ -16,6 +15,7 @@ mod read;
 mod reserved;
 mod text;
 mod token;
+mod token_kind;
 mod write;
 mod write_node;
 

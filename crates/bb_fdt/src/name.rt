@@ -1,16 +1,16 @@
 ghost use Rattle.std.specs.Prelude.{◌≡◌, ◌==◌, true, IfOk, IfSome};
 ghost use Rattle.std.specs.List.{position_or_len};
 ghost use Rattle.std.specs.Option.{option_map};
-ghost use Rattle.bb_fdt.specs.Tokens.{ended, is_name, name_in};
+ghost use Rattle.bb_fdt.specs.Tokens.{up_to_zero, is_name, name_in};
 
 use bb_base::{NoMemory, Text};
 use std::alloc::Global;
 use std::str;
 
 /// What stands before the first zero byte, if there is one.
-#[tactic(auto, unfolding(crate::specs::Tokens::ended))]
-pub(crate) fn ended(text: &[u8]) -> Option<&[u8]>
-    ensures { option_map (λ name. name.now) result ≡ ended text.now }
+#[tactic(auto, unfolding(crate::specs::Tokens::up_to_zero))]
+pub(crate) fn up_to_zero(text: &[u8]) -> Option<&[u8]>
+    ensures { option_map (λ name. name.now) result ≡ up_to_zero text.now }
 {
     let len = zero_place(text);
     if len < text.len() {
@@ -48,7 +48,7 @@ pub(crate) fn name_in(strings: &[u8], at: u32) -> Option<&[u8]>
     if strings.len() <= at {
         return None;
     }
-    let name = ended(strings.split_at(at).1)?;
+    let name = up_to_zero(strings.split_at(at).1)?;
     if is_name(name) { Some(name) } else { None }
 }
 

@@ -1,10 +1,11 @@
-ghost use Rattle.std.specs.Prelude.{◌≡◌, ◌++◌, ◌∷◌, [], None, OnOk, OnErr, fold, map, slice_get};
+ghost use Rattle.std.specs.Prelude.{◌≡◌, ◌++◌, ◌∷◌, [], None, OnOk, OnErr, fold, slice_get};
 ghost use Rattle.std.specs.Option.{option_map};
 ghost use Rattle.std.specs.Map.{lookup};
 ghost use Rattle.std.specs.Str.{bytes_eq};
 ghost use Rattle.bb_tree.specs.Blob.{has_name, with_name, prop_names, offset_of, strings_block};
+ghost use Rattle.bb_tree.specs.BlobLength.{names_in};
 ghost use Rattle.bb_tree.specs.Node.{grow, empty};
-ghost use Rattle.bb_tree.specs.NodeViews.{branch_of, prop_pair};
+ghost use Rattle.bb_tree.specs.NodeViews.{branch_of};
 ghost use Rattle.bb_tree.specs.Texts.{texts_in};
 
 use bb_base::NoMemory;
@@ -77,8 +78,7 @@ impl Names {
     }
 
     fn add_props(&mut self, props: &PropList) -> Result<(), NoMemory>
-        ensures { OnOk result (self.new
-            ≡ fold with_name self.old (map (λ p. p.0) (map prop_pair props.now))) }
+        ensures { OnOk result (self.new ≡ fold with_name self.old (names_in props.now)) }
     {
         for prop in props.as_slice() {
             self.add(prop.name.as_str())?;

@@ -1,14 +1,14 @@
 ghost use Rattle.std.specs.Prelude.{◌≡◌, ◌≤◌, ◌<◌, Ok, Err, IfOk, IfErr, length};
-ghost use Rattle.bb_fdt.specs.Tokens.{first_token};
+ghost use Rattle.bb_fdt.specs.Tokens.{first_token, found_seen};
 
 use crate::FdtError;
-use crate::kind::Kind;
 use crate::token::token_at;
+use crate::token_kind::TokenKind;
 
 /// A token that was found in the structure block.
 #[derive(Clone, Copy, Debug)]
 pub(crate) struct Found<'a> {
-    pub kind: Kind,
+    pub kind: TokenKind,
     /// A node's name or a property's value.
     pub bytes: &'a [u8],
     /// Where a property's name begins in the strings block.
@@ -22,9 +22,7 @@ pub(crate) struct Found<'a> {
 /// The first token of the text but FDT_NOP. The text ends at the offset `end`.
 pub(crate) fn next_token(end: usize, text: &[u8]) -> Result<Found<'_>, FdtError>
     requires { length text.now ≤ end }
-    ensures found { IfOk result (λ f. first_token end 0 text.now
-        ≡ Ok (record
-        { kind = f.kind; bytes = f.bytes.now; name_at = f.name_at; at = f.at; rest = f.rest.now })) }
+    ensures found { IfOk result (λ f. first_token end 0 text.now ≡ Ok (found_seen f)) }
     ensures refused { IfErr result (λ e. first_token end 0 text.now ≡ Err e) }
     ensures shorter { IfOk result (λ f. length f.rest.now < length text.now) }
 {
@@ -36,7 +34,7 @@ pub(crate) fn next_token(end: usize, text: &[u8]) -> Result<Found<'_>, FdtError>
         };
         let (_, behind) = rest.split_at(token.behind + 1);
         match token.kind {
-            Kind::Nop => rest = behind,
+            TokenKind::Nop => rest = behind,
             kind => {
                 return Ok(Found {
                     kind,

@@ -1,19 +1,19 @@
-ghost use Rattle.std.specs.Prelude.{◌≡◌, ◌≤◌, ◌<◌, ◌+◌, [], Ok, Err, IfOk, IfErr, length, map};
-ghost use Rattle.bb_tree.specs.Node.{forest};
-ghost use Rattle.bb_tree.specs.NodeViews.{branch_of, branches_of, prop_pair};
-ghost use Rattle.bb_fdt.specs.Walk.{Inside, opened, closed, child_name, prop_name};
-ghost use Rattle.bb_fdt.specs.Descent.{from, left, refused, open_of, spoken};
+ghost use Rattle.std.specs.Prelude.{◌≡◌, ◌≤◌, ◌<◌, Ok, IfOk, IfErr, length};
+ghost use Rattle.bb_tree.specs.Depth.{depth_limit};
+ghost use Rattle.bb_tree.specs.NodeViews.{branch_of};
+ghost use Rattle.bb_fdt.specs.Walk.{Inside, open_node, node_of_open, child_name, prop_name};
+ghost use Rattle.bb_fdt.specs.Descent.{block_walk, walk_after_node_read, open_of, RefusesResult, RefusesWalk};
 
 use crate::FdtError;
 use crate::input::Input;
-use crate::kind::Kind;
 use crate::name::{is_name, name_in, name_text};
 use crate::next_token::{Found, next_token};
+use crate::token_kind::TokenKind;
 use bb_base::{Bytes, Text};
-use bb_tree::{DEEPEST, Node, NodeList, Prop, PropList};
+use bb_tree::{DEPTH_LIMIT, Node, NodeList, Prop, PropList};
 
 /// Reads the node of this level and name, behind its FDT_BEGIN_NODE, with its FDT_END_NODE.
-#[tactic(auto, using(crate::proofs::WalkLemmas::item_step, crate::proofs::WalkLemmas::inside_left, crate::proofs::WalkLemmas::inside_refused, crate::proofs::WalkLemmas::inside_spoken))]
+#[tactic(auto, using(crate::proofs::WalkLemmas::item_step, crate::proofs::WalkLemmas::inside_after_node, crate::proofs::WalkLemmas::inside_refusal_walk, crate::proofs::WalkLemmas::inside_unless_memory))]
 pub(crate) fn read_node<'a>(
     input: Input<'_>,
     level: usize,
@@ -21,13 +21,11 @@ pub(crate) fn read_node<'a>(
     text: &'a [u8],
 ) -> Result<(Node, &'a [u8]), FdtError>
     requires within { length text.now ≤ input.end }
-    requires shallow { level ≤ 32 }
-    ensures ok { IfOk result (λ r. from input.entry.strings.now input.entry.end (Inside
-        (opened level name)) text.now
-        ≡ left input.entry.strings.now input.entry.end (branch_of r.0) r.1.now) }
-    ensures refused { IfErr result (λ e. spoken e (from input.entry.strings.now input.entry.end
-        (Inside (opened level name)) text.now)
-        ≡ spoken e (refused e)) }
+    requires shallow { level ≤ depth_limit }
+    ensures ok { IfOk result (λ r. block_walk input.entry (Inside (open_node level name)) text.now
+        ≡ walk_after_node_read input.entry r.0 r.1.now) }
+    ensures refused { IfErr result
+        (RefusesWalk (block_walk input.entry (Inside (open_node level name)) text.now)) }
     ensures shorter { IfOk result (λ r. length r.1.now < length text.now) }
 {
     let mut props = PropList::none(input.alloc);
@@ -36,24 +34,24 @@ pub(crate) fn read_node<'a>(
     loop {
         let token = next_token(input.end, rest)?;
         match token.kind {
-            Kind::BeginNode => {
+            TokenKind::BeginNode => {
                 let name = child_name(input, level, &token)?;
                 let (child, behind) = read_node(input, level + 1, name, token.rest)?;
                 nodes.push(child)?;
                 rest = behind;
             }
-            Kind::Property => {
+            TokenKind::Property => {
                 props.push(read_prop(input, &token)?)?;
                 rest = token.rest;
             }
-            Kind::EndNode => return Ok((closed(level, name, props, nodes), token.rest)),
+            TokenKind::EndNode => return Ok((node_of_open(level, name, props, nodes), token.rest)),
             _ => return Err(FdtError::BadToken(token.at)),
         }
     }
 }
 
-fn closed(_level: usize, name: Text, props: PropList, nodes: NodeList) -> Node
-    ensures { branch_of result ≡ closed (open_of _level name props nodes) }
+fn node_of_open(_level: usize, name: Text, props: PropList, nodes: NodeList) -> Node
+    ensures { branch_of result ≡ node_of_open (open_of _level name props nodes) }
 {
     Node { name, props, nodes }
 }
@@ -61,13 +59,13 @@ fn closed(_level: usize, name: Text, props: PropList, nodes: NodeList) -> Node
 // The name of a node inside one of this level.
 fn child_name(input: Input<'_>, level: usize, token: &Found<'_>) -> Result<Text, FdtError>
     ensures ok { IfOk result (λ name. child_name token.now.at level token.now.bytes.now ≡ Ok name) }
-    ensures refused { IfErr result (λ e. spoken e
-        (child_name token.now.at level token.now.bytes.now) ≡ spoken e (Err e)) }
+    ensures refused { IfErr result
+        (RefusesResult (child_name token.now.at level token.now.bytes.now)) }
 {
     if !is_name(token.bytes) {
         return Err(FdtError::BadName(token.at));
     }
-    if level >= DEEPEST {
+    if level >= DEPTH_LIMIT {
         return Err(FdtError::TooDeep(token.at));
     }
     Ok(name_text(input.alloc, token.bytes)?)
@@ -77,8 +75,8 @@ fn read_prop(input: Input<'_>, token: &Found<'_>) -> Result<Prop, FdtError>
     ensures name { IfOk result
         (λ prop. prop_name token.now.at input.entry.strings.now token.now.name_at ≡ Ok prop.name) }
     ensures value { IfOk result (λ prop. prop.value ≡ token.now.bytes.now) }
-    ensures refused { IfErr result (λ e. spoken e
-        (prop_name token.now.at input.entry.strings.now token.now.name_at) ≡ spoken e (Err e)) }
+    ensures refused { IfErr result
+        (RefusesResult (prop_name token.now.at input.entry.strings.now token.now.name_at)) }
 {
     let Some(name) = name_in(input.strings, token.name_at) else {
         return Err(FdtError::BadName(token.at));

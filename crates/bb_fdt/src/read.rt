@@ -1,17 +1,18 @@
-ghost use Rattle.std.specs.Prelude.{◌≡◌, ◌≢◌, ◌≤◌, ◌<◌, ◌+◌, [], Ok, Err, IfOk, IfErr, length, take, drop};
+ghost use Rattle.std.specs.Prelude.{◌≡◌, ◌≤◌, ◌<◌, ◌+◌, [], Ok, Err, IfOk, IfErr, length, drop};
 ghost use Rattle.bb_tree.specs.Blob.{devicetree_of};
 ghost use Rattle.bb_tree.specs.NodeViews.{branch_of};
-ghost use Rattle.bb_fdt.specs.Walk.{Before, Inside, opened};
-ghost use Rattle.bb_fdt.specs.Descent.{from, left, spoken};
+ghost use Rattle.bb_fdt.specs.Walk.{Before, Inside, open_node};
+ghost use Rattle.bb_fdt.specs.Descent.{block_walk, walk_after_node_read, RefusesResult};
+ghost use Rattle.bb_fdt.specs.Refusals.{Refuses};
 ghost use Rattle.bb_fdt.specs.Reading.{blob_of, part, root_in};
 
 use crate::FdtError;
 use crate::header::{Header, read_header};
 use crate::input::Input;
-use crate::kind::Kind;
 use crate::next_token::next_token;
 use crate::node::read_node;
 use crate::reserved::read_reserved;
+use crate::token_kind::TokenKind;
 use bb_base::Text;
 use bb_tree::{Node, Tree};
 use std::alloc::Global;
@@ -21,7 +22,7 @@ use std::alloc::Global;
 /// first token. Bytes behind the blob's own length, and what follows FDT_END, aren't looked at.
 pub fn read_blob(alloc: Global, bytes: &[u8]) -> Result<Tree, FdtError>
     ensures ok { IfOk result (λ tree. blob_of bytes.now ≡ Ok (devicetree_of tree)) }
-    ensures refused { IfErr result (λ e. e ≢ FdtError.NoMemory → blob_of bytes.now ≡ Err e) }
+    ensures refused { IfErr result (Refuses (blob_of bytes.now)) }
 {
     let header = read_header(bytes)?;
     let blob = bytes.split_at(header.total as usize).0;
@@ -41,13 +42,12 @@ fn behind(bytes: &[u8], at: usize) -> &[u8]
 }
 
 // The root, by the structure block and the strings block.
-#[tactic(auto, unfolding(crate::specs::Descent::from))]
+#[tactic(auto, unfolding(crate::specs::Descent::walk_from))]
 fn read_root(alloc: Global, header: &Header, blob: &[u8]) -> Result<Node, FdtError>
     requires structure { header.now.struct_at + header.now.struct_len ≤ length blob.now }
     requires strings { header.now.strings_at + header.now.strings_len ≤ length blob.now }
     ensures ok { IfOk result (λ root. root_in header.now blob.now ≡ Ok (branch_of root)) }
-    ensures refused { IfErr result (λ e. spoken e (root_in header.now blob.now)
-        ≡ spoken e (Err e)) }
+    ensures refused { IfErr result (RefusesResult (root_in header.now blob.now)) }
 {
     let strings = part(blob, header.strings_at, header.strings_len);
     let end = header.struct_at as usize + header.struct_len as usize;
@@ -69,10 +69,8 @@ fn part(blob: &[u8], at: u32, len: u32) -> &[u8]
 fn read_structure(input: Input<'_>, text: &[u8]) -> Result<Node, FdtError>
     requires { length text.now ≤ input.end }
     ensures ok { IfOk result
-        (λ root. from input.entry.strings.now input.entry.end Before text.now []
-        ≡ Ok (branch_of root)) }
-    ensures refused { IfErr result (λ e. spoken e
-        (from input.entry.strings.now input.entry.end Before text.now []) ≡ spoken e (Err e)) }
+        (λ root. block_walk input.entry Before text.now [] ≡ Ok (branch_of root)) }
+    ensures refused { IfErr result (RefusesResult (block_walk input.entry Before text.now [])) }
 {
     let text = read_begin(input, text)?;
     let name = Text::of(input.alloc, "")?;
@@ -84,16 +82,14 @@ fn read_structure(input: Input<'_>, text: &[u8]) -> Result<Node, FdtError>
 #[tactic(auto, using(crate::proofs::WalkLemmas::root_step))]
 fn read_begin<'a>(input: Input<'_>, text: &'a [u8]) -> Result<&'a [u8], FdtError>
     requires { length text.now ≤ input.end }
-    ensures ok { IfOk result
-        (λ rest. from input.entry.strings.now input.entry.end Before text.now []
-        ≡ from input.entry.strings.now input.entry.end (Inside (opened 1 [])) rest.now []) }
-    ensures refused { IfErr result
-        (λ e. from input.entry.strings.now input.entry.end Before text.now [] ≡ Err e) }
+    ensures ok { IfOk result (λ rest. block_walk input.entry Before text.now []
+        ≡ block_walk input.entry (Inside (open_node 1 [])) rest.now []) }
+    ensures refused { IfErr result (λ e. block_walk input.entry Before text.now [] ≡ Err e) }
     ensures shorter { IfOk result (λ rest. length rest.now < length text.now) }
 {
     let token = next_token(input.end, text)?;
     match token.kind {
-        Kind::BeginNode => Ok(token.rest),
+        TokenKind::BeginNode => Ok(token.rest),
         _ => Err(FdtError::BadToken(token.at)),
     }
 }
@@ -102,14 +98,14 @@ fn read_begin<'a>(input: Input<'_>, text: &'a [u8]) -> Result<&'a [u8], FdtError
 #[tactic(auto, using(crate::proofs::WalkLemmas::end_step))]
 fn read_end(input: Input<'_>, root: Node, text: &[u8]) -> Result<Node, FdtError>
     requires { length text.now ≤ input.end }
-    ensures ok { IfOk result (λ whole. left input.entry.strings.now input.entry.end
-        (branch_of root) text.now [] ≡ Ok (branch_of whole)) }
-    ensures refused { IfErr result (λ e. left input.entry.strings.now input.entry.end
-        (branch_of root) text.now [] ≡ Err e) }
+    ensures ok { IfOk result
+        (λ whole. walk_after_node_read input.entry root text.now [] ≡ Ok (branch_of whole)) }
+    ensures refused { IfErr result
+        (λ e. walk_after_node_read input.entry root text.now [] ≡ Err e) }
 {
     let token = next_token(input.end, text)?;
     match token.kind {
-        Kind::End => Ok(root),
+        TokenKind::End => Ok(root),
         _ => Err(FdtError::BadToken(token.at)),
     }
 }

@@ -1,5 +1,5 @@
 ghost use Rattle.std.specs.Prelude.{◌≡◌, ◌≤◌, ◌+◌, ◌==◌, ◌&&◌, Some, None, IfOk, IfErr, length};
-ghost use Rattle.bb_fdt.specs.Descent.{spoken};
+ghost use Rattle.bb_fdt.specs.Descent.{unless_memory};
 ghost use Rattle.bb_fdt.specs.Reading.{pairs_in, double_word_at};
 ghost use Rattle.bb_fdt.specs.declared.error.Field.TheVariants.{Reserve};
 ghost use Rattle.bb_fdt.specs.declared.error.FdtError.TheVariants.{OutOfBounds};
@@ -14,8 +14,10 @@ const PAIR_LEN: usize = 16;
 /// Reads a reservation list up to its pair of zeros.
 pub(crate) fn read_reserved(alloc: Global, text: &[u8]) -> Result<PairList, FdtError>
     ensures ok { IfOk result (λ pairs. pairs_in 0 text.now ≡ Some pairs) }
-    ensures refused { IfErr result (λ e. spoken e e ≡ spoken e (OutOfBounds Reserve)) }
-    ensures none { IfErr result (λ e. spoken e (pairs_in 0 text.now) ≡ spoken e None) }
+    ensures refused { IfErr result
+        (λ e. unless_memory e e ≡ unless_memory e (OutOfBounds Reserve)) }
+    ensures none { IfErr result
+        (λ e. unless_memory e (pairs_in 0 text.now) ≡ unless_memory e None) }
 {
     let mut pairs = PairList::none(alloc);
     let mut rest = text;

@@ -1,16 +1,16 @@
 ghost use Rattle.std.specs.Prelude.{◌≡◌, ◌≤◌, ◌<◌, [], IfSome, length};
 ghost use Rattle.std.specs.Option.{option_map};
 ghost use Rattle.bb_tree.specs.Blob.{whole_words};
-ghost use Rattle.bb_fdt.specs.Tokens.{token_at, node_at, prop_at};
+ghost use Rattle.bb_fdt.specs.Tokens.{token_at, token_seen, node_at, prop_at};
 
 use crate::header::word_at;
-use crate::kind::Kind;
-use crate::name::ended;
+use crate::name::up_to_zero;
+use crate::token_kind::TokenKind;
 
 /// A token of the structure block.
 #[derive(Clone, Copy, Debug)]
 pub(crate) struct Token<'a> {
-    pub kind: Kind,
+    pub kind: TokenKind,
     /// A node's name or a property's value.
     pub bytes: &'a [u8],
     /// Where a property's name begins in the strings block.
@@ -23,24 +23,22 @@ pub(crate) struct Token<'a> {
 #[tactic(auto, unfolding(crate::specs::Tokens::token_at))]
 pub(crate) fn token_at(text: &[u8]) -> Option<Token<'_>>
     ensures within { IfSome result (λ t. t.behind < length text.now) }
-    ensures token { option_map (λ t. record
-        { kind = t.kind; bytes = t.bytes.now; name_at = t.name_at; behind = t.behind }) result
-        ≡ token_at text.now }
+    ensures token { option_map (λ t. token_seen t) result ≡ token_at text.now }
 {
     if text.len() < 4 {
         return None;
     }
     match word_at(text, 0) {
         1 => node_at(text),
-        2 => Some(bare(Kind::EndNode)),
+        2 => Some(bare(TokenKind::EndNode)),
         3 => prop_at(text),
-        4 => Some(bare(Kind::Nop)),
-        9 => Some(bare(Kind::End)),
+        4 => Some(bare(TokenKind::Nop)),
+        9 => Some(bare(TokenKind::End)),
         _ => None,
     }
 }
 
-fn bare<'a>(kind: Kind) -> Token<'a>
+fn bare<'a>(kind: TokenKind) -> Token<'a>
     ensures kind { result.kind ≡ kind }
     ensures bytes { result.bytes.now ≡ [] }
     ensures name_at { result.name_at ≡ 0 }
@@ -59,13 +57,11 @@ fn bare<'a>(kind: Kind) -> Token<'a>
 fn node_at(text: &[u8]) -> Option<Token<'_>>
     requires { 4 ≤ length text.now }
     ensures within { IfSome result (λ t. t.behind < length text.now) }
-    ensures token { option_map (λ t. record
-        { kind = t.kind; bytes = t.bytes.now; name_at = t.name_at; behind = t.behind }) result
-        ≡ node_at text.now }
+    ensures token { option_map (λ t. token_seen t) result ≡ node_at text.now }
 {
-    let name = ended(text.split_at(4).1)?;
+    let name = up_to_zero(text.split_at(4).1)?;
     let token = Token {
-        kind: Kind::BeginNode,
+        kind: TokenKind::BeginNode,
         bytes: name,
         name_at: 0,
         behind: 3 + whole_words(name.len() + 1),
@@ -82,9 +78,7 @@ fn node_at(text: &[u8]) -> Option<Token<'_>>
 fn prop_at(text: &[u8]) -> Option<Token<'_>>
     requires { 4 ≤ length text.now }
     ensures within { IfSome result (λ t. t.behind < length text.now) }
-    ensures token { option_map (λ t. record
-        { kind = t.kind; bytes = t.bytes.now; name_at = t.name_at; behind = t.behind }) result
-        ≡ prop_at text.now }
+    ensures token { option_map (λ t. token_seen t) result ≡ prop_at text.now }
 {
     if text.len() < 12 {
         return None;
@@ -95,7 +89,7 @@ fn prop_at(text: &[u8]) -> Option<Token<'_>>
         return None;
     }
     Some(Token {
-        kind: Kind::Property,
+        kind: TokenKind::Property,
         bytes: text.split_at(12).1.split_at(len).0,
         name_at: word_at(text, 8),
         behind,

@@ -13,7 +13,7 @@ use Rattle.bb_flash.specs.Calls.{CanErase, CanProgram, ChangesOnly, IsTornBy, Is
 use Rattle.bb_flash.specs.Cuts.{IsContinued, IsLater}
 use Rattle.bb_flash.specs.Device.{Change, IsDevice, Told, change_of, moment}
 use Rattle.bb_flash.specs.Image.{Image, IsImageOf, IsInside}
-use Rattle.bb_flash.specs.Memory.{Memory, after_erase, after_program, after_read, blanked, count_up, device_of, erase_by, failed, fault_of, is_erase_refused, is_program_refused, is_read_refused, program_by, read_by, read_failed, written}
+use Rattle.bb_flash.specs.Memory.{Memory, after_erase, after_program, after_read, with_blanks, count_up, device_of, erase_by, with_fault, fault_of, is_erase_refused, is_program_refused, is_read_refused, program_by, read_by, with_read_fault, with_write}
 use Rattle.bb_flash.proofs.Moments.{image_at-now}
 use Rattle.bb_flash.proofs.Tearing.{Torn-left_by}
 
@@ -92,16 +92,16 @@ continued_more first last change before more =
     }
 
 -- reads
-read_whole_by : (m : Memory) (refused : Bool) (fault : Option Fault) → IsDevice (device_of m) → IsDevice (device_of (cond refused (read_failed m) (read_by fault m)))
-read_whole_by m true fault whole = whole_of m (read_failed m) whole refl refl refl refl
+read_whole_by : (m : Memory) (refused : Bool) (fault : Option Fault) → IsDevice (device_of m) → IsDevice (device_of (cond refused (with_read_fault m) (read_by fault m)))
+read_whole_by m true fault whole = whole_of m (with_read_fault m) whole refl refl refl refl
 read_whole_by m false None whole = whole_of m (read_by None m) whole refl refl refl refl
 read_whole_by m false (Some fault) whole = whole_of m (read_by (Some fault) m) whole refl refl refl refl
 
 pub read_whole : (m : Memory) → IsDevice (device_of m) → IsDevice (device_of (after_read m))
 read_whole m whole = read_whole_by m (is_read_refused m) (fault_of m) whole
 
-read_later_by : (m : Memory) (refused : Bool) (fault : Option Fault) → IsLater (device_of m) (device_of (cond refused (read_failed m) (read_by fault m)))
-read_later_by m true fault = later_of m (read_failed m) refl (count_up-le m.faults) (count_up-le m.read_faults) (continued_same m.told m.told.reads)
+read_later_by : (m : Memory) (refused : Bool) (fault : Option Fault) → IsLater (device_of m) (device_of (cond refused (with_read_fault m) (read_by fault m)))
+read_later_by m true fault = later_of m (with_read_fault m) refl (count_up-le m.faults) (count_up-le m.read_faults) (continued_same m.told m.told.reads)
 read_later_by m false None = later_of m (read_by None m) refl (same_number m.faults) (same_number m.read_faults) (continued_same m.told (m.told.reads + 1))
 read_later_by m false (Some fault) = later_of m (read_by (Some fault) m) refl (count_up-le m.faults) (count_up-le m.read_faults) (continued_same m.told m.told.reads)
 
@@ -109,20 +109,20 @@ pub read_later : (m : Memory) → IsLater (device_of m) (device_of (after_read m
 read_later m = read_later_by m (is_read_refused m) (fault_of m)
 
 -- programs and erases
-written_later : (m : Memory) (fault : Option Fault) (at : ℕ) (bytes : List ℕ) (faults : ℕ) → m.faults ≤ faults → IsLater (device_of m) (device_of (record (written fault at bytes m) { faults = faults }))
+written_later : (m : Memory) (fault : Option Fault) (at : ℕ) (bytes : List ℕ) (faults : ℕ) → m.faults ≤ faults → IsLater (device_of m) (device_of (record (with_write fault at bytes m) { faults = faults }))
 written_later m fault at bytes faults more =
-    later_of m (record (written fault at bytes m) { faults = faults }) refl more (same_number m.read_faults)
+    later_of m (record (with_write fault at bytes m) { faults = faults }) refl more (same_number m.read_faults)
     (continued_more m.told _ (change_of m.geometry.page at bytes m.told.image) refl refl)
 
-program_later_by : (m : Memory) (refused : Bool) (fault : Option Fault) (at : ℕ) (bytes : List ℕ) → IsLater (device_of m) (device_of (cond refused (failed m) (program_by fault at bytes m)))
-program_later_by m true fault at bytes = later_of m (failed m) refl (count_up-le m.faults) (same_number m.read_faults) (continued_same m.told m.told.reads)
+program_later_by : (m : Memory) (refused : Bool) (fault : Option Fault) (at : ℕ) (bytes : List ℕ) → IsLater (device_of m) (device_of (cond refused (with_fault m) (program_by fault at bytes m)))
+program_later_by m true fault at bytes = later_of m (with_fault m) refl (count_up-le m.faults) (same_number m.read_faults) (continued_same m.told m.told.reads)
 program_later_by m false None at bytes = written_later m None at bytes m.faults (same_number m.faults)
 program_later_by m false (Some fault) at bytes = written_later m (Some fault) at bytes (count_up m.faults) (count_up-le m.faults)
 
 pub program_later : (m : Memory) (at : ℕ) (bytes : List ℕ) → IsLater (device_of m) (device_of (after_program at bytes m))
 program_later m at bytes = program_later_by m (is_program_refused m (length bytes)) (fault_of m) at bytes
 
-torn_told : (m : Memory) (fault : Option Fault) (at : ℕ) (bytes : List ℕ) → IsInside m.geometry.page m.told.image at (length bytes) → IsTornBy m.geometry.page at bytes m.told (written fault at bytes m).told
+torn_told : (m : Memory) (fault : Option Fault) (at : ℕ) (bytes : List ℕ) → IsInside m.geometry.page m.told.image at (length bytes) → IsTornBy m.geometry.page at bytes m.told (with_write fault at bytes m).told
 torn_told m fault at bytes inside = record { torn = Torn-left_by fault m.geometry.page m.told.image at bytes inside; change = refl }
 
 touched_by : (m n : Memory) (at : ℕ) (bytes : List ℕ) → IsUntouched m.told n.told ⊎ IsTornBy m.geometry.page at bytes m.told n.told → ChangesOnly at bytes (device_of m) (device_of n)
@@ -132,16 +132,16 @@ touched_by m n at bytes how = record {
       (for_some (λ after. IsUntouched m.told after ⊎ IsTornBy m.geometry.page at bytes m.told after) n.told how);
 }
 
-program_changes_by : (m : Memory) (refused : Bool) (fault : Option Fault) (at : ℕ) (bytes : List ℕ) → IsInside m.geometry.page m.told.image at (length bytes) → ChangesOnly at bytes (device_of m) (device_of (cond refused (failed m) (program_by fault at bytes m)))
-program_changes_by m true fault at bytes inside = touched_by m (failed m) at bytes (inl (record { image = refl; changes = refl }))
+program_changes_by : (m : Memory) (refused : Bool) (fault : Option Fault) (at : ℕ) (bytes : List ℕ) → IsInside m.geometry.page m.told.image at (length bytes) → ChangesOnly at bytes (device_of m) (device_of (cond refused (with_fault m) (program_by fault at bytes m)))
+program_changes_by m true fault at bytes inside = touched_by m (with_fault m) at bytes (inl (record { image = refl; changes = refl }))
 program_changes_by m false None at bytes inside = touched_by m (program_by None at bytes m) at bytes (inr (torn_told m None at bytes inside))
 program_changes_by m false (Some fault) at bytes inside = touched_by m (program_by (Some fault) at bytes m) at bytes (inr (torn_told m (Some fault) at bytes inside))
 
 pub program_changes : (m : Memory) (at : ℕ) (bytes : List ℕ) → IsDevice (device_of m) → CanProgram (device_of m) at (length bytes) → ChangesOnly at bytes (device_of m) (device_of (after_program at bytes m))
 program_changes m at bytes whole can = program_changes_by m (is_program_refused m (length bytes)) (fault_of m) at bytes (inside_program m at (length bytes) whole can)
 
-program_whole_by : (m : Memory) (refused : Bool) (fault : Option Fault) (at : ℕ) (bytes : List ℕ) → IsInside m.geometry.page m.told.image at (length bytes) → IsDevice (device_of m) → IsDevice (device_of (cond refused (failed m) (program_by fault at bytes m)))
-program_whole_by m true fault at bytes inside whole = whole_of m (failed m) whole refl refl refl refl
+program_whole_by : (m : Memory) (refused : Bool) (fault : Option Fault) (at : ℕ) (bytes : List ℕ) → IsInside m.geometry.page m.told.image at (length bytes) → IsDevice (device_of m) → IsDevice (device_of (cond refused (with_fault m) (program_by fault at bytes m)))
+program_whole_by m true fault at bytes inside whole = whole_of m (with_fault m) whole refl refl refl refl
 program_whole_by m false None at bytes inside whole =
     let torn = Torn-left_by None m.geometry.page m.told.image at bytes inside in
     whole_of m (program_by None at bytes m) whole refl torn.bytes.lengths torn.health.lengths refl
@@ -156,20 +156,20 @@ program_whole m at bytes whole can = program_whole_by m (is_program_refused m (l
 abbrev erase_change : Memory → ℕ → Change
 erase_change m block = change_of m.geometry.page (block * m.geometry.block) (blank_block m.geometry) m.told.image
 
-erase_later_by : (m : Memory) (refused : Bool) (fault : Option Fault) (block : ℕ) → IsLater (device_of m) (device_of (cond refused (failed m) (erase_by fault block m)))
-erase_later_by m true fault block = later_of m (failed m) refl (count_up-le m.faults) (same_number m.read_faults) (continued_same m.told m.told.reads)
+erase_later_by : (m : Memory) (refused : Bool) (fault : Option Fault) (block : ℕ) → IsLater (device_of m) (device_of (cond refused (with_fault m) (erase_by fault block m)))
+erase_later_by m true fault block = later_of m (with_fault m) refl (count_up-le m.faults) (same_number m.read_faults) (continued_same m.told m.told.reads)
 erase_later_by m false None block = later_of m (erase_by None block m) refl (same_number m.faults) (same_number m.read_faults) (continued_more m.told _ (erase_change m block) refl refl)
 erase_later_by m false (Some fault) block = later_of m (erase_by (Some fault) block m) refl (count_up-le m.faults) (same_number m.read_faults) (continued_more m.told _ (erase_change m block) refl refl)
 
 pub erase_later : (m : Memory) (block : ℕ) → IsLater (device_of m) (device_of (after_erase block m))
 erase_later m block = erase_later_by m (is_erase_refused m block) (fault_of m) block
 
-torn_block : (m : Memory) (fault : Option Fault) (block : ℕ) → IsDevice (device_of m) → CanErase m.geometry block → IsTornBy m.geometry.page (block * m.geometry.block) (blank_block m.geometry) m.told (blanked fault block m).told
+torn_block : (m : Memory) (fault : Option Fault) (block : ℕ) → IsDevice (device_of m) → CanErase m.geometry block → IsTornBy m.geometry.page (block * m.geometry.block) (blank_block m.geometry) m.told (with_blanks fault block m).told
 torn_block m fault block whole can =
     let bytes : List ℕ = blank_block m.geometry in
     torn_told m fault (block * m.geometry.block) bytes (inside_erase m block (length bytes) whole can (length-replicate {A = ℕ} m.geometry.block 255))
 
-erase_torn_by : (m : Memory) (refused : Bool) (fault : Option Fault) (block : ℕ) → IsDevice (device_of m) → CanErase m.geometry block → IsUntouched m.told (cond refused (failed m) (erase_by fault block m)).told ⊎ IsTornBy m.geometry.page (block * m.geometry.block) (blank_block m.geometry) m.told (cond refused (failed m) (erase_by fault block m)).told
+erase_torn_by : (m : Memory) (refused : Bool) (fault : Option Fault) (block : ℕ) → IsDevice (device_of m) → CanErase m.geometry block → IsUntouched m.told (cond refused (with_fault m) (erase_by fault block m)).told ⊎ IsTornBy m.geometry.page (block * m.geometry.block) (blank_block m.geometry) m.told (cond refused (with_fault m) (erase_by fault block m)).told
 erase_torn_by m true fault block whole can = inl (record { image = refl; changes = refl })
 erase_torn_by m false None block whole can = let torn = torn_block m None block whole can in inr (record { torn = torn.torn; change = torn.change })
 erase_torn_by m false (Some fault) block whole can = let torn = torn_block m (Some fault) block whole can in inr (record { torn = torn.torn; change = torn.change })
@@ -178,8 +178,8 @@ pub erase_changes : (m : Memory) (block : ℕ) → IsDevice (device_of m) → Ca
 erase_changes m block whole can =
     touched_by m (after_erase block m) (block * m.geometry.block) (blank_block m.geometry) (erase_torn_by m (is_erase_refused m block) (fault_of m) block whole can)
 
-erase_whole_by : (m : Memory) (refused : Bool) (fault : Option Fault) (block : ℕ) → IsDevice (device_of m) → CanErase m.geometry block → IsDevice (device_of (cond refused (failed m) (erase_by fault block m)))
-erase_whole_by m true fault block whole can = whole_of m (failed m) whole refl refl refl refl
+erase_whole_by : (m : Memory) (refused : Bool) (fault : Option Fault) (block : ℕ) → IsDevice (device_of m) → CanErase m.geometry block → IsDevice (device_of (cond refused (with_fault m) (erase_by fault block m)))
+erase_whole_by m true fault block whole can = whole_of m (with_fault m) whole refl refl refl refl
 erase_whole_by m false None block whole can =
     let torn = (torn_block m None block whole can).torn in
     whole_of m (erase_by None block m) whole refl torn.bytes.lengths torn.health.lengths (length-set m.told.erases block (slice_index m.told.erases block + 1))

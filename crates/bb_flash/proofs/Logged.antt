@@ -5,8 +5,8 @@ use Rattle.std.proofs.lemmas.List.{take_at, drop_at}
 use Rattle.bb_flash.specs.declared.health.Health.{Health}
 use Rattle.bb_flash.specs.declared.log.Span.{Span}
 use Rattle.bb_flash.specs.Device.{change_of}
-use Rattle.bb_flash.specs.Saved.{Saved, saved_of, history, restored}
-use Rattle.bb_flash.specs.Image.{Image, Torn, overwritten, page_count}
+use Rattle.bb_flash.specs.Saved.{Saved, saved_of, history, image_before}
+use Rattle.bb_flash.specs.Image.{Image, Torn, with_items_at, page_count}
 use Rattle.bb_flash.proofs.Overwrites.{overwritten_back}
 
 pub saved_of-none : (before : List ℕ) (health : List Health) (bytes : List ℕ) → saved_of [] before health bytes ≡ []
@@ -44,17 +44,17 @@ pub history-none : (page : ℕ) (image : Image) → history page [] image ≡ []
 unfolding history
 history-none page image = refl
 
-pub history-more : (page : ℕ) (saved : Saved) (older : List Saved) (image before : Image) → restored page saved image ≡ before → history page (saved ∷ older) image ≡ history page older before ++ change_of page saved.at saved.bytes before ∷ []
+pub history-more : (page : ℕ) (saved : Saved) (older : List Saved) (image before : Image) → image_before page saved image ≡ before → history page (saved ∷ older) image ≡ history page older before ++ change_of page saved.at saved.bytes before ∷ []
 unfolding history
 history-more page saved older image before e = ap (λ b. history page older b ++ change_of page saved.at saved.bytes b ∷ []) e
 
 -- what a call saved of its range is put back
-pub restored_is : (page at len : ℕ) (bytes : List ℕ) (before after : Image) → at + len ≤ length before.bytes → at / page + page_count page at len ≤ length before.health → Torn page at len before after → restored page (record { at = at; before = take len (drop at before.bytes); health = take (page_count page at len) (drop (at / page) before.health); bytes = bytes }) after ≡ before
+pub restored_is : (page at len : ℕ) (bytes : List ℕ) (before after : Image) → at + len ≤ length before.bytes → at / page + page_count page at len ≤ length before.health → Torn page at len before after → image_before page (record { at = at; before = take len (drop at before.bytes); health = take (page_count page at len) (drop (at / page) before.health); bytes = bytes }) after ≡ before
 restored_is page at len bytes before after inside pages torn =
     let image : List ℕ → List Health → Image = λ bytes health. record { bytes = bytes; health = health } in
     let back = overwritten_back at len before.bytes after.bytes inside torn.bytes in
     let health = overwritten_back (at / page) (page_count page at len) before.health after.health pages torn.health in
-    ap (λ b. image b (overwritten (at / page) (take (page_count page at len) (drop (at / page) before.health)) after.health)) back
+    ap (λ b. image b (with_items_at (at / page) (take (page_count page at len) (drop (at / page) before.health)) after.health)) back
     ∙ ap (λ h. image before.bytes h) health
 
 -- a call that saved what stood in its range, and then changed it
@@ -63,4 +63,4 @@ history-saved page saved older before after inside pages torn b h =
     let len = length saved.bytes in
     let of : List ℕ → List Health → Saved = λ bs hs. record { at = saved.at; before = bs; health = hs; bytes = saved.bytes } in
     history-more page saved older after before
-    (ap (λ bs. restored page (of bs saved.health) after) b ∙ ap (λ hs. restored page (of (take len (drop saved.at before.bytes)) hs) after) h ∙ restored_is page saved.at len saved.bytes before after inside pages torn)
+    (ap (λ bs. image_before page (of bs saved.health) after) b ∙ ap (λ hs. image_before page (of (take len (drop saved.at before.bytes)) hs) after) h ∙ restored_is page saved.at len saved.bytes before after inside pages torn)

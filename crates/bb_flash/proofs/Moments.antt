@@ -1,10 +1,10 @@
 -- What a cut may leave, over the calls of a flash: three laws of `Cuts`, and what they give for runs of calls.
-use Rattle.std.proofs.Common.{◌≡◌, ℕ, Bool, true, zero, suc, ◌+◌, ◌-◌, ◌%◌, ◌<◌, ◌≤◌, ◌∙◌, List, [], ◌∷◌, ◌++◌, length, take, Option, Some, None, ap, sym, subst, arith, refl, inl, inr, ◌⊎◌}
+use Rattle.std.proofs.Common.{◌≡◌, ℕ, Bool, true, zero, suc, ◌+◌, ◌-◌, ◌%◌, ◌<◌, ◌≤◌, ◌∙◌, List, [], ◌∷◌, ◌++◌, length, take, take_all, Option, Some, None, ap, sym, subst, arith, refl, inl, inr, ◌⊎◌}
 use Rattle.std.specs.Prelude.{slice_get, unwrap_or}
 use Rattle.std.specs.Option.{ForSome, is_some, option_map}
 use Rattle.std.proofs.lemmas.List.{length-take, take-take}
 use Rattle.std.proofs.lemmas.Option.{slice_get_past, slice_get_within}
-use Rattle.bb_flash.specs.Calls.{ChangesOnly, IsTornBy, IsUntouched, counted}
+use Rattle.bb_flash.specs.Calls.{ChangesOnly, IsTornBy, IsUntouched, told_after_read}
 use Rattle.bb_flash.specs.Cuts.{Cuts, EachImage, EachTorn, IsContinued, IsLater, IsSameRegion, IsTornSince}
 use Rattle.bb_flash.specs.Device.{Change, Device, IsDevice, Told, change_of, image_at, moment}
 use Rattle.bb_flash.specs.Image.{Image, Torn}
@@ -87,11 +87,11 @@ images_of_call page at bytes from to same_page later changes = record {
 }
 
 -- a read adds nothing: what counts is what the device holds
-pub images_of_read : (done : Bool) (from to : Device) → to.told ≡ option_map (counted done) from.told → EachImage (λ before image. image ≡ before) from to
+pub images_of_read : (done : Bool) (from to : Device) → to.told ≡ option_map (told_after_read done) from.told → EachImage (λ before image. image ≡ before) from to
 images_of_read done from to told = record {
   each = λ first e last f image cut.
-      let some : Some last ≡ Some (counted done first) = sym f ∙ told ∙ ap (option_map (counted done)) e in
-      let same : last ≡ counted done first = cc in
+      let some : Some last ≡ Some (told_after_read done first) = sym f ∙ told ∙ ap (option_map (told_after_read done)) e in
+      let same : last ≡ told_after_read done first = cc in
       let kept : last.image ≡ first.image = ap (λ t. t.image) same in
       let since : moment first ≡ moment last = ap moment (sym same) in
       elim cut [
@@ -122,6 +122,19 @@ image_at-earlier mid last k same early =
 -- at the present moment the device holds what it holds
 pub image_at-now : (told : Told) → image_at told (moment told) ≡ told.image
 image_at-now told = ap (λ o. unwrap_or (option_map (λ (c : Change). c.before) o) told.image) (slice_get_past told.changes (moment told) (omega arith))
+
+-- a device where nothing was called
+pub later_same : (device : Device) → IsLater device device
+later_same device = record {
+  geometry = refl;
+  told = refl;
+  faults = omega arith;
+  read_faults = omega arith;
+  continued = λ first e last f.
+      let same : first ≡ last = cc in
+      subst (λ (told : Told). IsContinued first told) same
+      (record { changes = take_all (length first.changes) first.changes (omega arith); held = image_at-now first });
+}
 
 held_joined : (first mid last : Told) → IsContinued first mid → IsContinued mid last → moment first ≤ moment mid → image_at last (moment first) ≡ first.image
 held_joined first mid last early late order = elim (below_or_not (moment first) (moment mid)) [

@@ -12,9 +12,9 @@ use Rattle.bb_flash.specs.declared.health.Health.{Health}
 use Rattle.bb_flash.specs.declared.health.Health.TheVariants.{Fine}
 use Rattle.bb_flash.specs.declared.health.Health.TheVariants.{Lost as lost_health}
 use Rattle.std.proofs.Math.Nat.{lt-div-mul-add, lt_of_mul-lt-mul_right, le-mul_of_pos_right}
-use Rattle.bb_flash.specs.Filled.{filled, left_by}
-use Rattle.bb_flash.specs.Image.{Image, IsImageOf, IsInside, SameOutside, Torn, in_health, page_count, touched_pages, with_bytes, overwritten}
-use Rattle.bb_flash.proofs.Overwrites.{SameOutside-refl, SameOutside-trans, SameOutside-overwritten}
+use Rattle.bb_flash.specs.Filled.{with_fill, left_by}
+use Rattle.bb_flash.specs.Image.{Image, IsImageOf, IsInside, SameOutside, Torn, in_health, page_count, touched_pages, with_bytes, with_items_at}
+use Rattle.bb_flash.proofs.Overwrites.{SameOutside-refl, SameOutside-trans, SameOutside-with_items_at}
 
 pub touched_pages-some : (page at len : ℕ) (pages : List Health) → 0 < len → touched_pages page at len pages ≡ take (page_count page at len) (drop (at / page) pages)
 touched_pages-some page at len pages some = grind (arith, common_steps)
@@ -61,26 +61,26 @@ torn_health page image at len health bytes inside same =
     let pages = pages_inside page (length image.health) at len inside.page_some (omega (arith, inside.pages, inside.inside)) in
     record {
       bytes = same;
-      health = SameOutside-overwritten (at / page) (page_count page at len) (replicate (page_count page at len) health) image.health pages (omega arith);
+      health = SameOutside-with_items_at (at / page) (page_count page at len) (replicate (page_count page at len) health) image.health pages (omega arith);
     }
 
-torn_filled : (filling : Fill) (page : ℕ) (image : Image) (at : ℕ) (bytes : List ℕ) → IsInside page image at (length bytes) → Torn page at (length bytes) image (filled filling page at bytes image)
+torn_filled : (filling : Fill) (page : ℕ) (image : Image) (at : ℕ) (bytes : List ℕ) → IsInside page image at (length bytes) → Torn page at (length bytes) image (with_fill filling page at bytes image)
 torn_filled Old page image at bytes inside = Torn-refl page image at (length bytes)
 torn_filled Half page image at bytes inside =
-    torn_health page image at (length bytes) Fine (overwritten at (take (length bytes / 2) bytes) image.bytes) inside
-    (SameOutside-overwritten at (length bytes) (take (length bytes / 2) bytes) image.bytes inside.inside (grind (arith, common_steps)))
+    torn_health page image at (length bytes) Fine (with_items_at at (take (length bytes / 2) bytes) image.bytes) inside
+    (SameOutside-with_items_at at (length bytes) (take (length bytes / 2) bytes) image.bytes inside.inside (grind (arith, common_steps)))
 torn_filled Junk page image at bytes inside =
     let junk : List ℕ = replicate (length bytes) 165 in
     let size : length junk ≡ length bytes = length-replicate {A = ℕ} (length bytes) 165 in
     subst (λ (len : ℕ). Torn page at len image (with_bytes page at junk Fine image)) size
-    (torn_health page image at (length junk) Fine (overwritten at junk image.bytes) (subst (λ (len : ℕ). IsInside page image at len) (sym size) inside)
-    (SameOutside-overwritten at (length junk) junk image.bytes (omega (arith, inside.inside)) (omega arith)))
+    (torn_health page image at (length junk) Fine (with_items_at at junk image.bytes) (subst (λ (len : ℕ). IsInside page image at len) (sym size) inside)
+    (SameOutside-with_items_at at (length junk) junk image.bytes (omega (arith, inside.inside)) (omega arith)))
 torn_filled Lost page image at bytes inside = torn_health page image at (length bytes) lost_health image.bytes inside (SameOutside-refl at (length bytes) image.bytes)
 
 pub Torn-left_by : (fault : Option Fault) (page : ℕ) (image : Image) (at : ℕ) (bytes : List ℕ) → IsInside page image at (length bytes) → Torn page at (length bytes) image (left_by fault page at bytes image)
 Torn-left_by None page image at bytes inside =
-    torn_health page image at (length bytes) Fine (overwritten at bytes image.bytes) inside
-    (SameOutside-overwritten at (length bytes) bytes image.bytes inside.inside (omega arith))
+    torn_health page image at (length bytes) Fine (with_items_at at bytes image.bytes) inside
+    (SameOutside-with_items_at at (length bytes) bytes image.bytes inside.inside (omega arith))
 Torn-left_by (Some (Fail filling)) page image at bytes inside = torn_filled filling page image at bytes inside
 Torn-left_by (Some (Cut filling)) page image at bytes inside = torn_filled filling page image at bytes inside
 

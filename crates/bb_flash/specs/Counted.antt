@@ -1,7 +1,7 @@
--- Which of the images that a cut may leave count, where a change may leave an image by luck. Luck is
--- a relation of a change and an image, which the crates above give a meaning: there a torn record
--- passes its checks as something that was never written. A call that answers Ok leaves what it was
--- to leave, and no luck is looked for there.
+-- Which of the images that a cut may leave count, where a change may leave an image by luck. Luck
+-- is a relation of a change and an image, which the crates above give a meaning: there a torn
+-- record passes its checks as something that was never written. A call that answers Ok leaves what
+-- it was to leave, and no luck is looked for there.
 use Rattle.std.specs.Prelude.{◌≡◌, ◌⊎◌, ℕ, ◌+◌, ◌<◌, ◌≤◌, slice_get, Some}
 use Rattle.std.specs.Option.{ForSome}
 use Rattle.bb_flash.specs.Image.{Image, Torn}

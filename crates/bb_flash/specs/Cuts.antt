@@ -12,20 +12,24 @@ pub record IsTornSince (page : ℕ) (told : Told) (since : ℕ) (image : Image) 
   pub made : slice_get told.changes call ≡ Some change
   pub torn : Torn page change.at change.len change.before image
 
--- a cut since a moment may have left this image: it is what the device holds, or torn from a call since
+-- a cut since a moment may have left this image: it is what the device holds, or torn from a call
+-- since
 abbrev pub Cuts : ℕ → Told → ℕ → Image → Type 0
 Cuts page told since image = (image ≡ told.image) ⊎ IsTornSince page told since image
 
--- R holds between what the device held in the first state and each image that a cut may have left since, up to the
--- second state
+-- R holds between what the device held in the first state and each image that a cut may have left
+-- since, up to the second state
 pub record EachImage (R : Image → Image → Type 0) (from to : Device) : Type 0 where
   pub each :
       ForSome from.told
       (λ first.
       ForSome to.told
-      (λ last. (image : Image) → Cuts to.geometry.page last (moment first) image → R first.image image))
+      (λ last.
+      (image : Image) →
+      Cuts to.geometry.page last (moment first) image → R first.image image))
 
--- each such image is torn at most in `len` bytes at a place from what the device held in the first state
+-- each such image is torn at most in `len` bytes at a place from what the device held in the first
+-- state
 pub record EachTorn (at len : ℕ) (from to : Device) : Type 0 where
   pub images : EachImage (Torn from.geometry.page at len) from to
 

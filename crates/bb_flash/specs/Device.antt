@@ -13,8 +13,8 @@ pub record Start : Type 0 where
   pub plan : Plan
   pub image : Image
 
--- a call that changed the device, or failed to: what the device held before it, what the call leaves
--- where it answers Ok, and the bytes that it touched
+-- a call that changed the device, or failed to: what the device held before it, what the call
+-- leaves where it answers Ok, and the bytes that it touched
 pub record Change : Type 0 where
   pub before : Image
   pub after : Image
@@ -53,6 +53,7 @@ pub record Device : Type 0 where
   -- starts that failed
   pub start_faults : ℕ
 
+-- the parts of what a device tells, where it tells
 abbrev pub content : Device → Option Image
 content device = option_map (λ told. told.image) device.told
 
@@ -81,14 +82,16 @@ image_at told when =
 pub record IsDevice (device : Device) : Type 0 where
   pub geometry : IsGeometry device.geometry
   pub image : ForSome (content device) (IsImageOf device.geometry)
-  pub erases : ForSome (erases device) (λ numbers. length numbers ≡ device.geometry.size / device.geometry.block)
+  pub erases :
+      ForSome (erases device)
+      (λ numbers. length numbers ≡ device.geometry.size / device.geometry.block)
 
 -- no system was started in between, nor did a start fail
 pub record LeavesStarts (before after : Device) : Type 0 where
   pub starts : starts after ≡ starts before
   pub start_faults : after.start_faults ≡ before.start_faults
 
--- what no read changes, whatever it answers
+-- what no read changes, whatever it answers: it follows from what a read is (`keeps_of_read`)
 pub record ReadKeeps (before after : Device) : Type 0 where
   pub geometry : after.geometry ≡ before.geometry
   pub content : content after ≡ content before
@@ -105,8 +108,11 @@ pub record StartKeeps (before after : Device) : Type 0 where
   pub faults : after.faults ≡ before.faults
   pub read_faults : after.read_faults ≡ before.read_faults
 
--- what a read gave that answered Ok: the worst health of the pages that it touched, and their bytes; of bytes
--- in a Lost page nothing is said
-pub record IsReading (page : ℕ) (image : Image) (at : ℕ) (out : List ℕ) (health : Health) : Type 0 where
+-- what a read gave that answered Ok: the worst health of the pages that it touched, and their
+-- bytes; of bytes in a Lost page nothing is said
+pub record IsReading
+    (page : ℕ) (image : Image) (at : ℕ) (out : List ℕ) (health : Health) : Type 0 where
   pub worst : health ≡ health_of page image at (length out)
-  pub exact : (k len : ℕ) → k + len ≤ length out → health_of page image (at + k) len ≢ Lost → take len (drop k out) ≡ take len (drop (at + k) image.bytes)
+  pub exact :
+      (k len : ℕ) → k + len ≤ length out → health_of page image (at + k) len ≢ Lost →
+      take len (drop k out) ≡ take len (drop (at + k) image.bytes)

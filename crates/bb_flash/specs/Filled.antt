@@ -1,4 +1,5 @@
--- What a board in memory leaves of the bytes that a call was to write, where a fault was planned for it.
+-- What a board in memory leaves of the bytes that a call was to write, where a fault was planned
+-- for it.
 use Rattle.std.specs.Prelude.{ℕ, ◌/◌, Bool, true, false, List, length, take, replicate, Option, Some, None}
 use Rattle.bb_flash.specs.declared.fault.Fault.{Fault}
 use Rattle.bb_flash.specs.declared.fault.Fault.TheVariants.{Fail, Cut}
@@ -6,22 +7,25 @@ use Rattle.bb_flash.specs.declared.fault.Fill.{Fill}
 use Rattle.bb_flash.specs.declared.fault.Fill.TheVariants.{Old, Half, Junk, Lost}
 use Rattle.bb_flash.specs.declared.health.Health.TheVariants.{Fine}
 use Rattle.bb_flash.specs.declared.health.Health.TheVariants.{Lost as lost_health}
-use Rattle.bb_flash.specs.Image.{Image, overwritten, in_health, with_bytes}
+use Rattle.bb_flash.specs.Image.{Image, with_items_at, in_health, with_bytes}
 
+-- the planned fault is a power cut
 abbrev pub is_cut : Option Fault → Bool
 is_cut None = false
 is_cut (Some (Fail filling)) = false
 is_cut (Some (Cut filling)) = true
 
-abbrev pub filled : Fill → ℕ → ℕ → List ℕ → Image → Image
-filled Old page at bytes image = image
-filled Half page at bytes image =
-    in_health page at (length bytes) Fine (record image { bytes = overwritten at (take (length bytes / 2) bytes) image.bytes })
-filled Junk page at bytes image = with_bytes page at (replicate (length bytes) 165) Fine image
-filled Lost page at bytes image = in_health page at (length bytes) lost_health image
+-- the bytes that a failed call was to write are filled
+abbrev pub with_fill : Fill → ℕ → ℕ → List ℕ → Image → Image
+with_fill Old page at bytes image = image
+with_fill Half page at bytes image =
+    in_health page at (length bytes) Fine
+    (record image { bytes = with_items_at at (take (length bytes / 2) bytes) image.bytes })
+with_fill Junk page at bytes image = with_bytes page at (replicate (length bytes) 165) Fine image
+with_fill Lost page at bytes image = in_health page at (length bytes) lost_health image
 
 -- what a call leaves that was to write these bytes
 abbrev pub left_by : Option Fault → ℕ → ℕ → List ℕ → Image → Image
 left_by None page at bytes image = with_bytes page at bytes Fine image
-left_by (Some (Fail filling)) page at bytes image = filled filling page at bytes image
-left_by (Some (Cut filling)) page at bytes image = filled filling page at bytes image
+left_by (Some (Fail filling)) page at bytes image = with_fill filling page at bytes image
+left_by (Some (Cut filling)) page at bytes image = with_fill filling page at bytes image

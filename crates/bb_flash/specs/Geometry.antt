@@ -13,7 +13,8 @@ pub record HasBlocks (geometry : Geometry) : Type 0 where
   pub block_pages : geometry.block % geometry.page ≡ 0
   pub size_blocks : geometry.size % geometry.block ≡ 0
 
--- the geometries that a word can give: block 0 stands for a device that is overwritten in place, byte by byte
+-- the geometries that a word can give: block 0 stands for a device that is overwritten in place,
+-- byte by byte
 pub record IsGeometry (geometry : Geometry) : Type 0 where
   pub page_some : 1 ≤ geometry.page
   pub size_some : 1 ≤ geometry.size
@@ -30,12 +31,15 @@ pub record IsMultiple (unit low high number : ℕ) : Type 0 where
 -- the number that a text spells, where it is such a multiple
 abbrev pub multiple_of : ℕ → ℕ → ℕ → List ℕ → Option ℕ
 multiple_of unit low high text =
-    option_and_then (λ n. if (nat_le low n && nat_le n high) && (n % unit == 0) then Some n else None) (result_ok (number_of text))
+    option_and_then
+    (λ n. if (nat_le low n && nat_le n high) && (n % unit == 0) then Some n else None)
+    (result_ok (number_of text))
 
+-- a device that is overwritten in place
 abbrev pub in_place_of : ℕ → Geometry
 in_place_of size = record { page = 1; block = 0; size = size }
 
--- what stands before the first colon, and after it
+-- what stands before the first colon, and what after it
 abbrev pub first_part : List ℕ → List ℕ
 first_part text = before_first (λ c. c == 58) text
 
@@ -49,7 +53,8 @@ blocks_from text =
     (λ page.
     option_and_then
     (λ block.
-    option_map (λ size. record { page = page; block = block; size = size }) (multiple_of block 1 268435456 (other_parts (other_parts text))))
+    option_map (λ size. record { page = page; block = block; size = size })
+    (multiple_of block 1 268435456 (other_parts (other_parts text))))
     (multiple_of page 1 4194304 (first_part (other_parts text))))
     (multiple_of 1 16 16384 (first_part text))
 

@@ -5,6 +5,7 @@ use Rattle.bb_flash.specs.declared.geometry.Geometry.{Geometry}
 use Rattle.bb_flash.specs.declared.health.Health.{Health}
 use Rattle.bb_flash.specs.declared.health.Health.TheVariants.{Fine, Worn, Lost}
 
+-- one health a page
 pub record Image : Type 0 where
   pub bytes : List ℕ
   pub health : List Health
@@ -32,13 +33,15 @@ page_count page at len = div_ceil (at + len) page - at / page
 
 -- of the pages of a device, those in which one of the `len` bytes at a place stands
 abbrev pub touched_pages : ℕ → ℕ → ℕ → List Health → List Health
-touched_pages page at len pages = if len == 0 then [] else take (page_count page at len) (drop (at / page) pages)
+touched_pages page at len pages =
+    if len == 0 then [] else take (page_count page at len) (drop (at / page) pages)
 
 -- the worst health among the pages in which the `len` bytes at a place stand
 abbrev pub health_of : ℕ → Image → ℕ → ℕ → Health
 health_of page image at len = worst_of (touched_pages page at len image.health)
 
--- the `len` bytes at a place are blank, as after an erase: each is 0xFF, and none of their pages is Lost
+-- the `len` bytes at a place are blank, as after an erase: each is 0xFF, and none of their pages is
+-- Lost
 pub record IsBlank (page : ℕ) (image : Image) (at len : ℕ) : Type 0 where
   pub clean : take len (drop at image.bytes) ≡ replicate len 255
   pub alive : health_of page image at len ≢ Lost
@@ -51,18 +54,21 @@ pub record IsInside (page : ℕ) (image : Image) (at len : ℕ) : Type 0 where
   pub small : length image.bytes < 2 ^ 32
 
 -- a list in which new items took the place of those from one on
-abbrev pub overwritten : {X : Type 0} → ℕ → List X → List X → List X
-overwritten at new old = take at old ++ new ++ drop (at + length new) old
+abbrev pub with_items_at : {X : Type 0} → ℕ → List X → List X → List X
+with_items_at at new old = take at old ++ new ++ drop (at + length new) old
 
 -- the pages in which the `len` bytes at a place stand are in this health
 abbrev pub in_health : ℕ → ℕ → ℕ → Health → Image → Image
 in_health page at len health image =
-    record image { health = overwritten (at / page) (replicate (page_count page at len) health) image.health }
+    record image {
+      health = with_items_at (at / page) (replicate (page_count page at len) health) image.health;
+    }
 
 -- bytes were written over those at a place, and their pages are in this health since
 abbrev pub with_bytes : ℕ → ℕ → List ℕ → Health → Image → Image
 with_bytes page at bytes health image =
-    in_health page at (length bytes) health (record image { bytes = overwritten at bytes image.bytes })
+    in_health page at (length bytes) health
+    (record image { bytes = with_items_at at bytes image.bytes })
 
 -- two lists of one length, with the same items outside of `len` items from a place on
 pub record SameOutside {X : Type 0} (at len : ℕ) (before after : List X) : Type 0 where
@@ -70,8 +76,8 @@ pub record SameOutside {X : Type 0} (at len : ℕ) (before after : List X) : Typ
   pub front : take at after ≡ take at before
   pub behind : drop (at + len) after ≡ drop (at + len) before
 
--- what a call may leave that failed, or that a cut fell into, where it touched `len` bytes at a place: there any
--- bytes and any health of their pages, and all else as before
+-- what a call may leave that failed, or that a cut fell into, where it touched `len` bytes at a
+-- place: there any bytes and any health of their pages, and all else as before
 pub record Torn (page at len : ℕ) (before image : Image) : Type 0 where
   pub bytes : SameOutside at len before.bytes image.bytes
   pub health : SameOutside (at / page) (page_count page at len) before.health image.health

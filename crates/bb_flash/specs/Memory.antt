@@ -7,9 +7,10 @@ use Rattle.bb_flash.specs.declared.health.Health.TheVariants.{Fine}
 use Rattle.bb_flash.specs.declared.fault.Fault.{Fault}
 use Rattle.bb_flash.specs.declared.plan.Plan.{Plan}
 use Rattle.bb_flash.specs.Device.{Device, Told}
-use Rattle.bb_flash.specs.Calls.{blank_block, changed, counted, erase_counted, started}
+use Rattle.bb_flash.specs.Calls.{blank_block, with_change, told_after_read, with_erase, told_after_start}
 use Rattle.bb_flash.specs.Filled.{is_cut, left_by}
 
+-- what a board in memory is
 pub record Memory : Type 0 where
   pub geometry : Geometry
   pub told : Told
@@ -19,7 +20,8 @@ pub record Memory : Type 0 where
   -- how many calls it records, and how many bytes
   pub most_calls : ℕ
   pub most_bytes : ℕ
-  -- the flash calls that were recorded since the last restart, and the bytes that they were to write
+  -- the flash calls that were recorded since the last restart, and the bytes that they were to
+  -- write
   pub calls : ℕ
   pub used : ℕ
   -- the planned faults by the number of their call, the newest first
@@ -31,7 +33,7 @@ pub record Memory : Type 0 where
   pub was_cut : Bool
   -- the programs and the erases that answered Ok
   pub programs : ℕ
-  pub erased : ℕ
+  pub erase_count : ℕ
 
 -- the board as a flash device
 abbrev pub device_of : Memory → Device
@@ -66,7 +68,7 @@ fresh_memory geometry bytes most_calls most_bytes = record {
   failing = [];
   was_cut = false;
   programs = 0;
-  erased = 0;
+  erase_count = 0;
 }
 
 -- the fault that was last planned for a call
@@ -81,10 +83,12 @@ fault_of memory = planned_at memory.plan memory.calls
 abbrev pub is_full : ℕ → Bool
 is_full number = nat_le (2 ^ 64 - 1) number
 
--- a call that is to write so many bytes is refused: a cut came before it, or there is no room to record it
+-- a call that is to write so many bytes is refused: a cut came before it, or there is no room to
+-- record it
 abbrev pub is_refused : Memory → ℕ → Bool
 is_refused memory len =
-    memory.was_cut || (nat_le memory.most_calls memory.calls || nat_lt memory.most_bytes (memory.used + len))
+    memory.was_cut
+    || (nat_le memory.most_calls memory.calls || nat_lt memory.most_bytes (memory.used + len))
 
 -- there is room to record a call that is to write so many bytes
 pub record HasRoom (memory : Memory) (len : ℕ) : Type 0 where
@@ -92,16 +96,21 @@ pub record HasRoom (memory : Memory) (len : ℕ) : Type 0 where
   pub count : memory.most_calls < 2 ^ 32
   pub bytes : memory.used + len ≤ memory.most_bytes
 
+-- a read, a program or an erase is refused: so too where its number of calls that answered Ok can
+-- rise no more
 abbrev pub is_read_refused : Memory → Bool
-is_read_refused memory = is_refused memory 0 || (is_none (fault_of memory) && is_full memory.told.reads)
+is_read_refused memory =
+    is_refused memory 0 || (is_none (fault_of memory) && is_full memory.told.reads)
 
 abbrev pub is_program_refused : Memory → ℕ → Bool
-is_program_refused memory len = is_refused memory len || (is_none (fault_of memory) && is_full memory.programs)
+is_program_refused memory len =
+    is_refused memory len || (is_none (fault_of memory) && is_full memory.programs)
 
 abbrev pub is_erase_refused : Memory → ℕ → Bool
 is_erase_refused memory block =
     is_refused memory memory.geometry.block
-    || (is_none (fault_of memory) && (is_full memory.erased || is_full (slice_index memory.told.erases block)))
+    || (is_none (fault_of memory)
+    && (is_full memory.erase_count || is_full (slice_index memory.told.erases block)))
 
 -- the answer is Failed
 abbrev pub fails_to_read : Memory → Bool
@@ -117,80 +126,100 @@ fails_to_erase memory block = is_erase_refused memory block || is_some (fault_of
 abbrev pub count_up : ℕ → ℕ
 count_up count = if is_full count then count else count + 1
 
--- a call failed
-abbrev pub failed : Memory → Memory
-failed memory = record memory { faults = count_up memory.faults }
+-- with one call more that failed
+abbrev pub with_fault : Memory → Memory
+with_fault memory = record memory { faults = count_up memory.faults }
 
--- a read failed
-abbrev pub read_failed : Memory → Memory
-read_failed memory = record (failed memory) { read_faults = count_up memory.read_faults }
+-- with one read more that failed
+abbrev pub with_read_fault : Memory → Memory
+with_read_fault memory = record (with_fault memory) { read_faults = count_up memory.read_faults }
 
--- a call was recorded that was to write so many bytes, and met its planned fault
-abbrev pub recorded : Option Fault → ℕ → Memory → Memory
-recorded fault len memory =
-    record memory { calls = memory.calls + 1; used = memory.used + len; was_cut = memory.was_cut || is_cut fault }
-
-abbrev pub read_by : Option Fault → Memory → Memory
-read_by None memory = record (recorded None 0 memory) { told = counted true memory.told }
-read_by (Some fault) memory = read_failed (recorded (Some fault) 0 memory)
-
-abbrev pub after_read : Memory → Memory
-after_read memory = if is_read_refused memory then read_failed memory else read_by (fault_of memory) memory
-
--- a call was recorded that was to write bytes, and left of them what its planned fault says
-abbrev pub written : Option Fault → ℕ → List ℕ → Memory → Memory
-written fault at bytes memory =
-    let page = memory.geometry.page in
-    record (recorded fault (length bytes) memory) {
-      told = changed page at bytes (left_by fault page at bytes memory.told.image) memory.told;
+-- with one call more that is recorded, which was to write so many bytes, and met its planned fault
+abbrev pub with_call : Option Fault → ℕ → Memory → Memory
+with_call fault len memory =
+    record memory {
+      calls = memory.calls + 1;
+      used = memory.used + len;
+      was_cut = memory.was_cut || is_cut fault;
     }
 
-abbrev pub program_by : Option Fault → ℕ → List ℕ → Memory → Memory
-program_by None at bytes memory = record (written None at bytes memory) { programs = memory.programs + 1 }
-program_by (Some fault) at bytes memory = failed (written (Some fault) at bytes memory)
+-- after a read that met this fault, or none
+abbrev pub read_by : Option Fault → Memory → Memory
+read_by None memory = record (with_call None 0 memory) { told = told_after_read true memory.told }
+read_by (Some fault) memory = with_read_fault (with_call (Some fault) 0 memory)
 
+-- after a read
+abbrev pub after_read : Memory → Memory
+after_read memory =
+    if is_read_refused memory then with_read_fault memory else read_by (fault_of memory) memory
+
+-- with one call more that was to write bytes, and left of them what its planned fault says
+abbrev pub with_write : Option Fault → ℕ → List ℕ → Memory → Memory
+with_write fault at bytes memory =
+    let page = memory.geometry.page in
+    record (with_call fault (length bytes) memory) {
+      told = with_change page at bytes (left_by fault page at bytes memory.told.image) memory.told;
+    }
+
+-- after a program that met this fault, or none
+abbrev pub program_by : Option Fault → ℕ → List ℕ → Memory → Memory
+program_by None at bytes memory =
+    record (with_write None at bytes memory) { programs = memory.programs + 1 }
+program_by (Some fault) at bytes memory = with_fault (with_write (Some fault) at bytes memory)
+
+-- after a program
 abbrev pub after_program : ℕ → List ℕ → Memory → Memory
 after_program at bytes memory =
-    if is_program_refused memory (length bytes) then failed memory else program_by (fault_of memory) at bytes memory
+    if is_program_refused memory (length bytes)
+    then with_fault memory
+    else program_by (fault_of memory) at bytes memory
 
--- a block was to be erased
-abbrev pub blanked : Option Fault → ℕ → Memory → Memory
-blanked fault block memory =
-    written fault (block * memory.geometry.block) (blank_block memory.geometry) memory
+-- with one call more that was to erase a block
+abbrev pub with_blanks : Option Fault → ℕ → Memory → Memory
+with_blanks fault block memory =
+    with_write fault (block * memory.geometry.block) (blank_block memory.geometry) memory
 
+-- after an erase that met this fault, or none
 abbrev pub erase_by : Option Fault → ℕ → Memory → Memory
 erase_by None block memory =
-    record (blanked None block memory) { told = erase_counted block (blanked None block memory).told; erased = memory.erased + 1 }
-erase_by (Some fault) block memory = failed (blanked (Some fault) block memory)
+    record (with_blanks None block memory) {
+      told = with_erase block (with_blanks None block memory).told;
+      erase_count = memory.erase_count + 1;
+    }
+erase_by (Some fault) block memory = with_fault (with_blanks (Some fault) block memory)
 
+-- after an erase
 abbrev pub after_erase : ℕ → Memory → Memory
 after_erase block memory =
-    if is_erase_refused memory block then failed memory else erase_by (fault_of memory) block memory
+    if is_erase_refused memory block
+    then with_fault memory
+    else erase_by (fault_of memory) block memory
 
 -- a start is refused: a cut came before it, there is no room for a copy of what the board holds, or
 -- the number of starts that were tried can rise no more
 abbrev pub is_start_refused : Memory → Bool
 is_start_refused memory =
-    memory.was_cut || (nat_lt memory.most_bytes (memory.used + memory.geometry.size) || is_full memory.tried)
+    memory.was_cut
+    || (nat_lt memory.most_bytes (memory.used + memory.geometry.size) || is_full memory.tried)
 
 -- the answer is Failed, whatever memory there is
 abbrev pub fails_to_start : Memory → Bool
 fails_to_start memory =
     is_start_refused memory || list_any (λ start. start == memory.tried) memory.failing
 
--- a start failed; one that was refused isn't counted among those that were tried
-abbrev pub start_failed : Memory → Memory
-start_failed memory =
+-- after a start that failed; one that was refused isn't counted among those that were tried
+abbrev pub after_failed_start : Memory → Memory
+after_failed_start memory =
     record memory {
       tried = (if is_start_refused memory then memory.tried else memory.tried + 1);
       start_faults = count_up memory.start_faults;
     }
 
--- a start was made; the copy of what the board holds takes room for good
-abbrev pub start_made : Plan → Memory → Memory
-start_made plan memory =
+-- after a start that was made; the copy of what the board holds takes room for good
+abbrev pub after_start : Plan → Memory → Memory
+after_start plan memory =
     record memory {
-      told = started plan memory.told;
+      told = told_after_start plan memory.told;
       most_bytes = memory.most_bytes - memory.geometry.size;
       tried = memory.tried + 1;
     }
@@ -200,7 +229,9 @@ abbrev pub with_health : Memory → ℕ → Health → Memory
 with_health memory page health =
     record memory {
       told = record memory.told {
-        image = record memory.told.image { health = slice_set memory.told.image.health page health };
+        image = record memory.told.image {
+          health = slice_set memory.told.image.health page health;
+        };
         changes = [];
       };
       used = 0;
@@ -208,8 +239,8 @@ with_health memory page health =
 
 -- the record and the planned faults are gone; what the device holds stays, and so do the starts and
 -- the counts
-abbrev pub restarted : Memory → Memory
-restarted memory =
+abbrev pub after_restart : Memory → Memory
+after_restart memory =
     record memory {
       told = record memory.told { changes = [] };
       calls = 0;

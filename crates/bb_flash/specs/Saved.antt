@@ -5,7 +5,7 @@ use Rattle.bb_flash.specs.declared.health.Health.{Health}
 use Rattle.bb_flash.specs.declared.log.Span.{Span}
 use Rattle.bb_flash.specs.declared.geometry.Geometry.{Geometry}
 use Rattle.bb_flash.specs.Geometry.{IsGeometry}
-use Rattle.bb_flash.specs.Image.{Image, IsImageOf, overwritten}
+use Rattle.bb_flash.specs.Image.{Image, IsImageOf, with_items_at}
 use Rattle.bb_flash.specs.Device.{Change, Start, change_of}
 use Rattle.bb_flash.specs.Calls.{blank_block}
 
@@ -16,6 +16,7 @@ pub record Saved : Type 0 where
   pub health : List Health
   pub bytes : List ℕ
 
+-- how much there is room for, and what was saved
 pub record Record : Type 0 where
   pub most_calls : ℕ
   pub most_bytes : ℕ
@@ -41,18 +42,18 @@ saved_of (span ∷ older) before health bytes =
     (take (length bytes - span.bytes) bytes)
 
 -- what the device held before the call, where it held this image after it
-abbrev pub restored : ℕ → Saved → Image → Image
-restored page saved image = record {
-  bytes = overwritten saved.at saved.before image.bytes;
-  health = overwritten (saved.at / page) saved.health image.health;
+abbrev pub image_before : ℕ → Saved → Image → Image
+image_before page saved image = record {
+  bytes = with_items_at saved.at saved.before image.bytes;
+  health = with_items_at (saved.at / page) saved.health image.health;
 }
 
 -- the changes in the order in which they came, where the device holds this image after them
 unfoldable pub history : ℕ → List Saved → Image → List Change
 history page [] image = []
 history page (saved ∷ older) image =
-    history page older (restored page saved image)
-    ++ change_of page saved.at saved.bytes (restored page saved image) ∷ []
+    history page older (image_before page saved image)
+    ++ change_of page saved.at saved.bytes (image_before page saved image) ∷ []
 
 -- what holds of the fields of every board in memory
 pub record IsMemory

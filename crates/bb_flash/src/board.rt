@@ -1,6 +1,6 @@
 ghost use Rattle.std.specs.Prelude.{◌≡◌, option_map, IsErr, OnOk, OnErr};
 ghost use Rattle.bb_base.specs.Faults.{HasCause};
-ghost use Rattle.bb_flash.specs.Calls.{started};
+ghost use Rattle.bb_flash.specs.Calls.{told_after_start};
 ghost use Rattle.bb_flash.specs.Cuts.{IsLater};
 ghost use Rattle.bb_flash.specs.Device.{IsDevice, StartKeeps};
 
@@ -14,7 +14,7 @@ pub trait Board: Flash {
     /// on the device, so what a power cut leaves in it is what the device holds.
     fn start(&mut self, plan: &Plan) -> Result<(), Failed>
         ensures done { OnOk result ((Self.device self.new).told ≡
-            option_map (started plan.now) (Self.device self.old).told) }
+            option_map (told_after_start plan.now) (Self.device self.old).told) }
         ensures failed { OnErr result ((Self.device self.new).told ≡ (Self.device self.old).told) }
         ensures keeps { StartKeeps (Self.device self.old) (Self.device self.new) }
         ensures later { IsLater (Self.device self.old) (Self.device self.new) }

@@ -1,6 +1,6 @@
 ghost use Rattle.std.specs.Prelude.{◌≡◌, ◌+◌, ◌≤◌, ◌<◌, length, replicate, IfOk};
-ghost use Rattle.bb_flash.specs.Filled.{filled, left_by};
-ghost use Rattle.bb_flash.specs.Image.{IsInside, overwritten, in_health};
+ghost use Rattle.bb_flash.specs.Filled.{with_fill, left_by};
+ghost use Rattle.bb_flash.specs.Image.{IsInside, with_items_at, in_health};
 
 use crate::{Fault, Fill, Health};
 use bb_base::NoMemory;
@@ -36,7 +36,7 @@ impl Cells {
     // Writes bytes over those at a place.
     fn put(&mut self, at: u32, bytes: &[u8])
         requires { at + length bytes.now ≤ length self.old.bytes }
-        ensures { self.new ≡ record self.old { bytes = overwritten at bytes.now self.old.bytes } }
+        ensures { self.new ≡ record self.old { bytes = with_items_at at bytes.now self.old.bytes } }
     {
         let first = at as usize;
         self.bytes[first..first + bytes.len()].copy_from_slice(bytes);
@@ -45,7 +45,9 @@ impl Cells {
     // Sets `len` bytes at a place to one value.
     fn fill(&mut self, at: u32, len: u32, value: u8)
         requires { at + len ≤ length self.old.bytes }
-        ensures { self.new ≡ record self.old { bytes = overwritten at (replicate len value) self.old.bytes } }
+        ensures { self.new ≡ record self.old {
+          bytes = with_items_at at (replicate len value) self.old.bytes;
+        } }
     {
         let first = at as usize;
         self.bytes[first..first + len as usize].fill(value);
@@ -64,7 +66,7 @@ impl Cells {
     // Leaves what a failed call leaves that was to write these bytes.
     fn tear(&mut self, page: u32, at: u32, bytes: &[u8], filling: Fill)
         requires { IsInside page self.old at (length bytes.now) }
-        ensures { self.new ≡ filled filling page at bytes.now self.old }
+        ensures { self.new ≡ with_fill filling page at bytes.now self.old }
     {
         let len = bytes.len() as u32;
         match filling {

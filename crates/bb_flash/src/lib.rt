@@ -15,8 +15,6 @@ mod pages;
 mod plan;
 mod plan_list;
 mod region;
-#[cfg(test)]
-mod tests;
 
 pub use board::Board;
 pub use fault::{Fault, Fill};

@@ -1,9 +1,7 @@
-ghost use Rattle.std.specs.Prelude.{◌≡◌, ◌+◌, ◌*◌, ◌<◌, ◌≤◌, ◌∷◌, [], length, option_map, IfOk, IsErr, OnOk, OnErr, is_err, is_ok};
+ghost use Rattle.std.specs.Prelude.{◌≡◌, ◌+◌, ◌*◌, ◌<◌, ◌≤◌, ◌∷◌, length, option_map, IfOk, OnOk, OnErr, is_err};
 ghost use Rattle.std.specs.Option.{ForSome};
-ghost use Rattle.bb_base.specs.Faults.{HasCause};
-ghost use Rattle.bb_flash.specs.Calls.{CanErase, CanProgram, ChangesOnly, blank_block, counted, erased, programmed};
-ghost use Rattle.bb_flash.specs.Cuts.{EachTorn, IsLater};
-ghost use Rattle.bb_flash.specs.Device.{IsDevice, IsReading, LeavesStarts, ReadKeeps, content, erases, reads};
+ghost use Rattle.bb_flash.specs.Calls.{CanErase, CanProgram, IsChangeCall, IsReadCall, blank_block, told_after_erase, told_after_program};
+ghost use Rattle.bb_flash.specs.Device.{IsReading, content, erases};
 ghost use Rattle.bb_flash.specs.Geometry.{IsGeometry};
 ghost use Rattle.bb_flash.specs.Memory as memory;
 ghost use Rattle.bb_flash.specs.Memory.{device_of};
@@ -39,7 +37,7 @@ pub struct MemBoard {
     plan: Vec<(u32, Fault)>,
     was_cut: bool,
     programs: u64,
-    erased: u64,
+    erase_count: u64,
     starts: Vec<StartMade>,
     start_faults: u64,
     tried: u64,
@@ -74,12 +72,12 @@ impl Model for MemBoard {
           failing = board.failing.items;
           was_cut = board.was_cut;
           programs = board.programs;
-          erased = board.erased;
+          erase_count = board.erase_count;
         } };
 
     ghost invariant = { λ board.
-        IsMemory board.geometry board.cells board.log board.blank.items board.erases.items board.calls
-        board.starts.items };
+        IsMemory board.geometry board.cells board.log board.blank.items board.erases.items
+        board.calls board.starts.items };
 }
 
 impl MemBoard {
@@ -115,7 +113,7 @@ impl MemBoard {
             plan: Vec::new(alloc),
             was_cut: false,
             programs: 0,
-            erased: 0,
+            erase_count: 0,
             starts: Vec::new(alloc),
             start_faults: 0,
             tried: 0,
@@ -126,7 +124,8 @@ impl MemBoard {
     /// Plans a fault at a flash call, counted from 0 since the last restart. It takes the place of an earlier one
     /// at that call.
     pub fn plan_fault(&mut self, call: u32, fault: Fault) -> Result<(), NoMemory>
-        ensures ok { OnOk result (self.new ≡ record self.old { plan = (call, fault) ∷ self.old.plan }) }
+        ensures ok { OnOk result (self.new
+            ≡ record self.old { plan = (call, fault) ∷ self.old.plan }) }
         ensures err { OnErr result (self.new ≡ self.old) }
     {
         self.plan.insert(0, (call, fault))?;
@@ -137,7 +136,7 @@ impl MemBoard {
     /// Starts the board anew after a cut, or without one: what it holds stays, and so do the starts and the counts of
     /// faults, reads, programs and erases. The record of calls and the planned faults go.
     pub fn restart(&mut self)
-        ensures { self.new ≡ memory.restarted self.old }
+        ensures { self.new ≡ memory.after_restart self.old }
     {
         self.log.clear();
         self.plan.clear();
@@ -172,12 +171,7 @@ impl Flash for MemBoard {
         ensures after { self.new ≡ memory.after_read self.old }
         ensures done { IfOk result (λ health. ForSome (content (device_of self.old)) (λ image.
             IsReading self.old.geometry.page image at out.new health)) }
-        ensures keeps { ReadKeeps (device_of self.old) (device_of self.new) }
-        ensures told { (device_of self.new).told ≡ option_map (counted (is_ok result)) (device_of self.old).told }
-        ensures later { IsLater (device_of self.old) (device_of self.new) }
-        ensures whole { IsDevice (device_of self.new) }
-        ensures faults { HasCause self.old.faults self.new.faults (IsErr result) }
-        ensures read_faults { HasCause self.old.read_faults self.new.read_faults (IsErr result) }
+        ensures call { IsReadCall result (device_of self.old) (device_of self.new) }
     {
         self.read_call(at, out)
     }
@@ -187,17 +181,11 @@ impl Flash for MemBoard {
         requires { CanProgram (device_of self.old) at (length bytes.now) }
         ensures answer { is_err result ≡ memory.fails_to_program self.old (length bytes.now) }
         ensures after { self.new ≡ memory.after_program at bytes.now self.old }
-        ensures done { OnOk result ((device_of self.new).told ≡
-            option_map (programmed self.old.geometry.page at bytes.now) (device_of self.old).told) }
-        ensures changes { ChangesOnly at bytes.now (device_of self.old) (device_of self.new) }
-        ensures images { EachTorn at (length bytes.now) (device_of self.old) (device_of self.new) }
+        ensures done { OnOk result ((device_of self.new).told
+            ≡ option_map (told_after_program self.old.geometry.page at bytes.now)
+            (device_of self.old).told) }
+        ensures call { IsChangeCall result at bytes.now (device_of self.old) (device_of self.new) }
         ensures erases { erases (device_of self.new) ≡ erases (device_of self.old) }
-        ensures reads { reads (device_of self.new) ≡ reads (device_of self.old) }
-        ensures later { IsLater (device_of self.old) (device_of self.new) }
-        ensures starts { LeavesStarts (device_of self.old) (device_of self.new) }
-        ensures whole { IsDevice (device_of self.new) }
-        ensures faults { HasCause self.old.faults self.new.faults (IsErr result) }
-        ensures read_faults { self.new.read_faults ≡ self.old.read_faults }
     {
         self.program_call(at, bytes)
     }
@@ -207,20 +195,13 @@ impl Flash for MemBoard {
         requires { CanErase self.old.geometry block }
         ensures answer { is_err result ≡ memory.fails_to_erase self.old block }
         ensures after { self.new ≡ memory.after_erase block self.old }
-        ensures done { OnOk result ((device_of self.new).told ≡
-            option_map (erased self.old.geometry block) (device_of self.old).told) }
+        ensures done { OnOk result ((device_of self.new).told
+            ≡ option_map (told_after_erase self.old.geometry block)
+            (device_of self.old).told) }
         ensures failed { OnErr result (erases (device_of self.new) ≡ erases (device_of self.old)) }
-        ensures changes { let geometry = self.old.geometry in
-            ChangesOnly (block * geometry.block) (blank_block geometry)
+        ensures call { let geometry = self.old.geometry in
+            IsChangeCall result (block * geometry.block) (blank_block geometry)
             (device_of self.old) (device_of self.new) }
-        ensures images { let size = self.old.geometry.block in
-            EachTorn (block * size) size (device_of self.old) (device_of self.new) }
-        ensures reads { reads (device_of self.new) ≡ reads (device_of self.old) }
-        ensures later { IsLater (device_of self.old) (device_of self.new) }
-        ensures starts { LeavesStarts (device_of self.old) (device_of self.new) }
-        ensures whole { IsDevice (device_of self.new) }
-        ensures faults { HasCause self.old.faults self.new.faults (IsErr result) }
-        ensures read_faults { self.new.read_faults ≡ self.old.read_faults }
     {
         self.erase_call(block)
     }

@@ -26,7 +26,7 @@ pub fn worst(pages: &[Health]) -> Health
 }
 
 // The pages in which one of the `len` bytes at a place stands.
-pub fn touched(pages: &[Health], page: u32, at: u32, len: u32) -> &[Health]
+pub fn touched_pages(pages: &[Health], page: u32, at: u32, len: u32) -> &[Health]
     requires some { 0 < page }
     requires inside { at + len ≤ length pages.now * page }
     requires small { at + len < 2 ^ 32 }
@@ -51,5 +51,5 @@ pub fn copy_out(bytes: &[u8], pages: &[Health], page: u32, at: u32, out: &mut [u
 {
     let first = at as usize;
     out.copy_from_slice(&bytes[first..first + out.len()]);
-    worst(touched(pages, page, at, out.len() as u32))
+    worst(touched_pages(pages, page, at, out.len() as u32))
 }

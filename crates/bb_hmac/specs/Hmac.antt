@@ -18,9 +18,11 @@ block_of key = filled_block (short_key key)
 abbrev pub masked_block : ℕ → List ℕ → List ℕ
 masked_block pad key = map (λ byte. bit_xor byte pad) (block_of key)
 
+-- the byte of the inner pad
 abbrev pub ipad : ℕ
 ipad = 0x36
 
+-- the byte of the outer pad
 abbrev pub opad : ℕ
 opad = 0x5c
 

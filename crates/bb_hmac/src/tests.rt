@@ -82,7 +82,7 @@ fn keys_of_a_block_and_one_byte_more(rt: HostRuntime) {
 }
 
 // The code that RFC 4231 gives in section 4.3.
-fn published() -> [u8; 32] {
+fn published_code() -> [u8; 32] {
     *b"\x5b\xdc\xc1\x46\xbf\x60\x75\x4e\x6a\x04\x24\x26\x08\x95\x75\xc7\
        \x5a\x00\x3f\x08\x9d\x27\x39\x83\x9d\xec\x58\xb9\x64\xec\x38\x43"
 }
@@ -93,13 +93,13 @@ fn pieces_are_the_text_that_they_make(rt: HostRuntime) {
     if let Ok(key) = Key::from_hex(b"4a656665 \t\r\n") {
         for cut in 0..29 {
             let (first, second) = text.split_at(cut);
-            assert_eq!(rt; hmac(&key, first, second), published(), "cut at {cut}");
+            assert_eq!(rt; hmac(&key, first, second), published_code(), "cut at {cut}");
         }
         let mut mac = Mac::start(&key);
         for byte in text {
             mac.feed(&[*byte]);
         }
-        assert_eq!(rt; mac.value(), published());
+        assert_eq!(rt; mac.value(), published_code());
     } else {
         assert!(rt; false, "no key");
     }
@@ -133,7 +133,7 @@ fn texts_that_are_no_key(rt: HostRuntime) {
 
 #[test]
 fn a_code_with_any_bit_turned_differs(rt: HostRuntime) {
-    let mac = published();
+    let mac = published_code();
     assert!(rt; same_mac(&mac, &mac));
     assert!(rt; !same_mac(&mac, &mac[..31]));
     for bit in 0..256usize {

@@ -6,7 +6,7 @@ use Rattle.bb_vars.specs.declared.kind.Kind.{Kind}
 use Rattle.bb_vars.specs.declared.kind.Kind.TheVariants.{Uint8, Uint32, Enum32, Mac, Chars}
 use Rattle.bb_layout.specs.Copies.{region_of}
 use Rattle.bb_layout.specs.Fields.{cell_of, two_cells_of, string_of, strings_of}
-use Rattle.bb_layout.specs.Ranges.{area_of}
+use Rattle.bb_layout.specs.Ranges.{area_len_of}
 use Rattle.bb_layout.specs.Thirds.{laid_thirds, raw_layout, thirds_of, whole_device}
 use Rattle.bb_layout.specs.Variables.{default_of, variables_of}
 use Rattle.bb_layout.specs.declared.layout_error.LayoutError.TheVariants.{Missing, BadProp, BadType, BadReg, Overlap, AreaTooLong, NameTwice, TooSmall}
@@ -131,25 +131,25 @@ first_refusal = refl
 abbrev bytes : List ℕ → ℕ → ℕ → Var
 bytes name at size = record { name = name; path = name ∷ []; at = at; size = size; kind = Chars size; default = [] }
 
-no_variables : area_of [] ≡ Ok 0
+no_variables : area_len_of [] ≡ Ok 0
 no_variables = refl
 
-with_a_gap : area_of (bytes (codes "b") 8 4 ∷ bytes (codes "a") 0 4 ∷ []) ≡ Ok 12
+with_a_gap : area_len_of (bytes (codes "b") 8 4 ∷ bytes (codes "a") 0 4 ∷ []) ≡ Ok 12
 with_a_gap = refl
 
-next_to_each_other : area_of (bytes (codes "a") 0 4 ∷ bytes (codes "b") 4 4 ∷ []) ≡ Ok 8
+next_to_each_other : area_len_of (bytes (codes "a") 0 4 ∷ bytes (codes "b") 4 4 ∷ []) ≡ Ok 8
 next_to_each_other = refl
 
-one_byte_in_both : area_of (bytes (codes "a") 0 5 ∷ bytes (codes "b") 4 4 ∷ []) ≡ Err Overlap
+one_byte_in_both : area_len_of (bytes (codes "a") 0 5 ∷ bytes (codes "b") 4 4 ∷ []) ≡ Err Overlap
 one_byte_in_both = refl
 
-name_before_overlap : area_of (bytes (codes "a") 0 5 ∷ bytes (codes "a") 4 4 ∷ []) ≡ Err NameTwice
+name_before_overlap : area_len_of (bytes (codes "a") 0 5 ∷ bytes (codes "a") 4 4 ∷ []) ≡ Err NameTwice
 name_before_overlap = refl
 
-longest : area_of (bytes (codes "a") 65000 535 ∷ []) ≡ Ok 65535
+longest : area_len_of (bytes (codes "a") 65000 535 ∷ []) ≡ Ok 65535
 longest = refl
 
-one_too_long : area_of (bytes (codes "a") 65000 536 ∷ []) ≡ Err AreaTooLong
+one_too_long : area_len_of (bytes (codes "a") 65000 536 ∷ []) ≡ Err AreaTooLong
 one_too_long = refl
 
 -- ---- raw records in the thirds of a device

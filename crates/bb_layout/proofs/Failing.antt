@@ -10,13 +10,13 @@ use Rattle.bb_tree.specs.Phandle.{node_with}
 use Rattle.bb_layout.specs.Backend.{backend_of, node_along, partition_at, partition_of, path_in}
 use Rattle.bb_layout.specs.Copies.{copies_of, room_for, spacing}
 use Rattle.bb_layout.specs.Fields.{cell_of, string_of, texts_of, two_cells_of}
-use Rattle.bb_layout.specs.Ranges.{area_of, greatest_end, has_same_name, shares_byte, some_pair}
+use Rattle.bb_layout.specs.Ranges.{area_len_of, greatest_end, has_same_name, shares_byte, some_pair}
 use Rattle.bb_layout.specs.Results.{all_ok, option_filter, result_and_then}
-use Rattle.bb_layout.specs.StateProps.{circular_in, format_of, is_circular_of, keyed_in, magic_of, needed, props_of, some_cell, stride_of, type_in}
+use Rattle.bb_layout.specs.StateProps.{circular_in, format_of, is_circular_of, keyed_in, magic_of, required_prop, props_of, some_cell, stride_of, type_in}
 use Rattle.bb_layout.specs.StateProps
 use Rattle.bb_layout.specs.Steps.{result_then}
-use Rattle.bb_layout.specs.Storage.{fitted, is_aligned, placed}
-use Rattle.bb_layout.specs.Variables.{default_in, default_of, dotted, filled, fits_type, is_variable, kind_of, names_of, range_of, type_of, variable_at, variable_of, variables_of, ways_of}
+use Rattle.bb_layout.specs.Storage.{check_room, is_aligned, check_place}
+use Rattle.bb_layout.specs.Variables.{default_in, default_of, dotted_name, bytes_of_size, fits_type, is_variable, kind_of, names_of, range_of, type_of, variable_at, variable_of, variables_of, ways_of}
 use Rattle.bb_layout.specs.VarType.{type_named}
 use Rattle.bb_layout.specs.declared.format_kind.FormatKind.{FormatKind}
 use Rattle.bb_layout.specs.declared.layout_error.LayoutError.{LayoutError}
@@ -43,7 +43,7 @@ module _ {A : Type 0} {p : LayoutError → Bool} where
   fails_ok : (x : A) → Fails p (Ok x)
   fails_ok x = record { passes = λ e q. absurd (cc) }
 
-  fails_or : (o : Option A) (x : LayoutError) → p x ≡ true → Fails p (ok_or o x)
+  pub fails_or : (o : Option A) (x : LayoutError) → p x ≡ true → Fails p (ok_or o x)
   fails_or None x h = fails_err x h
   fails_or (Some y) x h = fails_ok y
 
@@ -103,16 +103,16 @@ of_room TooSmall = true
 of_room e = false
 
 module _ (b : Branch (List ℕ)) where
-  fails_needed : {p : LayoutError → Bool} (name : List ℕ) → p (Missing name) ≡ true → Fails p (needed b name)
+  fails_needed : {p : LayoutError → Bool} (name : List ℕ) → p (Missing name) ≡ true → Fails p (required_prop b name)
   fails_needed name h = fails_or (prop_of name b) (Missing name) h
 
   fails_magic : Fails of_props (magic_of b)
   fails_magic =
-      fails_then (needed b (codes "magic")) _ (fails_needed (codes "magic") refl) (λ v. fails_or (cell_of v) (BadProp (codes "magic")) refl)
+      fails_then (required_prop b (codes "magic")) _ (fails_needed (codes "magic") refl) (λ v. fails_or (cell_of v) (BadProp (codes "magic")) refl)
 
   fails_type : Fails of_props (StateProps.type_of b)
   fails_type =
-      fails_then (needed b (codes "backend-type")) _ (fails_needed (codes "backend-type") refl) (λ v. fails_or (type_in v) (BadProp (codes "backend-type")) refl)
+      fails_then (required_prop b (codes "backend-type")) _ (fails_needed (codes "backend-type") refl) (λ v. fails_or (type_in v) (BadProp (codes "backend-type")) refl)
 
   fails_format : (type : FormatKind) → Fails of_props (format_of b type)
   fails_format type =
@@ -156,7 +156,7 @@ fails_kind kinds.Mac size names = fails_ok Mac
 fails_kind kinds.Chars size names = fails_ok (Chars size)
 
 fails_default : (kind : Kind) (value : Option (List ℕ)) → Fails of_vars (default_of kind value)
-fails_default kind None = fails_ok (filled (size_of kind) [])
+fails_default kind None = fails_ok (bytes_of_size (size_of kind) [])
 fails_default kind (Some v) = fails_or (default_in kind v) (BadProp (codes "default")) refl
 
 fails_variable : (path : List (List ℕ)) (b : Branch (List ℕ)) → Fails of_vars (variable_of path b)
@@ -165,7 +165,7 @@ fails_variable path b =
     fails_and_then _ (range_of type (prop_of (codes "reg") b)) (fails_range type (prop_of (codes "reg") b)) (λ range.
     fails_and_then _ (kind_of type range.1 (prop_of (codes "names") b)) (fails_kind type range.1 (prop_of (codes "names") b)) (λ kind.
     fails_and_then _ (default_of kind (prop_of (codes "default") b)) (fails_default kind (prop_of (codes "default") b)) (λ default.
-    fails_ok (record { name = dotted path; path = path; at = range.0; size = range.1; kind = kind; default = default })))))
+    fails_ok (record { name = dotted_name path; path = path; at = range.0; size = range.1; kind = kind; default = default })))))
 
 fails_at : (way : List (Branch (List ℕ))) → Fails of_vars (variable_at way)
 fails_at [] = fails_err BadType refl
@@ -174,7 +174,7 @@ fails_at (b ∷ above) = fails_variable (reverse (map (λ n. n.name) (b ∷ abov
 pub fails_vars : (b : Branch (List ℕ)) → Fails of_vars (variables_of b)
 fails_vars b = fails_all variable_at (filter is_variable (ways_of [] b.nodes)) fails_at
 
-pub fails_area : (vars : List Var) → Fails of_area (area_of vars)
+pub fails_area : (vars : List Var) → Fails of_area (area_len_of vars)
 fails_area vars =
     fails_if (some_pair has_same_name vars) (Err NameTwice) _ (fails_err NameTwice refl)
     (fails_if (some_pair shares_byte vars) (Err Overlap) _ (fails_err Overlap refl)
@@ -183,18 +183,18 @@ fails_area vars =
 pub fails_backend : (tree b : Branch (List ℕ)) → Fails of_backend (backend_of tree b)
 fails_backend tree b =
     let bad : Result Region LayoutError = Err (BadProp (codes "backend")) in
-    fails_then (needed b (codes "backend")) _ (fails_needed b (codes "backend") refl) (λ value.
+    fails_then (required_prop b (codes "backend")) _ (fails_needed b (codes "backend") refl) (λ value.
     fails_map_or (λ n. partition_at (node_with n tree)) (cell_of value) _
     (λ n. fails_or (option_and_then partition_of (node_with n tree)) NoBackend refl)
     (fails_map_or (λ path. partition_at (node_along tree path)) (path_in value) bad
     (λ path. fails_or (option_and_then partition_of (node_along tree path)) NoBackend refl)
     (fails_err (BadProp (codes "backend")) refl)))
 
-pub fails_place : (geometry : Geometry) (region : Region) → Fails of_place (placed geometry region)
+pub fails_place : (geometry : Geometry) (region : Region) → Fails of_place (check_place geometry region)
 fails_place geometry region =
     fails_if (not (is_aligned geometry region)) (Err Unaligned) _ (fails_err Unaligned refl)
     (fails_if (nat_lt geometry.size (region.at + region.size)) (Err OutOfDevice) (Ok tt) (fails_err OutOfDevice refl) (fails_ok tt))
 
-pub fails_room : (geometry : Geometry) (storage : Storage) (region : Region) (len : ℕ) → Fails of_room (fitted geometry storage region len)
+pub fails_room : (geometry : Geometry) (storage : Storage) (region : Region) (len : ℕ) → Fails of_room (check_room geometry storage region len)
 fails_room geometry storage region len =
     fails_if (nat_lt (copies_of geometry storage region) 2 || nat_lt (spacing geometry storage) (room_for geometry storage len)) (Err TooSmall) (Ok tt) (fails_err TooSmall refl) (fails_ok tt)

@@ -13,7 +13,7 @@ use Rattle.std.specs.Option.{option_or, option_map_or, option_copied, is_some}
 use Rattle.std.specs.Result.{OnOk, is_err}
 use Rattle.std.specs.Str.{bytes_eq}
 use Rattle.bb_layout.specs.Ranges.{some_pair, has_same_name}
-use Rattle.bb_layout.specs.VarNames.{place_of, noted, AreFirstPlaces, is_first_of_name}
+use Rattle.bb_layout.specs.VarNames.{place_of, with_place, AreFirstPlaces, is_first_of_name}
 use Rattle.bb_layout.specs.declared.var.Var.{Var}
 use Rattle.bb_layout.proofs.Pairs.{pair_at, pair_none}
 
@@ -74,7 +74,7 @@ same_or_none : (o : Option ℕ) → o ≡ option_or o None
 same_or_none None = refl
 same_or_none (Some x) = refl
 
-lookup_noted : (es : List (List ℕ × ℕ)) (m : List ℕ) (k : ℕ) (n : List ℕ) → lookup (bytes_eq n) (noted es m k) ≡ option_or (lookup (bytes_eq n) es) (cond (bytes_eq n m) (Some k) None)
+lookup_noted : (es : List (List ℕ × ℕ)) (m : List ℕ) (k : ℕ) (n : List ℕ) → lookup (bytes_eq n) (with_place es m k) ≡ option_or (lookup (bytes_eq n) es) (cond (bytes_eq n m) (Some k) None)
 lookup_noted es m k n =
     elim (cases_Bool (is_some (lookup (bytes_eq m) es))) [
       | inl h ↦ rw h (there (bytes_eq n m) refl h)
@@ -86,7 +86,7 @@ lookup_noted es m k n =
     there false e h = same_or_none (lookup (bytes_eq n) es)
 
 -- a variable more, with its name noted
-pub places_push : (vars : List Var) (places : List (List ℕ × ℕ)) (v : Var) → AreFirstPlaces vars places → AreFirstPlaces (vars ++ v ∷ []) (noted places v.name (length vars))
+pub places_push : (vars : List Var) (places : List (List ℕ × ℕ)) (v : Var) → AreFirstPlaces vars places → AreFirstPlaces (vars ++ v ∷ []) (with_place places v.name (length vars))
 places_push vars places v are n =
     lookup_noted places v.name (length vars) n ∙ ap (λ o. option_or o (cond (bytes_eq n v.name) (Some (length vars)) None)) (are n)
     ∙ sym (position_push (λ w. bytes_eq n w.name) vars v)
@@ -139,10 +139,10 @@ pub there : {X : Type 0} (o : Option (Bor X)) → is_some o ≡ true → is_some
 there None h = absurd (false≢true h)
 there (Some x) h = refl
 
-pub noted-new : (es : List (List ℕ × ℕ)) (m : List ℕ) (k : ℕ) → lookup (bytes_eq m) es ≡ None → noted es m k ≡ es ++ (m, k) ∷ []
+pub noted-new : (es : List (List ℕ × ℕ)) (m : List ℕ) (k : ℕ) → lookup (bytes_eq m) es ≡ None → with_place es m k ≡ es ++ (m, k) ∷ []
 noted-new es m k h = rw h refl
 
-pub noted-old : (es : List (List ℕ × ℕ)) (m : List ℕ) (k : ℕ) → is_some (lookup (bytes_eq m) es) ≡ true → noted es m k ≡ es
+pub noted-old : (es : List (List ℕ × ℕ)) (m : List ℕ) (k : ℕ) → is_some (lookup (bytes_eq m) es) ≡ true → with_place es m k ≡ es
 noted-old es m k h = rw h refl
 
 pub from_ok : {A E : Type 0} (P : Type 0) (r : Result A E) → is_err r ≡ false → OnOk r P → P

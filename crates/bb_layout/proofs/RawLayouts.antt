@@ -7,7 +7,7 @@ use Rattle.bb_layout.specs.Copies.{copies_of}
 use Rattle.bb_layout.specs.Formats.{raw_len}
 use Rattle.bb_layout.specs.Layout.{Laid}
 use Rattle.bb_layout.specs.Steps.{result_then}
-use Rattle.bb_layout.specs.Storage.{fitted}
+use Rattle.bb_layout.specs.Storage.{check_room}
 use Rattle.bb_layout.specs.Thirds.{laid_thirds, raw_layout, thirds_of, whole_device}
 use Rattle.bb_layout.specs.declared.layout_error.LayoutError.{LayoutError}
 use Rattle.bb_layout.specs.declared.layout_error.LayoutError.TheVariants.{BadProp, TooSmall}
@@ -38,7 +38,7 @@ three_fit size some = grind (arith)
 pub raw_three : (magic area_len : ℕ) (geometry : Geometry) (layout : Laid) → raw_layout magic area_len geometry ≡ Ok layout → (layout.area_len ≡ area_len) × (layout.copies ≡ 3)
 raw_three magic area_len geometry layout is =
     let storage = thirds_of geometry in
-    let good = accepted (geometry.block == 0) (fitted geometry storage (whole_device geometry) (raw_len area_len)) (BadProp (codes "backend-storage-type")) (laid_thirds magic area_len geometry) layout is in
+    let good = accepted (geometry.block == 0) (check_room geometry storage (whole_device geometry) (raw_len area_len)) (BadProp (codes "backend-storage-type")) (laid_thirds magic area_len geometry) layout is in
     let tight : nat_lt (geometry.size / 3) (raw_len area_len + 8) ≡ false =
     roomy (nat_lt (copies_of geometry storage (whole_device geometry)) 2) _ (loose _ good.0) in
     let some : 24 ≤ geometry.size / 3 = grind (arith, nat_tests) in

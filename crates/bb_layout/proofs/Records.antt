@@ -12,7 +12,7 @@ use Rattle.bb_tree.specs.declared.node.NodeList.{NodeList as TreeNodes}
 use Rattle.bb_tree.specs.declared.node.Node.TheViews.{out-Node, out-NodeList}
 use Rattle.bb_tree.specs.Node.{Branch, bare, branches, forest}
 use Rattle.bb_layout.specs.Ranges.{end_of}
-use Rattle.bb_layout.specs.Record.{Grown, grown_of, node_for, put, put_prop, with_last, with_var}
+use Rattle.bb_layout.specs.Record.{Grown, grown_of, node_for, nodes_with_prop, put_prop, with_last, with_var}
 use Rattle.bb_layout.specs.Variables.{IsWellFormed}
 use Rattle.bb_layout.specs.declared.var.Var.{Var}
 
@@ -90,20 +90,20 @@ pub node_more : (name : List ℕ) (path : List (List ℕ)) (depth : ℕ) (next :
 node_more name path depth next prop h = ap (λ p. node_for name p prop) (drop_at path depth next h)
 
 pub put_none : (shared : ℕ) (path : List (List ℕ)) (depth : ℕ) (prop : Prop) (nodes : List Node) → length path ≤ depth →
-    put shared (drop depth path) prop nodes ≡ nodes
-put_none zero path depth prop nodes h = ap (λ p. put 0 p prop nodes) (ended path depth h)
-put_none (suc shared) path depth prop nodes h = ap (λ p. put (suc shared) p prop nodes) (ended path depth h)
+    nodes_with_prop shared (drop depth path) prop nodes ≡ nodes
+put_none zero path depth prop nodes h = ap (λ p. nodes_with_prop 0 p prop nodes) (ended path depth h)
+put_none (suc shared) path depth prop nodes h = ap (λ p. nodes_with_prop (suc shared) p prop nodes) (ended path depth h)
 
 pub put_new : (path : List (List ℕ)) (depth : ℕ) (name : List ℕ) (prop : Prop) (nodes : List Node) → slice_get path depth ≡ Some name →
-    put 0 (drop depth path) prop nodes ≡ nodes ++ node_for name (drop (depth + 1) path) prop ∷ []
-put_new path depth name prop nodes h = ap (λ p. put 0 p prop nodes) (drop_at path depth name h)
+    nodes_with_prop 0 (drop depth path) prop nodes ≡ nodes ++ node_for name (drop (depth + 1) path) prop ∷ []
+put_new path depth name prop nodes h = ap (λ p. nodes_with_prop 0 p prop nodes) (drop_at path depth name h)
 
 -- into no node
 pub put_nothing : (shared : ℕ) (path : List (List ℕ)) (depth : ℕ) (name : List ℕ) (prop : Prop) → 0 < shared → slice_get path depth ≡ Some name →
-    put shared (drop depth path) prop [] ≡ []
-put_nothing shared path depth name prop some h = ap (λ p. put shared p prop []) (drop_at path depth name h) ∙ alone shared (drop (depth + 1) path) some
+    nodes_with_prop shared (drop depth path) prop [] ≡ []
+put_nothing shared path depth name prop some h = ap (λ p. nodes_with_prop shared p prop []) (drop_at path depth name h) ∙ alone shared (drop (depth + 1) path) some
   where
-    alone : (shared : ℕ) (path : List (List ℕ)) → 0 < shared → put shared (name ∷ path) prop [] ≡ []
+    alone : (shared : ℕ) (path : List (List ℕ)) → 0 < shared → nodes_with_prop shared (name ∷ path) prop [] ≡ []
     alone zero path some = absurd (omega (arith, some))
     alone (suc shared) [] some = refl
     alone (suc shared) (next ∷ path) some = refl
@@ -111,24 +111,24 @@ put_nothing shared path depth name prop some h = ap (λ p. put shared p prop [])
 -- at its last name
 pub put_here : (shared : ℕ) (path : List (List ℕ)) (depth : ℕ) (name : List ℕ) (prop : Prop) (nodes : List Node) (last : Node) → 0 < shared →
     slice_get path depth ≡ Some name → length path ≡ depth + 1 →
-    put shared (drop depth path) prop (nodes ++ last ∷ []) ≡ nodes ++ put_prop prop last ∷ []
+    nodes_with_prop shared (drop depth path) prop (nodes ++ last ∷ []) ≡ nodes ++ put_prop prop last ∷ []
 put_here zero path depth name prop nodes last some h k = absurd (omega (arith, some))
 put_here (suc shared) path depth name prop nodes last some h k =
-    ap (λ p. put (suc shared) p prop (nodes ++ last ∷ [])) (drop_at path depth name h ∙ ap (λ p. name ∷ p) (ended path (depth + 1) (omega (arith, k))))
+    ap (λ p. nodes_with_prop (suc shared) p prop (nodes ++ last ∷ [])) (drop_at path depth name h ∙ ap (λ p. name ∷ p) (ended path (depth + 1) (omega (arith, k))))
     ∙ with_last_of (put_prop prop) nodes last
 
 -- the last node, with the value put into it where the path goes on
 abbrev pub put_on : ℕ → List (List ℕ) → Prop → Node → Node
-put_on shared path prop b = record { name = b.name; props = b.props; nodes = forest (put shared path prop (branches b.nodes)) }
+put_on shared path prop b = record { name = b.name; props = b.props; nodes = forest (nodes_with_prop shared path prop (branches b.nodes)) }
 
 pub put_below : (shared : ℕ) (path : List (List ℕ)) (depth : ℕ) (name : List ℕ) (prop : Prop) (nodes : List Node) (last : Node) → 0 < shared →
     slice_get path depth ≡ Some name → depth + 1 < length path →
-    put shared (drop depth path) prop (nodes ++ last ∷ []) ≡ nodes ++ put_on (shared - 1) (drop (depth + 1) path) prop last ∷ []
+    nodes_with_prop shared (drop depth path) prop (nodes ++ last ∷ []) ≡ nodes ++ put_on (shared - 1) (drop (depth + 1) path) prop last ∷ []
 put_below zero path depth name prop nodes last some h k = absurd (omega (arith, some))
 put_below (suc shared) path depth name prop nodes last some h k =
     let on = goes_on path (depth + 1) k in
     let less : suc shared - 1 ≡ shared = omega arith in
-    ap (λ p. put (suc shared) p prop (nodes ++ last ∷ [])) (drop_at path depth name h ∙ ap (λ p. name ∷ p) on.1)
+    ap (λ p. nodes_with_prop (suc shared) p prop (nodes ++ last ∷ [])) (drop_at path depth name h ∙ ap (λ p. name ∷ p) on.1)
     ∙ with_last_of (put_on shared (on.0 ∷ drop (depth + 1 + 1) path) prop) nodes last
     ∙ ap (λ p. nodes ++ put_on shared p prop last ∷ []) (sym on.1)
     ∙ ap (λ s. nodes ++ put_on s (drop (depth + 1) path) prop last ∷ []) (sym less)
@@ -147,11 +147,11 @@ pub without_last : (nodes : TreeNodes) (rest : List TreeNode) (last : TreeNode) 
 without_last nodes rest last h = branches_of_out nodes ∙ ap (map branch_of) h ∙ map-append branch_of rest (last ∷ [])
 
 -- a node with other nodes in it
-pub put_on_last : (shared : ℕ) (path : List (List ℕ)) (prop : Prop) (last : TreeNode) (nodes : List Node) → nodes ≡ put shared path prop (branches_of (out-Node last).nodes) →
+pub put_on_last : (shared : ℕ) (path : List (List ℕ)) (prop : Prop) (last : TreeNode) (nodes : List Node) → nodes ≡ nodes_with_prop shared path prop (branches_of (out-Node last).nodes) →
     record { name = (out-Node last).name; props = map prop_pair (out-Node last).props; nodes = forest nodes } ≡ put_on shared path prop (branch_of last)
 put_on_last shared path prop last nodes h =
     ap (λ (bs : List Node). record { name = (out-Node last).name; props = map prop_pair (out-Node last).props; nodes = forest bs })
-    (h ∙ ap (put shared path prop) (sym (branches_forest (branches_of (out-Node last).nodes))))
+    (h ∙ ap (nodes_with_prop shared path prop) (sym (branches_forest (branches_of (out-Node last).nodes))))
     ∙ ap (put_on shared path prop) (sym (branch_of_out last))
 
 -- ---- variables one after another

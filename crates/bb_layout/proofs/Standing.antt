@@ -9,7 +9,7 @@ use Rattle.bb_flash.specs.declared.geometry.Geometry.{Geometry}
 use Rattle.bb_flash.specs.declared.region.Region.{Region}
 use Rattle.bb_layout.specs.Copies.{copies_of, region_of, room_for, spacing}
 use Rattle.bb_layout.specs.Facts.{EndsBefore, HasCopies, IsAligned, IsWithin, is_stride}
-use Rattle.bb_layout.specs.Storage.{fitted, is_aligned, placed, storage_of}
+use Rattle.bb_layout.specs.Storage.{check_room, is_aligned, check_place, storage_of}
 use Rattle.bb_layout.specs.declared.layout_error.LayoutError.{LayoutError}
 use Rattle.bb_layout.specs.declared.layout_error.LayoutError.TheVariants.{OutOfDevice, TooSmall, Unaligned}
 use Rattle.bb_layout.specs.declared.state_props.Props.{Props}
@@ -107,7 +107,7 @@ module _ (geometry : Geometry) (storage : Storage) (partition : Region) where
 
   -- copies that fit into a partition on the device
   pub have_copies : (len : ℕ) → is_stride storage ≡ (geometry.block == 0) → partition.at + partition.size ≤ geometry.size → IsAligned geometry partition →
-      fitted geometry storage partition len ≡ Ok tt → HasCopies geometry partition storage (copies_of geometry storage partition) len
+      check_room geometry storage partition len ≡ Ok tt → HasCopies geometry partition storage (copies_of geometry storage partition) len
   have_copies len strides on_device whole fit =
       let enough = neither (nat_lt (copies_of geometry storage partition) 2) _ (loose _ fit) in
       let few = enough.0 in
@@ -125,8 +125,8 @@ module _ (geometry : Geometry) (storage : Storage) (partition : Region) where
       }
 
 -- the copies of a partition that passed the checks
-pub stored_copies : (geometry : Geometry) (partition : Region) (props : Props) (len : ℕ) → placed geometry partition ≡ Ok tt →
-    fitted geometry (storage_of geometry partition props) partition len ≡ Ok tt →
+pub stored_copies : (geometry : Geometry) (partition : Region) (props : Props) (len : ℕ) → check_place geometry partition ≡ Ok tt →
+    check_room geometry (storage_of geometry partition props) partition len ≡ Ok tt →
     HasCopies geometry partition (storage_of geometry partition props) (copies_of geometry (storage_of geometry partition props) partition) len
 stored_copies geometry partition props len is fit =
     let good = in_place (is_aligned geometry partition) _ is in

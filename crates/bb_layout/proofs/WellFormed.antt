@@ -13,7 +13,7 @@ use Rattle.bb_vars.specs.declared.kind.Kind.TheVariants.{Uint8, Uint32, Enum32, 
 use Rattle.bb_layout.specs.Fields.{cell_of, cell_below, two_cells_of, string_of, texts_of}
 use Rattle.bb_layout.specs.Results.{option_filter, result_and_then, all_ok}
 use Rattle.bb_layout.specs.VarType.{may_have_size}
-use Rattle.bb_layout.specs.Variables.{type_of, fits_type, range_of, names_of, kind_of, filled, default_in, default_of, dotted, with_kind, with_range, with_type, variable_of, ways_of, is_variable, variable_at, variables_of, IsWellFormed}
+use Rattle.bb_layout.specs.Variables.{type_of, fits_type, range_of, names_of, kind_of, bytes_of_size, default_in, default_of, dotted_name, with_kind, with_range, with_type, variable_of, ways_of, is_variable, variable_at, variables_of, IsWellFormed}
 use Rattle.bb_layout.specs.declared.layout_error.LayoutError.{LayoutError}
 use Rattle.bb_layout.specs.declared.layout_error.LayoutError.TheVariants.{BadReg, BadProp}
 use Rattle.bb_layout.specs.declared.var.Var.{Var}
@@ -101,8 +101,8 @@ some_bytes kinds.Chars size s =
     let least : leb 1 size ≡ true = (and_parts (leb 1 size) (leb size 1024) s).0 in
     grind (arith, nat_tests)
 
-length-filled : (size : ℕ) (bytes : List ℕ) → length bytes ≤ size → length (filled size bytes) ≡ size
-length-filled size bytes l = omega (arith, length-append bytes (replicate (size - length bytes) 0), length-replicate {A = ℕ} (size - length bytes) 0)
+length-bytes_of_size : (size : ℕ) (bytes : List ℕ) → length bytes ≤ size → length (bytes_of_size size bytes) ≡ size
+length-bytes_of_size size bytes l = omega (arith, length-append bytes (replicate (size - length bytes) 0), length-replicate {A = ℕ} (size - length bytes) 0)
 
 default_fits : (kind : Kind) (value bytes : List ℕ) → default_in kind value ≡ Some bytes → length bytes ≡ size_of kind
 default_fits Uint8 value bytes h = let m = mapped (to_le_bytes w8) (cell_below 256 value) bytes h in ap length (sym m.is)
@@ -114,13 +114,13 @@ default_fits Mac value bytes h = by (eqb (length value) 6) refl h
     by true e q = let same : value ≡ bytes = cc in ap length (sym same) ∙ eqb-true (length value) 6 e
     by false e q = absurd (cc)
 default_fits (Chars size) value bytes h =
-    let m = mapped (filled size) (option_filter (λ s. leb (length s) size) (string_of value)) bytes h in
+    let m = mapped (bytes_of_size size) (option_filter (λ s. leb (length s) size) (string_of value)) bytes h in
     let short : leb (length m.value) size ≡ true = (filter_some (λ s. leb (length s) size) (string_of value) m.value m.there).1 in
     let within : length m.value ≤ size = grind (arith, nat_tests) in
-    ap length (sym m.is) ∙ length-filled size m.value within
+    ap length (sym m.is) ∙ length-bytes_of_size size m.value within
 
 default_sized : (kind : Kind) (value : Option (List ℕ)) (bytes : List ℕ) → default_of kind value ≡ Ok bytes → length bytes ≡ size_of kind
-default_sized kind None bytes h = let same : filled (size_of kind) [] ≡ bytes = cc in ap length (sym same) ∙ length-filled (size_of kind) [] (omega arith)
+default_sized kind None bytes h = let same : bytes_of_size (size_of kind) [] ≡ bytes = cc in ap length (sym same) ∙ length-bytes_of_size (size_of kind) [] (omega arith)
 default_sized kind (Some value) bytes h = default_fits kind value bytes (ok_or_ok (default_in kind value) (BadProp (codes "default")) bytes h)
 
 pub well_formed : (path : List (List ℕ)) (b : Branch (List ℕ)) (v : Var) → variable_of path b ≡ Ok v → IsWellFormed v
@@ -128,7 +128,7 @@ well_formed path b v h =
     let t = came (with_type path b) (type_of (prop_of (codes "type") b)) v h in
     let r = came (with_range path b t.value) (range_of t.value (prop_of (codes "reg") b)) v t.then in
     let k = came (with_kind path b r.value) (kind_of t.value r.value.1 (prop_of (codes "names") b)) v r.then in
-    let made : List ℕ → Var = λ default. record { name = dotted path; path = path; at = r.value.0; size = r.value.1; kind = k.value; default = default } in
+    let made : List ℕ → Var = λ default. record { name = dotted_name path; path = path; at = r.value.0; size = r.value.1; kind = k.value; default = default } in
     let d = came (λ default. Ok (made default)) (default_of k.value (prop_of (codes "default") b)) v k.then in
     let fits = and_parts (may_have_size t.value r.value.1) (leb (r.value.0 + r.value.1) 4294967295) (range_fits t.value (prop_of (codes "reg") b) r.value r.first) in
     let kind = kind_fits t.value r.value.1 (prop_of (codes "names") b) k.value k.first fits.0 in

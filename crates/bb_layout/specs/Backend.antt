@@ -9,7 +9,7 @@ use Rattle.bb_tree.specs.Node.{Branch}
 use Rattle.bb_tree.specs.Paths.{found, prop_of}
 use Rattle.bb_tree.specs.Phandle.{node_with}
 use Rattle.bb_layout.specs.Fields.{cell_of, string_of, two_cells_of, four_cells_of}
-use Rattle.bb_layout.specs.StateProps.{needed}
+use Rattle.bb_layout.specs.StateProps.{required_prop}
 use Rattle.bb_layout.specs.Steps.{result_then}
 use Rattle.bb_layout.specs.declared.layout_error.LayoutError.{LayoutError}
 use Rattle.bb_layout.specs.declared.layout_error.LayoutError.TheVariants.{BadProp, NoBackend}
@@ -41,7 +41,7 @@ partition_at target = ok_or (option_and_then partition_of target) NoBackend
 -- `backend` is one cell, which is a phandle, or a path
 abbrev pub backend_of : Branch (List ℕ) → Branch (List ℕ) → Result Region LayoutError
 backend_of tree state =
-    result_then (needed state (codes "backend")) (λ value.
+    result_then (required_prop state (codes "backend")) (λ value.
     option_map_or (λ n. partition_at (node_with n tree))
     (cell_of value)
     (option_map_or (λ path. partition_at (node_along tree path)) (path_in value) (Err (BadProp (codes "backend")))))

@@ -8,6 +8,7 @@ use Rattle.bb_layout.specs.declared.storage.Storage.{Storage}
 use Rattle.bb_layout.specs.declared.storage.Storage.TheVariants.{Stride, OneBlock, Circular}
 use Rattle.bb_layout.specs.declared.var.Var.{Var}
 use Rattle.std.specs.Coded.{Unit-prop, le_prop}
+use Rattle.bb_base.specs.Form.{area_limit}
 use Rattle.bb_layout.specs.Ranges.{end_of}
 use Rattle.bb_layout.specs.Variables.{IsWellFormed}
 use Rattle.bb_vars.specs.Kind.{HasFewNames}
@@ -71,5 +72,5 @@ pub record HasCopies (geometry : Geometry) (partition : Region) (storage : Stora
 pub record IsLayout (geometry : Geometry) (partition : Region) (storage : Storage) (copies len area_len : ℕ) (vars : List Var) : Type 0 where
   pub geometry_is : IsGeometry geometry
   pub copied : HasCopies geometry partition storage copies len
-  pub area_most : area_len ≤ 65535
+  pub area_most : area_len ≤ area_limit
   pub vars_are : AreVars area_len vars

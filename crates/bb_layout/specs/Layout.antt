@@ -7,11 +7,11 @@ use Rattle.bb_tree.specs.Node.{Branch}
 use Rattle.bb_layout.specs.Backend.{backend_of}
 use Rattle.bb_layout.specs.Copies.{copies_of}
 use Rattle.bb_layout.specs.Formats.{record_len}
-use Rattle.bb_layout.specs.Ranges.{area_of}
+use Rattle.bb_layout.specs.Ranges.{area_len_of}
 use Rattle.bb_layout.specs.StateNode.{state_of}
 use Rattle.bb_layout.specs.StateProps.{props_of}
 use Rattle.bb_layout.specs.Steps.{result_then}
-use Rattle.bb_layout.specs.Storage.{stored}
+use Rattle.bb_layout.specs.Storage.{storage_in}
 use Rattle.bb_layout.specs.Variables.{variables_of}
 use Rattle.bb_layout.specs.declared.format_kind.FormatKind.{FormatKind}
 use Rattle.bb_layout.specs.declared.layout.Layout.{Layout}
@@ -33,8 +33,8 @@ pub record Laid : Type 0 where
   pub area_len : ℕ
   pub vars : List Var
 
-abbrev pub laid : Layout → Laid
-laid l = record {
+abbrev pub fields_of : Layout → Laid
+fields_of l = record {
   name = l.name;
   node = l.node;
   magic = l.magic;
@@ -56,9 +56,9 @@ abbrev pub layout_at : Branch (List ℕ) → List ℕ → Branch (List ℕ) → 
 layout_at tree name state geometry =
     result_then (props_of state) (λ props.
     result_then (variables_of state) (λ vars.
-    result_then (area_of vars) (λ area_len.
+    result_then (area_len_of vars) (λ area_len.
     result_then (backend_of tree state) (λ region.
-    result_then (stored geometry region props (record_len props.format area_len)) (λ storage.
+    result_then (storage_in geometry region props (record_len props.format area_len)) (λ storage.
     Ok (record {
       name = name;
       node = state.name;

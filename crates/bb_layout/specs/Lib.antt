@@ -1,4 +1,6 @@
 -- Definitions that contracts cite.
+
+-- What a reader has to believe: what public clauses cite.
 pub mod Backend
 pub mod Copies
 pub mod Defaults
@@ -10,7 +12,6 @@ pub mod Ranges
 pub mod Record
 pub mod Refusals
 pub mod Results
-pub mod Spans
 pub mod StateNode
 pub mod StateProps
 pub mod Steps
@@ -19,4 +20,6 @@ pub mod Thirds
 pub mod VarNames
 pub mod VarType
 pub mod Variables
+-- Inside: what private contracts and proofs cite.
+pub mod Spans
 pub mod Walk

@@ -2,6 +2,7 @@
 use Rattle.std.specs.Prelude.{ℕ, ◌+◌, ◌≤◌, ◌⊎◌, ◌||◌, Bool, false, List, [], ◌∷◌, Result, Ok, Err, if◌then◌else◌, max, min, nat_lt}
 use Rattle.std.specs.List.{list_any}
 use Rattle.std.specs.Str.{bytes_eq}
+use Rattle.bb_base.specs.Form.{area_limit}
 use Rattle.bb_layout.specs.declared.layout_error.LayoutError.{LayoutError}
 use Rattle.bb_layout.specs.declared.layout_error.LayoutError.TheVariants.{NameTwice, Overlap, AreaTooLong}
 use Rattle.bb_layout.specs.declared.var.Var.{Var}
@@ -27,11 +28,11 @@ greatest_end [] = 0
 greatest_end (v ∷ vs) = max (end_of v) (greatest_end vs)
 
 -- the length of the area, or the first refusal
-abbrev pub area_of : List Var → Result ℕ LayoutError
-area_of vars =
+abbrev pub area_len_of : List Var → Result ℕ LayoutError
+area_len_of vars =
     if some_pair has_same_name vars then Err NameTwice
     else if some_pair shares_byte vars then Err Overlap
-    else if nat_lt 65535 (greatest_end vars) then Err AreaTooLong
+    else if nat_lt area_limit (greatest_end vars) then Err AreaTooLong
     else Ok (greatest_end vars)
 
 -- one range ends where the other begins, or before

@@ -49,13 +49,13 @@ put_prop prop b = record { name = b.name; props = b.props ++ prop ∷ []; nodes 
 
 -- A property is put where a path leads, behind all that is there: through the last nodes for so
 -- many of its names, which those nodes have, and then through new ones.
-abbrev pub put : ℕ → List (List ℕ) → List ℕ × List ℕ → List (Branch (List ℕ)) → List (Branch (List ℕ))
-put shared [] prop nodes = nodes
-put zero (name ∷ path) prop nodes = nodes ++ node_for name path prop ∷ []
-put (suc shared) (name ∷ []) prop nodes = with_last (put_prop prop) nodes
-put (suc shared) (name ∷ next ∷ path) prop nodes =
+abbrev pub nodes_with_prop : ℕ → List (List ℕ) → List ℕ × List ℕ → List (Branch (List ℕ)) → List (Branch (List ℕ))
+nodes_with_prop shared [] prop nodes = nodes
+nodes_with_prop zero (name ∷ path) prop nodes = nodes ++ node_for name path prop ∷ []
+nodes_with_prop (suc shared) (name ∷ []) prop nodes = with_last (put_prop prop) nodes
+nodes_with_prop (suc shared) (name ∷ next ∷ path) prop nodes =
     with_last
-    (λ b. record { name = b.name; props = b.props; nodes = forest (put shared (next ∷ path) prop (branches b.nodes)) })
+    (λ b. record { name = b.name; props = b.props; nodes = forest (nodes_with_prop shared (next ∷ path) prop (branches b.nodes)) })
     nodes
 
 -- the nodes of the variables so far, and the path of the last of them
@@ -68,7 +68,7 @@ pub record Grown : Type 0 where
 abbrev pub with_var : List ℕ → Grown → Var → Grown
 with_var area grown v = record {
   path = v.path;
-  nodes = put (common_prefix_len bytes_eq grown.path v.path) v.path (value_prop area v) grown.nodes;
+  nodes = nodes_with_prop (common_prefix_len bytes_eq grown.path v.path) v.path (value_prop area v) grown.nodes;
 }
 
 abbrev pub grown_of : List ℕ → List Var → Grown

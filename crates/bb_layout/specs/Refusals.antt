@@ -1,92 +1,146 @@
--- Where each refusal comes: the step that it belongs to is reached, since all before it were good, and gives it.
-use Rattle.std.specs.Prelude.{◌≡◌, ◌⊎◌, ℕ, List, Option, Some, Result, Ok, Err}
+-- Where each refusal of a layout comes: at the first step that refuses. The steps are the fields of `Progress`, in order.
+use Rattle.std.specs.Prelude.{◌≡◌, ◌⊎◌, ℕ, List, Option, None, Result, Err, IsOk, ok_or}
+use Rattle.std.specs.Borrow.{Bor}
+use Rattle.std.specs.Option.{option_copied}
+use Rattle.bb_base.specs.Refusals as refusals
 use Rattle.bb_flash.specs.declared.geometry.Geometry.{Geometry}
 use Rattle.bb_flash.specs.declared.region.Region.{Region}
 use Rattle.bb_tree.specs.Node.{Branch}
+use Rattle.bb_tree.specs.NodeViews.{branch_of}
+use Rattle.bb_tree.specs.declared.tree.Tree.{Tree}
 use Rattle.bb_layout.specs.Backend.{backend_of}
 use Rattle.bb_layout.specs.Formats.{record_len}
-use Rattle.bb_layout.specs.Ranges.{area_of}
+use Rattle.bb_layout.specs.Layout.{Laid, layout_from}
+use Rattle.bb_layout.specs.Ranges.{area_len_of}
 use Rattle.bb_layout.specs.StateNode.{state_of}
 use Rattle.bb_layout.specs.StateProps.{props_of}
-use Rattle.bb_layout.specs.Storage.{fitted, placed, storage_of}
+use Rattle.bb_layout.specs.Steps.{result_then}
+use Rattle.bb_layout.specs.Storage.{check_room, check_place, storage_of}
 use Rattle.bb_layout.specs.Variables.{variables_of}
 use Rattle.bb_layout.specs.declared.layout.Layout.{Layout}
 use Rattle.bb_layout.specs.declared.layout_error.LayoutError.{LayoutError}
-use Rattle.bb_layout.specs.declared.layout_error.LayoutError.TheVariants.{NoMemory}
+use Rattle.bb_layout.specs.declared.layout_error.LayoutError.TheVariants.{NoMemory, NoState}
 use Rattle.bb_layout.specs.declared.state_props.Props.{Props}
-use Rattle.bb_layout.specs.declared.storage.Storage.{Storage}
 use Rattle.bb_layout.specs.declared.var.Var.{Var}
+
+-- what is asked of a devicetree: the layout for a device of this geometry, by a name where one is given
+pub record Question : Type 0 where
+  pub tree : Branch (List ℕ)
+  pub name : Option (List ℕ)
+  pub geometry : Geometry
+
+abbrev pub question_of : Tree → Option (Bor (List ℕ)) → Geometry → Question
+question_of tree name geometry =
+    record { tree = branch_of tree.root; name = option_copied name; geometry = geometry }
+
+abbrev pub answer_to : Question → Result Laid LayoutError
+answer_to question = layout_from question.tree question.name question.geometry
 
 -- ---- how far the steps come
 
--- the state node is found
-pub record HasState (tree : Branch (List ℕ)) (name : Option (List ℕ)) : Type 0 where
-  pub called : List ℕ
-  pub state : Branch (List ℕ)
-  pub state_is : state_of tree name ≡ Some (called, state)
+-- what each step gives; once one refuses, it and all behind it give that refusal
+pub record Progress : Type 0 where
+  -- the name of the state, and its node
+  pub state : Result (List ℕ × Branch (List ℕ)) LayoutError
+  -- that node's own properties
+  pub props : Result Props LayoutError
+  pub vars : Result (List Var) LayoutError
+  -- how many bytes the area of the variables has
+  pub area_len : Result ℕ LayoutError
+  -- the partition in which the copies stand
+  pub region : Result Region LayoutError
+  -- whether it has a place on the device
+  pub place : Result (Unit {0}) LayoutError
+  -- and whether copies have room in it
+  pub room : Result (Unit {0}) LayoutError
 
--- and its own properties are good
-pub record HasProps (tree : Branch (List ℕ)) (name : Option (List ℕ)) : Type 0 where
-  pub found : HasState tree name
-  pub props : Props
-  pub props_are : props_of found.state ≡ Ok props
+abbrev pub state_step : Question → Result (List ℕ × Branch (List ℕ)) LayoutError
+state_step question = ok_or (state_of question.tree question.name) NoState
 
--- and its variables are
-pub record HasVars (tree : Branch (List ℕ)) (name : Option (List ℕ)) : Type 0 where
-  pub read : HasProps tree name
-  pub vars : List Var
-  pub vars_are : variables_of read.found.state ≡ Ok vars
+abbrev pub props_step : Question → Result Props LayoutError
+props_step question = result_then (state_step question) (λ state. props_of state.1)
 
--- and they make an area
-pub record HasArea (tree : Branch (List ℕ)) (name : Option (List ℕ)) : Type 0 where
-  pub listed : HasVars tree name
-  pub area_len : ℕ
-  pub area_is : area_of listed.vars ≡ Ok area_len
+abbrev pub vars_step : Question → Result (List Var) LayoutError
+vars_step question =
+    result_then (props_step question) (λ _.
+    result_then (state_step question) (λ state. variables_of state.1))
 
--- how many bytes a record of it has
-abbrev pub len_at : {tree : Branch (List ℕ)} {name : Option (List ℕ)} → HasArea tree name → ℕ
-len_at s = record_len s.listed.read.props.format s.area_len
+abbrev pub area_step : Question → Result ℕ LayoutError
+area_step question = result_then (vars_step question) area_len_of
 
--- and its partition is found
-pub record HasRegion (tree : Branch (List ℕ)) (name : Option (List ℕ)) : Type 0 where
-  pub measured : HasArea tree name
-  pub region : Region
-  pub region_is : backend_of tree measured.listed.read.found.state ≡ Ok region
+abbrev pub region_step : Question → Result Region LayoutError
+region_step question =
+    result_then (area_step question) (λ _.
+    result_then (state_step question) (λ state. backend_of question.tree state.1))
 
--- and it has a place on the device
-pub record HasPlace (tree : Branch (List ℕ)) (name : Option (List ℕ)) (geometry : Geometry) : Type 0 where
-  pub backed : HasRegion tree name
-  pub placed_is : placed geometry backed.region ≡ Ok tt
+abbrev pub place_step : Question → Result (Unit {0}) LayoutError
+place_step question = result_then (region_step question) (check_place question.geometry)
 
--- how its copies are stored there
-abbrev pub storage_at : {tree : Branch (List ℕ)} {name : Option (List ℕ)} {geometry : Geometry} → HasPlace tree name geometry → Storage
-storage_at {geometry = geometry} s = storage_of geometry s.backed.region s.backed.measured.listed.read.props
+-- a record of the area has to fit into each copy
+abbrev pub room_step : Question → Result (Unit {0}) LayoutError
+room_step question =
+    result_then (place_step question) (λ _.
+    result_then (region_step question) (λ region.
+    result_then (props_step question) (λ props.
+    result_then (area_step question) (λ area_len.
+    let storage = storage_of question.geometry region props in
+    check_room question.geometry storage region (record_len props.format area_len)))))
 
--- ---- the step that refuses
+unfoldable pub progress_of : Question → Progress
+progress_of question = record {
+  state = state_step question;
+  props = props_step question;
+  vars = vars_step question;
+  area_len = area_step question;
+  region = region_step question;
+  place = place_step question;
+  room = room_step question;
+}
 
-abbrev pub AtProps : Branch (List ℕ) → Option (List ℕ) → LayoutError → Type 0
-AtProps tree name e = (s : HasState tree name) × (props_of s.state ≡ Err e)
+-- ---- the first step that refuses
 
-abbrev pub AtVars : Branch (List ℕ) → Option (List ℕ) → LayoutError → Type 0
-AtVars tree name e = (s : HasProps tree name) × (variables_of s.found.state ≡ Err e)
+abbrev pub HasNoState : Question → Type 0
+HasNoState question = state_of question.tree question.name ≡ None
 
-abbrev pub AtArea : Branch (List ℕ) → Option (List ℕ) → LayoutError → Type 0
-AtArea tree name e = (s : HasVars tree name) × (area_of s.vars ≡ Err e)
+abbrev pub AtProps : Question → LayoutError → Type 0
+AtProps question refusal =
+    IsOk (progress_of question).state × ((progress_of question).props ≡ Err refusal)
 
-abbrev pub AtBackend : Branch (List ℕ) → Option (List ℕ) → LayoutError → Type 0
-AtBackend tree name e = (s : HasArea tree name) × (backend_of tree s.listed.read.found.state ≡ Err e)
+abbrev pub AtVars : Question → LayoutError → Type 0
+AtVars question refusal =
+    IsOk (progress_of question).props × ((progress_of question).vars ≡ Err refusal)
 
-abbrev pub AtPlace : Branch (List ℕ) → Option (List ℕ) → Geometry → LayoutError → Type 0
-AtPlace tree name geometry e = (s : HasRegion tree name) × (placed geometry s.region ≡ Err e)
+abbrev pub AtArea : Question → LayoutError → Type 0
+AtArea question refusal =
+    IsOk (progress_of question).vars × ((progress_of question).area_len ≡ Err refusal)
 
-abbrev pub AtRoom : Branch (List ℕ) → Option (List ℕ) → Geometry → LayoutError → Type 0
-AtRoom tree name geometry e =
-    (s : HasPlace tree name geometry)
-    × (fitted geometry (storage_at s) s.backed.region (len_at s.backed.measured) ≡ Err e)
+abbrev pub AtBackend : Question → LayoutError → Type 0
+AtBackend question refusal =
+    IsOk (progress_of question).area_len × ((progress_of question).region ≡ Err refusal)
+
+abbrev pub AtPlace : Question → LayoutError → Type 0
+AtPlace question refusal =
+    IsOk (progress_of question).region × ((progress_of question).place ≡ Err refusal)
+
+abbrev pub AtRoom : Question → LayoutError → Type 0
+AtRoom question refusal =
+    IsOk (progress_of question).place × ((progress_of question).room ≡ Err refusal)
+
+-- the steps that look at properties by their names
+abbrev pub AtProperties : Question → LayoutError → Type 0
+AtProperties question refusal =
+    AtProps question refusal ⊎ (AtVars question refusal ⊎ AtBackend question refusal)
 
 -- ---- an answer
 
--- A refusal comes exactly where a fact holds; want of memory may come before it.
-pub record ComesExactly (result : Result Layout LayoutError) (refusal : LayoutError) (fact : Type 0) : Type 0 where
-  pub only : result ≡ Err refusal → fact
-  pub always : fact → (result ≡ Err refusal) ⊎ (result ≡ Err NoMemory)
+-- an answer is refused as it is expected, unless memory was refused
+abbrev pub Refuses : {A : Type 0} → Result A LayoutError → LayoutError → Type 0
+Refuses expected refusal = refusals.RefusesAs NoMemory expected refusal
+
+-- a refusal comes exactly where a fact holds; that memory was refused may come before it
+abbrev pub ComesExactly : Result Layout LayoutError → LayoutError → Type 0 → Type 0
+ComesExactly result refusal fact = refusals.ComesExactly NoMemory result refusal fact
+
+-- it comes exactly where that step is the first that refuses, and refuses so
+abbrev pub ComesAt : (Question → LayoutError → Type 0) → Question → Result Layout LayoutError → LayoutError → Type 0
+ComesAt step question result refusal = ComesExactly result refusal (step question refusal)

@@ -15,8 +15,8 @@ abbrev pub counting : Branch (List ℕ) → Option (Branch (List ℕ))
 counting b = if counts b then Some b else None
 
 -- the node that counts and whose path is the property of that name of `/aliases`
-abbrev pub aliased : Branch (List ℕ) → List ℕ → Option (Branch (List ℕ))
-aliased tree name =
+abbrev pub node_by_alias : Branch (List ℕ) → List ℕ → Option (Branch (List ℕ))
+node_by_alias tree name =
     option_and_then counting (option_and_then (λ path. found path tree)
     (option_and_then text_of (option_and_then (prop_of name) (found (codes "/aliases") tree))))
 
@@ -30,5 +30,5 @@ abbrev pub state_of : Branch (List ℕ) → Option (List ℕ) → Option (List �
 state_of tree name =
     let alias = unwrap_or name (codes "state") in
     option_or
-    (option_map (λ b. (alias, b)) (aliased tree alias))
+    (option_map (λ b. (alias, b)) (node_by_alias tree alias))
     (option_map (λ b. (base_name b.name, b)) (find (is_wanted name) (preorder tree)))

@@ -14,8 +14,8 @@ use Rattle.bb_layout.specs.declared.layout_error.LayoutError.TheVariants.{Missin
 use Rattle.bb_layout.specs.declared.state_props.Props.{Props}
 
 -- a property that must be there
-abbrev pub needed : Branch (List ℕ) → List ℕ → Result (List ℕ) LayoutError
-needed b name = ok_or (prop_of name b) (Missing name)
+abbrev pub required_prop : Branch (List ℕ) → List ℕ → Result (List ℕ) LayoutError
+required_prop b name = ok_or (prop_of name b) (Missing name)
 
 -- the value is this string: its bytes and a zero byte
 abbrev pub is_string : List ℕ → List ℕ → Bool
@@ -23,7 +23,7 @@ is_string value text = bytes_eq value (text ++ 0 ∷ [])
 
 -- `magic` is one cell
 abbrev pub magic_of : Branch (List ℕ) → Result ℕ LayoutError
-magic_of b = result_then (needed b (codes "magic")) (λ value. ok_or (cell_of value) (BadProp (codes "magic")))
+magic_of b = result_then (required_prop b (codes "magic")) (λ value. ok_or (cell_of value) (BadProp (codes "magic")))
 
 -- `backend-type` is `raw`, the one type of records so far
 abbrev pub type_in : List ℕ → Option FormatKind
@@ -31,7 +31,7 @@ type_in value = if is_string value (codes "raw") then Some Raw else None
 
 abbrev pub type_of : Branch (List ℕ) → Result FormatKind LayoutError
 type_of b =
-    result_then (needed b (codes "backend-type")) (λ value. ok_or (type_in value) (BadProp (codes "backend-type")))
+    result_then (required_prop b (codes "backend-type")) (λ value. ok_or (type_in value) (BadProp (codes "backend-type")))
 
 -- `algo` is `hmac(sha256)`, which a raw record alone takes
 abbrev pub keyed_in : FormatKind → List ℕ → Option FormatKind

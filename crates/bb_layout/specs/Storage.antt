@@ -16,8 +16,8 @@ is_aligned geometry partition =
     (geometry.block == 0) || ((partition.at % geometry.block == 0) && (partition.size % geometry.block == 0))
 
 -- the partition has a place on the device
-abbrev pub placed : Geometry → Region → Result (Unit {0}) LayoutError
-placed geometry partition =
+abbrev pub check_place : Geometry → Region → Result (Unit {0}) LayoutError
+check_place geometry partition =
     if not (is_aligned geometry partition) then Err Unaligned
     else if nat_lt geometry.size (partition.at + partition.size) then Err OutOfDevice
     else Ok tt
@@ -31,15 +31,15 @@ storage_of geometry partition props =
     else OneBlock
 
 -- two copies fit, and a record of that length fits into each
-abbrev pub fitted : Geometry → Storage → Region → ℕ → Result (Unit {0}) LayoutError
-fitted geometry storage partition len =
+abbrev pub check_room : Geometry → Storage → Region → ℕ → Result (Unit {0}) LayoutError
+check_room geometry storage partition len =
     if nat_lt (copies_of geometry storage partition) 2 || nat_lt (spacing geometry storage) (room_for geometry storage len)
     then Err TooSmall
     else Ok tt
 
 -- the storage in a partition of copies with a record of that length
-abbrev pub stored : Geometry → Region → Props → ℕ → Result Storage LayoutError
-stored geometry partition props len =
-    result_then (placed geometry partition) (λ _.
-    result_then (fitted geometry (storage_of geometry partition props) partition len) (λ _.
+abbrev pub storage_in : Geometry → Region → Props → ℕ → Result Storage LayoutError
+storage_in geometry partition props len =
+    result_then (check_place geometry partition) (λ _.
+    result_then (check_room geometry (storage_of geometry partition props) partition len) (λ _.
     Ok (storage_of geometry partition props)))

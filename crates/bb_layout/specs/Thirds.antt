@@ -6,7 +6,7 @@ use Rattle.bb_layout.specs.Copies.{copies_of}
 use Rattle.bb_layout.specs.Formats.{raw_len}
 use Rattle.bb_layout.specs.Layout.{Laid}
 use Rattle.bb_layout.specs.Steps.{result_then}
-use Rattle.bb_layout.specs.Storage.{fitted}
+use Rattle.bb_layout.specs.Storage.{check_room}
 use Rattle.bb_layout.specs.declared.format_kind.FormatKind.TheVariants.{Raw}
 use Rattle.bb_layout.specs.declared.layout_error.LayoutError.{LayoutError}
 use Rattle.bb_layout.specs.declared.layout_error.LayoutError.TheVariants.{BadProp}
@@ -38,6 +38,6 @@ laid_thirds magic area_len geometry = record {
 abbrev pub raw_layout : ℕ → ℕ → Geometry → Result Laid LayoutError
 raw_layout magic area_len geometry =
     if geometry.block == 0
-    then result_then (fitted geometry (thirds_of geometry) (whole_device geometry) (raw_len area_len)) (λ _.
+    then result_then (check_room geometry (thirds_of geometry) (whole_device geometry) (raw_len area_len)) (λ _.
     Ok (laid_thirds magic area_len geometry))
     else Err (BadProp (codes "backend-storage-type"))

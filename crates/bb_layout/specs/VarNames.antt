@@ -14,8 +14,8 @@ abbrev pub AreFirstPlaces : List Var → List (List ℕ × ℕ) → Type 0
 AreFirstPlaces vars places = (name : List ℕ) → lookup (bytes_eq name) places ≡ place_of vars name
 
 -- a place noted for a name that has none
-abbrev pub noted : List (List ℕ × ℕ) → List ℕ → ℕ → List (List ℕ × ℕ)
-noted places name place = if is_some (lookup (bytes_eq name) places) then places else places ++ (name, place) ∷ []
+abbrev pub with_place : List (List ℕ × ℕ) → List ℕ → ℕ → List (List ℕ × ℕ)
+with_place places name place = if is_some (lookup (bytes_eq name) places) then places else places ++ (name, place) ∷ []
 
 -- whether no variable before the one at a place has its name
 abbrev pub is_first_of_name : List Var → ℕ → Bool

@@ -43,8 +43,8 @@ kind_of kinds.Mac size names = Ok Mac
 kind_of kinds.Chars size names = Ok (Chars size)
 
 -- bytes filled up with zero bytes
-abbrev pub filled : ℕ → List ℕ → List ℕ
-filled size bytes = bytes ++ replicate (size - length bytes) 0
+abbrev pub bytes_of_size : ℕ → List ℕ → List ℕ
+bytes_of_size size bytes = bytes ++ replicate (size - length bytes) 0
 
 -- the bytes that a value of `default` stands for
 abbrev pub default_in : Kind → List ℕ → Option (List ℕ)
@@ -52,21 +52,21 @@ default_in Uint8 value = option_map (to_le_bytes w8) (cell_below 256 value)
 default_in Uint32 value = option_map (to_le_bytes w32) (cell_of value)
 default_in (Enum32 names) value = option_map (to_le_bytes w32) (cell_below (length names) value)
 default_in Mac value = if length value == 6 then Some value else None
-default_in (Chars size) value = option_map (filled size) (option_filter (λ s. nat_le (length s) size) (string_of value))
+default_in (Chars size) value = option_map (bytes_of_size size) (option_filter (λ s. nat_le (length s) size) (string_of value))
 
 abbrev pub default_of : Kind → Option (List ℕ) → Result (List ℕ) LayoutError
-default_of kind None = Ok (filled (size_of kind) [])
+default_of kind None = Ok (bytes_of_size (size_of kind) [])
 default_of kind (Some value) = ok_or (default_in kind value) (BadProp (codes "default"))
 
 -- names up to their `@`, joined by `.`
-abbrev pub dotted : List (List ℕ) → List ℕ
-dotted path = join_with_byte 46 (map base_name path)
+abbrev pub dotted_name : List (List ℕ) → List ℕ
+dotted_name path = join_with_byte 46 (map base_name path)
 
 -- the variable of a node, to which the full names of a path lead: its type, range, kind and default one after another
 abbrev pub with_kind : List (List ℕ) → Branch (List ℕ) → ℕ × ℕ → Kind → Result Var LayoutError
 with_kind path b range kind =
     result_and_then
-    (λ default. Ok (record { name = dotted path; path = path; at = range.0; size = range.1; kind = kind; default = default }))
+    (λ default. Ok (record { name = dotted_name path; path = path; at = range.0; size = range.1; kind = kind; default = default }))
     (default_of kind (prop_of (codes "default") b))
 
 abbrev pub with_range : List (List ℕ) → Branch (List ℕ) → VarType → ℕ × ℕ → Result Var LayoutError

@@ -6,7 +6,7 @@ ghost use Rattle.bb_layout.specs.Steps.{Gives};
 
 use crate::LayoutError;
 use crate::fields::{cell, four_cells, string, two_cells};
-use crate::state_props::needed;
+use crate::state_props::required_prop;
 use bb_flash::Region;
 use bb_tree::{Node, Tree};
 use std::alloc::Global;
@@ -16,7 +16,7 @@ use std::str;
 pub(crate) fn backend(alloc: Global, tree: &Tree, state: &Node) -> Result<Region, LayoutError>
     ensures { Gives (spec.backend_of (branch_of tree.now.root) (branch_of state.now)) result }
 {
-    let value = needed(alloc, state, "backend")?;
+    let value = required_prop(alloc, state, "backend")?;
     if let Some(phandle) = cell(value) {
         return partition_at(tree.by_phandle(phandle));
     }
@@ -36,7 +36,8 @@ fn path(value: &[u8]) -> Option<&[u8]>
 
 #[tactic(auto, using(crate::proofs::Texts::passes_as_text, crate::proofs::Texts::fails_as_text))]
 fn node_along<'a>(tree: &'a Tree, path: &[u8]) -> Option<&'a Node>
-    ensures { option_map branch_of (option_copied result) ≡ spec.node_along (branch_of tree.now.root) path.now }
+    ensures { option_map branch_of (option_copied result)
+        ≡ spec.node_along (branch_of tree.now.root) path.now }
 {
     match str::from_utf8(path) {
         Ok(path) => tree.find(path),

@@ -80,7 +80,8 @@ pub(crate) fn strings(alloc: Global, value: &[u8]) -> Result<Option<TextList>, N
 
 // The texts between zero bytes, where all are UTF-8.
 fn texts(alloc: Global, front: &[u8]) -> Result<Option<TextList>, NoMemory>
-    ensures { IfOk result (λ found. found ≡ option_filter (list_all is_utf8) (Some (field.parts_of front.now))) }
+    ensures { IfOk result (λ found.
+        found ≡ option_filter (list_all is_utf8) (Some (field.parts_of front.now))) }
 {
     let mut texts = TextList::none(alloc);
     for part in front.split(|c| *c == 0) {

@@ -1,17 +1,21 @@
-ghost use Rattle.std.specs.Prelude.{◌≡◌, ◌≢◌, ◌⊎◌, Ok, Err, IfOk, IfErr, List, None, ℕ};
-ghost use Rattle.std.specs.Option.{option_copied};
+ghost use Rattle.std.specs.Prelude.{◌≡◌, Ok, IfOk, IfErr, List, ℕ};
 ghost use Rattle.bb_flash.specs.Geometry.{IsGeometry};
 ghost use Rattle.bb_tree.specs.NodeViews.{branch_of};
-ghost use Rattle.bb_layout.specs.Layout.{laid, layout_at, layout_from};
-ghost use Rattle.bb_layout.specs.Refusals.{AtArea, AtBackend, AtPlace, AtProps, AtRoom, AtVars, ComesExactly};
-ghost use Rattle.bb_layout.specs.StateNode.{state_of};
+ghost use Rattle.bb_layout.specs.Layout.{fields_of, layout_at};
+ghost use Rattle.bb_layout.specs.Refusals.{AtArea, AtBackend, AtPlace, AtProperties, AtRoom, AtVars};
+ghost use Rattle.bb_layout.specs.Refusals.{ComesAt, ComesExactly, HasNoState, Refuses, answer_to, question_of};
+ghost use Rattle.bb_layout.specs.declared.layout_error.LayoutError.TheVariants.{AreaTooLong, BadProp};
+ghost use Rattle.bb_layout.specs.declared.layout_error.LayoutError.TheVariants.{BadReg, BadType, Missing};
+ghost use Rattle.bb_layout.specs.declared.layout_error.LayoutError.TheVariants.{NameTwice, NoBackend};
+ghost use Rattle.bb_layout.specs.declared.layout_error.LayoutError.TheVariants.{NoState, OutOfDevice};
+ghost use Rattle.bb_layout.specs.declared.layout_error.LayoutError.TheVariants.{Overlap, TooSmall, Unaligned};
 
 use crate::backend::backend;
 use crate::fields::base_name;
-use crate::placing::{copies, stored};
+use crate::placing::{copies, storage_in};
 use crate::ranges::area_len;
 use crate::record_len::record_len;
-use crate::state_node::{aliased, first_wanted};
+use crate::state_node::{first_wanted, node_by_alias};
 use crate::state_props::state_props;
 use crate::variables::variables;
 use crate::{Layout, LayoutError};
@@ -31,24 +35,32 @@ pub fn layout_of(
     geometry: Geometry,
 ) -> Result<Layout, LayoutError>
     requires { IsGeometry geometry }
-    ensures ok { IfOk result (λ layout. layout_from (branch_of tree.now.root) (option_copied name.entry) geometry ≡ Ok (laid layout)) }
-    ensures refused { IfErr result (λ e. e ≢ LayoutError.NoMemory → layout_from (branch_of tree.now.root) (option_copied name.entry) geometry ≡ Err e) }
+    ensures ok { IfOk result (λ layout.
+        answer_to (question_of tree.now name.entry geometry) ≡ Ok (fields_of layout)) }
+    ensures refused { IfErr result
+        (Refuses (answer_to (question_of tree.now name.entry geometry))) }
 
     // Each refusal, and where it comes.
-    ensures no_state { ComesExactly result LayoutError.NoState (state_of (branch_of tree.now.root) (option_copied name.entry) ≡ None) }
-    ensures missing { (prop : List ℕ) → ComesExactly result (LayoutError.Missing prop) (AtProps (branch_of tree.now.root) (option_copied name.entry) (LayoutError.Missing prop)
-        ⊎ (AtVars (branch_of tree.now.root) (option_copied name.entry) (LayoutError.Missing prop) ⊎ AtBackend (branch_of tree.now.root) (option_copied name.entry) (LayoutError.Missing prop))) }
-    ensures bad_prop { (prop : List ℕ) → ComesExactly result (LayoutError.BadProp prop) (AtProps (branch_of tree.now.root) (option_copied name.entry) (LayoutError.BadProp prop)
-        ⊎ (AtVars (branch_of tree.now.root) (option_copied name.entry) (LayoutError.BadProp prop) ⊎ AtBackend (branch_of tree.now.root) (option_copied name.entry) (LayoutError.BadProp prop))) }
-    ensures bad_type { ComesExactly result LayoutError.BadType (AtVars (branch_of tree.now.root) (option_copied name.entry) LayoutError.BadType) }
-    ensures bad_reg { ComesExactly result LayoutError.BadReg (AtVars (branch_of tree.now.root) (option_copied name.entry) LayoutError.BadReg) }
-    ensures overlap { ComesExactly result LayoutError.Overlap (AtArea (branch_of tree.now.root) (option_copied name.entry) LayoutError.Overlap) }
-    ensures no_backend { ComesExactly result LayoutError.NoBackend (AtBackend (branch_of tree.now.root) (option_copied name.entry) LayoutError.NoBackend) }
-    ensures too_small { ComesExactly result LayoutError.TooSmall (AtRoom (branch_of tree.now.root) (option_copied name.entry) geometry LayoutError.TooSmall) }
-    ensures unaligned { ComesExactly result LayoutError.Unaligned (AtPlace (branch_of tree.now.root) (option_copied name.entry) geometry LayoutError.Unaligned) }
-    ensures out_of_device { ComesExactly result LayoutError.OutOfDevice (AtPlace (branch_of tree.now.root) (option_copied name.entry) geometry LayoutError.OutOfDevice) }
-    ensures area_too_long { ComesExactly result LayoutError.AreaTooLong (AtArea (branch_of tree.now.root) (option_copied name.entry) LayoutError.AreaTooLong) }
-    ensures name_twice { ComesExactly result LayoutError.NameTwice (AtArea (branch_of tree.now.root) (option_copied name.entry) LayoutError.NameTwice) }
+    ensures no_state { ComesExactly result NoState
+        (HasNoState (question_of tree.now name.entry geometry)) }
+    ensures missing { (prop : List ℕ) →
+        ComesAt AtProperties (question_of tree.now name.entry geometry) result (Missing prop) }
+    ensures bad_prop { (prop : List ℕ) →
+        ComesAt AtProperties (question_of tree.now name.entry geometry) result (BadProp prop) }
+    ensures bad_type { ComesAt AtVars (question_of tree.now name.entry geometry) result BadType }
+    ensures bad_reg { ComesAt AtVars (question_of tree.now name.entry geometry) result BadReg }
+    ensures overlap { ComesAt AtArea (question_of tree.now name.entry geometry) result Overlap }
+    ensures no_backend { ComesAt AtBackend (question_of tree.now name.entry geometry)
+        result NoBackend }
+    ensures too_small { ComesAt AtRoom (question_of tree.now name.entry geometry) result TooSmall }
+    ensures unaligned { ComesAt AtPlace (question_of tree.now name.entry geometry)
+        result Unaligned }
+    ensures out_of_device { ComesAt AtPlace (question_of tree.now name.entry geometry)
+        result OutOfDevice }
+    ensures area_too_long { ComesAt AtArea (question_of tree.now name.entry geometry)
+        result AreaTooLong }
+    ensures name_twice { ComesAt AtArea (question_of tree.now name.entry geometry)
+        result NameTwice }
 {
     named_layout(alloc, tree, name, geometry)
 }
@@ -61,11 +73,13 @@ fn named_layout(
     geometry: Geometry,
 ) -> Result<Layout, LayoutError>
     requires { IsGeometry geometry }
-    ensures ok { IfOk result (λ layout. layout_from (branch_of tree.now.root) (option_copied name.entry) geometry ≡ Ok (laid layout)) }
-    ensures refused { IfErr result (λ e. e ≢ LayoutError.NoMemory → layout_from (branch_of tree.now.root) (option_copied name.entry) geometry ≡ Err e) }
+    ensures ok { IfOk result (λ layout.
+        answer_to (question_of tree.now name.entry geometry) ≡ Ok (fields_of layout)) }
+    ensures refused { IfErr result
+        (Refuses (answer_to (question_of tree.now name.entry geometry))) }
 {
     let alias = name.unwrap_or("state");
-    if let Some(state) = aliased(tree, alias) {
+    if let Some(state) = node_by_alias(tree, alias) {
         return layout_at(alloc, tree, alias, state, geometry);
     }
     let Some(state) = first_wanted(&tree.root, name) else {
@@ -83,14 +97,17 @@ fn layout_at(
     geometry: Geometry,
 ) -> Result<Layout, LayoutError>
     requires { IsGeometry geometry }
-    ensures ok { IfOk result (λ layout. layout_at (branch_of tree.now.root) name.now (branch_of state.now) geometry ≡ Ok (laid layout)) }
-    ensures refused { IfErr result (λ e. e ≢ LayoutError.NoMemory → layout_at (branch_of tree.now.root) name.now (branch_of state.now) geometry ≡ Err e) }
+    ensures ok { IfOk result (λ layout.
+        layout_at (branch_of tree.now.root) name.now (branch_of state.now) geometry
+        ≡ Ok (fields_of layout)) }
+    ensures refused { IfErr result (Refuses
+        (layout_at (branch_of tree.now.root) name.now (branch_of state.now) geometry)) }
 {
     let props = state_props(alloc, state)?;
     let vars = variables(alloc, state)?;
     let area_len = area_len(alloc, &vars)?;
     let region = backend(alloc, tree, state)?;
-    let storage = stored(geometry, region, props, record_len(props.format, area_len))?;
+    let storage = storage_in(geometry, region, props, record_len(props.format, area_len))?;
     Ok(Layout {
         name: Text::of(alloc, name)?,
         node: state.name.copy()?,

@@ -34,7 +34,8 @@ pub struct Layout {
     pub area_len: u32,
     /// The variables, in the order of the devicetree.
     pub vars: VarList,
-    pub ghost facts: { IsLayout geometry region storage copies (record_len format area_len) area_len vars } by { Prim.hlevel (props, HasFewNames-prop) },
+    pub ghost facts: { IsLayout geometry region storage copies
+        (record_len format area_len) area_len vars } by { Prim.hlevel (props, HasFewNames-prop) },
 }
 
 impl Layout {
@@ -43,7 +44,7 @@ impl Layout {
     ghost use Rattle.bb_layout.specs.Copies.{region_of, room_for};
     ghost use Rattle.bb_layout.specs.Defaults.{defaults_of};
     ghost use Rattle.bb_layout.specs.Facts.{IsAligned, IsWithin};
-    ghost use Rattle.bb_layout.specs.Layout.{laid, laid_len};
+    ghost use Rattle.bb_layout.specs.Layout.{fields_of, laid_len};
     ghost use Rattle.bb_layout.specs.Record.{record_tree_of};
     ghost use Rattle.bb_layout.specs.VarNames.{place_of};
 
@@ -53,7 +54,7 @@ impl Layout {
         ensures value { result ≡ region_of self.now.geometry self.now.storage self.now.region copy }
         ensures within { IsWithin self.now.region result }
         ensures aligned { IsAligned self.now.geometry result }
-        ensures room { room_for self.now.geometry self.now.storage (laid_len (laid self.now))
+        ensures room { room_for self.now.geometry self.now.storage (laid_len (fields_of self.now))
             ≤ result.size }
     {
         let size = spacing(self.geometry, self.storage);
@@ -84,7 +85,7 @@ impl Layout {
     pub fn record_tree(alloc: Global, layout: &Layout, area: &[u8]) -> Result<Tree, NoMemory>
         requires { length area.now ≡ layout.now.area_len }
         ensures tree { IfOk result (λ tree. branch_of tree.root
-            ≡ record_tree_of (laid layout.now) area.now) }
+            ≡ record_tree_of (fields_of layout.now) area.now) }
         ensures none_reserved { IfOk result (λ tree. tree.reserved ≡ []) }
     {
         record_tree(alloc, layout, area)

@@ -11,14 +11,14 @@ use bb_flash::{Geometry, Region};
 
 #[tactic(auto, using(crate::proofs::Standing::stored_copies))]
 /// How copies with a record of `len` bytes are stored in a partition of a device.
-pub(crate) fn stored(
+pub(crate) fn storage_in(
     geometry: Geometry,
     partition: Region,
     props: Props,
     len: u64,
 ) -> Result<Storage, LayoutError>
     requires { IsGeometry geometry }
-    ensures gives { result ≡ spec.stored geometry partition props len }
+    ensures gives { result ≡ spec.storage_in geometry partition props len }
     ensures copies { IfOk result (λ storage. HasCopies geometry partition storage
         (copy.copies_of geometry storage partition) len) }
 {
@@ -29,7 +29,7 @@ pub(crate) fn stored(
 }
 
 fn check_place(geometry: Geometry, partition: Region) -> Result<(), LayoutError>
-    ensures { result ≡ spec.placed geometry partition }
+    ensures { result ≡ spec.check_place geometry partition }
 {
     if !is_aligned(geometry, partition) {
         return Err(LayoutError::Unaligned);
@@ -68,7 +68,7 @@ pub(crate) fn check_room(
     len: u64,
 ) -> Result<(), LayoutError>
     requires { IsGeometry geometry }
-    ensures { result ≡ spec.fitted geometry storage partition len }
+    ensures { result ≡ spec.check_room geometry storage partition len }
 {
     if copies(geometry, storage, partition) < 2 || !has_room(geometry, storage, len) {
         return Err(LayoutError::TooSmall);

@@ -1,23 +1,25 @@
 ghost use Rattle.std.specs.Prelude.{◌≡◌, ◌≢◌, ◌≤◌, All, AllPairs, IfOk, IfErr, OnOk, map};
-ghost use Rattle.bb_layout.specs.Ranges.{AreApart, area_of, end_of, greatest_end, has_same_name, shares_byte, some_pair};
+ghost use Rattle.bb_base.specs.Form.{area_limit};
+ghost use Rattle.bb_layout.specs.Ranges.{AreApart, area_len_of, end_of, greatest_end, has_same_name, shares_byte, some_pair};
 ghost use Rattle.bb_layout.specs.Spans.{has_meeting_spans, span_of};
 ghost use Rattle.bb_layout.specs.VarNames.{is_first_of_name};
 ghost use Rattle.bb_layout.specs.Variables.{IsWellFormed};
+ghost use Rattle.bb_layout.specs.Refusals.{Refuses};
 
 use crate::{LayoutError, VarList};
-use bb_base::NoMemory;
+use bb_base::{AREA_LIMIT, NoMemory};
 use std::alloc::Global;
 
 /// The length of the area that the variables take. `NameTwice` where two have one name, else `Overlap` where two share
-/// a byte, else `AreaTooLong` where it exceeds 65,535.
+/// a byte, else `AreaTooLong` where it exceeds `AREA_LIMIT`.
 pub(crate) fn area_len(alloc: Global, vars: &VarList) -> Result<u32, LayoutError>
     requires { All IsWellFormed vars.now }
-    ensures ok { IfOk result (λ len. area_of vars.now ≡ Ok len) }
-    ensures refused { IfErr result (λ e. e ≢ LayoutError.NoMemory → area_of vars.now ≡ Err e) }
+    ensures ok { IfOk result (λ len. area_len_of vars.now ≡ Ok len) }
+    ensures refused { IfErr result (Refuses (area_len_of vars.now)) }
     ensures names { OnOk result (AllPairs (λ a b. a.name ≢ b.name) vars.now) }
     ensures apart { OnOk result (AllPairs AreApart vars.now) }
     ensures inside { IfOk result (λ len. All (λ v. end_of v ≤ len) vars.now) }
-    ensures short { IfOk result (λ len. len ≤ 65535) }
+    ensures short { IfOk result (λ len. len ≤ area_limit) }
 {
     if has_name_twice(vars) {
         return Err(LayoutError::NameTwice);
@@ -26,7 +28,7 @@ pub(crate) fn area_len(alloc: Global, vars: &VarList) -> Result<u32, LayoutError
         return Err(LayoutError::Overlap);
     }
     let end = last_end(vars);
-    if end > 65535 {
+    if end > AREA_LIMIT {
         return Err(LayoutError::AreaTooLong);
     }
     Ok(end)

@@ -45,12 +45,12 @@ fn shared_before(vars: &VarList, place: usize, path: &TextList) -> usize
     let Some(before) = vars.get(place - 1) else {
         unreachable!()
     };
-    shared(&before.path, path)
+    shared_len(&before.path, path)
 }
 
 #[tactic(auto, using(crate::proofs::Records::prefix_ends, crate::proofs::Records::prefix_goes_on, crate::proofs::Records::prefix_whole))]
 // How many names two paths have in common, from the first on.
-fn shared(path: &TextList, other: &TextList) -> usize
+fn shared_len(path: &TextList, other: &TextList) -> usize
     ensures { result ≡ common_prefix_len bytes_eq path.now other.now }
 {
     for depth in 0..path.len().min(other.len()) {
@@ -75,7 +75,7 @@ fn put(
     prop: Prop,
 ) -> Result<NodeList, NoMemory>
     ensures { IfOk result (λ after. branches_of after
-        ≡ spec.put shared (drop depth path.now) (prop_pair prop) (branches_of nodes)) }
+        ≡ spec.nodes_with_prop shared (drop depth path.now) (prop_pair prop) (branches_of nodes)) }
 {
     if depth >= path.len() {
         return Ok(nodes);

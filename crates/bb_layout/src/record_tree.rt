@@ -1,6 +1,6 @@
 ghost use Rattle.std.specs.Prelude.{◌≡◌, [], IfOk, length};
 ghost use Rattle.bb_tree.specs.NodeViews.{branch_of};
-ghost use Rattle.bb_layout.specs.Layout.{laid};
+ghost use Rattle.bb_layout.specs.Layout.{fields_of};
 ghost use Rattle.bb_layout.specs.Record as spec;
 
 use crate::Layout;
@@ -15,7 +15,7 @@ use std::alloc::Global;
 pub(crate) fn record_tree(alloc: Global, layout: &Layout, area: &[u8]) -> Result<Tree, NoMemory>
     requires { length area.now ≡ layout.now.area_len }
     ensures root { IfOk result (λ tree. branch_of tree.root
-        ≡ spec.record_tree_of (laid layout.now) area.now) }
+        ≡ spec.record_tree_of (fields_of layout.now) area.now) }
     ensures reserved { IfOk result (λ tree. tree.reserved ≡ []) }
 {
     let mut props = PropList::none(alloc);
@@ -34,7 +34,7 @@ pub(crate) fn record_tree(alloc: Global, layout: &Layout, area: &[u8]) -> Result
 
 fn state_node(alloc: Global, layout: &Layout, area: &[u8]) -> Result<Node, NoMemory>
     requires { length area.now ≡ layout.now.area_len }
-    ensures { IfOk result (λ node. branch_of node ≡ spec.state_of (laid layout.now) area.now) }
+    ensures { IfOk result (λ node. branch_of node ≡ spec.state_of (fields_of layout.now) area.now) }
 {
     let mut props = PropList::none(alloc);
     props.push(prop(alloc, "compatible", b"barebox,state\0")?)?;

@@ -32,13 +32,13 @@ pub(crate) fn value_prop(alloc: Global, var: &Var, area: &[u8]) -> Result<Prop, 
     let bytes = &area[at..at + var.size as usize];
     match var.kind {
         Kind::Uint8 => prop(alloc, "value", &u32::from(bytes[0]).to_be_bytes()),
-        Kind::Uint32 | Kind::Enum32(_) => prop(alloc, "value", &turned(bytes)),
+        Kind::Uint32 | Kind::Enum32(_) => prop(alloc, "value", &big_endian(bytes)),
         Kind::Mac | Kind::Chars(_) => prop(alloc, "value", bytes),
     }
 }
 
 // The 4 bytes of a number, the other way round.
-fn turned(bytes: &[u8]) -> [u8; 4]
+fn big_endian(bytes: &[u8]) -> [u8; 4]
     requires { length bytes.now ≡ 4 }
     ensures { result ≡ spec.cell (from_le_bytes w32 bytes.now) }
 {

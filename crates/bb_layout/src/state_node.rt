@@ -8,8 +8,9 @@ use crate::fields::{base_name, has_string, text};
 use bb_tree::{Node, Tree};
 
 /// The node that counts as a state node and to which `/aliases` leads by this name.
-pub(crate) fn aliased<'a>(tree: &'a Tree, name: &str) -> Option<&'a Node>
-    ensures { option_map branch_of (option_copied result) ≡ spec.aliased (branch_of tree.now.root) name.now }
+pub(crate) fn node_by_alias<'a>(tree: &'a Tree, name: &str) -> Option<&'a Node>
+    ensures { option_map branch_of (option_copied result)
+        ≡ spec.node_by_alias (branch_of tree.now.root) name.now }
 {
     let path = text(tree.find("/aliases")?.prop(name)?)?;
     let node = tree.find(path)?;
@@ -19,7 +20,8 @@ pub(crate) fn aliased<'a>(tree: &'a Tree, name: &str) -> Option<&'a Node>
 /// The first node in preorder, from `node` on, that counts as a state node, and that is called `name` up to its `@`
 /// where a name is given.
 pub(crate) fn first_wanted<'a>(node: &'a Node, name: Option<&str>) -> Option<&'a Node>
-    ensures { option_map branch_of (option_copied result) ≡ find (spec.is_wanted (option_copied name.entry)) (preorder (branch_of node.now)) }
+    ensures { option_map branch_of (option_copied result)
+        ≡ find (spec.is_wanted (option_copied name.entry)) (preorder (branch_of node.now)) }
 {
     if is_wanted(node, name) {
         return Some(node);

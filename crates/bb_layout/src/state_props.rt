@@ -40,8 +40,12 @@ pub(crate) fn state_props(alloc: Global, state: &Node) -> Result<Props, LayoutEr
 }
 
 /// The value of a property that must be there.
-pub(crate) fn needed<'a>(alloc: Global, node: &'a Node, name: &str) -> Result<&'a [u8], LayoutError>
-    ensures { Gives (spec.needed (branch_of node.now) name.now) (result_copied result) }
+pub(crate) fn required_prop<'a>(
+    alloc: Global,
+    node: &'a Node,
+    name: &str,
+) -> Result<&'a [u8], LayoutError>
+    ensures { Gives (spec.required_prop (branch_of node.now) name.now) (result_copied result) }
 {
     match node.prop(name) {
         Some(value) => Ok(value),
@@ -52,7 +56,7 @@ pub(crate) fn needed<'a>(alloc: Global, node: &'a Node, name: &str) -> Result<&'
 fn magic(alloc: Global, state: &Node) -> Result<u32, LayoutError>
     ensures { Gives (spec.magic_of (branch_of state.now)) result }
 {
-    match cell(needed(alloc, state, "magic")?) {
+    match cell(required_prop(alloc, state, "magic")?) {
         Some(magic) => Ok(magic),
         None => Err(LayoutError::bad_prop(alloc, "magic")),
     }
@@ -61,7 +65,7 @@ fn magic(alloc: Global, state: &Node) -> Result<u32, LayoutError>
 fn record_type(alloc: Global, state: &Node) -> Result<FormatKind, LayoutError>
     ensures { Gives (spec.type_of (branch_of state.now)) result }
 {
-    match type_in(needed(alloc, state, "backend-type")?) {
+    match type_in(required_prop(alloc, state, "backend-type")?) {
         Some(kind) => Ok(kind),
         None => Err(LayoutError::bad_prop(alloc, "backend-type")),
     }

@@ -1,7 +1,8 @@
 ghost use Rattle.std.specs.Prelude.{◌≡◌, ◌≢◌, ◌≤◌, ◌<◌, ◌+◌, ◌/◌, Ok, Err, IfOk, IfErr, codes};
+ghost use Rattle.bb_base.specs.Form.{area_limit};
 ghost use Rattle.bb_flash.specs.Geometry.{IsGeometry};
 ghost use Rattle.bb_layout.specs.Formats.{raw_len};
-ghost use Rattle.bb_layout.specs.Layout.{laid};
+ghost use Rattle.bb_layout.specs.Layout.{fields_of};
 ghost use Rattle.bb_layout.specs.Refusals.{ComesExactly};
 ghost use Rattle.bb_layout.specs.Thirds.{raw_layout};
 
@@ -22,8 +23,9 @@ pub fn raw_layout(
     geometry: Geometry,
 ) -> Result<Layout, LayoutError>
     requires geometry { IsGeometry geometry }
-    requires area { area_len ≤ 65535 }
-    ensures ok { IfOk result (λ layout. raw_layout magic area_len geometry ≡ Ok (laid layout)) }
+    requires area { area_len ≤ area_limit }
+    ensures ok { IfOk result (λ layout.
+        raw_layout magic area_len geometry ≡ Ok (fields_of layout)) }
     ensures refused { IfErr result (λ e. e ≢ LayoutError.NoMemory
         → raw_layout magic area_len geometry ≡ Err e) }
     ensures device { IfOk result (λ layout. layout.geometry ≡ geometry) }

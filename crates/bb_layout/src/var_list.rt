@@ -1,7 +1,7 @@
 ghost use Rattle.std.specs.Prelude.{◌≡◌, ◌==◌, ◌++◌, ◌∷◌, [], length, OnOk, OnErr, slice_get};
 ghost use Rattle.std.specs.Option.{option_copied};
 ghost use Rattle.std.specs.String.{string_bytes};
-ghost use Rattle.bb_layout.specs.VarNames.{place_of, noted};
+ghost use Rattle.bb_layout.specs.VarNames.{place_of, with_place};
 ghost use Rattle.bb_tree.specs.Texts.{texts_in};
 
 use crate::Var;
@@ -94,7 +94,8 @@ impl VarList {
 
 // Notes where a name is, unless it is noted already.
 fn note(places: &mut IndexMap<String, usize>, name: String, place: usize) -> Result<(), NoMemory>
-    ensures ok { OnOk result (texts_in places.new.entries ≡ noted (texts_in places.old.entries) (string_bytes name) place) }
+    ensures ok { OnOk result (texts_in places.new.entries
+        ≡ with_place (texts_in places.old.entries) (string_bytes name) place) }
     ensures err { OnErr result (texts_in places.new.entries ≡ texts_in places.old.entries) }
 {
     if places.get(name.as_str()).is_none() {

@@ -15,7 +15,7 @@ impl VarType {
     ghost use Rattle.bb_layout.specs.VarType.{type_named, may_have_size};
 
     /// The type of that name.
-    pub(crate) fn named(name: &[u8]) -> Option<VarType>
+    pub(crate) fn of_name(name: &[u8]) -> Option<VarType>
         ensures { result ≡ type_named name.now }
     {
         if name == b"uint8".as_slice() {

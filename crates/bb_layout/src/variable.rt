@@ -1,9 +1,10 @@
-ghost use Rattle.std.specs.Prelude.{◌≡◌, ◌≢◌, ◌<◌, ◌≤◌, IfOk, IfErr, OnOk, length, option_map, string_bytes};
+ghost use Rattle.std.specs.Prelude.{◌≡◌, ◌<◌, ◌≤◌, IfOk, IfErr, OnOk, length, option_map, string_bytes};
 ghost use Rattle.std.specs.Int.{w8, w32, to_le_bytes};
 ghost use Rattle.std.specs.Option.{option_copied, ForSome};
 ghost use Rattle.bb_tree.specs.NodeViews.{branch_of};
 ghost use Rattle.bb_layout.specs.Variables as spec;
 ghost use Rattle.bb_layout.specs.Walk.{dotted_more};
+ghost use Rattle.bb_layout.specs.Refusals.{Refuses};
 
 use crate::fields::{base_name, cell, cell_below, string, strings, two_cells};
 use crate::var_type::VarType;
@@ -16,13 +17,13 @@ use std::alloc::Global;
 /// The variable of a node, to which the full names of `path` lead.
 pub(crate) fn variable(alloc: Global, path: TextList, node: &Node) -> Result<Var, LayoutError>
     ensures ok { IfOk result (λ var. spec.variable_of path (branch_of node.now) ≡ Ok var) }
-    ensures refused { IfErr result (λ e. e ≢ LayoutError.NoMemory → spec.variable_of path (branch_of node.now) ≡ Err e) }
+    ensures refused { IfErr result (Refuses (spec.variable_of path (branch_of node.now))) }
 {
     let var_type = type_in(node.prop("type"))?;
     let (at, size) = range_in(alloc, var_type, node.prop("reg"))?;
     let kind = kind_in(alloc, var_type, size, node.prop("names"))?;
     let default = default_of(alloc, &kind, node.prop("default"))?;
-    let name = dotted(alloc, &path)?;
+    let name = dotted_name(alloc, &path)?;
     Ok(Var {
         name,
         path,
@@ -42,7 +43,7 @@ fn type_in(value: Option<&[u8]>) -> Result<VarType, LayoutError>
     let Some(name) = string(value) else {
         return Err(LayoutError::BadType);
     };
-    VarType::named(name).ok_or(LayoutError::BadType)
+    VarType::of_name(name).ok_or(LayoutError::BadType)
 }
 
 fn range_in(
@@ -50,8 +51,10 @@ fn range_in(
     var_type: VarType,
     value: Option<&[u8]>,
 ) -> Result<(u32, u32), LayoutError>
-    ensures ok { IfOk result (λ range. spec.range_of var_type (option_copied value.entry) ≡ Ok range) }
-    ensures refused { IfErr result (λ e. e ≢ LayoutError.NoMemory → spec.range_of var_type (option_copied value.entry) ≡ Err e) }
+    ensures ok { IfOk result (λ range.
+        spec.range_of var_type (option_copied value.entry) ≡ Ok range) }
+    ensures refused { IfErr result
+        (Refuses (spec.range_of var_type (option_copied value.entry))) }
 {
     let Some(value) = value else {
         return Err(LayoutError::missing(alloc, "reg"));
@@ -71,8 +74,10 @@ fn kind_in(
     size: u32,
     names: Option<&[u8]>,
 ) -> Result<Kind, LayoutError>
-    ensures ok { IfOk result (λ kind. spec.kind_of var_type size (option_copied names.entry) ≡ Ok kind) }
-    ensures refused { IfErr result (λ e. e ≢ LayoutError.NoMemory → spec.kind_of var_type size (option_copied names.entry) ≡ Err e) }
+    ensures ok { IfOk result (λ kind.
+        spec.kind_of var_type size (option_copied names.entry) ≡ Ok kind) }
+    ensures refused { IfErr result
+        (Refuses (spec.kind_of var_type size (option_copied names.entry))) }
 {
     match var_type {
         VarType::Uint8 => Ok(Kind::Uint8),
@@ -85,7 +90,7 @@ fn kind_in(
 
 fn names_in(alloc: Global, value: Option<&[u8]>) -> Result<TextList, LayoutError>
     ensures ok { IfOk result (λ names. spec.names_of (option_copied value.entry) ≡ Ok names) }
-    ensures refused { IfErr result (λ e. e ≢ LayoutError.NoMemory → spec.names_of (option_copied value.entry) ≡ Err e) }
+    ensures refused { IfErr result (Refuses (spec.names_of (option_copied value.entry))) }
 {
     let Some(value) = value else {
         return Err(LayoutError::missing(alloc, "names"));
@@ -100,11 +105,13 @@ fn names_in(alloc: Global, value: Option<&[u8]>) -> Result<TextList, LayoutError
 }
 
 fn default_of(alloc: Global, kind: &Kind, value: Option<&[u8]>) -> Result<Bytes, LayoutError>
-    ensures ok { IfOk result (λ bytes. spec.default_of kind.now (option_copied value.entry) ≡ Ok bytes) }
-    ensures refused { IfErr result (λ e. e ≢ LayoutError.NoMemory → spec.default_of kind.now (option_copied value.entry) ≡ Err e) }
+    ensures ok { IfOk result (λ bytes.
+        spec.default_of kind.now (option_copied value.entry) ≡ Ok bytes) }
+    ensures refused { IfErr result
+        (Refuses (spec.default_of kind.now (option_copied value.entry))) }
 {
     let Some(value) = value else {
-        return Ok(filled(alloc, &[], kind.size())?);
+        return Ok(bytes_of_size(alloc, &[], kind.size())?);
     };
     let Some(bytes) = default_in(alloc, kind, value)? else {
         return Err(LayoutError::bad_prop(alloc, "default"));
@@ -131,7 +138,7 @@ fn byte_default(alloc: Global, number: Option<u32>) -> Result<Option<Bytes>, NoM
     let Some(number) = number else {
         return Ok(None);
     };
-    Ok(Some(filled(alloc, &[number as u8], 1)?))
+    Ok(Some(bytes_of_size(alloc, &[number as u8], 1)?))
 }
 
 fn number_default(alloc: Global, number: Option<u32>) -> Result<Option<Bytes>, NoMemory>
@@ -140,7 +147,7 @@ fn number_default(alloc: Global, number: Option<u32>) -> Result<Option<Bytes>, N
     let Some(number) = number else {
         return Ok(None);
     };
-    Ok(Some(filled(alloc, &number.to_le_bytes(), 4)?))
+    Ok(Some(bytes_of_size(alloc, &number.to_le_bytes(), 4)?))
 }
 
 fn mac_default(alloc: Global, value: &[u8]) -> Result<Option<Bytes>, NoMemory>
@@ -149,7 +156,7 @@ fn mac_default(alloc: Global, value: &[u8]) -> Result<Option<Bytes>, NoMemory>
     if value.len() != 6 {
         return Ok(None);
     }
-    Ok(Some(filled(alloc, value, 6)?))
+    Ok(Some(bytes_of_size(alloc, value, 6)?))
 }
 
 fn chars_default(alloc: Global, size: u32, value: &[u8]) -> Result<Option<Bytes>, NoMemory>
@@ -161,13 +168,13 @@ fn chars_default(alloc: Global, size: u32, value: &[u8]) -> Result<Option<Bytes>
     if chars.len() > size as usize {
         return Ok(None);
     }
-    Ok(Some(filled(alloc, chars, size)?))
+    Ok(Some(bytes_of_size(alloc, chars, size)?))
 }
 
 // The bytes, filled up with zero bytes.
-fn filled(alloc: Global, bytes: &[u8], size: u32) -> Result<Bytes, NoMemory>
+fn bytes_of_size(alloc: Global, bytes: &[u8], size: u32) -> Result<Bytes, NoMemory>
     requires { length bytes.now ≤ size }
-    ensures { IfOk result (λ full. full ≡ spec.filled size bytes.now) }
+    ensures { IfOk result (λ full. full ≡ spec.bytes_of_size size bytes.now) }
 {
     let zeros = vec![in alloc; 0u8; size as usize - bytes.len()]?;
     let mut full = Bytes::none(alloc);
@@ -177,8 +184,8 @@ fn filled(alloc: Global, bytes: &[u8], size: u32) -> Result<Bytes, NoMemory>
 }
 
 // The names up to their `@`, joined by `.`.
-fn dotted(alloc: Global, path: &TextList) -> Result<Text, NoMemory>
-    ensures { IfOk result (λ name. name ≡ spec.dotted path.now) }
+fn dotted_name(alloc: Global, path: &TextList) -> Result<Text, NoMemory>
+    ensures { IfOk result (λ name. name ≡ spec.dotted_name path.now) }
 {
     let mut name = String::new(alloc);
     for i in 0..path.len() {
@@ -192,7 +199,8 @@ fn dotted(alloc: Global, path: &TextList) -> Result<Text, NoMemory>
 
 // Adds a name, behind a `.` unless it is the first.
 fn add_name(names: &mut String, is_first: bool, name: &str) -> Result<(), NoMemory>
-    ensures { OnOk result (string_bytes names.new ≡ dotted_more is_first (string_bytes names.old) name.now) }
+    ensures { OnOk result
+        (string_bytes names.new ≡ dotted_more is_first (string_bytes names.old) name.now) }
 {
     if !is_first {
         names.push('.')?;

@@ -1,7 +1,8 @@
-ghost use Rattle.std.specs.Prelude.{◌≡◌, ◌≢◌, ◌++◌, ◌∷◌, [], All, IfOk, IfErr, OnOk};
+ghost use Rattle.std.specs.Prelude.{◌≡◌, ◌++◌, ◌∷◌, [], All, IfOk, IfErr, OnOk};
 ghost use Rattle.bb_tree.specs.NodeViews.{branch_of};
 ghost use Rattle.bb_layout.specs.Variables.{IsWellFormed, variables_of};
 ghost use Rattle.bb_layout.specs.Walk.{onto, variables_below};
+ghost use Rattle.bb_layout.specs.Refusals.{Refuses};
 
 use crate::variable::variable;
 use crate::{LayoutError, VarList};
@@ -12,7 +13,7 @@ use std::alloc::Global;
 /// The variables below a state node, in preorder; or the first refusal of one of them.
 pub(crate) fn variables(alloc: Global, state: &Node) -> Result<VarList, LayoutError>
     ensures ok { IfOk result (λ vars. variables_of (branch_of state.now) ≡ Ok vars) }
-    ensures refused { IfErr result (λ e. e ≢ LayoutError.NoMemory → variables_of (branch_of state.now) ≡ Err e) }
+    ensures refused { IfErr result (Refuses (variables_of (branch_of state.now))) }
     ensures well_formed { IfOk result (λ vars. All IsWellFormed vars) }
 {
     let mut vars = VarList::none(alloc);
@@ -27,8 +28,9 @@ fn add_variables(
     node: &Node,
     vars: &mut VarList,
 ) -> Result<(), LayoutError>
-    ensures ok { OnOk result (onto vars.old (variables_below above.now (branch_of node.now)) ≡ Ok vars.new) }
-    ensures refused { IfErr result (λ e. e ≢ LayoutError.NoMemory → variables_below above.now (branch_of node.now) ≡ Err e) }
+    ensures ok { OnOk result
+        (onto vars.old (variables_below above.now (branch_of node.now)) ≡ Ok vars.new) }
+    ensures refused { IfErr result (Refuses (variables_below above.now (branch_of node.now))) }
 {
     for child in &node.nodes.inner {
         let path = path_to(alloc, above, child.name.as_str())?;

@@ -1,11 +1,11 @@
 -- The worked record, by computation alone.
 use Rattle.std.proofs.Common.{◌≡◌, ℕ, List, [], ◌∷◌, ◌++◌, drop, refl, codes, Some, None}
-use Rattle.bb_base.specs.Crc.{divided, divided_8, after_byte}
+use Rattle.bb_base.specs.Crc.{after_bit, after_eight_bits, after_byte}
 use Rattle.sha2.specs.Sha256.{compress, digest_bytes, first_words, hash_after, rounds, schedule, sha256}
 use Rattle.bb_hmac.specs.Hmac.{block_of}
-use Rattle.bb_raw.specs.Raw.{Kind, raw_text, raw_passes}
+use Rattle.bb_raw.specs.Raw.{RawKind, raw_passes, raw_text}
 
-plain : Kind
+plain : RawKind
 plain = record { magic = 0x12345678; area_len = 9; key = None }
 
 -- magic 0x12345678, nothing reserved, 9 bytes, the CRC of the area 0xcbf43926, that of the header 0xdf3c2e03
@@ -13,28 +13,28 @@ header : List ℕ
 header = 0x78 ∷ 0x56 ∷ 0x34 ∷ 0x12 ∷ 0 ∷ 0 ∷ 9 ∷ 0 ∷ 0x26 ∷ 0x39 ∷ 0xf4 ∷ 0xcb ∷ 0x03 ∷ 0x2e ∷ 0x3c ∷ 0xdf ∷ []
 
 text_of_the_worked_area : raw_text plain (codes "123456789") ≡ header ++ codes "123456789"
-unfolding after_byte divided_8 divided plain header
+unfolding after_byte after_eight_bits after_bit plain header
 text_of_the_worked_area = refl
 
 it_passes : raw_passes plain (header ++ codes "123456789") ≡ Some (codes "123456789")
-unfolding after_byte divided_8 divided plain header
+unfolding after_byte after_eight_bits after_bit plain header
 it_passes = refl
 
 it_passes_whatever_follows : raw_passes plain (header ++ codes "123456789more") ≡ Some (codes "123456789")
-unfolding after_byte divided_8 divided plain header
+unfolding after_byte after_eight_bits after_bit plain header
 it_passes_whatever_follows = refl
 
 cut_short_it_passes_nothing : raw_passes plain (header ++ codes "12345678") ≡ None
-unfolding after_byte divided_8 divided plain header
+unfolding after_byte after_eight_bits after_bit plain header
 cut_short_it_passes_nothing = refl
 
 another_byte_passes_nothing : raw_passes plain (header ++ codes "023456789") ≡ None
-unfolding after_byte divided_8 divided plain header
+unfolding after_byte after_eight_bits after_bit plain header
 another_byte_passes_nothing = refl
 
 -- ---- under the key `Jefe`
 
-keyed : Kind
+keyed : RawKind
 keyed = record { magic = 0x12345678; area_len = 9; key = Some (block_of (codes "Jefe")) }
 
 -- what OpenSSL gives of the worked record without a key
@@ -42,17 +42,17 @@ code : List ℕ
 code = 0xd5 ∷ 0x7c ∷ 0x0e ∷ 0xc4 ∷ 0x7c ∷ 0x6a ∷ 0x5b ∷ 0xf0 ∷ 0x0c ∷ 0xa6 ∷ 0xfc ∷ 0xa0 ∷ 0x6b ∷ 0xd8 ∷ 0x6c ∷ 0xa9 ∷ 0x3f ∷ 0x3a ∷ 0x06 ∷ 0xd7 ∷ 0xf7 ∷ 0xcb ∷ 0xba ∷ 0xc9 ∷ 0x19 ∷ 0xe7 ∷ 0x75 ∷ 0xe1 ∷ 0xe9 ∷ 0xa7 ∷ 0x81 ∷ 0x1e ∷ []
 
 text_under_a_key : raw_text keyed (codes "123456789") ≡ header ++ codes "123456789" ++ code
-unfolding after_byte divided_8 divided first_words schedule rounds compress hash_after digest_bytes sha256 keyed header code
+unfolding after_byte after_eight_bits after_bit first_words schedule rounds compress hash_after digest_bytes sha256 keyed header code
 text_under_a_key = refl
 
 it_passes_under_the_key : raw_passes keyed (header ++ codes "123456789" ++ code ++ codes "more") ≡ Some (codes "123456789")
-unfolding after_byte divided_8 divided first_words schedule rounds compress hash_after digest_bytes sha256 keyed header code
+unfolding after_byte after_eight_bits after_bit first_words schedule rounds compress hash_after digest_bytes sha256 keyed header code
 it_passes_under_the_key = refl
 
 without_its_code_it_passes_nothing : raw_passes keyed (header ++ codes "123456789") ≡ None
-unfolding after_byte divided_8 divided first_words schedule rounds compress hash_after digest_bytes sha256 keyed header code
+unfolding after_byte after_eight_bits after_bit first_words schedule rounds compress hash_after digest_bytes sha256 keyed header code
 without_its_code_it_passes_nothing = refl
 
 another_code_passes_nothing : raw_passes keyed (header ++ codes "123456789" ++ drop 1 code ++ codes "m") ≡ None
-unfolding after_byte divided_8 divided first_words schedule rounds compress hash_after digest_bytes sha256 keyed header code
+unfolding after_byte after_eight_bits after_bit first_words schedule rounds compress hash_after digest_bytes sha256 keyed header code
 another_code_passes_nothing = refl

@@ -12,30 +12,38 @@ use Rattle.byteorder.specs.Numbers.{little_from-bytes, little_from-take}
 use Rattle.bb_base.specs.Crc.{crc_of}
 use Rattle.bb_base.specs.Form.{IsForm}
 use Rattle.bb_hmac.proofs.Lengths.{length_hmac_of}
-use Rattle.bb_raw.specs.Raw.{Kind, area_agrees, area_of, code_len, code_of, coded_text, has_code, has_field, header_agrees, header_text, raw_agrees, raw_form, raw_length, raw_passes, raw_text}
+use Rattle.bb_raw.specs.Raw.{RawKind, area_agrees, area_of, code_len, code_of, coded_text, has_code, has_field, header_agrees, header_text, raw_agrees, raw_form, raw_length, raw_passes, raw_text}
 
 -- what was written as a number's low bytes is a field of that number
-field_written : (len number : ℕ) (rest : List ℕ) → (little_number len (little_bytes len number ++ rest) == number % 256 ^ len) ≡ true
-field_written len number rest = eq-eqb _ _ (little_from-bytes len 0 number rest ∙ ap (λ n. n % 256 ^ len) (div-one number))
+field_written : (len number : ℕ) (rest : List ℕ) →
+    (little_number len (little_bytes len number ++ rest) == number % 256 ^ len) ≡ true
+field_written len number rest =
+    eq-eqb _ _ (little_from-bytes len 0 number rest ∙ ap (λ n. n % 256 ^ len) (div-one number))
 
 -- a header whose fields are these numbers, and what follows it
-abbrev headed : ℕ → ℕ → ℕ → ℕ → List ℕ → List ℕ
-headed magic len data_crc header_crc rest =
-    little_bytes 4 magic ++ (little_bytes 2 0 ++ (little_bytes 2 len ++ (little_bytes 4 data_crc ++ (little_bytes 4 header_crc ++ rest))))
+abbrev with_header : ℕ → ℕ → ℕ → ℕ → List ℕ → List ℕ
+with_header magic len data_crc header_crc rest =
+    little_bytes 4 magic
+    ++ (little_bytes 2 0
+    ++ (little_bytes 2 len ++ (little_bytes 4 data_crc ++ (little_bytes 4 header_crc ++ rest))))
 
-headed_agrees : (magic len data_crc header_crc : ℕ) (rest : List ℕ) → header_crc ≡ crc_of (take 12 (headed magic len data_crc header_crc rest)) → header_agrees magic len (headed magic len data_crc header_crc rest) ≡ true
+headed_agrees : (magic len data_crc header_crc : ℕ) (rest : List ℕ) →
+    header_crc ≡ crc_of (take 12 (with_header magic len data_crc header_crc rest)) →
+    header_agrees magic len (with_header magic len data_crc header_crc rest) ≡ true
 headed_agrees magic len data_crc header_crc rest h =
     let after_len : List ℕ = little_bytes 4 data_crc ++ (little_bytes 4 header_crc ++ rest) in
     let after_magic : List ℕ = little_bytes 2 0 ++ (little_bytes 2 len ++ after_len) in
-    let bytes : List ℕ = headed magic len data_crc header_crc rest in
+    let bytes : List ℕ = with_header magic len data_crc header_crc rest in
     and_from _ _
     (and_from _ _ (field_written 4 magic after_magic) (field_written 2 len after_len))
     (ap (λ n. has_field 4 12 n bytes) (sym h) ∙ field_written 4 header_crc rest)
 
-headed_area : (magic len data_crc header_crc : ℕ) (rest : List ℕ) → data_crc ≡ crc_of (take len rest) → area_agrees len (headed magic len data_crc header_crc rest) ≡ true
+headed_area : (magic len data_crc header_crc : ℕ) (rest : List ℕ) →
+    data_crc ≡ crc_of (take len rest) →
+    area_agrees len (with_header magic len data_crc header_crc rest) ≡ true
 headed_area magic len data_crc header_crc rest e =
     let after_data : List ℕ = little_bytes 4 header_crc ++ rest in
-    let bytes : List ℕ = headed magic len data_crc header_crc rest in
+    let bytes : List ℕ = with_header magic len data_crc header_crc rest in
     ap (λ n. has_field 4 8 n bytes) (sym e) ∙ field_written 4 data_crc after_data
 
 coded_whole : (magic : ℕ) (area : List ℕ) → length (coded_text magic area) ≡ 16 + length area
@@ -49,10 +57,12 @@ same_bytes : (bytes : List ℕ) → bytes_eq bytes bytes ≡ true
 same_bytes bytes = (bytes_eq-Decides bytes bytes).1 refl
 
 -- behind a text stands its code, whatever follows
-code_written : (key : Option (List ℕ)) (text rest : List ℕ) (count : ℕ) → length text ≡ count → has_code key count (text ++ (code_of key text ++ rest)) ≡ true
+code_written : (key : Option (List ℕ)) (text rest : List ℕ) (count : ℕ) → length text ≡ count →
+    has_code key count (text ++ (code_of key text ++ rest)) ≡ true
 code_written key text rest count whole =
     let code : List ℕ = code_of key text in
-    ap (λ l. bytes_eq (code_of key l) (take (code_len key) (drop count (text ++ (code ++ rest))))) (take_at text (code ++ rest) count whole)
+    ap (λ l. bytes_eq (code_of key l) (take (code_len key) (drop count (text ++ (code ++ rest)))))
+    (take_at text (code ++ rest) count whole)
     ∙ ap (λ l. bytes_eq code (take (code_len key) l)) (drop_at text (code ++ rest) count whole)
     ∙ ap (bytes_eq code) (take_at code rest (code_len key) (code_whole key text))
     ∙ same_bytes code
@@ -61,23 +71,29 @@ taken_back : (area rest : List ℕ) → take (length area) (area ++ rest) ≡ ar
 taken_back area rest = grind (arith, common_steps)
 
 -- the record of an area and what follows, as the fields of the header and the rest
-abbrev behind_header : Kind → List ℕ → List ℕ → List ℕ
+abbrev behind_header : RawKind → List ℕ → List ℕ → List ℕ
 behind_header kind area rest = area ++ (code_of kind.key (coded_text kind.magic area) ++ rest)
 
-abbrev as_headed : Kind → List ℕ → List ℕ → List ℕ
-as_headed kind area rest = headed kind.magic (length area) (crc_of area) (crc_of (header_text kind.magic area)) (behind_header kind area rest)
+abbrev as_headed : RawKind → List ℕ → List ℕ → List ℕ
+as_headed kind area rest =
+    with_header kind.magic (length area) (crc_of area) (crc_of (header_text kind.magic area))
+    (behind_header kind area rest)
 
-text_headed : (kind : Kind) (area rest : List ℕ) → raw_text kind area ++ rest ≡ as_headed kind area rest
-text_headed kind area rest = append_assoc (coded_text kind.magic area) (code_of kind.key (coded_text kind.magic area)) rest
+text_headed : (kind : RawKind) (area rest : List ℕ) →
+    raw_text kind area ++ rest ≡ as_headed kind area rest
+text_headed kind area rest =
+    append_assoc (coded_text kind.magic area) (code_of kind.key (coded_text kind.magic area)) rest
 
-text_whole : (kind : Kind) (area : List ℕ) → length area ≡ kind.area_len → length (raw_text kind area) ≡ raw_length kind
+text_whole : (kind : RawKind) (area : List ℕ) → length area ≡ kind.area_len →
+    length (raw_text kind area) ≡ raw_length kind
 text_whole kind area e =
     let text : List ℕ = coded_text kind.magic area in
     let whole = coded_whole kind.magic area in
     let code = code_whole kind.key text in
     omega (arith, length-append text (code_of kind.key text))
 
-text_agrees : (kind : Kind) (area rest : List ℕ) → length area ≡ kind.area_len → raw_agrees kind (raw_text kind area ++ rest) ≡ true
+text_agrees : (kind : RawKind) (area rest : List ℕ) → length area ≡ kind.area_len →
+    raw_agrees kind (raw_text kind area ++ rest) ≡ true
 text_agrees kind area rest e =
     let text : List ℕ = coded_text kind.magic area in
     let code : List ℕ = code_of kind.key text in
@@ -92,37 +108,46 @@ text_agrees kind area rest e =
     (le-leb (raw_length kind) (length all) (omega (arith, length-append (raw_text kind area) rest)))
     (ap (λ l. header_agrees kind.magic kind.area_len l) is
     ∙ ap (λ n. header_agrees kind.magic n (as_headed kind area rest)) (sym e)
-    ∙ headed_agrees kind.magic (length area) (crc_of area) (crc_of (header_text kind.magic area)) taken refl))
+    ∙ headed_agrees kind.magic (length area) (crc_of area)
+    (crc_of (header_text kind.magic area)) taken refl))
     (ap (area_agrees kind.area_len) is
     ∙ ap (λ n. area_agrees n (as_headed kind area rest)) (sym e)
-    ∙ headed_area kind.magic (length area) (crc_of area) (crc_of (header_text kind.magic area)) taken
+    ∙ headed_area kind.magic (length area) (crc_of area)
+    (crc_of (header_text kind.magic area)) taken
     (ap crc_of (sym (taken_back area (code ++ rest))))))
     (ap (has_code kind.key (16 + kind.area_len)) (append_assoc text code rest)
     ∙ code_written kind.key text rest (16 + kind.area_len) (omega arith))
 
-text_area : (kind : Kind) (area rest : List ℕ) → length area ≡ kind.area_len → area_of kind.area_len (raw_text kind area ++ rest) ≡ area
+text_area : (kind : RawKind) (area rest : List ℕ) → length area ≡ kind.area_len →
+    area_of kind.area_len (raw_text kind area ++ rest) ≡ area
 text_area kind area rest e =
     ap (area_of kind.area_len) (text_headed kind area rest)
     ∙ take_at area (code_of kind.key (coded_text kind.magic area) ++ rest) kind.area_len e
 
-text_passes : (kind : Kind) (area rest : List ℕ) → length area ≡ kind.area_len → raw_passes kind (raw_text kind area ++ rest) ≡ Some area
+text_passes : (kind : RawKind) (area rest : List ℕ) → length area ≡ kind.area_len →
+    raw_passes kind (raw_text kind area ++ rest) ≡ Some area
 text_passes kind area rest e =
-    ap (λ b. cond b (Some (area_of kind.area_len (raw_text kind area ++ rest))) None) (text_agrees kind area rest e)
+    ap (λ b. cond b (Some (area_of kind.area_len (raw_text kind area ++ rest))) None)
+    (text_agrees kind area rest e)
     ∙ ap (λ a. Some a) (text_area kind area rest e)
 
 -- a choice that gave something was made so
-chosen : (b : Bool) (x y : List ℕ) → cond b (Some x) None ≡ Some y → (b ≡ true) × (x ≡ y)
-chosen true x y e = (refl, cc)
-chosen false x y e = absurd cc
+some_of_cond : (b : Bool) (x y : List ℕ) → cond b (Some x) None ≡ Some y → (b ≡ true) × (x ≡ y)
+some_of_cond true x y e = (refl, cc)
+some_of_cond false x y e = absurd cc
 
-passed_whole : (kind : Kind) (bytes area : List ℕ) → raw_passes kind bytes ≡ Some area → length area ≡ kind.area_len
+passed_whole : (kind : RawKind) (bytes area : List ℕ) → raw_passes kind bytes ≡ Some area →
+    length area ≡ kind.area_len
 passed_whole kind bytes area e =
-    let choice = chosen (raw_agrees kind bytes) (area_of kind.area_len bytes) area e in
-    let enough : raw_length kind ≤ length bytes = leb-true _ _ (and_parts _ _ (and_parts _ _ (and_parts _ _ choice.0).0).0).0 in
-    ap length (sym choice.1) ∙ length-take-le kind.area_len (drop 16 bytes) (omega (arith, length-drop 16 bytes))
+    let choice = some_of_cond (raw_agrees kind bytes) (area_of kind.area_len bytes) area e in
+    let enough : raw_length kind ≤ length bytes =
+    leb-true _ _ (and_parts _ _ (and_parts _ _ (and_parts _ _ choice.0).0).0).0 in
+    ap length (sym choice.1)
+    ∙ length-take-le kind.area_len (drop 16 bytes) (omega (arith, length-drop 16 bytes))
 
 -- a field that lies within some first bytes is one of them
-field_within : (len at number m : ℕ) (bytes : List ℕ) → at + len ≤ m → has_field len at number (take m bytes) ≡ has_field len at number bytes
+field_within : (len at number m : ℕ) (bytes : List ℕ) → at + len ≤ m →
+    has_field len at number (take m bytes) ≡ has_field len at number bytes
 field_within len at number m bytes inside =
     let split : m ≡ at + (m - at) = omega arith in
     ap (λ n. n == number % 256 ^ len)
@@ -130,7 +155,8 @@ field_within len at number m bytes inside =
     ∙ ap (little_number len) (drop-take at (m - at) bytes)
     ∙ little_from-take 0 len (m - at) (drop at bytes) (omega arith))
 
-enough_within : (m : ℕ) (bytes : List ℕ) → nat_le m (length (take m bytes)) ≡ nat_le m (length bytes)
+enough_within : (m : ℕ) (bytes : List ℕ) →
+    nat_le m (length (take m bytes)) ≡ nat_le m (length bytes)
 enough_within m bytes = elim (cases_lt (length bytes) m) [
   | inl short ↦ ap (λ l. nat_le m (length l)) (take_all m bytes (omega arith))
   | inr long ↦
@@ -139,66 +165,82 @@ enough_within m bytes = elim (cases_lt (length bytes) m) [
 ]
 
 -- the same of a part that lies within
-part_within : (at len m : ℕ) (bytes : List ℕ) → at + len ≤ m → take len (drop at (take m bytes)) ≡ take len (drop at bytes)
+part_within : (at len m : ℕ) (bytes : List ℕ) → at + len ≤ m →
+    take len (drop at (take m bytes)) ≡ take len (drop at bytes)
 part_within at len m bytes inside =
     let split : m ≡ at + (m - at) = omega arith in
     ap (λ k. take len (drop at (take k bytes))) split
     ∙ ap (take len) (drop-take at (m - at) bytes)
     ∙ take-take len (m - at) (drop at bytes) (omega arith)
 
-joined : {a b c d : Bool} → a ≡ c → b ≡ d → (a && b) ≡ (c && d)
-joined {a} {b} {c} {d} p q = ap (λ x. x && b) p ∙ ap (λ y. c && y) q
+and_same : {a b c d : Bool} → a ≡ c → b ≡ d → (a && b) ≡ (c && d)
+and_same {a} {b} {c} {d} p q = ap (λ x. x && b) p ∙ ap (λ y. c && y) q
 
-header_within : (magic area_len m : ℕ) (bytes : List ℕ) → 16 ≤ m → header_agrees magic area_len (take m bytes) ≡ header_agrees magic area_len bytes
+header_within : (magic area_len m : ℕ) (bytes : List ℕ) → 16 ≤ m →
+    header_agrees magic area_len (take m bytes) ≡ header_agrees magic area_len bytes
 header_within magic area_len m bytes inside =
     let kept : List ℕ = take m bytes in
-    joined
-    (joined (field_within 4 0 magic m bytes (omega arith)) (field_within 2 6 area_len m bytes (omega arith)))
+    and_same
+    (and_same (field_within 4 0 magic m bytes (omega arith))
+    (field_within 2 6 area_len m bytes (omega arith)))
     (ap (λ l. has_field 4 12 (crc_of l) kept) (take-take 12 m bytes (omega arith))
     ∙ field_within 4 12 (crc_of (take 12 bytes)) m bytes (omega arith))
 
-area_within : (area_len m : ℕ) (bytes : List ℕ) → 16 + area_len ≤ m → area_of area_len (take m bytes) ≡ area_of area_len bytes
+area_within : (area_len m : ℕ) (bytes : List ℕ) → 16 + area_len ≤ m →
+    area_of area_len (take m bytes) ≡ area_of area_len bytes
 area_within area_len m bytes inside = part_within 16 area_len m bytes inside
 
-area_check_within : (area_len m : ℕ) (bytes : List ℕ) → 16 + area_len ≤ m → area_agrees area_len (take m bytes) ≡ area_agrees area_len bytes
+area_check_within : (area_len m : ℕ) (bytes : List ℕ) → 16 + area_len ≤ m →
+    area_agrees area_len (take m bytes) ≡ area_agrees area_len bytes
 area_check_within area_len m bytes inside =
     ap (λ l. has_field 4 8 (crc_of l) (take m bytes)) (area_within area_len m bytes inside)
     ∙ field_within 4 8 (crc_of (area_of area_len bytes)) m bytes (omega arith)
 
-code_within : (key : Option (List ℕ)) (count m : ℕ) (bytes : List ℕ) → count + code_len key ≤ m → has_code key count (take m bytes) ≡ has_code key count bytes
+code_within : (key : Option (List ℕ)) (count m : ℕ) (bytes : List ℕ) → count + code_len key ≤ m →
+    has_code key count (take m bytes) ≡ has_code key count bytes
 code_within key count m bytes inside =
-    ap (λ l. bytes_eq (code_of key l) (take (code_len key) (drop count (take m bytes)))) (take-take count m bytes (omega arith))
-    ∙ ap (bytes_eq (code_of key (take count bytes))) (part_within count (code_len key) m bytes inside)
+    ap (λ l. bytes_eq (code_of key l) (take (code_len key) (drop count (take m bytes))))
+    (take-take count m bytes (omega arith))
+    ∙ ap (bytes_eq (code_of key (take count bytes)))
+    (part_within count (code_len key) m bytes inside)
 
-agrees_within : (kind : Kind) (bytes : List ℕ) → raw_agrees kind (take (raw_length kind) bytes) ≡ raw_agrees kind bytes
+agrees_within : (kind : RawKind) (bytes : List ℕ) →
+    raw_agrees kind (take (raw_length kind) bytes) ≡ raw_agrees kind bytes
 agrees_within kind bytes =
     let m : ℕ = raw_length kind in
-    joined
-    (joined
-    (joined
+    and_same
+    (and_same
+    (and_same
     (enough_within m bytes)
     (header_within kind.magic kind.area_len m bytes (omega arith)))
     (area_check_within kind.area_len m bytes (omega arith)))
     (code_within kind.key (16 + kind.area_len) m bytes (omega arith))
 
-first_count : (kind : Kind) (bytes : List ℕ) → raw_passes kind (take (raw_length kind) bytes) ≡ raw_passes kind bytes
+first_count : (kind : RawKind) (bytes : List ℕ) →
+    raw_passes kind (take (raw_length kind) bytes) ≡ raw_passes kind bytes
 first_count kind bytes =
-    ap (λ b. cond b (Some (area_of kind.area_len (take (raw_length kind) bytes))) None) (agrees_within kind bytes)
-    ∙ ap (λ area. cond (raw_agrees kind bytes) (Some area) None) (area_within kind.area_len (raw_length kind) bytes (omega arith))
+    ap (λ b. cond b (Some (area_of kind.area_len (take (raw_length kind) bytes))) None)
+    (agrees_within kind bytes)
+    ∙ ap (λ area. cond (raw_agrees kind bytes) (Some area) None)
+    (area_within kind.area_len (raw_length kind) bytes (omega arith))
 
 too_few : (m n : ℕ) → n < m → nat_le m n ≡ false
-too_few m n h = elim (leb_tells m n) [ inl enough ↦ absurd (omega (arith, enough.1)) | inr few ↦ few.0 ]
+too_few m n h = elim (leb_tells m n)
+    [ inl enough ↦ absurd (omega (arith, enough.1)) | inr few ↦ few.0 ]
 
-fails_first : (a b c d : Bool) (x : List ℕ) → a ≡ false → cond (((a && b) && c) && d) (Some x) None ≡ None
+fails_first : (a b c d : Bool) (x : List ℕ) → a ≡ false →
+    cond (((a && b) && c) && d) (Some x) None ≡ None
 fails_first false b c d x e = refl
 fails_first true b c d x e = absurd cc
 
-fewer_fail : (kind : Kind) (bytes : List ℕ) → length bytes < raw_length kind → raw_passes kind bytes ≡ None
+fewer_fail : (kind : RawKind) (bytes : List ℕ) → length bytes < raw_length kind →
+    raw_passes kind bytes ≡ None
 fewer_fail kind bytes few =
-    fails_first _ (header_agrees kind.magic kind.area_len bytes) (area_agrees kind.area_len bytes) _ (area_of kind.area_len bytes)
+    fails_first _ (header_agrees kind.magic kind.area_len bytes) (area_agrees kind.area_len bytes) _
+    (area_of kind.area_len bytes)
     (too_few (raw_length kind) (length bytes) few)
 
-pub raw_laws : (kind : Kind) → IsForm (raw_form kind)
+pub raw_laws : (kind : RawKind) → IsForm (raw_form kind)
 raw_laws kind = record {
   whole = λ area fits. text_whole kind area (eqb-true _ _ fits);
   text_passes = λ area rest fits. text_passes kind area rest (eqb-true _ _ fits);

@@ -1,4 +1,5 @@
--- Definitions that contracts cite.
+-- Definitions that contracts cite. These a reader has to believe.
 pub use Rattle.bb_base.specs.Form
-pub mod Laws
 pub mod Raw
+-- Inside: that the raw record is a format.
+pub mod Laws

@@ -1,5 +1,6 @@
--- The raw record (barebox User Manual, State Framework, the backend `raw`; its field order is barebox's, the byte
--- order and what a key covers this project's profile). All numbers are unsigned and little endian.
+-- The raw record (barebox User Manual, State Framework, the backend `raw`; its field order is
+-- barebox's, the byte order and what a key covers this project's profile). All numbers are unsigned
+-- and little endian.
 --
 --   bytes     field
 --   0 to 3    magic        of the layout
@@ -17,18 +18,23 @@ use Rattle.bb_base.specs.Form.{Form}
 use Rattle.bb_hmac.specs.Hmac.{hmac_of}
 
 -- which raw record: its magic, its area's length, and the block of its key, if it has one
-pub record Kind : Type 0 where
+pub record RawKind : Type 0 where
   pub magic : ℕ
   pub area_len : ℕ
   pub key : Option (List ℕ)
 
--- At a place stand the `len` low bytes of a number. These are all of it: a magic and a CRC have 32 bits, and an
--- area's length 16.
+-- At a place stand the `len` low bytes of a number. These are all of it: a magic and a CRC have 32
+-- bits, and an area's length 16.
 abbrev pub has_field : ℕ → ℕ → ℕ → List ℕ → Bool
 has_field len at number bytes = little_number len (drop at bytes) == number % 256 ^ len
 
+-- how many bytes the header has
+abbrev pub header_len : ℕ
+header_len = 16
+
+-- the area behind the header
 abbrev pub area_of : ℕ → List ℕ → List ℕ
-area_of area_len bytes = take area_len (drop 16 bytes)
+area_of area_len bytes = take area_len (drop header_len bytes)
 
 -- ---- the code at the end
 
@@ -44,47 +50,54 @@ code_len (Some _) = 32
 
 -- behind the first bytes of a text stands their code
 abbrev pub has_code : Option (List ℕ) → ℕ → List ℕ → Bool
-has_code key count bytes = bytes_eq (code_of key (take count bytes)) (take (code_len key) (drop count bytes))
+has_code key count bytes =
+    bytes_eq (code_of key (take count bytes)) (take (code_len key) (drop count bytes))
 
 -- ---- what is written
 
 -- bytes 0 to 11
 abbrev pub header_text : ℕ → List ℕ → List ℕ
-header_text magic area = little_bytes 4 magic ++ little_bytes 2 0 ++ little_bytes 2 (length area) ++ little_bytes 4 (crc_of area)
+header_text magic area =
+    little_bytes 4 magic ++ little_bytes 2 0 ++ little_bytes 2 (length area)
+    ++ little_bytes 4 (crc_of area)
 
 -- the header and the area, all that the code is of
 abbrev pub coded_text : ℕ → List ℕ → List ℕ
-coded_text magic area = header_text magic area ++ little_bytes 4 (crc_of (header_text magic area)) ++ area
+coded_text magic area =
+    header_text magic area ++ little_bytes 4 (crc_of (header_text magic area)) ++ area
 
 -- the record of an area
-abbrev pub raw_text : Kind → List ℕ → List ℕ
+abbrev pub raw_text : RawKind → List ℕ → List ℕ
 raw_text kind area = coded_text kind.magic area ++ code_of kind.key (coded_text kind.magic area)
 
-abbrev pub raw_length : Kind → ℕ
-raw_length kind = 16 + kind.area_len + code_len kind.key
+-- how many bytes it has
+abbrev pub raw_length : RawKind → ℕ
+raw_length kind = header_len + kind.area_len + code_len kind.key
 
 -- ---- what passes
 
 -- the header is of this kind, and its check holds
 abbrev pub header_agrees : ℕ → ℕ → List ℕ → Bool
 header_agrees magic area_len bytes =
-    has_field 4 0 magic bytes && has_field 2 6 area_len bytes && has_field 4 12 (crc_of (take 12 bytes)) bytes
+    has_field 4 0 magic bytes && has_field 2 6 area_len bytes
+    && has_field 4 12 (crc_of (take 12 bytes)) bytes
 
--- so is the area's
+-- the area's check holds
 abbrev pub area_agrees : ℕ → List ℕ → Bool
 area_agrees area_len bytes = has_field 4 8 (crc_of (area_of area_len bytes)) bytes
 
 -- there is a whole record of this kind, and its checks hold
-abbrev pub raw_agrees : Kind → List ℕ → Bool
+abbrev pub raw_agrees : RawKind → List ℕ → Bool
 raw_agrees kind bytes =
     nat_le (raw_length kind) (length bytes) && header_agrees kind.magic kind.area_len bytes
-    && area_agrees kind.area_len bytes && has_code kind.key (16 + kind.area_len) bytes
+    && area_agrees kind.area_len bytes && has_code kind.key (header_len + kind.area_len) bytes
 
 -- the area that bytes pass as, if they do; what follows the record doesn't count
-abbrev pub raw_passes : Kind → List ℕ → Option (List ℕ)
+abbrev pub raw_passes : RawKind → List ℕ → Option (List ℕ)
 raw_passes kind bytes = if raw_agrees kind bytes then Some (area_of kind.area_len bytes) else None
 
-abbrev pub raw_form : Kind → Form
+-- the raw record as a format
+abbrev pub raw_form : RawKind → Form
 raw_form kind = record {
   area_len = kind.area_len;
   length = raw_length kind;

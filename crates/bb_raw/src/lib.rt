@@ -4,7 +4,7 @@
 
 mod raw;
 
-pub use raw::Raw;
+pub use raw::{HEADER_LEN, Raw};
 
 #[cfg(test)]
 mod tests;

@@ -1,6 +1,7 @@
 ghost use Rattle.std.specs.Prelude.{◌≡◌, ◌+◌, ◌≤◌, ◌++◌, drop, length};
+ghost use Rattle.bb_base.specs.Form.{area_limit};
 ghost use Rattle.bb_raw.specs.Raw.{area_agrees, code_len, code_of, coded_text, has_code};
-ghost use Rattle.bb_raw.specs.Raw.{header_agrees, header_text, raw_agrees, raw_form};
+ghost use Rattle.bb_raw.specs.Raw.{header_agrees, header_len, header_text, raw_agrees, raw_form};
 ghost use Rattle.bb_raw.specs.Laws.{raw_laws};
 
 use bb_base::{Format, crc32};
@@ -8,14 +9,16 @@ use bb_hmac::{Key, hmac, same_mac};
 use byteorder::{ByteOrder, LittleEndian};
 use std::marker::Model;
 
-const HEADER_LEN: usize = 16;
+/// In bytes: what stands before the area (barebox User Manual, State Framework, the backend `raw`).
+pub const HEADER_LEN: usize = 16;
 
+// In bytes: an HMAC-SHA256.
 const CODE_LEN: usize = 32;
 
-/// The raw record of an area of one length, in bytes, under one magic: a header of 16 bytes, and the
-/// area (barebox User Manual, State Framework, the backend `raw`). Numbers in it are little endian.
-/// With a key the record ends in the HMAC-SHA256 of all bytes before it, which are 32 bytes more
-/// (RFC 2104), and nothing passes without it.
+/// The raw record of an area of one length, in bytes, under one magic: a header, and the area
+/// (barebox User Manual, State Framework, the backend `raw`). Numbers in it are little endian. With
+/// a key the record ends in the HMAC-SHA256 of all bytes before it, which are 32 bytes more (RFC
+/// 2104), and nothing passes without it.
 #[derive(Drop)]
 pub struct Raw {
     magic: u32,
@@ -25,19 +28,20 @@ pub struct Raw {
 
 impl Model for Raw {
     ghost use Rattle.std.specs.Prelude.{◌≤◌};
-    ghost use Rattle.bb_raw.specs.Raw.{Kind};
+    ghost use Rattle.bb_base.specs.Form.{area_limit};
+    ghost use Rattle.bb_raw.specs.Raw.{RawKind};
 
-    ghost Value = { Kind };
+    ghost Value = { RawKind };
 
     ghost view = { λ r. record { magic = r.magic; area_len = r.area_len; key = r.key } };
 
-    ghost invariant = { λ r. r.area_len ≤ 65535 };
+    ghost invariant = { λ r. r.area_len ≤ area_limit };
 }
 
 impl Raw {
-    /// The format of areas of `area_len` bytes, at most 65,535, under a key where one is given.
+    /// The format of areas of `area_len` bytes, at most `AREA_LIMIT`, under a key where one is given.
     pub fn of(magic: u32, area_len: u32, key: Option<Key>) -> Raw
-        requires { area_len ≤ 65535 }
+        requires { area_len ≤ area_limit }
         ensures { result ≡ record { magic = magic; area_len = area_len; key = key } }
     {
         Raw {
@@ -49,7 +53,7 @@ impl Raw {
 
     // How many bytes stand before the code: the header and the area.
     fn coded_len(&self) -> usize
-        ensures { result ≡ 16 + self.now.area_len }
+        ensures { result ≡ header_len + self.now.area_len }
     {
         HEADER_LEN + self.area_len as usize
     }
@@ -77,8 +81,8 @@ fn code_len(key: &Option<Key>) -> usize
 }
 
 fn header_passes(bytes: &[u8], magic: u32, area_len: u32) -> bool
-    requires whole { 16 ≤ length bytes.now }
-    requires small { area_len ≤ 65535 }
+    requires whole { header_len ≤ length bytes.now }
+    requires small { area_len ≤ area_limit }
     ensures { result ≡ header_agrees magic area_len bytes.now }
 {
     LittleEndian::read_u32(bytes) == magic
@@ -87,8 +91,8 @@ fn header_passes(bytes: &[u8], magic: u32, area_len: u32) -> bool
 }
 
 fn area_passes(bytes: &[u8], area_len: u32) -> bool
-    requires whole { 16 + area_len ≤ length bytes.now }
-    requires small { area_len ≤ 65535 }
+    requires whole { header_len + area_len ≤ length bytes.now }
+    requires small { area_len ≤ area_limit }
     ensures { result ≡ area_agrees area_len bytes.now }
 {
     let end = HEADER_LEN + area_len as usize;
@@ -108,7 +112,7 @@ fn code_passes(key: &Option<Key>, bytes: &[u8], end: usize) -> bool
 
 // Writes bytes 0 to 11 of a record, those that the header's CRC is of.
 fn write_checked_fields(magic: u32, area: &[u8], out: &mut [u8])
-    requires small { length area.now ≤ 65535 }
+    requires small { length area.now ≤ area_limit }
     requires room { 12 ≤ length out.old }
     ensures { out.new ≡ header_text magic area.now ++ drop 12 out.old }
 {
@@ -120,8 +124,8 @@ fn write_checked_fields(magic: u32, area: &[u8], out: &mut [u8])
 
 // Writes the header and the area.
 fn write_coded(magic: u32, area: &[u8], out: &mut [u8])
-    requires small { length area.now ≤ 65535 }
-    requires whole { length out.old ≡ 16 + length area.now }
+    requires small { length area.now ≤ area_limit }
+    requires whole { length out.old ≡ header_len + length area.now }
     ensures { out.new ≡ coded_text magic area.now }
 {
     write_checked_fields(magic, area, out);

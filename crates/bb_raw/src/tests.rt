@@ -46,7 +46,7 @@ fn keyed_record() -> [u8; 57] {
 }
 
 // The area that bytes pass as under a key, which is spelt in hexadecimal.
-fn passed(key: &[u8], bytes: &[u8]) -> Result<Option<[u8; 9]>, KeyError> {
+fn area_passed(key: &[u8], bytes: &[u8]) -> Result<Option<[u8; 9]>, KeyError> {
     let raw = Raw::of(0x1234_5678, 9, Some(Key::from_hex(key)?));
     let mut area = [0u8; 9];
     let passes = raw.check(bytes, &mut area);
@@ -56,17 +56,17 @@ fn passed(key: &[u8], bytes: &[u8]) -> Result<Option<[u8; 9]>, KeyError> {
 #[test]
 fn the_worked_record_passes_under_its_key_alone(rt: HostRuntime) {
     let record = keyed_record();
-    assert_eq!(rt; passed(b"4a656665", &record), Ok(Some(*b"123456789")));
-    assert_eq!(rt; passed(b"4a656666", &record), Ok(None));
-    assert_eq!(rt; passed(b"4a6566", &record), Ok(None));
+    assert_eq!(rt; area_passed(b"4a656665", &record), Ok(Some(*b"123456789")));
+    assert_eq!(rt; area_passed(b"4a656666", &record), Ok(None));
+    assert_eq!(rt; area_passed(b"4a6566", &record), Ok(None));
 }
 
 #[test]
 fn without_its_whole_code_a_record_passes_nothing(rt: HostRuntime) {
     let record = keyed_record();
     let (cut, _) = record.split_at(56);
-    assert_eq!(rt; passed(b"4a656665", cut), Ok(None));
-    assert_eq!(rt; passed(b"4a656665", &RECORD), Ok(None));
+    assert_eq!(rt; area_passed(b"4a656665", cut), Ok(None));
+    assert_eq!(rt; area_passed(b"4a656665", &RECORD), Ok(None));
 }
 
 #[test]
@@ -75,7 +75,7 @@ fn a_code_with_any_bit_turned_passes_nothing(rt: HostRuntime) {
         let mut record = keyed_record();
         record[25 + bit / 8] ^= 1 << (bit % 8);
         assert_eq!(rt;
-            passed(b"4a656665", &record),
+            area_passed(b"4a656665", &record),
             Ok(None),
             "with bit {bit} turned"
         );

@@ -154,7 +154,7 @@ module _ (b : Binding) (is : IsBinding b) where
           subst (λ s. 1 ≤ length s) (sym saves_are)
           (start_saved boot.table rounds boot.sized (rounds_spent b plans boot.table boot.answers) (subst IsSome started_is some))
 
-      -- a start is made behind a save that answered Ok
+      -- a start is made after a save that answered Ok
       start_made : (some : Bool) → is_some started ≡ some → (IsSome started → ok ≡ length saves) → one_if some ≤ ok
       start_made true e all = let saved = some_saved e in let made = all e in omega (arith, saved, made)
       start_made false e all = omega arith
@@ -175,7 +175,7 @@ module _ (b : Binding) (is : IsBinding b) where
             less = omega (arith, less, made, given, same);
           }
 
-    -- ---- behind a load
+    -- ---- after a load
 
     abbrev now : ℕ
     now = number_of left before.areas before.acked

@@ -3,7 +3,7 @@ use Rattle.std.proofs.Common.{◌≡◌, ℕ, Bool, true, false, List, Option, S
 use Rattle.std.proofs.lemmas.Bool.{false≢true}
 use Rattle.std.specs.Option.{ForSome, option_map}
 use Rattle.std.specs.Prelude.{is_some}
-use Rattle.bb_copies.specs.Kind.{Kind}
+use Rattle.bb_copies.specs.Kind.{BucketKind}
 use Rattle.bb_copies.specs.Loading.{KeepsOutside}
 use Rattle.bb_copies.specs.StandsFor.{EachPassesOrNothing}
 use Rattle.bb_copies.proofs.Runs.{same_images}
@@ -29,15 +29,15 @@ some_is x y h = cc
 
 -- ---- regions outside the copies
 
-same_outside : (kinds : List Kind) (from to : Device) → EachImage (λ before image. image ≡ before) from to → KeepsOutside kinds from to
+same_outside : (kinds : List BucketKind) (from to : Device) → EachImage (λ before image. image ≡ before) from to → KeepsOutside kinds from to
 same_outside kinds from to same region apart =
     images_weaker (λ before image. image ≡ before) (IsSameRegion from.geometry.page region.at region.size) from to
     (λ x y e. subst (IsSameRegion from.geometry.page region.at region.size x) (sym e) (record { bytes = refl; health = refl })) same
 
-pub outside_refl : (kinds : List Kind) (device : Device) → KeepsOutside kinds device device
+pub outside_refl : (kinds : List BucketKind) (device : Device) → KeepsOutside kinds device device
 outside_refl kinds device = same_outside kinds device device (same_images device)
 
-pub outside_joined : (kinds : List Kind) (one two three : Device) → IsLater one two → IsLater two three →
+pub outside_joined : (kinds : List BucketKind) (one two three : Device) → IsLater one two → IsLater two three →
     KeepsOutside kinds one two → KeepsOutside kinds two three → KeepsOutside kinds one three
 outside_joined kinds one two three first second before behind region apart =
     let page = one.geometry.page in
@@ -52,7 +52,7 @@ untouched from to same history first h last k = record {
 }
 
 -- a step that changes neither the content nor the list of changes
-pub still_outside : (kinds : List Kind) (from to : Device) → content to ≡ content from → changes to ≡ changes from → KeepsOutside kinds from to
+pub still_outside : (kinds : List BucketKind) (from to : Device) → content to ≡ content from → changes to ≡ changes from → KeepsOutside kinds from to
 still_outside kinds from to same history = same_outside kinds from to (images_untouched from to (untouched from to same history))
 
 -- ---- what the copies hold
@@ -68,7 +68,7 @@ stored_joined keyed a b c one two three later first second before h after k held
     second middle.0 middle.1 after k (first before h middle.0 middle.1 held)
 
 -- a step that makes no call where nothing changed
-pub changed_outside : (kinds : List Kind) (changed : Bool) (from to : Device) → (changed ≡ false → to ≡ from) →
+pub changed_outside : (kinds : List BucketKind) (changed : Bool) (from to : Device) → (changed ≡ false → to ≡ from) →
     (changed ≡ true → KeepsOutside kinds from to) → KeepsOutside kinds from to
 changed_outside kinds false from to idle runs = subst (KeepsOutside kinds from) (sym (idle refl)) (outside_refl kinds from)
 changed_outside kinds true from to idle runs = runs refl

@@ -119,7 +119,7 @@ module _ (keyed : Keyed) where
   abbrev pub Luck : Change → Image → Type 0
   Luck = IsLucky (laid_passings keyed)
 
-  -- behind a save that answered Ok
+  -- after a save that answered Ok
   pub record HoldsNow (table : List ℕ) (now : Option ℕ) (image : Image) : Type 0 where
     pub each : EachPassesOrNothing table (Passed image)
     pub some : SomePasses (Passed image)

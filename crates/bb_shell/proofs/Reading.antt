@@ -5,7 +5,7 @@ use Rattle.std.proofs.lemmas.List.Elements.{AllZip-push}
 use Rattle.std.proofs.lemmas.Option.{slice_get-map}
 use Rattle.std.specs.List.{AllZip, enumerate_from}
 use Rattle.std.specs.Option.{ForSome, option_map}
-use Rattle.bb_base.specs.Folder.{Folder, added, file_of}
+use Rattle.bb_base.specs.Folder.{Folder, file_of, file_read}
 use Rattle.bb_base.specs.declared.files.FileFail.TheVariants as file_fails
 use Rattle.bb_chooser.specs.Binding.{Binding}
 use Rattle.bb_flash.specs.declared.plan.Plan.{Plan}
@@ -137,7 +137,7 @@ plan_refused b target before given is = record {
 }
 
 -- what was added to nothing
-pub added_text : (old text : List ℕ) → old ≡ [] → added true old text ≡ Some text
+pub added_text : (old text : List ℕ) → old ≡ [] → file_read true old text ≡ Some text
 added_text old text none = ap (λ l. Some (drop (length l) text)) none
 
 -- ---- the end

@@ -10,7 +10,7 @@ use Rattle.bb_copies.proofs.Runs.{later_refl}
 use Rattle.bb_flash.proofs.Moments.{later_joined}
 use Rattle.bb_flash.specs.declared.geometry.Geometry.{Geometry}
 use Rattle.bb_flash.specs.declared.plan.Plan.{Plan}
-use Rattle.bb_flash.specs.Calls.{started}
+use Rattle.bb_flash.specs.Calls.{told_after_start}
 use Rattle.bb_flash.specs.Cuts.{IsLater}
 use Rattle.bb_flash.specs.Device.{Device, IsDevice, Start, Told, content, starts}
 use Rattle.bb_state.specs.Keyed.{Keyed}
@@ -88,7 +88,7 @@ told_starts first from h = ap (option_map (λ (told : Told). told.starts)) h
 
 -- a start behind a step that leaves the starts
 once_behind : (plan : Plan) (from mid to : Device) → starts mid ≡ starts from → is_some mid.told ≡ is_some from.told →
-    to.told ≡ option_map (started plan) mid.told → StartsOnce from to plan
+    to.told ≡ option_map (told_after_start plan) mid.told → StartsOnce from to plan
 once_behind plan from mid to same told done = record {
   added = λ first h last k. by mid.told refl first h last k;
 }
@@ -96,13 +96,13 @@ once_behind plan from mid to same told done = record {
     by : (o : Option Told) → mid.told ≡ o → (first : Told) → from.told ≡ Some first → (last : Told) → to.told ≡ Some last →
         last.starts ≡ first.starts ++ (record { plan = plan; image = last.image }) ∷ []
     by None e first h last k =
-        let none : None ≡ Some last = sym (ap (option_map (started plan)) e) ∙ sym done ∙ k in
+        let none : None ≡ Some last = sym (ap (option_map (told_after_start plan)) e) ∙ sym done ∙ k in
         absurd (none_some last none)
       where
         none_some : (x : Told) → None ≡ Some x → ⊥
         none_some x p = cc
     by (Some middle) e first h last k =
-        let is : started plan middle ≡ last = some_is (started plan middle) last (sym (ap (option_map (started plan)) e) ∙ sym done ∙ k) in
+        let is : told_after_start plan middle ≡ last = some_is (told_after_start plan middle) last (sym (ap (option_map (told_after_start plan)) e) ∙ sym done ∙ k) in
         let before : middle.starts ≡ first.starts =
         some_is middle.starts first.starts (sym (told_starts middle mid e) ∙ same ∙ told_starts first from h) in
         ap (λ (t : Told). t.starts) (sym is) ∙ ap (λ (l : List Start). l ++ (record { plan = plan; image = middle.image }) ∷ []) before

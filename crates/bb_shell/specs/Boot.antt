@@ -26,7 +26,7 @@ pub record Round : Type 0 where
 abbrev pub plan_at : List (Option Plan) → ℕ → Option Plan
 plan_at plans target = option_and_then (λ plan. plan) (slice_get plans target)
 
--- behind a save that answered Ok a start is tried exactly where there is a plan
+-- after a save that answered Ok a start is tried exactly where there is a plan
 abbrev pub IsOutcome : Option Plan → Outcome → Type 0
 IsOutcome plan (Refused fault) = ⊤
 IsOutcome plan Unplanned = IsNone plan

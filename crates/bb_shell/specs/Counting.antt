@@ -22,7 +22,7 @@ target_started rounds =
     (λ round. if is_started round.outcome then Some round.target else None)
     (last_round rounds)
 
--- behind a load that gave this table, which stands at this place of the list
+-- after a load that gave this table, which stands at this place of the list
 abbrev pub turn_of_rounds : ℕ → List ℕ → List Round → Turn
 turn_of_rounds place table rounds =
     Loaded place (saves_of table rounds) (made_of table rounds) (target_started rounds)

@@ -1,4 +1,4 @@
--- Definitions that contracts cite.
+-- Definitions that contracts cite. A reader has to believe all of them.
 pub use Rattle.bb_base.specs.Faults
 pub use Rattle.bb_base.specs.Folder
 pub use Rattle.bb_flash.specs.Cuts

@@ -7,7 +7,7 @@ use Rattle.bb_copies.specs.Settling.{IsUndisturbed}
 use Rattle.bb_copies.specs.declared.answers.CopyFault.{CopyFault}
 use Rattle.bb_copies.specs.declared.answers.CopyFault.TheVariants.{Unsure}
 use Rattle.bb_flash.specs.declared.plan.Plan.{Plan}
-use Rattle.bb_flash.specs.Calls.{started}
+use Rattle.bb_flash.specs.Calls.{told_after_start}
 use Rattle.bb_flash.specs.Cuts.{IsLater}
 use Rattle.bb_flash.specs.Device.{Device, IsDevice, StartKeeps}
 use Rattle.bb_state.specs.Keyed.{Keyed}
@@ -67,13 +67,13 @@ pub record StartRuns (made : Bool) (from to : Device) : Type 0 where
 
 pub record IsStartMade (from to : Device) (plan : Plan) : Type 0 where
   pub runs : StartRuns true from to
-  pub done : to.told ≡ option_map (started plan) from.told
+  pub done : to.told ≡ option_map (told_after_start plan) from.told
 
 pub record IsStartFailed (from to : Device) (plan : Plan) : Type 0 where
   pub runs : StartRuns false from to
   pub failed : to.told ≡ from.told
 
--- behind the save the target is started by its plan; where it has none, or the save was refused,
+-- after the save the target is started by its plan; where it has none, or the save was refused,
 -- no call is made
 abbrev pub IsTried : Option Plan → Outcome → Device → Device → Type 0
 IsTried plan (Refused fault) from to = to ≡ from

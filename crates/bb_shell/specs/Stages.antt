@@ -1,5 +1,5 @@
 -- How far the saves of a boot came, and since when: what the copies stand for at its end, and in
--- each image that a cut of power leaves on the way. It goes on behind a load or a save that answered
+-- each image that a cut of power leaves on the way. It goes on after a load or a save that answered
 -- Ok, and another call's stages go on behind it.
 use Rattle.std.specs.Prelude.{◌≡◌, ℕ, ◌+◌, List, [], ◌∷◌, ◌++◌, length, take, map, count_by, slice_get, not, Option, Some, if◌then◌else◌}
 use Rattle.std.specs.Option.{ForSome}
@@ -53,7 +53,7 @@ first_area layout = defaults_of layout.area_len layout.vars
 abbrev pub StandsIn : Keyed → Image → List (List ℕ) → ℕ → Type 0
 StandsIn keyed image h a = Stands (first_area keyed.layout) (laid_passings keyed image) h a
 
--- As behind a load or a save that answered Ok: an image stands for a list whose last area is
+-- As after a load or a save that answered Ok: an image stands for a list whose last area is
 -- acknowledged, and is the one that is kept, and the copy that is used passes.
 pub record IsSettled (keyed : Keyed) (kept : List ℕ) (used : Option ℕ) (image : Image)
     (h : List (List ℕ)) (a : ℕ) : Type 0 where
@@ -62,7 +62,7 @@ pub record IsSettled (keyed : Keyed) (kept : List ℕ) (used : Option ℕ) (imag
   pub area : slice_get h a ≡ Some kept
   pub uses : KeepsUsed used (laid_passings keyed image)
 
--- P holds of what a device told and tells, and of each list that its content stood for behind a load
+-- P holds of what a device told and tells, and of each list that its content stood for after a load
 -- or a save that answered Ok
 abbrev pub EachSettled :
     Keyed → List ℕ → Option ℕ → Device → Device → (Told → Told → List (List ℕ) → ℕ → Type 0) → Type 0

@@ -1,4 +1,5 @@
 ghost use Rattle.std.specs.Prelude.{◌≡◌, ◌<◌, ◌≤◌, ◌^◌, ◌↔◌, IfSome, IsNone, IsSome, not, length, true};
+ghost use Rattle.bb_base.specs.Form.{area_limit};
 ghost use Rattle.bb_chooser.specs.Binding.{IsBinding};
 ghost use Rattle.bb_chooser.specs.Choosing.{IsBest};
 ghost use Rattle.bb_copies.specs.Loading.{KeepsOutside};
@@ -65,7 +66,8 @@ pub fn boot_run<B: Board>(
 // The best target of the table after the reset, where there is one.
 fn first_target(chooser: &Chooser, table: &Table, cause: Cause, first: bool) -> Option<usize>
     requires { length table.now ≡ chooser.now.area_len }
-    ensures best { IfSome result (IsBest chooser.now (first_table chooser.now cause first table.now)) }
+    ensures best { IfSome result
+        (IsBest chooser.now (first_table chooser.now cause first table.now)) }
     ensures none { IsNone result
         ↔ NoneQualifies chooser.now (first_table chooser.now cause first table.now) }
 {
@@ -90,7 +92,7 @@ fn attempts_in(chooser: &Chooser, table: &Table) -> u64
     requires { length table.now ≡ chooser.now.area_len }
     ensures sum { result ≡ all_attempts chooser.now table.now }
     ensures few { result < 2 ^ 48 }
-    ensures count { length chooser.now.targets ≤ 65535 }
+    ensures count { length chooser.now.targets ≤ area_limit }
     ensures binding { IsBinding chooser.now }
 {
     let mut attempts = 0;
@@ -158,7 +160,7 @@ fn next_target(chooser: &Chooser, table: &Table, outcome: Outcome) -> Option<usi
 fn end_by(chooser: &Chooser, table: &Table, target: usize, tries: u64, outcome: Outcome) -> BootEnd
     requires sized { length table.now ≡ chooser.now.area_len }
     requires there { target < length chooser.now.targets }
-    requires few { length chooser.now.targets ≤ 65535 }
+    requires few { length chooser.now.targets ≤ area_limit }
     ensures { result ≡ end_by chooser.now tries
         (record { target = target; table = table.now; outcome = outcome }) outcome }
 {

@@ -1,6 +1,7 @@
 ghost use Rattle.std.specs.Prelude.{◌≡◌, ◌<◌, ◌+◌, ◌^◌, ◌≢◌, ◌↔◌, ℕ, IfErr, IfOk, IsTrue, Ok, Err, length};
 ghost use Rattle.std.specs.Bool.{OnFalse};
 ghost use Rattle.std.specs.Option.{ForSome};
+ghost use Rattle.bb_base.specs.Form.{area_limit};
 ghost use Rattle.bb_base.specs.Faults.{HasCause};
 ghost use Rattle.bb_bls.specs.Entry.{entry_of};
 ghost use Rattle.bb_bls.specs.declared.error.EntryError.TheVariants as entry_errors;
@@ -53,7 +54,7 @@ fn read_plan<F: Files>(
     target: usize,
     files: &mut F,
 ) -> Result<Option<Plan>, PlanFault>
-    requires few { target < 65535 }
+    requires few { target < area_limit }
     requires there { target < length chooser.now.targets }
     ensures planned { IsPlanOf chooser.now target (F.folder files.old) result }
     ensures names { IfErr result (NamesTarget chooser.now) }
@@ -78,7 +79,7 @@ fn read_plan<F: Files>(
 
 // The plan of a target by its entry's text: none where that is no entry.
 fn plan_of(alloc: Global, target: usize, text: &[u8]) -> Result<Option<Plan>, NoMemory>
-    requires { target < 65535 }
+    requires { target < area_limit }
     ensures { IfOk result (λ plan. plan ≡ plan_by target (Some text.now)) }
 {
     match read_entry(alloc, text) {
@@ -89,7 +90,7 @@ fn plan_of(alloc: Global, target: usize, text: &[u8]) -> Result<Option<Plan>, No
 }
 
 fn plan_with(target: usize, entry: Entry) -> Plan
-    requires { target < 65535 }
+    requires { target < area_limit }
     ensures { result ≡ plan_with target entry }
 {
     Plan {

@@ -3,3 +3,4 @@ mod boots;
 mod devices;
 mod each_fault;
 mod rig;
+mod rows;

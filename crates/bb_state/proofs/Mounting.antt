@@ -14,7 +14,7 @@ use Rattle.bb_flash.specs.declared.geometry.Geometry.{Geometry}
 use Rattle.bb_flash.specs.declared.region.Region.{Region}
 use Rattle.bb_flash.specs.Device.{Device}
 use Rattle.bb_bucket.specs.Calls.{Agrees}
-use Rattle.bb_bucket.specs.Kind.{Kind}
+use Rattle.bb_bucket.specs.Kind.{BucketKind}
 use Rattle.bb_bucket.specs.Blocks.{is_block_of}
 use Rattle.bb_copies.specs.Buckets.{AllAgree, AllServe, HaveRoom, IsApart}
 use Rattle.bb_raw.specs.Raw.{code_len}
@@ -36,7 +36,7 @@ pub buckets_more : (geometry : Geometry) (storage : Storage) (partition : Region
     ≡ map (bucket_at geometry storage partition) (range_with_len 0 (copy + 1))
 buckets_more geometry storage partition copy = sym (map-range_with_len_more (bucket_at geometry storage partition) 0 copy copy (omega arith))
 
-kind_at : Geometry → Storage → Region → ℕ → Kind
+kind_at : Geometry → Storage → Region → ℕ → BucketKind
 kind_at geometry storage partition copy = (any_holding (bucket_at geometry storage partition copy)).kind
 
 kinds_are : (layout : Laid) → laid_kinds layout ≡ map (kind_at layout.geometry layout.storage layout.region) (range_with_len 0 layout.copies)
@@ -47,11 +47,11 @@ pub buckets_len : (layout : Laid) → length (laid_buckets layout) ≡ layout.co
 buckets_len layout = length-map-range_with_len (bucket_at layout.geometry layout.storage layout.region) 0 layout.copies
 
 -- the copy of a number stands among the copies, and has the kind of its number
-record IsAt (layout : Laid) (copy : ℕ) (kind : Kind) : Type 0 where
+record IsAt (layout : Laid) (copy : ℕ) (kind : BucketKind) : Type 0 where
   inside : copy < layout.copies
   kind_is : kind_at layout.geometry layout.storage layout.region copy ≡ kind
 
-kind_there : (layout : Laid) (copy : ℕ) (kind : Kind) → slice_get (laid_kinds layout) copy ≡ Some kind → IsAt layout copy kind
+kind_there : (layout : Laid) (copy : ℕ) (kind : BucketKind) → slice_get (laid_kinds layout) copy ≡ Some kind → IsAt layout copy kind
 kind_there layout copy kind h =
     let there = subst (λ kinds. slice_get kinds copy ≡ Some kind) (kinds_are layout) h in
     let numbers = map (kind_at layout.geometry layout.storage layout.region) (range_with_len 0 layout.copies) in
@@ -64,7 +64,7 @@ kind_there layout copy kind h =
     }
 
 -- a bucket stands in its region, with room for a record, on the device
-record IsFit (form : Form) (geometry : Geometry) (region : Region) (kind : Kind) : Type 0 where
+record IsFit (form : Form) (geometry : Geometry) (region : Region) (kind : BucketKind) : Type 0 where
   region_is : kind.region ≡ region
   room : form.length ≤ kind.room
   serves : IsTrue (kind.serves geometry)
@@ -158,7 +158,7 @@ fit_of Circular form geometry partition copies len copy short is has below =
 abbrev pub AreFacts : Laid → Type 0
 AreFacts layout = IsLayout layout.geometry layout.region layout.storage layout.copies (laid_len layout) layout.area_len layout.vars
 
-kind_fit : (keyed : Keyed) (copy : ℕ) (kind : Kind) → AreFacts keyed.layout → slice_get (laid_kinds keyed.layout) copy ≡ Some kind →
+kind_fit : (keyed : Keyed) (copy : ℕ) (kind : BucketKind) → AreFacts keyed.layout → slice_get (laid_kinds keyed.layout) copy ≡ Some kind →
     (copy < keyed.layout.copies) × IsFit (laid_form keyed) keyed.layout.geometry (region_of keyed.layout.geometry keyed.layout.storage keyed.layout.region copy) kind
 kind_fit keyed copy kind facts h =
     let layout = keyed.layout in

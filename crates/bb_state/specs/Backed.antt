@@ -1,7 +1,7 @@
 -- What a state keeps beside its table.
 use Rattle.std.specs.Prelude.{◌≡◌, ℕ, Bool, List, Option, length}
 use Rattle.bb_base.specs.Form.{Form}
-use Rattle.bb_bucket.specs.Kind.{Kind}
+use Rattle.bb_bucket.specs.Kind.{BucketKind}
 use Rattle.bb_copies.specs.Buckets.{AllServe, kinds_of}
 use Rattle.bb_state.specs.Keyed.{Keyed}
 use Rattle.bb_state.specs.Kinds.{any_holding, format_of, laid_form, laid_kinds}
@@ -23,7 +23,7 @@ pub record Backed : Type 0 where
 abbrev pub form_in : Backed → Form
 form_in backed = laid_form backed.keyed
 
-abbrev pub kinds_in : Backed → List Kind
+abbrev pub kinds_in : Backed → List BucketKind
 kinds_in backed = laid_kinds backed.keyed.layout
 
 -- the buckets and the format are those of the layout and its key, and a table of it is at hand

@@ -5,7 +5,7 @@ use Rattle.bb_base.specs.Form.{Form, IsForm}
 use Rattle.bb_flash.specs.Image.{Image}
 use Rattle.bb_flash.specs.declared.geometry.Geometry.{Geometry}
 use Rattle.bb_flash.specs.declared.region.Region.{Region}
-use Rattle.bb_bucket.specs.Kind.{Holding, IsKind, Kind}
+use Rattle.bb_bucket.specs.Kind.{BucketKind, Holding, IsKind}
 use Rattle.bb_bucket.specs.declared.block.Block.{Block}
 use Rattle.bb_bucket.specs.OneBlock.{one_block_holding}
 use Rattle.bb_bucket.specs.OneBlockLaws.{one_block_laws}
@@ -66,9 +66,10 @@ bucket_at geometry storages.Circular partition copy =
 
 -- the buckets of all copies, in their order, and their kinds
 abbrev pub laid_buckets : Laid → List AnyBucket
-laid_buckets layout = map (bucket_at layout.geometry layout.storage layout.region) (range_with_len 0 layout.copies)
+laid_buckets layout =
+    map (bucket_at layout.geometry layout.storage layout.region) (range_with_len 0 layout.copies)
 
-abbrev pub laid_kinds : Laid → List Kind
+abbrev pub laid_kinds : Laid → List BucketKind
 laid_kinds layout = kinds_of any_holding (laid_buckets layout)
 
 -- ---- of a layout with its key

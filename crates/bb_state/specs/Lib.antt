@@ -1,4 +1,4 @@
--- Definitions that contracts cite.
+-- To be believed: public clauses cite these, or what these say.
 pub use Rattle.bb_base.specs.Faults
 pub use Rattle.bb_base.specs.Form
 pub use Rattle.bb_flash.specs.Cuts
@@ -14,5 +14,6 @@ pub mod Keyed
 pub mod Kinds
 pub mod Lines
 pub mod Named
-pub mod Room
 pub mod State
+-- Inside: only private contracts and proofs cite it.
+pub mod Room

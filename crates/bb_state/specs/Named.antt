@@ -1,5 +1,5 @@
 -- A variable by its name: what it holds in an area, and what it makes of an area to set it.
-use Rattle.std.specs.Prelude.{ℕ, List, Option, Some, Result, Ok, Err, find, option_map}
+use Rattle.std.specs.Prelude.{◌≡◌, ◌≢◌, ℕ, List, Option, Some, Result, Ok, Err, find, option_map}
 use Rattle.std.specs.Option.{option_map_or}
 use Rattle.std.specs.Result.{result_err, result_unwrap_or}
 use Rattle.std.specs.Str.{bytes_eq}
@@ -8,7 +8,7 @@ use Rattle.bb_vars.specs.Value.{bytes_of}
 use Rattle.bb_layout.specs.declared.var.Var.{Var}
 use Rattle.bb_state.specs.Lines.{value_of}
 use Rattle.bb_state.specs.declared.error.StateError.{StateError}
-use Rattle.bb_state.specs.declared.error.StateError.TheVariants.{NoSuchVariable, Value}
+use Rattle.bb_state.specs.declared.error.StateError.TheVariants.{NoMemory, NoSuchVariable, Value}
 
 -- the variable of that name
 abbrev pub var_of : List Var → List ℕ → Option Var
@@ -18,6 +18,10 @@ var_of vars name = find (λ v. bytes_eq name v.name) vars
 abbrev pub text_for : List Var → List ℕ → List ℕ → Result (List ℕ) StateError
 text_for vars name area =
     option_map_or (λ v. Ok (value_of area v)) (var_of vars name) (Err NoSuchVariable)
+
+-- an answer is refused as it is expected, unless memory was refused
+abbrev pub Refuses : {A : Type 0} → Result A StateError → StateError → Type 0
+Refuses expected e = e ≢ NoMemory → expected ≡ Err e
 
 -- why a text is no value of it, if it is none
 abbrev pub refusal_for : List Var → List ℕ → List ℕ → Option StateError

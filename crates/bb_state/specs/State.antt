@@ -3,7 +3,7 @@ use Rattle.std.specs.Prelude.{◌≡◌, ℕ, Bool, ◌&&◌, not, ⊤, List, Op
 use Rattle.std.specs.Str.{bytes_eq}
 use Rattle.bb_base.specs.Form.{Form}
 use Rattle.bb_flash.specs.Device.{Device, IsDevice}
-use Rattle.bb_bucket.specs.Kind.{Kind}
+use Rattle.bb_bucket.specs.Kind.{BucketKind}
 use Rattle.bb_copies.specs.Buckets.{AllAgree}
 use Rattle.bb_copies.specs.Loading.{LoadFails}
 use Rattle.bb_copies.specs.Placing.{AllPlaced}
@@ -29,7 +29,7 @@ laid_of state = (keyed_of state).layout
 abbrev pub form_of : State → Form
 form_of state = form_in state.backing
 
-abbrev pub kinds_of : State → List Kind
+abbrev pub kinds_of : State → List BucketKind
 kinds_of state = kinds_in state.backing
 
 -- the table that was last loaded or saved, and the copy that passed it first, if any did

@@ -3,8 +3,8 @@ ghost use Rattle.std.specs.Prelude.{false, is_ok, length};
 ghost use Rattle.std.specs.Str.{bytes_eq};
 ghost use Rattle.bb_base.specs.Faults.{HasCause};
 ghost use Rattle.bb_flash.specs.Cuts.{IsLater};
-ghost use Rattle.bb_flash.specs.Device.{Device, IsDevice, LeavesStarts, ReadKeeps};
-ghost use Rattle.bb_bucket.specs.Calls.{told_but_reads};
+ghost use Rattle.bb_flash.specs.Device.{Device, IsDevice, LeavesStarts};
+ghost use Rattle.bb_bucket.specs.Calls.{IsQuiet};
 ghost use Rattle.bb_copies.specs.Buckets.{AllAgree};
 ghost use Rattle.bb_copies.specs.Erasing.{ErasesBy};
 ghost use Rattle.bb_copies.specs.Loading.{KeepsOutside, LoadGives, LoadImages, LoadsErasing};
@@ -14,7 +14,7 @@ ghost use Rattle.bb_copies.specs.Saving.{EachWritten, SaveFails, SaveRuns};
 ghost use Rattle.bb_copies.specs.Settling.{IsUndisturbed};
 ghost use Rattle.bb_copies.specs.Store.{used_after};
 ghost use Rattle.bb_copies.specs.declared.answers.CopyFault.TheVariants.{ReadFault, Unsure};
-ghost use Rattle.bb_layout.specs.Layout.{laid};
+ghost use Rattle.bb_layout.specs.Layout.{fields_of};
 ghost use Rattle.bb_state.specs.Backed.{form_in, kinds_in};
 ghost use Rattle.bb_state.specs.Keyed.{FitsKey};
 ghost use Rattle.bb_state.specs.Kinds.{any_holding, bucket_at, format_of, laid_buckets};
@@ -41,14 +41,14 @@ pub(crate) struct Backing {
 }
 
 impl Model for Backing {
-    ghost use Rattle.bb_layout.specs.Layout.{laid};
+    ghost use Rattle.bb_layout.specs.Layout.{fields_of};
     ghost use Rattle.bb_state.specs.Backed.{Backed, IsBacked};
     ghost use Rattle.bb_state.specs.Kinds.{key_in};
 
     ghost Value = { Backed };
 
     ghost view = { λ b. record {
-      keyed = record { layout = laid b.layout; key = key_in b.copies.format };
+      keyed = record { layout = fields_of b.layout; key = key_in b.copies.format };
       buckets = b.copies.buckets;
       used = b.copies.used;
       sure = b.copies.sure;
@@ -56,7 +56,7 @@ impl Model for Backing {
     } };
 
     ghost invariant = { λ b.
-        IsBacked (record { layout = laid b.layout; key = key_in b.copies.format })
+        IsBacked (record { layout = fields_of b.layout; key = key_in b.copies.format })
         b.copies.buckets b.copies.format b.kept.items };
 }
 
@@ -68,8 +68,9 @@ impl Backing {
         key: Option<Key>,
     ) -> Result<Backing, NoMemory>
         requires { FitsKey layout.format key }
-        ensures keyed { IfOk result (λ b. b.keyed ≡ record { layout = laid layout; key = key }) }
-        ensures buckets { IfOk result (λ b. b.buckets ≡ laid_buckets (laid layout)) }
+        ensures keyed { IfOk result (λ b.
+            b.keyed ≡ record { layout = fields_of layout; key = key }) }
+        ensures buckets { IfOk result (λ b. b.buckets ≡ laid_buckets (fields_of layout)) }
         ensures agrees { IfOk result (λ b.
             (device : Device) → AllAgree any_holding device b.buckets) }
         ensures sure { IfOk result (λ b. b.sure ≡ false) }
@@ -86,7 +87,7 @@ impl Backing {
 
     /// The layout.
     pub(crate) fn layout(&self) -> &Layout
-        ensures { laid result.now ≡ self.now.keyed.layout }
+        ensures { fields_of result.now ≡ self.now.keyed.layout }
     {
         &self.layout
     }
@@ -182,10 +183,7 @@ impl Backing {
         ensures gives { IfOk result (LookGives (form_in self.old) (kinds_in self.old) area.new
             (F.device flash.old)) }
         ensures fails { IfErr result (λ fault. fault ≡ ReadFault) }
-        ensures keeps { ReadKeeps (F.device flash.old) (F.device flash.new) }
-        ensures told { told_but_reads (F.device flash.new) ≡ told_but_reads (F.device flash.old) }
-        ensures later { IsLater (F.device flash.old) (F.device flash.new) }
-        ensures whole { IsDevice (F.device flash.new) }
+        ensures quiet { IsQuiet (F.device flash.old) (F.device flash.new) }
         ensures faults { HasCause (F.device flash.old).faults (F.device flash.new).faults
             (IsErr result) }
         ensures read_faults { HasCause (F.device flash.old).read_faults
@@ -211,7 +209,7 @@ impl Backing {
 
 #[tactic(auto, using(crate::proofs::Mounting::buckets_more))]
 fn buckets_of(alloc: Global, layout: &Layout) -> Result<BucketList<AnyBucket>, NoMemory>
-    ensures { IfOk result (λ buckets. buckets ≡ laid_buckets (laid layout.now)) }
+    ensures { IfOk result (λ buckets. buckets ≡ laid_buckets (fields_of layout.now)) }
 {
     let mut buckets = BucketList::none(alloc);
     for copy in 0..layout.copies {
@@ -237,7 +235,7 @@ fn bucket_at(alloc: Global, layout: &Layout, copy: u32) -> Result<AnyBucket, NoM
 #[tactic(auto, using(crate::proofs::Mounting::raw_is))]
 fn format_of(layout: &Layout, key: Option<Key>) -> AnyFormat
     requires { FitsKey layout.now.format key }
-    ensures { result ≡ format_of (record { layout = laid layout.now; key = key }) }
+    ensures { result ≡ format_of (record { layout = fields_of layout.now; key = key }) }
 {
     match layout.format {
         FormatKind::Raw | FormatKind::RawHmac => {

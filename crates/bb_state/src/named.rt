@@ -1,8 +1,7 @@
-ghost use Rattle.std.specs.Prelude.{◌≡◌, ◌≢◌, ◌++◌, None, Some, Ok, Err, IfErr, OnErr, OnOk};
+ghost use Rattle.std.specs.Prelude.{◌≡◌, ◌++◌, None, Some, Ok, IfErr, OnErr, OnOk};
 ghost use Rattle.std.specs.Prelude.{length};
 ghost use Rattle.std.specs.Result.{result_map_both};
-ghost use Rattle.bb_state.specs.Named.{after_set, refusal_for, text_for};
-ghost use Rattle.bb_state.specs.declared.error.StateError.TheVariants as states;
+ghost use Rattle.bb_state.specs.Named.{Refuses, after_set, refusal_for, text_for};
 
 use crate::StateError;
 use crate::value::{add_value, var_of};
@@ -21,8 +20,7 @@ pub fn get_value(
     requires { length area.now ≡ layout.now.area_len }
     ensures got { OnOk result (result_map_both (λ text. out.old ++ text) (λ e. e)
         (text_for layout.now.vars name.now area.now) ≡ Ok out.new) }
-    ensures refused { IfErr result (λ e. e ≢ states.NoMemory
-        → text_for layout.now.vars name.now area.now ≡ Err e) }
+    ensures refused { IfErr result (Refuses (text_for layout.now.vars name.now area.now)) }
 {
     let var = var_of(layout, name)?;
     add_value(area, var, out)?;

@@ -1,10 +1,10 @@
-ghost use Rattle.std.specs.Prelude.{◌≡◌, ◌≢◌, ◌↔◌, ◌++◌, Err, IfErr, IfOk, IsErr, IsErrOf, IsOk};
+ghost use Rattle.std.specs.Prelude.{◌≡◌, ◌↔◌, ◌++◌, IfErr, IfOk, IsErr, IsErrOf, IsOk};
 ghost use Rattle.std.specs.Prelude.{None, Ok, OnErr, OnOk, Some, false, is_ok, length, true};
 ghost use Rattle.std.specs.Result.{result_map_both};
 ghost use Rattle.bb_base.specs.Faults.{HasCause};
 ghost use Rattle.bb_flash.specs.Cuts.{IsLater};
-ghost use Rattle.bb_flash.specs.Device.{LeavesStarts, ReadKeeps};
-ghost use Rattle.bb_bucket.specs.Calls.{told_but_reads};
+ghost use Rattle.bb_flash.specs.Device.{LeavesStarts};
+ghost use Rattle.bb_bucket.specs.Calls.{IsQuiet};
 ghost use Rattle.bb_copies.specs.Erasing.{ErasesBy};
 ghost use Rattle.bb_copies.specs.Loading.{KeepsOutside, LoadGives, LoadImages, LoadsErasing};
 ghost use Rattle.bb_copies.specs.Loading.{LoadsExactly, LookGives};
@@ -14,14 +14,13 @@ ghost use Rattle.bb_copies.specs.Settling.{IsUndisturbed};
 ghost use Rattle.bb_copies.specs.Store.{used_after};
 ghost use Rattle.bb_copies.specs.declared.answers.CopyFault.TheVariants.{ReadFault, Unsure};
 ghost use Rattle.bb_layout.specs.Defaults.{defaults_of};
-ghost use Rattle.bb_layout.specs.Layout.{laid};
+ghost use Rattle.bb_layout.specs.Layout.{fields_of};
 ghost use Rattle.bb_state.specs.Keyed.{FitsKey};
-ghost use Rattle.bb_state.specs.Named.{after_set, refusal_for, text_for};
+ghost use Rattle.bb_state.specs.Named.{Refuses, after_set, refusal_for, text_for};
 ghost use Rattle.bb_state.specs.State.{FitsForm, form_of, kinds_of, IsDefault, IsFresh, IsOn};
 ghost use Rattle.bb_state.specs.State.{IsPlaced};
 ghost use Rattle.bb_state.specs.State.{IsRefused, IsSized, IsStored, has_changed, is_kept, is_sure};
 ghost use Rattle.bb_state.specs.State.{kept_of, keyed_of, laid_of, used_of};
-ghost use Rattle.bb_state.specs.declared.error.StateError.TheVariants as states;
 
 use crate::backing::Backing;
 use crate::{StateError, get_value, set_value};
@@ -48,7 +47,7 @@ impl State {
     pub fn mount(alloc: Global, layout: Layout, key: Option<Key>) -> Result<State, NoMemory>
         requires { FitsKey layout.format key }
         ensures keyed { IfOk result (λ state.
-            keyed_of state ≡ record { layout = laid layout; key = key }) }
+            keyed_of state ≡ record { layout = fields_of layout; key = key }) }
         ensures table { IfOk result (λ state.
             state.table ≡ defaults_of layout.area_len layout.vars) }
         ensures sure { IfOk result (λ state. is_sure state ≡ false) }
@@ -63,7 +62,7 @@ impl State {
 
     /// The layout.
     pub fn layout(&self) -> &Layout
-        ensures { laid result.now ≡ laid_of self.now }
+        ensures { fields_of result.now ≡ laid_of self.now }
     {
         self.backing.layout()
     }
@@ -191,9 +190,7 @@ impl State {
         ensures gives { IfOk result (LookGives (form_of self.old) (kinds_of self.old) area.new
             (F.device flash.old)) }
         ensures fails { IfErr result (λ fault. fault ≡ ReadFault) }
-        ensures keeps { ReadKeeps (F.device flash.old) (F.device flash.new) }
-        ensures told { told_but_reads (F.device flash.new) ≡ told_but_reads (F.device flash.old) }
-        ensures later { IsLater (F.device flash.old) (F.device flash.new) }
+        ensures quiet { IsQuiet (F.device flash.old) (F.device flash.new) }
         ensures faults { HasCause (F.device flash.old).faults (F.device flash.new).faults
             (IsErr result) }
         ensures read_faults { HasCause (F.device flash.old).read_faults
@@ -215,8 +212,8 @@ impl State {
         requires { IsSized self.now }
         ensures got { OnOk result (result_map_both (λ text. out.old ++ text) (λ e. e)
             (text_for (laid_of self.now).vars name.now self.now.table) ≡ Ok out.new) }
-        ensures refused { IfErr result (λ e. e ≢ states.NoMemory
-            → text_for (laid_of self.now).vars name.now self.now.table ≡ Err e) }
+        ensures refused { IfErr result
+            (Refuses (text_for (laid_of self.now).vars name.now self.now.table)) }
     {
         get_value(self.layout(), self.table.bytes(), name, out)
     }

@@ -1,4 +1,5 @@
-//! States of one variable over boards in memory, in strides and in logs, with a key and without. Nothing stands on it.
+//! States of one variable over boards in memory, in strides and in logs, with a key and without.
+//! Nothing stands on it.
 #![tactic(auto)]
 
 #[cfg(test)]

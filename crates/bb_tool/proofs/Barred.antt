@@ -15,17 +15,17 @@ use Rattle.bb_tool.specs.Booting.{SaveAnswer, boots, has_no_target}
 use Rattle.bb_tool.specs.Marking.{lost_place}
 use Rattle.bb_tool.specs.Plan.{Act, Boot, Good, SessionPlan, Show, Work, Write}
 use Rattle.bb_tool.specs.Refusal.{copy_refusal, status_of}
-use Rattle.bb_tool.specs.Session.{Session, barred, ended_status, loaded_area, refused_for, saved, saved_where, saves_of, stored, text_of, unless_barred, worked, worked_on}
+use Rattle.bb_tool.specs.Session.{Session, refusal_by_table, ended_status, loaded_area, refused_for, session_of_saves, saved_where, saves_of, saving_session, text_of, unless_barred, work_session, worked_on}
 use Rattle.bb_tool.specs.declared.refusal.Refusal.{Refusal}
 use Rattle.bb_tool.specs.declared.refusal.Refusal.TheVariants.{NoGood, NoTarget}
 use Rattle.bb_tool.specs.declared.status.Status.{Status}
 use Rattle.bb_tool.specs.declared.status.Status.TheVariants as statuses
 
--- ---- the session behind a load that answered Ok
+-- ---- the session after a load that answered Ok
 
 -- the session of saves alone
 pub stored_on : (work : Work) (plan : SessionPlan) (found : Option (List ℕ)) (saves : List SaveAnswer) →
-    boots work ≡ false → worked_on work plan found saves ≡ stored plan found saves
+    boots work ≡ false → worked_on work plan found saves ≡ saving_session plan found saves
 stored_on Show plan found saves none = refl
 stored_on (Write area) plan found saves none = refl
 stored_on (Act actions) plan found saves none = refl
@@ -33,15 +33,15 @@ stored_on (Good targets) plan found saves none = refl
 stored_on (Boot targets cause plans) plan found saves none = absurd cc
 
 pub open_session : (plan : SessionPlan) (found : Option (List ℕ)) (saves : List SaveAnswer) → boots plan.work ≡ false →
-    barred plan.work (loaded_area plan.keyed.layout found) ≡ None →
-    worked plan (Ok found) saves ≡ stored plan found saves
+    refusal_by_table plan.work (loaded_area plan.keyed.layout found) ≡ None →
+    work_session plan (Ok found) saves ≡ saving_session plan found saves
 open_session plan found saves store h =
     ap (λ refusal. unless_barred refusal (worked_on plan.work plan found saves)) h
     ∙ stored_on plan.work plan found saves store
 
 pub barred_session : (plan : SessionPlan) (found : Option (List ℕ)) (saves : List SaveAnswer) (refusal : Refusal) →
-    barred plan.work (loaded_area plan.keyed.layout found) ≡ Some refusal →
-    worked plan (Ok found) saves ≡ refused_for refusal
+    refusal_by_table plan.work (loaded_area plan.keyed.layout found) ≡ Some refusal →
+    work_session plan (Ok found) saves ≡ refused_for refusal
 barred_session plan found saves refusal h = ap (λ refusal. unless_barred refusal (worked_on plan.work plan found saves)) h
 
 -- ---- the refusal
@@ -56,7 +56,7 @@ module _ (P : Refusal → Type 0) (good : (place : ℕ) → P (NoGood place)) (t
   none_has false refusal h = absurd cc
 
   -- a fact about both is one about whatever bars
-  pub barred_has : (work : Work) (area : List ℕ) (refusal : Refusal) → barred work area ≡ Some refusal → P refusal
+  pub barred_has : (work : Work) (area : List ℕ) (refusal : Refusal) → refusal_by_table work area ≡ Some refusal → P refusal
   barred_has Show area refusal h = absurd cc
   barred_has (Write new) area refusal h = absurd cc
   barred_has (Act actions) area refusal h = absurd cc
@@ -81,7 +81,7 @@ unchanged targets area none =
 same_area : (area : List ℕ) → bytes_eq area area ≡ true
 same_area area = (bytes_eq-Decides area area).1 refl
 
-pub barred_saves : (layout : Laid) (work : Work) (area : List ℕ) (refusal : Refusal) → barred work area ≡ Some refusal → saves_of layout work area ≡ []
+pub barred_saves : (layout : Laid) (work : Work) (area : List ℕ) (refusal : Refusal) → refusal_by_table work area ≡ Some refusal → saves_of layout work area ≡ []
 barred_saves layout Show area refusal h = refl
 barred_saves layout (Write new) area refusal h = absurd cc
 barred_saves layout (Act actions) area refusal h = absurd cc
@@ -93,12 +93,12 @@ barred_saves layout (Boot targets cause plans) area refusal h = refl
 
 -- in either case the areas that are saved are those of the saves that were begun
 pub worked_saves : (plan : SessionPlan) (found : Option (List ℕ)) (saves : List SaveAnswer) → boots plan.work ≡ false →
-    (refusal : Option Refusal) → barred plan.work (loaded_area plan.keyed.layout found) ≡ refusal →
-    (worked plan (Ok found) saves).saves ≡ (stored plan found saves).saves
+    (refusal : Option Refusal) → refusal_by_table plan.work (loaded_area plan.keyed.layout found) ≡ refusal →
+    (work_session plan (Ok found) saves).saves ≡ (saving_session plan found saves).saves
 worked_saves plan found saves store None h = ap (λ (s : Session). s.saves) (open_session plan found saves store h)
 worked_saves plan found saves store (Some refusal) h =
     ap (λ (s : Session). s.saves) (barred_session plan found saves refusal h)
-    ∙ sym (ap (λ areas. (saved (text_of plan.keyed.layout plan.work found) areas saves).saves)
+    ∙ sym (ap (λ areas. (session_of_saves (text_of plan.keyed.layout plan.work found) areas saves).saves)
     (barred_saves plan.keyed.layout plan.work (loaded_area plan.keyed.layout found) refusal h))
 
 -- ---- faults of the device
@@ -117,14 +117,14 @@ fault_device (faults.WriteFault copy) = refl
 fault_device faults.Unsure = refl
 
 -- what bars a session is none
-pub barred_calm : (work : Work) (area : List ℕ) (refusal : Refusal) → barred work area ≡ Some refusal →
+pub barred_calm : (work : Work) (area : List ℕ) (refusal : Refusal) → refusal_by_table work area ≡ Some refusal →
     is_device_fault (status_of refusal) ≡ false
 barred_calm = barred_has (λ refusal. is_device_fault (status_of refusal) ≡ false) (λ place. refl) refl
 
 -- so a fault of the device is that of a save
 pub stored_refusal : (plan : SessionPlan) (found : Option (List ℕ)) (saves : List SaveAnswer) (refusal : Refusal) → boots plan.work ≡ false →
-    is_device_fault (status_of refusal) ≡ true → (worked plan (Ok found) saves).refusal ≡ Some refusal → (bars : Option Refusal) →
-    barred plan.work (loaded_area plan.keyed.layout found) ≡ bars → (stored plan found saves).refusal ≡ Some refusal
+    is_device_fault (status_of refusal) ≡ true → (work_session plan (Ok found) saves).refusal ≡ Some refusal → (bars : Option Refusal) →
+    refusal_by_table plan.work (loaded_area plan.keyed.layout found) ≡ bars → (saving_session plan found saves).refusal ≡ Some refusal
 stored_refusal plan found saves refusal store fault h None bars =
     sym (ap (λ (s : Session). s.refusal) (open_session plan found saves store bars)) ∙ h
 stored_refusal plan found saves refusal store fault h (Some other) bars =
@@ -135,8 +135,8 @@ stored_refusal plan found saves refusal store fault h (Some other) bars =
 
 -- a session without one is one whose saves have none
 pub stored_whole : (plan : SessionPlan) (found : Option (List ℕ)) (saves : List SaveAnswer) → boots plan.work ≡ false →
-    barred plan.work (loaded_area plan.keyed.layout found) ≡ None →
-    HasNoFault (worked plan (Ok found) saves) → HasNoFault (stored plan found saves)
+    refusal_by_table plan.work (loaded_area plan.keyed.layout found) ≡ None →
+    HasNoFault (work_session plan (Ok found) saves) → HasNoFault (saving_session plan found saves)
 stored_whole plan found saves store bars whole = subst HasNoFault (open_session plan found saves store bars) whole
 
 pub refused_whole : (session : Session) (refusal : Refusal) → session.refusal ≡ Some refusal → is_device_fault (status_of refusal) ≡ false → HasNoFault session
@@ -153,7 +153,7 @@ none_of (Some t) not = absurd (not refl)
 
 -- no target has it
 pub lost_is : (targets : Binding) (area : List ℕ) → (IsSome (chosen_target targets area) → ⊥) →
-    barred (Good targets) area ≡ Some (NoGood (last_chosen_of targets area))
+    refusal_by_table (Good targets) area ≡ Some (NoGood (last_chosen_of targets area))
 lost_is targets area not =
     ap (λ (target : Option ℕ). option_map NoGood (option_map_or (λ t. None) target (Some (last_chosen_of targets area)))) (none_of (chosen_target targets area) not)
 
@@ -166,5 +166,5 @@ found_is : (target : Option ℕ) (last : ℕ) → IsSome target → option_map N
 found_is None last some = absurd cc
 found_is (Some t) last some = refl
 
-pub kept_is_found : (targets : Binding) (area : List ℕ) → IsSome (chosen_target targets area) → barred (Good targets) area ≡ None
+pub kept_is_found : (targets : Binding) (area : List ℕ) → IsSome (chosen_target targets area) → refusal_by_table (Good targets) area ≡ None
 kept_is_found targets area some = found_is (chosen_target targets area) (last_chosen_of targets area) some

@@ -104,7 +104,7 @@ weaker_trail S T now first (milestone ∷ later) same h = (
   weaker_trail S T now first later same h.1,
 )
 
--- ---- behind a load that answered Ok
+-- ---- after a load that answered Ok
 
 module _ (keyed : Keyed) (from mid to : Device) (first middle last : Told) (e : from.told ≡ Some first)
     (g : mid.told ≡ Some middle) (f : to.told ≡ Some last) (before : Content) (geometry : from.geometry ≡ keyed.layout.geometry)

@@ -1,4 +1,4 @@
--- A boot behind a load: the session that its rounds make, and what its call says of the device.
+-- A boot after a load: the session that its rounds make, and what its call says of the device.
 use Rattle.std.proofs.Common.{◌≡◌, ℕ, suc, ◌+◌, ◌-◌, ◌<◌, ◌≤◌, ◌==◌, ◌&&◌, Bool, cond, get_or, true, false, not, List, [], ◌∷◌, length, map, Option, Some, None, is_none, Result, Ok, Err, refl, sym, ap, subst, ◌∙◌, if◌then◌else◌, inl, inr, arith}
 use Rattle.std.specs.Prelude.{MatchBool, slice_get}
 use Rattle.bb_chooser.specs.Binding.{Binding, IsBinding}
@@ -32,8 +32,8 @@ use Rattle.bb_state.specs.declared.state.State.{State}
 use Rattle.bb_tool.specs.Booting.{SaveAnswer, answer_to, end_refusal, has_no_target, round_answer, rounds_of}
 use Rattle.bb_tool.specs.Plan.{Boot, SessionPlan, Work}
 use Rattle.bb_tool.specs.Refusal.{copy_refusal}
-use Rattle.bb_tool.specs.Session.{Session, barred, booted, loaded_area, unless_barred, worked, worked_on}
-use Rattle.bb_tool.specs.Work.{Gives, GivesEnd, IsBootRun, IsReportOf, IsWorkedOut, SendsByMemory, taken}
+use Rattle.bb_tool.specs.Session.{Session, refusal_by_table, boot_session, loaded_area, unless_barred, work_session, worked_on}
+use Rattle.bb_tool.specs.Work.{Gives, GivesEnd, IsBootRun, IsReportOf, IsWorkedOut, SendsByMemory, area_taken}
 use Rattle.bb_tool.specs.declared.refusal.Refusal.{Refusal}
 use Rattle.bb_tool.specs.declared.refusal.Refusal.TheVariants as refusals
 use Rattle.bb_tool.specs.declared.report.Report.{Report}
@@ -83,12 +83,12 @@ rounds_back targets cause plans table rounds are =
 -- whether it is barred hangs on the best target
 abbrev unless_none : Binding → List ℕ → Bool → List Round → Session
 unless_none targets table none rounds =
-    unless_barred (if none then Some refusals.NoTarget else None) (booted targets table rounds)
+    unless_barred (if none then Some refusals.NoTarget else None) (boot_session targets table rounds)
 
 by_rounds : (targets : Binding) (cause : Cause) (plans : List (Option StartPlan)) (table : List ℕ) (rounds : List Round) →
     AreRounds targets plans (first_table targets cause true table) rounds →
     unless_none targets table (has_no_target targets cause table)
-    (rounds_of targets cause plans table (answers_to rounds)) ≡ booted targets table rounds
+    (rounds_of targets cause plans table (answers_to rounds)) ≡ boot_session targets table rounds
 unfolding AreRounds
 by_rounds targets cause plans table [] are =
     let none : has_no_target targets cause table ≡ true =
@@ -98,15 +98,15 @@ by_rounds targets cause plans table (round ∷ later) are =
     let some : has_no_target targets cause table ≡ false =
     ap is_none (best_is targets (first_table targets cause true table) round.target are.0.best) in
     ap (λ t. unless_none targets table t (rounds_of targets cause plans table (answers_to (round ∷ later)))) some
-    ∙ ap (booted targets table) (rounds_back targets cause plans table (round ∷ later) are)
+    ∙ ap (boot_session targets table) (rounds_back targets cause plans table (round ∷ later) are)
 
-pub boot_session : (plan : SessionPlan) (targets : Binding) (cause : Cause) (plans : List (Option StartPlan))
+pub as_boot_session : (plan : SessionPlan) (targets : Binding) (cause : Cause) (plans : List (Option StartPlan))
     (found : Option (List ℕ)) (rounds : List Round) → plan.work ≡ Boot targets cause plans →
     AreRounds targets plans (first_table targets cause true (loaded_area plan.keyed.layout found)) rounds →
-    worked plan (Ok found) (answers_to rounds) ≡ booted targets (loaded_area plan.keyed.layout found) rounds
-boot_session plan targets cause plans found rounds is are =
+    work_session plan (Ok found) (answers_to rounds) ≡ boot_session targets (loaded_area plan.keyed.layout found) rounds
+as_boot_session plan targets cause plans found rounds is are =
     ap
-    (λ (work : Work). unless_barred (barred work (loaded_area plan.keyed.layout found))
+    (λ (work : Work). unless_barred (refusal_by_table work (loaded_area plan.keyed.layout found))
     (worked_on work plan found (answers_to rounds))) is
     ∙ by_rounds targets cause plans (loaded_area plan.keyed.layout found) rounds are
 
@@ -115,10 +115,10 @@ pub boot_is : (plan : SessionPlan) (targets : Binding) (cause : Cause) (plans : 
     (found : Option (List ℕ)) (used : Option ℕ) (from to : Device) (saves : List SaveAnswer) →
     plan.work ≡ Boot targets cause plans →
     (run : IsBootRun plan.keyed targets cause plans (loaded_area plan.keyed.layout found) used from to saves) →
-    worked plan (Ok found) saves ≡ booted targets (loaded_area plan.keyed.layout found) run.rounds
+    work_session plan (Ok found) saves ≡ boot_session targets (loaded_area plan.keyed.layout found) run.rounds
 boot_is plan targets cause plans found used from to saves is run =
-    ap (worked plan (Ok found)) run.answers_are
-    ∙ boot_session plan targets cause plans found run.rounds is run.are
+    ap (work_session plan (Ok found)) run.answers_are
+    ∙ as_boot_session plan targets cause plans found run.rounds is run.are
 
 -- ---- the rounds are no more than the attempts
 
@@ -182,36 +182,36 @@ run_is : (targets : Binding) (cause : Cause) (plans : List (Option StartPlan)) (
     (clauses : BootClauses targets cause plans before after from to end) →
     IsBootRun (keyed_of before) targets cause plans before.table (used_of before) from to (answers_to clauses.booted.rounds)
 run_is targets cause plans before after from to end kept binding sized clauses =
-    let booted = clauses.booted in
+    let boot = clauses.booted in
     let keyed = keyed_of before in
-    let rounds = booted.rounds in
+    let rounds = boot.rounds in
     record {
       rounds = rounds;
       now = used_of after;
       answers_are = refl;
-      are = booted.are;
+      are = boot.are;
       few =
           few_rounds targets plans (first_table targets cause true before.table) rounds binding
-          (reset_length targets cause before.table binding sized ∙ sized) booted.are;
-      run = subst (λ k. AreRun keyed plans k (used_of before) (used_of after) rounds from to) kept booted.run;
-      trail = subst (λ k. KeepsATrail keyed k (used_of before) rounds from to) kept booted.trail;
-      exit = subst (λ k. KeepsAtExit keyed k (used_of before) (used_of after) rounds from to) kept booted.exit;
+          (reset_length targets cause before.table binding sized ∙ sized) boot.are;
+      run = subst (λ k. AreRun keyed plans k (used_of before) (used_of after) rounds from to) kept boot.run;
+      trail = subst (λ k. KeepsATrail keyed k (used_of before) rounds from to) kept boot.trail;
+      exit = subst (λ k. KeepsAtExit keyed k (used_of before) (used_of after) rounds from to) kept boot.exit;
       stored = λ calm.
           let sure : is_sure after ≡ true =
-          clauses.sure ∙ ap (λ e. not (is_fault e)) booted.end_is ∙ ap not calm in
+          clauses.sure ∙ ap (λ e. not (is_fault e)) boot.end_is ∙ ap not calm in
           subst (λ k. StaysStored keyed k (table_after k rounds) from to) kept
-          (subst (λ k. StaysStored keyed (kept_of before) k from to) (booted.kept sure) (clauses.stored sure));
+          (subst (λ k. StaysStored keyed (kept_of before) k from to) (boot.kept sure) (clauses.stored sure));
       outside = clauses.outside;
       later = clauses.later;
-      starts = subst (AddsStarts plans from to) booted.end_is clauses.starts;
-      start_faults = booted.start_faults;
-      end_cause = subst (HasEndCause plans from to) booted.end_is clauses.end_cause;
+      starts = subst (AddsStarts plans from to) boot.end_is clauses.starts;
+      start_faults = boot.start_faults;
+      end_cause = subst (HasEndCause plans from to) boot.end_is clauses.end_cause;
     }
 
--- ---- the work behind a load that answered Ok
+-- ---- the work after a load that answered Ok
 
 end_gives : (targets : Binding) (table : List ℕ) (rounds : List Round) (given : Result Report Refusal) →
-    GivesEnd targets (end_of targets rounds) given → Gives (booted targets table rounds) given
+    GivesEnd targets (end_of targets rounds) given → Gives (boot_session targets table rounds) given
 end_gives targets table rounds (Ok report) gives = gives
 end_gives targets table rounds (Err refusal) gives = gives
 
@@ -223,7 +223,7 @@ pub boot_out : (keyed : Keyed) (targets : Binding) (cause : Cause) (plans : List
     BootClauses targets cause plans before after mid to end → IsReportOf targets end given →
     IsWorkedOut keyed (Boot targets cause plans) from to given
 boot_out keyed targets cause plans from mid to loaded before after end given geometry many laid clauses used kept binding sized boot report =
-    let found = taken before.table loaded in
+    let found = area_taken before.table loaded in
     let plan : SessionPlan = record { keyed = keyed; work = Boot targets cause plans } in
     let same : loaded_area keyed.layout found ≡ before.table =
     load_area keyed before.table loaded from mid
@@ -236,8 +236,8 @@ boot_out keyed targets cause plans from mid to loaded before after end given geo
     (subst (λ u. IsBootRun (keyed_of before) targets cause plans before.table u mid to saves) used
     (run_is targets cause plans before after mid to end kept binding sized boot))) in
     let are = subst (λ t. AreRounds targets plans (first_table targets cause true t) rounds) (sym same) boot.booted.are in
-    let session : worked plan (Ok found) saves ≡ booted targets (loaded_area keyed.layout found) rounds =
-    boot_session plan targets cause plans found rounds refl are in
+    let session : work_session plan (Ok found) saves ≡ boot_session targets (loaded_area keyed.layout found) rounds =
+    as_boot_session plan targets cause plans found rounds refl are in
     elim report [
       | inl gives ↦ inl (record {
         load = Ok found;

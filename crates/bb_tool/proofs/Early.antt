@@ -1,4 +1,4 @@
--- Sessions that end early: a file that met a fault, and want of memory.
+-- Sessions that end early: a file that met a fault, and refused memory.
 use Rattle.std.proofs.Common.{◌≡◌, ◌⊎◌, ℕ, ◌<◌, is_ok, Bool, true, false, List, [], ◌∷◌, Option, None, Some, Result, Ok, Err, IsErr, refl, sym, ap, subst, ◌∙◌, inl, inr, arith}
 use Rattle.std.specs.List.{list_all}
 use Rattle.bb_base.specs.Folder.{Folder}
@@ -15,9 +15,9 @@ use Rattle.bb_shell.specs.Running.{is_refused}
 use Rattle.bb_shell.specs.declared.outcome.Outcome.{Outcome}
 use Rattle.bb_shell.specs.declared.outcome.Outcome.TheVariants as outcomes
 use Rattle.bb_tool.specs.Booting.{SaveAnswer, answer_to, boots}
-use Rattle.bb_tool.specs.Plan.{Act, Boot, FileAnswers, Good, SessionPlan, Show, Work, Write, names_file, planned}
+use Rattle.bb_tool.specs.Plan.{Act, Boot, FileAnswers, Good, SessionPlan, Show, Work, Write, names_file, plan_by_words}
 use Rattle.bb_tool.specs.Ran.{Ran}
-use Rattle.bb_tool.specs.Session.{Answers, LoadAnswer, Session, barred, followed, loaded_area, saved, saves_behind, text_of, worked}
+use Rattle.bb_tool.specs.Session.{Answers, LoadAnswer, Session, refusal_by_table, session_by, loaded_area, session_of_saves, saves_behind, text_of, work_session}
 use Rattle.bb_tool.specs.Refusal.{status_of}
 use Rattle.bb_tool.specs.Telling.{takes_memory}
 use Rattle.bb_tool.specs.Work.{AreSaved, IsStoreWork, IsWorkOf, SendsByMemory}
@@ -38,7 +38,7 @@ risen before after rose same = omega arith
 plan_risen : (words : List (List ℕ)) (geometry : Geometry) (before after : Folder)
     (answers : FileAnswers) → IsFiled words geometry before after answers →
     (names_file words ≡ false → after ≡ before) → before.faults < after.faults →
-    (named : Bool) → names_file words ≡ named → IsErr (planned words geometry answers)
+    (named : Bool) → names_file words ≡ named → IsErr (plan_by_words words geometry answers)
 plan_risen words geometry before after answers filed unread rose false e =
     absurd (risen before.faults after.faults rose (ap (λ (f : Folder). f.faults) (unread e)))
 plan_risen words geometry before after answers filed unread rose true e =
@@ -47,11 +47,11 @@ plan_risen words geometry before after answers filed unread rose true e =
 
 risen_by : (ran : Ran) (answers : Answers) →
     IsFiled ran.words (geometry_of ran) ran.before.folder ran.after.folder answers.files →
-    IsFollowed (planned ran.words (geometry_of ran) answers.files) ran.before.device
+    IsFollowed (plan_by_words ran.words (geometry_of ran) answers.files) ran.before.device
     ran.after.device answers →
     (names_file ran.words ≡ false → ran.after.folder ≡ ran.before.folder) → StopsAtFileFault ran
 risen_by ran answers filed done unread = λ rose.
-    unasked_by (planned ran.words (geometry_of ran) answers.files) ran.before.device
+    unasked_by (plan_by_words ran.words (geometry_of ran) answers.files) ran.before.device
     ran.after.device answers done
     (plan_risen ran.words (geometry_of ran) ran.before.folder ran.after.folder answers.files filed
     unread rose (names_file ran.words) refl)
@@ -65,7 +65,7 @@ early_of ran (inr memory) unread = λ rose. elim (memory.work) [
   | inr text ↦ risen_by ran text.answers text.answered.filed text.answered.followed unread rose
 ]
 
--- ---- want of memory
+-- ---- refused memory
 
 -- each save answered Ok
 abbrev pub AllMade : List SaveAnswer → Type 0
@@ -73,7 +73,7 @@ AllMade saves = list_all is_ok saves ≡ true
 
 saves_made : (keyed : Keyed) (used : Option ℕ) (text : List ℕ) (areas : List (List ℕ))
     (saves : List SaveAnswer) (from to : Device) → AreSaved keyed used areas from to saves →
-    HasNoFault (saved text areas saves) → AllMade saves
+    HasNoFault (session_of_saves text areas saves) → AllMade saves
 saves_made keyed used text [] saves from to done whole = subst AllMade (sym done.0) refl
 saves_made keyed used text (area ∷ areas) [] from to done whole = absurd done
 saves_made keyed used text (area ∷ areas) (Err fault ∷ saves) from to done whole =
@@ -83,8 +83,8 @@ saves_made keyed used text (area ∷ areas) (Ok made ∷ saves) from to done who
 
 store_made : (plan : SessionPlan) (from to : Device) (found : Option (List ℕ)) (saves : List SaveAnswer) →
     boots plan.work ≡ false → IsStoreWork plan from to (Ok found) saves → (bars : Option Refusal) →
-    barred plan.work (loaded_area plan.keyed.layout found) ≡ bars →
-    HasNoFault (worked plan (Ok found) saves) → AllMade saves
+    refusal_by_table plan.work (loaded_area plan.keyed.layout found) ≡ bars →
+    HasNoFault (work_session plan (Ok found) saves) → AllMade saves
 store_made plan from to found saves store done None bars whole =
     saves_made plan.keyed done.used (text_of plan.keyed.layout plan.work found) (saves_behind plan (Ok found)) saves done.middle to
     done.saved (stored_whole plan found saves store bars whole)
@@ -106,16 +106,16 @@ rounds_made (round ∷ later) all = by round.outcome all.0 (rounds_made later al
 
 pub work_made : (work : Work) (plan : SessionPlan) (from to : Device) (load : LoadAnswer)
     (saves : List SaveAnswer) → plan.work ≡ work → IsWorkOf work plan from to load saves →
-    HasNoFault (worked plan load saves) → AllMade saves
+    HasNoFault (work_session plan load saves) → AllMade saves
 work_made work plan from to (Err fault) saves is done whole =
     absurd (let e : true ≡ false = sym (fault_device fault) ∙ whole in cc)
 work_made Show plan from to (Ok found) saves is done whole = subst AllMade (sym done.none) refl
 work_made (Write area) plan from to (Ok found) saves is done whole =
-    store_made plan from to found saves (ap boots is) done (barred plan.work (loaded_area plan.keyed.layout found)) refl whole
+    store_made plan from to found saves (ap boots is) done (refusal_by_table plan.work (loaded_area plan.keyed.layout found)) refl whole
 work_made (Act actions) plan from to (Ok found) saves is done whole =
-    store_made plan from to found saves (ap boots is) done (barred plan.work (loaded_area plan.keyed.layout found)) refl whole
+    store_made plan from to found saves (ap boots is) done (refusal_by_table plan.work (loaded_area plan.keyed.layout found)) refl whole
 work_made (Good targets) plan from to (Ok found) saves is done whole =
-    store_made plan from to found saves (ap boots is) done (barred plan.work (loaded_area plan.keyed.layout found)) refl whole
+    store_made plan from to found saves (ap boots is) done (refusal_by_table plan.work (loaded_area plan.keyed.layout found)) refl whole
 work_made (Boot targets cause plans) plan from to (Ok found) saves is done whole =
     let run = done.booted in
     let session = boot_is plan targets cause plans found done.used done.middle to saves is run in
@@ -148,18 +148,18 @@ sent_whole session None is sends = done_whole session is
 sent_whole session (Some refusal) is sends = refused_whole session refusal is (line_whole refusal sends)
 
 plan_made : (plan : Result SessionPlan Refusal) (from to : Device) (answers : Answers) →
-    IsFollowed plan from to answers → SendsByMemory (followed plan answers).refusal →
+    IsFollowed plan from to answers → SendsByMemory (session_by plan answers).refusal →
     (to ≡ from) ⊎ AllMade answers.saves
 plan_made (Err refusal) from to answers done whole = inl done
 plan_made (Ok plan) from to answers done whole =
     inr (work_made plan.work plan from to answers.load answers.saves refl done
-    (sent_whole (worked plan answers.load answers.saves) (worked plan answers.load answers.saves).refusal refl whole))
+    (sent_whole (work_session plan answers.load answers.saves) (work_session plan answers.load answers.saves).refusal refl whole))
 
 pub early_memory_of : (ran : Ran) → IsSession ran → StopsBetweenSaves ran
 early_memory_of ran s = λ e. elim ((no_memory_of ran s e).work) [
   | inl same ↦ inl same
   | inr text ↦
-      elim (plan_made (planned ran.words (geometry_of ran) text.answers.files) ran.before.device
+      elim (plan_made (plan_by_words ran.words (geometry_of ran) text.answers.files) ran.before.device
       ran.after.device text.answers text.answered.followed text.whole) [
         | inl same ↦ inl same
         | inr made ↦ inr (record { answers = text.answers; answered = text.answered; made = made })

@@ -40,10 +40,10 @@ use Rattle.bb_tool.specs.Calls.{ComesByDevice, ComesByFiles, ComesByOutlet, Come
 use Rattle.bb_tool.specs.Copying.{KeepsATrail, KeepsAtExit, KeepsOthers}
 use Rattle.bb_tool.specs.Ending.{IsFollowed, IsGiven}
 use Rattle.bb_tool.specs.Booting.{SaveAnswer, boots, end_refusal, rounds_of}
-use Rattle.bb_tool.specs.Plan.{Act, Boot, FileAnswers, Good, SessionPlan, Show, Work, Write, copies_in, files_for, plan_of, planned}
+use Rattle.bb_tool.specs.Plan.{Act, Boot, FileAnswers, Good, SessionPlan, Show, Work, Write, copies_in, files_for, plan_of, plan_by_words}
 use Rattle.bb_tool.specs.Ran.{Ran}
 use Rattle.bb_tool.specs.Refusal.{copy_refusal, line_of, status_of}
-use Rattle.bb_tool.specs.Session.{Answers, LoadAnswer, Session, barred, ended_status, followed, loaded_area, refused_for, saved, saves_behind, saves_of, sent_of, session_of, stored, text_of, unless_barred, worked, worked_on}
+use Rattle.bb_tool.specs.Session.{Answers, LoadAnswer, Session, refusal_by_table, ended_status, session_by, loaded_area, refused_for, session_of_saves, saves_behind, saves_of, sent_of, session_of, saving_session, text_of, unless_barred, work_session, worked_on}
 use Rattle.bb_tool.specs.Telling.{IsCutOff, IsToldBehind, IsToldRefusal}
 use Rattle.bb_tool.specs.Work.{AreSaved, IsBootWork, IsFound, IsLookWork, IsStoreWork, IsWorkOf, SendsByMemory}
 use Rattle.bb_tool.specs.declared.refusal.Refusal.{Refusal}
@@ -101,7 +101,7 @@ fault_work faults.ReadFault = refl
 fault_work (faults.WriteFault copy) = refl
 fault_work faults.Unsure = refl
 
-saved_work : (text : List ℕ) (areas : List (List ℕ)) (saves : List SaveAnswer) → is_work (ended_status (saved text areas saves)) ≡ true
+saved_work : (text : List ℕ) (areas : List (List ℕ)) (saves : List SaveAnswer) → is_work (ended_status (session_of_saves text areas saves)) ≡ true
 saved_work text [] saves = refl
 saved_work text (area ∷ areas) [] = refl
 saved_work text (area ∷ areas) (Err fault ∷ saves) = fault_work fault
@@ -125,9 +125,9 @@ unless_work : (bars : Option Refusal) (session : Session) → ((refusal : Refusa
 unless_work None session each h = h
 unless_work (Some refusal) session each h = each refusal refl
 
-worked_work : (plan : SessionPlan) (load : LoadAnswer) (saves : List SaveAnswer) → is_work (ended_status (worked plan load saves)) ≡ true
+worked_work : (plan : SessionPlan) (load : LoadAnswer) (saves : List SaveAnswer) → is_work (ended_status (work_session plan load saves)) ≡ true
 worked_work plan (Ok found) saves =
-    unless_work (barred plan.work (loaded_area plan.keyed.layout found)) (worked_on plan.work plan found saves)
+    unless_work (refusal_by_table plan.work (loaded_area plan.keyed.layout found)) (worked_on plan.work plan found saves)
     (barred_has (λ refusal. is_work (status_of refusal) ≡ true) (λ place. refl) refl plan.work (loaded_area plan.keyed.layout found))
     (on_work plan.work plan found saves)
 worked_work plan (Err fault) saves = fault_work fault
@@ -136,11 +136,11 @@ not_work : (status other : Status) → is_work status ≡ true → is_work other
 not_work status other first second = λ e. (let h : true ≡ false = sym first ∙ ap is_work e ∙ second in cc)
 
 -- an answer that the work doesn't have is the refusal of the plan
-plan_only : (plan : Result SessionPlan Refusal) (answers : Answers) (answer : Status) → is_work answer ≡ false → ended_status (followed plan answers) ≡ answer → IsRefusedWith answer plan
-plan_only (Ok plan) answers answer other e = absurd (not_work (ended_status (worked plan answers.load answers.saves)) answer (worked_work plan answers.load answers.saves) other e)
+plan_only : (plan : Result SessionPlan Refusal) (answers : Answers) (answer : Status) → is_work answer ≡ false → ended_status (session_by plan answers) ≡ answer → IsRefusedWith answer plan
+plan_only (Ok plan) answers answer other e = absurd (not_work (ended_status (work_session plan answers.load answers.saves)) answer (worked_work plan answers.load answers.saves) other e)
 plan_only (Err refusal) answers answer other e = e
 
-pub plan_ends : (plan : Result SessionPlan Refusal) (answers : Answers) (answer : Status) → IsRefusedWith answer plan → ended_status (followed plan answers) ≡ answer
+pub plan_ends : (plan : Result SessionPlan Refusal) (answers : Answers) (answer : Status) → IsRefusedWith answer plan → ended_status (session_by plan answers) ≡ answer
 plan_ends (Ok plan) answers answer refused = absurd refused
 plan_ends (Err refusal) answers answer refused = refused
 
@@ -153,7 +153,7 @@ refused_memory a plan is refused = sym (subst (IsRefusedWith a) is refused)
 
 -- ---- words and plans
 
-words_always : (command : Result Command ℕ) (geometry : Geometry) → IsErr command → (answers : Answers) → ended_status (followed (plan_of command geometry answers.files) answers) ≡ statuses.BadWords
+words_always : (command : Result Command ℕ) (geometry : Geometry) → IsErr command → (answers : Answers) → ended_status (session_by (plan_of command geometry answers.files) answers) ≡ statuses.BadWords
 words_always (Err place) geometry refused answers = refl
 words_always (Ok command) geometry refused answers = absurd cc
 
@@ -161,21 +161,21 @@ pub bad_words_of : (ran : Ran) → IsSession ran → ComesByWords statuses.BadWo
 bad_words_of ran s = record {
   only = λ e.
       let own = own_answer ran statuses.BadWords s (λ h. cc) (λ h. cc) e in
-      words_refused (words_of ran.words) (geometry_of ran) own.ending.answers.files (plan_only (planned ran.words (geometry_of ran) own.ending.answers.files) own.ending.answers statuses.BadWords refl own.own);
+      words_refused (words_of ran.words) (geometry_of ran) own.ending.answers.files (plan_only (plan_by_words ran.words (geometry_of ran) own.ending.answers.files) own.ending.answers statuses.BadWords refl own.own);
   always = λ refused. comes_always ran statuses.BadWords s (words_always (words_of ran.words) (geometry_of ran) refused);
 }
 
 always_planned : (ran : Ran) → IsSession ran → (answer : Status) → (files : FileMap) → ran.before.folder.told ≡ Some files → IsRefusedWith answer (plan_over ran files) → (ran.status ≡ answer) ⊎ ((ran.status ≡ statuses.SinkFault) ⊎ ((ran.status ≡ statuses.NoMemory) ⊎ (ran.status ≡ statuses.FileFault)))
 always_planned ran (inr memory) answer files told refused = elim (told_cases _ statuses.NoMemory ran.before.outlet ran.after.outlet ran.status memory.told) [ inl e ↦ inr (inr (inl e)) | inr other ↦ elim other [ inl sink ↦ inr (inl sink) | inr e ↦ inr (inr (inl e)) ] ]
 always_planned ran (inl ending) answer files told refused =
-    let plan = planned ran.words (geometry_of ran) ending.answers.files in
+    let plan = plan_by_words ran.words (geometry_of ran) ending.answers.files in
     elim (told_cases _ _ ran.before.outlet ran.after.outlet ran.status ending.told) [
       | inr other ↦ elim other [ inl sink ↦ inr (inl sink) | inr e ↦ inr (inr (inl e)) ]
       | inl own ↦ elim (same_plan ran.words (geometry_of ran) ran.before.folder ran.after.folder ending.answers.files ending.answered.filed files told) [
         | inl same ↦ inl (own ∙ plan_ends plan ending.answers answer (subst (IsRefusedWith answer) (sym same) refused))
         | inr odd ↦ elim odd [
           | inl fault ↦ inr (inr (inr (own ∙ plan_ends plan ending.answers statuses.FileFault fault)))
-          | inr memory ↦ inr (inr (inl (own ∙ ap (λ (p : Result SessionPlan Refusal). ended_status (followed p ending.answers)) memory)))
+          | inr memory ↦ inr (inr (inl (own ∙ ap (λ (p : Result SessionPlan Refusal). ended_status (session_by p ending.answers)) memory)))
         ]
       ]
     ]
@@ -186,7 +186,7 @@ comes_planned ran s answer other first second third = λ files told. record {
   only = λ e.
       let own = own_answer ran answer s first second e in
       let answers = own.ending.answers in
-      let plan = planned ran.words (geometry_of ran) answers.files in
+      let plan = plan_by_words ran.words (geometry_of ran) answers.files in
       let refused = plan_only plan answers answer other own.own in
       elim (same_plan ran.words (geometry_of ran) ran.before.folder ran.after.folder answers.files own.ending.answered.filed files told) [
         | inl same ↦ subst (IsRefusedWith answer) same refused
@@ -201,14 +201,14 @@ comes_planned ran s answer other first second third = λ files told. record {
 -- and where the words name no file, over any
 pub comes_alone : (ran : Ran) → IsSession ran → (answer : Status) → is_work answer ≡ false → answer ≢ statuses.SinkFault → answer ≢ statuses.NoMemory → ComesByPlanAlone answer ran
 comes_alone ran s answer other first second = λ none files.
-    let same : (read : FileAnswers) → planned ran.words (geometry_of ran) read ≡ plan_over ran files = λ read. alone_plan (words_of ran.words) (geometry_of ran) read (files_for ran.words (geometry_of ran) files) none in
+    let same : (read : FileAnswers) → plan_by_words ran.words (geometry_of ran) read ≡ plan_over ran files = λ read. alone_plan (words_of ran.words) (geometry_of ran) read (files_for ran.words (geometry_of ran) files) none in
     record {
       only = λ e.
           let own = own_answer ran answer s first second e in
           let answers = own.ending.answers in
-          subst (IsRefusedWith answer) (same answers.files) (plan_only (planned ran.words (geometry_of ran) answers.files) answers answer other own.own);
+          subst (IsRefusedWith answer) (same answers.files) (plan_only (plan_by_words ran.words (geometry_of ran) answers.files) answers answer other own.own);
       always = λ refused. comes_always ran answer s
-          (λ answers. plan_ends (planned ran.words (geometry_of ran) answers.files) answers answer (subst (IsRefusedWith answer) (sym (same answers.files)) refused));
+          (λ answers. plan_ends (plan_by_words ran.words (geometry_of ran) answers.files) answers answer (subst (IsRefusedWith answer) (sym (same answers.files)) refused));
     }
 
 pub file_fault_of : (ran : Ran) → IsSession ran → ran.before.folder.faults ≤ ran.after.folder.faults → ComesByFiles statuses.FileFault ran
@@ -217,7 +217,7 @@ file_fault_of ran s later = record {
   rose = λ e.
       let own = own_answer ran statuses.FileFault s (λ h. cc) (λ h. cc) e in
       let files = own.ending.answers.files in
-      let refused = plan_only (planned ran.words (geometry_of ran) files) own.ending.answers statuses.FileFault refl own.own in
+      let refused = plan_only (plan_by_words ran.words (geometry_of ran) files) own.ending.answers statuses.FileFault refl own.own in
       let named = faulty_words ran.words (geometry_of ran) files (words_of ran.words) refl refused in
       elim named [
         | inl file ↦ own.ending.answered.filed.cause file.role file.name file.named file.fault
@@ -249,14 +249,14 @@ unasked_by (Ok plan) before after answers followed_so refused = absurd cc
 unasked_by (Err refusal) before after answers followed_so refused = followed_so
 
 -- a refusal of the plan comes without any call of the device
-planning_refused : (plan : Result SessionPlan Refusal) (answers : Answers) → is_planning (ended_status (followed plan answers)) ≡ true → IsErr plan
-planning_refused (Ok plan) answers h = absurd (planning_work (ended_status (worked plan answers.load answers.saves)) (worked_work plan answers.load answers.saves) h)
+planning_refused : (plan : Result SessionPlan Refusal) (answers : Answers) → is_planning (ended_status (session_by plan answers)) ≡ true → IsErr plan
+planning_refused (Ok plan) answers h = absurd (planning_work (ended_status (work_session plan answers.load answers.saves)) (worked_work plan answers.load answers.saves) h)
 planning_refused (Err refusal) answers h = refl
 
 pub unasked_of : (ran : Ran) → IsSession ran → is_planning ran.status ≡ true → ran.after.device ≡ ran.before.device
 unasked_of ran s h =
     let own = own_answer ran ran.status s (λ e. (let n : true ≡ false = sym h ∙ ap is_planning e in cc)) (λ e. (let n : true ≡ false = sym h ∙ ap is_planning e in cc)) refl in
-    unasked_by (planned ran.words (geometry_of ran) own.ending.answers.files) ran.before.device ran.after.device own.ending.answers own.ending.answered.followed (planning_refused (planned ran.words (geometry_of ran) own.ending.answers.files) own.ending.answers (ap is_planning own.own ∙ h))
+    unasked_by (plan_by_words ran.words (geometry_of ran) own.ending.answers.files) ran.before.device ran.after.device own.ending.answers own.ending.answered.followed (planning_refused (plan_by_words ran.words (geometry_of ran) own.ending.answers.files) own.ending.answers (ap is_planning own.own ∙ h))
 
 -- ---- a fault of the device
 
@@ -345,7 +345,7 @@ pub record IsFault (keyed : Keyed) (from to : Device) (refusal : Refusal) : Type
 pub none_some : {X : Type 0} → (x : X) → ◌≡◌ {A = Option X} None (Some x) → ⊥
 none_some x h = cc
 
-saves_fault : (keyed : Keyed) (used : Option ℕ) (text : List ℕ) (areas : List (List ℕ)) (saves : List SaveAnswer) (from to : Device) (refusal : Refusal) → 2 ≤ keyed.layout.copies → ((copy : ℕ) → used ≡ Some copy → copy < length (laid_kinds keyed.layout)) → AreSaved keyed used areas from to saves → (saved text areas saves).refusal ≡ Some refusal → IsFault keyed from to refusal
+saves_fault : (keyed : Keyed) (used : Option ℕ) (text : List ℕ) (areas : List (List ℕ)) (saves : List SaveAnswer) (from to : Device) (refusal : Refusal) → 2 ≤ keyed.layout.copies → ((copy : ℕ) → used ≡ Some copy → copy < length (laid_kinds keyed.layout)) → AreSaved keyed used areas from to saves → (session_of_saves text areas saves).refusal ≡ Some refusal → IsFault keyed from to refusal
 saves_fault keyed used text [] saves from to refusal many inside saved_so h = absurd (none_some refusal h)
 saves_fault keyed used text (area ∷ areas) [] from to refusal many inside saved_so h = absurd saved_so
 saves_fault keyed used text (area ∷ areas) (Err fault ∷ saves) from to refusal many inside saved_so h = record {
@@ -361,7 +361,7 @@ saved_later keyed used [] saves from to saved_so = subst (λ (d : Device). (from
 saved_later keyed used (area ∷ areas) [] from to saved_so = absurd saved_so
 saved_later keyed used (area ∷ areas) (answer ∷ saves) from to saved_so = (saved_so.0.runs.later.faults, saved_so.0.runs.later.read_faults)
 
-store_fault : (plan : SessionPlan) (from to : Device) (load : LoadAnswer) (saves : List SaveAnswer) (refusal : Refusal) → boots plan.work ≡ false → is_device_fault (status_of refusal) ≡ true → IsStoreWork plan from to load saves → (worked plan load saves).refusal ≡ Some refusal → IsFault plan.keyed from to refusal
+store_fault : (plan : SessionPlan) (from to : Device) (load : LoadAnswer) (saves : List SaveAnswer) (refusal : Refusal) → boots plan.work ≡ false → is_device_fault (status_of refusal) ≡ true → IsStoreWork plan from to load saves → (work_session plan load saves).refusal ≡ Some refusal → IsFault plan.keyed from to refusal
 store_fault plan from to (Err fault) saves refusal store device work h =
     let later = saved_later plan.keyed work.used [] saves work.middle to work.saved in
     record {
@@ -373,22 +373,22 @@ store_fault plan from to (Ok found) saves refusal store device work h =
     let gave = work.loaded.gives in
     let fault = saves_fault plan.keyed work.used (text_of plan.keyed.layout plan.work found) (saves_behind plan (Ok found)) saves work.middle to refusal work.many
     (λ copy is. used_inside plan.keyed work.used copy from work.middle found gave.area gave.loaded gave.gave (sym gave.used_is ∙ is)) work.saved
-    (stored_refusal plan found saves refusal store device h (barred plan.work (loaded_area plan.keyed.layout found)) refl) in
+    (stored_refusal plan found saves refusal store device h (refusal_by_table plan.work (loaded_area plan.keyed.layout found)) refl) in
     record {
       fault = fault.fault;
       is = fault.is;
       tells = tells_from plan.keyed from work.middle to fault.fault fault.tells work.loaded.later.faults work.loaded.later.read_faults;
     }
 
-look_fault : (keyed : Keyed) (text : Option (List ℕ) → List ℕ) (from to : Device) (load : LoadAnswer) (refusal : Refusal) (plan : SessionPlan) (saves : List SaveAnswer) → is_device_fault (status_of refusal) ≡ true → plan.work ≡ Show → IsLookWork plan from to load saves → (worked plan load saves).refusal ≡ Some refusal → IsFault plan.keyed from to refusal
+look_fault : (keyed : Keyed) (text : Option (List ℕ) → List ℕ) (from to : Device) (load : LoadAnswer) (refusal : Refusal) (plan : SessionPlan) (saves : List SaveAnswer) → is_device_fault (status_of refusal) ≡ true → plan.work ≡ Show → IsLookWork plan from to load saves → (work_session plan load saves).refusal ≡ Some refusal → IsFault plan.keyed from to refusal
 look_fault keyed text from to (Err fault) refusal plan saves device shows work h = record {
   fault = fault;
   is = same_Some refusal (copy_refusal fault) (sym h);
   tells = look_tells plan.keyed from to fault work.looked.fails (work.looked.faults.rose refl) (work.looked.read_faults.rose refl);
 }
 look_fault keyed text from to (Ok found) refusal plan saves device shows work h =
-    absurd (none_some refusal (sym (ap (λ (w : Work). (saved (text_of plan.keyed.layout plan.work found) (saves_of plan.keyed.layout w (loaded_area plan.keyed.layout found)) saves).refusal) shows)
-    ∙ stored_refusal plan found saves refusal (ap boots shows) device h (barred plan.work (loaded_area plan.keyed.layout found)) refl))
+    absurd (none_some refusal (sym (ap (λ (w : Work). (session_of_saves (text_of plan.keyed.layout plan.work found) (saves_of plan.keyed.layout w (loaded_area plan.keyed.layout found)) saves).refusal) shows)
+    ∙ stored_refusal plan found saves refusal (ap boots shows) device h (refusal_by_table plan.work (loaded_area plan.keyed.layout found)) refl))
 
 -- ---- a fault in a boot
 
@@ -417,9 +417,9 @@ abbrev IsThere : Keyed → Option ℕ → Type 0
 IsThere keyed used = (copy : ℕ) → used ≡ Some copy → copy < length (laid_kinds keyed.layout)
 
 stored_there : (keyed : Keyed) (table : List ℕ) (now : Option ℕ) (from to : Device) → IsStored keyed table now from to → IsThere keyed now
-stored_there keyed table now from to stored copy is =
-    let same : stored.saved.used ≡ copy = same_Some stored.saved.used copy (sym stored.saved.is ∙ is) in
-    subst (λ k. k < length (laid_kinds keyed.layout)) same stored.saved.exit.inside
+stored_there keyed table now from to saving_session copy is =
+    let same : saving_session.saved.used ≡ copy = same_Some saving_session.saved.used copy (sym saving_session.saved.is ∙ is) in
+    subst (λ k. k < length (laid_kinds keyed.layout)) same saving_session.saved.exit.inside
 
 module _ (keyed : Keyed) (many : 2 ≤ keyed.layout.copies) where
   save_there : (kept : List ℕ) (used now : Option ℕ) (table : List ℕ) (refusal : Option CopyFault) (from to : Device) →
@@ -443,10 +443,10 @@ module _ (keyed : Keyed) (many : 2 ≤ keyed.layout.copies) where
   round_fault : (plans : List (Option StartPlan)) (kept : List ℕ) (used now : Option ℕ) (round : Round) (from to : Device) (fault : CopyFault) →
       IsRoundRun keyed plans kept used now round from to → round.outcome ≡ outcomes.Refused fault → IsThere keyed used → FaultTells keyed from to fault
   round_fault plans kept used now round from to fault run is inside =
-      let saved : IsSaveRun keyed kept used now round.table (Some fault) from run.middle =
+      let save_run : IsSaveRun keyed kept used now round.table (Some fault) from run.middle =
       subst (λ r. IsSaveRun keyed kept used now round.table r from run.middle) (ap refusal_of is) run.saved in
       let later = start_later (plan_at plans round.target) round.outcome run.middle to run.tried in
-      tells_on keyed from run.middle to fault (save_fault kept used now round.table fault from run.middle saved inside) later.faults later.read_faults
+      tells_on keyed from run.middle to fault (save_fault kept used now round.table fault from run.middle save_run inside) later.faults later.read_faults
 
   run_fault : (plans : List (Option StartPlan)) (rounds : List Round) (kept : List ℕ) (used now : Option ℕ) (from to : Device) (fault : CopyFault) →
       StopsRefused rounds → AreRun keyed plans kept used now rounds from to → IsRefusedLast rounds fault → IsThere keyed used → FaultTells keyed from to fault
@@ -478,7 +478,7 @@ end_fault targets (ends.StartFailed target tries) refusal device h =
     absurd (let e : false ≡ true = ap (λ r. is_device_fault (status_of r)) (same_Some (refusals.StartFailed _) refusal h) ∙ device in cc)
 end_fault targets (ends.Fault fault) refusal device h = (fault, (refl, same_Some refusal (copy_refusal fault) (sym h)))
 
-boot_fault : (plan : SessionPlan) (targets : Binding) (cause : Cause) (plans : List (Option StartPlan)) (from to : Device) (load : LoadAnswer) (saves : List SaveAnswer) (refusal : Refusal) → is_device_fault (status_of refusal) ≡ true → plan.work ≡ Boot targets cause plans → IsBootWork targets cause plans plan from to load saves → (worked plan load saves).refusal ≡ Some refusal → IsFault plan.keyed from to refusal
+boot_fault : (plan : SessionPlan) (targets : Binding) (cause : Cause) (plans : List (Option StartPlan)) (from to : Device) (load : LoadAnswer) (saves : List SaveAnswer) (refusal : Refusal) → is_device_fault (status_of refusal) ≡ true → plan.work ≡ Boot targets cause plans → IsBootWork targets cause plans plan from to load saves → (work_session plan load saves).refusal ≡ Some refusal → IsFault plan.keyed from to refusal
 boot_fault plan targets cause plans from to (Err fault) saves refusal device is work h = record {
   fault = fault;
   is = same_Some refusal (copy_refusal fault) (sym h);
@@ -502,7 +502,7 @@ boot_fault plan targets cause plans from to (Ok found) saves refusal device is w
           work.loaded.later.faults work.loaded.later.read_faults;
     }
 
-pub work_fault : (work : Work) (plan : SessionPlan) (from to : Device) (load : LoadAnswer) (saves : List SaveAnswer) (refusal : Refusal) → is_device_fault (status_of refusal) ≡ true → plan.work ≡ work → IsWorkOf work plan from to load saves → (worked plan load saves).refusal ≡ Some refusal → IsFault plan.keyed from to refusal
+pub work_fault : (work : Work) (plan : SessionPlan) (from to : Device) (load : LoadAnswer) (saves : List SaveAnswer) (refusal : Refusal) → is_device_fault (status_of refusal) ≡ true → plan.work ≡ work → IsWorkOf work plan from to load saves → (work_session plan load saves).refusal ≡ Some refusal → IsFault plan.keyed from to refusal
 work_fault Show plan from to load saves refusal device is work h = look_fault plan.keyed (text_of plan.keyed.layout Show) from to load refusal plan saves device is work h
 work_fault (Write area) plan from to load saves refusal device is work h = store_fault plan from to load saves refusal (ap boots is) device work h
 work_fault (Act actions) plan from to load saves refusal device is work h = store_fault plan from to load saves refusal (ap boots is) device work h
@@ -522,9 +522,9 @@ some_refusal : (refused : Option Refusal) (answer : Status) → answer ≢ statu
 some_refusal None answer other e = absurd (other (sym e))
 some_refusal (Some refusal) answer other e = (refusal, (refl, e))
 
-plan_fault : (plan : Result SessionPlan Refusal) (from to : Device) (answers : Answers) (answer : Status) → answer ≢ statuses.Done → is_device_fault answer ≡ true → (IsRefusedWith answer plan → ⊥) → IsFollowed plan from to answers → ended_status (followed plan answers) ≡ answer → IsFaulted plan from to (followed plan answers) answer
+plan_fault : (plan : Result SessionPlan Refusal) (from to : Device) (answers : Answers) (answer : Status) → answer ≢ statuses.Done → is_device_fault answer ≡ true → (IsRefusedWith answer plan → ⊥) → IsFollowed plan from to answers → ended_status (session_by plan answers) ≡ answer → IsFaulted plan from to (session_by plan answers) answer
 plan_fault (Ok plan) from to answers answer other device none work h =
-    let some = some_refusal (worked plan answers.load answers.saves).refusal answer other h in
+    let some = some_refusal (work_session plan answers.load answers.saves).refusal answer other h in
     record {
       planned_as = plan;
       plan_is = refl;
@@ -535,9 +535,9 @@ plan_fault (Ok plan) from to answers answer other device none work h =
     }
 plan_fault (Err refusal) from to answers answer other device none work h = absurd (none h)
 
-faulted : (ran : Ran) (answer : Status) → answer ≢ statuses.Done → is_device_fault answer ≡ true → (own : IsOwn ran answer) → (IsRefusedWith answer (planned ran.words (geometry_of ran) own.ending.answers.files) → ⊥) → IsFaulted (planned ran.words (geometry_of ran) own.ending.answers.files) ran.before.device ran.after.device (session_for ran own.ending.answers) answer
+faulted : (ran : Ran) (answer : Status) → answer ≢ statuses.Done → is_device_fault answer ≡ true → (own : IsOwn ran answer) → (IsRefusedWith answer (plan_by_words ran.words (geometry_of ran) own.ending.answers.files) → ⊥) → IsFaulted (plan_by_words ran.words (geometry_of ran) own.ending.answers.files) ran.before.device ran.after.device (session_for ran own.ending.answers) answer
 faulted ran answer other device own none =
-    plan_fault (planned ran.words (geometry_of ran) own.ending.answers.files) ran.before.device ran.after.device own.ending.answers answer other device none own.ending.answered.followed own.own
+    plan_fault (plan_by_words ran.words (geometry_of ran) own.ending.answers.files) ran.before.device ran.after.device own.ending.answers answer other device none own.ending.answered.followed own.own
 
 read_told : (keyed : Keyed) (from to : Device) (fault : CopyFault) → status_of (copy_refusal fault) ≡ statuses.ReadFault → FaultTells keyed from to fault → Rose from.read_faults to.read_faults
 read_told keyed from to faults.ReadFault h tells = tells.1
@@ -568,7 +568,7 @@ named_copy keyed from to refusal faults.ReadFault is tells h = absurd (let n : s
 named_copy keyed from to refusal (faults.WriteFault copy) is tells h = record { copy = copy; is = is; inside = tells.1; rose = tells.0 }
 named_copy keyed from to refusal faults.Unsure is tells h = absurd tells
 
-write_named : (ran : Ran) (own : IsOwn ran statuses.WriteFault) → (fault : IsFaulted (planned ran.words (geometry_of ran) own.ending.answers.files) ran.before.device ran.after.device (session_for ran own.ending.answers) statuses.WriteFault) × IsNamed fault.planned_as.keyed ran.before.device ran.after.device fault.refusal
+write_named : (ran : Ran) (own : IsOwn ran statuses.WriteFault) → (fault : IsFaulted (plan_by_words ran.words (geometry_of ran) own.ending.answers.files) ran.before.device ran.after.device (session_for ran own.ending.answers) statuses.WriteFault) × IsNamed fault.planned_as.keyed ran.before.device ran.after.device fault.refusal
 write_named ran own =
     let fault = faulted ran statuses.WriteFault (λ h. cc) refl own (plan_refusal statuses.WriteFault refl (words_of ran.words) (geometry_of ran) own.ending.answers.files) in
     (fault, named_copy fault.planned_as.keyed ran.before.device ran.after.device fault.refusal fault.fault.fault fault.fault.is fault.fault.tells fault.status_is)
@@ -610,7 +610,7 @@ beside ran session answers plan answered is =
     keeps_outside plan ran.before.device ran.after.device answers.load answers.saves
     (subst (λ (p : Result SessionPlan Refusal). IsFollowed p ran.before.device ran.after.device answers) is answered.followed)
 
--- ---- want of memory
+-- ---- refused memory
 
 refusal_memory : (refusal : Refusal) → status_of refusal ≡ statuses.NoMemory → refusal ≡ refusals.NoMemory
 refusal_memory (refusals.BadWords place) h = absurd cc
@@ -631,13 +631,13 @@ refusal_memory (refusals.BadKey e) h = absurd cc
 refusal_memory (refusals.NoGood place) h = absurd cc
 refusal_memory refusals.NoMemory h = refl
 
--- the plan was refused for want of memory
+-- the plan was refused since memory was
 record IsMemoryPlan (from to : Device) (session : Session) : Type 0 where
   is : session ≡ refused_for refusals.NoMemory
   unasked : to ≡ from
 
-plan_memory : (plan : Result SessionPlan Refusal) (from to : Device) (answers : Answers) → IsFollowed plan from to answers → ended_status (followed plan answers) ≡ statuses.NoMemory → IsMemoryPlan from to (followed plan answers)
-plan_memory (Ok plan) from to answers work h = absurd (not_work (ended_status (worked plan answers.load answers.saves)) statuses.NoMemory (worked_work plan answers.load answers.saves) refl h)
+plan_memory : (plan : Result SessionPlan Refusal) (from to : Device) (answers : Answers) → IsFollowed plan from to answers → ended_status (session_by plan answers) ≡ statuses.NoMemory → IsMemoryPlan from to (session_by plan answers)
+plan_memory (Ok plan) from to answers work h = absurd (not_work (ended_status (work_session plan answers.load answers.saves)) statuses.NoMemory (worked_work plan answers.load answers.saves) refl h)
 plan_memory (Err refusal) from to answers work h = record {
   is = ap refused_for (refusal_memory refusal h);
   unasked = work;
@@ -647,7 +647,7 @@ pub no_memory_of : (ran : Ran) → IsSession ran → ran.status ≡ statuses.NoM
 no_memory_of ran (inr memory) e = memory
 no_memory_of ran (inl ending) e =
     let own = told_memory _ _ ran.before.outlet ran.after.outlet ran.status ending.told e in
-    let memory = plan_memory (planned ran.words (geometry_of ran) ending.answers.files) ran.before.device ran.after.device ending.answers ending.answered.followed own in
+    let memory = plan_memory (plan_by_words ran.words (geometry_of ran) ending.answers.files) ran.before.device ran.after.device ending.answers ending.answered.followed own in
     record {
       told = subst (λ (session : Session). Tells ran (sent_of session) (ended_status session)) memory.is ending.told;
       work = inl memory.unasked;
@@ -655,11 +655,11 @@ no_memory_of ran (inl ending) e =
 
 -- ---- an output that failed
 
-plan_sink : (plan : Result SessionPlan Refusal) (answers : Answers) → (IsRefusedWith statuses.SinkFault plan → ⊥) → ended_status (followed plan answers) ≢ statuses.SinkFault
+plan_sink : (plan : Result SessionPlan Refusal) (answers : Answers) → (IsRefusedWith statuses.SinkFault plan → ⊥) → ended_status (session_by plan answers) ≢ statuses.SinkFault
 plan_sink plan answers none = λ e. none (plan_only plan answers statuses.SinkFault refl e)
 
 session_sink : (words : List (List ℕ)) (geometry : Geometry) (answers : Answers) → ended_status (session_of words geometry answers) ≢ statuses.SinkFault
-session_sink words geometry answers = plan_sink (planned words geometry answers.files) answers (plan_refusal statuses.SinkFault refl (words_of words) geometry answers.files)
+session_sink words geometry answers = plan_sink (plan_by_words words geometry answers.files) answers (plan_refusal statuses.SinkFault refl (words_of words) geometry answers.files)
 
 cut_off : (ran : Ran) (ending : IsAnswered ran) → ran.status ≡ statuses.SinkFault → IsCutOff (sent_of (session_for ran ending.answers)) (ended_status (session_for ran ending.answers)) ran.before.outlet ran.after.outlet ran.status
 cut_off ran ending e = told_front _ _ ran.before.outlet ran.after.outlet ran.status ending.told (session_sink ran.words (geometry_of ran) ending.answers) e
@@ -690,7 +690,7 @@ ok_err x y h = cc
 err_same : (one two : Refusal) → ◌≡◌ {A = Result Report Refusal} (Err one) (Err two) → one ≡ two
 err_same one two h = cc
 
--- the line of want of memory was told
+-- the line of refused memory was told
 memory_told : (ran : Ran) (refusal : Refusal) → refusal ≡ refusals.NoMemory → IsToldRefusal refusal ran.before.outlet ran.after.outlet ran.status → Tells ran (line_of refusals.NoMemory) statuses.NoMemory
 memory_told ran refusal same (inl told) = subst (λ (r : Refusal). Tells ran (line_of r) (status_of r)) same told
 memory_told ran refusal same (inr memory) = memory.1

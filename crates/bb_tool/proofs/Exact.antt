@@ -12,7 +12,7 @@ use Rattle.std.proofs.lemmas.Slice.Eq.{bytes_eq-Decides}
 use Rattle.bb_base.specs.Faults.{Rose}
 use Rattle.bb_base.specs.Form.{Form}
 use Rattle.bb_bucket.specs.Calls.{but_reads, told_but_reads}
-use Rattle.bb_bucket.specs.Kind.{Kind, part_of}
+use Rattle.bb_bucket.specs.Kind.{BucketKind, part_of}
 use Rattle.bb_copies.specs.Loading.{IsAllKept, IsExact}
 use Rattle.bb_copies.specs.Passing.{passing_of}
 use Rattle.bb_copies.specs.Saving.{EachWritten}
@@ -40,10 +40,10 @@ use Rattle.bb_tool.specs.Ending.{IsFollowed}
 use Rattle.bb_tool.specs.Exactly.{EndsAlike, LeavesExactly, LeavesRegions, PassAlike, is_fresh, last_area, last_of, loaded_region, saved_region, worked_region}
 use Rattle.bb_tool.specs.Looking.{first_found, passed_in}
 use Rattle.bb_tool.specs.Booting.{SaveAnswer}
-use Rattle.bb_tool.specs.Plan.{Act, Boot, Good, SessionPlan, Show, Work, Write, planned}
+use Rattle.bb_tool.specs.Plan.{Act, Boot, Good, SessionPlan, Show, Work, Write, plan_by_words}
 use Rattle.bb_tool.specs.Ran.{Ran}
-use Rattle.bb_tool.specs.Session.{Answers, LoadAnswer, Session, loaded_area, saves_behind, worked}
-use Rattle.bb_tool.specs.Work.{AreSaved, IsBootWork, IsFound, IsLoadedAs, IsStoreWork, IsWork, IsWorkOf, taken}
+use Rattle.bb_tool.specs.Session.{Answers, LoadAnswer, Session, loaded_area, saves_behind, work_session}
+use Rattle.bb_tool.specs.Work.{AreSaved, IsBootWork, IsFound, IsLoadedAs, IsStoreWork, IsWork, IsWorkOf, area_taken}
 use Rattle.bb_tool.specs.declared.refusal.Refusal.{Refusal}
 use Rattle.bb_tool.proofs.Endings.{rose_by, rose_from, rose_on, saved_later}
 use Rattle.bb_tool.proofs.Turns.{some_of, told_content}
@@ -70,7 +70,7 @@ fresh_so worn passed area is sound =
     ∙ ap (λ p. option_map_or (λ q. bytes_eq q area) p false) is
     ∙ (bytes_eq-Decides area area).1 refl
 
-module _ (form : Form) (page : ℕ) (kind : Kind) (area : List ℕ) (before after : Image) where
+module _ (form : Form) (page : ℕ) (kind : BucketKind) (area : List ℕ) (before after : Image) where
   abbrev Region : Image
   Region = part_of page kind.region before
 
@@ -166,7 +166,7 @@ module _ (keyed : Keyed) (from mid : Device) (calm : IsUndisturbed from mid) (x 
       LeavesRegions (laid_kinds keyed.layout) page (λ kind region. loaded_region (laid_form keyed) kind found region) x y
 
   found_left : (area : List ℕ) (loaded : Loaded) → IsFound keyed area loaded from mid →
-      LeftBy (taken area loaded)
+      LeftBy (area_taken area loaded)
   found_left area (Copy used live) found = λ copy kind there.
       exact_region (laid_form keyed) page kind area x y (found.exact calm x e y f copy kind there)
   found_left area NoCopy found = λ copy kind there.
@@ -178,7 +178,7 @@ module _ (keyed : Keyed) (from mid : Device) (calm : IsUndisturbed from mid) (x 
   loaded_left used found gave = subst LeftBy (sym gave.taken) (found_left gave.area gave.loaded gave.gave)
 
   found_alike : (area : List ℕ) (loaded : Loaded) → IsFound keyed area loaded from mid →
-      PassAlike keyed page (taken area loaded) x y
+      PassAlike keyed page (area_taken area loaded) x y
   found_alike area (Copy used live) found =
       all_kept keyed area used live from mid found.gives.exit calm y f
   found_alike area NoCopy found = found_left area NoCopy found
@@ -417,7 +417,7 @@ record IsDone (work : Work) (plan : SessionPlan) (from : Device) (found : Option
   alike : PassAlike plan.keyed from.geometry.page (last_area work plan found saves) x z
 
 work_done : (work : Work) (plan : SessionPlan) (from to : Device) (found : Option (List ℕ)) (saves : List SaveAnswer) → plan.work ≡ work →
-    IsWorkOf work plan from to (Ok found) saves → HasNoFault (worked plan (Ok found) saves) → IsUndisturbed from to → (x z : Image) →
+    IsWorkOf work plan from to (Ok found) saves → HasNoFault (work_session plan (Ok found) saves) → IsUndisturbed from to → (x z : Image) →
     content from ≡ Some x → content to ≡ Some z → IsDone work plan from found saves x z
 work_done Show plan from to found saves is work whole calm x z e f =
     let same : z ≡ x =
@@ -455,10 +455,10 @@ plan_done : (plan : SessionPlan) (from to : Device) (load : LoadAnswer) (saves :
     content from ≡ Some x → content to ≡ Some z →
     IsDone plan.work plan from (first_found (passed_in plan.keyed from.geometry.page x)) saves x z
 plan_done plan from to (Err fault) saves work calm x z e f =
-    let whole = unrefused plan from to (Err fault) saves work calm (worked plan (Err fault) saves).refusal refl in
+    let whole = unrefused plan from to (Err fault) saves work calm (work_session plan (Err fault) saves).refusal refl in
     absurd (let h : true ≡ false = sym (fault_device fault) ∙ whole in cc)
 plan_done plan from to (Ok found) saves work calm x z e f =
-    let whole = unrefused plan from to (Ok found) saves work calm (worked plan (Ok found) saves).refusal refl in
+    let whole = unrefused plan from to (Ok found) saves work calm (work_session plan (Ok found) saves).refusal refl in
     subst (λ o. IsDone plan.work plan from o saves x z) (work_gives plan.work plan from to found saves work x e)
     (work_done plan.work plan from to found saves refl work whole calm x z e f)
 
@@ -476,10 +476,10 @@ alike_by (Ok plan) from to answers done calm = λ x e z f.
 
 pub written_of : (ran : Ran) → IsSession ran → WritesExactly ran
 written_of ran session = λ calm answers answered.
-    left_by (planned ran.words (geometry_of ran) answers.files) ran.before.device ran.after.device
+    left_by (plan_by_words ran.words (geometry_of ran) answers.files) ran.before.device ran.after.device
     answers answered.followed calm
 
 pub alike_of : (ran : Ran) → IsSession ran → MakesAlike ran
 alike_of ran session = λ calm answers answered.
-    alike_by (planned ran.words (geometry_of ran) answers.files) ran.before.device ran.after.device
+    alike_by (plan_by_words ran.words (geometry_of ran) answers.files) ran.before.device ran.after.device
     answers answered.followed calm

@@ -21,7 +21,7 @@ use Rattle.bb_tool.specs.Looking.{first_found, look_text}
 use Rattle.bb_tool.specs.Marking.{good_text, lost_place}
 use Rattle.bb_tool.specs.Plan.{Boot, FileAnswers, SessionPlan, plans_in}
 use Rattle.bb_tool.specs.Refusal.{line_of}
-use Rattle.bb_tool.specs.Session.{done_with, refused_for, sent_of, session_of, worked}
+use Rattle.bb_tool.specs.Session.{done_with, refused_for, sent_of, session_of, work_session}
 use Rattle.bb_tool.specs.Turns.{boot_turn}
 use Rattle.bb_tool.specs.declared.refusal.Refusal.TheVariants.{BadSettings, BadWords, BadLayout, BadVariable, FileFault, FileMissing, FileTooLong, NoGood, NoTarget, ReadFault, StartFailed, WriteFault}
 
@@ -210,12 +210,12 @@ module _ (keyed : Keyed) where
   booting targets plans = record { keyed = keyed; work = Boot targets Other plans }
 
   -- the first start spends an attempt of the best target, and saves that
-  starts : worked (booting (two_targets false false) both) (Ok (Some (two 3 3 0))) (Ok true ∷ [])
+  starts : work_session (booting (two_targets false false) both) (Ok (Some (two 3 3 0))) (Ok true ∷ [])
       ≡ record {
         text = codes "start a left 2 tries 1\n";
         refusal = None;
         saves = two 2 3 1 ∷ [];
-        rounds = (worked (booting (two_targets false false) both) (Ok (Some (two 3 3 0))) (Ok true ∷ [])).rounds;
+        rounds = (work_session (booting (two_targets false false) both) (Ok (Some (two 3 3 0))) (Ok true ∷ [])).rounds;
       }
   unfolding rounds_by digits
   starts = refl
@@ -227,35 +227,35 @@ module _ (keyed : Keyed) where
   turn_of_a_start = refl
 
   -- where the start fails the target is named behind the text
-  fails : sent_of (worked (booting (two_targets false false) both) (Ok (Some (two 3 3 0))) (Ok false ∷ []))
+  fails : sent_of (work_session (booting (two_targets false false) both) (Ok (Some (two 3 3 0))) (Ok false ∷ []))
       ≡ codes "tries 1\nfault 11 StartFailed a\n"
   unfolding rounds_by digits
   fails = refl
 
   -- no entry has a kernel: each attempt is tried
-  tries_all : worked (booting (two_targets true false) (None ∷ None ∷ [])) (Ok (Some (two 3 3 0)))
+  tries_all : work_session (booting (two_targets true false) (None ∷ None ∷ [])) (Ok (Some (two 3 3 0)))
       (Ok false ∷ Ok false ∷ Ok false ∷ Ok false ∷ Ok false ∷ Ok false ∷ [])
       ≡ record {
         text = codes "tries 6\n";
         refusal = Some (StartFailed (codes "b"));
         saves = two 2 3 1 ∷ two 1 3 1 ∷ two 0 3 1 ∷ two 0 2 2 ∷ two 0 1 2 ∷ two 0 0 2 ∷ [];
-        rounds = (worked (booting (two_targets true false) (None ∷ None ∷ [])) (Ok (Some (two 3 3 0)))
+        rounds = (work_session (booting (two_targets true false) (None ∷ None ∷ [])) (Ok (Some (two 3 3 0)))
             (Ok false ∷ Ok false ∷ Ok false ∷ Ok false ∷ Ok false ∷ Ok false ∷ [])).rounds;
       }
   unfolding rounds_by digits
   tries_all = refl
 
   -- no attempt is left, and nothing is saved
-  none_left : worked (booting (two_targets true false) both) (Ok (Some (two 0 0 2))) [] ≡ refused_for NoTarget
+  none_left : work_session (booting (two_targets true false) both) (Ok (Some (two 0 0 2))) [] ≡ refused_for NoTarget
   unfolding rounds_by
   none_left = refl
 
-  line_of_none_left : sent_of (worked (booting (two_targets true false) both) (Ok (Some (two 0 0 2))) []) ≡ codes "fault 10 NoTarget\n"
+  line_of_none_left : sent_of (work_session (booting (two_targets true false) both) (Ok (Some (two 0 0 2))) []) ≡ codes "fault 10 NoTarget\n"
   unfolding rounds_by digits
   line_of_none_left = refl
 
   -- a save that is refused comes before its start
-  not_saved : sent_of (worked (booting (two_targets true false) both) (Ok (Some (two 3 3 0))) (Err (faults.WriteFault 1) ∷ []))
+  not_saved : sent_of (work_session (booting (two_targets true false) both) (Ok (Some (two 3 3 0))) (Err (faults.WriteFault 1) ∷ []))
       ≡ codes "fault 9 WriteFault 1\n"
   unfolding rounds_by digits
   not_saved = refl
@@ -266,7 +266,7 @@ module _ (keyed : Keyed) where
   turn_of_one_not_saved = refl
 
   -- the reset gives back what the last start spent, so that the spent table is stored already
-  nothing_to_save : (worked (record { keyed = keyed; work = Boot (two_targets false true) PowerOn both }) (Ok (Some (two 2 3 1))) (Ok true ∷ [])).saves ≡ []
+  nothing_to_save : (work_session (record { keyed = keyed; work = Boot (two_targets false true) PowerOn both }) (Ok (Some (two 2 3 1))) (Ok true ∷ [])).saves ≡ []
   unfolding rounds_by digits
   nothing_to_save = refl
 

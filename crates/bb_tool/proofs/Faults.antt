@@ -5,7 +5,7 @@ use Rattle.std.specs.Str.{bytes_eq}
 use Rattle.std.specs.Prelude.{Contains, slice_get, option_and_then}
 use Rattle.std.proofs.lemmas.Option.{same_Some, slice_get-map}
 use Rattle.bb_base.specs.Form.{Form}
-use Rattle.bb_bucket.specs.Kind.{Kind}
+use Rattle.bb_bucket.specs.Kind.{BucketKind}
 use Rattle.bb_copies.specs.Passing.{passes_at, passing_of, passings}
 use Rattle.bb_copies.specs.Refreshing.{IsStuckAt}
 use Rattle.bb_copies.specs.Saving as saving
@@ -37,11 +37,11 @@ use Rattle.bb_tool.specs.Ending.{IsFollowed}
 use Rattle.bb_tool.specs.Looking.{first_found, passed_in}
 use Rattle.bb_tool.specs.Booting.{SaveAnswer, boots, plans_of}
 use Rattle.bb_tool.specs.Exactly.{saves_made}
-use Rattle.bb_tool.specs.Plan.{Act, Boot, Good, SessionPlan, Show, Work, Write, planned}
+use Rattle.bb_tool.specs.Plan.{Act, Boot, Good, SessionPlan, Show, Work, Write, plan_by_words}
 use Rattle.bb_tool.specs.Ran.{Ran}
 use Rattle.bb_tool.specs.Refusal.{copy_refusal, status_of}
-use Rattle.bb_tool.specs.Session.{Answers, LoadAnswer, Session, barred, followed, loaded_area, saved, saves_behind, saves_of, text_of, worked}
-use Rattle.bb_tool.specs.Work.{AreSaved, IsBootWork, IsLoaded, IsLoadedAs, IsStoreWork, IsWorkOf, taken}
+use Rattle.bb_tool.specs.Session.{Answers, LoadAnswer, Session, refusal_by_table, session_by, loaded_area, session_of_saves, saves_behind, saves_of, text_of, work_session}
+use Rattle.bb_tool.specs.Work.{AreSaved, IsBootWork, IsLoaded, IsLoadedAs, IsStoreWork, IsWorkOf, area_taken}
 use Rattle.bb_tool.specs.WriteFault.{IsUsed, IsWanted, IsWriteFault}
 use Rattle.bb_tool.specs.declared.refusal.Refusal.{Refusal}
 use Rattle.bb_tool.specs.declared.refusal.Refusal.TheVariants as refusals
@@ -57,17 +57,17 @@ rise_from : (rise first middle last : ℕ) → first ≤ middle → RoseBy rise 
     RoseBy rise first last
 rise_from rise first middle last more rose = omega arith
 
-no_copy : (form : Form) (page : ℕ) (kinds : List Kind) (copy : ℕ) (image : Image) →
+no_copy : (form : Form) (page : ℕ) (kinds : List BucketKind) (copy : ℕ) (image : Image) →
     slice_get kinds copy ≡ None → passes_at (passings form page kinds image) copy ≡ None
 no_copy form page kinds copy image e =
-    let f : Kind → Option (List ℕ) = λ kind. passing_of form page kind image in
+    let f : BucketKind → Option (List ℕ) = λ kind. passing_of form page kind image in
     ap (option_and_then (λ (area : Option (List ℕ)). area))
     (slice_get-map f kinds copy ∙ ap (option_map f) e)
 
 -- what the copy of a number passes, where each kind at that number passes nothing
-passes_none : (form : Form) (page : ℕ) (kinds : List Kind) (copy : ℕ) (image : Image)
-    (there : Option Kind) → slice_get kinds copy ≡ there →
-    ((kind : Kind) → slice_get kinds copy ≡ Some kind → passing_of form page kind image ≡ None) →
+passes_none : (form : Form) (page : ℕ) (kinds : List BucketKind) (copy : ℕ) (image : Image)
+    (there : Option BucketKind) → slice_get kinds copy ≡ there →
+    ((kind : BucketKind) → slice_get kinds copy ≡ Some kind → passing_of form page kind image ≡ None) →
     passes_at (passings form page kinds image) copy ≡ None
 passes_none form page kinds copy image None e none = no_copy form page kinds copy image e
 passes_none form page kinds copy image (Some kind) e none =
@@ -85,7 +85,7 @@ module _ (plan : SessionPlan) (from : Device) where
   abbrev page : ℕ
   page = from.geometry.page
 
-  abbrev kinds : List Kind
+  abbrev kinds : List BucketKind
   kinds = laid_kinds plan.keyed.layout
 
   abbrev form : Form
@@ -131,11 +131,11 @@ module _ (plan : SessionPlan) (from : Device) where
   -- ---- by a save
 
   nothing_taken : (used : Option ℕ) (found : Option (List ℕ)) (area : List ℕ) (loaded : Loaded) →
-      used ≡ used_after loaded → used ≡ None → found ≡ taken area loaded → found ≡ None
+      used ≡ used_after loaded → used ≡ None → found ≡ area_taken area loaded → found ≡ None
   nothing_taken used found area (Copy first live) is none so = absurd cc
   nothing_taken used found area NoCopy is none so = so
 
-  -- of this area, behind a load that answered Ok and what came behind it, with `used` in use
+  -- of this area, after a load that answered Ok and what came behind it, with `used` in use
   saved_fault : (found : Option (List ℕ)) (answers : List SaveAnswer) (used : Option ℕ) (area : List ℕ) (copy : ℕ)
       (mid to : Device) → Contains (saves_made plan.work plan found answers) area →
       IsLater from mid → IsLater mid to → (used ≡ Some copy → IsUsed plan from mid (Ok found) copy) →
@@ -208,7 +208,7 @@ record IsExplained (plan : SessionPlan) (from to : Device) (load : LoadAnswer) (
   is : refusal ≡ copy_refusal fault
   explains : Explains plan from to load answers fault
 
--- behind a load that took no copy none was found
+-- after a load that took no copy none was found
 lost_load : (plan : SessionPlan) (from mid : Device) (used : Option ℕ) (found : Option (List ℕ)) → IsLoadedAs plan.keyed used from mid found →
     used ≡ None → found ≡ None
 lost_load plan from mid used found gave none =
@@ -243,7 +243,7 @@ saves_explain : (plan : SessionPlan) (used : Option ℕ) (from mid to : Device) 
     (answers : List SaveAnswer) (text : List ℕ) (areas : List (List ℕ)) (saves : List SaveAnswer) (refusal : Refusal) →
     saves_made plan.work plan found answers ≡ areas → IsLoaded plan.keyed used from mid (Ok found) →
     AreSaved plan.keyed used areas mid to saves →
-    (saved text areas saves).refusal ≡ Some refusal → IsExplained plan from to (Ok found) answers refusal
+    (session_of_saves text areas saves).refusal ≡ Some refusal → IsExplained plan from to (Ok found) answers refusal
 saves_explain plan used from mid to found answers text [] saves refusal is loaded done h =
     absurd (none_some refusal h)
 saves_explain plan used from mid to found answers text (area ∷ areas) [] refusal is loaded done h =
@@ -263,7 +263,7 @@ saves_explain plan used from mid to found answers text (area ∷ (other ∷ area
 
 store_explains : (plan : SessionPlan) (from to : Device) (load : LoadAnswer) (saves : List SaveAnswer)
     (refusal : Refusal) → boots plan.work ≡ false → is_device_fault (status_of refusal) ≡ true →
-    IsStoreWork plan from to load saves → (worked plan load saves).refusal ≡ Some refusal →
+    IsStoreWork plan from to load saves → (work_session plan load saves).refusal ≡ Some refusal →
     IsExplained plan from to load saves refusal
 store_explains plan from to (Err fault) saves refusal store device work h = record {
   fault = fault;
@@ -277,7 +277,7 @@ store_explains plan from to (Ok found) saves refusal store device work h =
     saves_explain plan work.used from work.middle to found saves (text_of plan.keyed.layout plan.work found)
     (saves_behind plan (Ok found)) saves refusal (behind_made plan.work plan found saves store) work.loaded work.saved
     (stored_refusal plan found saves refusal store device h
-    (barred plan.work (loaded_area plan.keyed.layout found)) refl)
+    (refusal_by_table plan.work (loaded_area plan.keyed.layout found)) refl)
 
 look_explains : (plan : SessionPlan) (from to : Device) (load : LoadAnswer) (answers : List SaveAnswer) (fault : CopyFault) →
     fault ≡ faults.ReadFault → content to ≡ content from → Explains plan from to load answers fault
@@ -355,11 +355,11 @@ module _ (plan : SessionPlan) (targets : Binding) (cause : Cause) (plans : List 
       Explains plan from device (Ok found) answers fault
   unfolding AreRun
   last_explains kept now copy here device round reached run refused =
-      let saved : IsSaveRun plan.keyed kept now copy round.table (Some fault) here run.middle =
+      let save_run : IsSaveRun plan.keyed kept now copy round.table (Some fault) here run.middle =
       subst (λ r. IsSaveRun plan.keyed kept now copy round.table r here run.middle) (ap refusal_of refused) run.saved in
       let alone : device ≡ run.middle =
       subst (λ o. IsTried (plan_at plans round.target) o run.middle device) refused run.tried in
-      subst (λ d. Explains plan from d (Ok found) answers fault) (sym alone) (by saved (bytes_eq round.table kept) refl)
+      subst (λ d. Explains plan from d (Ok found) answers fault) (sym alone) (by save_run (bytes_eq round.table kept) refl)
     where
       uses : (copy' : ℕ) → now ≡ Some copy' → IsUsed plan from here (Ok found) copy'
       uses copy' same = record {
@@ -377,9 +377,9 @@ module _ (plan : SessionPlan) (targets : Binding) (cause : Cause) (plans : List 
 
       by : IsSaveRun plan.keyed kept now copy round.table (Some fault) here run.middle → (same : Bool) → bytes_eq round.table kept ≡ same →
           Explains plan from run.middle (Ok found) answers fault
-      by saved true e = absurd (none_some fault (sym (saved.idle e).done))
-      by saved false e =
-          let begun = saved.begun e in
+      by save_run true e = absurd (none_some fault (sym (save_run.idle e).done))
+      by save_run false e =
+          let begun = save_run.begun e in
           save_explains plan from found answers now round.table here run.middle fault
           (reached.wants round.table
           (subst (λ areas. Contains areas round.table) (sym (ap (map (λ (r : Round). r.table)) (begun_saving kept round [] e))) (0, omega arith, refl)))
@@ -408,7 +408,7 @@ module _ (plan : SessionPlan) (targets : Binding) (cause : Cause) (plans : List 
 
 boot_explains : (plan : SessionPlan) (targets : Binding) (cause : Cause) (plans : List (Option StartPlan)) (from to : Device) (load : LoadAnswer)
     (saves : List SaveAnswer) (refusal : Refusal) → is_device_fault (status_of refusal) ≡ true → plan.work ≡ Boot targets cause plans →
-    IsBootWork targets cause plans plan from to load saves → (worked plan load saves).refusal ≡ Some refusal →
+    IsBootWork targets cause plans plan from to load saves → (work_session plan load saves).refusal ≡ Some refusal →
     IsExplained plan from to load saves refusal
 boot_explains plan targets cause plans from to (Err fault) saves refusal device is work h = record {
   fault = fault;
@@ -445,7 +445,7 @@ boot_explains plan targets cause plans from to (Ok found) saves refusal device i
 work_explains : (work : Work) (plan : SessionPlan) (from to : Device) (load : LoadAnswer)
     (saves : List SaveAnswer) (refusal : Refusal) → is_device_fault (status_of refusal) ≡ true →
     plan.work ≡ work → IsWorkOf work plan from to load saves →
-    (worked plan load saves).refusal ≡ Some refusal → IsExplained plan from to load saves refusal
+    (work_session plan load saves).refusal ≡ Some refusal → IsExplained plan from to load saves refusal
 work_explains Show plan from to (Err fault) saves refusal device is work h = record {
   fault = fault;
   is = same_Some refusal (copy_refusal fault) (sym h);
@@ -456,10 +456,10 @@ work_explains Show plan from to (Err fault) saves refusal device is work h = rec
 work_explains Show plan from to (Ok found) saves refusal device is work h =
     absurd
     (none_some refusal
-    (sym (ap (λ (w : Work). (saved (text_of plan.keyed.layout plan.work found)
+    (sym (ap (λ (w : Work). (session_of_saves (text_of plan.keyed.layout plan.work found)
     (saves_of plan.keyed.layout w (loaded_area plan.keyed.layout found)) saves).refusal) is)
     ∙ stored_refusal plan found saves refusal (ap boots is) device h
-    (barred plan.work (loaded_area plan.keyed.layout found)) refl))
+    (refusal_by_table plan.work (loaded_area plan.keyed.layout found)) refl))
 work_explains (Write area) plan from to load saves refusal device is work h =
     store_explains plan from to load saves refusal (ap boots is) device work h
 work_explains (Act actions) plan from to load saves refusal device is work h =
@@ -489,7 +489,7 @@ read_fault plan from to load answers faults.Unsure is explains = absurd explains
 
 read_by : (plan : Result SessionPlan Refusal) (from to : Device) (answers : Answers) →
     IsFollowed plan from to answers →
-    (followed plan answers).refusal ≡ Some refusals.ReadFault → content to ≡ content from
+    (session_by plan answers).refusal ≡ Some refusals.ReadFault → content to ≡ content from
 read_by (Err refusal) from to answers done h = ap content done
 read_by (Ok plan) from to answers done h =
     let is = work_explains plan.work plan from to answers.load answers.saves refusals.ReadFault refl refl done h in
@@ -497,12 +497,12 @@ read_by (Ok plan) from to answers done h =
 
 pub unread_of : (ran : Ran) → IsSession ran → LeavesUnread ran
 unread_of ran session = λ answers answered h.
-    read_by (planned ran.words (geometry_of ran) answers.files) ran.before.device ran.after.device
+    read_by (plan_by_words ran.words (geometry_of ran) answers.files) ran.before.device ran.after.device
     answers answered.followed h
 
 write_by : (given : Result SessionPlan Refusal) (plan : SessionPlan) (from to : Device) (answers : Answers) →
     given ≡ Ok plan → IsFollowed given from to answers → (copy : ℕ) →
-    (followed given answers).refusal ≡ Some (refusals.WriteFault copy) →
+    (session_by given answers).refusal ≡ Some (refusals.WriteFault copy) →
     IsWriteFault plan from to answers.load answers.saves copy
 write_by (Err refusal) plan from to answers is done copy h = absurd cc
 write_by (Ok other) plan from to answers is done copy h =
@@ -513,5 +513,5 @@ write_by (Ok other) plan from to answers is done copy h =
 
 pub write_faults_of : (ran : Ran) → IsSession ran → KnowsWriteFaults ran
 write_faults_of ran session answers plan answered is =
-    write_by (planned ran.words (geometry_of ran) answers.files) plan ran.before.device
+    write_by (plan_by_words ran.words (geometry_of ran) answers.files) plan ran.before.device
     ran.after.device answers is answered.followed

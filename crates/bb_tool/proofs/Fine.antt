@@ -18,7 +18,7 @@ use Rattle.bb_shell.proofs.Answering.{best_is, best_none}
 use Rattle.bb_shell.proofs.Reached.{StopsRefused, stops_refused}
 use Rattle.bb_tool.specs.Booting.{end_refusal, round_answer}
 use Rattle.bb_tool.specs.Refusal.{status_of}
-use Rattle.bb_tool.specs.Session.{booted, ended_status}
+use Rattle.bb_tool.specs.Session.{boot_session, ended_status}
 use Rattle.bb_tool.specs.declared.status.Status.TheVariants as statuses
 use Rattle.bb_tool.proofs.Barred.{HasNoFault, fault_device, is_device_fault}
 use Rattle.bb_tool.proofs.BootTurns.{RefusedLast}
@@ -54,7 +54,7 @@ refused_ends targets tries round outcomes.Failed e = absurd cc
 refused_ends targets tries round outcomes.Started e = absurd cc
 
 refused_fault : (targets : Binding) (table : List ℕ) (rounds : List Round) → RefusedLast rounds →
-    is_device_fault (ended_status (booted targets table rounds)) ≡ true
+    is_device_fault (ended_status (boot_session targets table rounds)) ≡ true
 refused_fault targets table rounds last =
     ap
     (λ (o : Option Round). is_device_fault (option_map_or status_of
@@ -63,7 +63,7 @@ refused_fault targets table rounds last =
     ∙ refused_ends targets (length rounds) last.0 last.0.outcome last.1.1
 
 pub all_saved : (targets : Binding) (plans : List (Option StartPlan)) (table : List ℕ) (rounds : List Round) (first : List ℕ) →
-    AreRounds targets plans first rounds → HasNoFault (booted targets table rounds) → AllSaved rounds
+    AreRounds targets plans first rounds → HasNoFault (boot_session targets table rounds) → AllSaved rounds
 all_saved targets plans table rounds first are whole =
     none_refused rounds (stops_refused targets plans first rounds are)
     (λ last. let e : true ≡ false = sym (refused_fault targets table rounds last) ∙ whole in cc)

@@ -30,9 +30,9 @@ use Rattle.bb_words.specs.declared.error.WordsError.{WordsError}
 use Rattle.bb_words.specs.declared.error.WordsError.TheVariants.{BadWord, NoMemory}
 use Rattle.bb_tool.specs.Ending.{IsAnswer, IsFollowed, IsGiven}
 use Rattle.bb_tool.specs.Filing.{AreEntries, AreRead, IsAnswerFor, IsFiled, IsFileRead, IsFolderLater, IsStateRead, entries_named}
-use Rattle.bb_tool.specs.Plan.{Act, Boot, Described, FileAnswer, FileAnswers, Good, Key, SessionPlan, Role, Settings, Tree, Work, binding_in, boot_bound, boot_described, boot_keyed, boot_plan, cause_of, described_by, entries_for, key_named, keyed_by, mark_described, mark_keyed, mark_plan, name_for, plan_of, planned, plans_in, raw_laid, raw_work, settings_named, state_described, state_plan}
+use Rattle.bb_tool.specs.Plan.{Act, Boot, Described, FileAnswer, FileAnswers, Good, Key, SessionPlan, Role, Settings, Tree, Work, binding_in, boot_bound, boot_described, boot_keyed, boot_plan, cause_of, described_by, entries_for, key_named, keyed_by, mark_described, mark_keyed, mark_plan, name_for, plan_of, plan_by_words, plans_in, raw_laid, raw_work, settings_named, state_described, state_plan}
 use Rattle.bb_tool.specs.Refusal.{layout_refusal, words_refusal}
-use Rattle.bb_tool.specs.Session.{Answers, followed}
+use Rattle.bb_tool.specs.Session.{Answers, session_by}
 use Rattle.bb_tool.specs.Work.{Gives, IsWorkedOut, SendsByMemory}
 use Rattle.bb_tool.specs.declared.refusal.Refusal.{Refusal}
 use Rattle.bb_tool.specs.declared.refusal.Refusal.TheVariants as refusals
@@ -46,7 +46,7 @@ no_answers files = record { files = files; load = Ok None; saves = [] }
 -- nothing was asked of the device, since the plan was refused
 given_refused : (words : List (List ℕ)) (folder folder' : Folder) (files : FileAnswers) (device : Device)
     (refusal : Refusal) → IsFiled words device.geometry folder folder' files →
-    planned words device.geometry files ≡ Err refusal →
+    plan_by_words words device.geometry files ≡ Err refusal →
     IsAnswer words folder folder' device device (Err refusal)
 unfolding no_answers
 given_refused words folder folder' files device refusal filed refused =
@@ -60,7 +60,7 @@ given_refused words folder folder' files device refusal filed refused =
             refl;
       };
       gives =
-          subst (λ (p : Result SessionPlan Refusal). Gives (followed p answers) (Err refusal))
+          subst (λ (p : Result SessionPlan Refusal). Gives (session_by p answers) (Err refusal))
           (sym refused) (refl, refl);
     }
 
@@ -168,7 +168,7 @@ given_layout words folder device command e is refused = elim (layout_cases e) [
 given_worked : (words : List (List ℕ)) (folder folder' : Folder) (files : FileAnswers)
     (before after : Device) (keyed : Keyed) (work : Work) (given : Result Report Refusal) →
     IsFiled words before.geometry folder folder' files →
-    planned words before.geometry files ≡ Ok (record { keyed = keyed; work = work }) →
+    plan_by_words words before.geometry files ≡ Ok (record { keyed = keyed; work = work }) →
     IsWorkedOut keyed work before after given → IsGiven words folder folder' before after given
 given_worked words folder folder' files before after keyed work given filed is (inl done) =
     let answers : Answers = record { files = files; load = done.load; saves = done.saves } in
@@ -181,7 +181,7 @@ given_worked words folder folder' files before after keyed work given filed is (
             done.work;
       };
       gives =
-          subst (λ (p : Result SessionPlan Refusal). Gives (followed p answers) given) (sym is) done.gives;
+          subst (λ (p : Result SessionPlan Refusal). Gives (session_by p answers) given) (sym is) done.gives;
     })
 given_worked words folder folder' files before after keyed work given filed is (inr (inl text)) =
     let answers : Answers = record { files = files; load = text.load; saves = text.saves } in
@@ -194,7 +194,7 @@ given_worked words folder folder' files before after keyed work given filed is (
             text.work;
       };
       whole =
-          subst (λ (p : Result SessionPlan Refusal). SendsByMemory (followed p answers).refusal) (sym is) text.whole;
+          subst (λ (p : Result SessionPlan Refusal). SendsByMemory (session_by p answers).refusal) (sym is) text.whole;
       is = text.is;
     }))
 given_worked words folder folder' files before after keyed work given filed is (inr (inr memory)) =
@@ -328,7 +328,7 @@ module _ (words : List (List ℕ)) (command : StateCommand) (is : words_of words
       (ap (λ (w : Result Command ℕ). entries_for w geometry (roles_read tree key (Err FileMemory))) is))
 
   state_planned : (device : Device) → device.geometry ≡ geometry →
-      planned words device.geometry (unset_read tree key) ≡ state_plan command geometry tree key
+      plan_by_words words device.geometry (unset_read tree key) ≡ state_plan command geometry tree key
   unfolding roles_read
   state_planned device here =
       ap (λ (w : Result Command ℕ). plan_of w device.geometry (unset_read tree key)) is
@@ -359,7 +359,7 @@ module _ (words : List (List ℕ)) (command : MarkGoodCommand)
   mark_none named = ap (λ (w : Result Command ℕ). entries_for w geometry named) is
 
   mark_planned : (settings : FileAnswer) (device : Device) → device.geometry ≡ geometry →
-      planned words device.geometry (all_read tree key settings []) ≡ mark_plan command geometry tree key settings
+      plan_by_words words device.geometry (all_read tree key settings []) ≡ mark_plan command geometry tree key settings
   unfolding roles_read
   mark_planned settings device here =
       ap (λ (w : Result Command ℕ). plan_of w device.geometry (all_read tree key settings [])) is
@@ -422,7 +422,7 @@ module _ (words : List (List ℕ)) (command : BootCommand)
   boot_names settings = ap (λ (w : Result Command ℕ). entries_for w geometry (roles_read tree key settings)) is
 
   boot_planned : (settings : FileAnswer) (entries : List FileAnswer) (device : Device) → device.geometry ≡ geometry →
-      planned words device.geometry (all_read tree key settings entries) ≡ boot_plan command geometry tree key settings entries
+      plan_by_words words device.geometry (all_read tree key settings entries) ≡ boot_plan command geometry tree key settings entries
   unfolding roles_read
   boot_planned settings entries device here =
       ap (λ (w : Result Command ℕ). plan_of w device.geometry (all_read tree key settings entries)) is
@@ -482,7 +482,7 @@ module _ (words : List (List ℕ)) (command : BootCommand)
 
       -- what the plans of the entries make of it
       planned_by : (device : Device) → device.geometry ≡ geometry →
-          planned words device.geometry (all_read tree key settings read.entries)
+          plan_by_words words device.geometry (all_read tree key settings read.entries)
           ≡ boot_bound command read.entries keyed targets
       planned_by device here =
           boot_planned settings read.entries device here

@@ -7,7 +7,7 @@ use Rattle.bb_base.specs.Folder.{FileMap, Folder, file_of}
 use Rattle.bb_base.specs.declared.files.FileFail.TheVariants as file_fails
 use Rattle.bb_chooser.specs.Binding.{Binding}
 use Rattle.bb_chooser.specs.declared.settings_error.SettingsError.{SettingsError}
-use Rattle.bb_dts.specs.Source.{Read, source_of}
+use Rattle.bb_dts.specs.Source.{source_of}
 use Rattle.bb_dts.specs.declared.error.DtsError.{DtsError}
 use Rattle.bb_fdt.specs.Reading.{blob_of}
 use Rattle.bb_fdt.specs.declared.error.FdtError.{FdtError}
@@ -39,7 +39,7 @@ use Rattle.bb_tree.specs.Blob.{Devicetree}
 use Rattle.bb_tree.specs.Node.{Branch}
 use Rattle.bb_tool.specs.Calls.{IsRefusedWith}
 use Rattle.bb_tool.specs.Filing.{AreEntries, EachNamed, IsAnswerFor, IsFiled}
-use Rattle.bb_tool.specs.Plan.{Act, Boot, Described, FileAnswer, FileAnswers, Good, Key, SessionPlan, Role, Settings, Tree, binding_in, blob_root, block_by, block_in, boot_bound, boot_described, boot_keyed, boot_plan, bound_in, bytes_in, cause_of, described_by, entries_for, files_for, files_of, fit_by, has_file, is_blob, key_for, key_in, key_named, key_of_laid, keyed_by, keyed_in, laid_by, layout_by, mark_described, mark_keyed, mark_plan, name_for, plan_of, plan_refusal as refusal_for, planned, plans_in, raw_laid, raw_plan, read_named, refused_as, settings_named, source_root, state_described, state_keyed, state_plan, tree_in}
+use Rattle.bb_tool.specs.Plan.{Act, Boot, Described, FileAnswer, FileAnswers, Good, Key, SessionPlan, Role, Settings, Tree, binding_in, blob_root, block_by, block_in, boot_bound, boot_described, boot_keyed, boot_plan, bound_in, bytes_in, cause_of, described_by, entries_for, files_for, files_of, fit_by, has_file, is_blob, key_for, key_in, key_named, key_of_laid, keyed_by, keyed_in, laid_by, layout_by, mark_described, mark_keyed, mark_plan, name_for, plan_of, plan_refusal as refusal_for, plan_by_words, plans_in, raw_laid, raw_plan, read_named, refused_as, settings_named, source_root, state_described, state_keyed, state_plan, tree_in}
 use Rattle.bb_tool.specs.declared.refusal.Refusal.{Refusal}
 use Rattle.bb_tool.specs.declared.refusal.Refusal.TheVariants as refusals
 use Rattle.bb_tool.specs.Refusal.{status_of}
@@ -112,7 +112,7 @@ module _ (P : Refusal → Type 0) where
             then_all (λ (tree : Devicetree). Ok tree.root) (refused_as refusals.BadBlob (blob_of bytes))
             (as_all refusals.BadBlob (blob_of bytes) holds.blob) (λ tree. tt)
         by false =
-            then_all (λ (tree : Read). Ok tree.root) (refused_as refusals.BadTree (source_of bytes))
+            then_all (λ (tree : Devicetree). Ok tree.root) (refused_as refusals.BadTree (source_of bytes))
             (as_all refusals.BadTree (source_of bytes) holds.tree) (λ tree. tt)
 
     layout_all : (name : Option (List ℕ)) (geometry : Geometry) (bytes : List ℕ) →
@@ -583,9 +583,9 @@ plan_is plan told (inl same) = inl same
 plan_is plan told (inr (inl fault)) = inr (inl (refused_at plan fault))
 plan_is plan told (inr (inr memory)) = inr (inr memory)
 
-pub same_plan : (words : List (List ℕ)) (geometry : Geometry) (folder folder' : Folder) (answers : FileAnswers) → IsFiled words geometry folder folder' answers → (files : FileMap) → folder.told ≡ Some files → IsPlanOf (planned words geometry answers) (planned words geometry (files_for words geometry files))
+pub same_plan : (words : List (List ℕ)) (geometry : Geometry) (folder folder' : Folder) (answers : FileAnswers) → IsFiled words geometry folder folder' answers → (files : FileMap) → folder.told ≡ Some files → IsPlanOf (plan_by_words words geometry answers) (plan_by_words words geometry (files_for words geometry files))
 same_plan words geometry folder folder' answers filed files told =
-    plan_is (planned words geometry answers) (planned words geometry (files_for words geometry files))
+    plan_is (plan_by_words words geometry answers) (plan_by_words words geometry (files_for words geometry files))
     (named_file (words_of words) words refl geometry folder folder' answers filed files told)
 
 -- ---- files that met a fault

@@ -1,8 +1,8 @@
 -- What a load and a save make of one worked stride of 64 bytes, by computation alone.
 use Rattle.std.proofs.Common.{◌≡◌, ℕ, List, [], ◌∷◌, ◌++◌, replicate, refl, codes, Some, None}
-use Rattle.bb_base.specs.Crc.{divided, divided_8, after_byte}
+use Rattle.bb_base.specs.Crc.{after_bit, after_eight_bits, after_byte}
 use Rattle.bb_base.specs.Form.{Form}
-use Rattle.bb_bucket.specs.Kind.{Kind}
+use Rattle.bb_bucket.specs.Kind.{BucketKind}
 use Rattle.bb_bucket.specs.Stride.{stride_kind}
 use Rattle.bb_flash.specs.declared.health.Health.{Health}
 use Rattle.bb_flash.specs.declared.health.Health.TheVariants.{Fine, Worn}
@@ -14,7 +14,7 @@ use Rattle.bb_tool.specs.Exactly.{last_of, loaded_region, saved_region}
 form : Form
 form = any_form (Raw (record { magic = 0x12345678; area_len = 9; key = None }))
 
-kind : Kind
+kind : BucketKind
 kind = stride_kind (record { at = 0; size = 64 })
 
 -- the front and the record of the area `123456789` under the magic 0x12345678
@@ -35,22 +35,22 @@ stored health = record {
 }
 
 a_load_writes_a_blank_copy : loaded_region form kind (Some (codes "123456789")) blank ≡ stored Fine
-unfolding after_byte divided_8 divided form kind entry blank stored
+unfolding after_byte after_eight_bits after_bit form kind entry blank stored
 a_load_writes_a_blank_copy = refl
 
 a_load_leaves_a_copy_that_passes : loaded_region form kind (Some (codes "123456789")) (stored Fine) ≡ stored Fine
-unfolding after_byte divided_8 divided form kind entry stored
+unfolding after_byte after_eight_bits after_bit form kind entry stored
 a_load_leaves_a_copy_that_passes = refl
 
 a_load_writes_a_copy_with_a_worn_page : loaded_region form kind (Some (codes "123456789")) (stored Worn) ≡ stored Fine
-unfolding after_byte divided_8 divided form kind entry stored
+unfolding after_byte after_eight_bits after_bit form kind entry stored
 a_load_writes_a_copy_with_a_worn_page = refl
 
 a_load_that_took_none_writes_nothing : loaded_region form kind None (stored Worn) ≡ stored Worn
 a_load_that_took_none_writes_nothing = refl
 
 a_save_writes_each_copy : saved_region form kind (codes "123456789" ∷ []) (stored Worn) ≡ stored Fine
-unfolding after_byte divided_8 divided form kind entry stored
+unfolding after_byte after_eight_bits after_bit form kind entry stored
 a_save_writes_each_copy = refl
 
 the_last_save_counts : last_of (Some (codes "a")) (codes "b" ∷ codes "c" ∷ []) ≡ Some (codes "c")

@@ -7,7 +7,7 @@ use Rattle.std.proofs.lemmas.Bool.{eqb-true}
 use Rattle.std.proofs.lemmas.Bool.Decides.{nat_tests}
 use Rattle.std.proofs.lemmas.List.{length-replicate}
 use Rattle.bb_base.specs.Form.{Form}
-use Rattle.bb_bucket.specs.Kind.{Kind, part_of}
+use Rattle.bb_bucket.specs.Kind.{BucketKind, part_of}
 use Rattle.bb_actions.specs.Actions.{misfit_of}
 use Rattle.bb_chooser.proofs.Named.{bind_apart}
 use Rattle.bb_chooser.proofs.Results.{if_ok, then_ok}
@@ -26,12 +26,12 @@ use Rattle.bb_layout.specs.Formats.{record_len}
 use Rattle.bb_layout.specs.Defaults.{defaults_of}
 use Rattle.bb_layout.specs.Facts.{AreVars}
 use Rattle.bb_layout.specs.Layout.{Laid, layout_at, layout_from}
-use Rattle.bb_layout.specs.Ranges.{area_of, end_of, greatest_end, has_same_name, shares_byte, some_pair}
+use Rattle.bb_layout.specs.Ranges.{area_len_of, end_of, greatest_end, has_same_name, shares_byte, some_pair}
 use Rattle.bb_layout.specs.Results.{all_ok, result_and_then}
 use Rattle.bb_layout.specs.StateNode.{state_of}
 use Rattle.bb_layout.specs.StateProps.{props_of}
 use Rattle.bb_layout.specs.Steps.{result_then}
-use Rattle.bb_layout.specs.Storage.{stored}
+use Rattle.bb_layout.specs.Storage.{storage_in}
 use Rattle.bb_layout.specs.Variables.{IsWellFormed, variables_of}
 use Rattle.bb_layout.specs.declared.format_kind.FormatKind.{FormatKind}
 use Rattle.bb_layout.specs.declared.format_kind.FormatKind.TheVariants.{Raw as RawFormat, RawHmac}
@@ -55,7 +55,7 @@ use Rattle.bb_words.specs.declared.command.RawAction.TheVariants as raw_actions
 use Rattle.bb_words.specs.declared.command.RawCommand.{RawCommand}
 use Rattle.bb_layout.specs.Thirds.{raw_layout}
 use Rattle.bb_tool.specs.Looking.{passed_in}
-use Rattle.bb_tool.specs.Plan.{Act, Boot, Described, FileAnswer, FileAnswers, Good, Key, SessionPlan, Settings, Show, Tree, Work, Write, binding_in, boot_bound, boot_described, boot_keyed, bound_in, bytes_in, cause_of, fit_by, key_in, keyed_by, keyed_in, laid_by, layout_by, layout_in, mark_described, mark_keyed, plan_of, planned, plans_in, raw_laid, raw_work, refused_as, state_described, state_keyed, tree_in}
+use Rattle.bb_tool.specs.Plan.{Act, Boot, Described, FileAnswer, FileAnswers, Good, Key, SessionPlan, Settings, Show, Tree, Work, Write, binding_in, boot_bound, boot_described, boot_keyed, bound_in, bytes_in, cause_of, fit_by, key_in, keyed_by, keyed_in, laid_by, layout_by, layout_in, mark_described, mark_keyed, plan_of, plan_by_words, plans_in, raw_laid, raw_work, refused_as, state_described, state_keyed, tree_in}
 use Rattle.bb_tool.specs.Turns.{first_area}
 use Rattle.bb_tool.specs.declared.refusal.Refusal.{Refusal}
 use Rattle.bb_tool.specs.declared.refusal.Refusal.TheVariants as refusals
@@ -88,7 +88,7 @@ record HasArea (vars : List Var) (len : ℕ) : Type 0 where
   short : nat_lt 65535 (greatest_end vars) ≡ false
   end : greatest_end vars ≡ len
 
-area_is : (vars : List Var) (len : ℕ) → area_of vars ≡ Ok len → HasArea vars len
+area_is : (vars : List Var) (len : ℕ) → area_len_of vars ≡ Ok len → HasArea vars len
 area_is vars len h =
     by (some_pair has_same_name vars) (some_pair shares_byte vars) (nat_lt 65535 (greatest_end vars)) refl refl refl h
   where
@@ -102,7 +102,7 @@ area_is vars len h =
     by false false true names apart short e = absurd cc
     by false false false names apart short e = record { names = names; apart = apart; short = short; end = cc }
 
-defaults_sized : (vars : List Var) (len : ℕ) → All IsWellFormed vars → area_of vars ≡ Ok len → length (defaults_of len vars) ≡ len
+defaults_sized : (vars : List Var) (len : ℕ) → All IsWellFormed vars → area_len_of vars ≡ Ok len → length (defaults_of len vars) ≡ len
 defaults_sized vars len formed is =
     put_all len (replicate len 0) vars (length-replicate len 0)
     (λ i d inside.
@@ -114,7 +114,7 @@ defaults_sized vars len formed is =
 
 -- ---- the variables
 
-vars_are : (vars : List Var) (len : ℕ) → All IsWellFormed vars → area_of vars ≡ Ok len → AreVars len vars
+vars_are : (vars : List Var) (len : ℕ) → All IsWellFormed vars → area_len_of vars ≡ Ok len → AreVars len vars
 vars_are vars len formed is =
     let area = area_is vars len is in
     record {
@@ -124,7 +124,7 @@ vars_are vars len formed is =
       apart = share_no_byte vars (ranges_apart vars formed area.apart);
     }
 
-area_short : (vars : List Var) (len : ℕ) → area_of vars ≡ Ok len → len ≤ 65535
+area_short : (vars : List Var) (len : ℕ) → area_len_of vars ≡ Ok len → len ≤ 65535
 area_short vars len is =
     let area = area_is vars len is in
     let short = area.short in
@@ -166,7 +166,7 @@ module _ {Props : Type 0} (tree : Branch (List ℕ)) (name : List ℕ) (state : 
   of_length props vars len = result_then (backend_of tree state) (in_region props vars len)
 
   abbrev of_vars : Props → List Var → Result Laid LayoutError
-  of_vars props vars = result_then (area_of vars) (of_length props vars)
+  of_vars props vars = result_then (area_len_of vars) (of_length props vars)
 
   abbrev of_props : Props → Result Laid LayoutError
   of_props props = result_then (variables_of state) (of_vars props)
@@ -175,7 +175,7 @@ module _ {Props : Type 0} (tree : Branch (List ℕ)) (name : List ℕ) (state : 
   laid_sized =
       then_ok IsSized of_props given (λ props has_props.
       then_ok IsSized (of_vars props) (variables_of state) (λ vars has_vars.
-      then_ok IsSized (of_length props vars) (area_of vars) (λ len has_len.
+      then_ok IsSized (of_length props vars) (area_len_of vars) (λ len has_len.
       then_ok IsSized (in_region props vars len) (backend_of tree state) (λ region has_region.
       then_ok IsSized (stored_so props vars len region) (stores props len region) (λ storage has_storage.
       let formed = all_well_formed state vars has_vars in
@@ -190,7 +190,7 @@ layout_sized tree name geometry =
     then_ok IsSized (λ (found : List ℕ × Branch (List ℕ)). layout_at tree found.0 found.1 geometry)
     (ok_or (state_of tree name) NoState) (λ found has_state.
     laid_sized tree found.0 found.1 geometry (props_of found.1) (λ props. props.magic)
-    (λ props. props.format) (λ props len region. stored geometry region props (record_len props.format len)))
+    (λ props. props.format) (λ props len region. storage_in geometry region props (record_len props.format len)))
 
 laid_in : (file : List ℕ) (name : Option (List ℕ)) (geometry : Geometry) (answer : FileAnswer) →
     IfOk (layout_in file name geometry answer) IsSized
@@ -300,9 +300,9 @@ plan_sized (Ok (BootWords command)) geometry files =
 plan_sized (Err place) geometry files = tt
 
 pub planned_sized : (words : List (List ℕ)) (geometry : Geometry) (files : FileAnswers) (plan : SessionPlan) →
-    planned words geometry files ≡ Ok plan → IsSizedPlan plan
+    plan_by_words words geometry files ≡ Ok plan → IsSizedPlan plan
 planned_sized words geometry files plan is =
-    if_ok IsSizedPlan (planned words geometry files) plan is (plan_sized (words_of words) geometry files)
+    if_ok IsSizedPlan (plan_by_words words geometry files) plan is (plan_sized (words_of words) geometry files)
 
 -- ---- what copies pass
 
@@ -324,7 +324,7 @@ candidate_sized form len sized None area h = absurd cc
 candidate_sized form len sized (Some bytes) area h = sized bytes area h
 
 first_sized : (form : Form) (len page : ℕ) (image : Image) (first : List ℕ) → PassesSized form len → length first ≡ len →
-    (kinds : List Kind) → length (first_passed first (passings form page kinds image)) ≡ len
+    (kinds : List BucketKind) → length (first_passed first (passings form page kinds image)) ≡ len
 first_sized form len page image first each sized [] = sized
 first_sized form len page image first each sized (kind ∷ kinds) =
     by (first_sized form len page image first each sized kinds) (passing_of form page kind image) refl

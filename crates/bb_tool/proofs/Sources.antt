@@ -7,7 +7,6 @@ use Rattle.bb_base.specs.declared.files.FileFail.TheVariants as file_fails
 use Rattle.bb_chooser.specs.Binding.{Binding}
 use Rattle.bb_chooser.specs.declared.settings_error.SettingsError.{SettingsError}
 use Rattle.bb_chooser.specs.declared.settings_error.SettingsError.TheVariants as settings_errors
-use Rattle.bb_dts.specs.Source.{Read}
 use Rattle.bb_dts.specs.declared.error.DtsError.{DtsError}
 use Rattle.bb_dts.specs.declared.error.DtsError.TheVariants as tree_errors
 use Rattle.bb_fdt.specs.declared.error.FdtError.{FdtError}
@@ -18,12 +17,12 @@ use Rattle.bb_tree.specs.Node.{Branch}
 use Rattle.bb_layout.specs.Backend.{backend_of}
 use Rattle.bb_layout.specs.Formats.{record_len}
 use Rattle.bb_layout.specs.Layout.{Laid, layout_at, layout_from}
-use Rattle.bb_layout.specs.Ranges.{area_of}
+use Rattle.bb_layout.specs.Ranges.{area_len_of}
 use Rattle.bb_layout.specs.Results.{result_and_then}
 use Rattle.bb_layout.specs.StateNode.{state_of}
 use Rattle.bb_layout.specs.StateProps.{props_of}
 use Rattle.bb_layout.specs.Steps.{result_then}
-use Rattle.bb_layout.specs.Storage.{stored}
+use Rattle.bb_layout.specs.Storage.{storage_in}
 use Rattle.bb_layout.specs.Variables.{variables_of}
 use Rattle.bb_layout.specs.declared.layout_error.LayoutError.{LayoutError}
 use Rattle.bb_layout.specs.declared.layout_error.LayoutError.TheVariants as layout_errors
@@ -96,7 +95,7 @@ laid_as file given name handed geometry answer laid same_name same_geometry is =
 
 -- ---- refusals by the names that they have in a session
 
-pub tree_refused : (read : Result Read DtsError) (e : DtsError) → (e ≢ tree_errors.NoMemory → read ≡ Err e) → tree_refusal e ≢ refusals.NoMemory → refused_as refusals.BadTree read ≡ Err (tree_refusal e)
+pub tree_refused : (read : Result Devicetree DtsError) (e : DtsError) → (e ≢ tree_errors.NoMemory → read ≡ Err e) → tree_refusal e ≢ refusals.NoMemory → refused_as refusals.BadTree read ≡ Err (tree_refusal e)
 tree_refused read (tree_errors.NotText at) refused some = ap (refused_as refusals.BadTree) (refused (λ h. cc))
 tree_refused read (tree_errors.BadToken at) refused some = ap (refused_as refusals.BadTree) (refused (λ h. cc))
 tree_refused read (tree_errors.Unexpected at) refused some = ap (refused_as refusals.BadTree) (refused (λ h. cc))
@@ -143,7 +142,7 @@ settings_refused bound (settings_errors.NoSuchVariable name) refused some = ap (
 settings_refused bound (settings_errors.NotUint32 name) refused some = ap (refused_as refusals.BadSettings) (refused (λ h. cc))
 settings_refused bound settings_errors.NoMemory refused some = absurd (some refl)
 
--- whether a refusal is want of memory
+-- whether a refusal is refused memory
 pub memory_or_not : (e : Refusal) → (e ≡ refusals.NoMemory) ⊎ (e ≢ refusals.NoMemory)
 memory_or_not (refusals.BadWords place) = inr (λ h. cc)
 memory_or_not (refusals.BadTree e) = inr (λ h. cc)
@@ -181,9 +180,9 @@ layout_geometry : (tree : Branch (List ℕ)) (name : List ℕ) (state : Branch (
 layout_geometry tree name state geometry found e =
     let props = step_of (props_of state) _ found e in
     let vars = step_of (variables_of state) _ found props.next_is in
-    let area = step_of (area_of vars.value) _ found vars.next_is in
+    let area = step_of (area_len_of vars.value) _ found vars.next_is in
     let region = step_of (backend_of tree state) _ found area.next_is in
-    let storage = step_of (stored geometry region.value props.value (record_len props.value.format area.value)) _ found region.next_is in
+    let storage = step_of (storage_in geometry region.value props.value (record_len props.value.format area.value)) _ found region.next_is in
     ap (λ (l : Laid). l.geometry) (sym (ok_is _ found _ refl storage.next_is))
 
 pub laid_geometry : (tree : Branch (List ℕ)) (name : Option (List ℕ)) (geometry : Geometry) (found : Laid) → layout_from tree name geometry ≡ Ok found → found.geometry ≡ geometry

@@ -28,7 +28,7 @@ use Rattle.bb_tool.specs.Looking.{passed_in}
 use Rattle.bb_tool.specs.Plan.{Act, Boot, Good, SessionPlan, Show, Work, Write}
 use Rattle.bb_tool.specs.Ran.{Ran}
 use Rattle.bb_tool.specs.Refusal.{copy_refusal, status_of}
-use Rattle.bb_tool.specs.Session.{Answers, LoadAnswer, Session, barred, followed, loaded_area, saved, saves_behind, sent_of, text_of, unless_barred, worked, worked_on}
+use Rattle.bb_tool.specs.Session.{Answers, LoadAnswer, Session, refusal_by_table, session_by, loaded_area, session_of_saves, saves_behind, sent_of, text_of, unless_barred, work_session, worked_on}
 use Rattle.bb_tool.specs.Starting.{AddsStart, CountsFailedStarts, KnowsStartFaults, NamesTheTarget, RunsRounds, StartsAtMostOne, StartsBehindSave, StartsTheLast}
 use Rattle.bb_tool.specs.Turns.{first_area}
 use Rattle.bb_tool.specs.Work.{IsBootWork, IsLoadedAs, IsStoreWork, IsWork, IsWorkOf}
@@ -44,7 +44,7 @@ use Rattle.bb_tool.proofs.Worked.{begun_starts}
 
 -- ---- the rounds of a session
 
-saved_rounds : (text : List ℕ) (areas : List (List ℕ)) (saves : List SaveAnswer) → (saved text areas saves).rounds ≡ []
+saved_rounds : (text : List ℕ) (areas : List (List ℕ)) (saves : List SaveAnswer) → (session_of_saves text areas saves).rounds ≡ []
 saved_rounds text [] saves = refl
 saved_rounds text (area ∷ areas) [] = refl
 saved_rounds text (area ∷ areas) (Err fault ∷ saves) = refl
@@ -55,22 +55,22 @@ unless_rounds None session h = h
 unless_rounds (Some refusal) session h = refl
 
 -- a session that isn't a boot has none
-pub no_rounds : (plan : SessionPlan) (load : LoadAnswer) (saves : List SaveAnswer) → boots plan.work ≡ false → (worked plan load saves).rounds ≡ []
+pub no_rounds : (plan : SessionPlan) (load : LoadAnswer) (saves : List SaveAnswer) → boots plan.work ≡ false → (work_session plan load saves).rounds ≡ []
 no_rounds plan (Err fault) saves store = refl
 no_rounds plan (Ok found) saves store =
-    unless_rounds (barred plan.work (loaded_area plan.keyed.layout found)) (worked_on plan.work plan found saves)
+    unless_rounds (refusal_by_table plan.work (loaded_area plan.keyed.layout found)) (worked_on plan.work plan found saves)
     (ap (λ (s : Session). s.rounds) (stored_on plan.work plan found saves store)
     ∙ saved_rounds (text_of plan.keyed.layout plan.work found) (saves_behind plan (Ok found)) saves)
 
 boot_rounds : (plan : SessionPlan) (targets : Binding) (cause : Cause) (plans : List (Option StartPlan)) (found : Option (List ℕ))
     (from to : Device) (saves : List SaveAnswer) → plan.work ≡ Boot targets cause plans →
-    (work : IsBootWork targets cause plans plan from to (Ok found) saves) → (worked plan (Ok found) saves).rounds ≡ work.booted.rounds
+    (work : IsBootWork targets cause plans plan from to (Ok found) saves) → (work_session plan (Ok found) saves).rounds ≡ work.booted.rounds
 boot_rounds plan targets cause plans found from to saves is work =
     ap (λ (s : Session). s.rounds) (boot_is plan targets cause plans found work.used work.middle to saves is work.booted)
 
 work_rounds : (work : Work) (plan : SessionPlan) (from to : Device) (found : Option (List ℕ)) (saves : List SaveAnswer) →
     plan.work ≡ work → IsWorkOf work plan from to (Ok found) saves →
-    AreRoundsOf work (loaded_area plan.keyed.layout found) (worked plan (Ok found) saves).rounds
+    AreRoundsOf work (loaded_area plan.keyed.layout found) (work_session plan (Ok found) saves).rounds
 work_rounds Show plan from to found saves is done = no_rounds plan (Ok found) saves (ap boots is)
 work_rounds (Write area) plan from to found saves is done = no_rounds plan (Ok found) saves (ap boots is)
 work_rounds (Act actions) plan from to found saves is done = no_rounds plan (Ok found) saves (ap boots is)
@@ -131,15 +131,15 @@ none_made work rounds from to none keeps =
     subst (λ (r : List Round). AddsStart (start_of work r) from to) (sym none) keeps.starts
 
 work_start : (work : Work) (plan : SessionPlan) (from to : Device) (load : LoadAnswer) (saves : List SaveAnswer) →
-    plan.work ≡ work → IsWorkOf work plan from to load saves → AddsStart (start_of work (worked plan load saves).rounds) from to
+    plan.work ≡ work → IsWorkOf work plan from to load saves → AddsStart (start_of work (work_session plan load saves).rounds) from to
 work_start Show plan from to load saves is done =
-    none_made Show (worked plan load saves).rounds from to (no_rounds plan load saves (ap boots is)) done.looked.quiet.starts
+    none_made Show (work_session plan load saves).rounds from to (no_rounds plan load saves (ap boots is)) done.looked.quiet.starts
 work_start (Write area) plan from to load saves is done =
-    none_made (Write area) (worked plan load saves).rounds from to (no_rounds plan load saves (ap boots is)) (store_starts plan from to load saves done)
+    none_made (Write area) (work_session plan load saves).rounds from to (no_rounds plan load saves (ap boots is)) (store_starts plan from to load saves done)
 work_start (Act actions) plan from to load saves is done =
-    none_made (Act actions) (worked plan load saves).rounds from to (no_rounds plan load saves (ap boots is)) (store_starts plan from to load saves done)
+    none_made (Act actions) (work_session plan load saves).rounds from to (no_rounds plan load saves (ap boots is)) (store_starts plan from to load saves done)
 work_start (Good targets) plan from to load saves is done =
-    none_made (Good targets) (worked plan load saves).rounds from to (no_rounds plan load saves (ap boots is)) (store_starts plan from to load saves done)
+    none_made (Good targets) (work_session plan load saves).rounds from to (no_rounds plan load saves (ap boots is)) (store_starts plan from to load saves done)
 work_start (Boot targets cause plans) plan from to (Err fault) saves is done =
     ap starts done.booted.1 ∙ done.loaded.starts.starts
 work_start (Boot targets cause plans) plan from to (Ok found) saves is done =
@@ -153,11 +153,11 @@ work_start (Boot targets cause plans) plan from to (Ok found) saves is done =
 
 work_failed : (work : Work) (plan : SessionPlan) (from to : Device) (load : LoadAnswer) (saves : List SaveAnswer) →
     plan.work ≡ work → IsWorkOf work plan from to load saves →
-    RoseBy (failed_starts (worked plan load saves).rounds) from.start_faults to.start_faults
+    RoseBy (failed_starts (work_session plan load saves).rounds) from.start_faults to.start_faults
 work_failed work plan from to load saves is done = by work is done
   where
     no_faults : boots plan.work ≡ false → LeavesStarts from to →
-        RoseBy (failed_starts (worked plan load saves).rounds) from.start_faults to.start_faults
+        RoseBy (failed_starts (work_session plan load saves).rounds) from.start_faults to.start_faults
     no_faults store keeps =
         let same = keeps.start_faults in
         subst (λ (r : List Round). RoseBy (failed_starts r) from.start_faults to.start_faults) (sym (no_rounds plan load saves store))
@@ -165,7 +165,7 @@ work_failed work plan from to load saves is done = by work is done
 
     booted_faults : (load' : LoadAnswer) → (targets : Binding) (cause : Cause) (plans : List (Option StartPlan)) →
         plan.work ≡ Boot targets cause plans → IsBootWork targets cause plans plan from to load' saves →
-        RoseBy (failed_starts (worked plan load' saves).rounds) from.start_faults to.start_faults
+        RoseBy (failed_starts (work_session plan load' saves).rounds) from.start_faults to.start_faults
     booted_faults (Err fault) targets cause plans here boot =
         let same : to.start_faults ≡ from.start_faults = ap (λ (d : Device). d.start_faults) boot.booted.1 ∙ boot.loaded.starts.start_faults in
         omega (arith, same)
@@ -175,14 +175,14 @@ work_failed work plan from to load saves is done = by work is done
         (subst (λ n. RoseBy (failed_starts boot.booted.rounds) n to.start_faults) boot.loaded.starts.start_faults boot.booted.start_faults)
 
     by : (w : Work) → plan.work ≡ w → IsWorkOf w plan from to load saves →
-        RoseBy (failed_starts (worked plan load saves).rounds) from.start_faults to.start_faults
+        RoseBy (failed_starts (work_session plan load saves).rounds) from.start_faults to.start_faults
     by Show here d = no_faults (ap boots here) d.looked.quiet.starts
     by (Write area) here d = no_faults (ap boots here) (store_starts plan from to load saves d)
     by (Act actions) here d = no_faults (ap boots here) (store_starts plan from to load saves d)
     by (Good targets) here d = no_faults (ap boots here) (store_starts plan from to load saves d)
     by (Boot targets cause plans) here d = booted_faults load targets cause plans here d
 
--- ---- a start comes behind its save
+-- ---- a start comes after its save
 
 -- a load that answered Ok leaves each copy with the table that it gave, or with nothing
 loaded_holds : (keyed : Keyed) (used : Option ℕ) (from mid : Device) (found : Option (List ℕ)) → from.geometry ≡ keyed.layout.geometry →
@@ -233,14 +233,14 @@ no_start work rounds none some =
 
 work_stored : (work : Work) (plan : SessionPlan) (from to : Device) (found : Option (List ℕ)) (saves : List SaveAnswer) →
     plan.work ≡ work → IsWorkOf work plan from to (Ok found) saves →
-    IsSome (start_of work (worked plan (Ok found) saves).rounds) →
+    IsSome (start_of work (work_session plan (Ok found) saves).rounds) →
     ForSome (content to)
-    (λ image. EachPassesOrNothing (table_after (loaded_area plan.keyed.layout found) (worked plan (Ok found) saves).rounds)
+    (λ image. EachPassesOrNothing (table_after (loaded_area plan.keyed.layout found) (work_session plan (Ok found) saves).rounds)
     (passed_in plan.keyed from.geometry.page image))
-work_stored Show plan from to found saves is done some = absurd (no_start Show (worked plan (Ok found) saves).rounds (no_rounds plan (Ok found) saves (ap boots is)) some)
-work_stored (Write area) plan from to found saves is done some = absurd (no_start (Write area) (worked plan (Ok found) saves).rounds (no_rounds plan (Ok found) saves (ap boots is)) some)
-work_stored (Act actions) plan from to found saves is done some = absurd (no_start (Act actions) (worked plan (Ok found) saves).rounds (no_rounds plan (Ok found) saves (ap boots is)) some)
-work_stored (Good targets) plan from to found saves is done some = absurd (no_start (Good targets) (worked plan (Ok found) saves).rounds (no_rounds plan (Ok found) saves (ap boots is)) some)
+work_stored Show plan from to found saves is done some = absurd (no_start Show (work_session plan (Ok found) saves).rounds (no_rounds plan (Ok found) saves (ap boots is)) some)
+work_stored (Write area) plan from to found saves is done some = absurd (no_start (Write area) (work_session plan (Ok found) saves).rounds (no_rounds plan (Ok found) saves (ap boots is)) some)
+work_stored (Act actions) plan from to found saves is done some = absurd (no_start (Act actions) (work_session plan (Ok found) saves).rounds (no_rounds plan (Ok found) saves (ap boots is)) some)
+work_stored (Good targets) plan from to found saves is done some = absurd (no_start (Good targets) (work_session plan (Ok found) saves).rounds (no_rounds plan (Ok found) saves (ap boots is)) some)
 work_stored (Boot targets cause plans) plan from to found saves is done some =
     let same = boot_rounds plan targets cause plans found from to saves is done in
     subst
@@ -259,7 +259,7 @@ not_fault : (fault : CopyFault) → IsStartFailed (copy_refusal fault) → ⊥
 not_fault fault e = let h : true ≡ false = sym (fault_device fault) ∙ ap is_device_fault e in cc
 
 saved_else : (text : List ℕ) (areas : List (List ℕ)) (saves : List SaveAnswer) (refusal : Refusal) →
-    (saved text areas saves).refusal ≡ Some refusal → IsStartFailed refusal → ⊥
+    (session_of_saves text areas saves).refusal ≡ Some refusal → IsStartFailed refusal → ⊥
 saved_else text [] saves refusal h e = none_some refusal h
 saved_else text (area ∷ areas) [] refusal h e = none_some refusal h
 saved_else text (area ∷ areas) (Err fault ∷ saves) refusal h e =
@@ -274,10 +274,10 @@ unless_else (Some other) session bar own refusal h e = bar other refl (ap status
 
 -- no other command than a boot names a target so
 store_else : (plan : SessionPlan) (load : LoadAnswer) (saves : List SaveAnswer) → boots plan.work ≡ false → (refusal : Refusal) →
-    (worked plan load saves).refusal ≡ Some refusal → IsStartFailed refusal → ⊥
+    (work_session plan load saves).refusal ≡ Some refusal → IsStartFailed refusal → ⊥
 store_else plan (Err fault) saves store refusal h e = not_fault fault (ap status_of (same_Some (copy_refusal fault) refusal h) ∙ e)
 store_else plan (Ok found) saves store refusal h e =
-    unless_else (barred plan.work (loaded_area plan.keyed.layout found)) (worked_on plan.work plan found saves)
+    unless_else (refusal_by_table plan.work (loaded_area plan.keyed.layout found)) (worked_on plan.work plan found saves)
     (barred_has (λ r. IsStartFailed r → ⊥) (λ place f. cc) (λ f. cc) plan.work (loaded_area plan.keyed.layout found))
     (λ r g. saved_else (text_of plan.keyed.layout plan.work found) (saves_behind plan (Ok found)) saves r
     (sym (ap (λ (s : Session). s.refusal) (stored_on plan.work plan found saves store)) ∙ g))
@@ -311,8 +311,8 @@ fails_from plans o from mid to same (inl none) = inl none
 fails_from plans o from mid to same (inr rose) = inr (subst (λ n. Rose n to.start_faults) same rose)
 
 work_cause : (work : Work) (plan : SessionPlan) (from to : Device) (load : LoadAnswer) (saves : List SaveAnswer) → plan.work ≡ work →
-    IsWorkOf work plan from to load saves → (refusal : Refusal) → (worked plan load saves).refusal ≡ Some refusal → IsStartFailed refusal →
-    FailsBy (plans_of work) (last_round (worked plan load saves).rounds) from to
+    IsWorkOf work plan from to load saves → (refusal : Refusal) → (work_session plan load saves).refusal ≡ Some refusal → IsStartFailed refusal →
+    FailsBy (plans_of work) (last_round (work_session plan load saves).rounds) from to
 work_cause Show plan from to load saves is done refusal h e = absurd (store_else plan load saves (ap boots is) refusal h e)
 work_cause (Write area) plan from to load saves is done refusal h e = absurd (store_else plan load saves (ap boots is) refusal h e)
 work_cause (Act actions) plan from to load saves is done refusal h e = absurd (store_else plan load saves (ap boots is) refusal h e)
@@ -331,8 +331,8 @@ work_cause (Boot targets cause plans) plan from to (Ok found) saves is done refu
 -- ---- in the words of a call
 
 followed_is : (ran : Ran) (answers : Answers) (plan : SessionPlan) → plan_for ran answers ≡ Ok plan →
-    worked plan answers.load answers.saves ≡ session_for ran answers
-followed_is ran answers plan is = sym (ap (λ (p : Result SessionPlan Refusal). followed p answers) is)
+    work_session plan answers.load answers.saves ≡ session_for ran answers
+followed_is ran answers plan is = sym (ap (λ (p : Result SessionPlan Refusal). session_by p answers) is)
 
 work_of : (ran : Ran) (answers : Answers) (plan : SessionPlan) → MayAnswer ran answers → plan_for ran answers ≡ Ok plan →
     IsWork plan ran.before.device ran.after.device answers.load answers.saves
@@ -353,9 +353,9 @@ module _ (ran : Ran) where
       subst (λ l. IsWork plan From To l answers.saves) load (work_of ran answers plan answered is)
 
   loaded_session : (answers : Answers) (plan : SessionPlan) → plan_for ran answers ≡ Ok plan →
-      (found : Option (List ℕ)) → answers.load ≡ Ok found → worked plan (Ok found) answers.saves ≡ session_for ran answers
+      (found : Option (List ℕ)) → answers.load ≡ Ok found → work_session plan (Ok found) answers.saves ≡ session_for ran answers
   loaded_session answers plan is found load =
-      ap (λ (l : LoadAnswer). worked plan l answers.saves) (sym load) ∙ followed_is ran answers plan is
+      ap (λ (l : LoadAnswer). work_session plan l answers.saves) (sym load) ∙ followed_is ran answers plan is
 
   pub rounds_of : IsSession ran → RunsRounds ran
   rounds_of s answers plan answered is found load =

@@ -22,10 +22,10 @@ use Rattle.bb_tool.specs.Booting.{SaveAnswer, boots, end_refusal, has_no_target}
 use Rattle.bb_tool.specs.Calls.{ComesByTable, IsRefusedWith, IsSession, geometry_of, is_fault, session_for}
 use Rattle.bb_tool.specs.Ending.{IsFollowed}
 use Rattle.bb_tool.specs.Looking.{first_found, passed_in}
-use Rattle.bb_tool.specs.Plan.{Act, Boot, Good, SessionPlan, Show, Work, Write, planned}
+use Rattle.bb_tool.specs.Plan.{Act, Boot, Good, SessionPlan, Show, Work, Write, plan_by_words}
 use Rattle.bb_tool.specs.Ran.{Ran}
 use Rattle.bb_tool.specs.Refusal.{copy_refusal, status_of}
-use Rattle.bb_tool.specs.Session.{Answers, LoadAnswer, Session, barred, barred_behind, ended_status, followed, load_for, loaded_area, saved, saves_behind, text_of, unless_barred, worked, worked_on}
+use Rattle.bb_tool.specs.Session.{Answers, LoadAnswer, Session, refusal_by_table, barred_behind, ended_status, session_by, load_for, loaded_area, session_of_saves, saves_behind, text_of, unless_barred, work_session, worked_on}
 use Rattle.bb_tool.specs.Work.{IsLoadedAs, IsWork, IsWorkOf}
 use Rattle.bb_tool.specs.declared.refusal.Refusal.{Refusal}
 use Rattle.bb_tool.specs.declared.refusal.Refusal.TheVariants as refusals
@@ -54,7 +54,7 @@ fault_else faults.ReadFault = refl
 fault_else (faults.WriteFault copy) = refl
 fault_else faults.Unsure = refl
 
-saved_else : (text : List ℕ) (areas : List (List ℕ)) (saves : List SaveAnswer) → is_bar (ended_status (saved text areas saves)) ≡ false
+saved_else : (text : List ℕ) (areas : List (List ℕ)) (saves : List SaveAnswer) → is_bar (ended_status (session_of_saves text areas saves)) ≡ false
 saved_else text [] saves = refl
 saved_else text (area ∷ areas) [] = refl
 saved_else text (area ∷ areas) (Err fault ∷ saves) = fault_else fault
@@ -99,7 +99,7 @@ none_target targets cause plans table rounds none are =
 
 -- of a boot that isn't barred
 boot_else : (targets : Binding) (cause : Cause) (plans : List (Option StartPlan)) (table : List ℕ) (rounds : List Round) →
-    AreRounds targets plans (first_table targets cause true table) rounds → barred (Boot targets cause plans) table ≡ None →
+    AreRounds targets plans (first_table targets cause true table) rounds → refusal_by_table (Boot targets cause plans) table ≡ None →
     is_bar (option_map_or status_of (end_refusal targets (end_of targets rounds)) statuses.Done) ≡ false
 boot_else targets cause plans table [] are free =
     absurd (let none = none_target targets cause plans table [] refl are in
@@ -107,16 +107,16 @@ boot_else targets cause plans table [] are free =
 boot_else targets cause plans table (round ∷ later) are free = rounds_else targets round later
 
 open_else : (work : Work) (plan : SessionPlan) (from to : Device) (found : Option (List ℕ)) (saves : List SaveAnswer) → plan.work ≡ work →
-    IsWorkOf work plan from to (Ok found) saves → barred plan.work (loaded_area plan.keyed.layout found) ≡ None →
-    is_bar (ended_status (worked plan (Ok found) saves)) ≡ false
+    IsWorkOf work plan from to (Ok found) saves → refusal_by_table plan.work (loaded_area plan.keyed.layout found) ≡ None →
+    is_bar (ended_status (work_session plan (Ok found) saves)) ≡ false
 open_else work plan from to found saves is done free = by work is done
   where
-    by_store : boots plan.work ≡ false → is_bar (ended_status (worked plan (Ok found) saves)) ≡ false
+    by_store : boots plan.work ≡ false → is_bar (ended_status (work_session plan (Ok found) saves)) ≡ false
     by_store store =
         ap (λ bars. is_bar (ended_status (unless_barred bars (worked_on plan.work plan found saves)))) free
         ∙ store_else plan found saves store
 
-    by : (w : Work) → plan.work ≡ w → IsWorkOf w plan from to (Ok found) saves → is_bar (ended_status (worked plan (Ok found) saves)) ≡ false
+    by : (w : Work) → plan.work ≡ w → IsWorkOf w plan from to (Ok found) saves → is_bar (ended_status (work_session plan (Ok found) saves)) ≡ false
     by Show here d = by_store (ap boots here)
     by (Write area) here d = by_store (ap boots here)
     by (Act actions) here d = by_store (ap boots here)
@@ -124,25 +124,25 @@ open_else work plan from to found saves is done free = by work is done
     by (Boot targets cause plans) here d =
         ap (λ (s : Session). is_bar (ended_status s)) (boot_is plan targets cause plans found d.used d.middle to saves here d.booted)
         ∙ boot_else targets cause plans (loaded_area plan.keyed.layout found) d.booted.rounds d.booted.are
-        (sym (ap (λ (w' : Work). barred w' (loaded_area plan.keyed.layout found)) here) ∙ free)
+        (sym (ap (λ (w' : Work). refusal_by_table w' (loaded_area plan.keyed.layout found)) here) ∙ free)
 
 bars_behind : (plan : SessionPlan) (from to : Device) (found : Option (List ℕ)) (saves : List SaveAnswer) → IsWork plan from to (Ok found) saves →
-    (answer : Status) → is_bar answer ≡ true → (bars : Option Refusal) → barred plan.work (loaded_area plan.keyed.layout found) ≡ bars →
-    ended_status (worked plan (Ok found) saves) ≡ answer → option_map status_of bars ≡ Some answer
+    (answer : Status) → is_bar answer ≡ true → (bars : Option Refusal) → refusal_by_table plan.work (loaded_area plan.keyed.layout found) ≡ bars →
+    ended_status (work_session plan (Ok found) saves) ≡ answer → option_map status_of bars ≡ Some answer
 bars_behind plan from to found saves done answer bar (Some refusal) is e =
     ap (λ s. Some s) (sym (ap ended_status (barred_session plan found saves refusal is)) ∙ e)
 bars_behind plan from to found saves done answer bar None is e =
-    not_bar (ended_status (worked plan (Ok found) saves)) answer bar (open_else plan.work plan from to found saves refl done is) e
+    not_bar (ended_status (work_session plan (Ok found) saves)) answer bar (open_else plan.work plan from to found saves refl done is) e
 
 bars_work : (plan : SessionPlan) (from to : Device) (load : LoadAnswer) (saves : List SaveAnswer) → IsWork plan from to load saves →
-    (answer : Status) → is_bar answer ≡ true → ended_status (worked plan load saves) ≡ answer →
+    (answer : Status) → is_bar answer ≡ true → ended_status (work_session plan load saves) ≡ answer →
     option_map status_of (barred_behind (Ok plan) load) ≡ Some answer
 bars_work plan from to (Ok found) saves done answer bar e =
-    bars_behind plan from to found saves done answer bar (barred plan.work (loaded_area plan.keyed.layout found)) refl e
+    bars_behind plan from to found saves done answer bar (refusal_by_table plan.work (loaded_area plan.keyed.layout found)) refl e
 bars_work plan from to (Err fault) saves done answer bar e = not_bar (status_of (copy_refusal fault)) answer bar (fault_else fault) e
 
 bars_plan : (plan : Result SessionPlan Refusal) (from to : Device) (answers : Answers) → IsFollowed plan from to answers → (answer : Status) →
-    is_bar answer ≡ true → (IsRefusedWith answer plan → ⊥) → ended_status (followed plan answers) ≡ answer →
+    is_bar answer ≡ true → (IsRefusedWith answer plan → ⊥) → ended_status (session_by plan answers) ≡ answer →
     option_map status_of (barred_behind plan answers.load) ≡ Some answer
 bars_plan (Ok plan) from to answers done answer bar none e = bars_work plan from to answers.load answers.saves done answer bar e
 bars_plan (Err refusal) from to answers done answer bar none e = absurd (none e)
@@ -171,7 +171,7 @@ bars_in plan device image = barred_behind plan (load_for plan device.geometry im
 work_place : (answer : Status) (plan : SessionPlan) (from to : Device) (load : LoadAnswer) (saves : List SaveAnswer) → IsWork plan from to load saves → (image : Image) → content from ≡ Some image →
     BarsWith answer (barred_behind (Ok plan) load) → BarsWith answer (bars_in (Ok plan) from image)
 work_place answer plan from to (Ok found) saves done image held some =
-    subst (λ f. BarsWith answer (barred plan.work (loaded_area plan.keyed.layout f))) (work_gives plan.work plan from to found saves done image held) some
+    subst (λ f. BarsWith answer (refusal_by_table plan.work (loaded_area plan.keyed.layout f))) (work_gives plan.work plan from to found saves done image held) some
 work_place answer plan from to (Err fault) saves done image held some = absurd cc
 
 plan_place : (answer : Status) (plan : Result SessionPlan Refusal) (from to : Device) (answers : Answers) → IsFollowed plan from to answers → (image : Image) → content from ≡ Some image →
@@ -189,21 +189,21 @@ fault_is faults.Unsure = refl
 abbrev IsBarOrFault : Status → Status → Type 0
 IsBarOrFault answer status = (status ≡ answer) ⊎ (is_fault status ≡ true)
 
-found_ends : (answer : Status) (plan : SessionPlan) (found : Option (List ℕ)) (saves : List SaveAnswer) (bars : Option Refusal) → barred plan.work (loaded_area plan.keyed.layout found) ≡ bars → BarsWith answer bars →
-    ended_status (worked plan (Ok found) saves) ≡ answer
+found_ends : (answer : Status) (plan : SessionPlan) (found : Option (List ℕ)) (saves : List SaveAnswer) (bars : Option Refusal) → refusal_by_table plan.work (loaded_area plan.keyed.layout found) ≡ bars → BarsWith answer bars →
+    ended_status (work_session plan (Ok found) saves) ≡ answer
 found_ends answer plan found saves (Some refusal) is some =
     ap ended_status (barred_session plan found saves refusal is) ∙ same_Some (status_of refusal) answer some
 found_ends answer plan found saves None is some = absurd cc
 
 work_ends : (answer : Status) (plan : SessionPlan) (from to : Device) (load : LoadAnswer) (saves : List SaveAnswer) → IsWork plan from to load saves → (image : Image) → content from ≡ Some image →
-    BarsWith answer (bars_in (Ok plan) from image) → IsBarOrFault answer (ended_status (worked plan load saves))
+    BarsWith answer (bars_in (Ok plan) from image) → IsBarOrFault answer (ended_status (work_session plan load saves))
 work_ends answer plan from to (Err fault) saves done image held some = inr (fault_is fault)
 work_ends answer plan from to (Ok found) saves done image held some =
-    inl (found_ends answer plan found saves (barred plan.work (loaded_area plan.keyed.layout found)) refl
-    (subst (λ f. BarsWith answer (barred plan.work (loaded_area plan.keyed.layout f))) (sym (work_gives plan.work plan from to found saves done image held)) some))
+    inl (found_ends answer plan found saves (refusal_by_table plan.work (loaded_area plan.keyed.layout found)) refl
+    (subst (λ f. BarsWith answer (refusal_by_table plan.work (loaded_area plan.keyed.layout f))) (sym (work_gives plan.work plan from to found saves done image held)) some))
 
 lost_ends : (answer : Status) (plan : Result SessionPlan Refusal) (from to : Device) (answers : Answers) → IsFollowed plan from to answers → (image : Image) → content from ≡ Some image →
-    BarsWith answer (bars_in plan from image) → IsBarOrFault answer (ended_status (followed plan answers))
+    BarsWith answer (bars_in plan from image) → IsBarOrFault answer (ended_status (session_by plan answers))
 lost_ends answer (Ok plan) from to answers done image held some = work_ends answer plan from to answers.load answers.saves done image held some
 lost_ends answer (Err refusal) from to answers done image held some = absurd cc
 
@@ -221,13 +221,13 @@ comes_by answer ran ended (inl own) (inr (inl lost)) = inl (own ∙ lost)
 comes_by answer ran ended (inl own) (inr (inr fault)) = inr (inr (ap is_fault own ∙ fault))
 
 pub barred_of : (answer : Status) → is_bar answer ≡ true → answer ≢ statuses.SinkFault → answer ≢ statuses.NoMemory → answer ≢ statuses.FileFault →
-    ((ran : Ran) (answers : Answers) → IsRefusedWith answer (planned ran.words (geometry_of ran) answers.files) → ⊥) →
+    ((ran : Ran) (answers : Answers) → IsRefusedWith answer (plan_by_words ran.words (geometry_of ran) answers.files) → ⊥) →
     (ran : Ran) → IsSession ran → ComesByTable answer ran
 barred_of answer bar first second third unplanned ran s = λ files told image held. record {
   only = λ e.
       let own = own_answer ran answer s first second e in
       let answers = own.ending.answers in
-      let plan = planned ran.words (geometry_of ran) answers.files in
+      let plan = plan_by_words ran.words (geometry_of ran) answers.files in
       let none = unplanned ran answers in
       let here = plan_place answer plan ran.before.device ran.after.device answers own.ending.answered.followed image held
       (bars_plan plan ran.before.device ran.after.device answers own.ending.answered.followed answer bar none own.own) in
@@ -235,7 +235,7 @@ barred_of answer bar first second third unplanned ran s = λ files told image he
         | inl same ↦ subst (λ (p : Result SessionPlan Refusal). BarsWith answer (bars_in p ran.before.device image)) same here
         | inr odd ↦ elim odd [
           | inl fault ↦ absurd (third (sym own.own ∙ plan_ends plan answers statuses.FileFault fault))
-          | inr memory ↦ absurd (second (sym own.own ∙ ap (λ (p : Result SessionPlan Refusal). ended_status (followed p answers)) memory))
+          | inr memory ↦ absurd (second (sym own.own ∙ ap (λ (p : Result SessionPlan Refusal). ended_status (session_by p answers)) memory))
         ]
       ];
   always = λ some. elim s [
@@ -243,7 +243,7 @@ barred_of answer bar first second third unplanned ran s = λ files told image he
         comes_by answer ran statuses.NoMemory (told_cases _ statuses.NoMemory ran.before.outlet ran.after.outlet ran.status memory.told) (inl refl)
     | inl ending ↦
         let answers = ending.answers in
-        let plan = planned ran.words (geometry_of ran) answers.files in
+        let plan = plan_by_words ran.words (geometry_of ran) answers.files in
         comes_by answer ran (ended_status (session_for ran answers)) (told_cases _ _ ran.before.outlet ran.after.outlet ran.status ending.told)
         (elim (same_plan ran.words (geometry_of ran) ran.before.folder ran.after.folder answers.files ending.answered.filed files told) [
           | inl same ↦
@@ -251,7 +251,7 @@ barred_of answer bar first second third unplanned ran s = λ files told image he
               (subst (λ (p : Result SessionPlan Refusal). BarsWith answer (bars_in p ran.before.device image)) (sym same) some))
           | inr odd ↦ elim odd [
             | inl fault ↦ inr (inr (ap is_fault (plan_ends plan answers statuses.FileFault fault)))
-            | inr memory ↦ inl (ap (λ (p : Result SessionPlan Refusal). ended_status (followed p answers)) memory)
+            | inr memory ↦ inl (ap (λ (p : Result SessionPlan Refusal). ended_status (session_by p answers)) memory)
           ]
         ])
   ];

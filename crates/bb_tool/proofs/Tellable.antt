@@ -7,7 +7,7 @@ use Rattle.bb_state.specs.Keyed.{Keyed}
 use Rattle.bb_tool.specs.Plan.{SessionPlan, Work}
 use Rattle.bb_tool.specs.Refusal.{IsTellable, copy_refusal, status_of}
 use Rattle.bb_tool.specs.Booting.{SaveAnswer}
-use Rattle.bb_tool.specs.Session.{LoadAnswer, worked}
+use Rattle.bb_tool.specs.Session.{LoadAnswer, work_session}
 use Rattle.bb_tool.specs.Work.{IsWork, IsWorkedOut}
 use Rattle.bb_tool.specs.declared.refusal.Refusal.{Refusal}
 use Rattle.bb_tool.specs.declared.refusal.Refusal.TheVariants as refusals
@@ -44,7 +44,7 @@ other_tellable refusals.NoMemory other = tt
 
 plan_tellable : (plan : SessionPlan) (from to : Device) (load : LoadAnswer) (saves : List SaveAnswer)
     (refusal : Refusal) → plan.keyed.layout.copies ≤ 3 → IsWork plan from to load saves →
-    (worked plan load saves).refusal ≡ Some refusal → (fault : Bool) →
+    (work_session plan load saves).refusal ≡ Some refusal → (fault : Bool) →
     is_device_fault (status_of refusal) ≡ fault → IsTellable refusal
 plan_tellable plan from to load saves refusal few work h true device =
     let why = work_fault plan.work plan from to load saves refusal device refl work h in

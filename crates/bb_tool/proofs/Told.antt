@@ -3,13 +3,13 @@ use Rattle.std.proofs.Common.{◌≡◌, ◌≢◌, ◌⊎◌, ℕ, List, refl, 
 use Rattle.bb_base.specs.Faults.{Rose}
 use Rattle.bb_base.specs.Outlet.{Outlet}
 use Rattle.bb_tool.specs.Refusal.{line_of}
-use Rattle.bb_tool.specs.Telling.{IsCutOff, IsSent, IsTold, IsToldMemory, overruled}
+use Rattle.bb_tool.specs.Telling.{IsCutOff, IsSent, IsTold, IsToldMemory, status_unsent}
 use Rattle.bb_tool.specs.declared.refusal.Refusal.TheVariants as refusals
 use Rattle.bb_tool.specs.declared.status.Status.{Status}
 use Rattle.bb_tool.specs.declared.status.Status.TheVariants as statuses
 
 -- a session's own status is that of its refusal, and isn't that of a failing output
-overrule_cases : (ended : Status) → (overruled ended ≡ statuses.SinkFault) ⊎ (overruled ended ≡ statuses.NoMemory)
+overrule_cases : (ended : Status) → (status_unsent ended ≡ statuses.SinkFault) ⊎ (status_unsent ended ≡ statuses.NoMemory)
 overrule_cases statuses.Done = inl refl
 overrule_cases statuses.BadWords = inl refl
 overrule_cases statuses.BadTree = inl refl
@@ -40,32 +40,32 @@ told_own text ended answer before after status told first second e =
       | inr other ↦ elim other [ inl sink ↦ absurd (first (sym e ∙ sink)) | inr memory ↦ absurd (second (sym e ∙ memory)) ]
     ]
 
--- what was told of want of memory isn't another answer
+-- what was told of refused memory isn't another answer
 pub told_other : (answer : Status) (before after : Outlet) (status : Status) → IsTold (line_of refusals.NoMemory) statuses.NoMemory before after status → answer ≢ statuses.SinkFault → answer ≢ statuses.NoMemory → status ≡ answer → ⊥
 told_other answer before after status told first second e = second (sym (told_own (line_of refusals.NoMemory) statuses.NoMemory answer before after status told first second e))
 
-overruled_memory : (ended : Status) → overruled ended ≡ statuses.NoMemory → ended ≡ statuses.NoMemory
-overruled_memory statuses.Done e = absurd cc
-overruled_memory statuses.BadWords e = absurd cc
-overruled_memory statuses.BadTree e = absurd cc
-overruled_memory statuses.BadKey e = absurd cc
-overruled_memory statuses.BadVariable e = absurd cc
-overruled_memory statuses.FileMissing e = absurd cc
-overruled_memory statuses.FileFault e = absurd cc
-overruled_memory statuses.FileTooLong e = absurd cc
-overruled_memory statuses.BadLayout e = absurd cc
-overruled_memory statuses.ReadFault e = absurd cc
-overruled_memory statuses.WriteFault e = absurd cc
-overruled_memory statuses.NoTarget e = absurd cc
-overruled_memory statuses.StartFailed e = absurd cc
-overruled_memory statuses.BadSettings e = absurd cc
-overruled_memory statuses.NoGood e = absurd cc
-overruled_memory statuses.SinkFault e = absurd cc
-overruled_memory statuses.NoMemory e = refl
+unsent_memory : (ended : Status) → status_unsent ended ≡ statuses.NoMemory → ended ≡ statuses.NoMemory
+unsent_memory statuses.Done e = absurd cc
+unsent_memory statuses.BadWords e = absurd cc
+unsent_memory statuses.BadTree e = absurd cc
+unsent_memory statuses.BadKey e = absurd cc
+unsent_memory statuses.BadVariable e = absurd cc
+unsent_memory statuses.FileMissing e = absurd cc
+unsent_memory statuses.FileFault e = absurd cc
+unsent_memory statuses.FileTooLong e = absurd cc
+unsent_memory statuses.BadLayout e = absurd cc
+unsent_memory statuses.ReadFault e = absurd cc
+unsent_memory statuses.WriteFault e = absurd cc
+unsent_memory statuses.NoTarget e = absurd cc
+unsent_memory statuses.StartFailed e = absurd cc
+unsent_memory statuses.BadSettings e = absurd cc
+unsent_memory statuses.NoGood e = absurd cc
+unsent_memory statuses.SinkFault e = absurd cc
+unsent_memory statuses.NoMemory e = refl
 
 pub told_memory : (text : List ℕ) (ended : Status) (before after : Outlet) (status : Status) → IsTold text ended before after status → status ≡ statuses.NoMemory → ended ≡ statuses.NoMemory
 told_memory text ended before after status (inl sent) e = sym sent.status_is ∙ e
-told_memory text ended before after status (inr cut) e = overruled_memory ended (sym cut.status_is ∙ e)
+told_memory text ended before after status (inr cut) e = unsent_memory ended (sym cut.status_is ∙ e)
 
 pub told_front : (text : List ℕ) (ended : Status) (before after : Outlet) (status : Status) → IsTold text ended before after status → ended ≢ statuses.SinkFault → status ≡ statuses.SinkFault → IsCutOff text ended before after status
 told_front text ended before after status (inl sent) own e = absurd (own (sym sent.status_is ∙ e))

@@ -22,10 +22,10 @@ use Rattle.bb_tool.specs.Calls.{IsSession, IsUndisturbed, IsUndisturbedAlone, ge
 use Rattle.bb_tool.specs.Ending.{AreAnswers, IsFollowed}
 use Rattle.bb_tool.specs.Looking.{first_found, passed_in}
 use Rattle.bb_tool.specs.Booting.{SaveAnswer, boots, has_no_target, rounds_of}
-use Rattle.bb_tool.specs.Plan.{Act, Boot, FileAnswers, Good, SessionPlan, Show, Work, Write, files_for, planned}
+use Rattle.bb_tool.specs.Plan.{Act, Boot, FileAnswers, Good, SessionPlan, Show, Work, Write, files_for, plan_by_words}
 use Rattle.bb_tool.specs.Ran.{Ran}
 use Rattle.bb_tool.specs.Refusal.{status_of}
-use Rattle.bb_tool.specs.Session.{Answers, LoadAnswer, Session, all_made, answers_behind, answers_of, answers_to, barred, booted, ended_status, followed, loaded_area, refused_for, saved, saves_behind, saves_of, sent_of, session_of, text_of, unless_barred, worked, worked_on}
+use Rattle.bb_tool.specs.Session.{Answers, LoadAnswer, Session, all_made, answers_behind, answers_of, answers_to, refusal_by_table, boot_session, ended_status, session_by, loaded_area, refused_for, session_of_saves, saves_behind, saves_of, sent_of, session_of, text_of, unless_barred, work_session, worked_on}
 use Rattle.bb_tool.specs.Telling.{IsSent, IsTold}
 use Rattle.bb_tool.specs.Work.{AreSaved, IsStoreWork, IsWorkOf}
 use Rattle.bb_tool.specs.declared.refusal.Refusal.{Refusal}
@@ -40,7 +40,7 @@ use Rattle.bb_tool.proofs.Booted.{boot_is}
 use Rattle.bb_tool.proofs.Fine.{all_saved, good_rounds, goods, goods_are, none_failed, round_there}
 use Rattle.bb_tool.proofs.Tables.{work_gives}
 
--- one session is the other, or that of want of memory
+-- one session is the other, or that of refused memory
 abbrev IsSameOrMemory : Session → Session → Type 0
 IsSameOrMemory given other = (given ≡ other) ⊎ (given ≡ refused_for refusals.NoMemory)
 
@@ -50,19 +50,19 @@ fault_rose keyed from to (faults.WriteFault copy) tells = tells.0
 fault_rose keyed from to faults.Unsure tells = absurd tells
 
 -- where no call of the device failed no part of the work was refused
-no_fault_by : (plan : SessionPlan) (from to : Device) (load : LoadAnswer) (saves : List SaveAnswer) → IsWorkOf plan.work plan from to load saves → (Rose from.faults to.faults → ⊥) → (refusal : Refusal) → (worked plan load saves).refusal ≡ Some refusal → (fault : Bool) → is_device_fault (status_of refusal) ≡ fault → HasNoFault (worked plan load saves)
-no_fault_by plan from to load saves work whole refusal is false e = refused_whole (worked plan load saves) refusal is e
+no_fault_by : (plan : SessionPlan) (from to : Device) (load : LoadAnswer) (saves : List SaveAnswer) → IsWorkOf plan.work plan from to load saves → (Rose from.faults to.faults → ⊥) → (refusal : Refusal) → (work_session plan load saves).refusal ≡ Some refusal → (fault : Bool) → is_device_fault (status_of refusal) ≡ fault → HasNoFault (work_session plan load saves)
+no_fault_by plan from to load saves work whole refusal is false e = refused_whole (work_session plan load saves) refusal is e
 no_fault_by plan from to load saves work whole refusal is true e =
     let fault = work_fault plan.work plan from to load saves refusal e refl work is in
     absurd (whole (fault_rose plan.keyed from to fault.fault fault.tells))
 
-pub unrefused : (plan : SessionPlan) (from to : Device) (load : LoadAnswer) (saves : List SaveAnswer) → IsWorkOf plan.work plan from to load saves → (Rose from.faults to.faults → ⊥) → (refusal : Option Refusal) → (worked plan load saves).refusal ≡ refusal → HasNoFault (worked plan load saves)
-unrefused plan from to load saves work whole None is = done_whole (worked plan load saves) is
+pub unrefused : (plan : SessionPlan) (from to : Device) (load : LoadAnswer) (saves : List SaveAnswer) → IsWorkOf plan.work plan from to load saves → (Rose from.faults to.faults → ⊥) → (refusal : Option Refusal) → (work_session plan load saves).refusal ≡ refusal → HasNoFault (work_session plan load saves)
+unrefused plan from to load saves work whole None is = done_whole (work_session plan load saves) is
 unrefused plan from to load saves work whole (Some refusal) is =
     no_fault_by plan from to load saves work whole refusal is (is_device_fault (status_of refusal)) refl
 
 -- so each save that is to be made was made
-saved_same : (keyed : Keyed) (used : Option ℕ) (text : List ℕ) (areas : List (List ℕ)) (saves : List SaveAnswer) (from to : Device) → AreSaved keyed used areas from to saves → HasNoFault (saved text areas saves) → saved text areas saves ≡ saved text areas (all_made areas)
+saved_same : (keyed : Keyed) (used : Option ℕ) (text : List ℕ) (areas : List (List ℕ)) (saves : List SaveAnswer) (from to : Device) → AreSaved keyed used areas from to saves → HasNoFault (session_of_saves text areas saves) → session_of_saves text areas saves ≡ session_of_saves text areas (all_made areas)
 saved_same keyed used text [] saves from to saved_so is = refl
 saved_same keyed used text (area ∷ areas) [] from to saved_so is = absurd saved_so
 saved_same keyed used text (area ∷ areas) (Err fault ∷ saves) from to saved_so is =
@@ -71,7 +71,7 @@ saved_same keyed used text (area ∷ []) (Ok made ∷ saves) from to saved_so is
 saved_same keyed used text (area ∷ (other ∷ areas)) (Ok made ∷ saves) from to saved_so is =
     absurd (let e = saved_so.1.0 in cc)
 
-store_same : (plan : SessionPlan) (from to : Device) (found : Option (List ℕ)) (saves : List SaveAnswer) → boots plan.work ≡ false → IsStoreWork plan from to (Ok found) saves → (bars : Option Refusal) → barred plan.work (loaded_area plan.keyed.layout found) ≡ bars → HasNoFault (worked plan (Ok found) saves) → worked plan (Ok found) saves ≡ worked plan (Ok found) (all_made (saves_behind plan (Ok found)))
+store_same : (plan : SessionPlan) (from to : Device) (found : Option (List ℕ)) (saves : List SaveAnswer) → boots plan.work ≡ false → IsStoreWork plan from to (Ok found) saves → (bars : Option Refusal) → refusal_by_table plan.work (loaded_area plan.keyed.layout found) ≡ bars → HasNoFault (work_session plan (Ok found) saves) → work_session plan (Ok found) saves ≡ work_session plan (Ok found) (all_made (saves_behind plan (Ok found)))
 store_same plan from to found saves store done None bars whole =
     let made = all_made (saves_behind plan (Ok found)) in
     open_session plan found saves store bars
@@ -109,7 +109,7 @@ module _ (targets : Binding) (cause : Cause) (plans : List (Option StartPlan)) (
   -- the session that has so many answers
   abbrev Ends : ℕ → Session
   Ends n =
-      unless_barred (if has_no_target targets cause table then Some refusals.NoTarget else None) (booted targets table (Ideal n))
+      unless_barred (if has_no_target targets cause table then Some refusals.NoTarget else None) (boot_session targets table (Ideal n))
 
   some_target : (round : Round) (later : List Round) → AreRounds targets plans Table (round ∷ later) → has_no_target targets cause table ≡ false
   unfolding AreRounds
@@ -123,15 +123,15 @@ module _ (targets : Binding) (cause : Cause) (plans : List (Option StartPlan)) (
   unfolding AreRounds
   best_there round later are = best_is targets Table round.target are.0.best
 
-  open_ends : (n : ℕ) (round : Round) (later : List Round) → AreRounds targets plans Table (round ∷ later) → Ends n ≡ booted targets table (Ideal n)
+  open_ends : (n : ℕ) (round : Round) (later : List Round) → AreRounds targets plans Table (round ∷ later) → Ends n ≡ boot_session targets table (Ideal n)
   open_ends n round later are =
-      ap (λ t. unless_barred (if t then Some refusals.NoTarget else None) (booted targets table (Ideal n))) (some_target round later are)
+      ap (λ t. unless_barred (if t then Some refusals.NoTarget else None) (boot_session targets table (Ideal n))) (some_target round later are)
 
   boot_same : (from to : Device) (mid : Device) (rounds : List Round) (n : ℕ) → AreRounds targets plans Table rounds → length rounds ≤ n →
-      HasNoFault (booted targets table rounds) → mid.start_faults ≡ from.start_faults → RoseBy (failed_starts rounds) mid.start_faults to.start_faults →
-      IsCalm from to (Ends n) → booted targets table rounds ≡ Ends n
+      HasNoFault (boot_session targets table rounds) → mid.start_faults ≡ from.start_faults → RoseBy (failed_starts rounds) mid.start_faults to.start_faults →
+      IsCalm from to (Ends n) → boot_session targets table rounds ≡ Ends n
   boot_same from to mid [] n are few whole same rose calm =
-      sym (ap (λ t. unless_barred (if t then Some refusals.NoTarget else None) (booted targets table (Ideal n))) (no_target are))
+      sym (ap (λ t. unless_barred (if t then Some refusals.NoTarget else None) (boot_session targets table (Ideal n))) (no_target are))
   boot_same from to mid (round ∷ later) n are few whole same rose calm =
       let none_rose : Rose from.start_faults to.start_faults → ⊥ = elim calm [
         | inl none ↦ λ r.
@@ -139,62 +139,62 @@ module _ (targets : Binding) (cause : Cause) (plans : List (Option StartPlan)) (
             (sym (good_is n) ∙ sym (ap (λ (s : Session). s.rounds) (open_ends n round later are)) ∙ none)
         | inr calm ↦ calm
       ] in
-      let saved = all_saved targets plans table (round ∷ later) Table are whole in
+      let save_run = all_saved targets plans table (round ∷ later) Table are whole in
       let started = none_failed (round ∷ later) mid.start_faults to.start_faults rose (λ r. none_rose (subst (λ k. Rose k to.start_faults) same r)) in
-      ap (booted targets table) (sym (good_is n ∙ good_rounds targets plans Table (round ∷ later) n few are saved started))
+      ap (boot_session targets table) (sym (good_is n ∙ good_rounds targets plans Table (round ∷ later) n few are save_run started))
       ∙ sym (open_ends n round later are)
 
 -- ---- the work of a plan
 
-work_same : (work : Work) (plan : SessionPlan) (from to : Device) (found : Option (List ℕ)) (saves : List SaveAnswer) → plan.work ≡ work → IsWorkOf work plan from to (Ok found) saves → HasNoFault (worked plan (Ok found) saves) → IsCalm from to (worked plan (Ok found) (answers_behind plan.work plan (Ok found))) → worked plan (Ok found) saves ≡ worked plan (Ok found) (answers_behind plan.work plan (Ok found))
+work_same : (work : Work) (plan : SessionPlan) (from to : Device) (found : Option (List ℕ)) (saves : List SaveAnswer) → plan.work ≡ work → IsWorkOf work plan from to (Ok found) saves → HasNoFault (work_session plan (Ok found) saves) → IsCalm from to (work_session plan (Ok found) (answers_behind plan.work plan (Ok found))) → work_session plan (Ok found) saves ≡ work_session plan (Ok found) (answers_behind plan.work plan (Ok found))
 work_same Show plan from to found saves is done none calm =
     let empty : saves_behind plan (Ok found) ≡ [] = ap (λ (w : Work). saves_of plan.keyed.layout w (loaded_area plan.keyed.layout found)) is in
-    ap (worked plan (Ok found)) (done.none ∙ sym (ap all_made empty) ∙ sym (made_behind plan.work plan (Ok found) (ap boots is)))
+    ap (work_session plan (Ok found)) (done.none ∙ sym (ap all_made empty) ∙ sym (made_behind plan.work plan (Ok found) (ap boots is)))
 work_same (Write area) plan from to found saves is done none calm =
-    store_same plan from to found saves (ap boots is) done (barred plan.work (loaded_area plan.keyed.layout found)) refl none
-    ∙ ap (worked plan (Ok found)) (sym (made_behind plan.work plan (Ok found) (ap boots is)))
+    store_same plan from to found saves (ap boots is) done (refusal_by_table plan.work (loaded_area plan.keyed.layout found)) refl none
+    ∙ ap (work_session plan (Ok found)) (sym (made_behind plan.work plan (Ok found) (ap boots is)))
 work_same (Act actions) plan from to found saves is done none calm =
-    store_same plan from to found saves (ap boots is) done (barred plan.work (loaded_area plan.keyed.layout found)) refl none
-    ∙ ap (worked plan (Ok found)) (sym (made_behind plan.work plan (Ok found) (ap boots is)))
+    store_same plan from to found saves (ap boots is) done (refusal_by_table plan.work (loaded_area plan.keyed.layout found)) refl none
+    ∙ ap (work_session plan (Ok found)) (sym (made_behind plan.work plan (Ok found) (ap boots is)))
 work_same (Good targets) plan from to found saves is done none calm =
-    store_same plan from to found saves (ap boots is) done (barred plan.work (loaded_area plan.keyed.layout found)) refl none
-    ∙ ap (worked plan (Ok found)) (sym (made_behind plan.work plan (Ok found) (ap boots is)))
+    store_same plan from to found saves (ap boots is) done (refusal_by_table plan.work (loaded_area plan.keyed.layout found)) refl none
+    ∙ ap (work_session plan (Ok found)) (sym (made_behind plan.work plan (Ok found) (ap boots is)))
 work_same (Boot targets cause plans) plan from to found saves is done none calm =
     let run = done.booted in
     let table = loaded_area plan.keyed.layout found in
     let n = all_attempts targets (first_table targets cause true table) in
     let session = boot_is plan targets cause plans found done.used done.middle to saves is run in
-    let ideal : worked plan (Ok found) (answers_behind plan.work plan (Ok found)) ≡ Ends targets cause plans table n =
-    ap (λ (w : Work). unless_barred (barred w table) (worked_on w plan found (answers_behind w plan (Ok found)))) is in
+    let ideal : work_session plan (Ok found) (answers_behind plan.work plan (Ok found)) ≡ Ends targets cause plans table n =
+    ap (λ (w : Work). unless_barred (refusal_by_table w table) (worked_on w plan found (answers_behind w plan (Ok found)))) is in
     session
     ∙ boot_same targets cause plans table from to done.middle run.rounds n run.are run.few (subst HasNoFault session none)
     done.loaded.starts.start_faults run.start_faults (subst (IsCalm from to) ideal calm)
     ∙ sym ideal
 
-load_same : (plan : SessionPlan) (from to : Device) (load : LoadAnswer) (saves : List SaveAnswer) → IsWorkOf plan.work plan from to load saves → HasNoFault (worked plan load saves) → (image : Image) → content from ≡ Some image →
+load_same : (plan : SessionPlan) (from to : Device) (load : LoadAnswer) (saves : List SaveAnswer) → IsWorkOf plan.work plan from to load saves → HasNoFault (work_session plan load saves) → (image : Image) → content from ≡ Some image →
     let held : LoadAnswer = Ok (first_found (passed_in plan.keyed from.geometry.page image)) in
-    IsCalm from to (worked plan held (answers_behind plan.work plan held)) → worked plan load saves ≡ worked plan held (answers_behind plan.work plan held)
+    IsCalm from to (work_session plan held (answers_behind plan.work plan held)) → work_session plan load saves ≡ work_session plan held (answers_behind plan.work plan held)
 load_same plan from to (Err fault) saves done none image told calm =
     absurd (let e : true ≡ false = sym (fault_device fault) ∙ none in cc)
 load_same plan from to (Ok found) saves done none image told calm =
     let same = work_gives plan.work plan from to found saves done image told in
     work_same plan.work plan from to found saves refl done none
-    (subst (λ f. IsCalm from to (worked plan (Ok f) (answers_behind plan.work plan (Ok f)))) (sym same) calm)
-    ∙ ap (λ f. worked plan (Ok f) (answers_behind plan.work plan (Ok f))) same
+    (subst (λ f. IsCalm from to (work_session plan (Ok f) (answers_behind plan.work plan (Ok f)))) (sym same) calm)
+    ∙ ap (λ f. work_session plan (Ok f) (answers_behind plan.work plan (Ok f))) same
 
-plan_same : (plan : Result SessionPlan Refusal) (before after : Device) (answers : Answers) (files : FileAnswers) → IsFollowed plan before after answers → (Rose before.faults after.faults → ⊥) → (image : Image) → content before ≡ Some image → IsCalm before after (followed plan (answers_to files plan before.geometry image)) → followed plan answers ≡ followed plan (answers_to files plan before.geometry image)
+plan_same : (plan : Result SessionPlan Refusal) (before after : Device) (answers : Answers) (files : FileAnswers) → IsFollowed plan before after answers → (Rose before.faults after.faults → ⊥) → (image : Image) → content before ≡ Some image → IsCalm before after (session_by plan (answers_to files plan before.geometry image)) → session_by plan answers ≡ session_by plan (answers_to files plan before.geometry image)
 plan_same (Err refusal) before after answers files done whole image told calm = refl
 plan_same (Ok plan) before after answers files done whole image told calm =
     load_same plan before after answers.load answers.saves done
-    (unrefused plan before after answers.load answers.saves done whole (worked plan answers.load answers.saves).refusal refl) image told calm
+    (unrefused plan before after answers.load answers.saves done whole (work_session plan answers.load answers.saves).refusal refl) image told calm
 
 -- the session is that of what is held, where the plan is
-session_same : (words : List (List ℕ)) (folder folder' : Folder) (before after : Device) (answers : Answers) → AreAnswers words folder folder' before after answers → (files : FileMap) → planned words before.geometry answers.files ≡ planned words before.geometry (files_for words before.geometry files) → (image : Image) → content before ≡ Some image → (Rose before.faults after.faults → ⊥) → IsCalm before after (session_of words before.geometry (answers_of words before.geometry files image)) → IsSameOrMemory (session_of words before.geometry answers) (session_of words before.geometry (answers_of words before.geometry files image))
+session_same : (words : List (List ℕ)) (folder folder' : Folder) (before after : Device) (answers : Answers) → AreAnswers words folder folder' before after answers → (files : FileMap) → plan_by_words words before.geometry answers.files ≡ plan_by_words words before.geometry (files_for words before.geometry files) → (image : Image) → content before ≡ Some image → (Rose before.faults after.faults → ⊥) → IsCalm before after (session_of words before.geometry (answers_of words before.geometry files image)) → IsSameOrMemory (session_of words before.geometry answers) (session_of words before.geometry (answers_of words before.geometry files image))
 session_same words folder folder' before after answers answered files same image told whole calm =
     let read = files_for words before.geometry files in
-    inl (plan_same (planned words before.geometry answers.files) before after answers read answered.followed whole image told
-    (subst (λ (p : Result SessionPlan Refusal). IsCalm before after (followed p (answers_to read p before.geometry image))) (sym same) calm)
-    ∙ ap (λ (p : Result SessionPlan Refusal). followed p (answers_to read p before.geometry image)) same)
+    inl (plan_same (plan_by_words words before.geometry answers.files) before after answers read answered.followed whole image told
+    (subst (λ (p : Result SessionPlan Refusal). IsCalm before after (session_by p (answers_to read p before.geometry image))) (sym same) calm)
+    ∙ ap (λ (p : Result SessionPlan Refusal). session_by p (answers_to read p before.geometry image)) same)
 
 session_told : (words : List (List ℕ)) (folder folder' : Folder) (before after : Device) (answers : Answers) → AreAnswers words folder folder' before after answers → (Rose folder.faults folder'.faults → ⊥) → (files : FileMap) → folder.told ≡ Some files → (image : Image) → content before ≡ Some image → (Rose before.faults after.faults → ⊥) → IsCalm before after (session_of words before.geometry (answers_of words before.geometry files image)) → IsSameOrMemory (session_of words before.geometry answers) (session_of words before.geometry (answers_of words before.geometry files image))
 session_told words folder folder' before after answers answered calm files known image told whole started =
@@ -205,7 +205,7 @@ session_told words folder folder' before after answers answered calm files known
           | inl named ↦ answered.filed.cause named.role named.name named.named named.fault
           | inr entry ↦ answered.filed.entry_cause entry
         ]))
-        | inr memory ↦ inr (ap (λ (p : Result SessionPlan Refusal). followed p answers) memory)
+        | inr memory ↦ inr (ap (λ (p : Result SessionPlan Refusal). session_by p answers) memory)
       ]
     ]
 

@@ -27,8 +27,8 @@ use Rattle.bb_tool.specs.Looking.{first_found, look_text, passed_in}
 use Rattle.bb_tool.specs.Booting.{SaveAnswer, boots}
 use Rattle.bb_tool.specs.Plan.{Act, Boot, Good, SessionPlan, Show, Work, Write}
 use Rattle.bb_tool.specs.Refusal.{copy_refusal}
-use Rattle.bb_tool.specs.Session.{LoadAnswer, Session, barred, loaded_area, saved, saved_where, saves_behind, saves_of, text_of, worked}
-use Rattle.bb_tool.specs.Work.{AreSaved, Gives, IsLoaded, IsLooked, IsSaved, IsStoreWork, IsWorkOf, IsWorkedOut, SendsByMemory, taken}
+use Rattle.bb_tool.specs.Session.{LoadAnswer, Session, refusal_by_table, loaded_area, session_of_saves, saved_where, saves_behind, saves_of, text_of, work_session}
+use Rattle.bb_tool.specs.Work.{AreSaved, Gives, IsLoaded, IsLooked, IsSaved, IsStoreWork, IsWorkOf, IsWorkedOut, SendsByMemory, area_taken}
 use Rattle.bb_tool.specs.declared.refusal.Refusal.{Refusal}
 use Rattle.bb_tool.specs.declared.refusal.Refusal.TheVariants as refusals
 use Rattle.bb_tool.specs.declared.report.Report.{Report}
@@ -106,7 +106,7 @@ pub record LoadClauses (keyed : Keyed) (area : List ℕ) (from to : Device)
 
 pub load_ok : (keyed : Keyed) (area : List ℕ) (from to : Device) (loaded : Loaded) →
     LoadClauses keyed area from to (Ok loaded) →
-    IsLoaded keyed (used_after loaded) from to (Ok (taken area loaded))
+    IsLoaded keyed (used_after loaded) from to (Ok (area_taken area loaded))
 load_ok keyed area from to loaded clauses = record {
   images = clauses.images;
   outside = clauses.outside;
@@ -184,7 +184,7 @@ pub record IsBegun (keyed : Keyed) (used : Option ℕ) (areas : List (List ℕ))
     (given : List ℕ → Result Report Refusal) : Type 0 where
   pub saves : List SaveAnswer
   pub are : AreSaved keyed used areas mid to saves
-  pub gives : (text : List ℕ) → Gives (saved text areas saves) (given text)
+  pub gives : (text : List ℕ) → Gives (session_of_saves text areas saves) (given text)
 
 pub saved_ok : (keyed : Keyed) (used : Option ℕ) (area : List ℕ) (mid to : Device) →
     IsSaved keyed used area mid to (Ok false) →
@@ -223,38 +223,38 @@ where_err keyed used area mid to true fault idle saves = absurd (idle refl)
 where_err keyed used area mid to false fault idle saves =
     saved_err keyed used area mid to fault (saves refl)
 
--- ---- the work behind a load that answered Ok
+-- ---- the work after a load that answered Ok
 
 module _ (keyed : Keyed) (work : Work) (from mid to : Device) (area : List ℕ) (loaded : Loaded)
     (stored : is_store work ≡ true) (many : 2 ≤ keyed.layout.copies)
     (clauses : LoadClauses keyed area from mid (Ok loaded))
     (given : List ℕ → Result Report Refusal)
     (begun : IsBegun keyed (used_after loaded) (saves_of keyed.layout work area) mid to given)
-    (free : barred work area ≡ None) where
+    (free : refusal_by_table work area ≡ None) where
   abbrev Whole : SessionPlan
   Whole = record { keyed = keyed; work = work }
 
-  same_area : loaded_area keyed.layout (taken area loaded) ≡ area
+  same_area : loaded_area keyed.layout (area_taken area loaded) ≡ area
   same_area =
       load_area keyed area loaded from mid
       (record { gives = clauses.gives; defaults = clauses.defaults; exact = clauses.exact })
 
-  begun_behind : IsBegun keyed (used_after loaded) (saves_behind Whole (Ok (taken area loaded)))
+  begun_behind : IsBegun keyed (used_after loaded) (saves_behind Whole (Ok (area_taken area loaded)))
       mid to given
   begun_behind =
       subst (λ a. IsBegun keyed (used_after loaded) (saves_of keyed.layout work a) mid to given)
       (sym same_area) begun
 
-  session_is : worked Whole (Ok (taken area loaded)) begun_behind.saves
-      ≡ saved (text_of keyed.layout work (taken area loaded))
-      (saves_behind Whole (Ok (taken area loaded))) begun_behind.saves
+  session_is : work_session Whole (Ok (area_taken area loaded)) begun_behind.saves
+      ≡ session_of_saves (text_of keyed.layout work (area_taken area loaded))
+      (saves_behind Whole (Ok (area_taken area loaded))) begun_behind.saves
   session_is =
-      open_session Whole (taken area loaded) begun_behind.saves (store_boots work stored)
-      (ap (barred work) same_area ∙ free)
+      open_session Whole (area_taken area loaded) begun_behind.saves (store_boots work stored)
+      (ap (refusal_by_table work) same_area ∙ free)
 
-  store_done : IsWorkOf work Whole from to (Ok (taken area loaded)) begun_behind.saves
+  store_done : IsWorkOf work Whole from to (Ok (area_taken area loaded)) begun_behind.saves
   store_done =
-      store_work work Whole from to (Ok (taken area loaded)) begun_behind.saves stored (record {
+      store_work work Whole from to (Ok (area_taken area loaded)) begun_behind.saves stored (record {
         middle = mid;
         used = used_after loaded;
         many = many;
@@ -264,17 +264,17 @@ module _ (keyed : Keyed) (work : Work) (from mid to : Device) (area : List ℕ) 
 
   -- the session answers this
   pub stored_out : (answer : Result Report Refusal) →
-      answer ≡ given (text_of keyed.layout work (taken area loaded)) →
+      answer ≡ given (text_of keyed.layout work (area_taken area loaded)) →
       IsWorkedOut keyed work from to answer
   stored_out answer is =
       subst (IsWorkedOut keyed work from to) (sym is)
       (inl (record {
-        load = Ok (taken area loaded);
+        load = Ok (area_taken area loaded);
         saves = begun_behind.saves;
         work = store_done;
         gives =
-            subst (λ (s : Session). Gives s (given (text_of keyed.layout work (taken area loaded))))
-            (sym session_is) (begun_behind.gives (text_of keyed.layout work (taken area loaded)));
+            subst (λ (s : Session). Gives s (given (text_of keyed.layout work (area_taken area loaded))))
+            (sym session_is) (begun_behind.gives (text_of keyed.layout work (area_taken area loaded)));
       }))
 
   -- or memory was refused for its text
@@ -282,12 +282,12 @@ module _ (keyed : Keyed) (work : Work) (from mid to : Device) (area : List ℕ) 
       (answer : Result Report Refusal) → answer ≡ Err refusals.NoMemory →
       IsWorkedOut keyed work from to answer
   stored_textless whole answer is =
-      let text = text_of keyed.layout work (taken area loaded) in
+      let text = text_of keyed.layout work (area_taken area loaded) in
       let gives = subst
-      (Gives (saved text (saves_behind Whole (Ok (taken area loaded))) begun_behind.saves))
+      (Gives (session_of_saves text (saves_behind Whole (Ok (area_taken area loaded))) begun_behind.saves))
       (whole text) (begun_behind.gives text) in
       inr (inl (record {
-        load = Ok (taken area loaded);
+        load = Ok (area_taken area loaded);
         saves = begun_behind.saves;
         work = store_done;
         whole =
@@ -299,16 +299,16 @@ module _ (keyed : Keyed) (work : Work) (from mid to : Device) (area : List ℕ) 
 
 pub barred_out : (keyed : Keyed) (work : Work) (from to : Device) (area : List ℕ)
     (loaded : Loaded) (refusal : Refusal) → is_store work ≡ true → 2 ≤ keyed.layout.copies →
-    LoadClauses keyed area from to (Ok loaded) → barred work area ≡ Some refusal →
+    LoadClauses keyed area from to (Ok loaded) → refusal_by_table work area ≡ Some refusal →
     (given : Result Report Refusal) → given ≡ Err refusal →
     IsWorkedOut keyed work from to given
 barred_out keyed work from to area loaded refusal stored many clauses bars given is =
     let plan : SessionPlan = record { keyed = keyed; work = work } in
-    let found = taken area loaded in
+    let found = area_taken area loaded in
     let same : loaded_area keyed.layout found ≡ area =
     load_area keyed area loaded from to
     (record { gives = clauses.gives; defaults = clauses.defaults; exact = clauses.exact }) in
-    let here : barred work (loaded_area keyed.layout found) ≡ Some refusal = ap (barred work) same ∙ bars in
+    let here : refusal_by_table work (loaded_area keyed.layout found) ≡ Some refusal = ap (refusal_by_table work) same ∙ bars in
     subst (IsWorkedOut keyed work from to) (sym is)
     (inl (record {
       load = Ok found;

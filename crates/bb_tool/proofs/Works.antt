@@ -2,6 +2,7 @@
 use Rattle.std.proofs.Common.{◌≡◌, ℕ, false, List, [], ◌∷◌, length, Option, Some, None, Ok, Err, is_some, refl, sym, ap, subst, ◌∙◌, inl, inr, arith}
 use Rattle.std.specs.Option.{option_map}
 use Rattle.std.proofs.lemmas.Option.{slice_get_within}
+use Rattle.bb_bucket.specs.Calls.{IsQuiet}
 use Rattle.bb_copies.specs.Chronicle.{Content, Loaded, Looked, Turn, Unloaded}
 use Rattle.bb_copies.specs.Loading.{KeepsOutside}
 use Rattle.bb_copies.specs.Luck.{IsLucky}
@@ -18,11 +19,11 @@ use Rattle.bb_flash.specs.declared.plan.Plan.{Plan as StartPlan}
 use Rattle.bb_state.specs.Keyed.{Keyed}
 use Rattle.bb_shell.proofs.Reached.{stops_refused}
 use Rattle.bb_state.specs.Kinds.{laid_kinds}
-use Rattle.bb_tool.specs.Looking.{IsQuiet, passed_in}
+use Rattle.bb_tool.specs.Looking.{passed_in}
 use Rattle.bb_tool.specs.Booting.{SaveAnswer, boots}
 use Rattle.bb_shell.specs.Counting.{turn_of_rounds}
 use Rattle.bb_tool.specs.Plan.{Act, Boot, Good, SessionPlan, Show, Work, Write}
-use Rattle.bb_tool.specs.Session.{LoadAnswer, Session, barred, loaded_area, saved, saves_behind, text_of}
+use Rattle.bb_tool.specs.Session.{LoadAnswer, Session, refusal_by_table, loaded_area, session_of_saves, saves_behind, text_of}
 use Rattle.bb_tool.specs.Turns.{EachStanding, HasTrail, HasTrails, IsFairRun, LeadsOn, LeadsTo, boot_turn, first_area, load_turn, made_of, work_turn}
 use Rattle.bb_tool.specs.Work.{AreSaved, IsBootWork, IsLoaded, IsSaved, IsStoreWork, IsWork, IsWorkOf}
 use Rattle.bb_tool.proofs.Copies.{given, load_stays, loads_in_order, saves_in_order, since_entry, since_load, stored_stands}
@@ -63,7 +64,7 @@ unloaded keyed used from mid fault load = λ first e last f before is stands.
 
 abbrev behind : List ℕ → List (List ℕ) → List SaveAnswer → List (Option ℕ) → Turn
 behind text areas saves marks =
-    Loaded (picked marks) (saved text areas saves).saves (made_of saves) None
+    Loaded (picked marks) (session_of_saves text areas saves).saves (made_of saves) None
 
 unsaved : (keyed : Keyed) (used : Option ℕ) (from mid : Device) (found : Option (List ℕ)) →
     IsLoaded keyed used from mid (Ok found) →
@@ -158,7 +159,7 @@ store_turned plan from to (Ok found) saves store work =
     (λ (made : List (List ℕ)). Turned plan.keyed from to
     (λ marks. Loaded (picked marks) made (made_of saves) None))
     (sym (worked_saves plan found saves store
-    (barred plan.work (loaded_area plan.keyed.layout found)) refl))
+    (refusal_by_table plan.work (loaded_area plan.keyed.layout found)) refl))
     (saves_turned plan.keyed work.used from work.middle to found text areas saves work.loaded
     work.saved)
 store_turned plan from to (Err fault) saves store work =

@@ -37,13 +37,13 @@ answer_to outcomes.Started = Ok true
 
 -- ---- the rounds
 
--- those of a boot behind a load of this table
+-- those of a boot after a load of this table
 abbrev pub rounds_of :
     Binding → Cause → List (Option StartPlan) → List ℕ → List SaveAnswer → List Round
 rounds_of targets cause plans table answers =
     rounds_by targets plans (first_table targets cause true table) (map round_answer answers)
 
--- no target qualifies in the table behind the reset
+-- no target qualifies in the table after the reset
 abbrev pub has_no_target : Binding → Cause → List ℕ → Bool
 has_no_target targets cause table =
     is_none (best_of targets (first_table targets cause true table))
@@ -73,7 +73,7 @@ start_in plans round =
 abbrev pub start_of : Work → List Round → Option StartPlan
 start_of work rounds = option_and_then (start_in (plans_of work)) (last_round rounds)
 
--- A boot behind a load of this table has rounds by the rules: each is of the best target in the table
+-- A boot after a load of this table has rounds by the rules: each is of the best target in the table
 -- that it starts from, one attempt of it is spent, and no start comes before its save answered Ok.
 -- No other work has rounds.
 abbrev pub AreRoundsOf : Work → List ℕ → List Round → Type 0

@@ -11,7 +11,7 @@ use Rattle.bb_flash.specs.declared.geometry.Geometry.{Geometry}
 use Rattle.bb_words.specs.Words.{words_of}
 use Rattle.bb_tool.specs.Ending.{AreAnswers}
 use Rattle.bb_tool.specs.Filing.{IsFolderLater}
-use Rattle.bb_tool.specs.Plan.{SessionPlan, copies_in, files_for, names_file, planned}
+use Rattle.bb_tool.specs.Plan.{SessionPlan, copies_in, files_for, names_file, plan_by_words}
 use Rattle.bb_tool.specs.Ran.{Ran}
 use Rattle.bb_tool.specs.Refusal.{line_of, status_of}
 use Rattle.bb_tool.specs.Session.{Answers, Session, answers_of, barred_behind, ended_status, load_for, sent_of, session_of}
@@ -40,11 +40,11 @@ session_for ran answers = session_of ran.words (geometry_of ran) answers
 -- the plan, where reading the files that the words name gave what these files hold
 abbrev pub plan_over : Ran → FileMap → Result SessionPlan Refusal
 plan_over ran files =
-    planned ran.words (geometry_of ran) (files_for ran.words (geometry_of ran) files)
+    plan_by_words ran.words (geometry_of ran) (files_for ran.words (geometry_of ran) files)
 
 -- the plan for what reading the files answered
 abbrev pub plan_for : Ran → Answers → Result SessionPlan Refusal
-plan_for ran answers = planned ran.words (geometry_of ran) answers.files
+plan_for ran answers = plan_by_words ran.words (geometry_of ran) answers.files
 
 -- the words name no file
 abbrev pub NamesNoFile : Ran → Type 0
@@ -62,13 +62,13 @@ pub record IsAnswered (ran : Ran) : Type 0 where
   pub answered : MayAnswer ran answers
   pub told : Tells ran (sent_of (session_for ran answers)) (ended_status (session_for ran answers))
 
--- memory was refused behind all work on the device, for what was to be sent of it
+-- memory was refused after all work on the device, for what was to be sent of it
 pub record IsWithoutText (ran : Ran) : Type 0 where
   pub answers : Answers
   pub answered : MayAnswer ran answers
   pub whole : SendsByMemory (session_for ran answers).refusal
 
--- memory was refused, before any call of the device or behind all work on it, and only that one line
+-- memory was refused, before any call of the device or after all work on it, and only that one line
 -- was told
 pub record IsWithoutMemory (ran : Ran) : Type 0 where
   pub told : Tells ran (line_of refusals.NoMemory) statuses.NoMemory
@@ -156,8 +156,8 @@ is_fault statuses.WriteFault = true
 is_fault statuses.SinkFault = true
 is_fault _ = false
 
--- an answer comes exactly where a fact holds; a failing output and want of memory come before it
-pub record ComesExactly (ran : Ran) (answer : Status) (fact : Type 0) : Type 0 where
+-- an answer comes exactly where a fact holds; a failing output and refused memory come before it
+pub record AnswersExactly (ran : Ran) (answer : Status) (fact : Type 0) : Type 0 where
   pub only : ran.status ≡ answer → fact
   pub always : fact
       → (ran.status ≡ answer)
@@ -165,7 +165,7 @@ pub record ComesExactly (ran : Ran) (answer : Status) (fact : Type 0) : Type 0 w
 
 -- so does the answer to words that are no command
 abbrev pub ComesByWords : Status → Ran → Type 0
-ComesByWords answer ran = ComesExactly ran answer (IsErr (words_of ran.words))
+ComesByWords answer ran = AnswersExactly ran answer (IsErr (words_of ran.words))
 
 -- a plan is refused with this status
 abbrev pub IsRefusedWith : Status → Result SessionPlan Refusal → Type 0
@@ -189,7 +189,7 @@ ComesByPlan answer ran =
 abbrev pub ComesByPlanAlone : Status → Ran → Type 0
 ComesByPlanAlone answer ran =
     NamesNoFile ran → (files : FileMap)
-    → ComesExactly ran answer (IsRefusedWith answer (plan_over ran files))
+    → AnswersExactly ran answer (IsRefusedWith answer (plan_over ran files))
 
 -- An answer comes exactly where the table of a plan's copies at entry ends the session before any
 -- save, with this refusal. Each fault comes before it.

@@ -3,7 +3,7 @@ use Rattle.std.specs.Prelude.{◌≡◌, ◌⊎◌, ℕ, List, Result, Ok, Err}
 use Rattle.bb_base.specs.Folder.{Folder}
 use Rattle.bb_flash.specs.Device.{Device}
 use Rattle.bb_tool.specs.Filing.{IsFiled}
-use Rattle.bb_tool.specs.Plan.{SessionPlan, planned}
+use Rattle.bb_tool.specs.Plan.{SessionPlan, plan_by_words}
 use Rattle.bb_tool.specs.Session.{Answers, session_of}
 use Rattle.bb_tool.specs.Work.{Gives, IsRefusedMemory, IsWork, SendsByMemory}
 use Rattle.bb_tool.specs.declared.report.Report.{Report}
@@ -19,7 +19,7 @@ IsFollowed (Err refusal) before after answers = after ≡ before
 pub record AreAnswers (words : List (List ℕ)) (folder folder' : Folder) (before after : Device)
     (answers : Answers) : Type 0 where
   pub filed : IsFiled words before.geometry folder folder' answers.files
-  pub followed : IsFollowed (planned words before.geometry answers.files) before after answers
+  pub followed : IsFollowed (plan_by_words words before.geometry answers.files) before after answers
 
 -- the session gave its text, or its refusal
 pub record IsAnswer (words : List (List ℕ)) (folder folder' : Folder) (before after : Device)

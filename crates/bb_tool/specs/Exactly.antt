@@ -4,7 +4,7 @@ use Rattle.std.specs.Prelude.{◌≡◌, ℕ, ◌&&◌, Bool, false, not, List, 
 use Rattle.std.specs.Option.{ForSome, option_map_or}
 use Rattle.std.specs.Str.{bytes_eq}
 use Rattle.bb_base.specs.Form.{Form}
-use Rattle.bb_bucket.specs.Kind.{Kind, part_of}
+use Rattle.bb_bucket.specs.Kind.{BucketKind, part_of}
 use Rattle.bb_copies.specs.Buckets.{EachCopy}
 use Rattle.bb_flash.specs.Device.{Device, content}
 use Rattle.bb_flash.specs.Image.{Image}
@@ -13,43 +13,43 @@ use Rattle.bb_state.specs.Kinds.{laid_form, laid_kinds}
 use Rattle.bb_tool.specs.Looking.{first_found, passed_in}
 use Rattle.bb_tool.specs.Booting.{SaveAnswer}
 use Rattle.bb_tool.specs.Plan.{Act, Boot, Good, SessionPlan, Show, Work, Write}
-use Rattle.bb_tool.specs.Session.{saves_behind, worked}
+use Rattle.bb_tool.specs.Session.{saves_behind, work_session}
 use Rattle.bb_tool.specs.declared.refusal.Refusal.{Refusal}
 
 -- ---- the region of one copy
 
 -- its record passes this area, and no page of it is Worn
-abbrev pub is_fresh : Form → Kind → List ℕ → Image → Bool
+abbrev pub is_fresh : Form → BucketKind → List ℕ → Image → Bool
 is_fresh form kind area region =
     not (kind.is_worn region)
     && option_map_or (λ passed. bytes_eq passed area)
     (option_and_then form.passes (kind.candidate_of region)) false
 
 -- after a load that took this area, if it took one: a copy that isn't fresh is written
-abbrev pub loaded_region : Form → Kind → Option (List ℕ) → Image → Image
+abbrev pub loaded_region : Form → BucketKind → Option (List ℕ) → Image → Image
 loaded_region form kind None region = region
 loaded_region form kind (Some area) region =
     if is_fresh form kind area region then region else kind.after_write (form.text area) region
 
 -- after saves of these areas, one after another: each writes the copy
-abbrev pub saved_region : Form → Kind → List (List ℕ) → Image → Image
+abbrev pub saved_region : Form → BucketKind → List (List ℕ) → Image → Image
 saved_region form kind [] region = region
 saved_region form kind (area ∷ areas) region =
     saved_region form kind areas (kind.after_write (form.text area) region)
 
 -- ---- the work of a plan, where the first copy that passed had this area, or none passed
 
--- the areas that are saved behind the load: those of a boot hang on the answers of its starts
+-- the areas that are saved after the load: those of a boot hang on the answers of its starts
 abbrev pub saves_made : Work → SessionPlan → Option (List ℕ) → List SaveAnswer → List (List ℕ)
 saves_made Show plan found answers = saves_behind plan (Ok found)
 saves_made (Write area) plan found answers = saves_behind plan (Ok found)
 saves_made (Act actions) plan found answers = saves_behind plan (Ok found)
 saves_made (Good targets) plan found answers = saves_behind plan (Ok found)
-saves_made (Boot targets cause plans) plan found answers = (worked plan (Ok found) answers).saves
+saves_made (Boot targets cause plans) plan found answers = (work_session plan (Ok found) answers).saves
 
 -- after the load, and the saves behind it; a look changes nothing
 abbrev pub worked_region :
-    Work → SessionPlan → Option (List ℕ) → List SaveAnswer → Kind → Image → Image
+    Work → SessionPlan → Option (List ℕ) → List SaveAnswer → BucketKind → Image → Image
 worked_region Show plan found answers kind region = region
 worked_region work plan found answers kind region =
     let form = laid_form plan.keyed in
@@ -70,7 +70,8 @@ last_area work plan found answers = last_of found (saves_made work plan found an
 -- ---- what it leaves of all copies
 
 -- the regions of the copies are what f makes of them
-abbrev pub LeavesRegions : List Kind → ℕ → (Kind → Image → Image) → Image → Image → Type 0
+abbrev pub LeavesRegions :
+    List BucketKind → ℕ → (BucketKind → Image → Image) → Image → Image → Type 0
 LeavesRegions kinds page f before after =
     EachCopy kinds
     (λ copy kind. part_of page kind.region after ≡ f kind (part_of page kind.region before))

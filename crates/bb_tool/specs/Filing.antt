@@ -8,7 +8,7 @@ use Rattle.bb_chooser.specs.Binding.{Binding}
 use Rattle.bb_flash.specs.declared.geometry.Geometry.{Geometry}
 use Rattle.bb_flash.specs.declared.plan.Plan.{Plan as StartPlan}
 use Rattle.bb_base.specs.declared.files.FileFail.TheVariants.{Fault}
-use Rattle.bb_layout.specs.Layout.{laid}
+use Rattle.bb_layout.specs.Layout.{fields_of}
 use Rattle.bb_layout.specs.declared.format_kind.FormatKind.{FormatKind}
 use Rattle.bb_state.specs.Keyed.{Keyed}
 use Rattle.bb_words.specs.Words.{words_of}
@@ -110,7 +110,7 @@ pub record IsStateRead (state : Described) (geometry : Geometry) (before after :
 
 -- a layout with its key, as the code has it
 abbrev pub keyed_as : KeyedLayout → Keyed
-keyed_as keyed = record { layout = laid keyed.layout; key = keyed.key }
+keyed_as keyed = record { layout = fields_of keyed.layout; key = keyed.key }
 
 -- its files were read, and its layout with its key is given
 pub record IsKeyedFor {A : Type 0} (state : Described) (geometry : Geometry) (before after : Folder)

@@ -1,4 +1,4 @@
--- Definitions that contracts cite.
+-- Definitions that contracts cite. A reader has to believe all of them.
 pub use Rattle.bb_base.specs.Faults
 pub use Rattle.bb_base.specs.Folder
 pub use Rattle.bb_base.specs.Outlet
@@ -29,6 +29,7 @@ pub mod Looking
 pub mod Marking
 pub mod Plan
 pub mod Ran
+pub mod Reading
 pub mod Refusal
 pub mod Session
 pub mod Starting

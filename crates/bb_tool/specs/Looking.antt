@@ -1,15 +1,13 @@
 -- What the copies of a layout pass as, and the first that passes.
-use Rattle.std.specs.Prelude.{◌≡◌, ℕ, List, [], ◌∷◌, ◌++◌, codes, Option, Some, None}
+use Rattle.std.specs.Prelude.{ℕ, List, [], ◌∷◌, ◌++◌, codes, Option, Some, None}
 use Rattle.hex.specs.Hex.{encode_lower}
-use Rattle.bb_bucket.specs.Calls.{told_but_reads}
 use Rattle.bb_copies.specs.Passing.{passings}
-use Rattle.bb_flash.specs.Cuts.{IsLater}
-use Rattle.bb_flash.specs.Device.{Device, LeavesStarts}
 use Rattle.bb_flash.specs.Image.{Image}
 use Rattle.bb_state.specs.Keyed.{Keyed}
 use Rattle.bb_state.specs.Kinds.{laid_form, laid_kinds}
 
--- what each copy of a layout passes as under its key, in an image of a device with pages of this size
+-- what each copy of a layout passes as under its key, in an image of a device with pages of this
+-- size
 abbrev pub passed_in : Keyed → ℕ → Image → List (Option (List ℕ))
 passed_in keyed page image = passings (laid_form keyed) page (laid_kinds keyed.layout) image
 
@@ -23,9 +21,3 @@ first_found (Some area ∷ passed) = Some area
 abbrev pub look_text : Option (List ℕ) → List ℕ
 look_text (Some area) = encode_lower area ++ codes "\n"
 look_text None = codes "none\n"
-
--- reads at most were made: the device tells the same but for their number
-pub record IsQuiet (from to : Device) : Type 0 where
-  pub told : told_but_reads to ≡ told_but_reads from
-  pub later : IsLater from to
-  pub starts : LeavesStarts from to

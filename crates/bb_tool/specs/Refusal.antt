@@ -142,11 +142,14 @@ refusal_words (refusals.BadKey e) = codes "BadKey " ++ key_words e
 refusal_words (refusals.NoGood place) = codes "NoGood " ++ decimal place
 refusal_words refusals.NoMemory = codes "NoMemory"
 
+-- the line of a fault: the number of its status, and what it is
+abbrev pub fault_text : Status → List ℕ → List ℕ
+fault_text status words =
+    codes "fault " ++ decimal (code_of status) ++ codes " " ++ words ++ codes "\n"
+
 -- the line of a refusal
 abbrev pub line_of : Refusal → List ℕ
-line_of refusal =
-    codes "fault " ++ decimal (code_of (status_of refusal)) ++ codes " "
-    ++ refusal_words refusal ++ codes "\n"
+line_of refusal = fault_text (status_of refusal) (refusal_words refusal)
 
 -- a copy that is named is one of the three
 abbrev pub IsTellable : Refusal → Type 0
@@ -179,7 +182,7 @@ copy_refusal copy_faults.ReadFault = refusals.ReadFault
 copy_refusal (copy_faults.WriteFault copy) = refusals.WriteFault copy
 copy_refusal copy_faults.Unsure = refusals.ReadFault
 
--- want of memory while a file is read is the session's, and says nothing of what the file holds
+-- refused memory while a file is read is the session's, and says nothing of what the file holds
 abbrev pub tree_refusal : DtsError → Refusal
 tree_refusal (tree_errors.NotText at) = refusals.BadTree (tree_errors.NotText at)
 tree_refusal (tree_errors.BadToken at) = refusals.BadTree (tree_errors.BadToken at)

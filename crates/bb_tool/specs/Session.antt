@@ -18,7 +18,7 @@ use Rattle.bb_tool.specs.Marking.{good_text, lost_place}
 use Rattle.bb_shell.specs.Boot.{Round, all_attempts, end_of, first_table}
 use Rattle.bb_shell.specs.Stages.{saves_of as tables_of}
 use Rattle.bb_tool.specs.Booting.{SaveAnswer, end_refusal, end_text, has_no_target, rounds_of}
-use Rattle.bb_tool.specs.Plan.{Act, Boot, FileAnswers, Good, SessionPlan, Show, Work, Write, files_for, planned}
+use Rattle.bb_tool.specs.Plan.{Act, Boot, FileAnswers, Good, SessionPlan, Show, Work, Write, files_for, plan_by_words}
 use Rattle.bb_tool.specs.Refusal.{copy_refusal, line_of, status_of}
 use Rattle.bb_tool.specs.declared.refusal.Refusal.{Refusal}
 use Rattle.bb_tool.specs.declared.refusal.Refusal.TheVariants.{NoGood, NoTarget}
@@ -72,7 +72,7 @@ abbrev pub saved_where : Bool → List ℕ → List (List ℕ)
 saved_where true area = []
 saved_where false area = area ∷ []
 
--- the areas that are saved behind a load, in their order, where no start is behind a save
+-- the areas that are saved after a load, in their order, where no start is after a save
 abbrev pub saves_of : Laid → Work → List ℕ → List (List ℕ)
 saves_of layout Show area = []
 saves_of layout (Write new) area = new ∷ []
@@ -94,22 +94,22 @@ text_of layout (Boot targets cause plans) found = []
 
 -- the saves are begun one after another, and the first that is refused ends them, before any text
 -- is gathered
-abbrev pub saved : List ℕ → List (List ℕ) → List SaveAnswer → Session
-saved text [] answers = done_with text
-saved text (area ∷ areas) [] = done_with text
-saved text (area ∷ areas) (Err fault ∷ answers) =
+abbrev pub session_of_saves : List ℕ → List (List ℕ) → List SaveAnswer → Session
+session_of_saves text [] answers = done_with text
+session_of_saves text (area ∷ areas) [] = done_with text
+session_of_saves text (area ∷ areas) (Err fault ∷ answers) =
     record { text = []; refusal = Some (copy_refusal fault); saves = area ∷ []; rounds = [] }
-saved text (area ∷ areas) (Ok made ∷ answers) =
-    let rest = saved text areas answers in record rest { saves = area ∷ rest.saves }
+session_of_saves text (area ∷ areas) (Ok made ∷ answers) =
+    let rest = session_of_saves text areas answers in record rest { saves = area ∷ rest.saves }
 
--- the areas that are saved behind the answer of the load, where no start is behind a save
+-- the areas that are saved after the answer of the load, where no start is after a save
 abbrev pub saves_behind : SessionPlan → LoadAnswer → List (List ℕ)
 saves_behind plan (Ok found) = saves_of plan.keyed.layout plan.work (loaded_area plan.keyed.layout found)
 saves_behind plan (Err fault) = []
 
--- a boot that has these rounds behind a load of this table
-abbrev pub booted : Binding → List ℕ → List Round → Session
-booted targets table rounds = record {
+-- a boot that has these rounds after a load of this table
+abbrev pub boot_session : Binding → List ℕ → List Round → Session
+boot_session targets table rounds = record {
   text = end_text targets (end_of targets rounds);
   refusal = end_refusal targets (end_of targets rounds);
   saves = tables_of table rounds;
@@ -118,17 +118,17 @@ booted targets table rounds = record {
 
 -- why a table that was loaded ends the session before any save, where it does: no target has the
 -- place that is to be marked good, or none qualifies
-abbrev pub barred : Work → List ℕ → Option Refusal
-barred Show table = None
-barred (Write new) table = None
-barred (Act actions) table = None
-barred (Good targets) table = option_map NoGood (lost_place targets table)
-barred (Boot targets cause plans) table =
+abbrev pub refusal_by_table : Work → List ℕ → Option Refusal
+refusal_by_table Show table = None
+refusal_by_table (Write new) table = None
+refusal_by_table (Act actions) table = None
+refusal_by_table (Good targets) table = option_map NoGood (lost_place targets table)
+refusal_by_table (Boot targets cause plans) table =
     if has_no_target targets cause table then Some NoTarget else None
 
--- so it is behind the answer of the load
+-- so it is after the answer of the load
 abbrev pub barred_behind : Result SessionPlan Refusal → LoadAnswer → Option Refusal
-barred_behind (Ok plan) (Ok found) = barred plan.work (loaded_area plan.keyed.layout found)
+barred_behind (Ok plan) (Ok found) = refusal_by_table plan.work (loaded_area plan.keyed.layout found)
 barred_behind (Ok plan) (Err fault) = None
 barred_behind (Err refusal) load = None
 
@@ -136,33 +136,33 @@ abbrev pub unless_barred : Option Refusal → Session → Session
 unless_barred None session = session
 unless_barred (Some refusal) session = refused_for refusal
 
--- work behind a load that answered Ok, by what its saves were answered: saves alone, or a boot
-abbrev pub stored : SessionPlan → Option (List ℕ) → List SaveAnswer → Session
-stored plan found saves =
-    saved (text_of plan.keyed.layout plan.work found) (saves_behind plan (Ok found)) saves
+-- work after a load that answered Ok, by what its saves were answered: saves alone, or a boot
+abbrev pub saving_session : SessionPlan → Option (List ℕ) → List SaveAnswer → Session
+saving_session plan found saves =
+    session_of_saves (text_of plan.keyed.layout plan.work found) (saves_behind plan (Ok found)) saves
 
 abbrev pub worked_on : Work → SessionPlan → Option (List ℕ) → List SaveAnswer → Session
-worked_on Show plan found saves = stored plan found saves
-worked_on (Write area) plan found saves = stored plan found saves
-worked_on (Act actions) plan found saves = stored plan found saves
-worked_on (Good targets) plan found saves = stored plan found saves
+worked_on Show plan found saves = saving_session plan found saves
+worked_on (Write area) plan found saves = saving_session plan found saves
+worked_on (Act actions) plan found saves = saving_session plan found saves
+worked_on (Good targets) plan found saves = saving_session plan found saves
 worked_on (Boot targets cause plans) plan found saves =
     let table = loaded_area plan.keyed.layout found in
-    booted targets table (rounds_of targets cause plans table saves)
+    boot_session targets table (rounds_of targets cause plans table saves)
 
-abbrev pub worked : SessionPlan → LoadAnswer → List SaveAnswer → Session
-worked plan (Ok found) saves =
-    unless_barred (barred plan.work (loaded_area plan.keyed.layout found))
+abbrev pub work_session : SessionPlan → LoadAnswer → List SaveAnswer → Session
+work_session plan (Ok found) saves =
+    unless_barred (refusal_by_table plan.work (loaded_area plan.keyed.layout found))
     (worked_on plan.work plan found saves)
-worked plan (Err fault) saves = refused_for (copy_refusal fault)
+work_session plan (Err fault) saves = refused_for (copy_refusal fault)
 
-abbrev pub followed : Result SessionPlan Refusal → Answers → Session
-followed (Ok plan) answers = worked plan answers.load answers.saves
-followed (Err refusal) answers = refused_for refusal
+abbrev pub session_by : Result SessionPlan Refusal → Answers → Session
+session_by (Ok plan) answers = work_session plan answers.load answers.saves
+session_by (Err refusal) answers = refused_for refusal
 
 -- the plan, and then the work
 abbrev pub session_of : List (List ℕ) → Geometry → Answers → Session
-session_of words geometry answers = followed (planned words geometry answers.files) answers
+session_of words geometry answers = session_by (plan_by_words words geometry answers.files) answers
 
 -- ---- where nothing fails
 
@@ -202,4 +202,4 @@ answers_to files plan geometry image =
 abbrev pub answers_of : List (List ℕ) → Geometry → FileMap → Image → Answers
 answers_of words geometry files image =
     let read = files_for words geometry files in
-    answers_to read (planned words geometry read) geometry image
+    answers_to read (plan_by_words words geometry read) geometry image

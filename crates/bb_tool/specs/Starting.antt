@@ -1,4 +1,4 @@
--- What `run` says of starts: at most one, of the best target, by its plan, behind the save of the
+-- What `run` says of starts: at most one, of the best target, by its plan, after the save of the
 -- attempt that it spends. None of these facts names a command.
 use Rattle.std.specs.Prelude.{◌≡◌, ◌⊎◌, ℕ, ⊤, List, Option, Some, None, Ok, IsNone, IsSome, option_and_then}
 use Rattle.std.specs.Option.{ForSome}

@@ -11,10 +11,10 @@ use Rattle.bb_tool.specs.declared.refusal.Refusal.TheVariants as refusals
 use Rattle.bb_tool.specs.declared.status.Status.{Status}
 use Rattle.bb_tool.specs.declared.status.Status.TheVariants as statuses
 
--- the status where the output failed: no other takes the place of want of memory
-abbrev pub overruled : Status → Status
-overruled statuses.NoMemory = statuses.NoMemory
-overruled other = statuses.SinkFault
+-- the status where the output failed: 14, which yields to no other than that of refused memory, 20
+abbrev pub status_unsent : Status → Status
+status_unsent statuses.NoMemory = statuses.NoMemory
+status_unsent other = statuses.SinkFault
 
 -- this text was sent whole, and the status is this
 pub record IsSent (text : List ℕ) (ended : Status) (before after : Outlet) (status : Status) : Type 0 where
@@ -23,7 +23,7 @@ pub record IsSent (text : List ℕ) (ended : Status) (before after : Outlet) (st
 
 -- the output failed, after some front of the text
 pub record IsCutOff (text : List ℕ) (ended : Status) (before after : Outlet) (status : Status) : Type 0 where
-  pub status_is : status ≡ overruled ended
+  pub status_is : status ≡ status_unsent ended
   pub cause : Rose before.faults after.faults
   pub front : SendsFront text before after
 
@@ -31,8 +31,8 @@ abbrev pub IsTold : List ℕ → Status → Outlet → Outlet → Status → Typ
 IsTold text ended before after status =
     IsSent text ended before after status ⊎ IsCutOff text ended before after status
 
--- the line of a refusal takes memory, unless it is that of a refusal behind a call of the device that
--- names no target, or of want of memory
+-- the line of a refusal takes memory, unless it is that of a refusal after a call of the device that
+-- names no target, or of refused memory
 abbrev pub takes_memory : Refusal → Bool
 takes_memory (refusals.BadWords place) = true
 takes_memory (refusals.BadTree e) = true

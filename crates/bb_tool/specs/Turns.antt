@@ -15,7 +15,7 @@ use Rattle.bb_tool.specs.Looking.{passed_in}
 use Rattle.bb_shell.specs.Counting.{turn_of_rounds}
 use Rattle.bb_tool.specs.Booting.{SaveAnswer}
 use Rattle.bb_tool.specs.Plan.{Act, Boot, Good, SessionPlan, Show, Work, Write}
-use Rattle.bb_tool.specs.Session.{LoadAnswer, loaded_area, worked}
+use Rattle.bb_tool.specs.Session.{LoadAnswer, loaded_area, work_session}
 
 -- the area that an empty device stands for
 abbrev pub first_area : Laid → List ℕ
@@ -29,13 +29,13 @@ made_of saves = count_by is_ok saves
 
 abbrev pub load_turn : SessionPlan → LoadAnswer → List SaveAnswer → List (Option ℕ) → Turn
 load_turn plan (Ok found) saves marks =
-    Loaded (picked marks) (worked plan (Ok found) saves).saves (made_of saves) None
+    Loaded (picked marks) (work_session plan (Ok found) saves).saves (made_of saves) None
 load_turn plan (Err fault) saves marks = Unloaded
 
 -- of a boot, in which a save is begun only where a round has another table than the one before
 abbrev pub boot_turn : SessionPlan → LoadAnswer → List SaveAnswer → List (Option ℕ) → Turn
 boot_turn plan (Ok found) saves marks =
-    turn_of_rounds (picked marks) (loaded_area plan.keyed.layout found) (worked plan (Ok found) saves).rounds
+    turn_of_rounds (picked marks) (loaded_area plan.keyed.layout found) (work_session plan (Ok found) saves).rounds
 boot_turn plan (Err fault) saves marks = Unloaded
 
 abbrev pub work_turn : Work → SessionPlan → LoadAnswer → List SaveAnswer → List (Option ℕ) → Turn

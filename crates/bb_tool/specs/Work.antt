@@ -2,6 +2,7 @@
 use Rattle.std.specs.Prelude.{◌≡◌, ◌≢◌, ◌⊎◌, ℕ, ◌≤◌, List, [], ◌∷◌, length, map, ⊤, false, true, Option, Some, None, Result, Ok, Err, IfOk, IfErr, IsErr}
 use Rattle.std.specs.Option.{ForSome}
 use Rattle.bb_base.specs.Faults.{HasCause}
+use Rattle.bb_bucket.specs.Calls.{IsQuiet}
 use Rattle.bb_copies.specs.Loading.{KeepsOutside, LoadGives, LoadImages, LoadsExactly}
 use Rattle.bb_copies.specs.Saving.{EachWritten, SaveFails, SaveRuns}
 use Rattle.bb_copies.specs.Settling.{IsUndisturbed, RoseBy}
@@ -21,11 +22,11 @@ use Rattle.bb_shell.specs.Running.{AreRun}
 use Rattle.bb_shell.specs.Stages.{KeepsATrail, KeepsAtExit}
 use Rattle.bb_state.specs.Kinds.{laid_form, laid_kinds}
 use Rattle.bb_state.specs.State.{IsDefault, IsRefused, IsStored}
-use Rattle.bb_tool.specs.Looking.{IsQuiet, first_found, passed_in}
+use Rattle.bb_tool.specs.Looking.{first_found, passed_in}
 use Rattle.bb_shell.specs.declared.boot_end.BootEnd.{BootEnd}
 use Rattle.bb_tool.specs.Booting.{SaveAnswer, answer_to, end_refusal, end_text}
 use Rattle.bb_tool.specs.Plan.{Act, Boot, Good, SessionPlan, Show, Work, Write}
-use Rattle.bb_tool.specs.Session.{LoadAnswer, Session, loaded_area, saves_behind, worked}
+use Rattle.bb_tool.specs.Session.{LoadAnswer, Session, loaded_area, saves_behind, work_session}
 use Rattle.bb_tool.specs.Telling.{takes_memory}
 use Rattle.bb_tool.specs.declared.report.Report.{Report}
 use Rattle.bb_tool.specs.declared.refusal.Refusal.{Refusal}
@@ -33,7 +34,7 @@ use Rattle.bb_tool.specs.declared.refusal.Refusal.TheVariants as refusals
 
 -- ---- a look
 
--- the copies were looked at, and nothing changed
+-- the copies were looked at: reads at most were made
 pub record IsLooked (keyed : Keyed) (from to : Device) (answer : LoadAnswer) : Type 0 where
   pub told :
       ForSome (content from)
@@ -46,9 +47,9 @@ pub record IsLooked (keyed : Keyed) (from to : Device) (answer : LoadAnswer) : T
 -- ---- a load
 
 -- the area that was taken, if one was
-abbrev pub taken : List ℕ → Loaded → Option (List ℕ)
-taken area (Copy used live) = Some area
-taken area NoCopy = None
+abbrev pub area_taken : List ℕ → Loaded → Option (List ℕ)
+area_taken area (Copy used live) = Some area
+area_taken area NoCopy = None
 
 -- a load found a copy of this area, or no copy and this area's defaults
 pub record IsFound (keyed : Keyed) (area : List ℕ) (loaded : Loaded) (from to : Device)
@@ -63,7 +64,7 @@ pub record IsLoadedAs (keyed : Keyed) (used : Option ℕ) (from to : Device)
   pub area : List ℕ
   pub loaded : Loaded
   pub gave : IsFound keyed area loaded from to
-  pub taken : found ≡ taken area loaded
+  pub taken : found ≡ area_taken area loaded
   pub used_is : used ≡ used_after loaded
 
 -- what a load made of the device, and what it answered
@@ -92,7 +93,7 @@ pub record IsSaved (keyed : Keyed) (used : Option ℕ) (area : List ℕ) (from t
       IfOk answer
       (λ made. EachWritten (laid_kinds keyed.layout) ((laid_form keyed).text area) from to)
 
--- these saves were begun behind a load, one at most so far
+-- these saves were begun after a load, one at most so far
 abbrev pub AreSaved : Keyed → Option ℕ → List (List ℕ) → Device → Device → List SaveAnswer → Type 0
 AreSaved keyed used [] from to answers = (answers ≡ []) × (to ≡ from)
 AreSaved keyed used (area ∷ areas) from to [] = ⊥
@@ -101,7 +102,7 @@ AreSaved keyed used (area ∷ areas) from to (answer ∷ answers) =
 
 -- ---- a boot
 
--- Rounds were run behind a load of this table, and this is what was answered to each of them. `used`
+-- Rounds were run after a load of this table, and this is what was answered to each of them. `used`
 -- is the copy that the load took, and `now` the one that passes the last table.
 pub record IsBootRun (keyed : Keyed) (targets : Binding) (cause : Cause)
     (plans : List (Option StartPlan)) (table : List ℕ) (used : Option ℕ) (from to : Device)
@@ -126,7 +127,7 @@ pub record IsBootRun (keyed : Keyed) (targets : Binding) (cause : Cause)
   pub start_faults : RoseBy (failed_starts rounds) from.start_faults to.start_faults
   pub end_cause : HasEndCause plans from to (end_of targets rounds)
 
--- it comes behind a load that answered Ok
+-- it comes after a load that answered Ok
 abbrev pub IsBootBehind :
     Keyed → Binding → Cause → List (Option StartPlan) → Option ℕ → Device → Device → LoadAnswer →
     List SaveAnswer → Type 0
@@ -137,7 +138,7 @@ IsBootBehind keyed targets cause plans used from to (Err fault) answers =
 
 -- ---- the work of a plan
 
--- the copies were loaded, and the saves that the plan makes behind the answer were begun
+-- the copies were loaded, and the saves that the plan makes after the answer were begun
 pub record IsStoreWork (plan : SessionPlan) (from to : Device) (load : LoadAnswer)
     (saves : List SaveAnswer) : Type 0 where
   -- between the load and the saves
@@ -187,7 +188,7 @@ pub record IsWorkDone (plan : SessionPlan) (from to : Device) (given : Result Re
   pub load : LoadAnswer
   pub saves : List SaveAnswer
   pub work : IsWork plan from to load saves
-  pub gives : Gives (worked plan load saves) given
+  pub gives : Gives (work_session plan load saves) given
 
 -- what is to be sent takes memory: a text, or the line of a refusal that names something
 abbrev pub SendsByMemory : Option Refusal → Type 0
@@ -216,7 +217,7 @@ pub record IsTextRefused (plan : SessionPlan) (from to : Device) (given : Result
   pub load : LoadAnswer
   pub saves : List SaveAnswer
   pub work : IsWork plan from to load saves
-  pub whole : SendsByMemory (worked plan load saves).refusal
+  pub whole : SendsByMemory (work_session plan load saves).refusal
   pub is : given ≡ Err refusals.NoMemory
 
 -- memory was refused before any call of the device

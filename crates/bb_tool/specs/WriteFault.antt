@@ -40,7 +40,7 @@ pub record IsLeftStale (plan : SessionPlan) (from to : Device) (load : LoadAnswe
 -- that passes
 pub record IsUsed (plan : SessionPlan) (from middle : Device) (load : LoadAnswer) (copy : ℕ)
     : Type 0 where
-  -- behind the load
+  -- after the load
   pub first : Device
   pub used : Option ℕ
   pub loaded : IsLoaded plan.keyed used from first load

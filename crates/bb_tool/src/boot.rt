@@ -16,7 +16,7 @@ use crate::described::{KeyedLayout, read_keyed};
 use crate::refusal::Refusal;
 use crate::report::Report;
 use crate::targets::read_targets;
-use bb_base::{Bytes, Files, NoMemory, Text};
+use bb_base::{AREA_LIMIT, Bytes, Files, NoMemory, Text};
 use bb_chooser::{Cause, Chooser};
 use bb_flash::{Board, PlanList};
 use bb_shell::{BootEnd, PlanFault, boot_run, read_plans};
@@ -131,7 +131,7 @@ fn boot_on<B: Board>(
     ensures sends { IfOk result IsSendable }
     ensures later { IsLater (B.device board.old) (B.device board.new) }
 {
-    prove!(chooser.count() <= 65535);
+    prove!(chooser.count() <= AREA_LIMIT as usize);
     state.load(board)?;
     let end = boot_run(state, chooser, plans, cause, true, board);
     report(alloc, chooser, end)

@@ -1,11 +1,11 @@
 ghost use Rattle.std.specs.Prelude.{◌≡◌, ◌≤◌, IfErr, IfOk, length};
 ghost use Rattle.std.specs.Option.{option_copied};
 ghost use Rattle.bb_flash.specs.Geometry.{IsGeometry};
-ghost use Rattle.bb_layout.specs.Layout.{laid};
+ghost use Rattle.bb_layout.specs.Layout.{fields_of};
 ghost use Rattle.bb_state.specs.Keyed.{FitsKey};
 ghost use Rattle.bb_tree.specs.NodeViews.{branch_of};
 ghost use Rattle.bb_tool.specs.Filing.{Follows, IsFolderLater, IsKeyedFor, IsReadFor, keyed_as};
-ghost use Rattle.bb_tool.specs.Plan.{blob_root, described, layout_in, source_root, tree_in};
+ghost use Rattle.bb_tool.specs.Plan.{blob_root, description_of, layout_in, source_root, tree_in};
 ghost use Rattle.bb_tool.specs.Refusal.{IsTellable};
 
 use crate::file::read_file;
@@ -38,7 +38,7 @@ pub(crate) fn read_keyed<N: Files>(
 ) -> Result<KeyedLayout, Refusal>
     requires { IsGeometry geometry }
     ensures read { IsKeyedFor
-        (described file.now (option_copied name.entry) (option_copied key.entry)) geometry
+        (description_of file.now (option_copied name.entry) (option_copied key.entry)) geometry
         (N.folder files.old) (N.folder files.new) keyed_as result }
     ensures fits { IfOk result (λ keyed. FitsKey keyed.layout.format keyed.key) }
     ensures same_geometry { IfOk result (λ keyed. keyed.layout.geometry ≡ geometry) }
@@ -60,7 +60,7 @@ fn read_layout<N: Files>(
 ) -> Result<Layout, Refusal>
     requires { IsGeometry geometry }
     ensures read { IsReadFor file.now (N.folder files.old) (N.folder files.new)
-        (layout_in file.now (option_copied name.entry) geometry) laid result }
+        (layout_in file.now (option_copied name.entry) geometry) fields_of result }
     ensures tellable { IfErr result IsTellable }
     ensures same_geometry { IfOk result (λ layout. layout.geometry ≡ geometry) }
     ensures files { IsFolderLater (N.folder files.old) (N.folder files.new) }

@@ -1,4 +1,5 @@
 ghost use Rattle.std.specs.Prelude.{◌≤◌, IfErr, IfOk, length};
+ghost use Rattle.bb_base.specs.Folder.{file_limit};
 ghost use Rattle.bb_tool.specs.Filing.{IsFolderLater, IsReadFor};
 ghost use Rattle.bb_tool.specs.Plan.{bytes_in};
 ghost use Rattle.bb_tool.specs.Refusal.{IsTellable};
@@ -7,7 +8,7 @@ use crate::refusal::Refusal;
 use bb_base::{Bytes, FileFail, Files, Text};
 use std::alloc::Global;
 
-/// The bytes of the file of that name, at most 1,048,576.
+/// The bytes of the file of that name, at most `FILE_LIMIT`.
 pub(crate) fn read_file<N: Files>(
     alloc: Global,
     files: &mut N,
@@ -15,7 +16,7 @@ pub(crate) fn read_file<N: Files>(
 ) -> Result<Bytes, Refusal>
     ensures read { IsReadFor name.now (N.folder files.old) (N.folder files.new)
         (bytes_in name.now) (λ bytes. bytes) result }
-    ensures short { IfOk result (λ bytes. length bytes ≤ 1048576) }
+    ensures short { IfOk result (λ bytes. length bytes ≤ file_limit) }
     ensures tellable { IfErr result IsTellable }
     ensures files { IsFolderLater (N.folder files.old) (N.folder files.new) }
 {

@@ -21,3 +21,4 @@ mod tell;
 pub use law::{law_attempts, law_chronicle, law_wear};
 pub use session::run;
 pub use status::Status;
+pub use tell::{tell_fault, tell_text};

@@ -1,8 +1,8 @@
-ghost use Rattle.std.specs.Prelude.{◌≡◌, ◌<◌, ◌≤◌, ◌++◌, true, IfOk, IfSome, None, codes, length, string_bytes};
-ghost use Rattle.bb_tool.specs.Refusal.{IsTellable, blob_words, field_name, key_words, layout_words, line_of, refusal_words, settings_words, tree_words, value_words, variable_words};
+ghost use Rattle.std.specs.Prelude.{◌≡◌, ◌≤◌, ◌++◌, true, IfOk, IfSome, None, codes, decimal, length, string_bytes};
+ghost use Rattle.bb_tool.specs.Refusal.{blob_words, fault_text, field_name, key_words, layout_words, line_of, refusal_words, settings_words, tree_words, value_words, variable_words};
 ghost use Rattle.bb_tool.specs.Telling.{takes_memory};
-ghost use Rattle.bb_tool.specs.declared.refusal.Refusal.TheVariants as refusals;
 
+use crate::Status;
 use crate::refusal::Refusal;
 use arrayvec::ArrayString;
 use bb_chooser::SettingsError;
@@ -23,21 +23,21 @@ pub(crate) fn line(alloc: Global, refusal: &Refusal) -> Result<String, AllocErro
     format!(in alloc; "fault {} {words}\n", refusal.status().code())
 }
 
-/// A line of at most 27 bytes, which takes no memory.
-pub(crate) type ShortLine = ArrayString<27>;
+/// A line of at most 32 bytes, which takes no memory.
+pub(crate) type ShortLine = ArrayString<32>;
 
 /// The line of a refusal that takes no memory, where it is one.
 pub(crate) fn fixed_line(refusal: &Refusal) -> Option<ShortLine>
-    requires { IsTellable refusal.now }
     ensures line { IfSome result (λ line. line.bytes ≡ line_of refusal.now) }
     ensures made { result ≡ None → takes_memory refusal.now ≡ true }
 {
+    let status = refusal.status();
     match refusal {
-        Refusal::ReadFault => Some(short(read_line())),
-        Refusal::WriteFault(copy) => Some(short(write_line(*copy))),
-        Refusal::NoTarget => Some(short(no_target_line())),
-        Refusal::NoGood(place) => Some(no_good_line(*place)),
-        Refusal::NoMemory => Some(short(no_memory_line())),
+        Refusal::ReadFault => Some(fault_line(status, "ReadFault")),
+        Refusal::WriteFault(copy) => Some(numbered_line(status, "WriteFault ", *copy)),
+        Refusal::NoTarget => Some(fault_line(status, "NoTarget")),
+        Refusal::NoGood(place) => Some(numbered_line(status, "NoGood ", *place)),
+        Refusal::NoMemory => Some(fault_line(status, "NoMemory")),
         Refusal::BadWords(_) | Refusal::BadTree(_) | Refusal::BadBlob(_) => None,
         Refusal::BadLayout(_) => None,
         Refusal::BadVariable(_, _) => None,
@@ -47,58 +47,30 @@ pub(crate) fn fixed_line(refusal: &Refusal) -> Option<ShortLine>
     }
 }
 
-fn short(text: &str) -> ShortLine
-    requires { length text.now ≤ 27 }
-    ensures { result.bytes ≡ text.now }
-{
-    let mut line = ShortLine::new();
-    line.push_str(text);
-    line
-}
-
-fn no_good_line(place: u32) -> ShortLine
-    ensures { result.bytes ≡ line_of (refusals.NoGood place) }
+/// The line of a fault with this status, which says what it is in these words.
+pub(crate) fn fault_line(status: Status, words: &str) -> ShortLine
+    requires { length words.now ≤ 21 }
+    ensures { result.bytes ≡ fault_text status words.now }
 {
     let mut digits = Buffer::new();
-    let mut line = short("fault 18 NoGood ");
-    line.push_str(digits.format(place));
+    let mut line = ShortLine::new();
+    line.push_str("fault ");
+    line.push_str(digits.format(status.code()));
+    line.push_str(" ");
+    line.push_str(words);
     line.push_str("\n");
     line
 }
 
-fn read_line() -> &'static str
-    ensures line { result.now ≡ line_of refusals.ReadFault }
-    ensures short { length result.now ≤ 27 }
+fn numbered_line(status: Status, word: &str, number: u32) -> ShortLine
+    requires { length word.now ≤ 11 }
+    ensures { result.bytes ≡ fault_text status (word.now ++ decimal number) }
 {
-    "fault 8 ReadFault\n"
-}
-
-// The line where one of the three copies couldn't be written.
-fn write_line(copy: u32) -> &'static str
-    requires { copy < 3 }
-    ensures line { result.now ≡ line_of (refusals.WriteFault copy) }
-    ensures short { length result.now ≤ 27 }
-{
-    match copy {
-        0 => "fault 9 WriteFault 0\n",
-        1 => "fault 9 WriteFault 1\n",
-        _ => "fault 9 WriteFault 2\n",
-    }
-}
-
-fn no_target_line() -> &'static str
-    ensures line { result.now ≡ line_of refusals.NoTarget }
-    ensures short { length result.now ≤ 27 }
-{
-    "fault 10 NoTarget\n"
-}
-
-/// The line that is sent where memory was refused.
-pub(crate) fn no_memory_line() -> &'static str
-    ensures line { result.now ≡ line_of refusals.NoMemory }
-    ensures short { length result.now ≤ 27 }
-{
-    "fault 20 NoMemory\n"
+    let mut digits = Buffer::new();
+    let mut words = ShortLine::new();
+    words.push_str(word);
+    words.push_str(digits.format(number));
+    fault_line(status, words.as_str())
 }
 
 // What a refusal is, as its line says it.

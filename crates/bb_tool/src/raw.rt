@@ -2,7 +2,7 @@ ghost use Rattle.std.specs.Prelude.{◌≡◌, ◌⊎◌, ◌≤◌, List, ℕ, 
 ghost use Rattle.bb_base.specs.Folder.{Folder};
 ghost use Rattle.bb_flash.specs.Cuts.{IsLater};
 ghost use Rattle.bb_flash.specs.Device.{IsDevice, LeavesStarts};
-ghost use Rattle.bb_layout.specs.Layout.{laid};
+ghost use Rattle.bb_layout.specs.Layout.{fields_of};
 ghost use Rattle.bb_state.specs.State.{IsOn, IsSized, keyed_of, laid_of};
 ghost use Rattle.bb_words.specs.Answer.{IsSizedRaw};
 ghost use Rattle.bb_words.specs.Words.{words_of};
@@ -49,7 +49,7 @@ fn look<F: Flash>(alloc: Global, flash: &mut F, layout: Layout) -> Result<Report
     requires unkeyed { layout.format ≡ FormatKind.Raw }
     requires geometry { layout.geometry ≡ (F.device flash.old).geometry }
     requires whole { IsDevice (F.device flash.old) }
-    ensures gives { IsWorkedOut (record { layout = laid layout; key = None })
+    ensures gives { IsWorkedOut (record { layout = fields_of layout; key = None })
         Show
         (F.device flash.old) (F.device flash.new) result }
     ensures tellable { IfErr result IsTellable }
@@ -108,7 +108,7 @@ fn save<F: Flash>(
     requires unkeyed { layout.format ≡ FormatKind.Raw }
     requires geometry { layout.geometry ≡ (F.device flash.old).geometry }
     requires whole { IsDevice (F.device flash.old) }
-    ensures gives { IsWorkedOut (record { layout = laid layout; key = None })
+    ensures gives { IsWorkedOut (record { layout = fields_of layout; key = None })
         (Write area.now)
         (F.device flash.old) (F.device flash.new) result }
     ensures tellable { IfErr result IsTellable }

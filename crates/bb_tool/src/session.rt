@@ -64,7 +64,7 @@ pub fn run<F: Files, B: Board, K: Sink>(
 
     // A boot's rounds are of the best target each, and its turn is one of those whose starts
     // `law_attempts` bounds. At most one start is made, by the plan of the last round's target,
-    // behind the save of the attempt that it spends.
+    // after the save of the attempt that it spends.
     ensures rounds { RunsRounds (ran_by F.folder B.device K.outlet words.now
         files.old files.new board.old board.new out.old out.new result) }
     ensures boots { BootsInTurn (ran_by F.folder B.device K.outlet words.now

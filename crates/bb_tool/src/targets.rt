@@ -1,5 +1,5 @@
 ghost use Rattle.std.specs.Prelude.{◌≡◌, IfErr, IfOk};
-ghost use Rattle.bb_layout.specs.Layout.{laid};
+ghost use Rattle.bb_layout.specs.Layout.{fields_of};
 ghost use Rattle.bb_tool.specs.Filing.{IsFolderLater, IsReadFor};
 ghost use Rattle.bb_tool.specs.Plan.{binding_in};
 ghost use Rattle.bb_tool.specs.Refusal.{IsTellable};
@@ -19,7 +19,7 @@ pub(crate) fn read_targets<N: Files>(
     layout: &Layout,
 ) -> Result<Chooser, Refusal>
     ensures read { IsReadFor file.now (N.folder files.old) (N.folder files.new)
-        (binding_in file.now (laid layout.now)) (λ chooser. chooser) result }
+        (binding_in file.now (fields_of layout.now)) (λ chooser. chooser) result }
     ensures tellable { IfErr result IsTellable }
     ensures sized { IfOk result (λ chooser. chooser.area_len ≡ layout.now.area_len) }
     ensures files { IsFolderLater (N.folder files.old) (N.folder files.new) }

@@ -1,33 +1,45 @@
-ghost use Rattle.std.specs.Prelude.{◌≡◌, ◌≤◌, ◌++◌, OnOk, true};
-ghost use Rattle.bb_tool.specs.Refusal.{IsTellable, line_of, status_of};
-ghost use Rattle.bb_tool.specs.Telling.{IsTold, IsToldMade, IsToldMemory, IsToldOr, IsToldRefusal, IsToldReport, overruled, takes_memory};
+ghost use Rattle.std.specs.Prelude.{◌≡◌, ◌≤◌, ◌++◌, OnOk, length, true};
+ghost use Rattle.bb_tool.specs.Refusal.{IsTellable, fault_text, line_of, status_of};
+ghost use Rattle.bb_tool.specs.Telling.{IsTold, IsToldMade, IsToldMemory, IsToldOr, IsToldRefusal, IsToldReport, status_unsent, takes_memory};
 ghost use Rattle.bb_tool.specs.Work.{IsSendable};
 
 use crate::Status;
-use crate::line::{fixed_line, line, no_memory_line};
+use crate::line::{fault_line, fixed_line, line};
 use crate::refusal::Refusal;
 use crate::report::Report;
 use bb_base::{Bytes, NoMemory, Sink};
 use std::alloc::{AllocError, Global};
 
-/// Sends a text, and gives the status with which the session ends.
-pub(crate) fn tell<K: Sink>(text: &[u8], ended: Status, out: &mut K) -> Status
+/// Sends a text, and gives the status with which the program ends: `ended` where the text was sent whole, else
+/// `SinkFault`, but that `NoMemory` stays.
+pub fn tell_text<K: Sink>(text: &[u8], ended: Status, out: &mut K) -> Status
     ensures told { IsTold text.now ended (K.outlet out.old) (K.outlet out.new) result }
     ensures later { (K.outlet out.old).faults ≤ (K.outlet out.new).faults }
 {
     match out.write(text) {
         Ok(()) => ended,
-        Err(_) => overruled(ended),
+        Err(_) => status_unsent(ended),
     }
 }
 
-fn overruled(ended: Status) -> Status
-    ensures { result ≡ overruled ended }
+fn status_unsent(ended: Status) -> Status
+    ensures { result ≡ status_unsent ended }
 {
     match ended {
         Status::NoMemory => Status::NoMemory,
         _ => Status::SinkFault,
     }
+}
+
+/// Sends the one line of a fault that comes before a session, and gives the status with which the program ends. The
+/// line is `fault`, the status's number and these words, of at most 21 bytes.
+pub fn tell_fault<K: Sink>(status: Status, words: &str, out: &mut K) -> Status
+    requires { length words.now ≤ 21 }
+    ensures told { IsTold (fault_text status words.now) status
+        (K.outlet out.old) (K.outlet out.new) result }
+    ensures later { (K.outlet out.old).faults ≤ (K.outlet out.new).faults }
+{
+    tell_text(fault_line(status, words).as_str().as_bytes(), status, out)
 }
 
 /// Sends what a session's work gave, and gives the status with which the session ends. The line of a refusal goes out in
@@ -39,7 +51,7 @@ pub(crate) fn tell_report<K: Sink>(alloc: Global, report: Report, out: &mut K) -
 {
     let Report { text, refusal } = report;
     match refusal {
-        None => tell(text.as_slice(), Status::Done, out),
+        None => tell_text(text.as_slice(), Status::Done, out),
         Some(refusal) => tell_behind(alloc, text, &refusal, out),
     }
 }
@@ -51,7 +63,7 @@ fn tell_behind<K: Sink>(alloc: Global, mut text: Bytes, refusal: &Refusal, out: 
     ensures later { (K.outlet out.old).faults ≤ (K.outlet out.new).faults }
 {
     match add_line(alloc, &mut text, refusal) {
-        Ok(()) => tell(text.as_slice(), refusal.status(), out),
+        Ok(()) => tell_text(text.as_slice(), refusal.status(), out),
         Err(NoMemory) => tell_no_memory(out),
     }
 }
@@ -65,14 +77,14 @@ fn add_line(alloc: Global, text: &mut Bytes, refusal: &Refusal) -> Result<(), No
 
 /// Sends the one line of a refusal before which no text was gathered, and gives the status with which
 /// the session ends. A line that names something takes memory; where that is refused, so is the
-/// session. The lines of refusals behind a call of the device take none.
+/// session. The lines of refusals after a call of the device take none.
 pub(crate) fn tell_refusal<K: Sink>(alloc: Global, refusal: &Refusal, out: &mut K) -> Status
     requires { IsTellable refusal.now }
     ensures told { IsToldRefusal refusal.now (K.outlet out.old) (K.outlet out.new) result }
     ensures later { (K.outlet out.old).faults ≤ (K.outlet out.new).faults }
 {
     match fixed_line(refusal) {
-        Some(line) => tell(line.as_str().as_bytes(), refusal.status(), out),
+        Some(line) => tell_text(line.as_str().as_bytes(), refusal.status(), out),
         None => tell_made(line(alloc, refusal), refusal.status(), out),
     }
 }
@@ -82,7 +94,7 @@ fn tell_made<K: Sink>(made: Result<String, AllocError>, ended: Status, out: &mut
     ensures later { (K.outlet out.old).faults ≤ (K.outlet out.new).faults }
 {
     match made {
-        Ok(line) => tell(line.as_bytes(), ended, out),
+        Ok(line) => tell_text(line.as_bytes(), ended, out),
         Err(_) => tell_no_memory(out),
     }
 }
@@ -91,5 +103,5 @@ fn tell_no_memory<K: Sink>(out: &mut K) -> Status
     ensures told { IsToldMemory (K.outlet out.old) (K.outlet out.new) result }
     ensures later { (K.outlet out.old).faults ≤ (K.outlet out.new).faults }
 {
-    tell(no_memory_line().as_bytes(), Status::NoMemory, out)
+    tell_fault(Status::NoMemory, "NoMemory", out)
 }

@@ -13,7 +13,7 @@ use Rattle.bb_tree.specs.Node.{Branch}
 use Rattle.bb_tree.specs.Paths.{node_at}
 use Rattle.bb_tree.specs.Merge.{put, reached}
 use Rattle.bb_tree.specs.Phandle.{phandle_in, phandle_by}
-use Rattle.bb_tree.specs.Resolve.{literal, phandle_among, phandles, referred, given, least_free}
+use Rattle.bb_tree.specs.Resolve.{literal, phandle_among, phandles, with_phandle, with_new_phandle, least_free}
 use Rattle.bb_tree.specs.Slots.{IsSound, LeadTo, spine, props_at, tree_of, with_prop}
 use Rattle.bb_tree.specs.Taking.{has, TakenBelow, Gives, GivesBy, IsTaken, LeadAll, IsNumbered}
 use Rattle.bb_tree.proofs.Changing.{bytes_eq-refl}
@@ -24,7 +24,8 @@ use Rattle.bb_tree.proofs.Finding.{walk_within}
 use Rattle.bb_tree.proofs.Takings.{has-append}
 use Rattle.bb_tree.proofs.Numbering.{numbers_reached, least_is}
 
-lookup-put : {X : Type 0} (n : List ℕ) (ps : List (List ℕ × X)) (v : X) → lookup (bytes_eq n) (put ps n v) ≡ Some v
+lookup-put : {X : Type 0} (n : List ℕ) (ps : List (List ℕ × X)) (v : X)
+    → lookup (bytes_eq n) (put ps n v) ≡ Some v
 lookup-put n [] v = let e = bytes_eq-refl n in rw e
 lookup-put n (p ∷ ps) v =
     elim (cases_Bool (bytes_eq n p.0)) [
@@ -40,7 +41,8 @@ phandle_made n a b =
     rw (e, f, g)
 
 last_first : (m n : ℕ) (a : Bool) → (a || has (n ∷ []) m) ≡ (eqb m n || a)
-last_first m n a = elim (cases_Bool (eqb m n)) [ inl e ↦ rw e (or_true a) | inr e ↦ rw e (or_false a) ]
+last_first m n a =
+    elim (cases_Bool (eqb m n)) [ inl e ↦ rw e (or_true a) | inr e ↦ rw e (or_false a) ]
   where
     or_true : (b : Bool) → (b || true) ≡ true
     or_true true = refl
@@ -55,30 +57,58 @@ or_left true b e = refl
 or_left false b e = cc
 
 -- the tree, where one more node was referred to
-pub referred_next : (slots new : List Slot) (k n : ℕ) (ns : List (List ℕ)) (taken more : List ℕ) → IsSound slots → LeadTo slots ns k → IsTaken slots taken → Gives k slots new taken more n → (tree_of new ≡ referred (tree_of slots) ns) × IsTaken new more
+pub referred_next : (slots new : List Slot) (k n : ℕ) (ns : List (List ℕ)) (taken more : List ℕ)
+    → IsSound slots → LeadTo slots ns k → IsTaken slots taken → Gives k slots new taken more n
+    → (tree_of new ≡ with_phandle (tree_of slots) ns) × IsTaken new more
 referred_next slots new k n ns taken more sound w t g =
-    go (phandle_among (props_at slots k)) refl g (node_walk (props_at slots) (spine slots) sound.rising ns k w)
+    go (phandle_among (props_at slots k)) refl g
+    (node_walk (props_at slots) (spine slots) sound.rising ns k w)
   where
-    go : (o : Option ℕ) → phandle_among (props_at slots k) ≡ o → GivesBy o k slots new taken more n → (m : List ℕ) × (node_at ns (tree_of slots) ≡ Some (record { name = m; props = props_at slots k; nodes = nodes_under (props_at slots) 1 (spine slots) k })) → (tree_of new ≡ referred (tree_of slots) ns) × IsTaken new more
+    go : (o : Option ℕ) → phandle_among (props_at slots k) ≡ o → GivesBy o k slots new taken more n
+        → (m : List ℕ) × (node_at ns (tree_of slots)
+        ≡ Some (record {
+          name = m;
+          props = props_at slots k;
+          nodes = nodes_under (props_at slots) 1 (spine slots) k;
+        }))
+        → (tree_of new ≡ with_phandle (tree_of slots) ns) × IsTaken new more
     go (Some h) q v at =
         let tree = tree_of slots in
-        let has_one : option_and_then (phandle_by literal) (node_at ns tree) ≡ Some h = ap (option_and_then (phandle_by literal)) at.1 ∙ q in (
-          ap tree_of v.0.kept ∙ sym (ap (λ (o : Option ℕ). cond (is_none o) (given tree ns) tree) has_one),
-          λ m. ap (λ l. has l m) v.0.more_is ∙ t m ∙ ap (λ (s : List Slot). has (phandles (tree_of s)) m) (sym v.0.kept),
+        let has_one : option_and_then (phandle_by literal) (node_at ns tree) ≡ Some h =
+        ap (option_and_then (phandle_by literal)) at.1 ∙ q in (
+          ap tree_of v.0.kept
+              ∙ sym (ap (λ (o : Option ℕ). cond (is_none o) (with_new_phandle tree ns) tree)
+              has_one),
+          λ m. ap (λ l. has l m) v.0.more_is ∙ t m
+              ∙ ap (λ (s : List Slot). has (phandles (tree_of s)) m) (sym v.0.kept),
         )
     go None q v at =
         let tree = tree_of slots in
         let F = with_prop (codes "phandle") (Bytes (to_be_bytes w32 n) ∷ []) in
-        let b : Branch (List Part) = record { name = at.0; props = props_at slots k; nodes = nodes_under (props_at slots) 1 (spine slots) k } in
-        let has_none : option_and_then (phandle_by literal) (node_at ns tree) ≡ None = ap (option_and_then (phandle_by literal)) at.1 ∙ q in
-        let least : least_free (phandles tree) ≡ n = least_is (phandles tree) n v.some (λ m a b. sym (t m) ∙ v.least m a b) (sym (t n) ∙ v.free) in
+        let b : Branch (List Part) = record {
+          name = at.0;
+          props = props_at slots k;
+          nodes = nodes_under (props_at slots) 1 (spine slots) k;
+        } in
+        let has_none : option_and_then (phandle_by literal) (node_at ns tree) ≡ None =
+        ap (option_and_then (phandle_by literal)) at.1 ∙ q in
+        let least : least_free (phandles tree) ≡ n =
+        least_is (phandles tree) n v.some (λ m a b. sym (t m) ∙ v.least m a b)
+        (sym (t n) ∙ v.free) in
         let changed : tree_of new ≡ reached ns F tree = v.changes.tree ns w in
-        let some : phandle_among (put (props_at slots k) (codes "phandle") (Bytes (to_be_bytes w32 n) ∷ [])) ≡ Some n =
-        ap (option_and_then (λ (parts : List Part). phandle_in (literal parts))) (lookup-put (codes "phandle") (props_at slots k) (Bytes (to_be_bytes w32 n) ∷ [])) ∙ phandle_made n v.some v.within in (
-          changed ∙ ap (λ (j : ℕ). reached ns (with_prop (codes "phandle") (Bytes (to_be_bytes w32 j) ∷ [])) tree) (sym least)
-              ∙ sym (ap (λ (o : Option ℕ). cond (is_none o) (given tree ns) tree) has_none),
-          λ m. ap (λ l. has l m) v.more_is ∙ has-append taken (n ∷ []) m ∙ last_first m n (has taken m) ∙ ap (λ z. eqb m n || z) (t m)
-              ∙ sym (numbers_reached phandle_among m n F ns tree b at.1 q some (λ x. refl)) ∙ ap (λ (z : Branch (List Part)). has (phandles z) m) (sym changed),
+        let some : phandle_among (put (props_at slots k) (codes "phandle") (Bytes (to_be_bytes w32
+        n) ∷ [])) ≡ Some n =
+        ap (option_and_then (λ (parts : List Part). phandle_in (literal parts)))
+        (lookup-put (codes "phandle") (props_at slots k) (Bytes (to_be_bytes w32 n) ∷ []))
+        ∙ phandle_made n v.some v.within in (
+          changed ∙ ap (λ (j : ℕ). reached ns (with_prop (codes "phandle") (Bytes (to_be_bytes w32
+              j) ∷ [])) tree) (sym least)
+              ∙ sym (ap (λ (o : Option ℕ). cond (is_none o) (with_new_phandle tree ns) tree)
+              has_none),
+          λ m. ap (λ l. has l m) v.more_is ∙ has-append taken (n ∷ []) m
+              ∙ last_first m n (has taken m) ∙ ap (λ z. eqb m n || z) (t m)
+              ∙ sym (numbers_reached phandle_among m n F ns tree b at.1 q some (λ x. refl))
+              ∙ ap (λ (z : Branch (List Part)). has (phandles z) m) (sym changed),
         )
 
 -- names lead where they led, and numbers that were taken are taken
@@ -89,7 +119,8 @@ pub record Goes (now new : List Slot) (more : List ℕ) (n : ℕ) : Type 0 where
   pub some : 1 ≤ n
   pub below : TakenBelow more n
 
-pub Goes-from : (k n : ℕ) (now new : List Slot) (taken more : List ℕ) → IsSound now → Gives k now new taken more n → Goes now new more n
+pub Goes-from : (k n : ℕ) (now new : List Slot) (taken more : List ℕ) → IsSound now
+    → Gives k now new taken more n → Goes now new more n
 Goes-from k n now new taken more sound g = go (phandle_among (props_at now k)) g
   where
     go : (o : Option ℕ) → GivesBy o k now new taken more n → Goes now new more n
@@ -105,17 +136,21 @@ Goes-from k n now new taken more sound g = go (phandle_among (props_at now k)) g
       longer = v.changes.longer;
       leads = v.changes.leads;
       some = v.some;
-      below = λ m a b. ap (λ l. has l m) v.more_is ∙ has-append taken (n ∷ []) m ∙ or_left (has taken m) (has (n ∷ []) m) (v.least m a b);
+      below = λ m a b. ap (λ l. has l m) v.more_is ∙ has-append taken (n ∷ []) m
+          ∙ or_left (has taken m) (has (n ∷ []) m) (v.least m a b);
     }
 
-fold-push : (t : Branch (List Part)) (names : List (List (List ℕ))) (ns : List (List ℕ)) → fold referred t (names ++ ns ∷ []) ≡ referred (fold referred t names) ns
+fold-push : (t : Branch (List Part)) (names : List (List (List ℕ))) (ns : List (List ℕ))
+    → fold with_phandle t (names ++ ns ∷ []) ≡ with_phandle (fold with_phandle t names) ns
 fold-push t [] ns = refl
-fold-push t (n ∷ names) ns = fold-push (referred t n) names ns
+fold-push t (n ∷ names) ns = fold-push (with_phandle t n) names ns
 
 abbrev SplitsInto : List Slot → List (List (List ℕ)) → List ℕ → ℕ → Type 0
-SplitsInto slots names ks k = (ns : List (List ℕ)) × (front : List (List (List ℕ))) × (names ≡ front ++ ns ∷ []) × LeadAll slots front ks × LeadTo slots ns k
+SplitsInto slots names ks k = (ns : List (List ℕ)) × (front : List (List (List ℕ))) × (names
+    ≡ front ++ ns ∷ []) × LeadAll slots front ks × LeadTo slots ns k
 
-LeadAll-split : (slots : List Slot) (names : List (List (List ℕ))) (ks : List ℕ) (k : ℕ) → LeadAll slots names (ks ++ k ∷ []) → SplitsInto slots names ks k
+LeadAll-split : (slots : List Slot) (names : List (List (List ℕ))) (ks : List ℕ) (k : ℕ)
+    → LeadAll slots names (ks ++ k ∷ []) → SplitsInto slots names ks k
 LeadAll-split slots [] [] k l = absurd l
 LeadAll-split slots [] (j ∷ ks) k l = absurd l
 LeadAll-split slots (ns ∷ []) [] k l = (ns, [], refl, tt, l.0)
@@ -124,14 +159,18 @@ LeadAll-split slots (ns ∷ names) (j ∷ ks) k l =
     let v = LeadAll-split slots names ks k l.1 in
     (v.0, ns ∷ v.1, ap (λ x. ns ∷ x) v.2, (l.0, v.3), v.4)
 
-pub LeadAll-at : (slots : List Slot) (names : List (List (List ℕ))) (ks : List ℕ) (i k : ℕ) → LeadAll slots names ks → slice_get ks i ≡ Some k → (ns : List (List ℕ)) × LeadTo slots ns k
+pub LeadAll-at : (slots : List Slot) (names : List (List (List ℕ))) (ks : List ℕ) (i k : ℕ)
+    → LeadAll slots names ks → slice_get ks i ≡ Some k → (ns : List (List ℕ)) × LeadTo slots ns k
 LeadAll-at slots [] [] i k l g = cc
 LeadAll-at slots (ns ∷ names) [] i k l g = cc
 LeadAll-at slots [] (j ∷ ks) i k l g = absurd l
-LeadAll-at slots (ns ∷ names) (j ∷ ks) zero k l g = let e : j ≡ k = cc in (ns, subst (λ (x : ℕ). LeadTo slots ns x) e l.0)
+LeadAll-at slots (ns ∷ names) (j ∷ ks) zero k l g = let e : j ≡ k = cc in
+    (ns, subst (λ (x : ℕ). LeadTo slots ns x) e l.0)
 LeadAll-at slots (ns ∷ names) (j ∷ ks) (suc i) k l g = LeadAll-at slots names ks i k l.1 g
 
-pub IsNumbered-next : (targets : List ℕ) (i k n : ℕ) (old now new : List Slot) (taken more : List ℕ) → slice_get targets i ≡ Some k → IsNumbered (take i targets) old now → IsTaken now taken → Gives k now new taken more n → IsNumbered (take (i + 1) targets) old new
+pub IsNumbered-next : (targets : List ℕ) (i k n : ℕ) (old now new : List Slot) (taken more : List ℕ)
+    → slice_get targets i ≡ Some k → IsNumbered (take i targets) old now → IsTaken now taken
+    → Gives k now new taken more n → IsNumbered (take (i + 1) targets) old new
 IsNumbered-next targets i k n old now new taken more g h t v =
     let goes = Goes-from k n now new taken more h.sound v in
     record {
@@ -139,9 +178,12 @@ IsNumbered-next targets i k n old now new taken more g h t v =
       longer = omega (arith, h.longer, goes.longer);
       leads = λ names c w. goes.leads names c (h.leads names c w);
       tree = λ names l.
-          let s = LeadAll-split old names (take i targets) k (subst (LeadAll old names) (take_next targets i k g) l) in
+          let s = LeadAll-split old names (take i targets) k
+          (subst (LeadAll old names) (take_next targets i k g) l) in
           (referred_next now new k n s.0 taken more h.sound (h.leads s.0 k s.4) t v).0
-          ∙ ap (λ (x : Branch (List Part)). referred x s.0) (h.tree s.1 s.3) ∙ sym (fold-push (tree_of old) s.1 s.0) ∙ ap (fold referred (tree_of old)) (sym s.2);
+          ∙ ap (λ (x : Branch (List Part)). with_phandle x s.0) (h.tree s.1 s.3)
+          ∙ sym (fold-push (tree_of old) s.1 s.0)
+          ∙ ap (fold with_phandle (tree_of old)) (sym s.2);
     }
 
 pub IsNumbered-none : (slots : List Slot) → IsSound slots → IsNumbered [] slots slots
@@ -152,10 +194,12 @@ IsNumbered-none slots sound = record {
   tree = λ names l. none names l;
 }
   where
-    none : (names : List (List (List ℕ))) → LeadAll slots names [] → tree_of slots ≡ fold referred (tree_of slots) names
+    none : (names : List (List (List ℕ))) → LeadAll slots names []
+        → tree_of slots ≡ fold with_phandle (tree_of slots) names
     none [] l = refl
     none (ns ∷ names) l = absurd l
 
 -- names lead to a slot of the list, or to the root
-pub lead_within : (slots : List Slot) (ns : List (List ℕ)) (k : ℕ) → LeadTo slots ns k → k < 1 + length (spine slots)
+pub lead_within : (slots : List Slot) (ns : List (List ℕ)) (k : ℕ) → LeadTo slots ns k
+    → k < 1 + length (spine slots)
 lead_within slots ns k w = walk_within 1 (spine slots) 0 ns k (omega arith) w

@@ -1,11 +1,11 @@
 -- What the fields of a draft stand for.
 use Rattle.bb_tree.specs.declared.draft.Draft.TheInside.{Inside}
-use Rattle.bb_tree.specs.Draft.{Drafted}
+use Rattle.bb_tree.specs.Draft.{DraftValue}
 use Rattle.bb_tree.specs.Texts.{texts_in}
 use Rattle.bb_tree.specs.Slots.{tree_of, IsSound}
 
-abbrev pub drafted : Inside → Drafted
-drafted d = record {
+abbrev pub draft_value : Inside → DraftValue
+draft_value d = record {
   tree = tree_of d.slots.items;
   labels = texts_in d.labels.entries;
   reserved = d.reserved;

@@ -1,5 +1,5 @@
--- A node as a value: its name, its properties as pairs of a name and a value, and its nodes, each in the same form.
--- The values are bytes in a finished tree, and lists of parts in a draft.
+-- A node as a value: its name, its properties as pairs of a name and a value, and its nodes, each
+-- in the same form. The values are bytes in a finished tree, and lists of parts in a draft.
 use Rattle.std.specs.Prelude.{ℕ, List, [], ◌∷◌, ◌++◌, map}
 
 -- nodes that stand beside one another: none, or one with its own nodes and the rest
@@ -33,7 +33,8 @@ module _ {V : Type 0} where
   -- the nodes of a forest in preorder, each before the nodes in it
   abbrev pub preorder_of : Forest V → List (Branch V)
   preorder_of empty = []
-  preorder_of (node n ps ks rest) = record { name = n; props = ps; nodes = ks } ∷ preorder_of ks ++ preorder_of rest
+  preorder_of (node n ps ks rest) =
+      record { name = n; props = ps; nodes = ks } ∷ preorder_of ks ++ preorder_of rest
 
   -- a node and all nodes in it, in preorder
   abbrev pub preorder : Branch V → List (Branch V)
@@ -43,7 +44,12 @@ module _ {V W : Type 0} where
   -- the same nodes with other values
   abbrev pub with_values_of : (V → W) → Forest V → Forest W
   with_values_of f empty = empty
-  with_values_of f (node n ps ks rest) = node n (map (λ p. (p.0, f p.1)) ps) (with_values_of f ks) (with_values_of f rest)
+  with_values_of f (node n ps ks rest) =
+      node n (map (λ p. (p.0, f p.1)) ps) (with_values_of f ks) (with_values_of f rest)
 
   abbrev pub with_values : (V → W) → Branch V → Branch W
-  with_values f b = record { name = b.name; props = map (λ p. (p.0, f p.1)) b.props; nodes = with_values_of f b.nodes }
+  with_values f b = record {
+    name = b.name;
+    props = map (λ p. (p.0, f p.1)) b.props;
+    nodes = with_values_of f b.nodes;
+  }

@@ -1,4 +1,5 @@
--- Paths: full node names, each after a `/` (Devicetree Specification v0.4, section 2.2.3). `/` alone is the root.
+-- Paths: full node names, each after a `/` (Devicetree Specification v0.4, section 2.2.3). `/`
+-- alone is the root.
 use Rattle.std.specs.Prelude.{ℕ, ◌==◌, List, [], ◌∷◌, ◌++◌, Option, Some, None, codes, option_and_then, if◌then◌else◌}
 use Rattle.std.specs.List.{slice_split}
 use Rattle.std.specs.Str.{bytes_eq}
@@ -9,10 +10,14 @@ use Rattle.bb_tree.specs.Node.{Forest, empty, node, Branch}
 abbrev pub slash : ℕ
 slash = 47
 
+-- the names between slashes
+abbrev pub names_between : List ℕ → List (List ℕ)
+names_between text = slice_split (λ b. b == slash) text
+
 -- the names in what stands behind the first `/`
 abbrev pub names_behind : List ℕ → List (List ℕ)
 names_behind [] = []
-names_behind (c ∷ cs) = slice_split (λ b. b == slash) (c ∷ cs)
+names_behind (c ∷ cs) = names_between (c ∷ cs)
 
 -- the names that a path leads through, none for a text that does not begin with `/`
 abbrev pub names_of : List ℕ → Option (List (List ℕ))
@@ -32,7 +37,10 @@ module _ {V : Type 0} where
   -- the first node of that name
   abbrev pub child_of : List ℕ → Forest V → Option (Branch V)
   child_of name empty = None
-  child_of name (node n ps ks rest) = if bytes_eq name n then Some (record { name = n; props = ps; nodes = ks }) else child_of name rest
+  child_of name (node n ps ks rest) =
+      if bytes_eq name n
+      then Some (record { name = n; props = ps; nodes = ks })
+      else child_of name rest
 
   -- the node that the names lead to, by the first node of each name
   abbrev pub node_at : List (List ℕ) → Branch V → Option (Branch V)

@@ -1,5 +1,6 @@
--- Phandles (Devicetree Specification v0.4, section 2.3.3): a node's is its property `phandle` of 4 bytes, a big-endian
--- number other than 0 and 0xFFFFFFFF. Of properties of one name the first counts.
+-- Phandles (Devicetree Specification v0.4, section 2.3.3): a node's is its property `phandle` of 4
+-- bytes, a big-endian number other than 0 and 0xFFFFFFFF. Of properties of one name the first
+-- counts.
 use Rattle.std.specs.Prelude.{ℕ, ◌==◌, Bool, false, ◌&&◌, not, List, Option, Some, None, length, codes, option_and_then, if◌then◌else◌}
 use Rattle.std.specs.Option.{option_map_or}
 use Rattle.std.specs.List.{find, filter_map}
@@ -10,7 +11,8 @@ use Rattle.bb_tree.specs.Paths.{prop_of}
 -- the phandle that a value gives
 abbrev pub phandle_in : List ℕ → Option ℕ
 phandle_in bytes =
-    let n = from_be_bytes w32 bytes in if (length bytes == 4) && not (n == 0) && not (n == 0xFFFFFFFF) then Some n else None
+    let n = from_be_bytes w32 bytes in
+    if (length bytes == 4) && not (n == 0) && not (n == 0xFFFFFFFF) then Some n else None
 
 module _ {V : Type 0} (read : V → List ℕ) where
   -- a node's phandle, where `read` gives a value's bytes

@@ -1,13 +1,15 @@
--- The tree that a list of slots stands for. A slot holds where its parent is, its name, its properties, and a table of
--- the nodes in it. Slot 0 is the root, and each slot stands behind its parent.
-use Rattle.std.specs.Prelude.{◌≡◌, ℕ, ◌<◌, ◌≤◌, List, [], ◌∷◌, ◌++◌, Some, map, drop, length, slice_get}
+-- The tree that a list of slots stands for. A slot holds where its parent is, its name, its
+-- properties, and a table of the nodes in it. Slot 0 is the root, and each slot stands behind its
+-- parent.
+use Rattle.std.specs.Prelude.{◌≡◌, ℕ, ◌<◌, ◌≤◌, List, [], ◌∷◌, ◌++◌, Option, Some, map, drop, length, option_and_then, slice_get}
 use Rattle.std.specs.Option.{option_map_or}
 use Rattle.bb_tree.specs.declared.part.Part.{Part}
 use Rattle.bb_tree.specs.declared.slot.Slot.{Slot}
 use Rattle.bb_tree.specs.Texts.{texts_in}
-use Rattle.bb_tree.specs.Node.{Branch, forest, preorder_of}
+use Rattle.bb_tree.specs.Node.{Forest, Branch, forest, preorder_of}
+use Rattle.bb_tree.specs.Paths.{names_of}
 use Rattle.bb_tree.specs.Merge.{put, put_all, reached, with_child, merging_nodes}
-use Rattle.bb_tree.specs.Spine.{nodes_under, children, walk, IsRising}
+use Rattle.bb_tree.specs.Spine.{nodes_under, child_table, walk, IsRising}
 
 -- a slot's place in the tree: where its parent is, and its name
 abbrev pub spine : List Slot → List (ℕ × List ℕ)
@@ -27,25 +29,40 @@ table_in s = texts_in s.nodes.entries
 abbrev pub table_at : List Slot → ℕ → List (List ℕ × ℕ)
 table_at slots i = option_map_or table_in (slice_get slots i) []
 
+-- the nodes in a slot
+abbrev pub nodes_at : List Slot → ℕ → Forest (List Part)
+nodes_at slots k = nodes_under (props_at slots) 1 (spine slots) k
+
 -- the tree as a whole
 abbrev pub tree_of : List Slot → Branch (List Part)
-tree_of slots = record { name = []; props = props_at slots 0; nodes = nodes_under (props_at slots) 1 (spine slots) 0 }
+tree_of slots = record { name = []; props = props_at slots 0; nodes = nodes_at slots 0 }
 
 -- each slot stands behind its parent, and each table names the nodes in its slot
 pub record IsSound (slots : List Slot) : Type 0 where
   pub rising : IsRising 1 (spine slots)
-  pub tables : (k : ℕ) → table_at slots k ≡ children 1 (spine slots) k
+  pub tables : (k : ℕ) → table_at slots k ≡ child_table 1 (spine slots) k
+
+-- the slot that the names lead to from the root, and the slot at a path
+abbrev pub slot_through : List Slot → List (List ℕ) → Option ℕ
+slot_through slots names = walk 1 (spine slots) 0 names
+
+abbrev pub slot_at_path : List Slot → List ℕ → Option ℕ
+slot_at_path slots path = option_and_then (λ names. slot_through slots names) (names_of path)
 
 -- the names lead from the root to slot c
 abbrev pub LeadTo : List Slot → List (List ℕ) → ℕ → Type 0
-LeadTo slots names c = walk 1 (spine slots) 0 names ≡ Some c
+LeadTo slots names c = slot_through slots names ≡ Some c
 
--- what becomes of the slots as the node of slot k is changed: names lead where they led, and the tree has the change
-pub record Changes (k : ℕ) (change : Branch (List Part) → Branch (List Part)) (old new : List Slot) : Type 0 where
+-- what becomes of the slots as the node of slot k is changed: names lead where they led, and the
+-- tree has the change
+pub record Changes (k : ℕ) (change : Branch (List Part) → Branch (List Part)) (old new : List Slot)
+    : Type 0 where
   pub sound : IsSound new
   pub longer : length old ≤ length new
   pub leads : (names : List (List ℕ)) (c : ℕ) → LeadTo old names c → LeadTo new names c
-  pub tree : (names : List (List ℕ)) → LeadTo old names k → tree_of new ≡ reached names change (tree_of old)
+  pub tree :
+      (names : List (List ℕ)) → LeadTo old names k
+      → tree_of new ≡ reached names change (tree_of old)
 
 -- one property put into a node
 abbrev pub with_prop : List ℕ → List Part → Branch (List Part) → Branch (List Part)
@@ -63,7 +80,7 @@ with_nodes nodes b = record b { nodes = merging_nodes (forest nodes) b.nodes }
 abbrev pub with_node : List ℕ → Branch (List Part) → Branch (List Part)
 with_node name b = record b { nodes = with_child name b.nodes }
 
--- slot k has the node of that name in slot c
+-- slot k has the node of that name, which is slot c
 pub record HasChild (k c : ℕ) (name : List ℕ) (old new : List Slot) : Type 0 where
   pub changes : Changes k (with_node name) old new
   pub within : c < length new
@@ -77,4 +94,4 @@ pub record IsRooted (old new : List Slot) : Type 0 where
 
 -- the properties of a slot and of all slots under it, in preorder
 abbrev pub props_below : List Slot → ℕ → List (List (List ℕ × List Part))
-props_below slots k = props_at slots k ∷ map (λ b. b.props) (preorder_of (nodes_under (props_at slots) 1 (spine slots) k))
+props_below slots k = props_at slots k ∷ map (λ b. b.props) (preorder_of (nodes_at slots k))

@@ -1,11 +1,12 @@
--- A forest as a list of slots: each has where its parent is and its name, and stands behind its parent. Slot 0 is the
--- root, which the list leaves out, so the list begins with slot 1.
+-- A forest as a list of slots: each has where its parent is and its name, and stands behind its
+-- parent. Slot 0 is the root, which the list leaves out, so the list begins with slot 1.
 use Rattle.std.specs.Prelude.{ℕ, ◌+◌, ◌<◌, ◌==◌, ◌&&◌, List, [], ◌∷◌, Option, Some, None, if◌then◌else◌}
 use Rattle.std.specs.Str.{bytes_eq}
 use Rattle.bb_tree.specs.Node.{Forest, empty, node}
 
 -- the nodes that stand in slot k, where `rest` are the slots from i on
-abbrev pub nodes_under : {V : Type 0} → (ℕ → List (List ℕ × V)) → ℕ → List (ℕ × List ℕ) → ℕ → Forest V
+abbrev pub nodes_under :
+    {V : Type 0} → (ℕ → List (List ℕ × V)) → ℕ → List (ℕ × List ℕ) → ℕ → Forest V
 nodes_under props i [] k = empty
 nodes_under props i (s ∷ rest) k =
     if s.0 == k
@@ -13,9 +14,10 @@ nodes_under props i (s ∷ rest) k =
     else nodes_under props (i + 1) rest k
 
 -- the names and places of the nodes that stand in slot k
-abbrev pub children : ℕ → List (ℕ × List ℕ) → ℕ → List (List ℕ × ℕ)
-children i [] k = []
-children i (s ∷ rest) k = if s.0 == k then (s.1, i) ∷ children (i + 1) rest k else children (i + 1) rest k
+abbrev pub child_table : ℕ → List (ℕ × List ℕ) → ℕ → List (List ℕ × ℕ)
+child_table i [] k = []
+child_table i (s ∷ rest) k =
+    if s.0 == k then (s.1, i) ∷ child_table (i + 1) rest k else child_table (i + 1) rest k
 
 -- the slot that the names lead to from slot k
 abbrev pub walk : ℕ → List (ℕ × List ℕ) → ℕ → List (List ℕ) → Option ℕ

@@ -3,20 +3,19 @@ use Rattle.std.specs.Prelude.{◌≡◌, ◌≢◌, ◌<◌, ◌≤◌, ◌-◌,
 use Rattle.std.specs.List.{list_any, find}
 use Rattle.std.specs.Option.{option_map_or}
 use Rattle.bb_tree.specs.Node.{Branch}
-use Rattle.bb_tree.specs.SlotValues.{Labels}
+use Rattle.bb_tree.specs.Draft.{Labels}
 use Rattle.bb_tree.specs.declared.tree_error.TreeError.{TreeError}
 use Rattle.bb_tree.specs.declared.tree_error.TreeError.TheVariants.{NoMemory, DuplicatePhandle, NoSuchLabel}
-use Rattle.std.specs.Int.{to_be_bytes, w32}
 use Rattle.bb_tree.specs.declared.part.Part.{Part}
-use Rattle.bb_tree.specs.declared.part.Part.TheVariants.{Bytes}
 use Rattle.bb_tree.specs.declared.slot.Slot.{Slot}
 use Rattle.bb_tree.specs.Slots.{Changes, LeadTo, IsSound, with_prop, props_at, tree_of}
-use Rattle.bb_tree.specs.Resolve.{is_distinct, is_unresolved, references, numbered, phandle_among, phandles, referred}
+use Rattle.bb_tree.specs.Resolve.{is_distinct, is_unresolved, references, with_phandles, phandle_among, phandle_value, phandles, with_phandle}
 
 -- whether a number is taken
 abbrev pub has : List ℕ → ℕ → Bool
 has taken n = list_any (λ m. n == m) taken
 
+-- what comes of taking a number
 abbrev pub TakesNumber : ℕ → List ℕ → List ℕ → Result (Unit {0}) TreeError → Type 0
 TakesNumber n old new (Ok done) = (has old n ≡ false) × (new ≡ old ++ n ∷ [])
 TakesNumber n old new (Err e) = e ≢ NoMemory → (e ≡ DuplicatePhandle) × (has old n ≡ true)
@@ -36,19 +35,21 @@ TakesAll hs taken (Err e) = e ≢ NoMemory → (e ≡ DuplicatePhandle) × (is_d
 abbrev pub TakenBelow : List ℕ → ℕ → Type 0
 TakenBelow taken n = (m : ℕ) → 1 ≤ m → m < n → has taken m ≡ true
 
--- what comes of giving the node of slot k a phandle: nothing where it has one, else the least number that is free
+-- a phandle for the node of slot k, which is the least number that is free
 pub record IsGiven (k n : ℕ) (old new : List Slot) (taken more : List ℕ) : Type 0 where
-  pub changes : Changes k (with_prop (codes "phandle") (Bytes (to_be_bytes w32 n) ∷ [])) old new
+  pub changes : Changes k (with_prop (codes "phandle") (phandle_value n)) old new
   pub free : has taken n ≡ false
   pub least : TakenBelow taken n
   pub some : 1 ≤ n
   pub within : n < 2 ^ 32 - 1
   pub more_is : more ≡ taken ++ n ∷ []
 
+-- a node that has a phandle stays as it is
 pub record IsKept (k : ℕ) (old new : List Slot) (taken more : List ℕ) : Type 0 where
   pub kept : new ≡ old
   pub more_is : more ≡ taken
 
+-- what comes of giving the node of slot k a phandle: nothing where it has one, else a new one
 abbrev pub GivesBy : Option ℕ → ℕ → List Slot → List Slot → List ℕ → List ℕ → ℕ → Type 0
 GivesBy None k old new taken more n = IsGiven k n old new taken more
 GivesBy (Some h) k old new taken more n = IsKept k old new taken more × (1 ≤ n) × TakenBelow taken n
@@ -72,15 +73,20 @@ pub record IsNumbered (targets : List ℕ) (old new : List Slot) : Type 0 where
   pub sound : IsSound new
   pub longer : length old ≤ length new
   pub leads : (names : List (List ℕ)) (c : ℕ) → LeadTo old names c → LeadTo new names c
-  pub tree : (names : List (List (List ℕ))) → LeadAll old names targets → tree_of new ≡ fold referred (tree_of old) names
+  pub tree :
+      (names : List (List (List ℕ))) → LeadAll old names targets
+      → tree_of new ≡ fold with_phandle (tree_of old) names
 
 -- why a draft with these labels and this tree has no finished tree
 abbrev pub refusal : Labels → Branch (List Part) → Option TreeError
 refusal labels tree =
-    option_map_or (λ r. Some (NoSuchLabel r.at)) (find (is_unresolved labels tree) (references tree))
+    option_map_or (λ r. Some (NoSuchLabel r.at))
+    (find (is_unresolved labels tree) (references tree))
     (if is_distinct (phandles tree) then None else Some DuplicatePhandle)
 
 -- what comes of giving phandles to all nodes that are referred to inside `< >`
 abbrev pub Resolves : Labels → Branch (List Part) → List Slot → Result (Unit {0}) TreeError → Type 0
-Resolves labels tree new (Ok done) = (refusal labels tree ≡ None) × IsSound new × (0 < length new) × (tree_of new ≡ numbered labels tree)
+Resolves labels tree new (Ok done) =
+    (refusal labels tree ≡ None) × IsSound new × (0 < length new)
+    × (tree_of new ≡ with_phandles labels tree)
 Resolves labels tree new (Err e) = e ≢ NoMemory → refusal labels tree ≡ Some e

@@ -1,6 +1,6 @@
-ghost use Rattle.std.specs.Prelude.{◌≡◌, ◌≤◌, ◌<◌, ◌+◌, ◌-◌, ◌^◌, false, length, map, take, if◌then◌else◌};
-ghost use Rattle.bb_tree.specs.Blob.{blob_text, devicetree_of, capped, has_name, whole_words};
-ghost use Rattle.bb_tree.specs.BlobLength.{nodes_length, props_length, names_under, added, StandAt};
+ghost use Rattle.std.specs.Prelude.{◌≡◌, ◌≤◌, ◌<◌, ◌+◌, ◌-◌, ◌^◌, false, length, map, take};
+ghost use Rattle.bb_tree.specs.Blob.{blob_text, devicetree_of, length_in_64_bits, has_name, whole_words};
+ghost use Rattle.bb_tree.specs.BlobLength.{nodes_length, props_length, node_names, names_in, name_growth, growth_at, StandAt};
 ghost use Rattle.bb_tree.specs.Node.{grow, empty};
 ghost use Rattle.bb_tree.specs.NodeViews.{branch_of, prop_pair};
 
@@ -13,7 +13,7 @@ const FIXED: u64 = 40 + 16 + 4;
 /// longer. It takes no memory. Where many properties have names of their own, it takes time by the square of their
 /// number.
 pub fn blob_length(tree: &Tree) -> u64
-    ensures { result ≡ capped (length (blob_text (devicetree_of tree.now))) }
+    ensures { result ≡ length_in_64_bits (length (blob_text (devicetree_of tree.now))) }
 {
     let structure = node_length(&tree.root);
     if structure == u64::MAX {
@@ -30,7 +30,7 @@ pub fn blob_length(tree: &Tree) -> u64
 
 // How many bytes the node takes in the structure block.
 fn node_length(node: &Node) -> u64
-    ensures { result ≡ capped (nodes_length (grow (branch_of node.now) empty)) }
+    ensures { result ≡ length_in_64_bits (nodes_length (grow (branch_of node.now) empty)) }
 {
     let own = 8 + whole_words(node.name.as_str().len() + 1);
     let mut sum = props_length(&node.props).saturating_add(own);
@@ -41,7 +41,7 @@ fn node_length(node: &Node) -> u64
 }
 
 fn props_length(props: &PropList) -> u64
-    ensures { result ≡ capped (props_length (map prop_pair props.now)) }
+    ensures { result ≡ length_in_64_bits (props_length (map prop_pair props.now)) }
 {
     let mut sum = 0u64;
     for prop in props.as_slice() {
@@ -62,13 +62,11 @@ fn whole_words(len: usize) -> u64
 // How many bytes the names under the node add to the strings block. They stand at `place` among those under the root,
 // and `place` becomes the place behind them.
 fn strings_length(node: &Node, root: &Node, place: &mut u64) -> u64
-    requires stands { StandAt place.old (names_under (branch_of node.now)) (names_under
-        (branch_of root.now)) }
-    requires fits { place.old + length (names_under (branch_of node.now)) < 2 ^ 64 }
+    requires stands { StandAt place.old (node_names node.now) (node_names root.now) }
+    requires fits { place.old + length (node_names node.now) < 2 ^ 64 }
     ensures sum { result
-        ≡ capped (added (take place.old (names_under (branch_of root.now))) (names_under
-        (branch_of node.now))) }
-    ensures place { place.new ≡ place.old + length (names_under (branch_of node.now)) }
+        ≡ length_in_64_bits (growth_at place.old (node_names root.now) (node_names node.now)) }
+    ensures place { place.new ≡ place.old + length (node_names node.now) }
 {
     let mut sum = own_length(root, &node.props, place);
     for child in &node.nodes.inner {
@@ -79,12 +77,10 @@ fn strings_length(node: &Node, root: &Node, place: &mut u64) -> u64
 
 // The same for the names of some properties.
 fn own_length(root: &Node, props: &PropList, place: &mut u64) -> u64
-    requires stands { StandAt place.old (map (λ p. p.0) (map prop_pair props.now)) (names_under
-        (branch_of root.now)) }
+    requires stands { StandAt place.old (names_in props.now) (node_names root.now) }
     requires fits { place.old + length props.now < 2 ^ 64 }
     ensures sum { result
-        ≡ capped (added (take place.old (names_under (branch_of root.now))) (map (λ p. p.0)
-        (map prop_pair props.now))) }
+        ≡ length_in_64_bits (growth_at place.old (node_names root.now) (names_in props.now)) }
     ensures place { place.new ≡ place.old + length props.now }
 {
     let mut sum = 0u64;
@@ -97,9 +93,7 @@ fn own_length(root: &Node, props: &PropList, place: &mut u64) -> u64
 
 // How many bytes the name adds to the strings block at this place.
 fn name_length(root: &Node, name: &str, place: u64) -> u64
-    ensures { result
-        ≡ (if has_name (take place (names_under
-        (branch_of root.now))) name.now then 0 else length name.now + 1) }
+    ensures { result ≡ name_growth (take place (node_names root.now)) name.now }
 {
     let mut left = place;
     if is_before(root, name, &mut left) {
@@ -111,9 +105,8 @@ fn name_length(root: &Node, name: &str, place: u64) -> u64
 // Whether the name is among the first `left` names under the node. Where it isn't, `left` becomes how many are left
 // of them behind the node.
 fn is_before(node: &Node, name: &str, left: &mut u64) -> bool
-    ensures found { result ≡ has_name (take left.old (names_under (branch_of node.now))) name.now }
-    ensures left { result ≡ false → left.new
-        ≡ left.old - length (names_under (branch_of node.now)) }
+    ensures found { result ≡ has_name (take left.old (node_names node.now)) name.now }
+    ensures left { result ≡ false → left.new ≡ left.old - length (node_names node.now) }
 {
     if is_among(&node.props, name, left) {
         return true;
@@ -130,8 +123,7 @@ fn is_before(node: &Node, name: &str, left: &mut u64) -> bool
 }
 
 fn is_among(props: &PropList, name: &str, left: &mut u64) -> bool
-    ensures found { result
-        ≡ has_name (take left.old (map (λ p. p.0) (map prop_pair props.now))) name.now }
+    ensures found { result ≡ has_name (take left.old (names_in props.now)) name.now }
     ensures left { result ≡ false → left.new ≡ left.old - length props.now }
 {
     for prop in props.as_slice() {

@@ -1,8 +1,7 @@
 ghost use Rattle.std.specs.Prelude.{◌≡◌, ◌≢◌, ◌↔◌, ◌++◌, ◌∷◌, [], None, OnOk, OnErr, IfOk, IfErr, IsSome, IsTrue, is_some, length, ◌≤◌};
-ghost use Rattle.std.specs.Map.{lookup};
 ghost use Rattle.std.specs.Option.{option_copied};
-ghost use Rattle.std.specs.Str.{bytes_eq};
-ghost use Rattle.bb_tree.specs.Texts.{texts_in};
+ghost use Rattle.bb_tree.specs.Draft.{path_labelled};
+ghost use Rattle.bb_tree.specs.Texts.{labels_in};
 
 use crate::merge::merge_into;
 use crate::place::{slot_at, with_root};
@@ -27,32 +26,32 @@ pub struct Draft {
 }
 
 impl Model for Draft {
-    ghost use Rattle.bb_tree.specs.Draft.{Drafted};
-    ghost use Rattle.bb_tree.specs.DraftCode.{drafted_code};
+    ghost use Rattle.bb_tree.specs.Draft.{DraftValue};
+    ghost use Rattle.bb_tree.specs.DraftCode.{draft_code};
 
-    ghost Value = { Drafted };
+    ghost Value = { DraftValue };
 
-    ghost coded = { drafted_code };
+    ghost coded = { draft_code };
 
-    ghost use Rattle.bb_tree.specs.DraftView.{drafted, IsWhole};
+    ghost use Rattle.bb_tree.specs.DraftView.{draft_value, IsWhole};
 
-    ghost view = { drafted };
+    ghost view = { draft_value };
 
     ghost invariant = { IsWhole };
 }
 
 impl Draft {
-    ghost use Rattle.bb_tree.specs.Draft.{nothing_drafted, path_labelled, labelled, names_another};
+    ghost use Rattle.bb_tree.specs.Draft.{empty_draft, names_another, draft_with_label, draft_with_pair, draft_with_body};
     ghost use Rattle.bb_tree.specs.DraftViews.{draft_of};
     ghost use Rattle.bb_tree.specs.NodeViews.{branch_of};
     ghost use Rattle.bb_tree.specs.Node.{preorder};
     ghost use Rattle.bb_tree.specs.Paths.{found};
-    ghost use Rattle.bb_tree.specs.Merge.{merged};
+    ghost use Rattle.bb_tree.specs.Refusals.{Refuses};
     ghost use Rattle.bb_tree.specs.Resolve.{resolved};
 
     /// An empty root, no label, no reserved pair.
     pub fn none(alloc: Global) -> Draft
-        ensures { result ≡ nothing_drafted }
+        ensures { result ≡ empty_draft }
     {
         Draft {
             alloc,
@@ -64,7 +63,7 @@ impl Draft {
 
     /// Adds a reserved pair last.
     pub fn reserve(&mut self, place: u64, length: u64) -> Result<(), TreeError>
-        ensures ok { OnOk result (self.new ≡ record self.old { reserved = self.old.reserved ++ (place, length) ∷ [] }) }
+        ensures ok { OnOk result (self.new ≡ draft_with_pair self.old place length) }
         ensures err { OnErr result (self.new ≡ self.old) }
         ensures only_memory { IfErr result (λ e. e ≡ TreeError.NoMemory) }
     {
@@ -82,8 +81,9 @@ impl Draft {
     /// Lets the label stand for the path, whether or not a node stands there yet. `DuplicateLabel` exactly where it
     /// stands for another path already.
     pub fn label(&mut self, label: &str, path: &str) -> Result<(), TreeError>
-        ensures ok { OnOk result (self.new ≡ record self.old { labels = labelled self.old.labels label.now path.now }) }
-        ensures duplicate { (result ≡ Err TreeError.DuplicateLabel) ↔ IsTrue (names_another self.old.labels label.now path.now) }
+        ensures ok { OnOk result (self.new ≡ draft_with_label self.old label.now path.now) }
+        ensures duplicate { (result ≡ Err TreeError.DuplicateLabel)
+            ↔ IsTrue (names_another self.old.labels label.now path.now) }
         ensures causes { IfErr result (λ e. e ≢ TreeError.NoMemory → e ≡ TreeError.DuplicateLabel) }
         ensures err { OnErr result (self.new ≡ self.old) }
     {
@@ -108,7 +108,7 @@ impl Draft {
     /// isn't looked at. After a refusal the draft is gone.
     pub fn merge(self, path: &str, node: DraftNode) -> Result<Draft, TreeError>
         requires { IsSome (found path.now self.tree) }
-        ensures ok { IfOk result (λ d. d ≡ record self { tree = merged self.tree path.now (draft_of node) }) }
+        ensures ok { IfOk result (λ d. d ≡ draft_with_body self path.now (draft_of node)) }
         ensures only_memory { IfErr result (λ e. e ≡ TreeError.NoMemory) }
     {
         let Draft {
@@ -136,7 +136,7 @@ impl Draft {
         requires { length (preorder self.tree) ≤ 4294967294 }
         ensures ok { IfOk result (λ t. resolved self ≡ Ok (branch_of t.root)) }
         ensures reserved { IfOk result (λ t. t.reserved ≡ self.reserved) }
-        ensures err { IfErr result (λ e. e ≢ TreeError.NoMemory → resolved self ≡ Err e) }
+        ensures err { IfErr result (Refuses (resolved self)) }
     {
         let Draft {
             alloc,
@@ -159,9 +159,10 @@ fn add_label(
     label: &str,
     path: &str,
 ) -> Result<(), NoMemory>
-    requires { lookup (bytes_eq label.now) (texts_in labels.old.entries) ≡ None }
-    ensures ok { OnOk result (texts_in labels.new.entries ≡ texts_in labels.old.entries ++ (label.now, path.now) ∷ []) }
-    ensures err { OnErr result (texts_in labels.new.entries ≡ texts_in labels.old.entries) }
+    requires { path_labelled (labels_in labels.old) label.now ≡ None }
+    ensures ok { OnOk result (labels_in labels.new
+        ≡ labels_in labels.old ++ (label.now, path.now) ∷ []) }
+    ensures err { OnErr result (labels_in labels.new ≡ labels_in labels.old) }
 {
     let key = String::from_str(alloc, label)?;
     let path = Text::of(alloc, path)?;

@@ -1,5 +1,4 @@
 ghost use Rattle.std.specs.Prelude.{◌≡◌, ◌==◌, ◌++◌, ◌∷◌, [], length, OnOk, OnErr, slice_get};
-ghost use Rattle.std.specs.Option.{option_copied, option_map};
 
 use crate::DraftPropList;
 use bb_base::{NoMemory, Text};
@@ -23,7 +22,7 @@ pub struct DraftNodeList {
 }
 
 impl DraftNodeList {
-    ghost use Rattle.bb_tree.specs.DraftViews.{draft_of, drafts_of};
+    ghost use Rattle.bb_tree.specs.DraftViews.{draft_of, drafts_of, draft_seen};
 
     /// No nodes.
     pub fn none(alloc: Global) -> DraftNodeList
@@ -57,7 +56,7 @@ impl DraftNodeList {
 
     /// The node at a place, `None` exactly from the length on.
     pub fn get(&self, place: usize) -> Option<&DraftNode>
-        ensures { option_map draft_of (option_copied result) ≡ slice_get (drafts_of self.now) place }
+        ensures { draft_seen result ≡ slice_get (drafts_of self.now) place }
     {
         self.inner.get(place)
     }

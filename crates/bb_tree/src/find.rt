@@ -1,16 +1,14 @@
-ghost use Rattle.std.specs.Prelude.{◌≡◌, ◌==◌};
-ghost use Rattle.std.specs.List.{slice_split};
-ghost use Rattle.std.specs.Option.{option_copied, option_map};
+ghost use Rattle.std.specs.Prelude.{◌≡◌};
 ghost use Rattle.bb_tree.specs.Node.{forest};
-ghost use Rattle.bb_tree.specs.NodeViews.{branch_of, branches_of};
-ghost use Rattle.bb_tree.specs.Paths.{node_at, child_of};
+ghost use Rattle.bb_tree.specs.NodeViews.{branch_of, branches_of, branch_seen};
+ghost use Rattle.bb_tree.specs.Paths.{names_between, node_at, child_of};
 ghost use Rattle.bb_tree.specs.Phandle.{node_with};
 
 use crate::{Node, NodeList};
 
 /// The node that the names between the slashes lead to.
 pub(crate) fn find_behind<'a>(root: &'a Node, names: &str) -> Option<&'a Node>
-    ensures { option_map branch_of (option_copied result) ≡ node_at (slice_split (λ b. b == 47) names.now) (branch_of root.now) }
+    ensures { branch_seen result ≡ node_at (names_between names.now) (branch_of root.now) }
 {
     let mut node = root;
     for name in names.split('/') {
@@ -20,7 +18,7 @@ pub(crate) fn find_behind<'a>(root: &'a Node, names: &str) -> Option<&'a Node>
 }
 
 fn child_named<'a>(nodes: &'a NodeList, name: &str) -> Option<&'a Node>
-    ensures { option_map branch_of (option_copied result) ≡ child_of name.now (forest (branches_of nodes.now)) }
+    ensures { branch_seen result ≡ child_of name.now (forest (branches_of nodes.now)) }
 {
     for node in &nodes.inner {
         if name == node.name.as_str() {
@@ -32,7 +30,7 @@ fn child_named<'a>(nodes: &'a NodeList, name: &str) -> Option<&'a Node>
 
 /// The first node in preorder, from `node` on, that has this phandle.
 pub(crate) fn first_with(node: &Node, phandle: u32) -> Option<&Node>
-    ensures { option_map branch_of (option_copied result) ≡ node_with phandle (branch_of node.now) }
+    ensures { branch_seen result ≡ node_with phandle (branch_of node.now) }
 {
     if node.has_phandle(phandle) {
         return Some(node);

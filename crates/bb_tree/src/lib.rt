@@ -3,6 +3,7 @@
 #![tactic(auto)]
 
 mod blob;
+mod depth;
 mod draft;
 mod draft_node;
 mod draft_prop;
@@ -27,10 +28,8 @@ mod tree_error;
 mod value;
 mod write;
 
-/// The level of the deepest nodes that a reader of a tree takes, where the root's is 1.
-pub const DEEPEST: usize = 32;
-
 pub use blob::blob_length;
+pub use depth::DEPTH_LIMIT;
 pub use draft::Draft;
 pub use draft_node::{DraftNode, DraftNodeList};
 pub use draft_prop::DraftProp;
@@ -43,6 +42,3 @@ pub use prop::Prop;
 pub use prop_list::PropList;
 pub use tree::Tree;
 pub use tree_error::TreeError;
-
-#[cfg(test)]
-mod tests;

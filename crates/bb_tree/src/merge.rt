@@ -1,6 +1,6 @@
-ghost use Rattle.std.specs.Prelude.{◌<◌, OnOk, vec_len, map};
+ghost use Rattle.std.specs.Prelude.{◌<◌, OnOk, vec_len};
 ghost use Rattle.bb_tree.specs.Merge.{merging};
-ghost use Rattle.bb_tree.specs.DraftViews.{draft_of, drafts_of};
+ghost use Rattle.bb_tree.specs.DraftViews.{draft_of, drafts_of, prop_pairs};
 ghost use Rattle.bb_tree.specs.Slots.{IsSound, Changes, with_props, with_nodes};
 
 use crate::place::{child_or_new, put_prop};
@@ -37,7 +37,8 @@ fn merge_nodes(
 ) -> Result<(), NoMemory>
     requires within { k < vec_len slots.old }
     requires sound { IsSound slots.old.items }
-    ensures { OnOk result (Changes k (with_nodes (drafts_of nodes)) slots.old.items slots.new.items) }
+    ensures { OnOk result
+        (Changes k (with_nodes (drafts_of nodes)) slots.old.items slots.new.items) }
 {
     for child in nodes.inner {
         let DraftNode { name, props, nodes } = child;
@@ -56,7 +57,8 @@ fn put_props(
 ) -> Result<(), NoMemory>
     requires within { k < vec_len slots.old }
     requires sound { IsSound slots.old.items }
-    ensures { OnOk result (Changes k (with_props (map (λ p. (p.name, p.parts)) props)) slots.old.items slots.new.items) }
+    ensures { OnOk result
+        (Changes k (with_props (prop_pairs props)) slots.old.items slots.new.items) }
 {
     for prop in props.into_inner() {
         put_prop(alloc, slots, k, prop)?;

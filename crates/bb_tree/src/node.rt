@@ -1,5 +1,5 @@
 ghost use Rattle.std.specs.Prelude.{◌≡◌, ◌==◌, ◌++◌, ◌∷◌, [], length, IfOk, OnOk, OnErr, slice_get};
-ghost use Rattle.std.specs.Option.{option_copied, option_map};
+ghost use Rattle.std.specs.Option.{option_copied};
 
 use crate::PropList;
 use crate::phandle::phandle_in;
@@ -24,7 +24,7 @@ pub struct NodeList {
 }
 
 impl NodeList {
-    ghost use Rattle.bb_tree.specs.NodeViews.{branch_of, branches_of};
+    ghost use Rattle.bb_tree.specs.NodeViews.{branch_of, branches_of, branch_seen};
 
     /// No nodes.
     pub fn none(alloc: Global) -> NodeList
@@ -45,7 +45,8 @@ impl NodeList {
 
     /// Appends the node. It is dropped where memory is refused.
     pub fn push(&mut self, node: Node) -> Result<(), NoMemory>
-        ensures ok { OnOk result (branches_of self.new ≡ branches_of self.old ++ branch_of node ∷ []) }
+        ensures ok { OnOk result (branches_of self.new
+            ≡ branches_of self.old ++ branch_of node ∷ []) }
         ensures err { OnErr result (branches_of self.new ≡ branches_of self.old) }
     {
         self.inner.push(node)?;
@@ -66,7 +67,7 @@ impl NodeList {
 
     /// The node at a place, `None` exactly from the length on.
     pub fn get(&self, place: usize) -> Option<&Node>
-        ensures { option_map branch_of (option_copied result) ≡ slice_get (branches_of self.now) place }
+        ensures { branch_seen result ≡ slice_get (branches_of self.now) place }
     {
         self.inner.get(place)
     }

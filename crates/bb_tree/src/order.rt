@@ -30,7 +30,8 @@ pub(crate) fn count_nodes(slots: &[Slot], k: usize) -> usize
 pub(crate) fn add_in_order(slots: &[Slot], k: usize, order: &mut Vec<usize>) -> Result<(), NoMemory>
     requires within { k < length slots.now }
     requires sound { IsSound slots.now }
-    ensures { OnOk result (map (props_at slots.now) order.new.items ≡ map (props_at slots.now) order.old.items ++ props_below slots.now k) }
+    ensures { OnOk result (map (props_at slots.now) order.new.items
+        ≡ map (props_at slots.now) order.old.items ++ props_below slots.now k) }
 {
     order.push(k)?;
     for i in 0..count_nodes(slots, k) {

@@ -1,11 +1,8 @@
-ghost use Rattle.std.specs.Prelude.{◌≡◌, ◌<◌, ◌==◌, OnOk, IfOk, vec_len};
-ghost use Rattle.std.specs.List.{slice_split};
+ghost use Rattle.std.specs.Prelude.{◌≡◌, ◌<◌, OnOk, IfOk, vec_len};
 ghost use Rattle.std.specs.Map.{lookup};
-ghost use Rattle.std.specs.Option.{option_and_then};
 ghost use Rattle.std.specs.Str.{bytes_eq};
-ghost use Rattle.bb_tree.specs.Paths.{names_of};
-ghost use Rattle.bb_tree.specs.Slots.{IsSound, IsRooted, Changes, HasChild, spine, table_at, with_prop};
-ghost use Rattle.bb_tree.specs.Spine.{walk};
+ghost use Rattle.bb_tree.specs.Paths.{names_between};
+ghost use Rattle.bb_tree.specs.Slots.{IsSound, IsRooted, Changes, HasChild, slot_at_path, slot_through, table_at, with_prop};
 
 use crate::DraftProp;
 use crate::slot::Slot;
@@ -38,7 +35,8 @@ pub(crate) fn put_prop(
 ) -> Result<(), NoMemory>
     requires within { k < vec_len slots.old }
     requires sound { IsSound slots.old.items }
-    ensures { OnOk result (Changes k (with_prop prop.name prop.parts) slots.old.items slots.new.items) }
+    ensures { OnOk result
+        (Changes k (with_prop prop.name prop.parts) slots.old.items slots.new.items) }
 {
     let DraftProp { name, parts } = prop;
     let key = String::from_str(alloc, name.as_str())?;
@@ -98,7 +96,7 @@ pub(crate) fn child_or_new(
 /// Where the node at a path is.
 pub(crate) fn slot_at(slots: &[Slot], path: &str) -> Option<usize>
     requires { IsSound slots.now }
-    ensures { result ≡ option_and_then (walk 1 (spine slots.now) 0) (names_of path.now) }
+    ensures { result ≡ slot_at_path slots.now path.now }
 {
     let names = path.strip_prefix('/')?;
     if names.is_empty() {
@@ -110,7 +108,7 @@ pub(crate) fn slot_at(slots: &[Slot], path: &str) -> Option<usize>
 // The names stand between slashes.
 fn slot_behind(slots: &[Slot], names: &str) -> Option<usize>
     requires { IsSound slots.now }
-    ensures { result ≡ walk 1 (spine slots.now) 0 (slice_split (λ b. b == 47) names.now) }
+    ensures { result ≡ slot_through slots.now (names_between names.now) }
 {
     let mut k = 0;
     for name in names.split('/') {

@@ -1,7 +1,7 @@
 ghost use Rattle.std.specs.Prelude.{◌<◌, vec_len};
 ghost use Rattle.bb_tree.specs.Slots.{IsSound, tree_of};
 ghost use Rattle.bb_tree.specs.Taking.{Resolves};
-ghost use Rattle.bb_tree.specs.Texts.{texts_in};
+ghost use Rattle.bb_tree.specs.Texts.{labels_in};
 
 use crate::TreeError;
 use crate::order::add_in_order;
@@ -21,7 +21,7 @@ pub(crate) fn number_references(
 ) -> Result<(), TreeError>
     requires sound { IsSound slots.old.items }
     requires rooted { 0 < vec_len slots.old }
-    ensures { Resolves (texts_in labels.now.entries) (tree_of slots.old.items) slots.new.items result }
+    ensures { Resolves (labels_in labels.now) (tree_of slots.old.items) slots.new.items result }
 {
     let mut order = Vec::new(alloc);
     add_in_order(slots.as_slice(), 0, &mut order)?;

@@ -1,9 +1,7 @@
-ghost use Rattle.std.specs.Prelude.{◌≡◌, ◌++◌, ◌∷◌, [], OnOk, IfErr, map};
-ghost use Rattle.std.specs.List.{flat_map, filter_map};
-ghost use Rattle.bb_tree.specs.Resolve.{reference_in};
-ghost use Rattle.bb_tree.specs.SlotValues.{Surveys, references_of_part, references_of_props};
+ghost use Rattle.std.specs.Prelude.{◌≡◌, ◌++◌, ◌∷◌, [], OnOk, IfErr};
+ghost use Rattle.bb_tree.specs.SlotValues.{Surveys, references_at, references_of_part, references_of_props, references_of_value};
 ghost use Rattle.bb_tree.specs.Slots.{IsSound, props_at};
-ghost use Rattle.bb_tree.specs.Texts.{texts_in};
+ghost use Rattle.bb_tree.specs.Texts.{labels_in};
 
 use crate::slot::Slot;
 use crate::value::label_slot;
@@ -21,7 +19,8 @@ pub(crate) fn survey(
     targets: &mut Vec<usize>,
 ) -> Result<(), TreeError>
     requires { IsSound slots.now }
-    ensures { Surveys (texts_in labels.now.entries) slots.now (flat_map references_of_props (map (props_at slots.now) order.now)) targets.old.items targets.new.items result }
+    ensures { Surveys (labels_in labels.now) slots.now (references_at slots.now order.now)
+        targets.old.items targets.new.items result }
 {
     for k in order {
         survey_props(slots, labels, *k, targets)?;
@@ -36,7 +35,8 @@ fn survey_props(
     targets: &mut Vec<usize>,
 ) -> Result<(), TreeError>
     requires { IsSound slots.now }
-    ensures { Surveys (texts_in labels.now.entries) slots.now (references_of_props (props_at slots.now k)) targets.old.items targets.new.items result }
+    ensures { Surveys (labels_in labels.now) slots.now (references_of_props (props_at slots.now k))
+        targets.old.items targets.new.items result }
 {
     for i in 0..count_props(slots, k) {
         let Some((_name, parts)) = nth_prop(slots, k, i) else {
@@ -54,7 +54,8 @@ fn survey_parts(
     targets: &mut Vec<usize>,
 ) -> Result<(), TreeError>
     requires { IsSound slots.now }
-    ensures { Surveys (texts_in labels.now.entries) slots.now (filter_map reference_in parts.now) targets.old.items targets.new.items result }
+    ensures { Surveys (labels_in labels.now) slots.now (references_of_value parts.now)
+        targets.old.items targets.new.items result }
 {
     for part in parts.as_slice() {
         survey_part(slots, labels, part, targets)?;
@@ -69,7 +70,8 @@ fn survey_part(
     targets: &mut Vec<usize>,
 ) -> Result<(), TreeError>
     requires { IsSound slots.now }
-    ensures { Surveys (texts_in labels.now.entries) slots.now (references_of_part part.now) targets.old.items targets.new.items result }
+    ensures { Surveys (labels_in labels.now) slots.now (references_of_part part.now)
+        targets.old.items targets.new.items result }
 {
     match part {
         Part::Bytes(_) => {

@@ -1,8 +1,7 @@
-ghost use Rattle.std.specs.Prelude.{List, ℕ, codes, vec_len, IfOk, ◌≡◌, ◌<◌, ◌≤◌, ◌^◌, ◌-◌, ◌++◌, ◌∷◌, [], false, map, IfSome, OnOk};
-ghost use Rattle.std.specs.List.{filter_map};
-ghost use Rattle.bb_tree.specs.Resolve.{phandle_among};
-ghost use Rattle.std.specs.Int.{to_be_bytes, w32};
-ghost use Rattle.bb_tree.specs.Slots.{IsSound, props_at};
+ghost use Rattle.std.specs.Prelude.{List, ℕ, codes, vec_len, IfOk, ◌≡◌, ◌<◌, ◌≤◌, ◌^◌, ◌-◌, ◌++◌, ◌∷◌, [], false, IfSome, OnOk};
+ghost use Rattle.bb_tree.specs.Resolve.{phandle_value};
+ghost use Rattle.bb_tree.specs.SlotValues.{phandles_at};
+ghost use Rattle.bb_tree.specs.Slots.{IsSound};
 ghost use Rattle.bb_tree.specs.Taking.{Gives, IsNumbered, IsTaken, LeadAll, Takes, TakesAll, TakenBelow, has};
 
 use crate::place::put_prop;
@@ -21,7 +20,7 @@ pub(crate) fn taken_phandles(
     taken: &mut IndexSet<u32>,
 ) -> Result<(), TreeError>
     requires { taken.old.keys ≡ [] }
-    ensures { TakesAll (filter_map phandle_among (map (props_at slots.now) order.now)) taken.new.keys result }
+    ensures { TakesAll (phandles_at slots.now order.now) taken.new.keys result }
 {
     for k in order {
         let phandle = phandle_at(alloc, slots, *k)?;
@@ -83,7 +82,8 @@ pub(crate) fn give_phandle(
     requires sound { IsSound slots.old.items }
     requires some { 1 ≤ from }
     requires below { TakenBelow taken.old.keys from }
-    ensures { IfOk result (λ n. Gives k slots.old.items slots.new.items taken.old.keys taken.new.keys n) }
+    ensures { IfOk result
+        (λ n. Gives k slots.old.items slots.new.items taken.old.keys taken.new.keys n) }
 {
     if phandle_at(alloc, slots.as_slice(), k)?.is_some() {
         return Ok(from);
@@ -98,7 +98,8 @@ pub(crate) fn give_phandle(
 }
 
 fn phandle_prop(alloc: Global, phandle: u32) -> Result<DraftProp, NoMemory>
-    ensures { IfOk result (λ prop. prop ≡ record { name = codes "phandle"; parts = Part.Bytes (to_be_bytes w32 phandle) ∷ [] }) }
+    ensures { IfOk result
+        (λ prop. prop ≡ record { name = codes "phandle"; parts = phandle_value phandle }) }
 {
     let name = Text::of(alloc, "phandle")?;
     let mut bytes = Bytes::none(alloc);

@@ -1,13 +1,13 @@
 ghost use Rattle.std.specs.Prelude.{◌≡◌, ◌++◌, [], IfOk, unwrap_or};
 ghost use Rattle.std.specs.Int.{to_be_bytes, w32};
 ghost use Rattle.std.specs.Map.{lookup};
-ghost use Rattle.std.specs.Option.{option_and_then, option_copied};
+ghost use Rattle.std.specs.Option.{option_copied};
 ghost use Rattle.std.specs.Str.{bytes_eq};
 ghost use Rattle.bb_tree.specs.Draft.{path_labelled};
 ghost use Rattle.bb_tree.specs.Resolve as resolve;
-ghost use Rattle.bb_tree.specs.SlotValues.{slot_labelled, value_in};
-ghost use Rattle.bb_tree.specs.Slots.{IsSound, props_at, tree_of};
-ghost use Rattle.bb_tree.specs.Texts.{texts_in};
+ghost use Rattle.bb_tree.specs.SlotValues.{cell_labelled, part_in, phandle_at, slot_labelled, value_in};
+ghost use Rattle.bb_tree.specs.Slots.{IsSound, props_at};
+ghost use Rattle.bb_tree.specs.Texts.{labels_in};
 
 use crate::phandle::phandle_in;
 use crate::place::slot_at;
@@ -39,7 +39,7 @@ fn bytes_there(part: &Part) -> &[u8]
 
 /// The phandle of the node at `k`.
 pub(crate) fn phandle_at(alloc: Global, slots: &[Slot], k: usize) -> Result<Option<u32>, NoMemory>
-    ensures { IfOk result (λ phandle. phandle ≡ resolve.phandle_among (props_at slots.now k)) }
+    ensures { IfOk result (λ phandle. phandle ≡ phandle_at slots.now k) }
 {
     let Some(parts) = parts_of(slots, k, "phandle") else {
         return Ok(None);
@@ -61,7 +61,7 @@ pub(crate) fn label_slot(
     label: &str,
 ) -> Option<usize>
     requires { IsSound slots.now }
-    ensures { result ≡ slot_labelled (texts_in labels.now.entries) slots.now label.now }
+    ensures { result ≡ slot_labelled (labels_in labels.now) slots.now label.now }
 {
     let path = labels.get(label)?;
     slot_at(slots, path.as_str())
@@ -75,7 +75,7 @@ pub(crate) fn resolved_value(
     parts: &PartList,
 ) -> Result<Bytes, NoMemory>
     requires { IsSound slots.now }
-    ensures { IfOk result (λ bytes. bytes ≡ value_in (texts_in labels.now.entries) slots.now parts.now) }
+    ensures { IfOk result (λ bytes. bytes ≡ value_in (labels_in labels.now) slots.now parts.now) }
 {
     let mut bytes = Bytes::none(alloc);
     for part in parts.as_slice() {
@@ -92,25 +92,26 @@ fn add_part(
     bytes: Bytes,
 ) -> Result<Bytes, NoMemory>
     requires { IsSound slots.now }
-    ensures { IfOk result (λ more. more ≡ bytes ++ resolve.resolved_part (texts_in labels.now.entries) (tree_of slots.now) part.now) }
+    ensures { IfOk result
+        (λ more. more ≡ bytes ++ part_in (labels_in labels.now) slots.now part.now) }
 {
     match part {
         Part::Bytes(more) => {
-            return added(bytes, more.as_slice());
+            return with_more(bytes, more.as_slice());
         }
         Part::Cell { label, .. } => {
             let cell = cell_of(alloc, slots, labels, label.as_str())?;
-            return added(bytes, &cell);
+            return with_more(bytes, &cell);
         }
         Part::Path { label, .. } => {
             let path = path_text(labels, label.as_str());
-            let bytes = added(bytes, path.as_bytes())?;
-            return added(bytes, &[0]);
+            let bytes = with_more(bytes, path.as_bytes())?;
+            return with_more(bytes, &[0]);
         }
     }
 }
 
-fn added(mut bytes: Bytes, more: &[u8]) -> Result<Bytes, NoMemory>
+fn with_more(mut bytes: Bytes, more: &[u8]) -> Result<Bytes, NoMemory>
     ensures { IfOk result (λ all. all ≡ bytes ++ more.now) }
 {
     bytes.add(more)?;
@@ -118,7 +119,7 @@ fn added(mut bytes: Bytes, more: &[u8]) -> Result<Bytes, NoMemory>
 }
 
 fn path_text<'a>(labels: &'a IndexMap<String, Text>, label: &str) -> &'a str
-    ensures { result.now ≡ unwrap_or (path_labelled (texts_in labels.now.entries) label.now) [] }
+    ensures { result.now ≡ unwrap_or (path_labelled (labels_in labels.now) label.now) [] }
 {
     match labels.get(label) {
         Some(path) => path.as_str(),
@@ -133,7 +134,8 @@ fn cell_of(
     label: &str,
 ) -> Result<[u8; 4], NoMemory>
     requires { IsSound slots.now }
-    ensures { IfOk result (λ cell. cell ≡ to_be_bytes w32 (unwrap_or (option_and_then (λ k. resolve.phandle_among (props_at slots.now k)) (slot_labelled (texts_in labels.now.entries) slots.now label.now)) 0)) }
+    ensures { IfOk result (λ cell. cell
+        ≡ to_be_bytes w32 (cell_labelled (labels_in labels.now) slots.now label.now)) }
 {
     let Some(k) = label_slot(slots, labels, label) else {
         return Ok([0; 4]);

@@ -1,9 +1,9 @@
 ghost use Rattle.std.specs.Prelude.{◌≡◌, ◌<◌, IfOk, length, map, slice_get};
 ghost use Rattle.std.specs.Option.{option_map};
 ghost use Rattle.bb_tree.specs.NodeViews.{branch_of, prop_pair};
-ghost use Rattle.bb_tree.specs.SlotValues.{finished, values_in};
+ghost use Rattle.bb_tree.specs.SlotValues.{finished_node, values_in};
 ghost use Rattle.bb_tree.specs.Slots.{IsSound, props_at};
-ghost use Rattle.bb_tree.specs.Texts.{texts_in};
+ghost use Rattle.bb_tree.specs.Texts.{labels_in};
 
 use crate::order::{count_nodes, nth_node};
 use crate::slot::Slot;
@@ -23,7 +23,8 @@ pub(crate) fn node_of(
 ) -> Result<Node, NoMemory>
     requires within { k < length slots.now }
     requires sound { IsSound slots.now }
-    ensures { IfOk result (λ node. branch_of node ≡ finished (texts_in labels.now.entries) slots.now name k) }
+    ensures { IfOk result
+        (λ node. branch_of node ≡ finished_node (labels_in labels.now) slots.now name k) }
 {
     let props = finished_props(alloc, slots, labels, k)?;
     let count = count_nodes(slots, k);
@@ -47,7 +48,8 @@ fn finished_props(
 ) -> Result<PropList, NoMemory>
     requires within { k < length slots.now }
     requires sound { IsSound slots.now }
-    ensures { IfOk result (λ props. map prop_pair props ≡ values_in (texts_in labels.now.entries) slots.now (props_at slots.now k)) }
+    ensures { IfOk result (λ props. map prop_pair props
+        ≡ values_in (labels_in labels.now) slots.now (props_at slots.now k)) }
 {
     let count = count_props(slots, k);
     let mut props = PropList::with_room(alloc, count)?;

@@ -95,7 +95,7 @@ fn says(
         run(alloc, &list, &mut MemFiles::none(alloc), device, &mut out),
         status
     );
-    assert_eq!(rt; out.sent(), text.as_bytes());
+    assert_eq!(rt; out.sent_bytes(), text.as_bytes());
     Ok(())
 }
 
@@ -292,7 +292,7 @@ fn a_failing_output_is_told_behind_the_work(rt: HostRuntime) -> Result<(), Fail>
             ),
             Status::SinkFault
         );
-        assert_eq!(rt; out.sent(), [].as_slice());
+        assert_eq!(rt; out.sent_bytes(), [].as_slice());
         assert_eq!(rt; device.bytes(), written().as_slice());
     }
     assert_eq!(rt; Status::SinkFault.code(), 14);

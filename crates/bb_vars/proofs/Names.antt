@@ -7,14 +7,11 @@ use Rattle.std.proofs.lemmas.List.Quantifiers.{position-Some}
 use Rattle.std.proofs.lemmas.List.Sums.{position_or_len_is}
 use Rattle.std.proofs.lemmas.Slice.Eq.{bytes_eq-Decides}
 use Rattle.std.proofs.lemmas.Option.{slice_get-get_or}
+use Rattle.bb_vars.specs.Names.{is_name_at}
 
 -- no name before this place is the text
 abbrev pub IsNoneBefore : List (List ℕ) → List ℕ → ℕ → Type 0
 IsNoneBefore names text i = (k : ℕ) → k < i → bytes_eq (get_or names k []) text ≡ false
-
--- whether there is such a place, and its name is the text
-abbrev pub is_name_at : List (List ℕ) → List ℕ → ℕ → Bool
-is_name_at names text i = option_map_or (λ name. bytes_eq name text) (slice_get names i) false
 
 pub name_at : (names : List (List ℕ)) (text : List ℕ) (i : ℕ) → i < length names
     → is_name_at names text i ≡ bytes_eq (get_or names i []) text

@@ -1,7 +1,9 @@
--- Definitions that contracts cite.
+-- To be believed: public clauses cite these, or what these say. None is inside.
 pub use Rattle.bb_base.specs.Number
 pub mod Kind
 pub mod Mac
+pub mod Names
+pub mod Refusals
 pub mod RoundTrip
 pub mod Setting
 pub mod Table

@@ -14,16 +14,18 @@ pub record IsValue (kind : Kind) (value : List ℕ) : Type 0 where
   pub sized : length value ≡ size_of kind
   pub bytes : All (λ b. b < 256) value
 
--- the value has a text of its own: every number and MAC address, an index of one of an enum's names, which all
--- differ, and a string with only zero bytes after its first zero byte
+-- the value has a text of its own: every number and MAC address, an index of one of an enum's
+-- names, which all differ, and a string with only zero bytes after its first zero byte
 abbrev pub ReadsBack : Kind → List ℕ → Type 0
 ReadsBack Uint8 value = ⊤
 ReadsBack Uint32 value = ⊤
-ReadsBack (Enum32 names) value = AllPairs (λ a b. a ≢ b) names × (from_le_bytes w32 value < length names)
+ReadsBack (Enum32 names) value =
+    AllPairs (λ a b. a ≢ b) names × (from_le_bytes w32 value < length names)
 ReadsBack Mac value = ⊤
 ReadsBack (Chars size) value = All (λ c. c ≡ 0) (after_first (λ c. c == 0) value)
 
--- the one form of the texts that stand for a value: a number in decimal, a MAC address in lower case
+-- the one form of the texts that stand for a value: a number in decimal, a MAC address in lower
+-- case
 abbrev pub plain_text : Kind → List ℕ → List ℕ
 plain_text Uint8 text = decimal (result_unwrap_or (number_of text) 0)
 plain_text Uint32 text = decimal (result_unwrap_or (number_of text) 0)

@@ -1,6 +1,6 @@
-//! Variables of a state: their kinds, their values as text and as bytes, and the table of bytes that
-//! holds them. Layouts, states and choosers stand on it; it knows neither where a variable stands nor
-//! what it is called.
+//! Variables of a state: their kinds, their values as text and as bytes, and the table of bytes
+//! that holds them. Layouts, states and choosers stand on it; it knows neither where a variable
+//! stands nor what it is called.
 #![tactic(auto)]
 
 mod kind;
@@ -17,6 +17,3 @@ pub use print::print_value;
 pub use read::{check_value, read_value};
 pub use table::Table;
 pub use value_error::ValueError;
-
-#[cfg(test)]
-mod tests;

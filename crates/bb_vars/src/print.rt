@@ -1,17 +1,18 @@
-ghost use Rattle.std.specs.Prelude.{◌≡◌, ◌==◌, ◌++◌, length, OnOk, OnErr, slice_get, unwrap_or, decimal};
+ghost use Rattle.std.specs.Prelude.{◌≡◌, ◌==◌, ◌++◌, length, OnOk, OnErr, decimal};
 ghost use Rattle.std.specs.Int.{w32, from_le_bytes};
 ghost use Rattle.std.specs.List.{before_first, position_or_len};
 ghost use Rattle.bb_vars.specs.Kind.{size_of};
-ghost use Rattle.bb_vars.specs.Value.{text_of};
+ghost use Rattle.bb_vars.specs.Value.{name_or_number, text_of};
 
 use crate::Kind;
 use crate::mac::mac_text;
 use bb_base::{Bytes, NoMemory, TextList};
 use itoa::Buffer;
 
-/// Appends the text of a value, which has as many bytes as the kind: a number in decimal, an enum's name, or
-/// its number in decimal where that isn't below the count of names, a MAC address as pairs in lower case joined
-/// by `:`, a string up to its first zero byte. Without memory `out` is as before.
+/// Appends the text of a value, which has as many bytes as the kind: a number in decimal, an enum's
+/// name, or its number in decimal where that isn't below the count of names, a MAC address as pairs
+/// in lower case joined by `:`, a string up to its first zero byte. Without memory `out` is as
+/// before.
 pub fn print_value(kind: &Kind, bytes: &[u8], out: &mut Bytes) -> Result<(), NoMemory>
     requires { length bytes.now ≡ size_of kind.now }
     ensures printed { OnOk result (out.new ≡ out.old ++ text_of kind.now bytes.now) }
@@ -35,7 +36,7 @@ fn print_number(value: u32, out: &mut Bytes) -> Result<(), NoMemory>
 }
 
 fn print_name(names: &TextList, index: u32, out: &mut Bytes) -> Result<(), NoMemory>
-    ensures printed { OnOk result (out.new ≡ out.old ++ unwrap_or (slice_get names.now index) (decimal index)) }
+    ensures printed { OnOk result (out.new ≡ out.old ++ name_or_number names.now index) }
     ensures unchanged { OnErr result (out.new ≡ out.old) }
 {
     match names.get(index as usize) {

@@ -1,5 +1,6 @@
 ghost use Rattle.std.specs.Prelude.{◌≡◌, ◌+◌, ◌≤◌, length, IfErr, IfOk, OnErr, OnOk};
 ghost use Rattle.bb_vars.specs.Kind.{HasFewNames, size_of};
+ghost use Rattle.bb_vars.specs.Refusals.{Refuses};
 ghost use Rattle.bb_vars.specs.Setting.{with_value};
 ghost use Rattle.bb_vars.specs.Table.{table_with};
 ghost use Rattle.bb_vars.specs.Value.{bytes_of};
@@ -9,7 +10,8 @@ use bb_base::NoMemory;
 use std::alloc::Global;
 use std::marker::Model;
 
-/// The bytes of all variables, as an area holds them. Their number never changes. Clauses see the list.
+/// The bytes of all variables, as an area holds them. Their number never changes. Clauses see the
+/// list.
 #[derive(Debug, Drop)]
 pub struct Table {
     inner: Vec<u8>,
@@ -49,13 +51,13 @@ impl Table {
         self.inner[at..at + bytes.len()].copy_from_slice(bytes);
     }
 
-    /// Reads a text as a value of the kind into the bytes from byte `at` on, which are all inside, as `read_value` does.
-    /// All other bytes stay. After a refusal all bytes are as before.
+    /// Reads a text as a value of the kind into the bytes from byte `at` on, which are all inside,
+    /// as `read_value` does. All other bytes stay. After a refusal all bytes are as before.
     pub fn put_value(&mut self, kind: &Kind, at: u32, text: &[u8]) -> Result<(), ValueError>
         requires inside { at + size_of kind.now ≤ length self.old }
         requires few_names { HasFewNames kind.now }
         ensures put { OnOk result (with_value kind.now at text.now self.old ≡ Ok self.new) }
-        ensures refused { IfErr result (λ cause. bytes_of kind.now text.now ≡ Err cause) }
+        ensures refused { IfErr result (Refuses (bytes_of kind.now text.now)) }
         ensures unchanged { OnErr result (self.new ≡ self.old) }
         ensures same_length { length self.new ≡ length self.old }
     {

@@ -28,7 +28,7 @@ pub enum ValueError {
 }
 
 impl From<NumberError> for ValueError {
-    ghost from_gives = { λ spelt e. e ≡ number_refusal spelt };
+    ghost from_gives = { λ number e. e ≡ number_refusal number };
 
     fn from(error: NumberError) -> ValueError {
         match error {

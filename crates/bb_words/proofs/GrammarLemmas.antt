@@ -22,7 +22,7 @@ use Rattle.bb_words.specs.declared.row.Row.TheVariants.{State as StateRow, MarkG
 use Rattle.bb_words.specs.Grammar.{IsAction, IsRaw, IsSpelt, Spells, Form, Own, Long, Joined, Item, Takes, ShortDump, LongDump, ShellDump, own_form, long_form, spelling_of, has_long, has_form, is_value, has_item, file_in, name_in, settings_in, key_in, cause_in, action_in}
 use Rattle.bb_words.specs.Options.{cause_of, dump_of, long_of, valued_of, value_in, has_sign, set_in, with_value, with_action, none_given}
 use Rattle.bb_words.specs.Table.{name_of, row_of, has, has_dumps, may_come, cause_given, command_of}
-use Rattle.bb_words.specs.Words.{Stage, Magic, Length, Mode, Area, Options, Whole, raw_of, number_up_to, area_of, dumped, opened, taken, closed, behind_option, next, words_from, words_of}
+use Rattle.bb_words.specs.Words.{Stage, Magic, Length, Mode, Area, Options, Whole, raw_of, number_up_to, area_of, after_dump, before_value, after_value, after_joined, after_option, next, words_from, words_of}
 
 -- ---- what is spelt is accepted
 
@@ -650,10 +650,10 @@ from_stage : (start : ℕ) (a b : Stage) (rest : List (List ℕ)) (command : Com
 from_stage start a b rest command e h = subst (λ s. words_from start s rest ≡ Ok command) (sym e) h
 
 dump_onward : (start : ℕ) (row : Row) (w : List ℕ) (rest : List (List ℕ)) (given : Given) (command : Command) (s : Stage) → Onward row rest →
-    option_and_then (dumped row given) (dump_of w) ≡ Some s → words_from (start + 1) s rest ≡ Ok command → IsRead row given (w ∷ rest) command
+    option_and_then (after_dump row given) (dump_of w) ≡ Some s → words_from (start + 1) s rest ≡ Ok command → IsRead row given (w ∷ rest) command
 unfolding Onward
 dump_onward start row w rest given command s ih stage h =
-    let dump = on_then (dumped row given) (dump_of w) s stage in
+    let dump = on_then (after_dump row given) (dump_of w) s stage in
     let had = on_if (has_dumps row) (Options row None (with_action dump.0 given)) s dump.2 in
     let r = ih (start + 1) None (with_action dump.0 given) command (from_stage (start + 1) _ s rest command had.1 h) in
     dump_cases row w dump.0 given rest command (bytes_eq w (codes "-d")) (bytes_eq w (codes "--dump")) (bytes_eq w (codes "--dump-shell")) had.0 refl refl refl dump.1 r
@@ -666,10 +666,10 @@ opened_form row w value v given behind rest command (inr long) may with r =
     subst (λ w. IsRead row given (w ∷ value ∷ rest) command) (sym long.1) (takes_read row Long v value given behind rest command long.0 may with r)
 
 opened_onward : (start : ℕ) (row : Row) (w : List ℕ) (rest : List (List ℕ)) (given : Given) (command : Command) (s : Stage) → Onward row rest →
-    option_and_then (opened row given) (valued_of w) ≡ Some s → words_from (start + 1) s rest ≡ Ok command → IsRead row given (w ∷ rest) command
+    option_and_then (before_value row given) (valued_of w) ≡ Some s → words_from (start + 1) s rest ≡ Ok command → IsRead row given (w ∷ rest) command
 unfolding Onward
 opened_onward start row w rest given command s ih stage h =
-    let v = on_then (opened row given) (valued_of w) s stage in
+    let v = on_then (before_value row given) (valued_of w) s stage in
     let may = on_if (may_come row v.0 given) (Options row (Some v.0) given) s v.2 in
     let r = ih (start + 1) (Some v.0) given command (from_stage (start + 1) _ s rest command may.1 h) in
     subst (λ rest. IsRead row given (w ∷ rest) command) (sym r.3) (opened_form row w r.0 v.0 given r.2 r.1 command (valued_words w v.0 v.1) may.0 r.4 r.5)
@@ -679,24 +679,24 @@ on_test true o b h = (refl, h)
 on_test false o b h = absurd (cc)
 
 closed_onward : (start : ℕ) (row : Row) (w : List ℕ) (rest : List (List ℕ)) (given : Given) (command : Command) (s : Stage) → Onward row rest →
-    option_and_then (closed row given) (value_in w) ≡ Some s → words_from (start + 1) s rest ≡ Ok command → IsRead row given (w ∷ rest) command
+    option_and_then (after_joined row given) (value_in w) ≡ Some s → words_from (start + 1) s rest ≡ Ok command → IsRead row given (w ∷ rest) command
 unfolding Onward
 closed_onward start row w rest given command s ih stage h =
-    let v = on_then (closed row given) (value_in w) s stage in
-    let may = on_test (may_come row v.0.0 given) (taken row given v.0.0 v.0.1) s v.2 in
+    let v = on_then (after_joined row given) (value_in w) s stage in
+    let may = on_test (may_come row v.0.0 given) (after_value row given v.0.0 v.0.1) s v.2 in
     let behind = on_map (Options row None) (with_value v.0.0 v.0.1 given) s may.1 in
     let r = ih (start + 1) None behind.0 command (from_stage (start + 1) _ s rest command behind.2 h) in
     let word = value_words w v.0 v.1 in
     subst (λ w. IsRead row given (w ∷ rest) command) (sym word.1) (takes_read row Joined v.0.0 v.0.1 given behind.0 rest command word.0 may.0 behind.1 r)
 
 option_onward : (start : ℕ) (row : Row) (w : List ℕ) (rest : List (List ℕ)) (given : Given) (command : Command) (s : Stage) → Onward row rest →
-    behind_option row given w ≡ Some s → words_from (start + 1) s rest ≡ Ok command → IsRead row given (w ∷ rest) command
+    after_option row given w ≡ Some s → words_from (start + 1) s rest ≡ Ok command → IsRead row given (w ∷ rest) command
 option_onward start row w rest given command s ih stage h =
-    elim (on_or (option_and_then (dumped row given) (dump_of w))
-    (option_or (option_and_then (opened row given) (valued_of w)) (option_and_then (closed row given) (value_in w))) s stage) [
+    elim (on_or (option_and_then (after_dump row given) (dump_of w))
+    (option_or (option_and_then (before_value row given) (valued_of w)) (option_and_then (after_joined row given) (value_in w))) s stage) [
       | inl dump ↦ dump_onward start row w rest given command s ih dump h
       | inr other ↦
-          elim (on_or (option_and_then (opened row given) (valued_of w)) (option_and_then (closed row given) (value_in w)) s other) [
+          elim (on_or (option_and_then (before_value row given) (valued_of w)) (option_and_then (after_joined row given) (value_in w)) s other) [
             | inl open_stage ↦ opened_onward start row w rest given command s ih open_stage h
             | inr close_stage ↦ closed_onward start row w rest given command s ih close_stage h
           ]
@@ -707,10 +707,10 @@ unfolding Onward words_from
 onward row [] start None given command h = end_read start row given (command_of row given) command refl h
 onward row [] start (Some valued) given command h = absurd (cc)
 onward row (w ∷ ws) start None given command h =
-    let word = on_word (behind_option row given w) start ws command h in
+    let word = on_word (after_option row given w) start ws command h in
     option_onward start row w ws given command word.0 (onward row ws) word.1 word.2
 onward row (w ∷ ws) start (Some valued) given command h =
-    let word = on_word (taken row given valued w) start ws command h in
+    let word = on_word (after_value row given valued w) start ws command h in
     let behind = on_map (Options row None) (with_value valued w given) word.0 word.1 in
     (w, ws, behind.0, refl, behind.1, onward row ws (start + 1) None behind.0 command (from_stage (start + 1) _ word.0 ws command behind.2 word.2))
 

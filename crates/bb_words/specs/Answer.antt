@@ -8,7 +8,8 @@ use Rattle.bb_words.specs.declared.command.RawCommand.{RawCommand}
 use Rattle.bb_words.specs.declared.error.WordsError.{WordsError}
 use Rattle.bb_words.specs.declared.error.WordsError.TheVariants.{BadWord, NoMemory}
 
--- the words are refused for this cause: a bad word is that at which they are refused, want of memory says nothing
+-- the words are refused for this cause: a bad word is that at which they are refused, and that
+-- memory was refused says nothing
 abbrev pub Refuses : {T : Type 0} → Result T ℕ → WordsError → Type 0
 Refuses words (BadWord place) = words ≡ Err place
 Refuses words NoMemory = ⊤
@@ -18,10 +19,12 @@ abbrev pub IsSizedFor : ℕ → RawAction → Type 0
 IsSizedFor len Look = ⊤
 IsSizedFor len (Write area) = length area ≡ len
 
+-- and so has that of `raw`, of at most 65,535 bytes
 pub record IsSizedRaw (raw : RawCommand) : Type 0 where
   pub bound : raw.area_len ≤ 65535
   pub exact : IsSizedFor raw.area_len raw.action
 
+-- of each command
 abbrev pub IsSized : Command → Type 0
 IsSized (Raw raw) = IsSizedRaw raw
 IsSized (State state) = ⊤

@@ -5,4 +5,5 @@ use Rattle.bb_words.specs.Words.{words_of}
 
 -- some accepted list of words begins with these
 abbrev pub Begins : List (List ℕ) → Type 0
-Begins front = (rest : List (List ℕ)) × (command : Command) × (words_of (front ++ rest) ≡ Ok command)
+Begins front =
+    (rest : List (List ℕ)) × (command : Command) × (words_of (front ++ rest) ≡ Ok command)

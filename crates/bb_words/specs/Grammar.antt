@@ -24,7 +24,8 @@ use Rattle.bb_words.specs.Words.{number_up_to, area_of}
 -- `-g`, or `-s` and the digits of the area
 abbrev pub IsAction : ℕ → RawAction → List (List ℕ) → Type 0
 IsAction len Look words = words ≡ codes "-g" ∷ []
-IsAction len (Write area) words = (digits : List ℕ) × (words ≡ codes "-s" ∷ digits ∷ []) × (area_of len digits ≡ Some area)
+IsAction len (Write area) words =
+    (digits : List ℕ) × (words ≡ codes "-s" ∷ digits ∷ []) × (area_of len digits ≡ Some area)
 
 -- the magic, the area's length and what is done
 pub record IsRaw (words : List (List ℕ)) (raw : RawCommand) : Type 0 where
@@ -38,11 +39,12 @@ pub record IsRaw (words : List (List ℕ)) (raw : RawCommand) : Type 0 where
 
 -- ---- commands with options
 
--- how an option is spelt: in its own form, `-i FILE` or `--cause WORD`, or in a long form, `--input FILE`, also
--- joined with its value, `--input=FILE`
+-- how an option is spelt: in its own form, `-i FILE` or `--cause WORD`, or in a long form,
+-- `--input FILE`, also joined with its value, `--input=FILE`
 pub data Form : Type 0 where
   Own Long Joined : Form
 
+-- what may come behind a command's name
 pub data Item : Type 0 where
   -- an option with its value
   Takes : Form → Valued → List ℕ → Item
@@ -75,6 +77,7 @@ long_form Settings = []
 long_form Key = []
 long_form Cause = []
 
+-- the words of an item
 abbrev pub spelling_of : Item → List (List ℕ)
 spelling_of (Takes Own valued value) = own_form valued ∷ value ∷ []
 spelling_of (Takes Long valued value) = long_form valued ∷ value ∷ []
@@ -83,7 +86,8 @@ spelling_of ShortDump = codes "-d" ∷ []
 spelling_of LongDump = codes "--dump" ∷ []
 spelling_of ShellDump = codes "--dump-shell" ∷ []
 
--- whether a text is a value of the option: that of `-s` is VAR=VALUE, that of `--cause` one of three words
+-- whether a text is a value of the option: that of `-s` is VAR=VALUE, that of `--cause` one of
+-- three words
 abbrev pub is_value : Valued → List ℕ → Bool
 is_value SetOption value = has_sign value
 is_value Cause value = is_some (cause_of value)
@@ -101,7 +105,8 @@ has_item row (Takes form valued value) =
     has row valued && (has_form form valued && is_value valued value)
 has_item row _ = has_dumps row
 
--- the file, the state's name, the files of the settings and of the key, the cause and the action that an item gives
+-- the file, the state's name, the files of the settings and of the key, the cause and the action
+-- that an item gives
 abbrev pub file_in : Item → Option (List ℕ)
 file_in (Takes form Input value) = Some value
 file_in _ = None
@@ -134,8 +139,9 @@ action_in ShortDump = Some Dump
 action_in LongDump = Some Dump
 action_in ShellDump = Some DumpShell
 
--- the command's name, and items that it has in any order: at most one file, one name, one file of settings, one of
--- a key and one cause, and the actions in their order; they make the command where those are there that must be
+-- the command's name, and items that it has in any order: at most one file, one name, one file of
+-- settings, one of a key and one cause, and the actions in their order; they make the command where
+-- those are there that must be
 pub record IsSpelt (row : Row) (words : List (List ℕ)) (command : Command) : Type 0 where
   pub items : List Item
   pub given : Given

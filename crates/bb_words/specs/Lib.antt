@@ -1,4 +1,4 @@
--- Definitions that contracts cite.
+-- To be believed: public clauses cite these, or what these say. None is inside.
 pub mod Answer
 pub mod FirstBad
 pub mod Grammar

@@ -34,17 +34,22 @@ valued_of word =
     else if bytes_eq word (codes "--cause") then Some Cause
     else long_of word
 
--- what stands before the first `=` of a text, and what behind it
+-- a text has a `=`, and what stands before the first and what behind it
 abbrev pub has_sign : List ℕ → Bool
 has_sign text = list_any (λ c. c == 61) text
 
 abbrev pub cut_at_sign : List ℕ → Option (List ℕ × List ℕ)
 cut_at_sign text =
-    if has_sign text then Some (before_first (λ c. c == 61) text, after_first (λ c. c == 61) text) else None
+    if has_sign text
+    then Some (before_first (λ c. c == 61) text, after_first (λ c. c == 61) text)
+    else None
 
 -- a long form with its value, which stands behind the first `=`
 abbrev pub value_in : List ℕ → Option (Valued × List ℕ)
-value_in word = option_and_then (λ cut. option_map (λ valued. (valued, cut.1)) (long_of cut.0)) (cut_at_sign word)
+value_in word =
+    option_and_then
+    (λ cut. option_map (λ valued. (valued, cut.1)) (long_of cut.0))
+    (cut_at_sign word)
 
 -- an option that takes no value
 abbrev pub dump_of : List ℕ → Option Action
@@ -63,9 +68,18 @@ cause_of word =
 
 -- ---- what options give
 
+-- nothing
 abbrev pub none_given : Given
-none_given = record { file = None; name = None; settings = None; key = None; cause = None; actions = [] }
+none_given = record {
+  file = None;
+  name = None;
+  settings = None;
+  key = None;
+  cause = None;
+  actions = [];
+}
 
+-- with an action more, behind the others
 abbrev pub with_action : Action → Given → Given
 with_action action given = record given { actions = given.actions ++ action ∷ [] }
 
@@ -79,7 +93,8 @@ with_value Input value given = Some (record given { file = Some value })
 with_value Name value given = Some (record given { name = Some value })
 with_value Settings value given = Some (record given { settings = Some value })
 with_value Key value given = Some (record given { key = Some value })
-with_value Cause value given = option_map (λ cause. record given { cause = Some cause }) (cause_of value)
+with_value Cause value given =
+    option_map (λ cause. record given { cause = Some cause }) (cause_of value)
 with_value GetOption value given = Some (with_action (Get value) given)
 with_value SetOption value given = option_map (λ action. with_action action given) (set_in value)
 

@@ -1,5 +1,5 @@
--- The table of commands whose options come in any order: how each is called, which options it has, and which must be
--- there. A command more is a row more.
+-- The table of commands whose options come in any order: how each is called, which options it has,
+-- and which must be there. A command more is a row more.
 use Rattle.std.specs.Prelude.{ℕ, Bool, true, false, ◌&&◌, not, List, codes, Option, Some, None, option_and_then, unwrap_or, if◌then◌else◌}
 use Rattle.std.specs.Option.{option_map}
 use Rattle.std.specs.Str.{bytes_eq}
@@ -14,6 +14,7 @@ use Rattle.bb_words.specs.declared.row.Row.{Row}
 use Rattle.bb_words.specs.declared.row.Row.TheVariants.{State as StateRow, MarkGood as MarkGoodRow, Boot as BootRow}
 use Rattle.bb_words.specs.Options.{given_once}
 
+-- how a command is called
 abbrev pub name_of : Row → List ℕ
 name_of StateRow = codes "state"
 name_of MarkGoodRow = codes "mark-good"
@@ -61,26 +62,41 @@ has_dumps BootRow = false
 abbrev pub cause_given : Given → CauseWord
 cause_given given = unwrap_or given.cause Other
 
--- the command that its options make, where those are given that must be: of `state` the file, of `mark-good` and
--- `boot` that of the settings too
+-- the command that its options make, where those are given that must be: of `state` the file, of
+-- `mark-good` and `boot` that of the settings too
 abbrev pub command_of : Row → Given → Option Command
 command_of StateRow given =
     option_map
-    (λ file. State (record { file = file; name = given.name; key = given.key; actions = given.actions }))
+    (λ file. State (record {
+      file = file;
+      name = given.name;
+      key = given.key;
+      actions = given.actions;
+    }))
     given.file
 command_of MarkGoodRow given =
     option_and_then
     (λ file.
     option_map
-    (λ settings. MarkGood (record { file = file; settings = settings; name = given.name; key = given.key }))
+    (λ settings. MarkGood (record {
+      file = file;
+      settings = settings;
+      name = given.name;
+      key = given.key;
+    }))
     given.settings)
     given.file
 command_of BootRow given =
     option_and_then
     (λ file.
     option_map
-    (λ settings.
-    Boot (record { file = file; settings = settings; name = given.name; key = given.key; cause = cause_given given }))
+    (λ settings. Boot (record {
+      file = file;
+      settings = settings;
+      name = given.name;
+      key = given.key;
+      cause = cause_given given;
+    }))
     given.settings)
     given.file
 

@@ -18,7 +18,10 @@ use Rattle.bb_words.specs.Table.{row_of, has_dumps, may_come, command_of}
 
 -- the number that a text spells, up to a greatest one
 abbrev pub number_up_to : ℕ → List ℕ → Option ℕ
-number_up_to most text = option_and_then (λ n. if nat_le n most then Some n else None) (result_ok (number_of text))
+number_up_to most text =
+    option_and_then
+    (λ n. if nat_le n most then Some n else None)
+    (result_ok (number_of text))
 
 -- the bytes of an area of this length that hexadecimal digits spell
 abbrev pub area_of : ℕ → List ℕ → Option (List ℕ)
@@ -38,29 +41,36 @@ pub data Stage : Type 0 where
   -- a command to which no word can be added
   Whole : Command → Stage
 
+-- a command `raw`
 abbrev pub raw_of : ℕ → ℕ → RawAction → Command
 raw_of magic len action = Raw (record { magic = magic; area_len = len; action = action })
 
--- the stage behind an option without a value, one whose value comes next, and one with its value
-abbrev pub dumped : Row → Given → Action → Option Stage
-dumped row given action = if has_dumps row then Some (Options row None (with_action action given)) else None
+-- the stage after an option without a value
+abbrev pub after_dump : Row → Given → Action → Option Stage
+after_dump row given action =
+    if has_dumps row then Some (Options row None (with_action action given)) else None
 
-abbrev pub opened : Row → Given → Valued → Option Stage
-opened row given valued = if may_come row valued given then Some (Options row (Some valued) given) else None
+-- between an option and its value, and after that
+abbrev pub before_value : Row → Given → Valued → Option Stage
+before_value row given valued =
+    if may_come row valued given then Some (Options row (Some valued) given) else None
 
-abbrev pub taken : Row → Given → Valued → List ℕ → Option Stage
-taken row given valued value = option_map (Options row None) (with_value valued value given)
+abbrev pub after_value : Row → Given → Valued → List ℕ → Option Stage
+after_value row given valued value = option_map (Options row None) (with_value valued value given)
 
-abbrev pub closed : Row → Given → Valued × List ℕ → Option Stage
-closed row given (valued, value) = if may_come row valued given then taken row given valued value else None
+-- after an option that is joined with its value
+abbrev pub after_joined : Row → Given → Valued × List ℕ → Option Stage
+after_joined row given (valued, value) =
+    if may_come row valued given then after_value row given valued value else None
 
-abbrev pub behind_option : Row → Given → List ℕ → Option Stage
-behind_option row given word =
-    option_or (option_and_then (dumped row given) (dump_of word))
-    (option_or (option_and_then (opened row given) (valued_of word))
-    (option_and_then (closed row given) (value_in word)))
+-- after a word that is no option's value
+abbrev pub after_option : Row → Given → List ℕ → Option Stage
+after_option row given word =
+    option_or (option_and_then (after_dump row given) (dump_of word))
+    (option_or (option_and_then (before_value row given) (valued_of word))
+    (option_and_then (after_joined row given) (value_in word)))
 
--- the stage behind a word, where the word may come
+-- the stage after a word, where the word may come
 abbrev pub next : Stage → List ℕ → Option Stage
 next Start word =
     if bytes_eq word (codes "raw") then Some Magic
@@ -71,9 +81,10 @@ next (Mode magic len) word =
     if bytes_eq word (codes "-g") then Some (Whole (raw_of magic len Look))
     else if bytes_eq word (codes "-s") then Some (Area magic len)
     else None
-next (Area magic len) word = option_map (λ area. Whole (raw_of magic len (Write area))) (area_of len word)
-next (Options row None given) word = behind_option row given word
-next (Options row (Some valued) given) word = taken row given valued word
+next (Area magic len) word =
+    option_map (λ area. Whole (raw_of magic len (Write area))) (area_of len word)
+next (Options row None given) word = after_option row given word
+next (Options row (Some valued) given) word = after_value row given valued word
 next (Whole command) word = None
 
 -- the command that the words so far are
@@ -82,11 +93,13 @@ command_at (Options row None given) = command_of row given
 command_at (Whole command) = Some command
 command_at _ = None
 
--- the command that the words are behind those before this place, or the place of the first that may not come there;
--- where one is missing, the place behind the last
+-- the command that the words are after those before this place, or the place of the first that may
+-- not come there; where one is missing, the place behind the last
 unfoldable pub words_from : ℕ → Stage → List (List ℕ) → Result Command ℕ
 words_from place stage [] = ok_or (command_at stage) place
-words_from place stage (word ∷ rest) = option_map_or (λ behind. words_from (place + 1) behind rest) (next stage word) (Err place)
+words_from place stage (word ∷ rest) =
+    option_map_or (λ behind. words_from (place + 1) behind rest) (next stage word) (Err place)
 
+-- of all words
 abbrev pub words_of : List (List ℕ) → Result Command ℕ
 words_of words = words_from 0 Start words

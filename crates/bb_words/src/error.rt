@@ -3,8 +3,8 @@ use bb_base::NoMemory;
 /// Why words are no command.
 #[derive(Clone, Copy, Debug, PartialEq, Eq)]
 pub enum WordsError {
-    /// The word at this place, from 0, is the first that no command has there after the words before it. Where a
-    /// word is missing at the end, the place is the number of words.
+    /// The word at this place, from 0, is the first that no command has there after the words
+    /// before it. Where a word is missing at the end, the place is the number of words.
     BadWord(usize),
     /// An allocation was refused. This says nothing of the words.
     NoMemory,

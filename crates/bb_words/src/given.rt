@@ -3,7 +3,7 @@ ghost use Rattle.std.specs.Option.{ok_or, option_map};
 ghost use Rattle.bb_words.specs.Answer.{IsSized, Refuses};
 ghost use Rattle.bb_words.specs.Options.{given_once, none_given, set_in, value_in, valued_of, with_value};
 ghost use Rattle.bb_words.specs.Table.{command_of, may_come};
-ghost use Rattle.bb_words.specs.Words.{Options, next, opened, taken, closed, behind_option, command_at};
+ghost use Rattle.bb_words.specs.Words.{Options, after_joined, after_option, after_value, before_value, command_at, next};
 
 use crate::option::{Valued, cause_of, cut_at_sign, dump_of, value_in, valued_of};
 use crate::row::Row;
@@ -39,8 +39,8 @@ impl Given {
         }
     }
 
-    /// Takes the word at a place, which is the value of `due`, where an option waits for one. The answer is the
-    /// option that waits then.
+    /// Takes the word at a place, which is the value of `due`, where an option waits for one. The
+    /// answer is the option that waits then.
     pub(crate) fn take(
         &mut self,
         alloc: Global,
@@ -70,18 +70,18 @@ impl Given {
         place: usize,
     ) -> Result<Option<Valued>, WordsError>
         ensures ok { IfOk result (λ then.
-            behind_option row self.old word.now ≡ Some (Options row then self.new)) }
+            after_option row self.old word.now ≡ Some (Options row then self.new)) }
         ensures refused { IfErr result (Refuses
-            (ok_or (behind_option row self.old word.now) place)) }
+            (ok_or (after_option row self.old word.now) place)) }
     {
         if let Some(action) = dump_of(word).filter(|_| row.has_dumps()) {
             self.actions.push(action)?;
             return Ok(None);
         }
-        if let Some(valued) = self.opened(row, word) {
+        if let Some(valued) = self.option_alone(row, word) {
             return Ok(Some(valued));
         }
-        if let Some((valued, value)) = self.closed(row, word) {
+        if let Some((valued, value)) = self.option_with_value(row, word) {
             self.set(alloc, valued, value, place)?;
             return Ok(None);
         }
@@ -89,17 +89,17 @@ impl Given {
     }
 
     // The option whose value is the next word, if it may come.
-    fn opened(&self, row: Row, word: &str) -> Option<Valued>
+    fn option_alone(&self, row: Row, word: &str) -> Option<Valued>
         ensures { option_map (λ valued. Options row (Some valued) self.now) result
-            ≡ option_and_then (opened row self.now) (valued_of word.now) }
+            ≡ option_and_then (before_value row self.now) (valued_of word.now) }
     {
         valued_of(word).filter(|valued| self.may_come(row, *valued))
     }
 
     // The option with its value in this word, if it may come.
-    fn closed<'a>(&self, row: Row, word: &'a str) -> Option<(Valued, &'a str)>
-        ensures { option_and_then (λ given. taken row self.now given.0 given.1.now) result
-            ≡ option_and_then (closed row self.now) (value_in word.now) }
+    fn option_with_value<'a>(&self, row: Row, word: &'a str) -> Option<(Valued, &'a str)>
+        ensures { option_and_then (λ given. after_value row self.now given.0 given.1.now) result
+            ≡ option_and_then (after_joined row self.now) (value_in word.now) }
     {
         value_in(word).filter(|given| self.may_come(row, given.0))
     }

@@ -1,5 +1,5 @@
-//! The words of a command, as the program is called: which command they are, or the first word that fits none.
-//! The program's top crate stands on it; it knows neither devices nor files.
+//! The words of a command, as the program is called: which command they are, or the first word that
+//! fits none. The program's top crate stands on it; it knows neither devices nor files.
 #![tactic(auto)]
 
 mod action_list;
@@ -21,6 +21,3 @@ pub use command::{
 pub use error::WordsError;
 pub use law::{law_accepted_words, law_first_bad_word};
 pub use read::read_words;
-
-#[cfg(test)]
-mod tests;

@@ -10,8 +10,8 @@ use crate::{Command, WordsError};
 use bb_base::TextList;
 use std::alloc::Global;
 
-/// Reads the words of a command, or finds the place of the first word that no command has there after the words
-/// before it. The texts of the command are copies.
+/// Reads the words of a command, or finds the place of the first word that no command has there
+/// after the words before it. The texts of the command are copies.
 pub fn read_words(alloc: Global, words: &TextList) -> Result<Command, WordsError>
     ensures ok { IfOk result (λ command. words_of words.now ≡ Ok command) }
     ensures sized { IfOk result IsSized }

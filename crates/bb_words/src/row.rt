@@ -3,8 +3,8 @@ ghost use Rattle.bb_words.specs.Table.{has, has_dumps, row_of};
 
 use crate::option::Valued;
 
-/// A command whose options come in any order: a row of the table of options. `Given` says which of them come once,
-/// and makes the command where those are there that must be.
+/// A command whose options come in any order: a row of the table of options. `Given` says which of
+/// them come once, and makes the command where those are there that must be.
 #[derive(Clone, Copy, Debug, PartialEq, Eq)]
 pub(crate) enum Row {
     State,

@@ -14,7 +14,7 @@ mod usage;
 
 use bb_base::{NoMemory, Sink};
 use bb_flash::geometry_of;
-use bb_tool::{Status, run};
+use bb_tool::{Status, run, tell_fault, tell_text};
 use command_line::{CommandLine, LineError};
 use device_file::OpenError;
 use file_board::FileBoard;
@@ -35,8 +35,8 @@ fn main(rt: HostRuntime) -> ExitCode {
 
 fn start<K: Sink>(rt: &HostRuntime, line: &CommandLine, out: &mut K) -> Status {
     match line {
-        CommandLine::Help => tell(usage::USAGE, Status::Done, out),
-        CommandLine::Version => tell(usage::VERSION, Status::Done, out),
+        CommandLine::Help => tell_text(usage::USAGE.as_bytes(), Status::Done, out),
+        CommandLine::Version => tell_text(usage::VERSION.as_bytes(), Status::Done, out),
         CommandLine::Words => bad_words(out),
         CommandLine::Session {
             device,
@@ -56,22 +56,13 @@ fn start<K: Sink>(rt: &HostRuntime, line: &CommandLine, out: &mut K) -> Status {
 }
 
 fn bad_words<K: Sink>(out: &mut K) -> Status {
-    tell("fault 1 BadWords 0\n", Status::BadWords, out)
+    tell_fault(Status::BadWords, "BadWords 0", out)
 }
 
 fn no_device<K: Sink>(out: &mut K) -> Status {
-    tell("fault 8 ReadFault\n", Status::ReadFault, out)
+    tell_fault(Status::ReadFault, "ReadFault", out)
 }
 
 fn no_memory<K: Sink>(out: &mut K) -> Status {
-    let _ = tell("fault 20 NoMemory\n", Status::NoMemory, out);
-    Status::NoMemory
-}
-
-// Sends the text, and gives the status with which the program ends.
-fn tell<K: Sink>(text: &str, status: Status, out: &mut K) -> Status {
-    match out.write(text.as_bytes()) {
-        Ok(()) => status,
-        Err(_) => Status::SinkFault,
-    }
+    tell_fault(Status::NoMemory, "NoMemory", out)
 }

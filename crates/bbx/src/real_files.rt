@@ -4,7 +4,7 @@ ghost use Rattle.bb_base.specs.Faults.{HasCause};
 ghost use Rattle.bb_base.specs.Folder.{is_fault};
 ghost use Rattle.bb_base.specs.declared.files.FileFail.TheVariants.{TooLong};
 
-use bb_base::{Bytes, FileFail, Files, NoMemory, Text, TextList};
+use bb_base::{Bytes, FILE_LIMIT, FileFail, Files, NoMemory, Text, TextList};
 use std::alloc::Global;
 use std::fs::{DirEntry, File};
 use std::io::{ErrorKind, Read};
@@ -40,9 +40,6 @@ impl<'r> RealFiles<'r> {
         }
     }
 }
-
-// The most bytes that a file may have. No more than one byte beyond it is taken in.
-const FILE_LIMIT: usize = 1_048_576;
 
 impl<'r> Files for RealFiles<'r> {
     ghost folder = { λ f. record { told = None; faults = f.faults } };

@@ -80,7 +80,7 @@ pub(super) fn says(
     let mut out = MemSink::with_room(alloc, 100)?;
     let list = words(alloc)?;
     let answer = run(alloc, &list, files, device, &mut out);
-    assert_eq!(rt; out.sent(), sends.as_bytes());
+    assert_eq!(rt; out.sent_bytes(), sends.as_bytes());
     assert_eq!(rt; answer, status);
     Ok(())
 }

@@ -94,7 +94,7 @@ fn all_starts(rt: &impl Abort, alloc: Global, kind: Kind) -> Result<(), Fail> {
     }
     let files = &mut files;
     says(rt, alloc, files, &mut device, Status::NoTarget, NO_TARGET)?;
-    assert_eq!(rt; device.started(), ATTEMPTS);
+    assert_eq!(rt; device.start_count(), ATTEMPTS);
     Ok(())
 }
 
@@ -113,7 +113,7 @@ fn every_second_start(rt: &impl Abort, alloc: Global, kind: Kind) -> Result<(), 
     }
     let files = &mut files;
     says(rt, alloc, files, &mut device, Status::NoTarget, NO_TARGET)?;
-    assert_eq!(rt; device.started(), 3);
+    assert_eq!(rt; device.start_count(), 3);
     Ok(())
 }
 
@@ -218,7 +218,7 @@ fn is_cut(sessions: Cuts, session: u32) -> bool {
 
 // Each start was made by a session that was done, and there are no more starts than attempts.
 fn ends(rt: &impl Abort, device: &MemBoard, sessions: u32, cuts: u32, done: u32) {
-    assert_eq!(rt; device.started(), done);
-    assert!(rt; device.started() <= ATTEMPTS);
+    assert_eq!(rt; device.start_count(), done);
+    assert!(rt; device.start_count() <= ATTEMPTS);
     assert!(rt; sessions <= cuts.saturating_add(ATTEMPTS));
 }

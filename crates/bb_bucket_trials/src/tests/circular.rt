@@ -11,10 +11,10 @@ use super::{CONTENTS, FILLS, restart};
 use bb_base::Failed;
 use bb_circular::Circular;
 use bb_flash::{Fault, Fill, MemBoard};
-use calls::{filled, finds, log, void, write};
+use calls::{board_with, finds, log, void, write};
 use pages::{
     Page, Pages, RECORD, after_write, image_of, looked_at, pages_of, torn_erase, torn_program,
-    written,
+    written_pages,
 };
 use std::alloc::Global;
 use std::process::Abort;
@@ -22,12 +22,16 @@ use std::test::Fail;
 
 // A finished write, and then a finished void.
 fn writes(rt: &impl Abort, alloc: Global, pages: Pages) -> Result<(), Fail> {
-    let (mut log, mut board) = (log(alloc)?, filled(alloc, pages)?);
+    let (mut log, mut board) = (log(alloc)?, board_with(alloc, pages)?);
     finds(rt, &mut log, &mut board, pages)?;
     assert_eq!(rt; write(&mut log, &mut board, &RECORD), Ok(()), "{pages:?}");
     let after = after_write(pages);
     assert_eq!(rt; board.bytes(), image_of(after).as_slice(), "{pages:?}");
-    assert_eq!(rt; board.erased() == 1, written(pages) == 4, "{pages:?}");
+    assert_eq!(rt;
+        board.erase_count() == 1,
+        written_pages(pages) == 4,
+        "{pages:?}"
+    );
     finds(rt, &mut log, &mut board, after)?;
     assert_eq!(rt; void(&mut log, &mut board), Ok(()), "{pages:?}");
     assert_eq!(rt; board.bytes(), [0xFF; 192].as_slice(), "{pages:?}");
@@ -46,7 +50,7 @@ fn tears(
 ) -> Result<(), Fail>
     requires few { call ≤ 1 }
 {
-    let (mut log, mut board) = (log(alloc)?, filled(alloc, pages)?);
+    let (mut log, mut board) = (log(alloc)?, board_with(alloc, pages)?);
     finds(rt, &mut log, &mut board, pages)?;
     board.plan_fault(board.reads().min(9) as u32 + call, fault)?;
     assert_eq!(rt;
@@ -65,7 +69,7 @@ fn tears_void(
     fault: Fault,
     after: Pages,
 ) -> Result<(), Fail> {
-    let (mut log, mut board) = (log(alloc)?, filled(alloc, pages)?);
+    let (mut log, mut board) = (log(alloc)?, board_with(alloc, pages)?);
     finds(rt, &mut log, &mut board, pages)?;
     board.plan_fault(board.reads().min(9) as u32, fault)?;
     assert_eq!(rt; void(&mut log, &mut board), Err(Failed), "{pages:?}");
@@ -81,7 +85,7 @@ fn misses(
     call: u32,
     fault: Fault,
 ) -> Result<(), Fail> {
-    let (mut log, mut board) = (log(alloc)?, filled(alloc, pages)?);
+    let (mut log, mut board) = (log(alloc)?, board_with(alloc, pages)?);
     board.plan_fault(call, fault)?;
     assert_eq!(rt;
         write(&mut log, &mut board, &RECORD),
@@ -138,11 +142,11 @@ fn each_read_that_fails_changes_nothing(rt: HostRuntime) -> Result<(), Fail> {
 fn eight_records_erase_a_block_of_four_once_or_twice(rt: HostRuntime) -> Result<(), Fail> {
     for number in 0..CONTENTS {
         let pages = pages_of(number);
-        let (mut log, mut board) = (log(rt.alloc())?, filled(rt.alloc(), pages)?);
+        let (mut log, mut board) = (log(rt.alloc())?, board_with(rt.alloc(), pages)?);
         writes_four(&rt, &mut log, &mut board)?;
         writes_four(&rt, &mut log, &mut board)?;
-        let erased = if written(pages) == 0 { 1 } else { 2 };
-        assert_eq!(rt; board.erased(), erased, "{pages:?}");
+        let erased = if written_pages(pages) == 0 { 1 } else { 2 };
+        assert_eq!(rt; board.erase_count(), erased, "{pages:?}");
     }
     Ok(())
 }
@@ -181,7 +185,7 @@ fn tears_each(
     fill: Fill,
     fault: Fault,
 ) -> Result<(), Fail> {
-    if written(pages) < 4 {
+    if written_pages(pages) < 4 {
         tears(rt, alloc, pages, 0, fault, torn_program(pages, fill))?;
     } else {
         tears(rt, alloc, pages, 0, fault, torn_erase(pages, fill))?;

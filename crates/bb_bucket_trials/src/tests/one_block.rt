@@ -11,7 +11,7 @@ use super::{CONTENTS, FILLS, restart};
 use bb_base::Failed;
 use bb_bucket::OneBlock;
 use bb_flash::{Fault, Fill, MemBoard};
-use calls::{filled, finds, one_block, void, write};
+use calls::{board_with, finds, one_block, void, write};
 use pages::{Page, Pages, after_write, image_of, pages_of, torn_erase, torn_program};
 use std::alloc::Global;
 use std::process::Abort;
@@ -19,12 +19,12 @@ use std::test::Fail;
 
 // A finished write, and then a finished void.
 fn writes(rt: &impl Abort, alloc: Global, pages: Pages) -> Result<(), Fail> {
-    let (mut block, mut board) = (one_block(alloc)?, filled(alloc, pages)?);
+    let (mut block, mut board) = (one_block(alloc)?, board_with(alloc, pages)?);
     finds(rt, &mut block, &mut board, pages)?;
     assert_eq!(rt; write(&mut block, &mut board), Ok(()), "{pages:?}");
     let after = after_write();
     assert_eq!(rt; board.bytes(), image_of(after).as_slice(), "{pages:?}");
-    assert_eq!(rt; board.erased(), 1, "{pages:?}");
+    assert_eq!(rt; board.erase_count(), 1, "{pages:?}");
     finds(rt, &mut block, &mut board, after)?;
     assert_eq!(rt; void(&mut block, &mut board), Ok(()), "{pages:?}");
     assert_eq!(rt; board.bytes(), [0xFF; 192].as_slice(), "{pages:?}");
@@ -43,7 +43,7 @@ fn tears(
 ) -> Result<(), Fail>
     requires few { call ≤ 1 }
 {
-    let (mut block, mut board) = (one_block(alloc)?, filled(alloc, pages)?);
+    let (mut block, mut board) = (one_block(alloc)?, board_with(alloc, pages)?);
     finds(rt, &mut block, &mut board, pages)?;
     board.plan_fault(board.reads().min(9) as u32 + call, fault)?;
     assert_eq!(rt; write(&mut block, &mut board), Err(Failed), "{pages:?}");
@@ -58,7 +58,7 @@ fn tears_void(
     fault: Fault,
     after: Pages,
 ) -> Result<(), Fail> {
-    let (mut block, mut board) = (one_block(alloc)?, filled(alloc, pages)?);
+    let (mut block, mut board) = (one_block(alloc)?, board_with(alloc, pages)?);
     finds(rt, &mut block, &mut board, pages)?;
     board.plan_fault(board.reads().min(9) as u32, fault)?;
     assert_eq!(rt; void(&mut block, &mut board), Err(Failed), "{pages:?}");

@@ -9,8 +9,8 @@ use bb_vars::Table;
 use std::alloc::Global;
 use std::test::Fail;
 
-// A board with the variables of three targets in 28 bytes: for each its attempts and its priority, and then the one that
-// was chosen last.
+// A board with the variables of three targets in 28 bytes: for each its attempts and its priority,
+// and then the one that was chosen last.
 fn source() -> &'static [u8] {
     b"/dts-v1/;
 / {

@@ -1,6 +1,7 @@
-/// The number of the target that starts next, or `-`, for each combination of attempts from 0 to 2, in the order of their
-/// digits to the base 3, at a combination of priorities, numbered the same way: of the targets with a priority and
-/// attempts left the one of the highest priority, and of equal ones the first.
+/// The number of the target that starts next, or `-`, for each combination of attempts from 0 to 2,
+/// in the order of their digits to the base 3, at a combination of priorities, numbered the same
+/// way: of the targets with a priority and attempts left the one of the highest priority, and of
+/// equal ones the first.
 pub fn best_of(priorities: u8) -> &'static [u8] {
     match priorities {
         0 => b"---------------------------",

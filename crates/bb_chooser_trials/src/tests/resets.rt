@@ -6,7 +6,8 @@ use std::alloc::Global;
 use std::process::Abort;
 use std::test::Fail;
 
-// What a reset of a table leaves; the target that is chosen then is the one that `choose_after` told.
+// What a reset of a table leaves; the target that is chosen then is the one that `choose_after`
+// told.
 fn reset_leaves(
     rt: &impl Abort,
     alloc: Global,
@@ -36,8 +37,9 @@ const DISABLED: ([u8; 3], [u8; 3]) = ([1, 2, 0], [0, 0, 0]);
 // Nothing is reset by itself.
 #[test]
 fn nothing_is_reset(rt: HostRuntime) -> Result<(), Fail> {
-    let text =
-        b"global.bootchooser.targets=a b c\nglobal.bootchooser.state_prefix=state".as_slice();
+    let text = b"global.bootchooser.targets=a b c\n\
+          global.bootchooser.state_prefix=state"
+        .as_slice();
     let chooser = chooser(rt.alloc(), text)?;
     reset_leaves(&rt, rt.alloc(), &chooser, Cause::PowerOn, FULL, FULL)?;
     reset_leaves(&rt, rt.alloc(), &chooser, Cause::Reset, USED_UP, USED_UP)?;
@@ -46,8 +48,11 @@ fn nothing_is_reset(rt: HostRuntime) -> Result<(), Fail> {
 
 #[test]
 fn a_cause_resets_attempts(rt: HostRuntime) -> Result<(), Fail> {
-    let text =
-        b"global.bootchooser.targets=a b c\nglobal.bootchooser.state_prefix=state\nglobal.bootchooser.reset_attempts=power-on\nglobal.bootchooser.b.default_attempts=7".as_slice();
+    let text = b"global.bootchooser.targets=a b c\n\
+          global.bootchooser.state_prefix=state\n\
+          global.bootchooser.reset_attempts=power-on\n\
+          global.bootchooser.b.default_attempts=7"
+        .as_slice();
     let chooser = chooser(rt.alloc(), text)?;
     reset_leaves(
         &rt,
@@ -63,8 +68,10 @@ fn a_cause_resets_attempts(rt: HostRuntime) -> Result<(), Fail> {
 
 #[test]
 fn used_up_attempts_are_reset(rt: HostRuntime) -> Result<(), Fail> {
-    let text =
-        b"global.bootchooser.targets=a b c\nglobal.bootchooser.state_prefix=state\nglobal.bootchooser.reset_attempts=reset all-zero".as_slice();
+    let text = b"global.bootchooser.targets=a b c\n\
+          global.bootchooser.state_prefix=state\n\
+          global.bootchooser.reset_attempts=reset all-zero"
+        .as_slice();
     let chooser = chooser(rt.alloc(), text)?;
     reset_leaves(
         &rt,
@@ -95,8 +102,12 @@ fn used_up_attempts_are_reset(rt: HostRuntime) -> Result<(), Fail> {
 
 #[test]
 fn priorities_are_reset_first(rt: HostRuntime) -> Result<(), Fail> {
-    let text =
-        b"global.bootchooser.targets=a b c\nglobal.bootchooser.state_prefix=state\nglobal.bootchooser.reset_priorities=all-zero\nglobal.bootchooser.reset_attempts=all-zero\nglobal.bootchooser.c.default_priority=9".as_slice();
+    let text = b"global.bootchooser.targets=a b c\n\
+          global.bootchooser.state_prefix=state\n\
+          global.bootchooser.reset_priorities=all-zero\n\
+          global.bootchooser.reset_attempts=all-zero\n\
+          global.bootchooser.c.default_priority=9"
+        .as_slice();
     let chooser = chooser(rt.alloc(), text)?;
     reset_leaves(
         &rt,
@@ -117,11 +128,14 @@ fn priorities_are_reset_first(rt: HostRuntime) -> Result<(), Fail> {
     reset_leaves(&rt, rt.alloc(), &chooser, Cause::Other, FULL, FULL)
 }
 
-// An attempt is spent, the last one takes the priority with it, and the target that was chosen last is restored.
+// An attempt is spent, the last one takes the priority with it, and the target that was chosen last
+// is restored.
 #[test]
 fn attempts_are_spent_and_restored(rt: HostRuntime) -> Result<(), Fail> {
-    let text =
-        b"global.bootchooser.targets=a b c\nglobal.bootchooser.state_prefix=state\nglobal.bootchooser.disable_on_zero_attempts=1".as_slice();
+    let text = b"global.bootchooser.targets=a b c\n\
+          global.bootchooser.state_prefix=state\n\
+          global.bootchooser.disable_on_zero_attempts=1"
+        .as_slice();
     let chooser = chooser(rt.alloc(), text)?;
     let mut left = table(rt.alloc(), [1, 2, 0], [5, 4, 0], 0)?;
     assert!(rt; !chooser.mark_good(&mut left));

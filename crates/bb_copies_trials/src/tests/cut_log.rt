@@ -79,7 +79,7 @@ fn loads_one(
         "1\n",
     )?;
     assert_eq!(rt; device.programs(), programs);
-    assert_eq!(rt; device.erased(), 0);
+    assert_eq!(rt; device.erase_count(), 0);
     Ok(())
 }
 

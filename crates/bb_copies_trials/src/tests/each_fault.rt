@@ -213,11 +213,11 @@ fn gives(
         session(alloc, tree(), &LOAD, device, &mut out)?,
         Status::Done
     );
-    if out.sent() == b"2\n".as_slice() {
+    if out.sent_bytes() == b"2\n".as_slice() {
         assert_eq!(rt; device.bytes(), strides([two(); 3]).as_slice());
         return Ok(());
     }
-    assert_eq!(rt; out.sent(), old.as_bytes());
+    assert_eq!(rt; out.sent_bytes(), old.as_bytes());
     assert_ne!(rt; status, Status::Done);
     if old == "1\n" {
         assert_eq!(rt; device.bytes(), strides([one(); 3]).as_slice());

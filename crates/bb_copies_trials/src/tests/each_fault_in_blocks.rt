@@ -187,7 +187,7 @@ fn whole(rt: &impl Abort, alloc: Global, row: Row) -> Result<(), Fail> {
         "",
     )?;
     let reads = device.reads();
-    let writes = device.programs().checked_add(device.erased());
+    let writes = device.programs().checked_add(device.erase_count());
     assert_eq!(rt; reads, u64::from(row.reads));
     assert_eq!(rt; writes, Some(row.writes.len() as u64));
     gives(rt, alloc, row, &mut device, Status::Done)
@@ -237,11 +237,11 @@ fn gives(
     let mut out = MemSink::with_room(alloc, 100)?;
     let loaded = session(alloc, tree(row.kind), &LOAD, device, &mut out)?;
     assert_eq!(rt; loaded, Status::Done);
-    if out.sent() == b"2\n".as_slice() {
+    if out.sent_bytes() == b"2\n".as_slice() {
         passes(rt, device, entry(row.kind, Number::Two));
         return Ok(());
     }
-    assert_eq!(rt; out.sent(), row.old.as_bytes());
+    assert_eq!(rt; out.sent_bytes(), row.old.as_bytes());
     assert_ne!(rt; status, Status::Done);
     if row.old == "1\n" {
         passes(rt, device, entry(row.kind, Number::One));

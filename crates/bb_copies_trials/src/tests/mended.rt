@@ -129,6 +129,6 @@ fn a_save_is_made_where_the_output_fails(rt: HostRuntime) -> Result<(), Fail> {
     let status = session(alloc, tree(), &all, &mut device, &mut out)?;
     assert_eq!(rt; status, Status::SinkFault);
     assert_eq!(rt; status.code(), 14);
-    assert_eq!(rt; out.sent(), [].as_slice());
+    assert_eq!(rt; out.sent_bytes(), [].as_slice());
     holds(&rt, alloc, &device, [preferred(); 3])
 }

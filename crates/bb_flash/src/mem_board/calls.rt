@@ -10,7 +10,7 @@ ghost use Rattle.bb_flash.specs.Saved.{history};
 
 use crate::cells::Cells;
 use crate::log::Log;
-use crate::pages::{copy_out, touched};
+use crate::pages::{copy_out, touched_pages};
 use crate::{Fault, Health, MemBoard};
 use bb_base::Failed;
 
@@ -19,7 +19,7 @@ impl MemBoard {
     fn next_fault(&self) -> Option<Fault>
         ensures { result ≡ memory.fault_of self.now }
     {
-        planned(&self.plan, self.calls)
+        planned_fault(&self.plan, self.calls)
     }
 
     // A call that is to write so many bytes comes after a cut, or there is no room to record it.
@@ -31,14 +31,14 @@ impl MemBoard {
     }
 
     fn fail(&mut self) -> Failed
-        ensures { self.new ≡ memory.failed self.old }
+        ensures { self.new ≡ memory.with_fault self.old }
     {
         self.faults = self.faults.saturating_add(1);
         Failed
     }
 
     fn fail_read(&mut self) -> Failed
-        ensures { self.new ≡ memory.read_failed self.old }
+        ensures { self.new ≡ memory.with_read_fault self.old }
     {
         self.read_faults = self.read_faults.saturating_add(1);
         self.fail()
@@ -50,7 +50,8 @@ impl MemBoard {
         ensures answer { is_err result ≡ memory.fails_to_read self.old }
         ensures whole { IsDevice (device_of self.old) }
         ensures after { self.new ≡ memory.after_read self.old }
-        ensures done { IfOk result (IsReading self.old.geometry.page self.old.told.image at out.new) }
+        ensures done { IfOk result
+            (IsReading self.old.geometry.page self.old.told.image at out.new) }
     {
         let fault = self.next_fault();
         if self.refuses(0) || (fault.is_none() && self.reads == u64::MAX) {
@@ -108,7 +109,7 @@ impl MemBoard {
     {
         let fault = self.next_fault();
         let number = self.erases[block as usize];
-        let full = self.erased == u64::MAX || number == u64::MAX;
+        let full = self.erase_count == u64::MAX || number == u64::MAX;
         if self.refuses(self.geometry.block) || (fault.is_none() && full) {
             return Err(self.fail());
         }
@@ -127,13 +128,13 @@ impl MemBoard {
             return Err(self.fail());
         }
         self.erases[block as usize] = number + 1;
-        self.erased += 1;
+        self.erase_count += 1;
         Ok(())
     }
 }
 
 // The fault that is planned for a call.
-fn planned(plan: &[(u32, Fault)], call: u32) -> Option<Fault>
+fn planned_fault(plan: &[(u32, Fault)], call: u32) -> Option<Fault>
     ensures { result ≡ planned_at plan.now call }
 {
     plan.iter()
@@ -167,11 +168,11 @@ fn write_call(
     ensures most_calls { log.new.most_calls ≡ log.old.most_calls }
     ensures most_bytes { log.new.most_bytes ≡ log.old.most_bytes }
     ensures saved { length log.new.saved ≡ length log.old.saved + 1 }
-    ensures changes { history page log.new.saved cells.new ≡ history page log.old.saved cells.old
-        ++ change_of page at bytes.now cells.old ∷ [] }
+    ensures changes { history page log.new.saved cells.new
+        ≡ history page log.old.saved cells.old ++ change_of page at bytes.now cells.old ∷ [] }
 {
     let first = at as usize;
-    let pages = touched(&cells.health, page, at, bytes.len() as u32);
+    let pages = touched_pages(&cells.health, page, at, bytes.len() as u32);
     let before = &cells.bytes[first..first + bytes.len()];
     log.save(at, before, pages, bytes);
     cells.write(page, at, bytes, fault);

@@ -25,10 +25,10 @@ impl MemBoard {
     }
 
     /// How many erases answered Ok.
-    pub fn erased(&self) -> u64
-        ensures { result ≡ self.now.erased }
+    pub fn erase_count(&self) -> u64
+        ensures { result ≡ self.now.erase_count }
     {
-        self.erased
+        self.erase_count
     }
 
     /// A planned cut was met since the last restart.

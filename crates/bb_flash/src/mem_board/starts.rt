@@ -1,9 +1,9 @@
-ghost use Rattle.std.specs.Prelude.{◌≡◌, ◌==◌, ◌+◌, ◌-◌, ◌≤◌, ◌++◌, ◌∷◌, [], length, option_map, slice_get, IfOk, IsErr, IsTrue, OnErr, OnOk};
+ghost use Rattle.std.specs.Prelude.{◌≡◌, ◌==◌, ◌+◌, ◌-◌, ◌≤◌, ◌++◌, ◌∷◌, [], length, option_map, slice_get, IsErr, IsTrue, OnErr, OnOk};
 ghost use Rattle.std.specs.Bool.{OnFalse};
 ghost use Rattle.std.specs.List.{list_any};
 ghost use Rattle.std.specs.Option.{option_copied};
 ghost use Rattle.bb_base.specs.Faults.{HasCause};
-ghost use Rattle.bb_flash.specs.Calls.{started};
+ghost use Rattle.bb_flash.specs.Calls.{told_after_start};
 ghost use Rattle.bb_flash.specs.Cuts.{IsLater};
 ghost use Rattle.bb_flash.specs.Device.{IsDevice, StartKeeps};
 ghost use Rattle.bb_flash.specs.Memory as memory;
@@ -32,7 +32,8 @@ impl Model for StartMade {
 impl MemBoard {
     /// Plans that a start fails, counted from 0 since the last restart over all that weren't refused.
     pub fn fail_start(&mut self, start: u32) -> Result<(), NoMemory>
-        ensures ok { OnOk result (self.new ≡ record self.old { failing = self.old.failing ++ start ∷ [] }) }
+        ensures ok { OnOk result (self.new
+            ≡ record self.old { failing = self.old.failing ++ start ∷ [] }) }
         ensures err { OnErr result (self.new ≡ self.old) }
     {
         self.failing.push(start)?;
@@ -40,7 +41,7 @@ impl MemBoard {
     }
 
     /// How many starts were made.
-    pub fn started(&self) -> u32
+    pub fn start_count(&self) -> u32
         ensures { result ≡ length self.now.told.starts }
     {
         self.starts.len() as u32
@@ -56,7 +57,8 @@ impl MemBoard {
 
     fn refuses_start(&self) -> bool
         ensures value { result ≡ memory.is_start_refused self.now }
-        ensures room { OnFalse result (self.now.used + self.now.geometry.size ≤ self.now.most_bytes) }
+        ensures room { OnFalse result
+            (self.now.used + self.now.geometry.size ≤ self.now.most_bytes) }
     {
         self.was_cut || self.log.lacks_room(self.geometry.size) || self.tried == u64::MAX
     }
@@ -73,7 +75,7 @@ impl MemBoard {
     fn keep_start(&mut self, plan: &Plan) -> Result<(), NoMemory>
         requires { self.old.used + self.old.geometry.size ≤ self.old.most_bytes }
         ensures ok { OnOk result (self.new ≡ record self.old {
-          told = started plan.now self.old.told;
+          told = told_after_start plan.now self.old.told;
           most_bytes = self.old.most_bytes - self.old.geometry.size;
         }) }
         ensures err { OnErr result (self.new ≡ self.old) }
@@ -88,7 +90,8 @@ impl MemBoard {
     }
 
     fn count_failed_start(&mut self) -> Failed
-        ensures { self.new ≡ record self.old { start_faults = memory.count_up self.old.start_faults } }
+        ensures { self.new
+            ≡ record self.old { start_faults = memory.count_up self.old.start_faults } }
     {
         self.start_faults = self.start_faults.saturating_add(1);
         Failed
@@ -96,13 +99,13 @@ impl MemBoard {
 }
 
 impl Board for MemBoard {
-    /// It is exact but for want of memory: then a start fails that would be made.
+    /// It is exact, but where memory is refused: then a start fails that would be made.
     fn start(&mut self, plan: &Plan) -> Result<(), Failed>
         ensures fails { IsTrue (memory.fails_to_start self.old) → IsErr result }
-        ensures made { OnOk result (self.new ≡ memory.start_made plan.now self.old) }
-        ensures not_made { OnErr result (self.new ≡ memory.start_failed self.old) }
+        ensures made { OnOk result (self.new ≡ memory.after_start plan.now self.old) }
+        ensures not_made { OnErr result (self.new ≡ memory.after_failed_start self.old) }
         ensures done { OnOk result ((device_of self.new).told ≡
-            option_map (started plan.now) (device_of self.old).told) }
+            option_map (told_after_start plan.now) (device_of self.old).told) }
         ensures failed { OnErr result ((device_of self.new).told ≡ (device_of self.old).told) }
         ensures keeps { StartKeeps (device_of self.old) (device_of self.new) }
         ensures later { IsLater (device_of self.old) (device_of self.new) }

@@ -1,4 +1,4 @@
-use super::board::{board, in_place, laid, layout, tree};
+use super::board::{board, in_place, layout_on, layout, tree};
 use bb_layout::{FormatKind, LayoutError, Storage};
 use std::test::Fail;
 
@@ -51,10 +51,10 @@ fn two_blocks() -> &'static [u8] {
 #[test]
 fn a_log_has_two_blocks_at_least(rt: HostRuntime) -> Result<(), Fail> {
     let one = board(rt.alloc(), four_kinds(), one_block())?;
-    let refused = laid(rt.alloc(), &one, "er:256:65536:1048576")?;
+    let refused = layout_on(rt.alloc(), &one, "er:256:65536:1048576")?;
     assert!(rt; matches!(refused, Err(LayoutError::TooSmall)));
     let two = board(rt.alloc(), four_kinds(), two_blocks())?;
-    let Ok(layout) = laid(rt.alloc(), &two, "er:256:65536:1048576")? else {
+    let Ok(layout) = layout_on(rt.alloc(), &two, "er:256:65536:1048576")? else {
         return Err(Fail::from("the tree is refused"));
     };
     assert_eq!(rt; layout.storage, Storage::Circular);
@@ -85,7 +85,7 @@ fn a_variable_is_called_by_the_nodes_that_hold_it(rt: HostRuntime) -> Result<(),
 #[test]
 fn a_tree_without_a_state_is_refused(rt: HostRuntime) -> Result<(), Fail> {
     let tree = tree(rt.alloc(), b"/dts-v1/;\n/ { };\n")?;
-    let refused = laid(rt.alloc(), &tree, "ov:64")?;
+    let refused = layout_on(rt.alloc(), &tree, "ov:64")?;
     assert!(rt; matches!(refused, Err(LayoutError::NoState)));
     Ok(())
 }

@@ -1,4 +1,4 @@
-use super::board::{board, in_place, is_bad_prop, laid, layout};
+use super::board::{board, in_place, is_bad_prop, layout_on, layout};
 use bb_layout::{FormatKind, LayoutError, Storage};
 use std::test::Fail;
 
@@ -60,16 +60,16 @@ fn two_larger_blocks() -> &'static [u8] {
 #[test]
 fn an_entry_under_a_key_has_a_page_more(rt: HostRuntime) -> Result<(), Fail> {
     let plain = board(rt.alloc(), log_without_key(), three_small_blocks())?;
-    let Ok(layout) = laid(rt.alloc(), &plain, "er:64:64:1024")? else {
+    let Ok(layout) = layout_on(rt.alloc(), &plain, "er:64:64:1024")? else {
         return Err(Fail::from("the tree is refused"));
     };
     assert_eq!(rt; layout.format, FormatKind::Raw);
     assert_eq!(rt; layout.copies, 3);
     let keyed = board(rt.alloc(), log_with_key(), three_small_blocks())?;
-    let refused = laid(rt.alloc(), &keyed, "er:64:64:1024")?;
+    let refused = layout_on(rt.alloc(), &keyed, "er:64:64:1024")?;
     assert!(rt; matches!(refused, Err(LayoutError::TooSmall)));
     let larger = board(rt.alloc(), log_with_key(), two_larger_blocks())?;
-    let Ok(layout) = laid(rt.alloc(), &larger, "er:64:128:1024")? else {
+    let Ok(layout) = layout_on(rt.alloc(), &larger, "er:64:128:1024")? else {
         return Err(Fail::from("the larger blocks are refused"));
     };
     assert_eq!(rt; layout.format, FormatKind::RawHmac);

@@ -1,4 +1,4 @@
-use super::board::{board, in_place, is_bad_prop, laid, layout};
+use super::board::{board, in_place, is_bad_prop, layout_on, layout};
 use bb_layout::LayoutError;
 use std::test::Fail;
 
@@ -14,13 +14,13 @@ fn a_cell_has_four_bytes(rt: HostRuntime) -> Result<(), Fail> {
 #[test]
 fn a_partition_has_two_cells_or_four(rt: HostRuntime) -> Result<(), Fail> {
     let wide = board(rt.alloc(), b"", b"&p { reg = <0 0x40000 0 0x30000>; };\n")?;
-    let Ok(layout) = laid(rt.alloc(), &wide, "ov:1048576")? else {
+    let Ok(layout) = layout_on(rt.alloc(), &wide, "ov:1048576")? else {
         return Err(Fail::from("the tree is refused"));
     };
     assert_eq!(rt; layout.region.at, 0x40000);
     assert_eq!(rt; layout.region.size, 0x30000);
     let far = board(rt.alloc(), b"", b"&p { reg = <1 0x40000 0 0x30000>; };\n")?;
-    let refused = laid(rt.alloc(), &far, "ov:1048576")?;
+    let refused = layout_on(rt.alloc(), &far, "ov:1048576")?;
     assert!(rt; matches!(refused, Err(LayoutError::NoBackend)));
     Ok(())
 }

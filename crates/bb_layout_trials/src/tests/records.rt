@@ -1,4 +1,4 @@
-use super::board::{laid, tree};
+use super::board::{layout_on, tree};
 use bb_layout::Layout;
 use bb_tree::blob_length;
 use std::test::Fail;
@@ -21,7 +21,7 @@ fn lone_byte() -> &'static [u8] {
 #[test]
 fn a_record_of_one_byte_is_a_blob_of_208(rt: HostRuntime) -> Result<(), Fail> {
     let tree = tree(rt.alloc(), lone_byte())?;
-    let Ok(layout) = laid(rt.alloc(), &tree, "ov:192")? else {
+    let Ok(layout) = layout_on(rt.alloc(), &tree, "ov:192")? else {
         return Err(Fail::from("the tree is refused"));
     };
     if layout.area_len != 1 {

@@ -17,6 +17,11 @@ fn holding(alloc: Global, record: Content) -> Result<MemBoard, Fail> {
     board(alloc, Kind::Stride, [&[record]; 3])
 }
 
+// The first boot of a power-on, with the settings that name no reset, and entries that can be started.
+fn boot_plainly(alloc: Global, device: &mut MemBoard) -> Result<Option<BootEnd>, Fail> {
+    boot(alloc, Kind::Stride, plain(), entry(), true, device)
+}
+
 // So many starts were made, and all strides hold this.
 fn leaves(
     rt: &impl Abort,
@@ -26,7 +31,7 @@ fn leaves(
     record: Content,
 ) -> Result<(), Fail> {
     let wanted = image(alloc, Kind::Stride, [&[record]; 3])?;
-    assert_eq!(rt; device.started(), starts);
+    assert_eq!(rt; device.start_count(), starts);
     assert_eq!(rt; device.bytes(), wanted.as_slice());
     Ok(())
 }
@@ -34,14 +39,7 @@ fn leaves(
 #[test]
 fn a_fresh_board_starts_the_first_system(rt: HostRuntime) -> Result<(), Fail> {
     let mut device = fresh(rt.alloc())?;
-    let end = boot(
-        rt.alloc(),
-        Kind::Stride,
-        plain(),
-        entry(),
-        true,
-        &mut device,
-    )?;
+    let end = boot_plainly(rt.alloc(), &mut device)?;
     let started = BootEnd::Started {
         target: 0,
         left: 2,
@@ -62,28 +60,14 @@ fn a_fresh_board_starts_the_first_system(rt: HostRuntime) -> Result<(), Fail> {
 fn a_start_that_failed_costs_an_attempt(rt: HostRuntime) -> Result<(), Fail> {
     let mut device = fresh(rt.alloc())?;
     device.fail_start(0)?;
-    let end = boot(
-        rt.alloc(),
-        Kind::Stride,
-        plain(),
-        entry(),
-        true,
-        &mut device,
-    )?;
+    let end = boot_plainly(rt.alloc(), &mut device)?;
     let failed = BootEnd::StartFailed {
         target: 0,
         tries: 1,
     };
     assert_eq!(rt; end, Some(failed));
     leaves(&rt, rt.alloc(), &device, 0, Content::OneSpent)?;
-    let end = boot(
-        rt.alloc(),
-        Kind::Stride,
-        plain(),
-        entry(),
-        true,
-        &mut device,
-    )?;
+    let end = boot_plainly(rt.alloc(), &mut device)?;
     let started = BootEnd::Started {
         target: 0,
         left: 1,
@@ -96,14 +80,7 @@ fn a_start_that_failed_costs_an_attempt(rt: HostRuntime) -> Result<(), Fail> {
 #[test]
 fn a_system_with_attempts_is_started(rt: HostRuntime) -> Result<(), Fail> {
     let mut device = holding(rt.alloc(), Content::FirstEmpty)?;
-    let end = boot(
-        rt.alloc(),
-        Kind::Stride,
-        plain(),
-        entry(),
-        true,
-        &mut device,
-    )?;
+    let end = boot_plainly(rt.alloc(), &mut device)?;
     let started = BootEnd::Started {
         target: 1,
         left: 2,
@@ -116,14 +93,7 @@ fn a_system_with_attempts_is_started(rt: HostRuntime) -> Result<(), Fail> {
 #[test]
 fn no_attempt_no_write(rt: HostRuntime) -> Result<(), Fail> {
     let mut device = holding(rt.alloc(), Content::Empty)?;
-    let end = boot(
-        rt.alloc(),
-        Kind::Stride,
-        plain(),
-        entry(),
-        true,
-        &mut device,
-    )?;
+    let end = boot_plainly(rt.alloc(), &mut device)?;
     assert_eq!(rt; end, Some(BootEnd::NoTarget));
     assert_eq!(rt; device.programs(), 0);
     leaves(&rt, rt.alloc(), &device, 0, Content::Empty)

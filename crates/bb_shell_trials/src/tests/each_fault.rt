@@ -3,55 +3,18 @@
 // and where it is cut; with the first start made, and with one or three that fail before one is made.
 // After a restart a load gives the table of one of the rounds, and that of the last one where a start
 // was made.
-use super::areas::Content;
-use super::devices::{Kind, board};
+use super::devices::board;
 use super::rig::{boot, entry, loaded, with_retry_and_reset};
+use super::rows::{
+    Row, area_of, empty_strides, fresh_logs, fresh_strides, full_logs, full_strides, in_blocks,
+    last_log, last_stride, logs_of_three_kinds, logs_without_room, strides_of_three_kinds,
+    table_after,
+};
 use bb_flash::{Fault, Fill, MemBoard};
 use bb_shell::BootEnd;
 use std::alloc::Global;
 use std::process::Abort;
 use std::test::Fail;
-
-// The attempts of the two systems, and the place of the one that was chosen last.
-type Table = (u8, u8, u8);
-
-// A content of the copies, the table that a load gives of it, how many rounds were run from the full
-// table to the one that the boot begins with, and the calls that a boot makes of the flash: reads, and
-// programs and erases by the load, by the first round, and by each further one.
-#[derive(Clone, Copy)]
-struct Row {
-    kind: Kind,
-    copies: [&'static [Content]; 3],
-    loaded: Table,
-    rounds: u32,
-    reads: u32,
-    mends: u32,
-    first: u32,
-    further: u32,
-}
-
-// The table after so many rounds from the full one.
-fn table_after(rounds: u32) -> Table {
-    match rounds {
-        0 => (3, 3, 0),
-        1 => (2, 3, 1),
-        2 => (1, 3, 1),
-        3 => (0, 3, 1),
-        4 => (0, 2, 2),
-        5 => (0, 1, 2),
-        _ => (0, 0, 2),
-    }
-}
-
-fn area_of(table: Table) -> [u8; 20] {
-    let (first, second, chosen) = table;
-    let mut area =
-        *b"\x00\x00\x00\x00\x14\x00\x00\x00\x00\x00\x00\x00\x0a\x00\x00\x00\x00\x00\x00\x00";
-    area[0] = first;
-    area[8] = second;
-    area[16] = chosen;
-    area
-}
 
 fn fills() -> [Fill; 4] {
     [Fill::Old, Fill::Half, Fill::Junk, Fill::Lost]
@@ -63,147 +26,6 @@ enum Meeting {
     Fails,
     FailsTwice,
     IsCut,
-}
-
-// Nothing was ever stored: of each stride the front is read.
-fn fresh_strides() -> Row {
-    Row {
-        kind: Kind::Stride,
-        copies: [&[], &[], &[]],
-        loaded: table_after(0),
-        rounds: 0,
-        reads: 3,
-        mends: 0,
-        first: 3,
-        further: 3,
-    }
-}
-
-// A front and a record are read of each stride.
-fn full_strides() -> Row {
-    Row {
-        copies: [&[Content::Full], &[Content::Full], &[Content::Full]],
-        reads: 6,
-        ..fresh_strides()
-    }
-}
-
-// The first stride passes, and the load writes the others.
-fn strides_of_three_kinds() -> Row {
-    Row {
-        copies: [&[Content::OneSpent], &[Content::Full], &[]],
-        loaded: table_after(1),
-        rounds: 1,
-        reads: 5,
-        mends: 2,
-        ..fresh_strides()
-    }
-}
-
-// The last stride alone passes.
-fn last_stride() -> Row {
-    Row {
-        copies: [&[], &[], &[Content::Full]],
-        reads: 4,
-        mends: 2,
-        ..fresh_strides()
-    }
-}
-
-// No attempt is left, so all come back.
-fn empty_strides() -> Row {
-    Row {
-        copies: [&[Content::Empty], &[Content::Empty], &[Content::Empty]],
-        loaded: (0, 0, 0),
-        reads: 6,
-        ..fresh_strides()
-    }
-}
-
-// The same in blocks, where each write is an erase and a program.
-fn in_blocks(row: Row) -> Row {
-    Row {
-        kind: Kind::OneBlock,
-        mends: row.mends.saturating_mul(2),
-        first: 6,
-        further: 6,
-        ..row
-    }
-}
-
-// Of a log the pages are read from the last one down to one that isn't blank, and then the entry.
-// Eight pages of each are blank.
-fn fresh_logs() -> Row {
-    Row {
-        kind: Kind::Log,
-        reads: 24,
-        ..fresh_strides()
-    }
-}
-
-// Four pages are blank behind two entries.
-fn full_logs() -> Row {
-    Row {
-        kind: Kind::Log,
-        copies: [
-            &[Content::Empty, Content::Full],
-            &[Content::Empty, Content::Full],
-            &[Content::Empty, Content::Full],
-        ],
-        reads: 18,
-        ..fresh_strides()
-    }
-}
-
-fn logs_of_three_kinds() -> Row {
-    Row {
-        kind: Kind::Log,
-        copies: [
-            &[Content::Full, Content::OneSpent],
-            &[Content::Empty, Content::Full],
-            &[],
-        ],
-        reads: 20,
-        ..strides_of_three_kinds()
-    }
-}
-
-fn last_log() -> Row {
-    Row {
-        kind: Kind::Log,
-        copies: [&[], &[], &[Content::Empty, Content::Full]],
-        reads: 22,
-        ..last_stride()
-    }
-}
-
-// No entry fits behind the fourth, so the first round erases the blocks.
-fn logs_without_room() -> Row {
-    Row {
-        kind: Kind::Log,
-        copies: [
-            &[
-                Content::Full,
-                Content::OneSpent,
-                Content::TwoSpent,
-                Content::Empty,
-            ],
-            &[
-                Content::Full,
-                Content::OneSpent,
-                Content::TwoSpent,
-                Content::Empty,
-            ],
-            &[
-                Content::Full,
-                Content::OneSpent,
-                Content::TwoSpent,
-                Content::Empty,
-            ],
-        ],
-        first: 6,
-        ..empty_strides()
-    }
 }
 
 #[test]
@@ -299,7 +121,7 @@ fn calls_without_a_fault(
     assert!(rt; matches!(end, Some(BootEnd::Started { .. })));
     let further = row.further.saturating_mul(failing);
     let writes = row.mends.saturating_add(row.first).saturating_add(further);
-    let done = device.programs().saturating_add(device.erased());
+    let done = device.programs().saturating_add(device.erase_count());
     assert_eq!(rt; device.reads(), u64::from(row.reads));
     assert_eq!(rt; done, u64::from(writes));
     shows_round(rt, alloc, row, &mut device, failing)?;
@@ -327,7 +149,7 @@ fn meets(
     let settings = with_retry_and_reset();
     let end = boot(alloc, row.kind, settings, entry(), true, &mut device)?;
     let has_started = matches!(end, Some(BootEnd::Started { .. }));
-    assert_eq!(rt; device.started(), u32::from(has_started));
+    assert_eq!(rt; device.start_count(), u32::from(has_started));
     device.restart();
     if has_started {
         return shows_round(rt, alloc, row, &mut device, failing);

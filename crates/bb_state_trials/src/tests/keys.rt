@@ -1,7 +1,8 @@
-// Copies under a key. The values of HMAC-SHA256 and of the CRCs are those of another program (Python's hmac and zlib).
+// Copies under a key. The values of HMAC-SHA256 and of the CRCs are those of another program
+// (Python's hmac and zlib).
 ghost use Rattle.std.specs.Prelude.{◌≡◌, ◌≤◌, IfOk};
 
-use super::rig::{IN_PLACE, board, layout, loaded, plain, save};
+use super::rig::{IN_PLACE, board, layout, loaded_state, plain, save};
 use bb_hmac::Key;
 use bb_layout::Layout;
 use bb_state::Loaded;
@@ -12,13 +13,16 @@ use std::test::Fail;
 const COPY_LEN: usize = 57;
 
 // A front, and the record of the value 7 under the key `4a656665`.
-fn good() -> [u8; COPY_LEN] {
-    *b"\xf3\xfd\x54\x23\x31\x00\x00\x00\x01\x00\x00\x00\x00\x00\x01\x00\x2e\x7a\x66\x4c\xb4\xad\x6a\x7e\x07\xfd\x5b\xa2\x96\xb1\xdf\x81\x93\x7b\x62\xf8\x0a\x64\x42\x8e\xfb\xd9\x97\x6b\xa9\x61\x38\x43\x3f\x96\x12\xf9\x25\xf2\x5c\x87\xb8"
+fn good_copy() -> [u8; COPY_LEN] {
+    *b"\xf3\xfd\x54\x23\x31\x00\x00\x00\x01\x00\x00\x00\x00\x00\x01\x00\
+      \x2e\x7a\x66\x4c\xb4\xad\x6a\x7e\x07\xfd\x5b\xa2\x96\xb1\xdf\x81\
+      \x93\x7b\x62\xf8\x0a\x64\x42\x8e\xfb\xd9\x97\x6b\xa9\x61\x38\x43\
+      \x3f\x96\x12\xf9\x25\xf2\x5c\x87\xb8"
 }
 
 // The same with the last bit of its HMAC turned.
-fn decayed() -> [u8; COPY_LEN] {
-    let mut copy = good();
+fn decayed_copy() -> [u8; COPY_LEN] {
+    let mut copy = good_copy();
     copy[56] = 0xb9;
     copy
 }
@@ -61,7 +65,7 @@ fn gives(
 ) -> Result<(), Fail> {
     let mut board = board(alloc, IN_PLACE, &before)?;
     let key = key(hex)?;
-    let state = loaded(rt, alloc, under_key(alloc)?, key, &mut board, answer)?;
+    let state = loaded_state(rt, alloc, under_key(alloc)?, key, &mut board, answer)?;
     assert_eq!(rt; state.table.bytes(), [value].as_slice());
     assert_eq!(rt; board.bytes(), after.as_slice());
     Ok(())
@@ -72,9 +76,12 @@ fn a_save_writes_records_with_their_hmac(rt: HostRuntime) -> Result<(), Fail> {
     let mut board = board(rt.alloc(), IN_PLACE, &[0xff; 192])?;
     let key = key(b"4a656665\n")?;
     let layout = under_key(rt.alloc())?;
-    let mut state = loaded(&rt, rt.alloc(), layout, key, &mut board, Loaded::NoCopy)?;
+    let mut state = loaded_state(&rt, rt.alloc(), layout, key, &mut board, Loaded::NoCopy)?;
     save(&rt, &mut state, &mut board, b"7");
-    assert_eq!(rt; board.bytes(), strides(good(), good(), good()).as_slice());
+    assert_eq!(rt;
+        board.bytes(),
+        strides(good_copy(), good_copy(), good_copy()).as_slice()
+    );
     Ok(())
 }
 
@@ -82,14 +89,14 @@ fn a_save_writes_records_with_their_hmac(rt: HostRuntime) -> Result<(), Fail> {
 // the repaired ones passes alone.
 #[test]
 fn a_repaired_copy_passes_under_the_key(rt: HostRuntime) -> Result<(), Fail> {
-    let whole = strides(good(), good(), good());
-    let first = strides(decayed(), good(), good());
-    let second = strides(good(), decayed(), good());
+    let whole = strides(good_copy(), good_copy(), good_copy());
+    let first = strides(decayed_copy(), good_copy(), good_copy());
+    let second = strides(good_copy(), decayed_copy(), good_copy());
     let all = |used| Loaded::Copy { used, live: 3 };
     gives(&rt, rt.alloc(), b"4a656665", first, all(0), 7, whole)?;
     gives(&rt, rt.alloc(), b"4a656665", second, all(0), 7, whole)?;
-    let first_alone = strides(good(), decayed(), decayed());
-    let second_alone = strides(decayed(), good(), decayed());
+    let first_alone = strides(good_copy(), decayed_copy(), decayed_copy());
+    let second_alone = strides(decayed_copy(), good_copy(), decayed_copy());
     gives(&rt, rt.alloc(), b"4a656665", first_alone, all(0), 7, whole)?;
     gives(&rt, rt.alloc(), b"4a656665", second_alone, all(0), 7, whole)
 }
@@ -97,7 +104,7 @@ fn a_repaired_copy_passes_under_the_key(rt: HostRuntime) -> Result<(), Fail> {
 // Where no copy passes the defaults are loaded, and nothing is written.
 #[test]
 fn a_record_under_another_key_passes_nothing(rt: HostRuntime) -> Result<(), Fail> {
-    let whole = strides(good(), good(), good());
+    let whole = strides(good_copy(), good_copy(), good_copy());
     gives(
         &rt,
         rt.alloc(),
@@ -114,11 +121,11 @@ fn a_record_under_another_key_passes_nothing(rt: HostRuntime) -> Result<(), Fail
 fn a_record_without_a_key_passes_nothing_under_one(rt: HostRuntime) -> Result<(), Fail> {
     let mut board = board(rt.alloc(), IN_PLACE, &[0xff; 192])?;
     let layout = plain(rt.alloc())?;
-    let mut state = loaded(&rt, rt.alloc(), layout, None, &mut board, Loaded::NoCopy)?;
+    let mut state = loaded_state(&rt, rt.alloc(), layout, None, &mut board, Loaded::NoCopy)?;
     save(&rt, &mut state, &mut board, b"7");
     let key = key(b"4a656665")?;
     let layout = under_key(rt.alloc())?;
-    let state = loaded(&rt, rt.alloc(), layout, key, &mut board, Loaded::NoCopy)?;
+    let state = loaded_state(&rt, rt.alloc(), layout, key, &mut board, Loaded::NoCopy)?;
     assert_eq!(rt; state.table.bytes(), b"\x03".as_slice());
     Ok(())
 }

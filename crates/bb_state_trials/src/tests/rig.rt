@@ -52,8 +52,8 @@ fn source(alloc: Global, props: &[u8], more: &[u8]) -> Result<Bytes, NoMemory> {
     Ok(text)
 }
 
-/// The layout of the variable `a.n` in one byte, of which 3 is the default, with these properties more in its state
-/// node, and this text behind the root.
+/// The layout of the variable `a.n` in one byte, of which 3 is the default, with these properties
+/// more in its state node, and this text behind the root.
 pub fn layout(alloc: Global, props: &[u8], more: &[u8], geometry: Geometry) -> Result<Layout, Fail>
     requires { IsGeometry geometry }
     ensures geometry { IfOk result (λ layout. layout.geometry ≡ geometry) }
@@ -121,7 +121,7 @@ pub fn mount(alloc: Global, layout: Layout, key: Option<Key>) -> Result<State, F
 }
 
 /// A state that was mounted anew, whose load gives this answer.
-pub fn loaded(
+pub fn loaded_state(
     rt: &impl Abort,
     alloc: Global,
     layout: Layout,

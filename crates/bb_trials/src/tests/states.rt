@@ -47,7 +47,7 @@ fn says(
     let mut out = MemSink::with_room(alloc, 200)?;
     let list = words(alloc, all)?;
     assert_eq!(rt; run(alloc, &list, files, device, &mut out), status);
-    assert_eq!(rt; out.sent(), text.as_bytes());
+    assert_eq!(rt; out.sent_bytes(), text.as_bytes());
     Ok(())
 }
 
@@ -73,40 +73,28 @@ fn refuses(
     )
 }
 
+// The session ends with this text, and the status of one that was done.
+fn prints(
+    rt: &impl Abort,
+    alloc: Global,
+    words: &[&str],
+    device: &mut MemBoard,
+    text: &str,
+) -> Result<(), Fail> {
+    let mut files = files(alloc, tree())?;
+    says(rt, alloc, words, &mut files, device, Status::Done, text)
+}
+
 #[test]
 fn a_fresh_device_shows_the_defaults(rt: HostRuntime) -> Result<(), Fail> {
     let alloc = rt.alloc();
     let mut device = board(&rt, alloc, "ov:192", &fresh())?;
-    let mut files = files(alloc, tree())?;
     let get = ["state", "-g", "mode", "--input=a.dts", "--get", "n"];
-    says(
-        &rt,
-        alloc,
-        &get,
-        &mut files,
-        &mut device,
-        Status::Done,
-        "backup\n3\n",
-    )?;
-    says(
-        &rt,
-        alloc,
-        &DUMP,
-        &mut files,
-        &mut device,
-        Status::Done,
-        DEFAULTS,
-    )?;
+    prints(&rt, alloc, &get, &mut device, "backup\n3\n")?;
+    prints(&rt, alloc, &DUMP, &mut device, DEFAULTS)?;
     let shell = ["state", "-i", "a.dts", "--dump-shell"];
-    says(
-        &rt,
-        alloc,
-        &shell,
-        &mut files,
-        &mut device,
-        Status::Done,
-        "state_n=\"3\"\nstate_mode=\"backup\"\nstate_c=\"0\"\n",
-    )?;
+    let text = "state_n=\"3\"\nstate_mode=\"backup\"\nstate_c=\"0\"\n";
+    prints(&rt, alloc, &shell, &mut device, text)?;
     assert_eq!(rt; device.bytes(), fresh().as_slice());
     Ok(())
 }

@@ -20,4 +20,4 @@ returns-clause-calls g c =
     let held = block_of c.args.block (g.F.Flash.device c.args.flash.now).geometry c.requires.held in
     let made = c.erase_block.ensures in
     void_calls (one_block_kind c.args.block) c.args.block.page (blank_holds_none c.args.block.page c.args.block.page c.args.block.region.size)
-    (g.F.Flash.device c.args.flash.now) (g.F.Flash.device c.erase_block.new.flash) held (only_one _ _ refl) made.later made.whole made.changes
+    (g.F.Flash.device c.args.flash.now) (g.F.Flash.device c.erase_block.new.flash) held (only_one _ _ refl) made.within.later made.within.whole made.changes

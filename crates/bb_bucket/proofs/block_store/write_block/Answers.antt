@@ -2,7 +2,6 @@ use Rattle.std.proofs.Common.{◌≡◌, ℕ, ◌+◌, ◌≤◌, length, take, 
 use Rattle.std.proofs.lemmas.List.{length-take, length-take-le}
 use Rattle.bb_flash.specs.declared.geometry.Geometry.{Geometry}
 use Rattle.bb_flash.specs.Image.{Image, IsBlank}
-use Rattle.bb_flash.proofs.Moments.{later_joined, torn_joined}
 use Rattle.bb_bucket.specs.Blocks.{blank_block, filled_len, filled_to}
 use Rattle.bb_bucket.specs.BlockLaws.{block_lies_on, block_of}
 use Rattle.bb_bucket.specs.Front.{entry_of}
@@ -12,14 +11,14 @@ use Rattle.bb_bucket.proofs.Erases.{blank_is_blank}
 use Rattle.bb_bucket.proofs.OneBlockCalls.{one_block_calls, one_block_erase, one_block_leaves}
 use Rattle.bb_bucket.proofs.Outcomes.{on_ok_weaker}
 use Rattle.bb_bucket.proofs.Pages.{filled_fits}
-use Rattle.bb_bucket.proofs.Runs.{ends_joined, part_after}
+use Rattle.bb_bucket.proofs.Runs.{part_after, within_joined}
 use Rattle.bb_bucket.proofs.block_store.write_block.Goals as goal
 
 pub returns-in_err-erase_block-clause-calls : goal.returns-in_err-erase_block-clause-calls
 returns-in_err-erase_block-clause-calls g c =
     let made = c.erase_block.ensures in
     one_block_erase c.args.block c.args.rec.now (g.F.Flash.device c.args.flash.now) (g.F.Flash.device c.erase_block.new.flash)
-    (block_of c.args.block (g.F.Flash.device c.args.flash.now).geometry c.requires.held) made.later made.whole made.changes
+    (block_of c.args.block (g.F.Flash.device c.args.flash.now).geometry c.requires.held) made.within.later made.within.whole made.changes
 
 pub slice_bounds-entry-end : goal.slice_bounds-entry-end
 slice_bounds-entry-end g c =
@@ -38,7 +37,7 @@ slice_bounds-entry-end-2 g c =
 pub program_part-requires-clause-lies : goal.program_part-requires-clause-lies
 program_part-requires-clause-lies g c =
     let held = block_of c.args.block (g.F.Flash.device c.args.flash.now).geometry c.requires.held in
-    subst (λ (geometry : Geometry). LiesOn geometry c.args.block.region) (sym c.erase_block.ensures.later.geometry)
+    subst (λ (geometry : Geometry). LiesOn geometry c.args.block.region) (sym c.erase_block.ensures.within.later.geometry)
     (block_lies_on c.args.block (g.F.Flash.device c.args.flash.now).geometry held)
 
 pub program_part-requires-clause-blank : goal.program_part-requires-clause-blank
@@ -49,10 +48,10 @@ program_part-requires-clause-blank g c = λ blocks image told.
     let long : length c.write_filled_entry.new.out ≤ c.args.block.region.size = omega (arith, c.write_filled_entry.auto.out, length-take c.whole_pages-len.result c.args.memory.now, c.requires.memory) in
     let after =
     part_after c.args.block.region (λ part. blank_block page c.args.block.region.size) (g.F.Flash.device c.args.flash.now) (g.F.Flash.device c.erase_block.new.flash)
-    image c.erase_block.ensures.later c.in_ok-erase_block.ensures.done told in
+    image c.erase_block.ensures.within.later c.in_ok-erase_block.ensures.done told in
     let blank = blank_is_blank page c.args.block.region.size 0 (length c.write_filled_entry.new.out) (omega (arith, held.page, held.page_least)) lies.whole (omega arith) in
     subst (λ (geometry : Geometry). IsBlank geometry.page (part_of geometry.page c.args.block.region image) 0 (length c.write_filled_entry.new.out))
-    (sym c.erase_block.ensures.later.geometry)
+    (sym c.erase_block.ensures.within.later.geometry)
     (subst (λ (part : Image). IsBlank page part 0 (length c.write_filled_entry.new.out)) (sym after.2) blank)
 
 pub returns-clause-done : goal.returns-clause-done
@@ -64,7 +63,7 @@ returns-clause-done g c =
     let is : c.write_filled_entry.new.out ≡ block_entry c.args.block.page c.args.rec.now = c.write_filled_entry.ensures ∙ ap (λ n. filled_to n (entry_of c.args.rec.now)) len in
     on_ok_weaker _ _ c.program_part.result
     (one_block_leaves c.args.block c.args.rec.now c.write_filled_entry.new.out (g.F.Flash.device c.args.flash.now) (g.F.Flash.device c.erase_block.new.flash) (g.F.Flash.device c.program_part.new.flash)
-    held is c.erase_block.ensures.later c.in_ok-erase_block.ensures.done) c.program_part.ensures.done
+    held is c.erase_block.ensures.within.later c.in_ok-erase_block.ensures.done) c.program_part.ensures.done
 
 pub returns-clause-calls : goal.returns-clause-calls
 returns-clause-calls g c =
@@ -77,13 +76,7 @@ returns-clause-calls g c =
     let erased = c.erase_block.ensures in
     let made = c.program_part.ensures in
     one_block_calls c.args.block c.args.rec.now c.write_filled_entry.new.out (g.F.Flash.device c.args.flash.now) (g.F.Flash.device c.erase_block.new.flash) (g.F.Flash.device c.program_part.new.flash)
-    held c.requires.room is long (subst (λ n. n ≤ c.args.block.region.size) (sym long) fits) erased.later made.later erased.whole made.whole erased.changes c.in_ok-erase_block.ensures.done made.changes
+    held c.requires.room is long (subst (λ n. n ≤ c.args.block.region.size) (sym long) fits) erased.within.later made.within.later erased.within.whole made.within.whole erased.changes c.in_ok-erase_block.ensures.done made.changes
 
-pub returns-clause-ends : goal.returns-clause-ends
-returns-clause-ends g c = ends_joined (g.F.Flash.device c.args.flash.now) (g.F.Flash.device c.erase_block.new.flash) (g.F.Flash.device c.program_part.new.flash) c.erase_block.ensures.later c.erase_block.ensures.ends c.program_part.ensures.ends
-
-pub returns-clause-images : goal.returns-clause-images
-returns-clause-images g c = torn_joined c.args.block.region.at c.args.block.region.size (g.F.Flash.device c.args.flash.now) (g.F.Flash.device c.erase_block.new.flash) (g.F.Flash.device c.program_part.new.flash) c.erase_block.ensures.later c.program_part.ensures.later c.erase_block.ensures.images c.program_part.ensures.images
-
-pub returns-clause-later : goal.returns-clause-later
-returns-clause-later g c = later_joined (g.F.Flash.device c.args.flash.now) (g.F.Flash.device c.erase_block.new.flash) (g.F.Flash.device c.program_part.new.flash) c.erase_block.ensures.later c.program_part.ensures.later
+pub returns-clause-within : goal.returns-clause-within
+returns-clause-within g c = within_joined c.args.block.region (g.F.Flash.device c.args.flash.now) (g.F.Flash.device c.erase_block.new.flash) (g.F.Flash.device c.program_part.new.flash) c.erase_block.ensures.within c.program_part.ensures.within

@@ -4,6 +4,7 @@ use Rattle.bb_flash.specs.declared.geometry.Geometry.{Geometry}
 use Rattle.bb_bucket.specs.Front.{IsPart, has_front, is_lost, len_of}
 use Rattle.bb_bucket.specs.Kind.{part_of}
 use Rattle.bb_bucket.proofs.Candidates.{found_lost, found_no_front, found_record, front_fits, front_found, front_not_found}
+use Rattle.bb_bucket.proofs.Quiet.{keeps_of_quiet}
 use Rattle.bb_bucket.proofs.look.read_record.Goals as goal
 
 pub returns-then-is_lost-clause-done : goal.returns-then-is_lost-clause-done
@@ -26,7 +27,7 @@ returns-clause-done g c = λ image told.
     let given = front_found (has_front c.args.region.size c.read_part.new.out) c.in-Some.len (len_of c.read_part.new.out) c.in-Some.ensures in
     let fits : 8 + c.in-Some.len ≤ c.args.region.size = omega (arith, front_fits c.args.region.size c.read_part.new.out given.0, given.1) in
     let long : length c.read_part-2.new.out ≡ c.in-Some.len = c.read_part-2.auto.out ∙ length-take-le c.in-Some.len c.args.out.now (omega arith) in
-    let keeps = c.in_ok-front_health.ensures.keeps in
+    let keeps = keeps_of_quiet _ _ c.in_ok-front_health.ensures.quiet in
     let behind = c.in_ok-health.ensures.done image (keeps.content ∙ told) in
     let record_part = subst (λ (geometry : Geometry). IsPart geometry.page (part_of geometry.page c.args.region image) c.args.region.size 8 c.read_part-2.new.out c.in_ok-health.health) keeps.geometry behind in
     rw c.record_found.ensures.value

@@ -8,20 +8,29 @@ pub returns-clause-done : goal.returns-clause-done
 returns-clause-done g c =
     let held = block_of c.args.block (g.F.Flash.device c.args.flash.now).geometry c.requires.held in
     let made = c.erase.ensures in
-    let changes = erase_changes c.args.block (g.F.Flash.device c.args.flash.now) (g.F.Flash.device c.erase.new.self) held made.changes in
+    let changes = erase_changes c.args.block (g.F.Flash.device c.args.flash.now)
+    (g.F.Flash.device c.erase.new.self) held made.call.changes in
     on_ok_weaker _ _ c.erase.result
-    (leaves_blank c.args.block (g.F.Flash.device c.args.flash.now) (g.F.Flash.device c.erase.new.self) held made.whole made.later.geometry changes)
+    (leaves_blank c.args.block (g.F.Flash.device c.args.flash.now)
+    (g.F.Flash.device c.erase.new.self) held made.call.whole made.call.later.geometry changes)
     made.done
 
 pub returns-clause-changes : goal.returns-clause-changes
 returns-clause-changes g c =
     let held = block_of c.args.block (g.F.Flash.device c.args.flash.now).geometry c.requires.held in
-    erase_changes c.args.block (g.F.Flash.device c.args.flash.now) (g.F.Flash.device c.erase.new.self) held c.erase.ensures.changes
+    erase_changes c.args.block (g.F.Flash.device c.args.flash.now)
+    (g.F.Flash.device c.erase.new.self) held c.erase.ensures.call.changes
 
-pub returns-clause-ends : goal.returns-clause-ends
-returns-clause-ends g c = ends_torn _ _ (g.F.Flash.device c.args.flash.now) (g.F.Flash.device c.erase.new.self) c.erase.ensures.changes
-
-pub returns-clause-images : goal.returns-clause-images
-returns-clause-images g c =
+pub returns-clause-within : goal.returns-clause-within
+returns-clause-within g c =
+    let call = c.erase.ensures.call in
     let held = block_of c.args.block (g.F.Flash.device c.args.flash.now).geometry c.requires.held in
-    erase_torn c.args.block (g.F.Flash.device c.args.flash.now) (g.F.Flash.device c.erase.new.self) held c.erase.ensures.images
+    record {
+      ends = ends_torn _ _ (g.F.Flash.device c.args.flash.now)
+          (g.F.Flash.device c.erase.new.self) call.changes;
+      images = erase_torn c.args.block (g.F.Flash.device c.args.flash.now)
+          (g.F.Flash.device c.erase.new.self) held call.images;
+      later = call.later;
+      starts = call.starts;
+      whole = call.whole;
+    }

@@ -11,25 +11,35 @@ pub returns-clause-done : goal.returns-clause-done
 returns-clause-done g c =
     let made = c.program.ensures in
     on_ok_weaker _ _ c.program.result
-    (leaves_program c.args.region c.args.at c.args.bytes.now (g.F.Flash.device c.args.flash.now) (g.F.Flash.device c.program.new.self) c.requires.lies c.requires.within made.whole made.later.geometry made.changes)
+    (leaves_program c.args.region c.args.at c.args.bytes.now (g.F.Flash.device c.args.flash.now)
+    (g.F.Flash.device c.program.new.self) c.requires.lies c.requires.within made.call.whole
+    made.call.later.geometry made.call.changes)
     made.done
 
-pub returns-clause-images : goal.returns-clause-images
-returns-clause-images g c =
-    let made = c.program.ensures in
-    let page = ap (λ (geometry : Geometry). geometry.page) made.later.geometry in
-    torn_in_region c.args.region c.args.at _ (g.F.Flash.device c.args.flash.now) (g.F.Flash.device c.program.new.self) (omega (arith, made.whole.geometry.page_some, page)) c.requires.within made.images
-
-pub returns-clause-ends : goal.returns-clause-ends
-returns-clause-ends g c = ends_torn _ _ (g.F.Flash.device c.args.flash.now) (g.F.Flash.device c.program.new.self) c.program.ensures.changes
+pub returns-clause-within : goal.returns-clause-within
+returns-clause-within g c =
+    let call = c.program.ensures.call in
+    let page = ap (λ (geometry : Geometry). geometry.page) call.later.geometry in
+    record {
+      ends = ends_torn _ _ (g.F.Flash.device c.args.flash.now)
+          (g.F.Flash.device c.program.new.self) call.changes;
+      images = torn_in_region c.args.region c.args.at _ (g.F.Flash.device c.args.flash.now)
+          (g.F.Flash.device c.program.new.self)
+          (omega (arith, call.whole.geometry.page_some, page)) c.requires.within call.images;
+      later = call.later;
+      starts = call.starts;
+      whole = call.whole;
+    }
 
 pub program-requires : goal.program-requires
 program-requires g c = record {
   some = c.requires.some;
   inside = omega (arith, c.requires.within, c.requires.lies.inside);
-  aligned = sum_aligned (g.F.Flash.device c.args.flash.now).geometry.page c.args.region.at c.args.at c.requires.lies.aligned c.requires.aligned;
+  aligned = sum_aligned (g.F.Flash.device c.args.flash.now).geometry.page c.args.region.at c.args.at
+      c.requires.lies.aligned c.requires.aligned;
   whole = c.requires.pages;
   blank = λ blocks image told.
-      blank_on_device (g.F.Flash.device c.args.flash.now).geometry image c.args.region c.args.at (length c.args.bytes.now) c.requires.page c.requires.lies c.requires.within
+      blank_on_device (g.F.Flash.device c.args.flash.now).geometry image c.args.region c.args.at
+      (length c.args.bytes.now) c.requires.page c.requires.lies c.requires.within
       (c.requires.blank blocks image told);
 }

@@ -4,12 +4,12 @@ use Rattle.bb_flash.specs.Calls.{ChangesOnly}
 use Rattle.bb_flash.specs.Device.{Device}
 use Rattle.bb_bucket.specs.Calls.{Leaves}
 use Rattle.bb_bucket.specs.Front.{put_at}
-use Rattle.bb_bucket.specs.StrideLaws.{held_by, lies_on}
+use Rattle.bb_bucket.specs.StrideLaws.{held_by, stride_lies_on}
 use Rattle.bb_bucket.proofs.StrideCalls.{void_calls}
 use Rattle.bb_bucket.proofs.store.void_record.Goals as goal
 
 pub program_part-requires-clause-lies : goal.program_part-requires-clause-lies
-program_part-requires-clause-lies g c = lies_on c.args.stride _ (held_by c.args.stride (g.F.Flash.device c.args.flash.now).geometry c.requires.held)
+program_part-requires-clause-lies g c = stride_lies_on c.args.stride _ (held_by c.args.stride (g.F.Flash.device c.args.flash.now).geometry c.requires.held)
 
 pub program_part-requires-clause-aligned : goal.program_part-requires-clause-aligned
 program_part-requires-clause-aligned g c = zero-mod (g.F.Flash.device c.args.flash.now).geometry.page
@@ -37,5 +37,5 @@ returns-clause-calls g c =
     let held = held_by c.args.stride from.geometry c.requires.held in
     let made = c.program_part.ensures in
     let start : c.args.stride.at + 0 ≡ c.args.stride.at = omega arith in
-    void_calls c.args.stride from to held c.requires.least made.later made.whole
+    void_calls c.args.stride from to held c.requires.least made.within.later made.within.whole
     (subst (λ at. ChangesOnly at (replicate 8 0) from to) start made.changes)

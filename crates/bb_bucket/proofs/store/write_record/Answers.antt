@@ -4,12 +4,12 @@ use Rattle.bb_flash.specs.Calls.{ChangesOnly}
 use Rattle.bb_flash.specs.Device.{Device}
 use Rattle.bb_bucket.specs.Calls.{Leaves}
 use Rattle.bb_bucket.specs.Front.{entry_of, put_at}
-use Rattle.bb_bucket.specs.StrideLaws.{held_by, lies_on}
+use Rattle.bb_bucket.specs.StrideLaws.{held_by, stride_lies_on}
 use Rattle.bb_bucket.proofs.StrideCalls.{write_calls}
 use Rattle.bb_bucket.proofs.store.write_record.Goals as goal
 
 pub program_part-requires-clause-lies : goal.program_part-requires-clause-lies
-program_part-requires-clause-lies g c = lies_on c.args.stride _ (held_by c.args.stride (g.F.Flash.device c.args.flash.now).geometry c.requires.held)
+program_part-requires-clause-lies g c = stride_lies_on c.args.stride _ (held_by c.args.stride (g.F.Flash.device c.args.flash.now).geometry c.requires.held)
 
 pub program_part-requires-clause-aligned : goal.program_part-requires-clause-aligned
 program_part-requires-clause-aligned g c = zero-mod (g.F.Flash.device c.args.flash.now).geometry.page
@@ -39,5 +39,5 @@ returns-clause-calls g c =
     let made = c.program_part.ensures in
     let start : c.args.stride.at + 0 ≡ c.args.stride.at = omega arith in
     let changes = subst (λ (bytes : List ℕ). ChangesOnly (c.args.stride.at + 0) bytes from to) c.write_entry.ensures made.changes in
-    write_calls c.args.stride c.args.rec.now from to held c.requires.room made.later made.whole
+    write_calls c.args.stride c.args.rec.now from to held c.requires.room made.within.later made.within.whole
     (subst (λ at. ChangesOnly at (entry_of c.args.rec.now) from to) start changes)

@@ -16,7 +16,7 @@ use std::process::Abort;
 use std::test::Fail;
 
 // A board that holds these pages.
-pub(super) fn filled(alloc: Global, pages: Pages) -> Result<MemBoard, NoMemory>
+pub(super) fn board_with(alloc: Global, pages: Pages) -> Result<MemBoard, NoMemory>
     ensures { IfOk result (λ board. board.geometry ≡ tried_device) }
 {
     let mut board = board(alloc, &image_of(pages))?;

@@ -79,7 +79,7 @@ fn put(bytes: &mut [u8; 192], place: usize, page: [u8; 16])
 }
 
 // How many pages there are up to the last one that isn't blank.
-pub(super) fn written(pages: Pages) -> usize
+pub(super) fn written_pages(pages: Pages) -> usize
     ensures { result ≤ 4 }
 {
     if pages[3] != Page::Blank {
@@ -106,7 +106,7 @@ fn candidate(pages: Pages) -> Option<Entry>
     ensures inside { IfSome result (λ c. c.first + c.pages ≤ 4) }
     ensures some { IfSome result (λ c. 1 ≤ c.pages) }
 {
-    let end = written(pages);
+    let end = written_pages(pages);
     if end == 0 {
         return None;
     }
@@ -156,7 +156,7 @@ pub(super) fn record_in(pages: Pages) -> [u8; 56] {
 
 // What a finished write leaves.
 pub(super) fn after_write(pages: Pages) -> Pages {
-    let end = written(pages);
+    let end = written_pages(pages);
     let mut after = if end < 4 { pages } else { [Page::Blank; 4] };
     after[if end < 4 { end } else { 0 }] = Page::New;
     after
@@ -166,13 +166,18 @@ pub(super) fn after_write(pages: Pages) -> Pages {
 pub(super) fn torn_erase(pages: Pages, fill: Fill) -> Pages {
     match fill {
         Fill::Old => pages,
-        Fill::Half => [Page::Blank, Page::Blank, mended(pages[2]), mended(pages[3])],
+        Fill::Half => [
+            Page::Blank,
+            Page::Blank,
+            mended_page(pages[2]),
+            mended_page(pages[3]),
+        ],
         Fill::Junk => [Page::Junk; 4],
         Fill::Lost => [Page::Lost; 4],
     }
 }
 
-fn mended(page: Page) -> Page {
+fn mended_page(page: Page) -> Page {
     match page {
         Page::Lost | Page::Worn => Page::Last,
         page => page,
@@ -181,7 +186,7 @@ fn mended(page: Page) -> Page {
 
 // What a call leaves that was to program the new entry behind these pages.
 pub(super) fn torn_program(pages: Pages, fill: Fill) -> Pages {
-    let end = written(pages);
+    let end = written_pages(pages);
     let mut after = pages;
     if end < 4 {
         after[end] = match fill {
@@ -198,7 +203,7 @@ pub(super) fn torn_program(pages: Pages, fill: Fill) -> Pages {
 pub(super) fn looked_at(pages: Pages) -> u32
     ensures { result ≤ 4 }
 {
-    match written(pages) {
+    match written_pages(pages) {
         0 => 4,
         pages => 5 - pages as u32,
     }

@@ -108,13 +108,18 @@ pub(super) fn after_write() -> Pages {
 pub(super) fn torn_erase(pages: Pages, fill: Fill) -> Pages {
     match fill {
         Fill::Old => pages,
-        Fill::Half => [Page::Blank, Page::Blank, mended(pages[2]), mended(pages[3])],
+        Fill::Half => [
+            Page::Blank,
+            Page::Blank,
+            mended_page(pages[2]),
+            mended_page(pages[3]),
+        ],
         Fill::Junk => [Page::Junk; 4],
         Fill::Lost => [Page::Lost; 4],
     }
 }
 
-fn mended(page: Page) -> Page {
+fn mended_page(page: Page) -> Page {
     match page {
         Page::Lost | Page::Worn => Page::First,
         page => page,

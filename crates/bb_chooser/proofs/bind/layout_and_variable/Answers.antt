@@ -1,8 +1,8 @@
 use Rattle.std.proofs.Common.{rules, lit<}
-use Rattle.bb_chooser.proofs.Reading.{not_parted}
+use Rattle.bb_chooser.proofs.Reading.{no_sides}
 use Rattle.bb_chooser.proofs.bind.layout_and_variable.Goals as goal
 
 pub returns-in_err-name : goal.returns-in_err-name
 returns-in_err-name c =
-    let none = not_parted 46 c.args.full.now (c.in_err-name.ensures.byte (lit< tt) (λ w o h. h)) in
+    let none = no_sides 46 c.args.full.now (c.in_err-name.ensures.byte (lit< tt) (λ w o h. h)) in
     rw none (search rules)

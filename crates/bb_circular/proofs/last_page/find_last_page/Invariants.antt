@@ -1,8 +1,7 @@
 use Rattle.std.proofs.Common.{◌≡◌, ◌≤◌, ◌/◌, length}
 use Rattle.std.specs.Option.{ForSome}
-use Rattle.bb_flash.specs.Cuts.{IsLater}
-use Rattle.bb_flash.specs.Device.{IsDevice, ReadKeeps, content}
-use Rattle.bb_bucket.specs.Calls.{told_but_reads}
+use Rattle.bb_flash.specs.Device.{content}
+use Rattle.bb_bucket.specs.Calls.{IsQuiet}
 use Rattle.bb_bucket.specs.Kind.{part_of}
 use Rattle.bb_circular.specs.PagesLaws.{IsLookedAt}
 use Rattle.bb_circular.proofs.last_page.find_last_page.Given as goal
@@ -14,10 +13,7 @@ invariant-loop-pages g l =
     record {
       inside : l.pages ≤ l.block.region.size / l.block.page;
       looked : ForSome (content from) (λ image. IsLookedAt l.block.page (part_of l.block.page l.block.region image) l.pages);
-      keeps : ReadKeeps from now;
-      told : told_but_reads now ≡ told_but_reads from;
-      later : IsLater from now;
-      whole : IsDevice now;
+      quiet : IsQuiet from now;
       sized : length l.page ≡ l.block.page;
     }
 

@@ -2,7 +2,8 @@ use Rattle.std.proofs.Common.{Option, subst, IsTrue}
 use Rattle.bb_bucket.specs.Kind.{part_of}
 use Rattle.bb_circular.specs.declared.kept.Kept.{Kept}
 use Rattle.bb_circular.specs.Circular.{agrees_with}
-use Rattle.bb_circular.proofs.Looks.{kept_known, later_same}
+use Rattle.bb_circular.proofs.Keeping.{kept_known}
+use Rattle.bb_bucket.proofs.Quiet.{quiet_same}
 use Rattle.bb_circular.proofs.look.look_up.Goals as goal
 
 pub returns-in-Some-clause-done : goal.returns-in-Some-clause-done
@@ -11,5 +12,5 @@ returns-in-Some-clause-done g c = λ image told.
     (subst (λ (kept : Option Kept). IsTrue (agrees_with c.args.block.page kept (part_of c.args.block.page c.args.block.region image))) c.in-Some.is
     (c.requires.agreed image told))
 
-pub returns-in-Some-clause-later : goal.returns-in-Some-clause-later
-returns-in-Some-clause-later g c = later_same (g.F.Flash.device c.args.flash.now)
+pub returns-in-Some-clause-quiet : goal.returns-in-Some-clause-quiet
+returns-in-Some-clause-quiet g c = quiet_same (g.F.Flash.device c.args.flash.now) c.geometry.ensures.whole

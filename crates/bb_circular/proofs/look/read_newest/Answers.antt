@@ -9,7 +9,8 @@ use Rattle.bb_bucket.specs.Kind.{part_of}
 use Rattle.bb_circular.specs.declared.kept.Entry.{Entry}
 use Rattle.bb_circular.specs.Circular.{IsEntryIn, readable, record_of}
 use Rattle.bb_circular.specs.Looking.{worn_of}
-use Rattle.bb_circular.proofs.Looks.{found_read, health_of-record, lost_or_kept, part_by}
+use Rattle.bb_circular.proofs.Keeping.{found_read, health_of-record}
+use Rattle.bb_circular.proofs.Looks.{lost_or_kept, part_by}
 use Rattle.bb_circular.proofs.look.read_newest.Goals as goal
 
 pub read_part-requires-clause-lies : goal.read_part-requires-clause-lies

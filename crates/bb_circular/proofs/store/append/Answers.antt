@@ -9,7 +9,8 @@ use Rattle.bb_circular.specs.Entries.{entry_len}
 use Rattle.bb_circular.specs.EntryLaws.{entry_len_is, entry_size}
 use Rattle.bb_circular.specs.Pages.{written_pages}
 use Rattle.bb_circular.specs.PagesLaws.{blank_behind, pages_blank}
-use Rattle.bb_circular.proofs.LogCalls.{append_calls, append_keeps, part_paged}
+use Rattle.bb_circular.proofs.LogCalls.{append_calls, append_keeps}
+use Rattle.bb_circular.proofs.LogDevices.{part_paged}
 use Rattle.bb_circular.proofs.store.append.Goals as goal
 
 pub program_part-requires-clause-lies : goal.program_part-requires-clause-lies
@@ -54,11 +55,11 @@ returns-clause-kept g c =
     on_ok_weaker _ _ c.program_part.result
     (λ left image told.
     append_keeps c.args.block c.args.rec.now c.args.next _ (g.F.Flash.device c.args.flash.now) (g.F.Flash.device c.program_part.new.flash) image held c.requires.aligned c.requires.fits c.pack_entry-len.ensures.entry
-    c.requires.placed made.later made.whole made.changes left told)
+    c.requires.placed made.within.later made.within.whole made.changes left told)
     made.done
 
 pub returns-clause-calls : goal.returns-clause-calls
 returns-clause-calls g c =
     let held = block_of c.args.block (g.F.Flash.device c.args.flash.now).geometry c.requires.held in
     let made = c.program_part.ensures in
-    append_calls c.args.block c.args.rec.now c.args.next _ (g.F.Flash.device c.args.flash.now) (g.F.Flash.device c.program_part.new.flash) held c.requires.aligned c.requires.fits c.pack_entry-len.ensures.entry c.requires.placed made.later made.whole made.changes
+    append_calls c.args.block c.args.rec.now c.args.next _ (g.F.Flash.device c.args.flash.now) (g.F.Flash.device c.program_part.new.flash) held c.requires.aligned c.requires.fits c.pack_entry-len.ensures.entry c.requires.placed made.within.later made.within.whole made.changes

@@ -1,13 +1,12 @@
 use Rattle.std.proofs.Common.{ℕ, ◌+◌, ◌%◌, ◌<◌, ◌≤◌, List, length, take, sym, ap, ◌∙◌, subst, arith}
 use Rattle.bb_flash.specs.declared.geometry.Geometry.{Geometry}
 use Rattle.bb_flash.specs.Image.{Image, IsBlank}
-use Rattle.bb_flash.proofs.Moments.{later_joined, torn_joined}
 use Rattle.bb_bucket.specs.Blocks.{blank_block}
 use Rattle.bb_bucket.specs.BlockLaws.{block_lies_on, block_of}
 use Rattle.bb_bucket.specs.Kind.{LiesOn, part_of}
 use Rattle.bb_bucket.proofs.Erases.{blank_is_blank}
 use Rattle.bb_bucket.proofs.Outcomes.{on_ok_weaker}
-use Rattle.bb_bucket.proofs.Runs.{ends_joined, part_after}
+use Rattle.bb_bucket.proofs.Runs.{part_after, within_joined}
 use Rattle.bb_circular.specs.CircularLaws.{entry_fits}
 use Rattle.bb_circular.specs.EntryLaws.{entry_len_is, entry_size}
 use Rattle.bb_circular.proofs.LogCalls.{anew_calls, anew_erase, anew_keeps, anew_leaves}
@@ -17,12 +16,12 @@ pub returns-in_err-erase_block-clause-calls : goal.returns-in_err-erase_block-cl
 returns-in_err-erase_block-clause-calls g c =
     let made = c.erase_block.ensures in
     anew_erase c.args.block c.args.rec.now (g.F.Flash.device c.args.flash.now) (g.F.Flash.device c.erase_block.new.flash)
-    (block_of c.args.block (g.F.Flash.device c.args.flash.now).geometry c.requires.held) c.requires.full made.later made.whole made.changes
+    (block_of c.args.block (g.F.Flash.device c.args.flash.now).geometry c.requires.held) c.requires.full made.within.later made.within.whole made.changes
 
 pub program_part-requires-clause-lies : goal.program_part-requires-clause-lies
 program_part-requires-clause-lies g c =
     let held = block_of c.args.block (g.F.Flash.device c.args.flash.now).geometry c.requires.held in
-    subst (λ (geometry : Geometry). LiesOn geometry c.args.block.region) (sym c.erase_block.ensures.later.geometry)
+    subst (λ (geometry : Geometry). LiesOn geometry c.args.block.region) (sym c.erase_block.ensures.within.later.geometry)
     (block_lies_on c.args.block (g.F.Flash.device c.args.flash.now).geometry held)
 
 pub program_part-requires-clause-pages : goal.program_part-requires-clause-pages
@@ -30,7 +29,7 @@ program_part-requires-clause-pages g c =
     let held = block_of c.args.block (g.F.Flash.device c.args.flash.now).geometry c.requires.held in
     let entry : List ℕ = take c.pack_entry-len.result c.pack_entry-len.new.memory in
     let some : 0 < c.args.block.page = omega (arith, held.page_least) in
-    ap (λ (geometry : Geometry). length entry % geometry.page) c.erase_block.ensures.later.geometry
+    ap (λ (geometry : Geometry). length entry % geometry.page) c.erase_block.ensures.within.later.geometry
     ∙ ap (λ page. length entry % page) held.page
     ∙ ap (λ n. n % c.args.block.page) (ap length c.pack_entry-len.ensures.entry ∙ entry_size c.args.block.page c.args.rec.now some)
     ∙ (entry_len_is c.args.block.page (length c.args.rec.now) some).whole
@@ -47,10 +46,10 @@ program_part-requires-clause-blank g c = λ blocks image told.
     let inside : 0 + length entry ≤ c.args.block.region.size = omega (arith, long, fits) in
     let after =
     part_after c.args.block.region (λ part. blank_block page c.args.block.region.size) (g.F.Flash.device c.args.flash.now) (g.F.Flash.device c.erase_block.new.flash)
-    image c.erase_block.ensures.later c.in_ok-erase_block.ensures.done told in
+    image c.erase_block.ensures.within.later c.in_ok-erase_block.ensures.done told in
     let blank = blank_is_blank page c.args.block.region.size 0 (length entry) (omega (arith, held.page, held.page_least)) lies.whole inside in
     subst (λ (geometry : Geometry). IsBlank geometry.page (part_of geometry.page c.args.block.region image) 0 (length entry))
-    (sym c.erase_block.ensures.later.geometry)
+    (sym c.erase_block.ensures.within.later.geometry)
     (subst (λ (part : Image). IsBlank page part 0 (length entry)) (sym after.2) blank)
 
 pub returns-clause-done : goal.returns-clause-done
@@ -58,7 +57,7 @@ returns-clause-done g c =
     let held = block_of c.args.block (g.F.Flash.device c.args.flash.now).geometry c.requires.held in
     on_ok_weaker _ _ c.program_part.result
     (anew_leaves c.args.block c.args.rec.now _ (g.F.Flash.device c.args.flash.now) (g.F.Flash.device c.erase_block.new.flash) (g.F.Flash.device c.program_part.new.flash)
-    held c.pack_entry-len.ensures.entry c.requires.full c.erase_block.ensures.later c.in_ok-erase_block.ensures.done) c.program_part.ensures.done
+    held c.pack_entry-len.ensures.entry c.requires.full c.erase_block.ensures.within.later c.in_ok-erase_block.ensures.done) c.program_part.ensures.done
 
 pub returns-clause-kept : goal.returns-clause-kept
 returns-clause-kept g c =
@@ -66,7 +65,7 @@ returns-clause-kept g c =
     on_ok_weaker _ _ c.program_part.result
     (λ left image told.
     anew_keeps c.args.block c.args.rec.now _ (g.F.Flash.device c.args.flash.now) (g.F.Flash.device c.erase_block.new.flash) (g.F.Flash.device c.program_part.new.flash) image
-    held c.requires.room c.pack_entry-len.ensures.entry c.erase_block.ensures.later c.program_part.ensures.later c.in_ok-erase_block.ensures.done left told) c.program_part.ensures.done
+    held c.requires.room c.pack_entry-len.ensures.entry c.erase_block.ensures.within.later c.program_part.ensures.within.later c.in_ok-erase_block.ensures.done left told) c.program_part.ensures.done
 
 pub returns-clause-calls : goal.returns-clause-calls
 returns-clause-calls g c =
@@ -74,13 +73,7 @@ returns-clause-calls g c =
     let erased = c.erase_block.ensures in
     let made = c.program_part.ensures in
     anew_calls c.args.block c.args.rec.now _ (g.F.Flash.device c.args.flash.now) (g.F.Flash.device c.erase_block.new.flash) (g.F.Flash.device c.program_part.new.flash)
-    held c.requires.room c.pack_entry-len.ensures.entry c.requires.full erased.later made.later erased.whole made.whole erased.changes c.in_ok-erase_block.ensures.done made.changes
+    held c.requires.room c.pack_entry-len.ensures.entry c.requires.full erased.within.later made.within.later erased.within.whole made.within.whole erased.changes c.in_ok-erase_block.ensures.done made.changes
 
-pub returns-clause-ends : goal.returns-clause-ends
-returns-clause-ends g c = ends_joined (g.F.Flash.device c.args.flash.now) (g.F.Flash.device c.erase_block.new.flash) (g.F.Flash.device c.program_part.new.flash) c.erase_block.ensures.later c.erase_block.ensures.ends c.program_part.ensures.ends
-
-pub returns-clause-images : goal.returns-clause-images
-returns-clause-images g c = torn_joined c.args.block.region.at c.args.block.region.size (g.F.Flash.device c.args.flash.now) (g.F.Flash.device c.erase_block.new.flash) (g.F.Flash.device c.program_part.new.flash) c.erase_block.ensures.later c.program_part.ensures.later c.erase_block.ensures.images c.program_part.ensures.images
-
-pub returns-clause-later : goal.returns-clause-later
-returns-clause-later g c = later_joined (g.F.Flash.device c.args.flash.now) (g.F.Flash.device c.erase_block.new.flash) (g.F.Flash.device c.program_part.new.flash) c.erase_block.ensures.later c.program_part.ensures.later
+pub returns-clause-within : goal.returns-clause-within
+returns-clause-within g c = within_joined c.args.block.region (g.F.Flash.device c.args.flash.now) (g.F.Flash.device c.erase_block.new.flash) (g.F.Flash.device c.program_part.new.flash) c.erase_block.ensures.within c.program_part.ensures.within

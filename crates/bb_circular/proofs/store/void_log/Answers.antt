@@ -6,8 +6,8 @@ use Rattle.bb_bucket.specs.Calls.{Leaves}
 use Rattle.bb_bucket.proofs.BlockCalls.{void_calls}
 use Rattle.bb_bucket.proofs.StrideCalls.{only_one}
 use Rattle.bb_circular.specs.Circular.{circular_kind, kept_of}
-use Rattle.bb_circular.specs.CircularLaws.{blank_candidate, blank_kept}
-use Rattle.bb_circular.proofs.LogCalls.{blank_after}
+use Rattle.bb_circular.specs.PutLaws.{blank_candidate, blank_kept}
+use Rattle.bb_circular.proofs.LogDevices.{blank_after}
 use Rattle.bb_circular.proofs.store.void_log.Goals as goal
 
 pub returns-in_err-erase_block-clause-calls : goal.returns-in_err-erase_block-clause-calls
@@ -15,7 +15,7 @@ returns-in_err-erase_block-clause-calls g c =
     let held = block_of c.args.block (g.F.Flash.device c.args.flash.now).geometry c.requires.held in
     let made = c.erase_block.ensures in
     void_calls (circular_kind c.args.block) c.args.block.page (blank_candidate c.args.block.page c.args.block.page c.args.block.region.size)
-    (g.F.Flash.device c.args.flash.now) (g.F.Flash.device c.erase_block.new.flash) held (only_one _ _ refl) made.later made.whole made.changes
+    (g.F.Flash.device c.args.flash.now) (g.F.Flash.device c.erase_block.new.flash) held (only_one _ _ refl) made.within.later made.within.whole made.changes
 
 pub returns-clause-done : goal.returns-clause-done
 returns-clause-done g c =
@@ -27,7 +27,7 @@ pub returns-clause-kept : goal.returns-clause-kept
 returns-clause-kept g c = λ image told.
     let held = block_of c.args.block (g.F.Flash.device c.args.flash.now).geometry c.requires.held in
     sym
-    (ap (kept_of c.args.block.page) (blank_after c.args.block (g.F.Flash.device c.args.flash.now) (g.F.Flash.device c.erase_block.new.flash) image held c.erase_block.ensures.later c.in_ok-erase_block.ensures.done told)
+    (ap (kept_of c.args.block.page) (blank_after c.args.block (g.F.Flash.device c.args.flash.now) (g.F.Flash.device c.erase_block.new.flash) image held c.erase_block.ensures.within.later c.in_ok-erase_block.ensures.done told)
     ∙ blank_kept c.args.block.page c.args.block.region.size held.page_least held.pages (omega (arith, held.inside, held.small)))
 
 pub returns-clause-calls : goal.returns-clause-calls
@@ -35,4 +35,4 @@ returns-clause-calls g c =
     let held = block_of c.args.block (g.F.Flash.device c.args.flash.now).geometry c.requires.held in
     let made = c.erase_block.ensures in
     void_calls (circular_kind c.args.block) c.args.block.page (blank_candidate c.args.block.page c.args.block.page c.args.block.region.size)
-    (g.F.Flash.device c.args.flash.now) (g.F.Flash.device c.erase_block.new.flash) held (only_one _ _ refl) made.later made.whole made.changes
+    (g.F.Flash.device c.args.flash.now) (g.F.Flash.device c.erase_block.new.flash) held (only_one _ _ refl) made.within.later made.within.whole made.changes

@@ -3,7 +3,7 @@ use Rattle.std.proofs.lemmas.List.{get_or_read, length-map}
 use Rattle.std.proofs.lemmas.Result.{err_from_is_err_and}
 use Rattle.bb_base.specs.Form.{Form}
 use Rattle.bb_flash.specs.Device.{Device}
-use Rattle.bb_bucket.specs.Kind.{Kind}
+use Rattle.bb_bucket.specs.Kind.{BucketKind}
 use Rattle.bb_copies.specs.Buckets.{AllFit, kinds_of}
 use Rattle.bb_copies.specs.Refreshing.{AllHeld, IsFirstMarked, IsSettledAt, IsStuckAt, IsWrittenAt, LeavesOthers, NoOther, Refreshes}
 use Rattle.bb_copies.proofs.Below.{stuck_earlier, stuck_rose}
@@ -14,7 +14,7 @@ use Rattle.bb_copies.proofs.fresh.freshen.Goals as goal
 pub returns-in_err-refresh-clause-spares : goal.returns-in_err-refresh-clause-spares
 returns-in_err-refresh-clause-spares g c =
     let form : Form = g.M.Format.form c.args.format.now in
-    let kinds : List Kind = kinds_of g.B.Bucket.holding c.args.buckets.now.items in
+    let kinds : List BucketKind = kinds_of g.B.Bucket.holding c.args.buckets.now.items in
     let area : List ℕ = c.args.area.now in
     let rec : List ℕ = c.args.room.now.record.items in
     let good : List Bool = c.args.good.now.items in
@@ -29,7 +29,7 @@ returns-in_err-refresh-clause-spares g c =
 pub returns-in_err-refresh-clause-kept : goal.returns-in_err-refresh-clause-kept
 returns-in_err-refresh-clause-kept g c =
     let form : Form = g.M.Format.form c.args.format.now in
-    let kinds : List Kind = kinds_of g.B.Bucket.holding c.args.buckets.now.items in
+    let kinds : List BucketKind = kinds_of g.B.Bucket.holding c.args.buckets.now.items in
     let area : List ℕ = c.args.area.now in
     let rec : List ℕ = c.args.room.now.record.items in
     let good : List Bool = c.args.good.now.items in
@@ -44,7 +44,7 @@ returns-in_err-refresh-clause-kept g c =
 pub returns-in_err-refresh-clause-exact : goal.returns-in_err-refresh-clause-exact
 returns-in_err-refresh-clause-exact g c =
     let form : Form = g.M.Format.form c.args.format.now in
-    let kinds : List Kind = kinds_of g.B.Bucket.holding c.args.buckets.now.items in
+    let kinds : List BucketKind = kinds_of g.B.Bucket.holding c.args.buckets.now.items in
     let area : List ℕ = c.args.area.now in
     let rec : List ℕ = c.args.room.now.record.items in
     let good : List Bool = c.args.good.now.items in
@@ -59,7 +59,7 @@ returns-in_err-refresh-clause-exact g c =
 pub returns-then-fresh-clause-spares : goal.returns-then-fresh-clause-spares
 returns-then-fresh-clause-spares g c =
     let form : Form = g.M.Format.form c.args.format.now in
-    let kinds : List Kind = kinds_of g.B.Bucket.holding c.args.buckets.now.items in
+    let kinds : List BucketKind = kinds_of g.B.Bucket.holding c.args.buckets.now.items in
     let area : List ℕ = c.args.area.now in
     let rec : List ℕ = c.args.room.now.record.items in
     let good : List Bool = c.args.good.now.items in
@@ -74,7 +74,7 @@ returns-then-fresh-clause-spares g c =
 pub returns-then-fresh-clause-held : goal.returns-then-fresh-clause-held
 returns-then-fresh-clause-held g c =
     let form : Form = g.M.Format.form c.args.format.now in
-    let kinds : List Kind = kinds_of g.B.Bucket.holding c.args.buckets.now.items in
+    let kinds : List BucketKind = kinds_of g.B.Bucket.holding c.args.buckets.now.items in
     let area : List ℕ = c.args.area.now in
     let rec : List ℕ = c.args.room.now.record.items in
     let good : List Bool = c.args.good.now.items in
@@ -91,7 +91,7 @@ returns-then-fresh-clause-held g c =
 pub returns-then-fresh-clause-kept : goal.returns-then-fresh-clause-kept
 returns-then-fresh-clause-kept g c =
     let form : Form = g.M.Format.form c.args.format.now in
-    let kinds : List Kind = kinds_of g.B.Bucket.holding c.args.buckets.now.items in
+    let kinds : List BucketKind = kinds_of g.B.Bucket.holding c.args.buckets.now.items in
     let area : List ℕ = c.args.area.now in
     let rec : List ℕ = c.args.room.now.record.items in
     let good : List Bool = c.args.good.now.items in
@@ -106,7 +106,7 @@ returns-then-fresh-clause-kept g c =
 pub returns-then-is_none-clause-spares : goal.returns-then-is_none-clause-spares
 returns-then-is_none-clause-spares g c =
     let form : Form = g.M.Format.form c.args.format.now in
-    let kinds : List Kind = kinds_of g.B.Bucket.holding c.args.buckets.now.items in
+    let kinds : List BucketKind = kinds_of g.B.Bucket.holding c.args.buckets.now.items in
     let area : List ℕ = c.args.area.now in
     let rec : List ℕ = c.args.room.now.record.items in
     let good : List Bool = c.args.good.now.items in
@@ -121,7 +121,7 @@ returns-then-is_none-clause-spares g c =
 pub returns-then-is_none-clause-held : goal.returns-then-is_none-clause-held
 returns-then-is_none-clause-held g c =
     let form : Form = g.M.Format.form c.args.format.now in
-    let kinds : List Kind = kinds_of g.B.Bucket.holding c.args.buckets.now.items in
+    let kinds : List BucketKind = kinds_of g.B.Bucket.holding c.args.buckets.now.items in
     let area : List ℕ = c.args.area.now in
     let rec : List ℕ = c.args.room.now.record.items in
     let good : List Bool = c.args.good.now.items in
@@ -138,7 +138,7 @@ returns-then-is_none-clause-held g c =
 pub returns-then-is_none-clause-kept : goal.returns-then-is_none-clause-kept
 returns-then-is_none-clause-kept g c =
     let form : Form = g.M.Format.form c.args.format.now in
-    let kinds : List Kind = kinds_of g.B.Bucket.holding c.args.buckets.now.items in
+    let kinds : List BucketKind = kinds_of g.B.Bucket.holding c.args.buckets.now.items in
     let area : List ℕ = c.args.area.now in
     let rec : List ℕ = c.args.room.now.record.items in
     let good : List Bool = c.args.good.now.items in
@@ -153,7 +153,7 @@ returns-then-is_none-clause-kept g c =
 pub returns-then-fresh-clause-exact : goal.returns-then-fresh-clause-exact
 returns-then-fresh-clause-exact g c =
     let form : Form = g.M.Format.form c.args.format.now in
-    let kinds : List Kind = kinds_of g.B.Bucket.holding c.args.buckets.now.items in
+    let kinds : List BucketKind = kinds_of g.B.Bucket.holding c.args.buckets.now.items in
     let area : List ℕ = c.args.area.now in
     let rec : List ℕ = c.args.room.now.record.items in
     let good : List Bool = c.args.good.now.items in
@@ -169,7 +169,7 @@ returns-then-fresh-clause-exact g c =
 pub returns-then-is_none-clause-exact : goal.returns-then-is_none-clause-exact
 returns-then-is_none-clause-exact g c =
     let form : Form = g.M.Format.form c.args.format.now in
-    let kinds : List Kind = kinds_of g.B.Bucket.holding c.args.buckets.now.items in
+    let kinds : List BucketKind = kinds_of g.B.Bucket.holding c.args.buckets.now.items in
     let area : List ℕ = c.args.area.now in
     let rec : List ℕ = c.args.room.now.record.items in
     let good : List Bool = c.args.good.now.items in
@@ -187,7 +187,7 @@ returns-then-is_none-clause-exact g c =
 pub returns-in_err-good-clause-refreshes : goal.returns-in_err-good-clause-refreshes
 returns-in_err-good-clause-refreshes g c =
     let form : Form = g.M.Format.form c.args.format.now in
-    let kinds : List Kind = kinds_of g.B.Bucket.holding c.args.buckets.now.items in
+    let kinds : List BucketKind = kinds_of g.B.Bucket.holding c.args.buckets.now.items in
     let area : List ℕ = c.args.area.now in
     let rec : List ℕ = c.args.room.now.record.items in
     let good : List Bool = c.args.good.now.items in
@@ -199,13 +199,13 @@ returns-in_err-good-clause-refreshes g c =
     let inside : used < length good = omega (arith, c.requires.inside, c.requires.marks) in
     let to : Device = g.F.Flash.device c.settle_copy.new.flash in
     let s = c.settle_copy.ensures in
-    let others : LeavesOthers kinds used mid to = subst (λ (ks : List Kind). LeavesOthers ks used mid to) r.kinds s.others in
-    refreshes_joined form kinds area from mid to r.refreshes (subst (λ (ks : List Kind). Refreshes form ks area mid to) r.kinds s.refreshes)
+    let others : LeavesOthers kinds used mid to = subst (λ (ks : List BucketKind). LeavesOthers ks used mid to) r.kinds s.others in
+    refreshes_joined form kinds area from mid to r.refreshes (subst (λ (ks : List BucketKind). Refreshes form ks area mid to) r.kinds s.refreshes)
 
 pub returns-in_err-good-clause-spares : goal.returns-in_err-good-clause-spares
 returns-in_err-good-clause-spares g c =
     let form : Form = g.M.Format.form c.args.format.now in
-    let kinds : List Kind = kinds_of g.B.Bucket.holding c.args.buckets.now.items in
+    let kinds : List BucketKind = kinds_of g.B.Bucket.holding c.args.buckets.now.items in
     let area : List ℕ = c.args.area.now in
     let rec : List ℕ = c.args.room.now.record.items in
     let good : List Bool = c.args.good.now.items in
@@ -219,7 +219,7 @@ returns-in_err-good-clause-spares g c =
     held_all form kinds area (set good used true) c.refresh.new.good.items from mid r.refreshes.later (first_marked form kinds area good (length c.args.buckets.now.items) used from many c.requires.first) r.kept c.in_ok-refresh.ensures.settled in
     let to : Device = g.F.Flash.device c.settle_copy.new.flash in
     let s = c.settle_copy.ensures in
-    let others : LeavesOthers kinds used mid to = subst (λ (ks : List Kind). LeavesOthers ks used mid to) r.kinds s.others in
+    let others : LeavesOthers kinds used mid to = subst (λ (ks : List BucketKind). LeavesOthers ks used mid to) r.kinds s.others in
     let other = some_of_match c.first_good.result (NoOther c.refresh.new.good.items used) (IsFirstMarked c.refresh.new.good.items used) (subst (λ (xs : List Bool). MatchOption c.first_good.result (NoOther xs used) (IsFirstMarked xs used)) c.deref.ensures.value c.first_good.ensures) (c.is_none.ensures ∙ ap not c.if-is_none.false) in
     never_joined form kinds from mid to r.refreshes.later s.refreshes.later
     (used_spares form kinds area good (length c.args.buckets.now.items) used from mid many c.requires.inside inside c.requires.first r.kept)
@@ -228,7 +228,7 @@ returns-in_err-good-clause-spares g c =
 pub returns-in_err-good-clause-stuck : goal.returns-in_err-good-clause-stuck
 returns-in_err-good-clause-stuck g c =
     let form : Form = g.M.Format.form c.args.format.now in
-    let kinds : List Kind = kinds_of g.B.Bucket.holding c.args.buckets.now.items in
+    let kinds : List BucketKind = kinds_of g.B.Bucket.holding c.args.buckets.now.items in
     let area : List ℕ = c.args.area.now in
     let rec : List ℕ = c.args.room.now.record.items in
     let good : List Bool = c.args.good.now.items in
@@ -240,8 +240,8 @@ returns-in_err-good-clause-stuck g c =
     let inside : used < length good = omega (arith, c.requires.inside, c.requires.marks) in
     let to : Device = g.F.Flash.device c.settle_copy.new.flash in
     let s = c.settle_copy.ensures in
-    let others : LeavesOthers kinds used mid to = subst (λ (ks : List Kind). LeavesOthers ks used mid to) r.kinds s.others in
-    let stuck : IsStuckAt form kinds area c.in_err-good.field-0.0 mid to = subst (λ (ks : List Kind). IsStuckAt form ks area c.in_err-good.field-0.0 mid to) r.kinds c.in_err-good.ensures.stuck in
+    let others : LeavesOthers kinds used mid to = subst (λ (ks : List BucketKind). LeavesOthers ks used mid to) r.kinds s.others in
+    let stuck : IsStuckAt form kinds area c.in_err-good.field-0.0 mid to = subst (λ (ks : List BucketKind). IsStuckAt form ks area c.in_err-good.field-0.0 mid to) r.kinds c.in_err-good.ensures.stuck in
     let whole = stuck_earlier form kinds area c.in_err-good.field-0.0 from mid to r.refreshes.later s.refreshes.later stuck in
     let p = err_from_is_err_and c.from_residual-in_err-good.result c.from_residual-in_err-good.ensures.1 in
     subst (λ r. IfErr r (λ copy. IsStuckAt form kinds area copy from to)) (sym (p.1 ∙ ap (λ e. Err e) p.2)) whole
@@ -249,7 +249,7 @@ returns-in_err-good-clause-stuck g c =
 pub returns-in_err-good-clause-kept : goal.returns-in_err-good-clause-kept
 returns-in_err-good-clause-kept g c =
     let form : Form = g.M.Format.form c.args.format.now in
-    let kinds : List Kind = kinds_of g.B.Bucket.holding c.args.buckets.now.items in
+    let kinds : List BucketKind = kinds_of g.B.Bucket.holding c.args.buckets.now.items in
     let area : List ℕ = c.args.area.now in
     let rec : List ℕ = c.args.room.now.record.items in
     let good : List Bool = c.args.good.now.items in
@@ -261,15 +261,15 @@ returns-in_err-good-clause-kept g c =
     let inside : used < length good = omega (arith, c.requires.inside, c.requires.marks) in
     let to : Device = g.F.Flash.device c.settle_copy.new.flash in
     let s = c.settle_copy.ensures in
-    let others : LeavesOthers kinds used mid to = subst (λ (ks : List Kind). LeavesOthers ks used mid to) r.kinds s.others in
-    let stuck : IsStuckAt form kinds area c.in_err-good.field-0.0 mid to = subst (λ (ks : List Kind). IsStuckAt form ks area c.in_err-good.field-0.0 mid to) r.kinds c.in_err-good.ensures.stuck in
+    let others : LeavesOthers kinds used mid to = subst (λ (ks : List BucketKind). LeavesOthers ks used mid to) r.kinds s.others in
+    let stuck : IsStuckAt form kinds area c.in_err-good.field-0.0 mid to = subst (λ (ks : List BucketKind). IsStuckAt form ks area c.in_err-good.field-0.0 mid to) r.kinds c.in_err-good.ensures.stuck in
     let whole = stuck_earlier form kinds area c.in_err-good.field-0.0 from mid to r.refreshes.later s.refreshes.later stuck in
     λ quiet. absurd (quiet (stuck_rose form kinds area c.in_err-good.field-0.0 from to whole))
 
 pub returns-in_err-good-clause-exact : goal.returns-in_err-good-clause-exact
 returns-in_err-good-clause-exact g c =
     let form : Form = g.M.Format.form c.args.format.now in
-    let kinds : List Kind = kinds_of g.B.Bucket.holding c.args.buckets.now.items in
+    let kinds : List BucketKind = kinds_of g.B.Bucket.holding c.args.buckets.now.items in
     let area : List ℕ = c.args.area.now in
     let rec : List ℕ = c.args.room.now.record.items in
     let good : List Bool = c.args.good.now.items in
@@ -281,15 +281,15 @@ returns-in_err-good-clause-exact g c =
     let inside : used < length good = omega (arith, c.requires.inside, c.requires.marks) in
     let to : Device = g.F.Flash.device c.settle_copy.new.flash in
     let s = c.settle_copy.ensures in
-    let others : LeavesOthers kinds used mid to = subst (λ (ks : List Kind). LeavesOthers ks used mid to) r.kinds s.others in
-    let stuck : IsStuckAt form kinds area c.in_err-good.field-0.0 mid to = subst (λ (ks : List Kind). IsStuckAt form ks area c.in_err-good.field-0.0 mid to) r.kinds c.in_err-good.ensures.stuck in
+    let others : LeavesOthers kinds used mid to = subst (λ (ks : List BucketKind). LeavesOthers ks used mid to) r.kinds s.others in
+    let stuck : IsStuckAt form kinds area c.in_err-good.field-0.0 mid to = subst (λ (ks : List BucketKind). IsStuckAt form ks area c.in_err-good.field-0.0 mid to) r.kinds c.in_err-good.ensures.stuck in
     let whole = stuck_earlier form kinds area c.in_err-good.field-0.0 from mid to r.refreshes.later s.refreshes.later stuck in
     λ quiet. absurd (quiet (stuck_rose form kinds area c.in_err-good.field-0.0 from to whole))
 
 pub returns-clause-refreshes : goal.returns-clause-refreshes
 returns-clause-refreshes g c =
     let form : Form = g.M.Format.form c.args.format.now in
-    let kinds : List Kind = kinds_of g.B.Bucket.holding c.args.buckets.now.items in
+    let kinds : List BucketKind = kinds_of g.B.Bucket.holding c.args.buckets.now.items in
     let area : List ℕ = c.args.area.now in
     let rec : List ℕ = c.args.room.now.record.items in
     let good : List Bool = c.args.good.now.items in
@@ -301,13 +301,13 @@ returns-clause-refreshes g c =
     let inside : used < length good = omega (arith, c.requires.inside, c.requires.marks) in
     let to : Device = g.F.Flash.device c.settle_copy.new.flash in
     let s = c.settle_copy.ensures in
-    let others : LeavesOthers kinds used mid to = subst (λ (ks : List Kind). LeavesOthers ks used mid to) r.kinds s.others in
-    refreshes_joined form kinds area from mid to r.refreshes (subst (λ (ks : List Kind). Refreshes form ks area mid to) r.kinds s.refreshes)
+    let others : LeavesOthers kinds used mid to = subst (λ (ks : List BucketKind). LeavesOthers ks used mid to) r.kinds s.others in
+    refreshes_joined form kinds area from mid to r.refreshes (subst (λ (ks : List BucketKind). Refreshes form ks area mid to) r.kinds s.refreshes)
 
 pub returns-clause-spares : goal.returns-clause-spares
 returns-clause-spares g c =
     let form : Form = g.M.Format.form c.args.format.now in
-    let kinds : List Kind = kinds_of g.B.Bucket.holding c.args.buckets.now.items in
+    let kinds : List BucketKind = kinds_of g.B.Bucket.holding c.args.buckets.now.items in
     let area : List ℕ = c.args.area.now in
     let rec : List ℕ = c.args.room.now.record.items in
     let good : List Bool = c.args.good.now.items in
@@ -321,7 +321,7 @@ returns-clause-spares g c =
     held_all form kinds area (set good used true) c.refresh.new.good.items from mid r.refreshes.later (first_marked form kinds area good (length c.args.buckets.now.items) used from many c.requires.first) r.kept c.in_ok-refresh.ensures.settled in
     let to : Device = g.F.Flash.device c.settle_copy.new.flash in
     let s = c.settle_copy.ensures in
-    let others : LeavesOthers kinds used mid to = subst (λ (ks : List Kind). LeavesOthers ks used mid to) r.kinds s.others in
+    let others : LeavesOthers kinds used mid to = subst (λ (ks : List BucketKind). LeavesOthers ks used mid to) r.kinds s.others in
     let other = some_of_match c.first_good.result (NoOther c.refresh.new.good.items used) (IsFirstMarked c.refresh.new.good.items used) (subst (λ (xs : List Bool). MatchOption c.first_good.result (NoOther xs used) (IsFirstMarked xs used)) c.deref.ensures.value c.first_good.ensures) (c.is_none.ensures ∙ ap not c.if-is_none.false) in
     never_joined form kinds from mid to r.refreshes.later s.refreshes.later
     (used_spares form kinds area good (length c.args.buckets.now.items) used from mid many c.requires.inside inside c.requires.first r.kept)
@@ -330,7 +330,7 @@ returns-clause-spares g c =
 pub returns-clause-held : goal.returns-clause-held
 returns-clause-held g c =
     let form : Form = g.M.Format.form c.args.format.now in
-    let kinds : List Kind = kinds_of g.B.Bucket.holding c.args.buckets.now.items in
+    let kinds : List BucketKind = kinds_of g.B.Bucket.holding c.args.buckets.now.items in
     let area : List ℕ = c.args.area.now in
     let rec : List ℕ = c.args.room.now.record.items in
     let good : List Bool = c.args.good.now.items in
@@ -344,15 +344,15 @@ returns-clause-held g c =
     held_all form kinds area (set good used true) c.refresh.new.good.items from mid r.refreshes.later (first_marked form kinds area good (length c.args.buckets.now.items) used from many c.requires.first) r.kept c.in_ok-refresh.ensures.settled in
     let to : Device = g.F.Flash.device c.settle_copy.new.flash in
     let s = c.settle_copy.ensures in
-    let others : LeavesOthers kinds used mid to = subst (λ (ks : List Kind). LeavesOthers ks used mid to) r.kinds s.others in
+    let others : LeavesOthers kinds used mid to = subst (λ (ks : List BucketKind). LeavesOthers ks used mid to) r.kinds s.others in
     held_more form kinds area c.refresh.new.good.items used c.in_ok-good.field-0 from mid to
     (omega (arith, inside, r.marks, length-set good used true)) (c.in_ok-refresh.ensures.settled.stays used (get_or-set_same good used true false inside)) r.refreshes.later s.refreshes.later all others
-    (subst (λ (ks : List Kind). IsSettledAt form ks area used mid to c.in_ok-good.field-0) r.kinds c.in_ok-good.ensures.settled)
+    (subst (λ (ks : List BucketKind). IsSettledAt form ks area used mid to c.in_ok-good.field-0) r.kinds c.in_ok-good.ensures.settled)
 
 pub returns-clause-kept : goal.returns-clause-kept
 returns-clause-kept g c =
     let form : Form = g.M.Format.form c.args.format.now in
-    let kinds : List Kind = kinds_of g.B.Bucket.holding c.args.buckets.now.items in
+    let kinds : List BucketKind = kinds_of g.B.Bucket.holding c.args.buckets.now.items in
     let area : List ℕ = c.args.area.now in
     let rec : List ℕ = c.args.room.now.record.items in
     let good : List Bool = c.args.good.now.items in
@@ -364,14 +364,14 @@ returns-clause-kept g c =
     let inside : used < length good = omega (arith, c.requires.inside, c.requires.marks) in
     let to : Device = g.F.Flash.device c.settle_copy.new.flash in
     let s = c.settle_copy.ensures in
-    let others : LeavesOthers kinds used mid to = subst (λ (ks : List Kind). LeavesOthers ks used mid to) r.kinds s.others in
+    let others : LeavesOthers kinds used mid to = subst (λ (ks : List BucketKind). LeavesOthers ks used mid to) r.kinds s.others in
     let stale = sym (get_or_read good used _ inside c.index-fresh.ensures false) ∙ c.if-fresh.false in
     λ quiet. kept_others kinds good used from mid to r.refreshes.later s.refreshes.later stale r.kept others
 
 pub returns-clause-exact : goal.returns-clause-exact
 returns-clause-exact g c =
     let form : Form = g.M.Format.form c.args.format.now in
-    let kinds : List Kind = kinds_of g.B.Bucket.holding c.args.buckets.now.items in
+    let kinds : List BucketKind = kinds_of g.B.Bucket.holding c.args.buckets.now.items in
     let area : List ℕ = c.args.area.now in
     let rec : List ℕ = c.args.room.now.record.items in
     let good : List Bool = c.args.good.now.items in
@@ -383,18 +383,18 @@ returns-clause-exact g c =
     let inside : used < length good = omega (arith, c.requires.inside, c.requires.marks) in
     let to : Device = g.F.Flash.device c.settle_copy.new.flash in
     let s = c.settle_copy.ensures in
-    let others : LeavesOthers kinds used mid to = subst (λ (ks : List Kind). LeavesOthers ks used mid to) r.kinds s.others in
+    let others : LeavesOthers kinds used mid to = subst (λ (ks : List BucketKind). LeavesOthers ks used mid to) r.kinds s.others in
     let stale = sym (get_or_read good used _ inside c.index-fresh.ensures false) ∙ c.if-fresh.false in
     λ quiet.
     written_others kinds rec good used from mid to r.refreshes.later s.refreshes.later r.kept (r.exact (undisturbed_first from mid to s.refreshes.later quiet)) others
-    (subst (λ (ks : List Kind). IsWrittenAt ks used rec mid to) r.kinds
+    (subst (λ (ks : List BucketKind). IsWrittenAt ks used rec mid to) r.kinds
     (subst (λ (xs : List ℕ). IsWrittenAt (kinds_of g.B.Bucket.holding c.refresh.new.buckets.items) used xs mid to) r.«record» (s.exact (undisturbed_second from mid to r.refreshes.later quiet))))
     inside (omega (arith, c.requires.inside, many)) stale
 
 pub returns-then-fresh-clause-some : goal.returns-then-fresh-clause-some
 returns-then-fresh-clause-some g c =
     let form : Form = g.M.Format.form c.args.format.now in
-    let kinds : List Kind = kinds_of g.B.Bucket.holding c.args.buckets.now.items in
+    let kinds : List BucketKind = kinds_of g.B.Bucket.holding c.args.buckets.now.items in
     let area : List ℕ = c.args.area.now in
     let rec : List ℕ = c.args.room.now.record.items in
     let good : List Bool = c.args.good.now.items in
@@ -413,7 +413,7 @@ returns-then-fresh-clause-some g c =
 pub returns-then-is_none-clause-some : goal.returns-then-is_none-clause-some
 returns-then-is_none-clause-some g c =
     let form : Form = g.M.Format.form c.args.format.now in
-    let kinds : List Kind = kinds_of g.B.Bucket.holding c.args.buckets.now.items in
+    let kinds : List BucketKind = kinds_of g.B.Bucket.holding c.args.buckets.now.items in
     let area : List ℕ = c.args.area.now in
     let rec : List ℕ = c.args.room.now.record.items in
     let good : List Bool = c.args.good.now.items in
@@ -432,7 +432,7 @@ returns-then-is_none-clause-some g c =
 pub returns-clause-some : goal.returns-clause-some
 returns-clause-some g c =
     let form : Form = g.M.Format.form c.args.format.now in
-    let kinds : List Kind = kinds_of g.B.Bucket.holding c.args.buckets.now.items in
+    let kinds : List BucketKind = kinds_of g.B.Bucket.holding c.args.buckets.now.items in
     let area : List ℕ = c.args.area.now in
     let rec : List ℕ = c.args.room.now.record.items in
     let good : List Bool = c.args.good.now.items in
@@ -462,5 +462,5 @@ returns-clause-placed g c = λ all place. c.in_ok-good.ensures.placed place (λ 
 pub settle_copy-requires-clause-found : goal.settle_copy-requires-clause-found
 settle_copy-requires-clause-found g c =
     let r = c.refresh.ensures in
-    subst (λ (ks : List Kind). AllFit ks (length c.refresh.new.room.found.items)) (sym r.kinds)
+    subst (λ (ks : List BucketKind). AllFit ks (length c.refresh.new.room.found.items)) (sym r.kinds)
     (subst (λ (n : ℕ). AllFit (kinds_of g.B.Bucket.holding c.args.buckets.now.items) n) (sym r.found) c.requires.found)

@@ -1,12 +1,12 @@
 use Rattle.std.proofs.Common.{◌≡◌, ◌∙◌, ℕ, List, length, ap, sym, arith}
 use Rattle.std.proofs.lemmas.List.{length-map}
 use Rattle.bb_base.specs.Form.{Form}
-use Rattle.bb_flash.proofs.Moments.{later_joined}
 use Rattle.bb_flash.specs.Device.{Device}
-use Rattle.bb_bucket.specs.Kind.{Kind}
+use Rattle.bb_bucket.specs.Kind.{BucketKind}
+use Rattle.bb_bucket.proofs.Quiet.{keeps_of_quiet, quiet_joined}
 use Rattle.bb_copies.specs.Buckets.{kinds_of}
 use Rattle.bb_copies.proofs.Ends.{whole_slice}
-use Rattle.bb_copies.proofs.Finding.{keeps_joined, reading_from}
+use Rattle.bb_copies.proofs.Finding.{reading_from}
 use Rattle.bb_copies.proofs.Loads.{look_found, look_none, none_more}
 use Rattle.bb_copies.proofs.look.find_first.Goals as goal
 
@@ -15,7 +15,7 @@ loop-copy-preserved g c =
     let i = c.loop-copy.invariant in
     let r = c.in_ok-passed.ensures in
     let form : Form = g.M.Format.form c.args.format.now in
-    let kinds : List Kind = kinds_of g.B.Bucket.holding c.args.buckets.now.items in
+    let kinds : List BucketKind = kinds_of g.B.Bucket.holding c.args.buckets.now.items in
     let from : Device = g.F.Flash.device c.args.flash.now in
     let mid : Device = g.F.Flash.device c.loop-copy.flash in
     let copy : ℕ = c.loop-copy.copy in
@@ -23,11 +23,8 @@ loop-copy-preserved g c =
     record {
       none = λ image e.
           none_more form from.geometry.page kinds out copy c.in_ok-passed.passed image (sym c.is_some.ensures ∙ c.if-is_some.false) (i.none image e)
-          (reading_from form kinds (kinds_of g.B.Bucket.holding c.loop-copy.buckets.items) copy image out c.in_ok-passed.passed from mid i.keeps i.kinds (r.done image (i.keeps.content ∙ e)));
-      keeps = keeps_joined from mid _ i.keeps r.keeps;
-      told = r.told ∙ i.told;
-      later = later_joined from mid _ i.later r.later;
-      whole = r.whole;
+          (reading_from form kinds (kinds_of g.B.Bucket.holding c.loop-copy.buckets.items) copy image out c.in_ok-passed.passed from mid (keeps_of_quiet _ _ i.quiet) i.kinds (r.done image ((keeps_of_quiet _ _ i.quiet).content ∙ e)));
+      quiet = quiet_joined from mid _ i.quiet r.quiet;
       kinds = r.kinds ∙ i.kinds;
       agrees = r.agrees;
       placed = λ all place. r.placed place (λ other. i.placed all place);
@@ -42,18 +39,18 @@ returns-then-is_some-clause-gives g c =
     let i = c.loop-copy.invariant in
     let r = c.in_ok-passed.ensures in
     let form : Form = g.M.Format.form c.args.format.now in
-    let kinds : List Kind = kinds_of g.B.Bucket.holding c.args.buckets.now.items in
+    let kinds : List BucketKind = kinds_of g.B.Bucket.holding c.args.buckets.now.items in
     let from : Device = g.F.Flash.device c.args.flash.now in
     let mid : Device = g.F.Flash.device c.loop-copy.flash in
     let copy : ℕ = c.loop-copy.copy in
     let out : List ℕ = c.read_at.new.area in
     let many : length kinds ≡ length c.args.buckets.now.items = length-map c.args.buckets.now.items _ in
     look_found form kinds out copy c.in_ok-passed.passed from (omega (arith, many, c.len-copy-end.ensures, c.args.buckets.now.ok)) (sym c.is_some.ensures ∙ c.if-is_some.true) i.none
-    (λ image e. reading_from form kinds (kinds_of g.B.Bucket.holding c.loop-copy.buckets.items) copy image out c.in_ok-passed.passed from mid i.keeps i.kinds (r.done image (i.keeps.content ∙ e)))
+    (λ image e. reading_from form kinds (kinds_of g.B.Bucket.holding c.loop-copy.buckets.items) copy image out c.in_ok-passed.passed from mid (keeps_of_quiet _ _ i.quiet) i.kinds (r.done image ((keeps_of_quiet _ _ i.quiet).content ∙ e)))
 
 pub returns-clause-gives : goal.returns-clause-gives
 returns-clause-gives g c =
-    let kinds : List Kind = kinds_of g.B.Bucket.holding c.args.buckets.now.items in
+    let kinds : List BucketKind = kinds_of g.B.Bucket.holding c.args.buckets.now.items in
     let many : length kinds ≡ length c.args.buckets.now.items = length-map c.args.buckets.now.items _ in
     look_none (g.M.Format.form c.args.format.now) kinds c.loop-copy.copy (g.F.Flash.device c.args.flash.now) (omega (arith, many, c.len-copy-end.ensures, c.args.buckets.now.ok)) c.loop-copy.invariant.none
 

@@ -1,8 +1,7 @@
 use Rattle.std.proofs.Common.{◌≡◌, ◌<◌, None, length}
 use Rattle.std.specs.Option.{ForSome}
-use Rattle.bb_flash.specs.Cuts.{IsLater}
-use Rattle.bb_flash.specs.Device.{IsDevice, ReadKeeps, content}
-use Rattle.bb_bucket.specs.Calls.{told_but_reads}
+use Rattle.bb_flash.specs.Device.{content}
+use Rattle.bb_bucket.specs.Calls.{IsQuiet}
 use Rattle.bb_copies.specs.Buckets.{AllAgree, EachCopy, kinds_of}
 use Rattle.bb_copies.specs.Passing.{passing_of}
 use Rattle.bb_copies.specs.Placing.{AllPlaced}
@@ -17,10 +16,7 @@ invariant-loop-copy g l =
       none :
           ForSome (content from)
           (λ image. EachCopy (kinds_of g.B.Bucket.holding l.fn.buckets.items) (λ place kind. place < l.copy → passing_of form from.geometry.page kind image ≡ None));
-      keeps : ReadKeeps from now;
-      told : told_but_reads now ≡ told_but_reads from;
-      later : IsLater from now;
-      whole : IsDevice now;
+      quiet : IsQuiet from now;
       kinds : kinds_of g.B.Bucket.holding l.buckets.items ≡ kinds_of g.B.Bucket.holding l.fn.buckets.items;
       agrees : AllAgree g.B.Bucket.holding now l.buckets.items;
       placed : AllPlaced g.B.Bucket.holding l.fn.buckets.items → AllPlaced g.B.Bucket.holding l.buckets.items;

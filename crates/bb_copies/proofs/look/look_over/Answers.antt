@@ -1,13 +1,13 @@
 use Rattle.std.proofs.Common.{◌≡◌, ◌∙◌, ℕ, ◌<◌, Bool, List, length, set, length-set, ap, sym, subst, arith}
 use Rattle.std.proofs.lemmas.List.{length-map}
 use Rattle.bb_base.specs.Form.{Form}
-use Rattle.bb_flash.proofs.Moments.{later_joined}
 use Rattle.bb_flash.specs.Device.{Device}
-use Rattle.bb_bucket.specs.Kind.{Kind}
+use Rattle.bb_bucket.specs.Kind.{BucketKind}
+use Rattle.bb_bucket.proofs.Quiet.{keeps_of_quiet, quiet_joined}
 use Rattle.bb_copies.specs.Buckets.{kinds_of}
 use Rattle.bb_copies.specs.Looking.{FindsBelow, area_by, good_by}
 use Rattle.bb_copies.proofs.Ends.{whole_slice}
-use Rattle.bb_copies.proofs.Finding.{finds_step, fits_step, inside_step, keeps_joined, reading_from}
+use Rattle.bb_copies.proofs.Finding.{finds_step, fits_step, inside_step, reading_from}
 use Rattle.bb_copies.proofs.Placed.{placed_all}
 use Rattle.bb_copies.proofs.look.look_over.Goals as goal
 
@@ -17,7 +17,7 @@ loop-copy-preserved g c =
     let r = c.in_ok-passed.ensures in
     let m = c.compare-first.ensures in
     let form : Form = g.M.Format.form c.args.format.now in
-    let kinds : List Kind = kinds_of g.B.Bucket.holding c.args.buckets.now.items in
+    let kinds : List BucketKind = kinds_of g.B.Bucket.holding c.args.buckets.now.items in
     let from : Device = g.F.Flash.device c.args.flash.now in
     let mid : Device = g.F.Flash.device c.loop-copy.flash in
     let copy : ℕ = c.loop-copy.copy in
@@ -32,13 +32,10 @@ loop-copy-preserved g c =
       finds = λ image e.
           finds_step form from.geometry.page kinds copy out c.loop-copy.area c.compare-first.new.area good c.compare-first.result.1 c.in_ok-passed.passed image c.loop-copy.used c.compare-first.result.0
           m.used is_area is_good inside (i.finds image e)
-          (reading_from form kinds (kinds_of g.B.Bucket.holding c.loop-copy.buckets.items) copy image out c.in_ok-passed.passed from mid i.keeps i.kinds (r.done image (i.keeps.content ∙ e)));
+          (reading_from form kinds (kinds_of g.B.Bucket.holding c.loop-copy.buckets.items) copy image out c.in_ok-passed.passed from mid (keeps_of_quiet _ _ i.quiet) i.kinds (r.done image ((keeps_of_quiet _ _ i.quiet).content ∙ e)));
       inside = inside_step copy c.in_ok-passed.passed c.loop-copy.used c.compare-first.result.0 m.used i.inside;
       fits = fits_step form copy out c.loop-copy.area c.compare-first.new.area c.in_ok-passed.passed c.loop-copy.used c.compare-first.result.0 m.used is_area i.fits r.fits;
-      keeps = keeps_joined from mid _ i.keeps r.keeps;
-      told = r.told ∙ i.told;
-      later = later_joined from mid _ i.later r.later;
-      whole = r.whole;
+      quiet = quiet_joined from mid _ i.quiet r.quiet;
       kinds = r.kinds ∙ i.kinds;
       agrees = r.agrees;
       placed = λ place low. r.placed place (λ other. i.placed place (omega arith));
@@ -54,7 +51,7 @@ returns-clause-done g c =
     let i = c.loop-copy.invariant in
     let form : Form = g.M.Format.form c.args.format.now in
     let from : Device = g.F.Flash.device c.args.flash.now in
-    let kinds : List Kind = kinds_of g.B.Bucket.holding c.args.buckets.now.items in
+    let kinds : List BucketKind = kinds_of g.B.Bucket.holding c.args.buckets.now.items in
     let all : c.loop-copy.copy ≡ length c.args.buckets.now.items = omega (arith, c.len-copy-end.ensures, c.args.buckets.now.ok) in
     λ image e. subst (λ (n : ℕ). FindsBelow form from.geometry.page kinds n c.loop-copy.area c.loop-copy.good.items image c.loop-copy.used) all (i.finds image e)
 

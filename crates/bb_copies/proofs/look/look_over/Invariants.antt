@@ -1,8 +1,7 @@
 use Rattle.std.proofs.Common.{◌≡◌, ℕ, ◌<◌, length, IfSome, IsTrue}
 use Rattle.std.specs.Option.{ForSome}
-use Rattle.bb_flash.specs.Cuts.{IsLater}
-use Rattle.bb_flash.specs.Device.{IsDevice, ReadKeeps, content}
-use Rattle.bb_bucket.specs.Calls.{told_but_reads}
+use Rattle.bb_flash.specs.Device.{content}
+use Rattle.bb_bucket.specs.Calls.{IsQuiet}
 use Rattle.bb_copies.specs.Buckets.{AllAgree, kinds_of}
 use Rattle.bb_copies.specs.Looking.{FindsBelow}
 use Rattle.bb_copies.specs.Placing.{IsPlacedAt}
@@ -18,10 +17,7 @@ invariant-loop-copy g l =
           ForSome (content from) (λ image. FindsBelow form from.geometry.page (kinds_of g.B.Bucket.holding l.fn.buckets.items) l.copy l.area l.good.items image l.used);
       inside : IfSome l.used (λ copy. copy < l.copy);
       fits : IfSome l.used (λ _. IsTrue (form.fits l.area));
-      keeps : ReadKeeps from now;
-      told : told_but_reads now ≡ told_but_reads from;
-      later : IsLater from now;
-      whole : IsDevice now;
+      quiet : IsQuiet from now;
       kinds : kinds_of g.B.Bucket.holding l.buckets.items ≡ kinds_of g.B.Bucket.holding l.fn.buckets.items;
       agrees : AllAgree g.B.Bucket.holding now l.buckets.items;
       placed : (copy : ℕ) → copy < l.copy → IsPlacedAt g.B.Bucket.holding l.buckets.items copy;

@@ -3,7 +3,8 @@ use Rattle.std.specs.Option.{ForSome}
 use Rattle.std.proofs.lemmas.Option.{slice_get_read}
 use Rattle.bb_base.specs.Form.{Form}
 use Rattle.bb_flash.specs.Device.{Device, content}
-use Rattle.bb_bucket.specs.Kind.{Kind}
+use Rattle.bb_bucket.specs.Kind.{BucketKind}
+use Rattle.bb_bucket.proofs.Quiet.{keeps_of_quiet}
 use Rattle.bb_copies.specs.declared.read.Passed.{Passed}
 use Rattle.bb_copies.specs.Buckets.{kinds_of}
 use Rattle.bb_copies.specs.Looking.{IsReadAt}
@@ -34,8 +35,8 @@ pub returns-clause-done : goal.returns-clause-done
 returns-clause-done g c =
     let form : Form = g.M.Format.form c.args.format.now in
     let from : Device = g.F.Flash.device c.args.flash.now in
-    let kinds : List Kind = kinds_of g.B.Bucket.holding c.args.buckets.now.items in
-    let kind : Kind = (g.B.Bucket.holding c.index_mut.result.now).kind in
+    let kinds : List BucketKind = kinds_of g.B.Bucket.holding c.args.buckets.now.items in
+    let kind : BucketKind = (g.B.Bucket.holding c.index_mut.result.now).kind in
     let out : List ℕ = c.read_copy.new.area in
     let there = slice_get_read c.args.buckets.now.items (length c.args.buckets.now.items) c.args.copy _ refl c.requires.inside c.index_mut.ensures.value in
     let here = kind_at g.B.Bucket.holding c.args.buckets.now.items c.args.copy _ there in
@@ -53,10 +54,10 @@ pub returns-clause-agrees : goal.returns-clause-agrees
 returns-clause-agrees g c =
     let from : Device = g.F.Flash.device c.args.flash.now in
     let to : Device = g.F.Flash.device c.read_copy.new.flash in
-    read_agrees g.B.Bucket.holding c.args.buckets.now.items c.args.copy _ from to c.read_copy.ensures.keeps c.requires.agreed c.read_copy.ensures.agrees
+    read_agrees g.B.Bucket.holding c.args.buckets.now.items c.args.copy _ from to (keeps_of_quiet _ _ c.read_copy.ensures.quiet) c.requires.agreed c.read_copy.ensures.agrees
 
 pub returns-clause-placed : goal.returns-clause-placed
 returns-clause-placed g c =
     let new : g.row.B.Denot = c.read_copy.new.bucket in
-    on_ok c.read_copy.result (IsTrue (g.B.Bucket.holding new).placed) (PlacesCopy g.B.Bucket.holding c.args.copy c.args.buckets.now.items (set c.args.buckets.now.items c.args.copy new))
+    on_ok c.read_copy.result (IsTrue (g.B.Bucket.holding new).knows_place) (PlacesCopy g.B.Bucket.holding c.args.copy c.args.buckets.now.items (set c.args.buckets.now.items c.args.copy new))
     (set_places g.B.Bucket.holding c.args.buckets.now.items c.args.copy new) c.read_copy.ensures.placed

@@ -2,7 +2,7 @@ use Rattle.std.proofs.Common.{◌≡◌, ◌∙◌, ℕ, ◌+◌, ◌-◌, Bool,
 use Rattle.std.proofs.lemmas.List.{length-map}
 use Rattle.bb_base.specs.Form.{Form}
 use Rattle.bb_flash.specs.Device.{Device}
-use Rattle.bb_bucket.specs.Kind.{Kind}
+use Rattle.bb_bucket.specs.Kind.{BucketKind}
 use Rattle.bb_copies.specs.Buckets.{kinds_of}
 use Rattle.bb_copies.specs.Refreshing.{IsFirstMarked, NoOther}
 use Rattle.bb_copies.proofs.Held.{none_of_match}
@@ -12,7 +12,7 @@ use Rattle.bb_copies.proofs.overwrite.save_first.Goals as goal
 pub returns-then-is_none-clause-fails : goal.returns-then-is_none-clause-fails
 returns-then-is_none-clause-fails g c =
     let form : Form = g.M.Format.form c.args.format.now in
-    let kinds : List Kind = kinds_of g.B.Bucket.holding c.args.buckets.now.items in
+    let kinds : List BucketKind = kinds_of g.B.Bucket.holding c.args.buckets.now.items in
     let area : List ℕ = c.args.area.now in
     let rec : List ℕ = c.args.room.now.record.items in
     let marked : List Bool = c.args.good.now.items in
@@ -32,7 +32,7 @@ returns-then-is_none-clause-fails g c =
 pub returns-clause-exact : goal.returns-clause-exact
 returns-clause-exact g c =
     let form : Form = g.M.Format.form c.args.format.now in
-    let kinds : List Kind = kinds_of g.B.Bucket.holding c.args.buckets.now.items in
+    let kinds : List BucketKind = kinds_of g.B.Bucket.holding c.args.buckets.now.items in
     let area : List ℕ = c.args.area.now in
     let rec : List ℕ = c.args.room.now.record.items in
     let marked : List Bool = c.args.good.now.items in
@@ -45,7 +45,7 @@ returns-clause-exact g c =
 pub returns-clause-erases : goal.returns-clause-erases
 returns-clause-erases g c =
     let form : Form = g.M.Format.form c.args.format.now in
-    let kinds : List Kind = kinds_of g.B.Bucket.holding c.args.buckets.now.items in
+    let kinds : List BucketKind = kinds_of g.B.Bucket.holding c.args.buckets.now.items in
     let area : List ℕ = c.args.area.now in
     let rec : List ℕ = c.args.room.now.record.items in
     let marked : List Bool = c.args.good.now.items in

@@ -3,7 +3,7 @@ use Rattle.std.proofs.lemmas.List.{length-map}
 use Rattle.std.proofs.lemmas.Result.{err_from_is_err_and}
 use Rattle.bb_base.specs.Form.{Form}
 use Rattle.bb_flash.specs.Device.{Device}
-use Rattle.bb_bucket.specs.Kind.{Kind}
+use Rattle.bb_bucket.specs.Kind.{BucketKind}
 use Rattle.bb_copies.specs.Buckets.{AllFit, kinds_of}
 use Rattle.bb_copies.specs.Refreshing.{IsFirstMarked, IsSettledAt, IsStuckAt, IsWrittenAt, LeavesOthers, NoOther, Refreshes}
 use Rattle.bb_copies.specs.Saving.{IsWriteFault}
@@ -16,7 +16,7 @@ use Rattle.bb_copies.proofs.overwrite.save_over.Goals as goal
 pub returns-in_err-refresh-clause-spares : goal.returns-in_err-refresh-clause-spares
 returns-in_err-refresh-clause-spares g c =
     let form : Form = g.M.Format.form c.args.format.now in
-    let kinds : List Kind = kinds_of g.B.Bucket.holding c.args.buckets.now.items in
+    let kinds : List BucketKind = kinds_of g.B.Bucket.holding c.args.buckets.now.items in
     let area : List ℕ = c.args.area.now in
     let rec : List ℕ = c.args.room.now.record.items in
     let marked : List Bool = c.args.good.now.items in
@@ -32,7 +32,7 @@ returns-in_err-refresh-clause-spares g c =
 pub returns-then-is_none-clause-spares : goal.returns-then-is_none-clause-spares
 returns-then-is_none-clause-spares g c =
     let form : Form = g.M.Format.form c.args.format.now in
-    let kinds : List Kind = kinds_of g.B.Bucket.holding c.args.buckets.now.items in
+    let kinds : List BucketKind = kinds_of g.B.Bucket.holding c.args.buckets.now.items in
     let area : List ℕ = c.args.area.now in
     let rec : List ℕ = c.args.room.now.record.items in
     let marked : List Bool = c.args.good.now.items in
@@ -48,7 +48,7 @@ returns-then-is_none-clause-spares g c =
 pub returns-then-is_none-clause-fails : goal.returns-then-is_none-clause-fails
 returns-then-is_none-clause-fails g c =
     let form : Form = g.M.Format.form c.args.format.now in
-    let kinds : List Kind = kinds_of g.B.Bucket.holding c.args.buckets.now.items in
+    let kinds : List BucketKind = kinds_of g.B.Bucket.holding c.args.buckets.now.items in
     let area : List ℕ = c.args.area.now in
     let rec : List ℕ = c.args.room.now.record.items in
     let marked : List Bool = c.args.good.now.items in
@@ -69,7 +69,7 @@ returns-then-is_none-clause-fails g c =
 pub returns-in_err-good-clause-refreshes : goal.returns-in_err-good-clause-refreshes
 returns-in_err-good-clause-refreshes g c =
     let form : Form = g.M.Format.form c.args.format.now in
-    let kinds : List Kind = kinds_of g.B.Bucket.holding c.args.buckets.now.items in
+    let kinds : List BucketKind = kinds_of g.B.Bucket.holding c.args.buckets.now.items in
     let area : List ℕ = c.args.area.now in
     let rec : List ℕ = c.args.room.now.record.items in
     let marked : List Bool = c.args.good.now.items in
@@ -86,14 +86,14 @@ returns-in_err-good-clause-refreshes g c =
     let found = subst (λ (xs : List Bool). MatchOption c.first_good.result (NoOther xs used) (IsFirstMarked xs used)) c.deref.ensures.value c.first_good.ensures in
     let to : Device = g.F.Flash.device c.settle_copy.new.flash in
     let s = c.settle_copy.ensures in
-    let others : LeavesOthers kinds used mid to = subst (λ (ks : List Kind). LeavesOthers ks used mid to) r.kinds s.others in
+    let others : LeavesOthers kinds used mid to = subst (λ (ks : List BucketKind). LeavesOthers ks used mid to) r.kinds s.others in
     let other = some_of_match c.first_good.result (NoOther good used) (IsFirstMarked good used) found (c.is_none.ensures ∙ ap not c.if-is_none.false) in
-    refreshes_joined form kinds area from mid to r.refreshes (subst (λ (ks : List Kind). Refreshes form ks area mid to) r.kinds s.refreshes)
+    refreshes_joined form kinds area from mid to r.refreshes (subst (λ (ks : List BucketKind). Refreshes form ks area mid to) r.kinds s.refreshes)
 
 pub returns-in_err-good-clause-spares : goal.returns-in_err-good-clause-spares
 returns-in_err-good-clause-spares g c =
     let form : Form = g.M.Format.form c.args.format.now in
-    let kinds : List Kind = kinds_of g.B.Bucket.holding c.args.buckets.now.items in
+    let kinds : List BucketKind = kinds_of g.B.Bucket.holding c.args.buckets.now.items in
     let area : List ℕ = c.args.area.now in
     let rec : List ℕ = c.args.room.now.record.items in
     let marked : List Bool = c.args.good.now.items in
@@ -110,7 +110,7 @@ returns-in_err-good-clause-spares g c =
     let found = subst (λ (xs : List Bool). MatchOption c.first_good.result (NoOther xs used) (IsFirstMarked xs used)) c.deref.ensures.value c.first_good.ensures in
     let to : Device = g.F.Flash.device c.settle_copy.new.flash in
     let s = c.settle_copy.ensures in
-    let others : LeavesOthers kinds used mid to = subst (λ (ks : List Kind). LeavesOthers ks used mid to) r.kinds s.others in
+    let others : LeavesOthers kinds used mid to = subst (λ (ks : List BucketKind). LeavesOthers ks used mid to) r.kinds s.others in
     let other = some_of_match c.first_good.result (NoOther good used) (IsFirstMarked good used) found (c.is_none.ensures ∙ ap not c.if-is_none.false) in
     spares_joined form kinds (Some used) from mid to r.refreshes.later s.refreshes.later
     (over_spares form kinds marked used from mid inside within r.kept)
@@ -119,7 +119,7 @@ returns-in_err-good-clause-spares g c =
 pub returns-in_err-good-clause-fails : goal.returns-in_err-good-clause-fails
 returns-in_err-good-clause-fails g c =
     let form : Form = g.M.Format.form c.args.format.now in
-    let kinds : List Kind = kinds_of g.B.Bucket.holding c.args.buckets.now.items in
+    let kinds : List BucketKind = kinds_of g.B.Bucket.holding c.args.buckets.now.items in
     let area : List ℕ = c.args.area.now in
     let rec : List ℕ = c.args.room.now.record.items in
     let marked : List Bool = c.args.good.now.items in
@@ -136,9 +136,9 @@ returns-in_err-good-clause-fails g c =
     let found = subst (λ (xs : List Bool). MatchOption c.first_good.result (NoOther xs used) (IsFirstMarked xs used)) c.deref.ensures.value c.first_good.ensures in
     let to : Device = g.F.Flash.device c.settle_copy.new.flash in
     let s = c.settle_copy.ensures in
-    let others : LeavesOthers kinds used mid to = subst (λ (ks : List Kind). LeavesOthers ks used mid to) r.kinds s.others in
+    let others : LeavesOthers kinds used mid to = subst (λ (ks : List BucketKind). LeavesOthers ks used mid to) r.kinds s.others in
     let other = some_of_match c.first_good.result (NoOther good used) (IsFirstMarked good used) found (c.is_none.ensures ∙ ap not c.if-is_none.false) in
-    let stuck : IsStuckAt form kinds area c.in_err-good.field-0.0 mid to = subst (λ (ks : List Kind). IsStuckAt form ks area c.in_err-good.field-0.0 mid to) r.kinds c.in_err-good.ensures.stuck in
+    let stuck : IsStuckAt form kinds area c.in_err-good.field-0.0 mid to = subst (λ (ks : List BucketKind). IsStuckAt form ks area c.in_err-good.field-0.0 mid to) r.kinds c.in_err-good.ensures.stuck in
     let whole = stuck_earlier form kinds area c.in_err-good.field-0.0 from mid to r.refreshes.later s.refreshes.later stuck in
     let p = err_from_is_err_and c.from_residual-in_err-good.result c.from_residual-in_err-good.ensures.1 in
     subst (λ r. IfErr r (IsWriteFault form kinds (Some used) area from to)) (sym (p.1 ∙ ap (λ e. Err e) p.2)) (inl whole)
@@ -146,7 +146,7 @@ returns-in_err-good-clause-fails g c =
 pub returns-in_err-good-clause-inside : goal.returns-in_err-good-clause-inside
 returns-in_err-good-clause-inside g c =
     let form : Form = g.M.Format.form c.args.format.now in
-    let kinds : List Kind = kinds_of g.B.Bucket.holding c.args.buckets.now.items in
+    let kinds : List BucketKind = kinds_of g.B.Bucket.holding c.args.buckets.now.items in
     let area : List ℕ = c.args.area.now in
     let rec : List ℕ = c.args.room.now.record.items in
     let marked : List Bool = c.args.good.now.items in
@@ -163,16 +163,16 @@ returns-in_err-good-clause-inside g c =
     let found = subst (λ (xs : List Bool). MatchOption c.first_good.result (NoOther xs used) (IsFirstMarked xs used)) c.deref.ensures.value c.first_good.ensures in
     let to : Device = g.F.Flash.device c.settle_copy.new.flash in
     let s = c.settle_copy.ensures in
-    let others : LeavesOthers kinds used mid to = subst (λ (ks : List Kind). LeavesOthers ks used mid to) r.kinds s.others in
+    let others : LeavesOthers kinds used mid to = subst (λ (ks : List BucketKind). LeavesOthers ks used mid to) r.kinds s.others in
     let other = some_of_match c.first_good.result (NoOther good used) (IsFirstMarked good used) found (c.is_none.ensures ∙ ap not c.if-is_none.false) in
-    let stuck : IsStuckAt form kinds area c.in_err-good.field-0.0 mid to = subst (λ (ks : List Kind). IsStuckAt form ks area c.in_err-good.field-0.0 mid to) r.kinds c.in_err-good.ensures.stuck in
+    let stuck : IsStuckAt form kinds area c.in_err-good.field-0.0 mid to = subst (λ (ks : List BucketKind). IsStuckAt form ks area c.in_err-good.field-0.0 mid to) r.kinds c.in_err-good.ensures.stuck in
     let p = err_from_is_err_and c.from_residual-in_err-good.result c.from_residual-in_err-good.ensures.1 in
     subst (λ r. IfErr r (λ copy. copy < length c.args.buckets.now.items)) (sym (p.1 ∙ ap (λ e. Err e) p.2)) (omega (arith, stuck.inside, many))
 
 pub returns-clause-refreshes : goal.returns-clause-refreshes
 returns-clause-refreshes g c =
     let form : Form = g.M.Format.form c.args.format.now in
-    let kinds : List Kind = kinds_of g.B.Bucket.holding c.args.buckets.now.items in
+    let kinds : List BucketKind = kinds_of g.B.Bucket.holding c.args.buckets.now.items in
     let area : List ℕ = c.args.area.now in
     let rec : List ℕ = c.args.room.now.record.items in
     let marked : List Bool = c.args.good.now.items in
@@ -189,14 +189,14 @@ returns-clause-refreshes g c =
     let found = subst (λ (xs : List Bool). MatchOption c.first_good.result (NoOther xs used) (IsFirstMarked xs used)) c.deref.ensures.value c.first_good.ensures in
     let to : Device = g.F.Flash.device c.settle_copy.new.flash in
     let s = c.settle_copy.ensures in
-    let others : LeavesOthers kinds used mid to = subst (λ (ks : List Kind). LeavesOthers ks used mid to) r.kinds s.others in
+    let others : LeavesOthers kinds used mid to = subst (λ (ks : List BucketKind). LeavesOthers ks used mid to) r.kinds s.others in
     let other = some_of_match c.first_good.result (NoOther good used) (IsFirstMarked good used) found (c.is_none.ensures ∙ ap not c.if-is_none.false) in
-    refreshes_joined form kinds area from mid to r.refreshes (subst (λ (ks : List Kind). Refreshes form ks area mid to) r.kinds s.refreshes)
+    refreshes_joined form kinds area from mid to r.refreshes (subst (λ (ks : List BucketKind). Refreshes form ks area mid to) r.kinds s.refreshes)
 
 pub returns-clause-spares : goal.returns-clause-spares
 returns-clause-spares g c =
     let form : Form = g.M.Format.form c.args.format.now in
-    let kinds : List Kind = kinds_of g.B.Bucket.holding c.args.buckets.now.items in
+    let kinds : List BucketKind = kinds_of g.B.Bucket.holding c.args.buckets.now.items in
     let area : List ℕ = c.args.area.now in
     let rec : List ℕ = c.args.room.now.record.items in
     let marked : List Bool = c.args.good.now.items in
@@ -213,7 +213,7 @@ returns-clause-spares g c =
     let found = subst (λ (xs : List Bool). MatchOption c.first_good.result (NoOther xs used) (IsFirstMarked xs used)) c.deref.ensures.value c.first_good.ensures in
     let to : Device = g.F.Flash.device c.settle_copy.new.flash in
     let s = c.settle_copy.ensures in
-    let others : LeavesOthers kinds used mid to = subst (λ (ks : List Kind). LeavesOthers ks used mid to) r.kinds s.others in
+    let others : LeavesOthers kinds used mid to = subst (λ (ks : List BucketKind). LeavesOthers ks used mid to) r.kinds s.others in
     let other = some_of_match c.first_good.result (NoOther good used) (IsFirstMarked good used) found (c.is_none.ensures ∙ ap not c.if-is_none.false) in
     spares_joined form kinds (Some used) from mid to r.refreshes.later s.refreshes.later
     (over_spares form kinds marked used from mid inside within r.kept)
@@ -222,7 +222,7 @@ returns-clause-spares g c =
 pub returns-clause-held : goal.returns-clause-held
 returns-clause-held g c =
     let form : Form = g.M.Format.form c.args.format.now in
-    let kinds : List Kind = kinds_of g.B.Bucket.holding c.args.buckets.now.items in
+    let kinds : List BucketKind = kinds_of g.B.Bucket.holding c.args.buckets.now.items in
     let area : List ℕ = c.args.area.now in
     let rec : List ℕ = c.args.room.now.record.items in
     let marked : List Bool = c.args.good.now.items in
@@ -239,15 +239,15 @@ returns-clause-held g c =
     let found = subst (λ (xs : List Bool). MatchOption c.first_good.result (NoOther xs used) (IsFirstMarked xs used)) c.deref.ensures.value c.first_good.ensures in
     let to : Device = g.F.Flash.device c.settle_copy.new.flash in
     let s = c.settle_copy.ensures in
-    let others : LeavesOthers kinds used mid to = subst (λ (ks : List Kind). LeavesOthers ks used mid to) r.kinds s.others in
+    let others : LeavesOthers kinds used mid to = subst (λ (ks : List BucketKind). LeavesOthers ks used mid to) r.kinds s.others in
     let other = some_of_match c.first_good.result (NoOther good used) (IsFirstMarked good used) found (c.is_none.ensures ∙ ap not c.if-is_none.false) in
     over_held form kinds area marked good used c.in_ok-good.field-0 from mid to c.requires.unmarked (omega (arith, all, inside)) (c.in_ok-refresh.ensures.settled.stays used (get_or-set_same marked used true false within)) r.refreshes.later s.refreshes.later c.in_ok-refresh.ensures.settled others
-    (subst (λ (ks : List Kind). IsSettledAt form ks area used mid to c.in_ok-good.field-0) r.kinds c.in_ok-good.ensures.settled)
+    (subst (λ (ks : List BucketKind). IsSettledAt form ks area used mid to c.in_ok-good.field-0) r.kinds c.in_ok-good.ensures.settled)
 
 pub returns-clause-some : goal.returns-clause-some
 returns-clause-some g c =
     let form : Form = g.M.Format.form c.args.format.now in
-    let kinds : List Kind = kinds_of g.B.Bucket.holding c.args.buckets.now.items in
+    let kinds : List BucketKind = kinds_of g.B.Bucket.holding c.args.buckets.now.items in
     let area : List ℕ = c.args.area.now in
     let rec : List ℕ = c.args.room.now.record.items in
     let marked : List Bool = c.args.good.now.items in
@@ -264,7 +264,7 @@ returns-clause-some g c =
     let found = subst (λ (xs : List Bool). MatchOption c.first_good.result (NoOther xs used) (IsFirstMarked xs used)) c.deref.ensures.value c.first_good.ensures in
     let to : Device = g.F.Flash.device c.settle_copy.new.flash in
     let s = c.settle_copy.ensures in
-    let others : LeavesOthers kinds used mid to = subst (λ (ks : List Kind). LeavesOthers ks used mid to) r.kinds s.others in
+    let others : LeavesOthers kinds used mid to = subst (λ (ks : List BucketKind). LeavesOthers ks used mid to) r.kinds s.others in
     let other = some_of_match c.first_good.result (NoOther good used) (IsFirstMarked good used) found (c.is_none.ensures ∙ ap not c.if-is_none.false) in
     let set_size = length-set good used c.in_ok-good.field-0 in
     let first = other.1 in
@@ -278,7 +278,7 @@ returns-clause-some g c =
 pub returns-clause-exact : goal.returns-clause-exact
 returns-clause-exact g c =
     let form : Form = g.M.Format.form c.args.format.now in
-    let kinds : List Kind = kinds_of g.B.Bucket.holding c.args.buckets.now.items in
+    let kinds : List BucketKind = kinds_of g.B.Bucket.holding c.args.buckets.now.items in
     let area : List ℕ = c.args.area.now in
     let rec : List ℕ = c.args.room.now.record.items in
     let marked : List Bool = c.args.good.now.items in
@@ -295,17 +295,17 @@ returns-clause-exact g c =
     let found = subst (λ (xs : List Bool). MatchOption c.first_good.result (NoOther xs used) (IsFirstMarked xs used)) c.deref.ensures.value c.first_good.ensures in
     let to : Device = g.F.Flash.device c.settle_copy.new.flash in
     let s = c.settle_copy.ensures in
-    let others : LeavesOthers kinds used mid to = subst (λ (ks : List Kind). LeavesOthers ks used mid to) r.kinds s.others in
+    let others : LeavesOthers kinds used mid to = subst (λ (ks : List BucketKind). LeavesOthers ks used mid to) r.kinds s.others in
     let other = some_of_match c.first_good.result (NoOther good used) (IsFirstMarked good used) found (c.is_none.ensures ∙ ap not c.if-is_none.false) in
     λ quiet.
     over_written kinds rec marked used from mid to c.requires.unmarked within r.refreshes.later s.refreshes.later r.kept (r.exact (undisturbed_first from mid to s.refreshes.later quiet)) others
-    (subst (λ (ks : List Kind). IsWrittenAt ks used rec mid to) r.kinds
+    (subst (λ (ks : List BucketKind). IsWrittenAt ks used rec mid to) r.kinds
     (subst (λ (xs : List ℕ). IsWrittenAt (kinds_of g.B.Bucket.holding c.refresh.new.buckets.items) used xs mid to) r.«record» (s.exact (undisturbed_second from mid to r.refreshes.later quiet))))
 
 pub returns-clause-erases : goal.returns-clause-erases
 returns-clause-erases g c =
     let form : Form = g.M.Format.form c.args.format.now in
-    let kinds : List Kind = kinds_of g.B.Bucket.holding c.args.buckets.now.items in
+    let kinds : List BucketKind = kinds_of g.B.Bucket.holding c.args.buckets.now.items in
     let area : List ℕ = c.args.area.now in
     let rec : List ℕ = c.args.room.now.record.items in
     let marked : List Bool = c.args.good.now.items in
@@ -322,11 +322,11 @@ returns-clause-erases g c =
     let found = subst (λ (xs : List Bool). MatchOption c.first_good.result (NoOther xs used) (IsFirstMarked xs used)) c.deref.ensures.value c.first_good.ensures in
     let to : Device = g.F.Flash.device c.settle_copy.new.flash in
     let s = c.settle_copy.ensures in
-    let others : LeavesOthers kinds used mid to = subst (λ (ks : List Kind). LeavesOthers ks used mid to) r.kinds s.others in
+    let others : LeavesOthers kinds used mid to = subst (λ (ks : List BucketKind). LeavesOthers ks used mid to) r.kinds s.others in
     let other = some_of_match c.first_good.result (NoOther good used) (IsFirstMarked good used) found (c.is_none.ensures ∙ ap not c.if-is_none.false) in
     λ quiet.
     over_erases kinds rec marked used from mid to c.requires.unmarked within inside r.refreshes.later s.refreshes.later r.kept (r.exact (undisturbed_first from mid to s.refreshes.later quiet))
-    (subst (λ (ks : List Kind). IsWrittenAt ks used rec mid to) r.kinds
+    (subst (λ (ks : List BucketKind). IsWrittenAt ks used rec mid to) r.kinds
     (subst (λ (xs : List ℕ). IsWrittenAt (kinds_of g.B.Bucket.holding c.refresh.new.buckets.items) used xs mid to) r.«record» (s.exact (undisturbed_second from mid to r.refreshes.later quiet))))
 
 pub returns-in_err-good-clause-reads : goal.returns-in_err-good-clause-reads
@@ -358,5 +358,5 @@ returns-clause-placed g c = λ place.
 pub settle_copy-requires-clause-found : goal.settle_copy-requires-clause-found
 settle_copy-requires-clause-found g c =
     let r = c.refresh.ensures in
-    subst (λ (ks : List Kind). AllFit ks (length c.refresh.new.room.found.items)) (sym r.kinds)
+    subst (λ (ks : List BucketKind). AllFit ks (length c.refresh.new.room.found.items)) (sym r.kinds)
     (subst (λ (n : ℕ). AllFit (kinds_of g.B.Bucket.holding c.args.buckets.now.items) n) (sym r.found) c.requires.found)

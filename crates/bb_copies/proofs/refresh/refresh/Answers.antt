@@ -3,7 +3,7 @@ use Rattle.std.proofs.lemmas.List.{get_or_read, length-map}
 use Rattle.std.proofs.lemmas.Result.{err_from_is_err_and}
 use Rattle.bb_base.specs.Form.{Form}
 use Rattle.bb_flash.specs.Device.{Device}
-use Rattle.bb_bucket.specs.Kind.{Kind}
+use Rattle.bb_bucket.specs.Kind.{BucketKind}
 use Rattle.bb_copies.specs.Buckets.{kinds_of}
 use Rattle.bb_copies.specs.Refreshing.{IsSettledAt, IsStuckAt, IsWrittenAt, LeavesOthers, Refreshes}
 use Rattle.bb_copies.proofs.Below.{RefreshedBelow, all_settled, all_written, keeps_marked, none_refreshed, settled_more, skipped, stuck_earlier, stuck_keeps, stuck_rose}
@@ -49,7 +49,7 @@ returns-in_err-good-clause-refreshes g c =
     let mid : Device = g.F.Flash.device c.loop-copy.flash in
     let to : Device = g.F.Flash.device c.settle_copy.new.flash in
     refreshes_joined form (kinds_of g.B.Bucket.holding c.args.buckets.now.items) c.args.area.now (g.F.Flash.device c.args.flash.now) mid to i.below.refreshes
-    (subst (λ (ks : List Kind). Refreshes form ks c.args.area.now mid to) i.kinds c.settle_copy.ensures.refreshes)
+    (subst (λ (ks : List BucketKind). Refreshes form ks c.args.area.now mid to) i.kinds c.settle_copy.ensures.refreshes)
 
 pub returns-in_err-good-clause-kept : goal.returns-in_err-good-clause-kept
 returns-in_err-good-clause-kept g c =
@@ -59,17 +59,17 @@ returns-in_err-good-clause-kept g c =
     let mid : Device = g.F.Flash.device c.loop-copy.flash in
     let to : Device = g.F.Flash.device c.settle_copy.new.flash in
     stuck_keeps (g.M.Format.form c.args.format.now) (kinds_of g.B.Bucket.holding c.args.buckets.now.items) c.args.area.now c.args.room.now.record.items c.args.good.now.items c.loop-copy.good.items c.loop-copy.copy (g.F.Flash.device c.args.flash.now) mid to unmarked i.below c.settle_copy.ensures.refreshes.later
-    (subst (λ (ks : List Kind). LeavesOthers ks c.loop-copy.copy mid to) i.kinds c.settle_copy.ensures.others)
+    (subst (λ (ks : List BucketKind). LeavesOthers ks c.loop-copy.copy mid to) i.kinds c.settle_copy.ensures.others)
 
 pub returns-in_err-good-clause-stuck : goal.returns-in_err-good-clause-stuck
 returns-in_err-good-clause-stuck g c =
     let i = c.loop-copy.invariant in
     let form : Form = g.M.Format.form c.args.format.now in
-    let kinds : List Kind = kinds_of g.B.Bucket.holding c.args.buckets.now.items in
+    let kinds : List BucketKind = kinds_of g.B.Bucket.holding c.args.buckets.now.items in
     let from : Device = g.F.Flash.device c.args.flash.now in
     let mid : Device = g.F.Flash.device c.loop-copy.flash in
     let to : Device = g.F.Flash.device c.settle_copy.new.flash in
-    let stuck : IsStuckAt form kinds c.args.area.now c.in_err-good.field-0.0 mid to = subst (λ (ks : List Kind). IsStuckAt form ks c.args.area.now c.in_err-good.field-0.0 mid to) i.kinds c.in_err-good.ensures.stuck in
+    let stuck : IsStuckAt form kinds c.args.area.now c.in_err-good.field-0.0 mid to = subst (λ (ks : List BucketKind). IsStuckAt form ks c.args.area.now c.in_err-good.field-0.0 mid to) i.kinds c.in_err-good.ensures.stuck in
     let p = err_from_is_err_and c.from_residual.result c.from_residual.ensures.1 in
     let whole = stuck_earlier form kinds c.args.area.now c.in_err-good.field-0.0 from mid to i.below.refreshes.later c.settle_copy.ensures.refreshes.later stuck in
     subst (λ r. IfErr r (λ copy. IsStuckAt form kinds c.args.area.now copy from to)) (sym (p.1 ∙ ap (λ e. Err e) p.2)) whole
@@ -78,22 +78,22 @@ pub returns-in_err-good-clause-exact : goal.returns-in_err-good-clause-exact
 returns-in_err-good-clause-exact g c = λ quiet.
     let i = c.loop-copy.invariant in
     let form : Form = g.M.Format.form c.args.format.now in
-    let kinds : List Kind = kinds_of g.B.Bucket.holding c.args.buckets.now.items in
+    let kinds : List BucketKind = kinds_of g.B.Bucket.holding c.args.buckets.now.items in
     let mid : Device = g.F.Flash.device c.loop-copy.flash in
     let to : Device = g.F.Flash.device c.settle_copy.new.flash in
     let from : Device = g.F.Flash.device c.args.flash.now in
-    let stuck : IsStuckAt form kinds c.args.area.now c.in_err-good.field-0.0 mid to = subst (λ (ks : List Kind). IsStuckAt form ks c.args.area.now c.in_err-good.field-0.0 mid to) i.kinds c.in_err-good.ensures.stuck in
+    let stuck : IsStuckAt form kinds c.args.area.now c.in_err-good.field-0.0 mid to = subst (λ (ks : List BucketKind). IsStuckAt form ks c.args.area.now c.in_err-good.field-0.0 mid to) i.kinds c.in_err-good.ensures.stuck in
     absurd (quiet (stuck_rose form kinds c.args.area.now c.in_err-good.field-0.0 from to (stuck_earlier form kinds c.args.area.now c.in_err-good.field-0.0 from mid to i.below.refreshes.later c.settle_copy.ensures.refreshes.later stuck)))
 
 pub returns-in_err-good-clause-reads : goal.returns-in_err-good-clause-reads
 returns-in_err-good-clause-reads g c = λ all quiet.
     let i = c.loop-copy.invariant in
     let form : Form = g.M.Format.form c.args.format.now in
-    let kinds : List Kind = kinds_of g.B.Bucket.holding c.args.buckets.now.items in
+    let kinds : List BucketKind = kinds_of g.B.Bucket.holding c.args.buckets.now.items in
     let mid : Device = g.F.Flash.device c.loop-copy.flash in
     let to : Device = g.F.Flash.device c.settle_copy.new.flash in
     let from : Device = g.F.Flash.device c.args.flash.now in
-    let stuck : IsStuckAt form kinds c.args.area.now c.in_err-good.field-0.0 mid to = subst (λ (ks : List Kind). IsStuckAt form ks c.args.area.now c.in_err-good.field-0.0 mid to) i.kinds c.in_err-good.ensures.stuck in
+    let stuck : IsStuckAt form kinds c.args.area.now c.in_err-good.field-0.0 mid to = subst (λ (ks : List BucketKind). IsStuckAt form ks c.args.area.now c.in_err-good.field-0.0 mid to) i.kinds c.in_err-good.ensures.stuck in
     absurd (quiet (stuck_rose form kinds c.args.area.now c.in_err-good.field-0.0 from to (stuck_earlier form kinds c.args.area.now c.in_err-good.field-0.0 from mid to i.below.refreshes.later c.settle_copy.ensures.refreshes.later stuck)))
 
 pub loop-copy-preserved : goal.loop-copy-preserved
@@ -101,7 +101,7 @@ loop-copy-preserved g c =
     let i = c.loop-copy.invariant in
     let s = c.settle_copy.ensures in
     let form : Form = g.M.Format.form c.args.format.now in
-    let kinds : List Kind = kinds_of g.B.Bucket.holding c.args.buckets.now.items in
+    let kinds : List BucketKind = kinds_of g.B.Bucket.holding c.args.buckets.now.items in
     let area : List ℕ = c.args.area.now in
     let rec : List ℕ = c.args.room.now.record.items in
     let copy : ℕ = c.loop-copy.copy in
@@ -116,10 +116,10 @@ loop-copy-preserved g c =
     record {
       below =
           settled_more form kinds area rec c.args.good.now.items good copy c.in_ok-good.field-0 from mid to inside (omega (arith, size)) (omega (arith, inside, i.marks)) (omega (arith, inside, i.marks, c.requires.marks, many)) unmarked i.below
-          (subst (λ (ks : List Kind). Refreshes form ks area mid to) i.kinds s.refreshes)
-          (subst (λ (ks : List Kind). LeavesOthers ks copy mid to) i.kinds s.others)
-          (subst (λ (ks : List Kind). IsSettledAt form ks area copy mid to c.in_ok-good.field-0) i.kinds c.in_ok-good.ensures.settled)
-          (λ quiet. subst (λ (ks : List Kind). IsWrittenAt ks copy rec mid to) i.kinds (subst (λ (r : List ℕ). IsWrittenAt (kinds_of g.B.Bucket.holding c.loop-copy.buckets.items) copy r mid to) i.packed (s.exact quiet)));
+          (subst (λ (ks : List BucketKind). Refreshes form ks area mid to) i.kinds s.refreshes)
+          (subst (λ (ks : List BucketKind). LeavesOthers ks copy mid to) i.kinds s.others)
+          (subst (λ (ks : List BucketKind). IsSettledAt form ks area copy mid to c.in_ok-good.field-0) i.kinds c.in_ok-good.ensures.settled)
+          (λ quiet. subst (λ (ks : List BucketKind). IsWrittenAt ks copy rec mid to) i.kinds (subst (λ (r : List ℕ). IsWrittenAt (kinds_of g.B.Bucket.holding c.loop-copy.buckets.items) copy r mid to) i.packed (s.exact quiet)));
       kinds = s.kinds ∙ i.kinds;
       placed = settled_placed g.B.Bucket.holding c.args.good.now.items copy c.args.buckets.now.items c.loop-copy.buckets.items c.settle_copy.new.buckets.items i.placed c.in_ok-good.ensures.placed;
       reads = λ all quiet. s.reads (i.placed copy (λ left. all copy)) (undisturbed_second from mid to i.below.refreshes.later quiet) ∙ i.reads all (undisturbed_first from mid to s.refreshes.later quiet);
@@ -139,7 +139,7 @@ pub returns-clause-settled : goal.returns-clause-settled
 returns-clause-settled g c =
     let i = c.loop-copy.invariant in
     let form : Form = g.M.Format.form c.args.format.now in
-    let kinds : List Kind = kinds_of g.B.Bucket.holding c.args.buckets.now.items in
+    let kinds : List BucketKind = kinds_of g.B.Bucket.holding c.args.buckets.now.items in
     let from : Device = g.F.Flash.device c.args.flash.now in
     let to : Device = g.F.Flash.device c.loop-copy.flash in
     let all : c.loop-copy.copy ≡ length c.loop-copy.good.items = omega (arith, i.marks, c.requires.marks, c.len-copy-end.ensures, c.args.buckets.now.ok) in
@@ -151,7 +151,7 @@ pub returns-clause-exact : goal.returns-clause-exact
 returns-clause-exact g c =
     let i = c.loop-copy.invariant in
     let form : Form = g.M.Format.form c.args.format.now in
-    let kinds : List Kind = kinds_of g.B.Bucket.holding c.args.buckets.now.items in
+    let kinds : List BucketKind = kinds_of g.B.Bucket.holding c.args.buckets.now.items in
     let from : Device = g.F.Flash.device c.args.flash.now in
     let to : Device = g.F.Flash.device c.loop-copy.flash in
     let all : c.loop-copy.copy ≡ length c.loop-copy.good.items = omega (arith, i.marks, c.requires.marks, c.len-copy-end.ensures, c.args.buckets.now.ok) in

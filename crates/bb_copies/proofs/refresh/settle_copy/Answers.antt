@@ -2,7 +2,7 @@ use Rattle.std.proofs.Common.{List, length, set, IfErr, IfOk, OnOk, sym, subst, 
 use Rattle.std.proofs.lemmas.Option.{slice_get_read}
 use Rattle.bb_base.specs.Form.{Form}
 use Rattle.bb_flash.specs.Device.{Device}
-use Rattle.bb_bucket.specs.Kind.{Kind}
+use Rattle.bb_bucket.specs.Kind.{BucketKind}
 use Rattle.bb_copies.specs.Buckets.{kinds_of}
 use Rattle.bb_copies.specs.Placing.{PlacesCopy}
 use Rattle.bb_copies.specs.Refreshing.{IsSettledAt, IsStuckAt}
@@ -49,7 +49,7 @@ returns-clause-others g c =
 pub returns-clause-settled : goal.returns-clause-settled
 returns-clause-settled g c =
     let form : Form = g.M.Format.form c.args.format.now in
-    let kinds : List Kind = kinds_of g.B.Bucket.holding c.args.buckets.now.items in
+    let kinds : List BucketKind = kinds_of g.B.Bucket.holding c.args.buckets.now.items in
     let from : Device = g.F.Flash.device c.args.flash.now in
     let to : Device = g.F.Flash.device c.settle-settled.new.flash in
     let there = slice_get_read c.args.buckets.now.items (length c.args.buckets.now.items) c.args.copy _ refl c.requires.inside c.index_mut.ensures.value in
@@ -60,7 +60,7 @@ returns-clause-settled g c =
 pub returns-clause-stuck : goal.returns-clause-stuck
 returns-clause-stuck g c =
     let form : Form = g.M.Format.form c.args.format.now in
-    let kinds : List Kind = kinds_of g.B.Bucket.holding c.args.buckets.now.items in
+    let kinds : List BucketKind = kinds_of g.B.Bucket.holding c.args.buckets.now.items in
     let from : Device = g.F.Flash.device c.args.flash.now in
     let to : Device = g.F.Flash.device c.settle-settled.new.flash in
     let there = slice_get_read c.args.buckets.now.items (length c.args.buckets.now.items) c.args.copy _ refl c.requires.inside c.index_mut.ensures.value in
@@ -83,7 +83,7 @@ pub returns-clause-agrees : goal.returns-clause-agrees
 returns-clause-agrees g c =
     let from : Device = g.F.Flash.device c.args.flash.now in
     let to : Device = g.F.Flash.device c.settle-settled.new.flash in
-    let kinds : List Kind = kinds_of g.B.Bucket.holding c.args.buckets.now.items in
+    let kinds : List BucketKind = kinds_of g.B.Bucket.holding c.args.buckets.now.items in
     let there = slice_get_read c.args.buckets.now.items (length c.args.buckets.now.items) c.args.copy _ refl c.requires.inside c.index_mut.ensures.value in
     let here = kind_at g.B.Bucket.holding c.args.buckets.now.items c.args.copy _ there in
     let settles = c.settle-settled.ensures.settles in

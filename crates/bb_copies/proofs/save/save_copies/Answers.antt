@@ -2,7 +2,7 @@ use Rattle.std.proofs.Common.{◌≡◌, ◌∙◌, Bool, List, count_by, length
 use Rattle.std.proofs.lemmas.List.{length-map}
 use Rattle.bb_base.specs.Form.{Form}
 use Rattle.bb_flash.specs.Device.{Device}
-use Rattle.bb_bucket.specs.Kind.{Kind}
+use Rattle.bb_bucket.specs.Kind.{BucketKind}
 use Rattle.bb_copies.specs.Buckets.{kinds_of}
 use Rattle.bb_copies.specs.Refreshing.{IsFirstMarked}
 use Rattle.bb_copies.proofs.Loads.{all_kept}
@@ -17,7 +17,7 @@ returns-in-Ok-clause-runs g c =
 pub returns-in-Ok-clause-taken : goal.returns-in-Ok-clause-taken
 returns-in-Ok-clause-taken g c =
     let form : Form = g.M.Format.form c.args.format.now in
-    let kinds : List Kind = kinds_of g.B.Bucket.holding c.args.buckets.now.items in
+    let kinds : List BucketKind = kinds_of g.B.Bucket.holding c.args.buckets.now.items in
     let from : Device = g.F.Flash.device c.args.flash.now in
     let to : Device = g.F.Flash.device c.save_all.new.flash in
     let good : List Bool = c.save_all.new.good.items in

@@ -1,4 +1,5 @@
 use Rattle.std.proofs.Common.{◌∙◌, ℕ, List, ap, sym, subst, refl, option_map}
+use Rattle.bb_bucket.proofs.Quiet.{keeps_of_quiet}
 use Rattle.bb_copies.specs.Settling.{IsCompared}
 use Rattle.bb_copies.proofs.Ends.{read_as, whole_slice}
 use Rattle.bb_copies.proofs.OneCopy.{read_copy_settles}
@@ -10,18 +11,18 @@ returns-in-Ok-Some-clause-ends g c =
     let here = c.deref.ensures.value ∙ whole_slice out c.args.room.now.area.items _ (c.read_copy.auto.area ∙ c.deref_mut-2.ensures.len) in
     read_as (g.M.Format.form c.args.format.now) (g.B.Bucket.holding c.args.bucket.now).kind c.args.area.now out (g.F.Flash.device c.args.flash.now) (g.F.Flash.device c.read_copy.new.flash) c.compare_areas.result
     (subst (λ (xs : List ℕ). IsCompared xs c.args.area.now c.compare_areas.result) here c.compare_areas.ensures)
-    c.in-Ok-Some.ensures.keeps.content
+    (keeps_of_quiet _ _ c.in-Ok-Some.ensures.quiet).content
     (λ image e. ap (option_map (λ _. out)) (sym c.in-Ok-Some.field-0-is) ∙ (c.in-Ok-Some.ensures.done image e).area)
 
 pub returns-in-Ok-Some-clause-settles : goal.returns-in-Ok-Some-clause-settles
 returns-in-Ok-Some-clause-settles g c =
     let known = c.in-Ok-Some.ensures in
-    read_copy_settles (g.M.Format.form c.args.format.now) (g.B.Bucket.holding c.args.bucket.now).kind c.args.area.now (g.F.Flash.device c.args.flash.now) (g.F.Flash.device c.read_copy.new.flash) known.told known.keeps known.later known.whole
+    read_copy_settles (g.M.Format.form c.args.format.now) (g.B.Bucket.holding c.args.bucket.now).kind c.args.area.now (g.F.Flash.device c.args.flash.now) (g.F.Flash.device c.read_copy.new.flash) known.quiet.told (keeps_of_quiet _ _ known.quiet) known.quiet.later known.quiet.whole
 
 pub returns-in-Err-clause-settles : goal.returns-in-Err-clause-settles
 returns-in-Err-clause-settles g c =
     let known = c.in-Err.ensures in
-    read_copy_settles (g.M.Format.form c.args.format.now) (g.B.Bucket.holding c.args.bucket.now).kind c.args.area.now (g.F.Flash.device c.args.flash.now) (g.F.Flash.device c.read_copy.new.flash) known.told known.keeps known.later known.whole
+    read_copy_settles (g.M.Format.form c.args.format.now) (g.B.Bucket.holding c.args.bucket.now).kind c.args.area.now (g.F.Flash.device c.args.flash.now) (g.F.Flash.device c.read_copy.new.flash) known.quiet.told (keeps_of_quiet _ _ known.quiet) known.quiet.later known.quiet.whole
 
 pub returns-in-Err-clause-placed : goal.returns-in-Err-clause-placed
 returns-in-Err-clause-placed g c = λ other. absurd (other refl)

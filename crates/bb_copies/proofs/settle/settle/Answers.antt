@@ -1,7 +1,7 @@
 use Rattle.std.proofs.Common.{◌∙◌, sym, arith}
 use Rattle.bb_base.specs.Form.{Form}
 use Rattle.bb_flash.specs.Device.{Device}
-use Rattle.bb_bucket.specs.Kind.{Kind}
+use Rattle.bb_bucket.specs.Kind.{BucketKind}
 use Rattle.bb_flash.proofs.Moments.{later_joined}
 use Rattle.bb_copies.proofs.Ends.{ends_read_as, not_ok, ok_gives, voided_dead, written_good_as}
 use Rattle.bb_copies.proofs.OneCopy.{settles_joined_as, voided_copy, written_copy_as}
@@ -10,19 +10,19 @@ use Rattle.bb_copies.proofs.settle.settle.Goals as goal
 pub returns-then-is_ok-clause-ends : goal.returns-then-is_ok-clause-ends
 returns-then-is_ok-clause-ends g c =
     let form : Form = g.M.Format.form c.args.format.now in
-    let kind : Kind = (g.B.Bucket.holding c.args.bucket.now).kind in
+    let kind : BucketKind = (g.B.Bucket.holding c.args.bucket.now).kind in
     let from : Device = g.F.Flash.device c.args.flash.now in
     let mid : Device = g.F.Flash.device c.write.new.flash in
     let packed = c.deref.ensures.value ∙ c.requires.packed in
     let done = ok_gives c.write.result _ c.write.ensures.done (sym c.is_ok.ensures.value ∙ c.if-is_ok.true) in
-    written_good_as form kind c.args.area.now _ from mid packed (g.met.M.Format.laws c.args.format.now) (g.met.B.Bucket.laws c.args.bucket.now) c.requires.serves c.requires.fits c.requires.room c.requires.whole c.write.ensures.later done
+    written_good_as form kind c.args.area.now _ from mid packed (g.met.M.Format.laws c.args.format.now) (g.met.B.Bucket.laws c.args.bucket.now) c.requires.serves c.requires.fits c.requires.room c.requires.whole c.write.ensures.within.later done
 
 pub returns-then-is_ok-clause-settles : goal.returns-then-is_ok-clause-settles
 returns-then-is_ok-clause-settles g c =
     let form : Form = g.M.Format.form c.args.format.now in
-    let kind : Kind = (g.B.Bucket.holding c.args.bucket.now).kind in
+    let kind : BucketKind = (g.B.Bucket.holding c.args.bucket.now).kind in
     let w = c.write.ensures in
-    written_copy_as form kind c.args.area.now _ (g.F.Flash.device c.args.flash.now) (g.F.Flash.device c.write.new.flash) (c.deref.ensures.value ∙ c.requires.packed) (g.met.M.Format.laws c.args.format.now) c.requires.fits w.calls w.ends w.images w.later w.starts w.whole
+    written_copy_as form kind c.args.area.now _ (g.F.Flash.device c.args.flash.now) (g.F.Flash.device c.write.new.flash) (c.deref.ensures.value ∙ c.requires.packed) (g.met.M.Format.laws c.args.format.now) c.requires.fits w.calls w.within.ends w.within.images w.within.later w.within.starts w.within.whole
 
 pub returns-then-is_ok-2-clause-ends : goal.returns-then-is_ok-2-clause-ends
 returns-then-is_ok-2-clause-ends g c =
@@ -33,20 +33,20 @@ returns-then-is_ok-2-clause-ends g c =
     let done = ok_gives c.void.result _ c.void.ensures.done (sym c.is_ok-2.ensures.value ∙ c.if-is_ok-2.true) in
     let rose = c.write.ensures.faults.rose (not_ok c.write.result (sym c.is_ok.ensures.value ∙ c.if-is_ok.false)) in
     let later = c.void.ensures.faults.later in
-    voided_dead form (g.B.Bucket.holding c.args.bucket.now).kind (g.B.Bucket.holding c.write.new.self).kind from mid to c.write.ensures.kind (g.met.B.Bucket.laws c.write.new.self) c.write.ensures.later c.void.ensures.later done (omega (arith, rose, later))
+    voided_dead form (g.B.Bucket.holding c.args.bucket.now).kind (g.B.Bucket.holding c.write.new.self).kind from mid to c.write.ensures.kind (g.met.B.Bucket.laws c.write.new.self) c.write.ensures.within.later c.void.ensures.within.later done (omega (arith, rose, later))
 
 pub returns-then-is_ok-2-clause-settles : goal.returns-then-is_ok-2-clause-settles
 returns-then-is_ok-2-clause-settles g c =
     let form : Form = g.M.Format.form c.args.format.now in
-    let kind : Kind = (g.B.Bucket.holding c.args.bucket.now).kind in
+    let kind : BucketKind = (g.B.Bucket.holding c.args.bucket.now).kind in
     let from : Device = g.F.Flash.device c.args.flash.now in
     let mid : Device = g.F.Flash.device c.write.new.flash in
     let to : Device = g.F.Flash.device c.void.new.flash in
     let w = c.write.ensures in
     let v = c.void.ensures in
     settles_joined_as form kind (g.B.Bucket.holding c.write.new.self).kind c.args.area.now from mid to w.kind
-    (written_copy_as form kind c.args.area.now _ from mid (c.deref.ensures.value ∙ c.requires.packed) (g.met.M.Format.laws c.args.format.now) c.requires.fits w.calls w.ends w.images w.later w.starts w.whole)
-    (voided_copy form (g.B.Bucket.holding c.write.new.self).kind c.args.area.now mid to v.calls v.ends v.images v.later v.starts v.whole)
+    (written_copy_as form kind c.args.area.now _ from mid (c.deref.ensures.value ∙ c.requires.packed) (g.met.M.Format.laws c.args.format.now) c.requires.fits w.calls w.within.ends w.within.images w.within.later w.within.starts w.within.whole)
+    (voided_copy form (g.B.Bucket.holding c.write.new.self).kind c.args.area.now mid to v.calls v.within.ends v.within.images v.within.later v.within.starts v.within.whole)
 
 pub returns-clause-ends : goal.returns-clause-ends
 returns-clause-ends g c =
@@ -57,12 +57,12 @@ returns-clause-ends g c =
     let to : Device = g.F.Flash.device c.read_back.new.flash in
     let one = c.write.ensures.faults.rose (not_ok c.write.result (sym c.is_ok.ensures.value ∙ c.if-is_ok.false)) in
     let two = c.void.ensures.faults.rose (not_ok c.void.result (sym c.is_ok-2.ensures.value ∙ c.if-is_ok-2.false)) in
-    ends_read_as form (g.B.Bucket.holding c.args.bucket.now).kind (g.B.Bucket.holding c.void.new.self).kind c.args.area.now from void to c.read_back.result (c.void.ensures.kind ∙ c.write.ensures.kind) (later_joined from mid void c.write.ensures.later c.void.ensures.later) (omega (arith, one, two)) c.read_back.ensures.settles.later c.read_back.ensures.ends
+    ends_read_as form (g.B.Bucket.holding c.args.bucket.now).kind (g.B.Bucket.holding c.void.new.self).kind c.args.area.now from void to c.read_back.result (c.void.ensures.kind ∙ c.write.ensures.kind) (later_joined from mid void c.write.ensures.within.later c.void.ensures.within.later) (omega (arith, one, two)) c.read_back.ensures.settles.later c.read_back.ensures.ends
 
 pub returns-clause-settles : goal.returns-clause-settles
 returns-clause-settles g c =
     let form : Form = g.M.Format.form c.args.format.now in
-    let kind : Kind = (g.B.Bucket.holding c.args.bucket.now).kind in
+    let kind : BucketKind = (g.B.Bucket.holding c.args.bucket.now).kind in
     let from : Device = g.F.Flash.device c.args.flash.now in
     let mid : Device = g.F.Flash.device c.write.new.flash in
     let void : Device = g.F.Flash.device c.void.new.flash in
@@ -71,8 +71,8 @@ returns-clause-settles g c =
     let v = c.void.ensures in
     settles_joined_as form kind (g.B.Bucket.holding c.void.new.self).kind c.args.area.now from void to (v.kind ∙ w.kind)
     (settles_joined_as form kind (g.B.Bucket.holding c.write.new.self).kind c.args.area.now from mid void w.kind
-    (written_copy_as form kind c.args.area.now _ from mid (c.deref.ensures.value ∙ c.requires.packed) (g.met.M.Format.laws c.args.format.now) c.requires.fits w.calls w.ends w.images w.later w.starts w.whole)
-    (voided_copy form (g.B.Bucket.holding c.write.new.self).kind c.args.area.now mid void v.calls v.ends v.images v.later v.starts v.whole))
+    (written_copy_as form kind c.args.area.now _ from mid (c.deref.ensures.value ∙ c.requires.packed) (g.met.M.Format.laws c.args.format.now) c.requires.fits w.calls w.within.ends w.within.images w.within.later w.within.starts w.within.whole)
+    (voided_copy form (g.B.Bucket.holding c.write.new.self).kind c.args.area.now mid void v.calls v.within.ends v.within.images v.within.later v.within.starts v.within.whole))
     c.read_back.ensures.settles
 
 pub returns-then-is_ok-clause-placed : goal.returns-then-is_ok-clause-placed

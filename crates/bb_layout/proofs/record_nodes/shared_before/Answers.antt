@@ -11,6 +11,6 @@ returns c = λ area.
     let place = c.args.place in
     let some = c.if-place-eq0.false in
     let next : place - 1 + 1 ≡ place = omega (arith, some) in
-    c.shared.ensures
+    c.shared_len.ensures
     ∙ ap (λ (p : List (List ℕ)). common_prefix_len bytes_eq p c.args.path.now)
     (sym (path_before area vars (place - 1) c.in-Some.before.now (sym c.in-Some.ensures)) ∙ ap (λ (n : ℕ). (grown_of area (take n vars)).path) next)

@@ -1,5 +1,5 @@
 use Rattle.std.proofs.Common.{◌≡◌, ◌∙◌, ℕ, Bool, true, false, List, Some, None, Ok, Err, ap, subst, refl}
-use Rattle.bb_base.specs.Folder.{added, file_of, is_fault}
+use Rattle.bb_base.specs.Folder.{file_of, file_read, is_fault}
 use Rattle.bb_base.specs.declared.files.FileFail.{FileFail}
 use Rattle.bb_base.specs.declared.files.FileFail.TheVariants.{TooLong}
 use Rattle.std.proofs.lemmas.Result.{err_from_is_err_and}
@@ -16,7 +16,7 @@ returns-in-Ok-false-clause-read g c =
     bytes_missing _ _ _ c.in_ok-copy-in-Ok-false.field-0 c.in_ok-copy-in-Ok-false.ensures
     (λ files told.
     subst (λ (n : List ℕ). file_of files n ≡ Ok None) c.as_str.ensures
-    (c.in-Ok-false.ensures.read files told ∙ ap (λ (there : Bool). Ok (added there c.none-bytes.result c.read.new.out)) {y = false} c.in-Ok-false.field-0-test))
+    (c.in-Ok-false.ensures.read files told ∙ ap (λ (there : Bool). Ok (file_read there c.none-bytes.result c.read.new.out)) {y = false} c.in-Ok-false.field-0-test))
     c.in-Ok-false.ensures.calm
 
 pub returns-in_err-copy-in-Err-Fault-clause-read : goal.returns-in_err-copy-in-Err-Fault-clause-read
@@ -48,8 +48,8 @@ returns-in-Ok-true-clause-read g c = record {
     told = λ files told.
         subst (λ (n : List ℕ). file_of files n ≡ Ok (Some c.read.new.out)) c.as_str.ensures
         (c.in-Ok-true.ensures.read files told
-        ∙ ap (λ (there : Bool). Ok (added there c.none-bytes.result c.read.new.out)) {y = true} c.in-Ok-true.field-0-test
-        ∙ ap (λ (old : List ℕ). Ok (added true old c.read.new.out)) c.none-bytes.ensures);
+        ∙ ap (λ (there : Bool). Ok (file_read there c.none-bytes.result c.read.new.out)) {y = true} c.in-Ok-true.field-0-test
+        ∙ ap (λ (old : List ℕ). Ok (file_read true old c.read.new.out)) c.none-bytes.ensures);
     cause = λ e. absurd cc;
     calm = λ e. c.in-Ok-true.ensures.calm;
   };

@@ -9,8 +9,8 @@ use Rattle.bb_state.proofs.Mounting.{sized_fits}
 use Rattle.bb_tool.specs.Marking.{good_text}
 use Rattle.bb_tool.specs.Plan.{Good}
 use Rattle.bb_tool.specs.Refusal.{copy_refusal}
-use Rattle.bb_tool.specs.Session.{barred, loaded_area}
-use Rattle.bb_tool.specs.Work.{IsFound, taken}
+use Rattle.bb_tool.specs.Session.{refusal_by_table, loaded_area}
+use Rattle.bb_tool.specs.Work.{IsFound, area_taken}
 use Rattle.bb_tool.specs.declared.refusal.Refusal.TheVariants as refusals
 use Rattle.bb_tool.proofs.Kept.{load_area}
 use Rattle.bb_tool.proofs.Barred.{kept_is_found, lost_is, lost_unchanged}
@@ -84,7 +84,7 @@ returns-in_err-save-clause-gives g c =
     (λ is. (let unsure = c.in_err-save.ensures.unsure.0 (ap (λ f. Err f) is) in let sure = c.in_ok-load.ensures.sure in cc))
     c.in_err-save.ensures.fails in
     let p = err_from_is_err_and c.from_residual-in_err-save.result c.from_residual-in_err-save.ensures.1 in
-    let marks : barred (Good targets) first.table ≡ None =
+    let marks : refusal_by_table (Good targets) first.table ≡ None =
     kept_is_found targets first.table (c.mark_good.ensures.good.0 (cc)) in
     stored_out keyed (Good targets) from mid to first.table loaded refl c.requires.many
     (record {
@@ -152,7 +152,7 @@ returns-in_err-good_text-clause-gives g c =
     c.in_ok-load.ensures.keyed c.in_ok-load.ensures.used c.in_ok-load.ensures.sure c.in_ok-load.ensures.kept
     c.in_ok-save.ensures.runs c.in_ok-save.ensures.idle c.in_ok-save.ensures.saved c.in_ok-save.ensures.exact in
     let p = err_from_is_err_and c.from_residual-in_err-good_text.result c.from_residual-in_err-good_text.ensures.1 in
-    let marks : barred (Good targets) first.table ≡ None =
+    let marks : refusal_by_table (Good targets) first.table ≡ None =
     kept_is_found targets first.table (c.mark_good.ensures.good.0 (cc)) in
     stored_textless keyed (Good targets) from mid to first.table loaded refl c.requires.many
     (record {
@@ -213,11 +213,11 @@ returns-clause-gives g c =
     let begun = changed_ok first marked keyed new loaded mid to c.save.new.self.backing.used refl c.mark_good.ensures.marked
     c.in_ok-load.ensures.keyed c.in_ok-load.ensures.used c.in_ok-load.ensures.sure c.in_ok-load.ensures.kept
     c.in_ok-save.ensures.runs c.in_ok-save.ensures.idle c.in_ok-save.ensures.saved c.in_ok-save.ensures.exact in
-    let marks : barred (Good targets) first.table ≡ None =
+    let marks : refusal_by_table (Good targets) first.table ≡ None =
     kept_is_found targets first.table (c.mark_good.ensures.good.0 (cc)) in
     let found : IsFound keyed first.table loaded from mid =
     record { gives = c.in_ok-load.ensures.gives; defaults = c.in_ok-load.ensures.defaults; exact = c.in_ok-load.ensures.exact } in
-    let whole : loaded_area keyed.layout (taken first.table loaded) ≡ first.table = load_area keyed first.table loaded from mid found in
+    let whole : loaded_area keyed.layout (area_taken first.table loaded) ≡ first.table = load_area keyed first.table loaded from mid found in
     stored_out keyed (Good targets) from mid to first.table loaded refl c.requires.many
     (record {
       images = c.in_ok-load.ensures.images;

@@ -10,7 +10,6 @@ use Rattle.bb_tool.proofs.raw.look_at.Goals as goal
 pub returns-in_err-found-clause-gives : goal.returns-in_err-found-clause-gives
 returns-in_err-found-clause-gives g c =
     let p = err_from_is_err_and c.from_residual.result c.from_residual.ensures.1 in
-    let keeps = c.in_err-found.ensures.keeps in
     look_refused (keyed_of c.args.state.now) (g.F.Flash.device c.args.flash.now) (g.F.Flash.device c.look.new.flash)
     c.in_err-found.field-0.0 c.from_residual.result
     (record {
@@ -18,18 +17,13 @@ returns-in_err-found-clause-gives g c =
       fails = c.in_err-found.ensures.fails;
       faults = c.in_err-found.ensures.faults;
       read_faults = c.in_err-found.ensures.read_faults;
-      quiet = record {
-        told = c.in_err-found.ensures.told;
-        later = c.in_err-found.ensures.later;
-        starts = record { starts = keeps.starts; start_faults = keeps.start_faults };
-      };
+      quiet = c.in_err-found.ensures.quiet;
     })
     (p.1 ∙ ap (λ e. Err e) p.2)
 
 pub returns-in_err-look_text-clause-gives : goal.returns-in_err-look_text-clause-gives
 returns-in_err-look_text-clause-gives g c =
     let p = err_from_is_err_and c.from_residual-in_err-look_text.result c.from_residual-in_err-look_text.ensures.1 in
-    let keeps = c.in_ok-found.ensures.keeps in
     look_textless (keyed_of c.args.state.now) (g.F.Flash.device c.args.flash.now) (g.F.Flash.device c.look.new.flash)
     (then_some c.in_ok-found.found c.look.new.area) c.from_residual-in_err-look_text.result
     (record {
@@ -38,17 +32,12 @@ returns-in_err-look_text-clause-gives g c =
       fails = tt;
       faults = c.in_ok-found.ensures.faults;
       read_faults = c.in_ok-found.ensures.read_faults;
-      quiet = record {
-        told = c.in_ok-found.ensures.told;
-        later = c.in_ok-found.ensures.later;
-        starts = record { starts = keeps.starts; start_faults = keeps.start_faults };
-      };
+      quiet = c.in_ok-found.ensures.quiet;
     })
     (p.1 ∙ ap (λ e. Err e) p.2)
 
 pub returns-clause-gives : goal.returns-clause-gives
 returns-clause-gives g c =
-    let keeps = c.in_ok-found.ensures.keeps in
     let filled = with_items c.args.area c.look.new.area in
     let items : filled.items ≡ c.look.new.area = take-refill _ _ _ (omega (arith, c.requires.sized, c.look.auto.area, c.deref_mut.ensures.len)) in
     look_done (keyed_of c.args.state.now) (g.F.Flash.device c.args.flash.now) (g.F.Flash.device c.look.new.flash)
@@ -59,11 +48,7 @@ returns-clause-gives g c =
       fails = tt;
       faults = c.in_ok-found.ensures.faults;
       read_faults = c.in_ok-found.ensures.read_faults;
-      quiet = record {
-        told = c.in_ok-found.ensures.told;
-        later = c.in_ok-found.ensures.later;
-        starts = record { starts = keeps.starts; start_faults = keeps.start_faults };
-      };
+      quiet = c.in_ok-found.ensures.quiet;
     })
     (c.done.ensures ∙ ap told_whole (c.in_ok-look_text.ensures
     ∙ ap look_text (ap (option_map (λ area. area.items)) c.then_some.ensures

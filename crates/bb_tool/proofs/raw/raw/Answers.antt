@@ -1,7 +1,7 @@
 use Rattle.std.proofs.Common.{◌∙◌, ℕ, List, None, Result, Err, ap, sym, subst}
 use Rattle.std.proofs.lemmas.Result.{err_from_is_err_and}
 use Rattle.bb_flash.specs.declared.geometry.Geometry.{Geometry}
-use Rattle.bb_layout.specs.Layout.{laid}
+use Rattle.bb_layout.specs.Layout.{fields_of}
 use Rattle.bb_layout.specs.Thirds.{raw_layout}
 use Rattle.bb_tool.specs.Ending.{IsGiven}
 use Rattle.bb_tool.specs.Plan.{Show, Write, raw_work}
@@ -26,7 +26,7 @@ returns-in-Look-clause-gives g c = λ words folder is.
     let before = g.F.Flash.device c.args.flash.now in
     let after = g.F.Flash.device c.look.new.flash in
     let command = c.args.command in
-    let layout = laid c.in_ok-layout.layout in
+    let layout = fields_of c.in_ok-layout.layout in
     let planned = ap (λ (geometry : Geometry). raw_layout command.magic command.area_len geometry) (sym c.geometry.ensures.value) ∙ c.in_ok-layout.ensures.ok in
     given_raw words folder before after command layout Show c.look.result is (ap raw_work c.in-Look.is) planned c.look.ensures.gives
 
@@ -35,7 +35,7 @@ returns-in-Write-clause-gives g c = λ words folder is.
     let before = g.F.Flash.device c.args.flash.now in
     let after = g.F.Flash.device c.save.new.flash in
     let command = c.args.command in
-    let layout = laid c.in_ok-layout.layout in
+    let layout = fields_of c.in_ok-layout.layout in
     let planned = ap (λ (geometry : Geometry). raw_layout command.magic command.area_len geometry) (sym c.geometry.ensures.value) ∙ c.in_ok-layout.ensures.ok in
     given_raw words folder before after command layout (Write c.in-Write.area) c.save.result is (ap raw_work c.in-Write.is) planned
     (subst (λ (a : List ℕ). IsWorkedOut (record { layout = layout; key = None }) (Write a) before after c.save.result) (c.as_slice.ensures ∙ c.in-Write.area-is) c.save.ensures.gives)

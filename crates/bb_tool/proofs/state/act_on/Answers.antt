@@ -10,7 +10,7 @@ use Rattle.bb_state.proofs.Mounting.{sized_fits}
 use Rattle.bb_tool.specs.Plan.{Act}
 use Rattle.bb_tool.specs.Refusal.{copy_refusal}
 use Rattle.bb_tool.specs.Session.{loaded_area}
-use Rattle.bb_tool.specs.Work.{IsFound, taken}
+use Rattle.bb_tool.specs.Work.{IsFound, area_taken}
 use Rattle.bb_tool.proofs.Kept.{load_area}
 use Rattle.bb_tool.proofs.Worked.{acted_err, acted_ok, begun_later, begun_starts, load_refused, stored_out, stored_textless, told_whole}
 use Rattle.bb_tool.proofs.state.act_on.Goals as goal
@@ -171,7 +171,7 @@ returns-clause-gives g c =
     let same = c.in_ok-load.ensures.keyed in
     let found : IsFound keyed first.table loaded from mid =
     record { gives = c.in_ok-load.ensures.gives; defaults = c.in_ok-load.ensures.defaults; exact = c.in_ok-load.ensures.exact } in
-    let whole : loaded_area keyed.layout (taken first.table loaded) ≡ first.table = load_area keyed first.table loaded from mid found in
+    let whole : loaded_area keyed.layout (area_taken first.table loaded) ≡ first.table = load_area keyed first.table loaded from mid found in
     stored_out keyed (Act c.args.actions.now) from mid to first.table loaded refl c.requires.many
     (record {
       images = c.in_ok-load.ensures.images;

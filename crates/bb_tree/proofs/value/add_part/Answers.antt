@@ -15,5 +15,13 @@ returns-in-Cell c =
     let slots = c.args.slots.now in
     let label = c.in-Cell.label in
     let read : Option ℕ → List ℕ = λ o. to_be_bytes w32 (unwrap_or o 0) in
-    let cell = c.in_ok-cell-in-Cell.ensures ∙ ap (λ (n : List ℕ). read (option_and_then (λ k. phandle_among (props_at slots k)) (slot_labelled labels slots n))) c.as_str.ensures ∙ ap read (sym (cell_same labels slots label)) in
-    IfOk-weaker c.added-in-Cell.result (λ (all : List ℕ). all ≡ c.args.bytes ++ c.in_ok-cell-in-Cell.cell) (λ (more : List ℕ). more ≡ c.args.bytes ++ resolved_part labels (tree_of slots) c.args.part.now) (λ x h. h ∙ ap (λ l. c.args.bytes ++ l) (cell ∙ ap (resolved_part labels (tree_of slots)) (sym c.in-Cell.is))) c.added-in-Cell.ensures
+    let cell = c.in_ok-cell-in-Cell.ensures
+    ∙ ap (λ (n : List ℕ). read (option_and_then (λ k. phandle_among (props_at slots k))
+    (slot_labelled labels slots n))) c.as_str.ensures
+    ∙ ap read (sym (cell_same labels slots label)) in
+    IfOk-weaker c.with_more-in-Cell.result
+    (λ (all : List ℕ). all ≡ c.args.bytes ++ c.in_ok-cell-in-Cell.cell)
+    (λ (more : List ℕ). more
+    ≡ c.args.bytes ++ resolved_part labels (tree_of slots) c.args.part.now)
+    (λ x h. h ∙ ap (λ l. c.args.bytes ++ l) (cell
+    ∙ ap (resolved_part labels (tree_of slots)) (sym c.in-Cell.is))) c.with_more-in-Cell.ensures

@@ -5,8 +5,9 @@ use Rattle.bb_bucket.specs.Blocks.{is_block_of}
 use Rattle.bb_bucket.specs.BlockLaws.{block_of}
 use Rattle.bb_bucket.specs.Calls.{IsFoundAs}
 use Rattle.bb_bucket.specs.Kind.{part_of}
+use Rattle.bb_bucket.proofs.Quiet.{keeps_of_quiet}
 use Rattle.bb_circular.specs.Circular.{Circle, circular_candidate, circular_is_worn}
-use Rattle.bb_circular.proofs.Looks.{holding_agrees}
+use Rattle.bb_circular.proofs.Keeping.{holding_agrees}
 use Rattle.bb_circular.proofs.circular.CircularBucket.read.Goals as goal
 
 pub returns-clause-agrees : goal.returns-clause-agrees
@@ -14,9 +15,9 @@ returns-clause-agrees g c =
     let block_is : c.self.inside.block ≡ c.args.self.now.block = ap (λ (circle : Circle). circle.block) c.self.view_is in
     let serves = subst (λ (block : Block). IsTrue (is_block_of block (g.F.Flash.device c.args.flash.now).geometry)) (sym block_is) c.requires.serves in
     let held = block_of c.self.inside.block (g.F.Flash.device c.args.flash.now).geometry serves in
-    let page = ap (λ (geometry : Geometry). geometry.page) c.read_log.ensures.later.geometry ∙ held.page in
+    let page = ap (λ (geometry : Geometry). geometry.page) c.read_log.ensures.quiet.later.geometry ∙ held.page in
     holding_agrees c.self.inside.block c.in_ok-answer.answer.1 (g.F.Flash.device c.read_log.new.flash) page
-    (λ image told. c.in_ok-answer.ensures.kept image (sym c.read_log.ensures.keeps.content ∙ told))
+    (λ image told. c.in_ok-answer.ensures.kept image (sym (keeps_of_quiet _ _ c.read_log.ensures.quiet).content ∙ told))
 
 pub returns-clause-done : goal.returns-clause-done
 returns-clause-done g c = λ image told.

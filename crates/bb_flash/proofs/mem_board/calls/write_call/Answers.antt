@@ -28,4 +28,4 @@ returns-clause-changes c =
     ap (λ saved. history c.args.page saved c.write.new.self) (ap (λ log. log.saved) c.save.ensures)
     ∙ history-saved c.args.page _ c.args.log.now.saved c.args.cells.now c.write.new.self inside.inside pages (torn_call c)
     (ap (λ n. take n (drop c.args.at c.deref-2.result.now)) size ∙ ap (λ b. take len (drop c.args.at b)) (c.deref-2.ensures.value ∙ bytes))
-    (c.touched-pages.ensures.value ∙ ap (λ h. touched_pages c.args.page c.args.at len h) (c.deref.ensures.value ∙ health) ∙ some)
+    (c.touched_pages-pages.ensures.value ∙ ap (λ h. touched_pages c.args.page c.args.at len h) (c.deref.ensures.value ∙ health) ∙ some)

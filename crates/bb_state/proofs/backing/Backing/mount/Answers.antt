@@ -1,6 +1,6 @@
 use Rattle.std.proofs.Common.{◌≡◌, ℕ, List, Option, arith, ap, subst, sym, ◌∙◌, length}
 use Rattle.bb_copies.specs.Buckets.{AllAgree, HaveRoom, kinds_of}
-use Rattle.bb_layout.specs.Layout.{laid}
+use Rattle.bb_layout.specs.Layout.{fields_of}
 use Rattle.bb_state.specs.Keyed.{Keyed}
 use Rattle.bb_state.specs.Kinds.{any_form, any_holding, format_of, key_in, laid_buckets, laid_form}
 use Rattle.bb_state.specs.declared.any_bucket.AnyBucket.{AnyBucket}
@@ -9,42 +9,42 @@ use Rattle.bb_state.proofs.backing.Backing.mount.Goals as goal
 
 pub mount-requires-clause-many : goal.mount-requires-clause-many
 mount-requires-clause-many c =
-    let len = ap (λ (b : List AnyBucket). length b) c.in_ok-buckets.ensures ∙ buckets_len (laid c.args.layout) in
+    let len = ap (λ (b : List AnyBucket). length b) c.in_ok-buckets.ensures ∙ buckets_len (fields_of c.args.layout) in
     let least = c.args.layout.facts.copied.least in
     omega arith
 
 pub mount-requires-clause-few : goal.mount-requires-clause-few
 mount-requires-clause-few c =
-    let len = ap (λ (b : List AnyBucket). length b) c.in_ok-buckets.ensures ∙ buckets_len (laid c.args.layout) in
+    let len = ap (λ (b : List AnyBucket). length b) c.in_ok-buckets.ensures ∙ buckets_len (fields_of c.args.layout) in
     let most = c.args.layout.facts.copied.most in
     omega arith
 
 pub mount-requires-clause-room : goal.mount-requires-clause-room
 mount-requires-clause-room c =
-    let keyed : Keyed = record { layout = laid c.args.layout; key = c.args.key } in
+    let keyed : Keyed = record { layout = fields_of c.args.layout; key = c.args.key } in
     let kinds = ap (kinds_of any_holding) c.in_ok-buckets.ensures in
     let form = ap any_form c.format_of.ensures in
     subst (λ form. HaveRoom form (kinds_of any_holding c.in_ok-buckets.buckets)) (sym form) (subst (HaveRoom (laid_form keyed)) (sym kinds) (have_room keyed c.args.layout.facts))
 
 pub invariant_of-result : goal.invariant_of-result
 invariant_of-result c =
-    let keyed : Keyed = record { layout = laid c.args.layout; key = c.args.key } in
-    let buckets : c.in_ok-copies.copies.buckets ≡ laid_buckets (laid c.args.layout) = c.in_ok-copies.ensures.buckets ∙ c.in_ok-buckets.ensures in
+    let keyed : Keyed = record { layout = fields_of c.args.layout; key = c.args.key } in
+    let buckets : c.in_ok-copies.copies.buckets ≡ laid_buckets (fields_of c.args.layout) = c.in_ok-copies.ensures.buckets ∙ c.in_ok-buckets.ensures in
     let format : c.in_ok-copies.copies.format ≡ format_of keyed = c.in_ok-copies.ensures.format ∙ c.format_of.ensures in
     let key : key_in c.in_ok-copies.copies.format ≡ c.args.key = ap key_in format ∙ key_is keyed c.requires in
     record {
       kinds = ap (kinds_of any_holding) buckets;
-      format_is = format ∙ ap (λ key. format_of (record { layout = laid c.args.layout; key = key })) (sym key);
+      format_is = format ∙ ap (λ key. format_of (record { layout = fields_of c.args.layout; key = key })) (sym key);
       serves = all_serve keyed c.args.layout.facts;
       sized = grind arith;
     }
 
 pub returns-clause-keyed : goal.returns-clause-keyed
 returns-clause-keyed c =
-    let keyed : Keyed = record { layout = laid c.args.layout; key = c.args.key } in
+    let keyed : Keyed = record { layout = fields_of c.args.layout; key = c.args.key } in
     let key : key_in c.in_ok-copies.copies.format ≡ c.args.key = ap key_in (c.in_ok-copies.ensures.format ∙ c.format_of.ensures) ∙ key_is keyed c.requires in
-    ap (λ (key : Option (List ℕ)). record { layout = laid c.args.layout; key = key }) key
+    ap (λ (key : Option (List ℕ)). record { layout = fields_of c.args.layout; key = key }) key
 
 pub returns-clause-agrees : goal.returns-clause-agrees
 returns-clause-agrees c = λ device.
-    subst (λ (buckets : List AnyBucket). AllAgree any_holding device buckets) (sym (c.in_ok-copies.ensures.buckets ∙ c.in_ok-buckets.ensures)) (all_agree (laid c.args.layout) device)
+    subst (λ (buckets : List AnyBucket). AllAgree any_holding device buckets) (sym (c.in_ok-copies.ensures.buckets ∙ c.in_ok-buckets.ensures)) (all_agree (fields_of c.args.layout) device)

@@ -2,7 +2,7 @@ use Rattle.std.proofs.Common.{List, sym, ap, ◌∙◌}
 use Rattle.std.specs.Option.{is_some, option_and_then}
 use Rattle.bb_tree.specs.declared.slot.Slot.{Slot}
 use Rattle.bb_tree.specs.Paths.{found, names_of}
-use Rattle.bb_tree.specs.Draft.{Drafted}
+use Rattle.bb_tree.specs.Draft.{DraftValue}
 use Rattle.bb_tree.specs.Slots.{spine}
 use Rattle.bb_tree.specs.Spine.{walk}
 use Rattle.bb_tree.proofs.Finding.{is_some-found}
@@ -12,6 +12,7 @@ pub returns : goal.returns
 returns c =
     let path = c.args.path.now in
     c.is_some.ensures ∙ ap is_some c.slot_at.ensures
-    ∙ ap (λ (l : List Slot). is_some (option_and_then (walk 1 (spine l) 0) (names_of path))) c.deref.ensures.value
+    ∙ ap (λ (l : List Slot). is_some (option_and_then (walk 1 (spine l) 0) (names_of path)))
+    c.deref.ensures.value
     ∙ sym (is_some-found c.self.inside.slots.items path)
-    ∙ ap (λ (d : Drafted). is_some (found path d.tree)) c.self.view_is
+    ∙ ap (λ (d : DraftValue). is_some (found path d.tree)) c.self.view_is

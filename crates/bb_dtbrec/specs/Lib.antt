@@ -1,0 +1,9 @@
+-- Definitions that contracts cite. These a reader has to believe.
+pub use Rattle.bb_base.specs.Form
+pub mod Dtb
+-- Inside: that this record is a format, and that a check field by field is what passes.
+pub mod Checking
+pub mod Laws
+pub mod Pieces
+-- The pattern of a tree. No contract cites it yet.
+pub mod Trees

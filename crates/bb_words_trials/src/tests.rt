@@ -1,0 +1,7 @@
+mod actions;
+mod causes;
+mod entries;
+mod lists;
+mod places;
+mod values;
+mod words;
