@@ -1,3 +1,7 @@
 mod changed;
+mod compiled;
 mod fields;
 mod long;
+mod readers;
+mod same;
+mod texts;
