@@ -80,7 +80,7 @@ fn kernel(device: &MemBoard, start: u32) -> Option<&str> {
 
 // All sessions, by the source and by the blob.
 fn are_alike(rt: &impl Abort, alloc: Global, kind: Kind, blob: &[u8]) -> Result<(), Fail> {
-    let mut one = begin(alloc, kind, source())?;
+    let mut one = begin(alloc, kind, source(alloc)?.as_slice())?;
     let mut other = begin(alloc, kind, blob)?;
     for sessions in [looks(), sets(), boots()] {
         for session in &sessions {

@@ -1,6 +1,6 @@
 // The reader of sources and the reader of blobs give one tree of one text.
 use super::same::is_same_tree;
-use super::{compiled, texts};
+use super::{by_hand, compiled, example, printed};
 use bb_dts::read_source;
 use bb_fdt::{read_blob, write_blob};
 use bb_tree::{Tree, blob_length};
@@ -40,21 +40,21 @@ fn agree(rt: &impl Abort, alloc: Global, text: &[u8], blob: &[u8]) -> Result<Vec
 
 #[test]
 fn reservations_escapes_bytes_and_phandles(rt: HostRuntime) -> Result<(), Fail> {
-    let bytes = agree(&rt, rt.alloc(), texts::board(), compiled::board())?;
+    let bytes = agree(&rt, rt.alloc(), printed::board(), compiled::board())?;
     assert_eq!(rt; bytes.as_slice(), compiled::board());
     Ok(())
 }
 
 #[test]
 fn a_phandle_and_its_reference(rt: HostRuntime) -> Result<(), Fail> {
-    let bytes = agree(&rt, rt.alloc(), texts::flash(), compiled::flash())?;
+    let bytes = agree(&rt, rt.alloc(), printed::flash(), compiled::flash())?;
     assert_eq!(rt; bytes.as_slice(), compiled::flash());
     Ok(())
 }
 
 #[test]
 fn nodes_inside_nodes(rt: HostRuntime) -> Result<(), Fail> {
-    let bytes = agree(&rt, rt.alloc(), texts::deep(), compiled::deep())?;
+    let bytes = agree(&rt, rt.alloc(), printed::deep(), compiled::deep())?;
     assert_eq!(rt; bytes.as_slice(), compiled::deep());
     Ok(())
 }
@@ -62,18 +62,28 @@ fn nodes_inside_nodes(rt: HostRuntime) -> Result<(), Fail> {
 // In what dtc compiles the name `type` is the end of `backend-type`. The writer gives it bytes of its own, 5 more.
 #[test]
 fn the_example_board(rt: HostRuntime) -> Result<(), Fail> {
-    let bytes = agree(&rt, rt.alloc(), texts::example(), compiled::example())?;
+    let text = example::text(rt.alloc())?;
+    let bytes = agree(&rt, rt.alloc(), text.as_slice(), compiled::example())?;
     assert_eq!(rt; bytes.len(), compiled::example().len() + 5);
     Ok(())
 }
 
-// No two of the texts have one tree.
+#[test]
+fn labels_references_and_comments(rt: HostRuntime) -> Result<(), Fail> {
+    let text = by_hand::text(rt.alloc())?;
+    let bytes = agree(&rt, rt.alloc(), text.as_slice(), compiled::example())?;
+    assert_eq!(rt; bytes.len(), compiled::example().len() + 5);
+    Ok(())
+}
+
+// The example board's tree is no other text's.
 #[test]
 fn other_texts_have_other_trees(rt: HostRuntime) -> Result<(), Fail> {
-    let example = source_tree(rt.alloc(), texts::example())?;
+    let text = example::text(rt.alloc())?;
+    let board = source_tree(rt.alloc(), text.as_slice())?;
     for blob in [compiled::board(), compiled::flash(), compiled::deep()] {
         let other = read_blob(rt.alloc(), blob)?;
-        assert!(rt; !is_same_tree(&example, &other));
+        assert!(rt; !is_same_tree(&board, &other));
     }
     Ok(())
 }
