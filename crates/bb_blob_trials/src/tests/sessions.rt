@@ -58,7 +58,7 @@ state_bootstate_last_chosen=\"0\"
 const SET_TWO: &str = "state -i board -s bootstate.system0.priority=30 \
     -s bootstate.system1.priority=25 -g bootstate.system1.priority";
 
-// Sessions that set variables, the last of them to what they are already.
+// Sessions that set variables, one of them to what they are already, and one that shows them.
 pub fn sets() -> [Session; 4] {
     [
         done(
