@@ -57,12 +57,12 @@ pub fn board(alloc: Global, state: &[u8], more: &[u8]) -> Result<Tree, Fail> {
     tree(alloc, source(alloc, state, more)?.as_slice())
 }
 
-/// What such a board's state is layout_on out to, on a device of 1 MiB that is overwritten in place.
+/// The layout of such a board on a device of 1 MiB that is overwritten in place, or the refusal.
 pub fn in_place(alloc: Global, state: &[u8]) -> Result<Result<Layout, LayoutError>, Fail> {
     layout_on(alloc, &board(alloc, state, b"")?, "ov:1048576")
 }
 
-/// What it is layout_on out to, which isn't refused.
+/// That layout, where it isn't refused.
 pub fn layout(alloc: Global, state: &[u8]) -> Result<Layout, Fail> {
     let Ok(layout) = in_place(alloc, state)? else {
         return Err(Fail::from("the tree is refused"));
