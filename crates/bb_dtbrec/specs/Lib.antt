@@ -5,5 +5,6 @@ pub mod Dtb
 pub mod Checking
 pub mod Laws
 pub mod Pieces
--- The pattern of a tree. No contract cites it yet.
+-- The pattern of a tree, and that of a layout.
+pub mod Layouts
 pub mod Trees
