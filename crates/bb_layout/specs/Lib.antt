@@ -8,6 +8,7 @@ pub mod Facts
 pub mod Fields
 pub mod Formats
 pub mod Layout
+pub mod Outside
 pub mod Ranges
 pub mod Record
 pub mod Refusals

@@ -74,3 +74,9 @@ returns-else-eq-clause-gives g c =
     let kept = take c.self.inside.kept.len (c.load.new.area ++ drop (length c.load.new.area) c.self.inside.kept.items) in
     let same : kept ≡ c.load.new.area = whole_written c.self.inside.kept.len c.load.new.area c.self.inside.kept.items (grind arith) (grind arith) in
     gives_of _ _ c.args.self.now.keyed c.load.new.area kept (g.F.Flash.device c.args.flash.now) (g.F.Flash.device c.load.new.flash) c.in_ok-loaded.loaded form kinds same c.in_ok-loaded.ensures.gives
+
+pub returns-then-eq-clause-fits : goal.returns-then-eq-clause-fits
+returns-then-eq-clause-fits g c = ?
+
+pub returns-else-eq-clause-fits : goal.returns-else-eq-clause-fits
+returns-else-eq-clause-fits g c = ?
