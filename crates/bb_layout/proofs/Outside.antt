@@ -1,5 +1,5 @@
 -- What changes in an area where variables alone are written.
-use Rattle.std.proofs.Common.{◌≡◌, ℕ, zero, suc, ◌+◌, ◌<◌, ◌≤◌, ◌⊎◌, List, [], ◌∷◌, All, Some, arith, get_or, inl, inr, length, refl, replicate, slice_get, subst, sym, ap, ◌∙◌}
+use Rattle.std.proofs.Common.{◌≡◌, ℕ, suc, ◌+◌, ◌<◌, ◌≤◌, ◌⊎◌, List, [], ◌∷◌, All, Some, arith, length, refl, replicate, slice_get, subst, sym, ap, ◌∙◌}
 use Rattle.std.proofs.lemmas.List.{get_or-replicate, length-replicate}
 use Rattle.std.proofs.lemmas.Option.{get_or_from_slice_get, slice_get_within}
 use Rattle.std.specs.List.{fold}
@@ -80,5 +80,5 @@ defaults_length area_len vars are = (defaults_change area_len vars are).same_len
 pub defaults_hold : (area_len : ℕ) (vars : List Var) → AreVars area_len vars → HoldsVarsAlone vars (defaults_of area_len vars)
 defaults_hold area_len vars are =
     still_holds vars (replicate area_len 0) (defaults_of area_len vars)
-    (λ k inside outside. get_or-replicate area_len k 0 0 (let len = length-replicate area_len 0 in omega arith))
+    (λ k inside outside. get_or-replicate area_len k 0 0 (subst (λ n. k < n) (length-replicate {A = ℕ} area_len 0) inside))
     (defaults_change area_len vars are)
