@@ -3,7 +3,7 @@ use Rattle.std.proofs.Common.{◌≡◌, ℕ, zero, suc, ◌+◌, ◌*◌, ◌/�
 use Rattle.std.specs.List.{range_with_len}
 use Rattle.std.proofs.lemmas.List.FromFn.{length-map-range_with_len, get_or-map-range_with_len, map-range_with_len_more}
 use Rattle.std.proofs.lemmas.Simd.{map-map}
-use Rattle.std.proofs.lemmas.Bool.{cases_lt, eq-eqb, eqb-true}
+use Rattle.std.proofs.lemmas.Bool.{cases_lt, eqb-true}
 use Rattle.std.proofs.lemmas.Bool.Decides.{nat_tests}
 use Rattle.std.proofs.lemmas.Option.{slice_get_within, get_or_from_slice_get}
 use Rattle.bb_base.specs.Form.{Form}
@@ -19,14 +19,14 @@ use Rattle.bb_bucket.specs.Blocks.{is_block_of}
 use Rattle.bb_copies.specs.Buckets.{AllAgree, AllServe, HaveRoom, IsApart}
 use Rattle.bb_raw.specs.Raw.{code_len}
 use Rattle.bb_layout.specs.Copies.{region_of, spacing}
-use Rattle.bb_layout.specs.Facts.{HasCopies, IsLayout, is_stride}
+use Rattle.bb_layout.specs.Facts.{HasCopies, is_stride}
 use Rattle.bb_layout.specs.Formats.{record_len}
 use Rattle.bb_layout.specs.Layout.{Laid, laid_len}
 use Rattle.bb_layout.specs.declared.format_kind.FormatKind.{FormatKind}
 use Rattle.bb_layout.specs.declared.format_kind.FormatKind.TheVariants.{Raw, RawHmac}
 use Rattle.bb_layout.specs.declared.storage.Storage.{Storage}
 use Rattle.bb_layout.specs.declared.storage.Storage.TheVariants.{Stride, OneBlock, Circular}
-use Rattle.bb_state.specs.Keyed.{FitsKey, Keyed}
+use Rattle.bb_state.specs.Keyed.{AreFacts, FitsKey, Keyed}
 use Rattle.bb_state.specs.Kinds.{any_form, any_holding, block_at, bucket_at, format_for, format_of, key_in, laid_buckets, laid_form, laid_kinds, raw_under}
 use Rattle.bb_state.specs.declared.any_bucket.AnyBucket.{AnyBucket}
 
@@ -155,9 +155,6 @@ fit_of Circular form geometry partition copies len copy short is has below =
     record { region_is = refl; room = omega arith; serves = serves_block Circular geometry partition copies len copy is has below refl refl }
 
 -- what the facts of a layout say of a copy
-abbrev pub AreFacts : Laid → Type 0
-AreFacts layout = IsLayout layout.geometry layout.region layout.storage layout.copies (laid_len layout) layout.area_len layout.vars
-
 kind_fit : (keyed : Keyed) (copy : ℕ) (kind : BucketKind) → AreFacts keyed.layout → slice_get (laid_kinds keyed.layout) copy ≡ Some kind →
     (copy < keyed.layout.copies) × IsFit (laid_form keyed) keyed.layout.geometry (region_of keyed.layout.geometry keyed.layout.storage keyed.layout.region copy) kind
 kind_fit keyed copy kind facts h =
@@ -219,13 +216,6 @@ all_agree layout device copy bucket there =
     let inside : copy < layout.copies = omega (arith, within, len) in
     let is : make copy ≡ bucket = sym (get_or-map-range_with_len make 0 layout.copies copy copy bucket inside (omega arith)) ∙ get_or_from_slice_get (laid_buckets layout) copy bucket bucket there in
     subst (λ (b : AnyBucket). Agrees (any_holding b) device) is (bucket_agrees layout.geometry layout.storage layout.region copy device)
-
-fits_at : (format : FormatKind) (keyed : Keyed) (table : List ℕ) → length table ≡ keyed.layout.area_len → IsTrue ((any_form (format_for format keyed)).fits table)
-fits_at Raw keyed table sized = eq-eqb _ _ sized
-fits_at RawHmac keyed table sized = eq-eqb _ _ sized
-
-pub sized_fits : (keyed : Keyed) (table : List ℕ) → length table ≡ keyed.layout.area_len → IsTrue ((laid_form keyed).fits table)
-sized_fits keyed table sized = fits_at keyed.layout.format keyed table sized
 
 -- ---- the key of a format
 

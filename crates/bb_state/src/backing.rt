@@ -16,7 +16,7 @@ ghost use Rattle.bb_copies.specs.Store.{used_after};
 ghost use Rattle.bb_copies.specs.declared.answers.CopyFault.TheVariants.{ReadFault, Unsure};
 ghost use Rattle.bb_layout.specs.Layout.{fields_of};
 ghost use Rattle.bb_state.specs.Backed.{form_in, kinds_in};
-ghost use Rattle.bb_state.specs.Keyed.{FitsKey};
+ghost use Rattle.bb_state.specs.Keyed.{AreFacts, FitsKey};
 ghost use Rattle.bb_state.specs.Kinds.{any_holding, bucket_at, format_of, laid_buckets};
 ghost use Rattle.bb_state.specs.State.{IsDefault, IsRefused, IsStored};
 
@@ -111,6 +111,7 @@ impl Backing {
         ensures gives { IfOk result (LoadGives (form_in self.old) (kinds_in self.old) self.new.kept
             (F.device flash.old) (F.device flash.new)) }
         ensures defaults { IfOk result (IsDefault self.old.keyed.layout self.new.kept) }
+        ensures fits { OnOk result (IsTrue ((form_in self.old).fits self.new.kept)) }
         ensures fails { IfErr result (IsRefused self.old.keyed
             (F.device flash.old) (F.device flash.new)) }
         ensures exact { IfOk result (LoadsExactly (form_in self.old) (kinds_in self.old)
@@ -123,6 +124,7 @@ impl Backing {
         ensures starts { LeavesStarts (F.device flash.old) (F.device flash.new) }
         ensures whole { IsDevice (F.device flash.new) }
         ensures keyed { self.new.keyed ≡ self.old.keyed }
+        ensures facts { AreFacts self.new.keyed.layout }
         ensures agrees { AllAgree any_holding (F.device flash.new) self.new.buckets }
         ensures placed { OnOk result (AllPlaced any_holding self.new.buckets) }
         ensures used { IfOk result (λ loaded. self.new.used ≡ used_after loaded) }
