@@ -18,12 +18,13 @@ use Rattle.bb_bucket.specs.Kind.{BucketKind}
 use Rattle.bb_bucket.specs.Blocks.{is_block_of}
 use Rattle.bb_copies.specs.Buckets.{AllAgree, AllServe, HaveRoom, IsApart}
 use Rattle.bb_raw.specs.Raw.{code_len}
+use Rattle.bb_dtbrec.proofs.LayoutRecords.{layout_length}
 use Rattle.bb_layout.specs.Copies.{region_of, spacing}
 use Rattle.bb_layout.specs.Facts.{HasCopies, is_stride}
 use Rattle.bb_layout.specs.Formats.{record_len}
-use Rattle.bb_layout.specs.Layout.{Laid, laid_len}
+use Rattle.bb_layout.specs.Layout.{Laid, laid_len, recorded_of}
 use Rattle.bb_layout.specs.declared.format_kind.FormatKind.{FormatKind}
-use Rattle.bb_layout.specs.declared.format_kind.FormatKind.TheVariants.{Raw, RawHmac}
+use Rattle.bb_layout.specs.declared.format_kind.FormatKind.TheVariants.{Dtb, Raw, RawHmac}
 use Rattle.bb_layout.specs.declared.storage.Storage.{Storage}
 use Rattle.bb_layout.specs.declared.storage.Storage.TheVariants.{Stride, OneBlock, Circular}
 use Rattle.bb_state.specs.Keyed.{AreFacts, FitsKey, Keyed}
@@ -126,9 +127,14 @@ code_short None = omega arith
 code_short (Some _) = omega arith
 
 -- a record has no more bytes than its layout counts
-record_short : (format : FormatKind) (keyed : Keyed) → (any_form (format_for format keyed)).length ≤ record_len format keyed.layout.area_len
-record_short Raw keyed = omega arith
-record_short RawHmac keyed = let code = code_short keyed.key in omega arith
+record_short : (format : FormatKind) (keyed : Keyed) → keyed.layout.format ≡ format → AreFacts keyed.layout →
+    (any_form (format_for format keyed)).length ≤ record_len format (recorded_of keyed.layout) keyed.layout.area_len
+record_short Raw keyed is facts = omega arith
+record_short RawHmac keyed is facts = let code = code_short keyed.key in omega arith
+record_short Dtb keyed is facts =
+    let layout = keyed.layout in
+    let counted = ap (λ format. record_len format (recorded_of layout) layout.area_len) is in
+    omega (arith, layout_length layout is facts.vars_are, counted)
 
 fit_of : (storage : Storage) (form : Form) (geometry : Geometry) (partition : Region) (copies len copy : ℕ) → form.length ≤ len → IsGeometry geometry →
     HasCopies geometry partition storage copies len → copy < copies →
@@ -162,7 +168,7 @@ kind_fit keyed copy kind facts h =
     let at = kind_there layout copy kind h in (
       at.inside,
       subst (IsFit (laid_form keyed) layout.geometry (region_of layout.geometry layout.storage layout.region copy)) at.kind_is
-          (fit_of layout.storage (laid_form keyed) layout.geometry layout.region layout.copies (laid_len layout) copy (record_short layout.format keyed) facts.geometry_is facts.copied at.inside),
+          (fit_of layout.storage (laid_form keyed) layout.geometry layout.region layout.copies (laid_len layout) copy (record_short layout.format keyed refl facts) facts.geometry_is facts.copied at.inside),
     )
 
 apart_of : (layout : Laid) (one two : ℕ) → AreFacts layout → one ≢ two →
@@ -226,15 +232,12 @@ none_of (Some _) h = absurd cc
 key_at : (format : FormatKind) (keyed : Keyed) → FitsKey format keyed.key → key_in (format_for format keyed) ≡ keyed.key
 key_at Raw keyed fits = none_of keyed.key fits
 key_at RawHmac keyed fits = refl
+key_at Dtb keyed fits = none_of keyed.key fits
 
 -- records under a layout's key have that key
 pub key_is : (keyed : Keyed) → FitsKey keyed.layout.format keyed.key → key_in (format_of keyed) ≡ keyed.key
 key_is keyed fits = key_at keyed.layout.format keyed fits
 
-same_at : (format : FormatKind) (keyed : Keyed) → FitsKey format keyed.key → raw_under keyed.key keyed.layout ≡ format_for format keyed
-same_at Raw keyed fits = ap (λ key. raw_under key keyed.layout) (sym (none_of keyed.key fits))
-same_at RawHmac keyed fits = refl
-
--- its raw records are under the key that is given, if there is one
-pub raw_is : (keyed : Keyed) → FitsKey keyed.layout.format keyed.key → raw_under keyed.key keyed.layout ≡ format_of keyed
-raw_is keyed fits = same_at keyed.layout.format keyed fits
+-- records without a key, where none is given
+pub raw_is : (keyed : Keyed) → FitsKey Raw keyed.key → raw_under keyed.key keyed.layout ≡ format_for Raw keyed
+raw_is keyed fits = ap (λ key. raw_under key keyed.layout) (sym (none_of keyed.key fits))

@@ -25,6 +25,7 @@ use bb_base::NoMemory;
 use bb_bucket::{OneBlock, Stride};
 use bb_circular::Circular;
 use bb_copies::{BucketList, Copies, CopyFault, Loaded};
+use bb_dtbrec::Dtb;
 use bb_flash::Flash;
 use bb_hmac::Key;
 use bb_layout::{FormatKind, Layout, Storage};
@@ -77,7 +78,7 @@ impl Backing {
     {
         let kept = vec![in alloc; 0u8; layout.area_len as usize]?;
         let buckets = buckets_of(alloc, &layout)?;
-        let copies = Copies::mount(alloc, buckets, format_of(&layout, key))?;
+        let copies = Copies::mount(alloc, buckets, format_of(alloc, &layout, key)?)?;
         Ok(Backing {
             layout,
             copies,
@@ -235,13 +236,16 @@ fn bucket_at(alloc: Global, layout: &Layout, copy: u32) -> Result<AnyBucket, NoM
 }
 
 #[tactic(auto, using(crate::proofs::Mounting::raw_is))]
-fn format_of(layout: &Layout, key: Option<Key>) -> AnyFormat
+fn format_of(alloc: Global, layout: &Layout, key: Option<Key>) -> Result<AnyFormat, NoMemory>
     requires { FitsKey layout.now.format key }
-    ensures { result ≡ format_of (record { layout = fields_of layout.now; key = key }) }
+    ensures { IfOk result (λ format. format
+        ≡ format_of (record { layout = fields_of layout.now; key = key })) }
 {
     match layout.format {
         FormatKind::Raw | FormatKind::RawHmac => {
-            AnyFormat::Raw(Raw::of(layout.magic, layout.area_len, key))
+            let raw = Raw::of(layout.magic, layout.area_len, key);
+            Ok(AnyFormat::Raw(raw))
         }
+        FormatKind::Dtb => Ok(AnyFormat::Dtb(Dtb::of(alloc, layout)?)),
     }
 }
