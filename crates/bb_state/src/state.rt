@@ -231,8 +231,7 @@ impl State {
         ensures refused { IfErr result (λ e.
             refusal_for (laid_of self.old).vars name.now text.now ≡ Some e) }
         ensures unchanged { OnErr result (self.new.table ≡ self.old.table) }
-        ensures outside {
-            ChangesVarsAlone (laid_of self.old).vars self.old.table self.new.table }
+        ensures outside { ChangesVarsAlone (laid_of self.old).vars self.old.table self.new.table }
         ensures backing { self.new ≡ record self.old { table = self.new.table } }
         ensures sized { IsSized self.new }
         ensures fits { FitsForm self.old → FitsForm self.new }

@@ -1,5 +1,6 @@
 // Boots of two systems, and the load after them.
 ghost use Rattle.std.specs.Prelude.{◌≡◌, IfOk, false};
+ghost use Rattle.bb_chooser.specs.Binding.{IsBoundTo};
 ghost use Rattle.bb_flash.specs.Geometry.{IsGeometry};
 ghost use Rattle.bb_layout.specs.Formats.{takes_key};
 ghost use Rattle.bb_state.specs.State.{FitsForm, IsFresh, IsSized, laid_of};
@@ -86,7 +87,8 @@ fn layout(alloc: Global, kind: Kind, geometry: Geometry) -> Result<Layout, Fail>
 }
 
 fn chooser(alloc: Global, layout: &Layout, settings: &[u8]) -> Result<Chooser, Fail>
-    ensures { IfOk result (λ chooser. chooser.area_len ≡ layout.now.area_len) }
+    ensures sized { IfOk result (λ chooser. chooser.area_len ≡ layout.now.area_len) }
+    ensures bound { IfOk result (IsBoundTo layout.now.vars) }
 {
     let Ok(settings) = Settings::read(alloc, settings) else {
         return Err(Fail::from("the settings are refused"));
@@ -101,6 +103,7 @@ fn mount(alloc: Global, layout: Layout) -> Result<State, NoMemory>
     requires no_key { takes_key layout.format ≡ false }
     ensures geometry { IfOk result (λ state. (laid_of state).geometry ≡ layout.geometry) }
     ensures area_len { IfOk result (λ state. (laid_of state).area_len ≡ layout.area_len) }
+    ensures vars { IfOk result (λ state. (laid_of state).vars ≡ layout.vars) }
     ensures sized { IfOk result IsSized }
     ensures fits { IfOk result FitsForm }
     ensures fresh { IfOk result IsFresh }
