@@ -3,7 +3,7 @@ use Rattle.std.proofs.Common.{◌≡◌, ℕ, ◌<◌, ◌≤◌, ◌⊎◌, tru
 use Rattle.std.specs.List.{AllByRecursion}
 use Rattle.std.proofs.lemmas.List.Elements.{All-from_recursion, recursion_from_All}
 use Rattle.bb_tree.specs.Node.{Forest, empty, grow}
-use Rattle.bb_layout.specs.Facts.{AreVars}
+use Rattle.bb_layout.specs.Facts.{AreVars, IsLaid}
 use Rattle.bb_layout.specs.Layout.{Laid, recorded_of}
 use Rattle.bb_layout.specs.Outside.{ChangesVarsAlone, HoldsVarsAlone, IsOutside}
 use Rattle.bb_layout.specs.Ranges.{end_of}
@@ -20,7 +20,7 @@ use Rattle.bb_dtbrec.specs.Trees.{pieces_behind_crc, pieces_of, root_with_crc, t
 use Rattle.bb_dtbrec.proofs.Fillings.{IsOutsidePiece, fits_where, zero_outside}
 use Rattle.bb_dtbrec.proofs.GrownValues.{values_of_template}
 use Rattle.bb_dtbrec.proofs.Insertions.{all_inserted}
-use Rattle.bb_dtbrec.proofs.LayoutRecords.{IsLaid, layout_is_pattern}
+use Rattle.bb_dtbrec.proofs.LayoutRecords.{layout_is_pattern}
 use Rattle.bb_dtbrec.proofs.TreeValues.{values_of_pieces}
 use Rattle.bb_dtbrec.proofs.VarPlaces.{vars_led}
 

@@ -10,7 +10,7 @@ use Rattle.bb_tree.specs.Blob.{blob_text}
 use Rattle.bb_vars.specs.declared.kind.Kind.{Kind}
 use Rattle.bb_vars.specs.declared.kind.Kind.TheVariants.{Uint8, Uint32, Enum32, Mac, Chars}
 use Rattle.bb_layout.specs.Copies.{room_for, spacing}
-use Rattle.bb_layout.specs.Facts.{AreVars, IsLayout}
+use Rattle.bb_layout.specs.Facts.{AreVars, IsLaid}
 use Rattle.bb_layout.specs.Formats.{blob_len, record_len}
 use Rattle.bb_layout.specs.Layout.{Laid, laid_len, recorded_of}
 use Rattle.bb_layout.specs.Ranges.{end_of}
@@ -96,12 +96,6 @@ layout_length layout e vars =
     ∙ sym (ap (λ format. record_len format (recorded_of layout) layout.area_len) e)
 
 -- ---- the pattern
-
--- what is true of a layout
-abbrev pub IsLaid : Laid → Type 0
-IsLaid layout =
-    IsLayout layout.geometry layout.region layout.storage layout.copies (laid_len layout)
-    layout.area_len layout.vars
 
 and_more : (n more : ℕ) → n ≤ (n + 8) + more
 and_more n more = omega arith

@@ -1,5 +1,6 @@
 -- What a record is, by the format of a layout (barebox User Manual, State Framework).
 use Rattle.std.specs.Prelude.{ℕ, ◌+◌, Bool, true, false, [], length, replicate}
+use Rattle.bb_raw.specs.Raw.{header_len}
 use Rattle.bb_tree.specs.Blob.{blob_text}
 use Rattle.bb_layout.specs.Record.{Recorded, record_tree_of}
 use Rattle.bb_layout.specs.declared.format_kind.FormatKind.{FormatKind}
@@ -11,9 +12,9 @@ takes_key Raw = false
 takes_key RawHmac = true
 takes_key Dtb = false
 
--- a raw record is 16 bytes and the area
+-- a raw record is its header and the area
 abbrev pub raw_len : ℕ → ℕ
-raw_len area_len = 16 + area_len
+raw_len area_len = header_len + area_len
 
 -- A record that is a blob is as long over each area of that length as over zero bytes.
 abbrev pub blob_len : Recorded → ℕ → ℕ

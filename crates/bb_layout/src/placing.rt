@@ -8,6 +8,7 @@ ghost use Rattle.bb_layout.specs.Storage as spec;
 
 use crate::state_props::Props;
 use crate::{LayoutError, Storage};
+use bb_bucket::FRONT_LEN;
 use bb_flash::{Geometry, Region};
 
 #[tactic(auto, using(crate::proofs::Standing::stored_copies))]
@@ -104,18 +105,16 @@ fn has_room(geometry: Geometry, storage: Storage, len: u64) -> bool
     len < size && room_for(geometry, storage, len) <= size
 }
 
-// The 8 bytes that stand before a record, or behind it.
-const FRONT_LEN: u64 = 8;
-
 #[tactic(auto, using(crate::proofs::Standing::next_below))]
 fn room_for(geometry: Geometry, storage: Storage, len: u64) -> u64
     requires geometry { IsGeometry geometry }
     requires short { len < 2 ^ 32 }
     ensures { result ≡ copy.room_for geometry storage len }
 {
+    let len = len + u64::from(FRONT_LEN);
     match storage {
-        Storage::Stride(_) | Storage::OneBlock => len + FRONT_LEN,
-        Storage::Circular => (len + FRONT_LEN).next_multiple_of(u64::from(geometry.page)),
+        Storage::Stride(_) | Storage::OneBlock => len,
+        Storage::Circular => len.next_multiple_of(u64::from(geometry.page)),
     }
 }
 

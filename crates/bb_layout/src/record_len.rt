@@ -8,6 +8,7 @@ use crate::record_tree::record_tree;
 use crate::state_props::Props;
 use crate::{FormatKind, VarList};
 use bb_base::{NoMemory, Text};
+use bb_raw::HEADER_LEN;
 use bb_tree::blob_length;
 use std::alloc::Global;
 
@@ -37,7 +38,7 @@ pub(crate) fn record_len(
 pub(crate) fn raw_len(area_len: u32) -> u64
     ensures { result ≡ spec.raw_len area_len }
 {
-    16 + u64::from(area_len)
+    HEADER_LEN as u64 + u64::from(area_len)
 }
 
 // How many bytes a record that is a blob has, whatever the area is.

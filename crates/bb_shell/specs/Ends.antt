@@ -11,7 +11,8 @@ use Rattle.bb_copies.specs.declared.answers.CopyFault.TheVariants.{WriteFault}
 use Rattle.bb_flash.specs.declared.plan.Plan.{Plan}
 use Rattle.bb_flash.specs.Device.{Device, content, starts}
 use Rattle.bb_layout.specs.Layout.{Laid}
-use Rattle.bb_state.specs.Keyed.{AreFacts, Keyed}
+use Rattle.bb_layout.specs.Facts.{IsLaid}
+use Rattle.bb_state.specs.Keyed.{Keyed}
 use Rattle.bb_state.specs.Kinds.{laid_passings}
 use Rattle.bb_state.specs.State.{FitsForm, IsOn, IsSized, is_sure, kept_of, keyed_of, laid_of, used_of}
 use Rattle.bb_state.specs.declared.state.State.{State}
@@ -32,7 +33,7 @@ pub record IsBoundTo (b : Binding) (layout : Laid) : Type 0 where
 
 -- a state can be booted: its last load or save answered Ok, and the chooser was bound to its layout
 pub record IsReady (b : Binding) (state : State) (device : Device) : Type 0 where
-  pub facts : AreFacts (laid_of state)
+  pub facts : IsLaid (laid_of state)
   pub sized : IsSized state
   pub fits : FitsForm state
   pub sure : is_sure state ≡ true

@@ -9,7 +9,8 @@ use Rattle.bb_layout.proofs.Outside.{defaults_hold, defaults_length}
 use Rattle.bb_dtbrec.specs.Laws.{fit}
 use Rattle.bb_dtbrec.specs.Layouts.{layout_pattern}
 use Rattle.bb_dtbrec.proofs.LayoutAreas as areas
-use Rattle.bb_state.specs.Keyed.{AreFacts, Keyed}
+use Rattle.bb_layout.specs.Facts.{IsLaid}
+use Rattle.bb_state.specs.Keyed.{Keyed}
 use Rattle.bb_state.specs.Kinds.{any_form, format_for, laid_form}
 
 -- a table is kept by records of that format
@@ -31,19 +32,19 @@ fits_sized keyed table fits = sized_at keyed.layout.format keyed table fits
 
 -- ---- variables alone were written
 
-changed_at : (format : FormatKind) (keyed : Keyed) (before after : List ℕ) → keyed.layout.format ≡ format → AreFacts keyed.layout
+changed_at : (format : FormatKind) (keyed : Keyed) (before after : List ℕ) → keyed.layout.format ≡ format → IsLaid keyed.layout
     → Fits format keyed before → ChangesVarsAlone keyed.layout.vars before after → Fits format keyed after
 changed_at Raw keyed before after is facts fits changes = eq-eqb _ _ (changes.same_length ∙ eqb-true _ _ fits)
 changed_at RawHmac keyed before after is facts fits changes = eq-eqb _ _ (changes.same_length ∙ eqb-true _ _ fits)
 changed_at Dtb keyed before after is facts fits changes = areas.changed_fits keyed.layout before after facts.vars_are changes fits
 
-pub changed_fits : (keyed : Keyed) (before after : List ℕ) → AreFacts keyed.layout → IsTrue ((laid_form keyed).fits before)
+pub changed_fits : (keyed : Keyed) (before after : List ℕ) → IsLaid keyed.layout → IsTrue ((laid_form keyed).fits before)
     → ChangesVarsAlone keyed.layout.vars before after → IsTrue ((laid_form keyed).fits after)
 changed_fits keyed before after facts fits changes = changed_at keyed.layout.format keyed before after refl facts fits changes
 
 -- ---- the defaults
 
-defaults_at : (format : FormatKind) (keyed : Keyed) → keyed.layout.format ≡ format → AreFacts keyed.layout
+defaults_at : (format : FormatKind) (keyed : Keyed) → keyed.layout.format ≡ format → IsLaid keyed.layout
     → Fits format keyed (defaults_of keyed.layout.area_len keyed.layout.vars)
 defaults_at Raw keyed is facts = eq-eqb _ _ (defaults_length keyed.layout.area_len keyed.layout.vars facts.vars_are)
 defaults_at RawHmac keyed is facts = eq-eqb _ _ (defaults_length keyed.layout.area_len keyed.layout.vars facts.vars_are)
@@ -52,5 +53,5 @@ defaults_at Dtb keyed is facts =
     areas.holding_fits layout (defaults_of layout.area_len layout.vars) is facts
     (defaults_length layout.area_len layout.vars facts.vars_are) (defaults_hold layout.area_len layout.vars facts.vars_are)
 
-pub defaults_fit : (keyed : Keyed) → AreFacts keyed.layout → IsTrue ((laid_form keyed).fits (defaults_of keyed.layout.area_len keyed.layout.vars))
+pub defaults_fit : (keyed : Keyed) → IsLaid keyed.layout → IsTrue ((laid_form keyed).fits (defaults_of keyed.layout.area_len keyed.layout.vars))
 defaults_fit keyed facts = defaults_at keyed.layout.format keyed refl facts

@@ -20,14 +20,14 @@ use Rattle.bb_copies.specs.Buckets.{AllAgree, AllServe, HaveRoom, IsApart}
 use Rattle.bb_raw.specs.Raw.{code_len}
 use Rattle.bb_dtbrec.proofs.LayoutRecords.{layout_length}
 use Rattle.bb_layout.specs.Copies.{region_of, spacing}
-use Rattle.bb_layout.specs.Facts.{HasCopies, is_stride}
+use Rattle.bb_layout.specs.Facts.{HasCopies, IsLaid, is_stride}
 use Rattle.bb_layout.specs.Formats.{record_len}
 use Rattle.bb_layout.specs.Layout.{Laid, laid_len, recorded_of}
 use Rattle.bb_layout.specs.declared.format_kind.FormatKind.{FormatKind}
 use Rattle.bb_layout.specs.declared.format_kind.FormatKind.TheVariants.{Dtb, Raw, RawHmac}
 use Rattle.bb_layout.specs.declared.storage.Storage.{Storage}
 use Rattle.bb_layout.specs.declared.storage.Storage.TheVariants.{Stride, OneBlock, Circular}
-use Rattle.bb_state.specs.Keyed.{AreFacts, FitsKey, Keyed}
+use Rattle.bb_state.specs.Keyed.{FitsKey, Keyed}
 use Rattle.bb_state.specs.Kinds.{any_form, any_holding, block_at, bucket_at, format_for, format_of, key_in, laid_buckets, laid_form, laid_kinds, raw_under}
 use Rattle.bb_state.specs.declared.any_bucket.AnyBucket.{AnyBucket}
 
@@ -127,7 +127,7 @@ code_short None = omega arith
 code_short (Some _) = omega arith
 
 -- a record has no more bytes than its layout counts
-record_short : (format : FormatKind) (keyed : Keyed) → keyed.layout.format ≡ format → AreFacts keyed.layout →
+record_short : (format : FormatKind) (keyed : Keyed) → keyed.layout.format ≡ format → IsLaid keyed.layout →
     (any_form (format_for format keyed)).length ≤ record_len format (recorded_of keyed.layout) keyed.layout.area_len
 record_short Raw keyed is facts = omega arith
 record_short RawHmac keyed is facts = let code = code_short keyed.key in omega arith
@@ -161,7 +161,7 @@ fit_of Circular form geometry partition copies len copy short is has below =
     record { region_is = refl; room = omega arith; serves = serves_block Circular geometry partition copies len copy is has below refl refl }
 
 -- what the facts of a layout say of a copy
-kind_fit : (keyed : Keyed) (copy : ℕ) (kind : BucketKind) → AreFacts keyed.layout → slice_get (laid_kinds keyed.layout) copy ≡ Some kind →
+kind_fit : (keyed : Keyed) (copy : ℕ) (kind : BucketKind) → IsLaid keyed.layout → slice_get (laid_kinds keyed.layout) copy ≡ Some kind →
     (copy < keyed.layout.copies) × IsFit (laid_form keyed) keyed.layout.geometry (region_of keyed.layout.geometry keyed.layout.storage keyed.layout.region copy) kind
 kind_fit keyed copy kind facts h =
     let layout = keyed.layout in
@@ -171,7 +171,7 @@ kind_fit keyed copy kind facts h =
           (fit_of layout.storage (laid_form keyed) layout.geometry layout.region layout.copies (laid_len layout) copy (record_short layout.format keyed refl facts) facts.geometry_is facts.copied at.inside),
     )
 
-apart_of : (layout : Laid) (one two : ℕ) → AreFacts layout → one ≢ two →
+apart_of : (layout : Laid) (one two : ℕ) → IsLaid layout → one ≢ two →
     IsApart (region_of layout.geometry layout.storage layout.region one) (region_of layout.geometry layout.storage layout.region two)
 apart_of layout one two facts differ =
     elim (cases_lt one two) [
@@ -192,7 +192,7 @@ apart_of layout one two facts differ =
 regions_apart : (one two a b : Region) → one ≡ a → two ≡ b → IsApart a b → IsApart one two
 regions_apart one two a b ea eb h = subst (λ r. IsApart r two) (sym ea) (subst (IsApart a) (sym eb) h)
 
-pub have_room : (keyed : Keyed) → AreFacts keyed.layout → HaveRoom (laid_form keyed) (laid_kinds keyed.layout)
+pub have_room : (keyed : Keyed) → IsLaid keyed.layout → HaveRoom (laid_form keyed) (laid_kinds keyed.layout)
 have_room keyed facts = record {
   room = λ copy kind there. (kind_fit keyed copy kind facts there).1.room;
   apart = λ copy kind there other beside found differ.
@@ -202,7 +202,7 @@ have_room keyed facts = record {
       (apart_of keyed.layout copy other facts (λ same. differ (sym same)));
 }
 
-pub all_serve : (keyed : Keyed) → AreFacts keyed.layout → AllServe (laid_kinds keyed.layout) keyed.layout.geometry
+pub all_serve : (keyed : Keyed) → IsLaid keyed.layout → AllServe (laid_kinds keyed.layout) keyed.layout.geometry
 all_serve keyed facts copy kind there = (kind_fit keyed copy kind facts there).1.serves
 
 -- ---- what holds of a fresh state

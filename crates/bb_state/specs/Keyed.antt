@@ -1,8 +1,7 @@
 -- A layout and its key.
 use Rattle.std.specs.Prelude.{◌≡◌, ℕ, List, Option, is_some}
-use Rattle.bb_layout.specs.Facts.{IsLayout}
 use Rattle.bb_layout.specs.Formats.{takes_key}
-use Rattle.bb_layout.specs.Layout.{Laid, laid_len}
+use Rattle.bb_layout.specs.Layout.{Laid}
 use Rattle.bb_layout.specs.declared.format_kind.FormatKind.{FormatKind}
 
 -- a layout with the block of its key (RFC 2104), if its records are kept under one
@@ -13,9 +12,3 @@ pub record Keyed : Type 0 where
 -- a key is given exactly where records of that format are kept under one
 abbrev pub FitsKey : FormatKind → Option (List ℕ) → Type 0
 FitsKey format key = is_some key ≡ takes_key format
-
--- what is true of every layout
-abbrev pub AreFacts : Laid → Type 0
-AreFacts layout =
-    IsLayout layout.geometry layout.region layout.storage layout.copies (laid_len layout)
-    layout.area_len layout.vars

@@ -16,7 +16,8 @@ ghost use Rattle.bb_copies.specs.declared.answers.CopyFault.TheVariants.{ReadFau
 ghost use Rattle.bb_layout.specs.Defaults.{defaults_of};
 ghost use Rattle.bb_layout.specs.Layout.{fields_of};
 ghost use Rattle.bb_layout.specs.Outside.{ChangesVarsAlone};
-ghost use Rattle.bb_state.specs.Keyed.{AreFacts, FitsKey};
+ghost use Rattle.bb_layout.specs.Facts.{IsLaid};
+ghost use Rattle.bb_state.specs.Keyed.{FitsKey};
 ghost use Rattle.bb_state.specs.Named.{Refuses, after_set, refusal_for, text_for};
 ghost use Rattle.bb_state.specs.State.{FitsForm, form_of, kinds_of, IsDefault, IsFresh, IsOn};
 ghost use Rattle.bb_state.specs.State.{IsPlaced};
@@ -51,7 +52,7 @@ impl State {
         ensures table { IfOk result (λ state.
             state.table ≡ defaults_of layout.area_len layout.vars) }
         ensures sure { IfOk result (λ state. is_sure state ≡ false) }
-        ensures facts { IfOk result (λ state. AreFacts (laid_of state)) }
+        ensures facts { IfOk result (λ state. IsLaid (laid_of state)) }
         ensures sized { IfOk result IsSized }
         ensures fits { IfOk result FitsForm }
         ensures fresh { IfOk result IsFresh }
@@ -94,7 +95,7 @@ impl State {
         ensures kept { OnOk result (kept_of self.new ≡ self.new.table) }
         ensures used { IfOk result (λ loaded. used_of self.new ≡ used_after loaded) }
         ensures sure { is_sure self.new ≡ is_ok result }
-        ensures facts { AreFacts (laid_of self.new) }
+        ensures facts { IsLaid (laid_of self.new) }
         ensures sized { IsSized self.new }
         ensures loaded_fits { OnOk result (FitsForm self.new) }
         ensures fits { FitsForm self.old → FitsForm self.new }

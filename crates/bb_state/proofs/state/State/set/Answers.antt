@@ -2,7 +2,7 @@ use Rattle.std.proofs.Common.{◌≡◌, ◌∙◌, List, ap, subst, sym}
 use Rattle.bb_layout.specs.Layout.{Laid}
 use Rattle.bb_layout.specs.Outside.{ChangesVarsAlone}
 use Rattle.bb_layout.specs.declared.var.Var.{Var}
-use Rattle.bb_state.specs.Keyed.{AreFacts}
+use Rattle.bb_layout.specs.Facts.{IsLaid}
 use Rattle.bb_state.specs.Named.{after_set}
 use Rattle.bb_state.specs.State.{keyed_of, laid_of}
 use Rattle.bb_state.proofs.Fitting.{changed_fits}
@@ -21,4 +21,4 @@ returns-clause-outside c =
 
 pub returns-clause-fits : goal.returns-clause-fits
 returns-clause-fits c = λ fits.
-    changed_fits (keyed_of c.args.self.now) c.args.self.now.table c.set_value.new.table (subst AreFacts c.layout.ensures c.layout.result.now.facts) fits (returns-clause-outside c)
+    changed_fits (keyed_of c.args.self.now) c.args.self.now.table c.set_value.new.table (subst IsLaid c.layout.ensures c.layout.result.now.facts) fits (returns-clause-outside c)
