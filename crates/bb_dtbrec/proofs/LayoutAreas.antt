@@ -3,7 +3,8 @@ use Rattle.std.proofs.Common.{◌≡◌, ℕ, ◌<◌, ◌≤◌, ◌⊎◌, tru
 use Rattle.std.specs.List.{AllByRecursion}
 use Rattle.std.proofs.lemmas.List.Elements.{All-from_recursion, recursion_from_All}
 use Rattle.bb_tree.specs.Node.{Forest, empty, grow}
-use Rattle.bb_layout.specs.Facts.{AreVars, IsLaid}
+use Rattle.bb_layout.specs.Facts.{AreVars}
+use Rattle.bb_layout.specs.Kept.{IsLaid}
 use Rattle.bb_layout.specs.Layout.{Laid, recorded_of}
 use Rattle.bb_layout.specs.Outside.{ChangesVarsAlone, HoldsVarsAlone, IsOutside}
 use Rattle.bb_layout.specs.Ranges.{end_of}

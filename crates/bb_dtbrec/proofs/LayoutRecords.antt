@@ -10,7 +10,8 @@ use Rattle.bb_tree.specs.Blob.{blob_text}
 use Rattle.bb_vars.specs.declared.kind.Kind.{Kind}
 use Rattle.bb_vars.specs.declared.kind.Kind.TheVariants.{Uint8, Uint32, Enum32, Mac, Chars}
 use Rattle.bb_layout.specs.Copies.{room_for, spacing}
-use Rattle.bb_layout.specs.Facts.{AreVars, IsLaid}
+use Rattle.bb_layout.specs.Facts.{AreVars}
+use Rattle.bb_layout.specs.Kept.{IsLaid}
 use Rattle.bb_layout.specs.Formats.{blob_len, record_len}
 use Rattle.bb_layout.specs.Layout.{Laid, laid_len, recorded_of}
 use Rattle.bb_layout.specs.Ranges.{end_of}

@@ -4,7 +4,6 @@ use Rattle.bb_flash.specs.Geometry.{IsGeometry}
 use Rattle.bb_flash.specs.declared.geometry.Geometry.{Geometry}
 use Rattle.bb_flash.specs.declared.region.Region.{Region}
 use Rattle.bb_layout.specs.Copies.{region_of, room_for, spacing}
-use Rattle.bb_layout.specs.Layout.{Laid, laid_len}
 use Rattle.bb_layout.specs.declared.storage.Storage.{Storage}
 use Rattle.bb_layout.specs.declared.storage.Storage.TheVariants.{Stride, OneBlock, Circular}
 use Rattle.bb_layout.specs.declared.var.Var.{Var}
@@ -75,7 +74,3 @@ pub record IsLayout (geometry : Geometry) (partition : Region) (storage : Storag
   pub copied : HasCopies geometry partition storage copies len
   pub area_most : area_len ≤ area_limit
   pub vars_are : AreVars area_len vars
-
--- what is true of every layout, by its fields
-abbrev pub IsLaid : Laid → Type 0
-IsLaid l = IsLayout l.geometry l.region l.storage l.copies (laid_len l) l.area_len l.vars

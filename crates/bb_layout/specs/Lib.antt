@@ -7,6 +7,7 @@ pub mod Defaults
 pub mod Facts
 pub mod Fields
 pub mod Formats
+pub mod Kept
 pub mod Layout
 pub mod Outside
 pub mod Ranges

@@ -9,7 +9,7 @@ use Rattle.bb_layout.proofs.Outside.{defaults_hold, defaults_length}
 use Rattle.bb_dtbrec.specs.Laws.{fit}
 use Rattle.bb_dtbrec.specs.Layouts.{layout_pattern}
 use Rattle.bb_dtbrec.proofs.LayoutAreas as areas
-use Rattle.bb_layout.specs.Facts.{IsLaid}
+use Rattle.bb_layout.specs.Kept.{IsLaid}
 use Rattle.bb_state.specs.Keyed.{Keyed}
 use Rattle.bb_state.specs.Kinds.{any_form, format_for, laid_form}
 

@@ -20,7 +20,8 @@ use Rattle.bb_copies.specs.Buckets.{AllAgree, AllServe, HaveRoom, IsApart}
 use Rattle.bb_raw.specs.Raw.{code_len}
 use Rattle.bb_dtbrec.proofs.LayoutRecords.{layout_length}
 use Rattle.bb_layout.specs.Copies.{region_of, spacing}
-use Rattle.bb_layout.specs.Facts.{HasCopies, IsLaid, is_stride}
+use Rattle.bb_layout.specs.Facts.{HasCopies, is_stride}
+use Rattle.bb_layout.specs.Kept.{IsLaid}
 use Rattle.bb_layout.specs.Formats.{record_len}
 use Rattle.bb_layout.specs.Layout.{Laid, laid_len, recorded_of}
 use Rattle.bb_layout.specs.declared.format_kind.FormatKind.{FormatKind}

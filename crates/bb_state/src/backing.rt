@@ -16,7 +16,7 @@ ghost use Rattle.bb_copies.specs.Store.{used_after};
 ghost use Rattle.bb_copies.specs.declared.answers.CopyFault.TheVariants.{ReadFault, Unsure};
 ghost use Rattle.bb_layout.specs.Layout.{fields_of};
 ghost use Rattle.bb_state.specs.Backed.{form_in, kinds_in};
-ghost use Rattle.bb_layout.specs.Facts.{IsLaid};
+ghost use Rattle.bb_layout.specs.Kept.{IsLaid};
 ghost use Rattle.bb_state.specs.Keyed.{FitsKey};
 ghost use Rattle.bb_state.specs.Kinds.{any_holding, bucket_at, format_of, laid_buckets};
 ghost use Rattle.bb_state.specs.State.{IsDefault, IsRefused, IsStored};

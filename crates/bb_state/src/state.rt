@@ -16,7 +16,7 @@ ghost use Rattle.bb_copies.specs.declared.answers.CopyFault.TheVariants.{ReadFau
 ghost use Rattle.bb_layout.specs.Defaults.{defaults_of};
 ghost use Rattle.bb_layout.specs.Layout.{fields_of};
 ghost use Rattle.bb_layout.specs.Outside.{ChangesVarsAlone};
-ghost use Rattle.bb_layout.specs.Facts.{IsLaid};
+ghost use Rattle.bb_layout.specs.Kept.{IsLaid};
 ghost use Rattle.bb_state.specs.Keyed.{FitsKey};
 ghost use Rattle.bb_state.specs.Named.{Refuses, after_set, refusal_for, text_for};
 ghost use Rattle.bb_state.specs.State.{FitsForm, form_of, kinds_of, IsDefault, IsFresh, IsOn};

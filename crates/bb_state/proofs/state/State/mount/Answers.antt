@@ -1,6 +1,6 @@
 use Rattle.std.proofs.Common.{List, ℕ, IsTrue, subst, sym}
 use Rattle.bb_layout.specs.Layout.{fields_of}
-use Rattle.bb_layout.specs.Facts.{IsLaid}
+use Rattle.bb_layout.specs.Kept.{IsLaid}
 use Rattle.bb_state.specs.Keyed.{Keyed}
 use Rattle.bb_state.specs.Kinds.{laid_form}
 use Rattle.bb_state.proofs.Fitting.{defaults_fit}

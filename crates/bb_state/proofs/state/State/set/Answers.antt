@@ -2,7 +2,7 @@ use Rattle.std.proofs.Common.{◌≡◌, ◌∙◌, List, ap, subst, sym}
 use Rattle.bb_layout.specs.Layout.{Laid}
 use Rattle.bb_layout.specs.Outside.{ChangesVarsAlone}
 use Rattle.bb_layout.specs.declared.var.Var.{Var}
-use Rattle.bb_layout.specs.Facts.{IsLaid}
+use Rattle.bb_layout.specs.Kept.{IsLaid}
 use Rattle.bb_state.specs.Named.{after_set}
 use Rattle.bb_state.specs.State.{keyed_of, laid_of}
 use Rattle.bb_state.proofs.Fitting.{changed_fits}
