@@ -5,6 +5,7 @@ pub mod Dtb
 pub mod Checking
 pub mod Laws
 pub mod Pieces
+pub mod Spine
 -- The pattern of a tree, and that of a layout.
 pub mod Layouts
 pub mod Trees
