@@ -1,4 +1,4 @@
-use super::board::{board, in_place, layout_on, layout, tree};
+use super::board::{board, in_place, layout, layout_on, tree};
 use bb_layout::{FormatKind, LayoutError, Storage};
 use std::test::Fail;
 

@@ -1,4 +1,4 @@
-use super::board::{board, in_place, is_bad_prop, layout_on, layout};
+use super::board::{board, in_place, is_bad_prop, layout, layout_on};
 use bb_layout::{FormatKind, LayoutError, Storage};
 use std::test::Fail;
 

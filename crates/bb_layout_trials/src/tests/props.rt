@@ -1,4 +1,4 @@
-use super::board::{board, in_place, is_bad_prop, layout_on, layout};
+use super::board::{board, in_place, is_bad_prop, layout, layout_on};
 use bb_layout::LayoutError;
 use std::test::Fail;
 
@@ -35,7 +35,7 @@ fn a_string_ends_in_a_zero_byte(rt: HostRuntime) -> Result<(), Fail> {
         "backend-type",
     )?;
     assert!(rt; two);
-    let other = is_bad_prop(rt.alloc(), b"backend-type = \"dtb\";\n", "backend-type")?;
+    let other = is_bad_prop(rt.alloc(), b"backend-type = \"blob\";\n", "backend-type")?;
     assert!(rt; other);
     let unended = in_place(
         rt.alloc(),
