@@ -7,7 +7,7 @@ use Rattle.std.proofs.lemmas.List.{replicate_more}
 use Rattle.bb_tree.specs.Node.{Branch, Forest, empty, node, branches, forest}
 use Rattle.bb_layout.specs.Record.{node_for, nodes_with_prop, put_prop, with_last}
 use Rattle.bb_dtbrec.specs.declared.piece.Piece.{Piece}
-use Rattle.bb_dtbrec.specs.Spine.{Open, begin_piece, end_piece, ends_in, marks, nodes_in, nodes_written, own_pieces, pieces_in, props_written, value_offset}
+use Rattle.bb_dtbrec.specs.Spine.{Open, begin_piece, end_piece, ends_in, marks, nodes_in, nodes_written, own_pieces, pieces_in, props_written, put_in_last, value_offset}
 use Rattle.bb_dtbrec.specs.Trees.{nodes_pieces, prop_pieces}
 use Rattle.bb_dtbrec.proofs.GrownValues.{branches_forest, with_last_of}
 use Rattle.bb_dtbrec.proofs.TreeShapes.{put_on}
@@ -143,13 +143,6 @@ length_opens inner [] = refl
 length_opens inner (name ∷ names) = ap suc (length_opens [] names)
 
 -- ---- a property that is written
-
--- the last open node with a property more
-abbrev pub put_in_last : List ℕ × Piece → List Open → List Open
-put_in_last prop [] = []
-put_in_last prop (o ∷ []) =
-    record { front = o.front; name = o.name; props = o.props ++ prop ∷ [] } ∷ []
-put_in_last prop (o ∷ p ∷ os) = o ∷ put_in_last prop (p ∷ os)
 
 pub length_put : (prop : List ℕ × Piece) (os : List Open) →
     length (put_in_last prop os) ≡ length os

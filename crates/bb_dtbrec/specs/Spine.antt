@@ -2,10 +2,11 @@
 -- node all is written but its end and the nodes that are still to come. Each is the last one in the
 -- node above it.
 use Rattle.std.specs.Prelude.{◌≡◌, ℕ, zero, suc, ◌+◌, List, [], ◌∷◌, ◌++◌, length, map}
-use Rattle.std.specs.List.{flat_map}
+use Rattle.std.specs.List.{common_prefix_len, flat_map}
+use Rattle.std.specs.Str.{bytes_eq}
 use Rattle.bb_tree.specs.Node.{Branch, forest}
 use Rattle.bb_tree.specs.Blob.{begin_text, word}
-use Rattle.bb_layout.specs.Record.{Grown}
+use Rattle.bb_layout.specs.Record.{Grown, nodes_with_prop}
 use Rattle.bb_dtbrec.specs.declared.piece.Piece.{Piece}
 use Rattle.bb_dtbrec.specs.declared.piece.Piece.TheVariants.{Fixed}
 use Rattle.bb_dtbrec.specs.Trees.{nodes_pieces, prop_pieces}
@@ -59,12 +60,30 @@ ends_in before [] = []
 ends_in before (o ∷ os) =
     (before + length (own_pieces o)) ∷ ends_in (before + length (own_pieces o)) os
 
+-- the last open node with a property more
+abbrev pub put_in_last : List ℕ × Piece → List Open → List Open
+put_in_last prop [] = []
+put_in_last prop (o ∷ []) =
+    record { front = o.front; name = o.name; props = o.props ++ prop ∷ [] } ∷ []
+put_in_last prop (o ∷ p ∷ os) = o ∷ put_in_last prop (p ∷ os)
+
 -- these pieces and ends are those of the nodes of variables, where the last path is open
 pub record Spells (grown : Grown Piece) (written : List Piece) (ends : List ℕ) : Type 0 where
   pub opens : List Open
   pub inner : List (Branch Piece)
   pub depth : length opens ≡ length grown.path
   pub nodes : grown.nodes ≡ nodes_in opens inner
+  pub pieces : written ≡ pieces_in opens inner
+  pub ends_are : ends ≡ ends_in 0 opens
+
+-- and these are so where a path is open that leads to a property which is still to come
+pub record IsOpened (grown : Grown Piece) (path : List (List ℕ)) (written : List Piece) (ends : List ℕ) : Type 0 where
+  pub opens : List Open
+  pub inner : List (Branch Piece)
+  pub depth : length opens ≡ length path
+  pub nodes : (prop : List ℕ × Piece) →
+      nodes_with_prop (common_prefix_len bytes_eq grown.path path) path prop grown.nodes
+      ≡ nodes_in (put_in_last prop opens) inner
   pub pieces : written ≡ pieces_in opens inner
   pub ends_are : ends ≡ ends_in 0 opens
 
