@@ -10,14 +10,10 @@ use Rattle.bb_layout.specs.Record.{Grown, nodes_with_prop, with_last, with_var}
 use Rattle.bb_layout.specs.declared.var.Var.{Var}
 use Rattle.bb_dtbrec.specs.declared.piece.Piece.{Piece}
 use Rattle.bb_dtbrec.specs.Layouts.{field_for}
-use Rattle.bb_dtbrec.specs.Spine.{IsOpened, Open, Spells, begin_piece, end_piece, ends_in, marks, nodes_in, nodes_written, pieces_in, put_in_last}
-use Rattle.bb_dtbrec.proofs.Spines.{before_inner, end_at, ends_begun, ends_ended, ends_put, inner_after, inner_at, length_ends, length_opens, length_put, nodes_ended, nodes_put, opens_for, pieces_before, pieces_begun, pieces_ended, pieces_put, prop_written}
+use Rattle.bb_dtbrec.specs.Spine.{IsOpened, Open, Spells, begin_piece, end_piece, ends_in, field_written, marks, nodes_in, nodes_written, pieces_in, pieces_left, prop_written, put_in_last}
+use Rattle.bb_dtbrec.proofs.Spines.{before_inner, end_at, ends_begun, ends_ended, ends_put, inner_after, inner_at, length_ends, length_opens, length_put, nodes_ended, nodes_put, opens_for, pieces_before, pieces_begun, pieces_ended, pieces_put}
 
 -- ---- the path is opened
-
--- what is written when the nodes beyond so many have ended
-abbrev pub pieces_left : ℕ → List Piece → List ℕ → List Piece
-pieces_left shared written ends = written ++ replicate (length ends - shared) end_piece
 
 length_ended : (os : List Open) (n : ℕ) → n ≤ length os → length (take n os) ≡ n
 length_ended os n le = length-take-le n os le
@@ -76,9 +72,6 @@ opened grown path written ends shared led is h =
     from_none n = omega arith
 
 -- ---- the property follows
-
-abbrev pub field_written : Var → List Piece
-field_written v = prop_written (codes "value", field_for v)
 
 -- where the last end is, the pieces reach
 pub end_within : (grown : Grown Piece) (path : List (List ℕ)) (written : List Piece)

@@ -7,7 +7,7 @@ use Rattle.std.proofs.lemmas.List.{replicate_more}
 use Rattle.bb_tree.specs.Node.{Branch, Forest, empty, node, branches, forest}
 use Rattle.bb_layout.specs.Record.{node_for, nodes_with_prop, put_prop, with_last}
 use Rattle.bb_dtbrec.specs.declared.piece.Piece.{Piece}
-use Rattle.bb_dtbrec.specs.Spine.{Open, begin_piece, end_piece, ends_in, marks, nodes_in, nodes_written, own_pieces, pieces_in, props_written, put_in_last, value_offset}
+use Rattle.bb_dtbrec.specs.Spine.{Open, begin_piece, end_piece, ends_in, marks, nodes_in, nodes_written, own_pieces, pieces_in, prop_written, props_written, put_in_last, value_offset}
 use Rattle.bb_dtbrec.specs.Trees.{nodes_pieces, prop_pieces}
 use Rattle.bb_dtbrec.proofs.GrownValues.{branches_forest, with_last_of}
 use Rattle.bb_dtbrec.proofs.TreeShapes.{put_on}
@@ -161,9 +161,6 @@ pieces_before [] inner = refl
 pieces_before (o ∷ os) inner =
     ap (λ l. own_pieces o ++ l) (pieces_before os inner)
     ∙ sym (append_assoc (own_pieces o) (before_inner os) (nodes_written inner))
-
-abbrev pub prop_written : List ℕ × Piece → List Piece
-prop_written prop = prop_pieces (λ name. value_offset) prop
 
 own_with : (prop : List ℕ × Piece) (o : Open) →
     own_pieces (record { front = o.front; name = o.name; props = o.props ++ prop ∷ [] })

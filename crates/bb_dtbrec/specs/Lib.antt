@@ -4,6 +4,7 @@ pub mod Dtb
 -- Inside: that this record is a format, and that a check field by field is what passes.
 pub mod Checking
 pub mod Laws
+pub mod LayoutPieces
 pub mod Names
 pub mod Pieces
 pub mod Spine

@@ -1,7 +1,7 @@
 -- The pieces of the nodes of variables, while some of these are written and some are open: of an open
 -- node all is written but its end and the nodes that are still to come. Each is the last one in the
 -- node above it.
-use Rattle.std.specs.Prelude.{◌≡◌, ℕ, zero, suc, ◌+◌, List, [], ◌∷◌, ◌++◌, length, map}
+use Rattle.std.specs.Prelude.{◌≡◌, ℕ, zero, suc, ◌+◌, ◌-◌, List, [], ◌∷◌, ◌++◌, codes, length, map, replicate}
 use Rattle.std.specs.List.{common_prefix_len, flat_map}
 use Rattle.std.specs.Str.{bytes_eq}
 use Rattle.bb_tree.specs.Node.{Branch, forest}
@@ -9,6 +9,8 @@ use Rattle.bb_tree.specs.Blob.{begin_text, word}
 use Rattle.bb_layout.specs.Record.{Grown, nodes_with_prop}
 use Rattle.bb_dtbrec.specs.declared.piece.Piece.{Piece}
 use Rattle.bb_dtbrec.specs.declared.piece.Piece.TheVariants.{Fixed}
+use Rattle.bb_layout.specs.declared.var.Var.{Var}
+use Rattle.bb_dtbrec.specs.Layouts.{field_for}
 use Rattle.bb_dtbrec.specs.Trees.{nodes_pieces, prop_pieces}
 
 -- ---- what is written
@@ -93,3 +95,15 @@ pub record IsOpened (grown : Grown Piece) (path : List (List ℕ)) (written : Li
 abbrev pub marks : ℕ → List (List ℕ) → List ℕ
 marks before [] = []
 marks before (name ∷ names) = (before + 1) ∷ marks (before + 1) names
+
+-- what is written when the nodes beyond so many have ended
+abbrev pub pieces_left : ℕ → List Piece → List ℕ → List Piece
+pieces_left shared written ends = written ++ replicate (length ends - shared) end_piece
+
+-- ---- the property of a variable
+
+abbrev pub prop_written : List ℕ × Piece → List Piece
+prop_written prop = prop_pieces (λ name. value_offset) prop
+
+abbrev pub field_written : Var → List Piece
+field_written v = prop_written (codes "value", field_for v)
