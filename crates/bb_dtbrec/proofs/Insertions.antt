@@ -76,6 +76,16 @@ module _ {A : Type 0} where
           (all_without P h.1.front h.1.back x
           (subst (AllByRecursion P) h.1.to (all_before P h.0 xs after h.2 all))).1
 
+  -- what holds of the items before and of those that were put in, holds of all
+  pub all_put : (P : A → Type 0) (before xs after : List A) → AreInserted before xs after →
+      AllByRecursion P before → AllByRecursion P xs → AllByRecursion P after
+  all_put P before [] after h all more = subst (AllByRecursion P) h all
+  all_put P before (x ∷ xs) after h all more =
+      all_put P h.0 xs after h.2
+      (subst (AllByRecursion P) (sym h.1.to)
+      (all_with P h.1.front h.1.back x more.0 (subst (AllByRecursion P) h.1.from all)))
+      more.1
+
 -- ---- what counts as pieces
 
 -- two variables share no byte
