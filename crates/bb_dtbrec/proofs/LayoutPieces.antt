@@ -4,6 +4,7 @@ use Rattle.std.specs.List.{AllByRecursion}
 use Rattle.std.proofs.lemmas.List.Elements.{recursion_from_All}
 use Rattle.bb_tree.specs.Node.{Forest, forest}
 use Rattle.bb_tree.specs.Blob.{begin_text, double_word, header_text, offset_of, reservation_list, strings_block, word}
+use Rattle.bb_layout.specs.Kept.{IsLaid}
 use Rattle.bb_layout.specs.Layout.{Laid, laid_len, recorded_of}
 use Rattle.bb_layout.specs.Record.{Recorded, grown_by}
 use Rattle.bb_layout.specs.Variables.{IsWellFormed}
@@ -18,7 +19,7 @@ use Rattle.bb_dtbrec.specs.Names.{record_names}
 use Rattle.bb_dtbrec.specs.Spine.{nodes_written}
 use Rattle.bb_dtbrec.specs.Trees.{crc_prop, front_of, nodes_pieces, pieces_behind_crc, prop_token, structure_pieces, template_names, template_offset}
 use Rattle.bb_dtbrec.proofs.GrownValues.{IsLed}
-use Rattle.bb_dtbrec.proofs.LayoutRecords.{IsLaid, laid_len_most, layout_length}
+use Rattle.bb_dtbrec.proofs.LayoutRecords.{laid_len_most, layout_length}
 use Rattle.bb_dtbrec.proofs.Offsets.{compatible_offset, crc_offset, magic_offset, names_of_template, vars_written}
 use Rattle.bb_dtbrec.proofs.VarPlaces.{vars_led}
 
