@@ -21,7 +21,7 @@ IsOutsidePiece k (Value place) = IsBeside k place
 
 -- ---- one value
 
-byte_beside : (place : Place) (value area : List ℕ) (k : ℕ) →
+pub byte_beside : (place : Place) (value area : List ℕ) (k : ℕ) →
     place.at + place.size ≤ length area → length value ≡ place.size → IsBeside k place →
     get_or (with_value place value area) k 0 ≡ get_or area k 0
 byte_beside place value area k inside e (inl before) =
@@ -135,7 +135,7 @@ filled (Value place ∷ pieces) area start h e same =
     (λ k l outside. byte_put place area start k known.inside e
     (λ beside. same k l (beside, outside)))
 
-zero_at : (n k : ℕ) → let zeros : List ℕ = replicate n 0 in get_or zeros k 0 ≡ 0
+pub zero_at : (n k : ℕ) → let zeros : List ℕ = replicate n 0 in get_or zeros k 0 ≡ 0
 zero_at n k =
     let zeros : List ℕ = replicate n 0 in
     let whole : length zeros ≡ n = length-replicate n 0 in

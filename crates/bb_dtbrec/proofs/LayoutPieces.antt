@@ -149,3 +149,30 @@ structure_most layout e laid =
       laid_len_most layout laid,
       len_beside (structure_behind recorded) (Fixed strings ∷ []),
     )
+
+-- ---- the whole pattern
+
+-- what was written so is the layout's pattern
+pub pattern_written : (layout : Laid) (front : List ℕ) (behind pieces : List Piece)
+    (strings : List ℕ) (structure_len strings_len : ℕ) → IsLaid layout →
+    behind ≡ structure_behind (recorded_of layout) →
+    strings ≡ strings_block (record_names layout.vars) → strings_len ≡ length strings →
+    structure_len ≡ 24 + pieces_len behind → front ≡ front_with structure_len strings_len →
+    pieces ≡ behind ++ Fixed strings ∷ [] →
+    record { front = front; pieces = pieces; area_len = layout.area_len } ≡ layout_pattern layout
+pattern_written layout front behind pieces strings structure_len strings_len laid e1 e2 e3 e4 e5 e6 =
+    let recorded : Recorded = recorded_of layout in
+    let led : AllByRecursion IsLed layout.vars =
+    vars_led layout.vars (recursion_from_All IsWellFormed layout.vars laid.vars_are.each) in
+    let made : List ℕ → List Piece → Pattern = λ f ps.
+    record { front = f; pieces = ps; area_len = layout.area_len } in
+    ap (λ f. made f pieces)
+    (e5
+    ∙ ap (λ n. front_with n strings_len) (e4 ∙ ap (λ l. 24 + pieces_len l) e1)
+    ∙ ap (front_with (24 + pieces_len (structure_behind recorded))) (e3 ∙ ap length e2)
+    ∙ front_written recorded led)
+    ∙ ap (made (front_of (template_of recorded)))
+    (e6
+    ∙ ap (λ l. l ++ Fixed strings ∷ []) e1
+    ∙ ap (λ l. structure_behind recorded ++ Fixed l ∷ []) e2
+    ∙ pieces_written recorded led)
