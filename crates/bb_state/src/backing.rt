@@ -79,7 +79,8 @@ impl Backing {
     {
         let kept = vec![in alloc; 0u8; layout.area_len as usize]?;
         let buckets = buckets_of(alloc, &layout)?;
-        let copies = Copies::mount(alloc, buckets, format_of(alloc, &layout, key)?)?;
+        let format = format_of(alloc, &layout, key)?;
+        let copies = Copies::mount(alloc, buckets, format)?;
         Ok(Backing {
             layout,
             copies,
