@@ -1,4 +1,4 @@
-//! Blobs that are cut, changed byte by byte, deep and long, and what the reader answers to each.
+//! Blobs that are cut, changed byte by byte, deep, long, or compiled of a source, and what the reader answers to each.
 //! Nothing stands on it.
 #![tactic(auto)]
 

@@ -1,3 +1,9 @@
+mod by_hand;
 mod changed;
+mod compiled;
+mod example;
 mod fields;
 mod long;
+mod printed;
+mod readers;
+mod same;

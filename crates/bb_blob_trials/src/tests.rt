@@ -1,0 +1,4 @@
+mod alike;
+mod boards;
+mod sessions;
+mod trees;
