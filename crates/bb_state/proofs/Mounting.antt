@@ -137,6 +137,18 @@ record_short Dtb keyed is facts =
     let counted = ap (λ format. record_len format (recorded_of layout) layout.area_len) is in
     omega (arith, layout_length layout is facts.vars_are, counted)
 
+record_some : (format : FormatKind) (layout : Laid) → layout.format ≡ format → IsLaid layout →
+    1 ≤ record_len format (recorded_of layout) layout.area_len
+record_some Raw layout is facts = omega arith
+record_some RawHmac layout is facts = omega arith
+record_some Dtb layout is facts =
+    let counted = ap (λ format. record_len format (recorded_of layout) layout.area_len) is in
+    omega (arith, layout_length layout is facts.vars_are, counted)
+
+-- a record has bytes
+pub laid_some : (layout : Laid) → IsLaid layout → 1 ≤ laid_len layout
+laid_some layout facts = record_some layout.format layout refl facts
+
 fit_of : (storage : Storage) (form : Form) (geometry : Geometry) (partition : Region) (copies len copy : ℕ) → form.length ≤ len → IsGeometry geometry →
     HasCopies geometry partition storage copies len → copy < copies →
     IsFit form geometry (region_of geometry storage partition copy) (kind_at geometry storage partition copy)
