@@ -1,5 +1,5 @@
 -- A chooser that was bound to a layout changes bytes of the layout's variables alone.
-use Rattle.std.proofs.Common.{◌≡◌, ℕ, ◌<◌, ◌≤◌, ◌⊎◌, List, Ok, All, arith, get_or, inl, inr, length, map, subst, ap, ◌∙◌}
+use Rattle.std.proofs.Common.{◌≡◌, ℕ, ◌<◌, ◌≤◌, ◌⊎◌, List, Ok, arith, get_or, inl, inr, map, subst, ap, ◌∙◌}
 use Rattle.std.proofs.lemmas.Option.{get_or_from_slice_get, slice_get_within}
 use Rattle.bb_layout.specs.Facts.{AreVars}
 use Rattle.bb_layout.specs.Outside as outside

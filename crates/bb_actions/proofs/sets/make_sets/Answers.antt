@@ -1,4 +1,4 @@
-use Rattle.std.proofs.Common.{rules, ◌≡◌, ℕ, List, ap, refl, subst, sym, ◌∙◌}
+use Rattle.std.proofs.Common.{◌≡◌, List, ap, refl, subst, sym, ◌∙◌}
 use Rattle.bb_layout.proofs.Outside.{changes_joined, changes_none}
 use Rattle.bb_layout.specs.Outside.{ChangesVarsAlone}
 use Rattle.bb_layout.specs.declared.var.Var.{Var}
