@@ -1,7 +1,7 @@
 -- The pieces of the nodes of variables, while some of these are written and some are open: of an open
 -- node all is written but its end and the nodes that are still to come. Each is the last one in the
 -- node above it.
-use Rattle.std.specs.Prelude.{◌≡◌, ℕ, zero, suc, ◌+◌, ◌-◌, List, [], ◌∷◌, ◌++◌, codes, length, map, replicate}
+use Rattle.std.specs.Prelude.{◌≡◌, ℕ, ◌+◌, ◌-◌, List, [], ◌∷◌, ◌++◌, codes, length, replicate}
 use Rattle.std.specs.List.{common_prefix_len, flat_map}
 use Rattle.std.specs.Str.{bytes_eq}
 use Rattle.bb_tree.specs.Node.{Branch, forest}

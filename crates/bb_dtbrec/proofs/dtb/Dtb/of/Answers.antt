@@ -1,14 +1,8 @@
-use Rattle.std.proofs.Common.{◌≡◌, true, ◌+◌, ◌≤◌, ◌++◌, ◌∷◌, [], ℕ, List, length, arith, ap, sym, ◌∙◌, subst}
-use Rattle.std.specs.List.{AllByRecursion}
-use Rattle.std.proofs.lemmas.List.Elements.{recursion_from_All}
+use Rattle.std.proofs.Common.{◌≡◌, true, ◌+◌, length, arith, ap, sym, ◌∙◌, subst}
 use Rattle.bb_tree.specs.Blob.{strings_block}
-use Rattle.bb_layout.specs.Layout.{Laid, fields_of, recorded_of}
-use Rattle.bb_layout.specs.Record.{Recorded}
-use Rattle.bb_layout.specs.Variables.{IsWellFormed}
-use Rattle.bb_dtbrec.specs.declared.piece.Piece.TheVariants.{Fixed}
+use Rattle.bb_layout.specs.Layout.{fields_of, recorded_of}
 use Rattle.bb_dtbrec.specs.Dtb.{Pattern, is_pattern, pieces_len}
 use Rattle.bb_dtbrec.specs.LayoutPieces.{structure_behind}
-use Rattle.bb_dtbrec.specs.Layouts.{layout_pattern}
 use Rattle.bb_dtbrec.specs.Names.{record_names}
 use Rattle.bb_dtbrec.proofs.LayoutPieces.{pattern_written, structure_most}
 use Rattle.bb_dtbrec.proofs.LayoutRecords.{layout_is_pattern}
