@@ -56,7 +56,8 @@ all_ended (o ∷ os) inner =
     ∙ ap (λ l. (own ++ below) ++ l) (sym (replicate_more (length os) end_piece))
     ∙ append_assoc own below (ends ++ end_piece ∷ [])
     ∙ ap (λ l. own ++ l)
-    (sym (append_assoc below ends (end_piece ∷ [])) ∙ ap (λ l. l ++ end_piece ∷ []) (all_ended os inner))
+    (sym (append_assoc below ends (end_piece ∷ []))
+    ∙ ap (λ l. l ++ end_piece ∷ []) (all_ended os inner))
     ∙ append_assoc (nodes_written o.front) (begin_piece o.name ∷ props_written o.props)
     (whole ++ end_piece ∷ [])
     ∙ sym

@@ -56,7 +56,8 @@ pub grown_next : (vars : List Var) (i : ℕ) (v : Var) → slice_get vars i ≡ 
 grown_next vars i v h =
     fold_more (with_var field_for) (record { path = []; nodes = [] }) vars i v
     (slice_get_within vars i v h)
-    ∙ ap (with_var field_for (grown_by field_for (take i vars))) (get_or_from_slice_get vars i v v h)
+    ∙ ap (with_var field_for (grown_by field_for (take i vars)))
+    (get_or_from_slice_get vars i v v h)
 
 -- the path of the last one
 pub path_before : (vars : List Var) (i : ℕ) (v : Var) → slice_get vars i ≡ Some v →
