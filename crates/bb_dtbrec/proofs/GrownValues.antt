@@ -8,7 +8,7 @@ use Rattle.bb_tree.specs.Node.{Branch, Forest, empty, node, grow, branches, fore
 use Rattle.bb_layout.specs.Record.{Grown, Recorded, grown_by, node_for, nodes_with_prop, prop_with, put_prop, with_last, with_var}
 use Rattle.bb_layout.specs.declared.var.Var.{Var}
 use Rattle.bb_dtbrec.specs.declared.piece.Piece.{Piece}
-use Rattle.bb_dtbrec.specs.declared.piece.Piece.TheVariants.{Fixed, Value}
+use Rattle.bb_dtbrec.specs.declared.piece.Piece.TheVariants.{Value}
 use Rattle.bb_dtbrec.specs.declared.piece.Place.{Place}
 use Rattle.bb_dtbrec.specs.Layouts.{field_for, place_of, template_of}
 use Rattle.bb_dtbrec.specs.Trees.{tree_values, values_among}

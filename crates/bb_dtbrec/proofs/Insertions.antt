@@ -1,5 +1,5 @@
 -- Lists in which items were put somewhere, one after another.
-use Rattle.std.proofs.Common.{◌≡◌, ℕ, ◌+◌, ◌≤◌, ◌⊎◌, ◌&&◌, ◌||◌, Bool, true, false, List, [], ◌∷◌, ◌++◌, map, refl, sym, ap, ◌∙◌, subst, append_assoc}
+use Rattle.std.proofs.Common.{◌≡◌, ℕ, ◌+◌, ◌||◌, Bool, true, false, List, [], ◌∷◌, ◌++◌, map, refl, sym, ap, ◌∙◌, subst, append_assoc}
 use Rattle.std.specs.Prelude.{nat_le}
 use Rattle.std.specs.List.{AllByRecursion}
 use Rattle.std.proofs.lemmas.Bool.{and_from, and_parts}
@@ -140,8 +140,8 @@ AreApart place [] = Unit {0}
 AreApart place (x ∷ xs) =
     AllByRecursion (λ y. are_apart (place x) (place y) ≡ true) xs × AreApart place xs
 
--- variables that share no byte with pieces do so too when there is one more, if they share none with
--- that
+-- variables that share no byte with pieces share none with these and one more, if they share none
+-- with that
 still_apart : {X : Type 0} (place : X → Place) (x : X) (before after : List Piece) →
     IsInserted (Value (place x)) before after → (ys : List X) →
     AllByRecursion (λ y. are_apart (place x) (place y) ≡ true) ys →

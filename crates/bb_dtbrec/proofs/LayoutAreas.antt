@@ -1,5 +1,5 @@
 -- The areas that fit the records of a layout: those whose bytes outside the variables are 0.
-use Rattle.std.proofs.Common.{◌≡◌, ℕ, ◌<◌, ◌≤◌, ◌⊎◌, true, All, List, [], ◌∷◌, length, map, get_or, refl, sym, ap, ◌∙◌, subst, arith}
+use Rattle.std.proofs.Common.{◌≡◌, ℕ, ◌<◌, ◌≤◌, ◌⊎◌, true, List, [], ◌∷◌, length, map, refl, ◌∙◌, subst}
 use Rattle.std.specs.List.{AllByRecursion}
 use Rattle.std.proofs.lemmas.List.Elements.{All-from_recursion, recursion_from_All}
 use Rattle.bb_tree.specs.Node.{Forest, empty, grow}
@@ -16,12 +16,12 @@ use Rattle.bb_dtbrec.specs.declared.piece.Piece.{Piece}
 use Rattle.bb_dtbrec.specs.declared.piece.Piece.TheVariants.{Fixed, Value}
 use Rattle.bb_dtbrec.specs.Dtb.{dtb_fits}
 use Rattle.bb_dtbrec.specs.Laws.{fit}
-use Rattle.bb_dtbrec.specs.Layouts.{field_for, layout_pattern, template_of}
+use Rattle.bb_dtbrec.specs.Layouts.{IsPatternOf, field_for, layout_pattern, template_of}
 use Rattle.bb_dtbrec.specs.Trees.{pieces_behind_crc, pieces_of, root_with_crc, tree_values, values_among}
 use Rattle.bb_dtbrec.proofs.Fillings.{IsOutsidePiece, fits_where, zero_outside}
 use Rattle.bb_dtbrec.proofs.GrownValues.{values_of_template}
 use Rattle.bb_dtbrec.proofs.Insertions.{all_inserted}
-use Rattle.bb_dtbrec.proofs.LayoutRecords.{layout_is_pattern}
+use Rattle.bb_dtbrec.proofs.LayoutRecords.{layout_is_pattern, layout_length, layout_text}
 use Rattle.bb_dtbrec.proofs.TreeValues.{values_of_pieces}
 use Rattle.bb_dtbrec.proofs.VarPlaces.{vars_led}
 
@@ -86,3 +86,12 @@ changed_fits layout before after vars changes h =
     fits_where (layout_pattern layout) after known.made (changes.same_length ∙ known.whole)
     (λ k within outside. changes.bytes k (outside_vars layout k vars outside)
     ∙ zero_outside (layout_pattern layout) before k h outside)
+
+-- what the pattern of a layout means
+pub layout_blobs : (layout : Laid) → layout.format ≡ Dtb → IsLaid layout →
+    IsPatternOf layout (layout_pattern layout)
+layout_blobs layout e laid = record {
+  len = layout_length layout e laid.vars_are;
+  text = λ area whole. layout_text layout area e laid whole;
+  fits = λ area whole holds. holding_fits layout area e laid whole holds;
+}

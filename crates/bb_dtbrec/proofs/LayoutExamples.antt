@@ -1,12 +1,11 @@
 -- The worked record as that of a layout, by computation alone, and a layout whose variables share a
 -- node.
-use Rattle.std.proofs.Common.{◌≡◌, ℕ, List, [], ◌∷◌, ◌++◌, codes, refl}
+use Rattle.std.proofs.Common.{◌≡◌, [], ◌∷◌, ◌++◌, codes, refl}
 use Rattle.bb_base.specs.Crc.{after_bit, after_eight_bits, after_byte}
 use Rattle.bb_tree.specs.Blob.{double_word, word}
 use Rattle.bb_tree.specs.Node.{empty, node}
 use Rattle.bb_vars.specs.declared.kind.Kind.TheVariants.{Chars, Uint32, Uint8}
 use Rattle.bb_layout.specs.Record.{Recorded}
-use Rattle.bb_layout.specs.declared.var.Var.{Var}
 use Rattle.bb_dtbrec.specs.declared.piece.Piece.TheVariants.{Fixed, Value}
 use Rattle.bb_dtbrec.specs.declared.piece.Spelling.TheVariants.{AsIs, NumberAsCell}
 use Rattle.bb_dtbrec.specs.Dtb.{dtb_text, pieces_len, pieces_text}

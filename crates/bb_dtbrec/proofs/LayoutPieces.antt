@@ -2,21 +2,19 @@
 use Rattle.std.proofs.Common.{◌≡◌, ℕ, ◌+◌, ◌≤◌, List, [], ◌∷◌, ◌++◌, codes, length, replicate, refl, sym, ap, ◌∙◌, arith}
 use Rattle.std.specs.List.{AllByRecursion}
 use Rattle.std.proofs.lemmas.List.Elements.{recursion_from_All}
-use Rattle.bb_tree.specs.Node.{Forest, forest}
+use Rattle.bb_tree.specs.Node.{forest}
 use Rattle.bb_tree.specs.Blob.{begin_text, double_word, header_text, offset_of, reservation_list, strings_block, word}
 use Rattle.bb_layout.specs.Kept.{IsLaid}
 use Rattle.bb_layout.specs.Layout.{Laid, laid_len, recorded_of}
 use Rattle.bb_layout.specs.Record.{Recorded, grown_by}
 use Rattle.bb_layout.specs.Variables.{IsWellFormed}
 use Rattle.bb_layout.specs.declared.format_kind.FormatKind.TheVariants.{Dtb}
-use Rattle.bb_layout.specs.declared.var.Var.{Var}
 use Rattle.bb_dtbrec.specs.declared.piece.Piece.{Piece}
 use Rattle.bb_dtbrec.specs.declared.piece.Piece.TheVariants.{Fixed}
 use Rattle.bb_dtbrec.specs.Dtb.{Pattern, dtb_length, pieces_len}
 use Rattle.bb_dtbrec.specs.LayoutPieces.{front_with, structure_at, structure_behind}
 use Rattle.bb_dtbrec.specs.Layouts.{field_for, layout_pattern, template_of}
 use Rattle.bb_dtbrec.specs.Names.{record_names}
-use Rattle.bb_dtbrec.specs.Spine.{nodes_written}
 use Rattle.bb_dtbrec.specs.Trees.{crc_prop, front_of, nodes_pieces, pieces_behind_crc, prop_token, structure_pieces, template_names, template_offset}
 use Rattle.bb_dtbrec.proofs.GrownValues.{IsLed}
 use Rattle.bb_dtbrec.proofs.LayoutRecords.{laid_len_most, layout_length}

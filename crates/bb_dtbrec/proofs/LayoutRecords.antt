@@ -1,5 +1,5 @@
 -- The records of a layout: that they have a pattern, as long as the layout says, and what they are.
-use Rattle.std.proofs.Common.{◌≡◌, ℕ, zero, suc, ◌+◌, ◌-◌, ◌*◌, ◌%◌, ◌<◌, ◌≤◌, true, List, [], ◌∷◌, length, replicate, refl, sym, ap, ◌∙◌, arith, drop, take}
+use Rattle.std.proofs.Common.{◌≡◌, ℕ, ◌+◌, ◌-◌, ◌*◌, ◌%◌, ◌≤◌, true, List, [], length, replicate, refl, sym, ap, ◌∙◌, arith, drop, take}
 use Rattle.std.specs.List.{AllByRecursion}
 use Rattle.std.proofs.lemmas.Bool.{and_from, eq-eqb, le-leb}
 use Rattle.std.proofs.lemmas.List.{length-replicate}
@@ -20,12 +20,11 @@ use Rattle.bb_layout.specs.Variables.{IsWellFormed}
 use Rattle.bb_layout.specs.declared.format_kind.FormatKind.TheVariants.{Dtb}
 use Rattle.bb_layout.specs.declared.storage.Storage.{Storage}
 use Rattle.bb_layout.specs.declared.storage.Storage.TheVariants.{Stride, OneBlock, Circular}
-use Rattle.bb_layout.specs.declared.var.Var.{Var}
 use Rattle.bb_dtbrec.specs.declared.piece.Piece.{Piece}
 use Rattle.bb_dtbrec.specs.declared.piece.Piece.TheVariants.{Fixed}
 use Rattle.bb_dtbrec.specs.Dtb.{are_pieces, dtb_length, dtb_text, field_of, is_pattern, piece_text}
 use Rattle.bb_dtbrec.specs.Layouts.{field_for, layout_pattern, place_of, spelling_of, template_of}
-use Rattle.bb_dtbrec.specs.Trees.{blob_with_crc, front_of, pattern_of, pieces_behind_crc, tree_at, tree_values}
+use Rattle.bb_dtbrec.specs.Trees.{blob_with_crc, pattern_of, pieces_behind_crc, tree_at, tree_values}
 use Rattle.bb_dtbrec.proofs.GrownValues.{values_of_template}
 use Rattle.bb_dtbrec.proofs.Insertions.{pieces_inserted}
 use Rattle.bb_dtbrec.proofs.TreeBlobs.{length_blob_at, length_front, record_is_blob}

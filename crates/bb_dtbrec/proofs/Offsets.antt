@@ -1,19 +1,18 @@
 -- The names of a record's properties, and where they begin in the strings block.
-use Rattle.std.proofs.Common.{◌≡◌, ◌≢◌, ℕ, true, List, [], ◌∷◌, ◌++◌, codes, cond, fold, map, refl, sym, ap, ◌∙◌, append-nil}
+use Rattle.std.proofs.Common.{◌≡◌, ◌≢◌, ℕ, true, List, [], ◌∷◌, ◌++◌, codes, cond, fold, map, refl, ap, ◌∙◌, append-nil}
 use Rattle.std.specs.List.{AllByRecursion, flat_map}
 use Rattle.std.proofs.lemmas.List.{map-append}
-use Rattle.bb_tree.specs.Node.{Branch, Forest, empty, node, forest, with_values_of}
+use Rattle.bb_tree.specs.Node.{Forest, empty, node, forest, with_values_of}
 use Rattle.bb_tree.specs.Blob.{filling, has_name, offset_of, prop_names, with_name, word}
 use Rattle.bb_layout.specs.Record.{Recorded, grown_by}
 use Rattle.bb_layout.specs.declared.var.Var.{Var}
 use Rattle.bb_dtbrec.specs.declared.piece.Piece.{Piece}
 use Rattle.bb_dtbrec.specs.declared.piece.Piece.TheVariants.{Fixed, Value}
-use Rattle.bb_dtbrec.specs.declared.piece.Place.{Place}
 use Rattle.bb_dtbrec.specs.Dtb.{piece_len, piece_text}
-use Rattle.bb_dtbrec.specs.Layouts.{field_for, place_of, template_of}
+use Rattle.bb_dtbrec.specs.Layouts.{field_for, template_of}
 use Rattle.bb_dtbrec.specs.Names.{fixed_names, record_names}
 use Rattle.bb_dtbrec.specs.Spine.{end_piece, begin_piece, nodes_written, props_written, value_offset}
-use Rattle.bb_dtbrec.specs.Trees.{nodes_pieces, prop_pieces, template_names, template_offset}
+use Rattle.bb_dtbrec.specs.Trees.{nodes_pieces, prop_pieces, template_names}
 use Rattle.bb_dtbrec.proofs.GrownValues.{Gathers, IsLed, gathered, items_of_vars}
 use Rattle.bb_dtbrec.proofs.Insertions.{all_inserted, all_put}
 

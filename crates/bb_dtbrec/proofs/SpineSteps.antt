@@ -114,7 +114,12 @@ var_spelt grown v written ends firsts at h led e =
     let here : length before ≡ at = end_at h.opens firsts at (sym h.ends_are ∙ e) in
     let parts : written ≡ before ++ behind = h.pieces ∙ pieces_before h.opens h.inner in
     let some : 0 < length h.opens =
-    omega (arith, some_end grown v.path written ends h led, ap length h.ends_are, length_ends 0 h.opens) in
+    omega (
+      arith,
+      some_end grown v.path written ends h led,
+      ap length h.ends_are,
+      length_ends 0 h.opens,
+    ) in
     record {
       opens = put_in_last prop h.opens;
       inner = h.inner;

@@ -1,10 +1,9 @@
 -- What it means for the nodes of variables that an open node ends, one is begun, and a property is
 -- written.
-use Rattle.std.proofs.Common.{◌≡◌, ◌≢◌, ℕ, zero, suc, ◌+◌, ◌-◌, ◌<◌, ◌≤◌, List, [], ◌∷◌, ◌++◌, codes, drop, take, length, map, replicate, refl, sym, ap, ◌∙◌, subst, append_assoc, append-nil, arith, length-append, length-drop}
-use Rattle.std.specs.List.{flat_map}
+use Rattle.std.proofs.Common.{◌≡◌, ◌≢◌, ℕ, zero, suc, ◌+◌, ◌<◌, ◌≤◌, List, [], ◌∷◌, ◌++◌, drop, take, length, map, replicate, refl, sym, ap, ◌∙◌, append_assoc, append-nil, arith, length-append}
 use Rattle.std.proofs.lemmas.Grind.{flat_map-append}
 use Rattle.std.proofs.lemmas.List.{replicate_more}
-use Rattle.bb_tree.specs.Node.{Branch, Forest, empty, node, branches, forest}
+use Rattle.bb_tree.specs.Node.{Branch, forest}
 use Rattle.bb_layout.specs.Record.{node_for, nodes_with_prop, put_prop, with_last}
 use Rattle.bb_dtbrec.specs.declared.piece.Piece.{Piece}
 use Rattle.bb_dtbrec.specs.Spine.{Open, begin_piece, end_piece, ends_in, marks, nodes_in, nodes_written, own_pieces, pieces_in, prop_written, props_written, put_in_last, value_offset}
@@ -57,7 +56,8 @@ all_ended (o ∷ os) inner =
     ∙ ap (λ l. (own ++ below) ++ l) (sym (replicate_more (length os) end_piece))
     ∙ append_assoc own below (ends ++ end_piece ∷ [])
     ∙ ap (λ l. own ++ l)
-    (sym (append_assoc below ends (end_piece ∷ [])) ∙ ap (λ l. l ++ end_piece ∷ []) (all_ended os inner))
+    (sym (append_assoc below ends (end_piece ∷ []))
+    ∙ ap (λ l. l ++ end_piece ∷ []) (all_ended os inner))
     ∙ append_assoc (nodes_written o.front) (begin_piece o.name ∷ props_written o.props)
     (whole ++ end_piece ∷ [])
     ∙ sym

@@ -1,13 +1,12 @@
 -- Turns of the loops that write the nodes of variables.
-use Rattle.std.proofs.Common.{◌≡◌, ◌≢◌, ℕ, ◌+◌, ◌-◌, ◌<◌, ◌≤◌, All, List, [], ◌∷◌, ◌++◌, Some, drop, take, length, map, replicate, slice_get, refl, sym, ap, ◌∙◌, append_assoc, append-nil, arith, take_all, subst}
+use Rattle.std.proofs.Common.{◌≡◌, ◌≢◌, ℕ, ◌+◌, ◌-◌, ◌≤◌, List, [], ◌∷◌, ◌++◌, Some, drop, take, length, map, replicate, slice_get, sym, ap, ◌∙◌, append_assoc, append-nil, arith, take_all, subst}
 use Rattle.std.specs.List.{common_prefix_len}
 use Rattle.std.specs.Str.{bytes_eq}
 use Rattle.std.proofs.lemmas.List.Sums.{common_prefix_len-le, fold_more}
 use Rattle.std.proofs.lemmas.Option.{get_or_from_slice_get, slice_get_within}
 use Rattle.bb_tree.proofs.Nodes.{past_all}
-use Rattle.bb_layout.proofs.Records.{drop_at, formed_at}
+use Rattle.bb_layout.proofs.Records.{drop_at}
 use Rattle.bb_layout.specs.Record.{Grown, grown_by, with_var}
-use Rattle.bb_layout.specs.Variables.{IsWellFormed}
 use Rattle.bb_layout.specs.declared.var.Var.{Var}
 use Rattle.bb_dtbrec.specs.declared.piece.Piece.{Piece}
 use Rattle.bb_dtbrec.specs.Layouts.{field_for}
@@ -57,7 +56,8 @@ pub grown_next : (vars : List Var) (i : ℕ) (v : Var) → slice_get vars i ≡ 
 grown_next vars i v h =
     fold_more (with_var field_for) (record { path = []; nodes = [] }) vars i v
     (slice_get_within vars i v h)
-    ∙ ap (with_var field_for (grown_by field_for (take i vars))) (get_or_from_slice_get vars i v v h)
+    ∙ ap (with_var field_for (grown_by field_for (take i vars)))
+    (get_or_from_slice_get vars i v v h)
 
 -- the path of the last one
 pub path_before : (vars : List Var) (i : ℕ) (v : Var) → slice_get vars i ≡ Some v →

@@ -1,4 +1,4 @@
--- Inside: the pieces of a layout's records in the order in which they are written, and the bytes before
+-- The pieces of a layout's records in the order in which they are written, and the bytes before
 -- their CRC. The names of properties begin at the same places in all records.
 use Rattle.std.specs.Prelude.{ℕ, List, [], ◌∷◌, ◌++◌, codes, length, replicate}
 use Rattle.bb_tree.specs.Blob.{begin_text, filling, header_text, word}

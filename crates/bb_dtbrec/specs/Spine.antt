@@ -1,7 +1,7 @@
--- The pieces of the nodes of variables, while some of these are written and some are open: of an open
--- node all is written but its end and the nodes that are still to come. Each is the last one in the
--- node above it.
-use Rattle.std.specs.Prelude.{◌≡◌, ℕ, zero, suc, ◌+◌, ◌-◌, List, [], ◌∷◌, ◌++◌, codes, length, map, replicate}
+-- The pieces of the nodes of variables, while some of these nodes are open: of an open node all is
+-- written but its end and the nodes that are still to come in it. Each is the last one in the node
+-- above it.
+use Rattle.std.specs.Prelude.{◌≡◌, ℕ, ◌+◌, ◌-◌, List, [], ◌∷◌, ◌++◌, codes, length, replicate}
 use Rattle.std.specs.List.{common_prefix_len, flat_map}
 use Rattle.std.specs.Str.{bytes_eq}
 use Rattle.bb_tree.specs.Node.{Branch, forest}
@@ -79,7 +79,8 @@ pub record Spells (grown : Grown Piece) (written : List Piece) (ends : List ℕ)
   pub ends_are : ends ≡ ends_in 0 opens
 
 -- and these are so where a path is open that leads to a property which is still to come
-pub record IsOpened (grown : Grown Piece) (path : List (List ℕ)) (written : List Piece) (ends : List ℕ) : Type 0 where
+pub record IsOpened (grown : Grown Piece) (path : List (List ℕ)) (written : List Piece)
+    (ends : List ℕ) : Type 0 where
   pub opens : List Open
   pub inner : List (Branch Piece)
   pub depth : length opens ≡ length path

@@ -2,7 +2,7 @@ ghost use Rattle.std.specs.Prelude.{◌≡◌, IfOk};
 ghost use Rattle.bb_layout.specs.Layout.{fields_of};
 ghost use Rattle.bb_dtbrec.specs.Dtb.{IsPattern, dtb_form};
 ghost use Rattle.bb_dtbrec.specs.Laws.{dtb_laws};
-ghost use Rattle.bb_dtbrec.specs.Layouts.{layout_pattern};
+ghost use Rattle.bb_dtbrec.specs.Layouts.{IsPatternOf, layout_pattern};
 
 use crate::check::read_record;
 use crate::crc::HEAD_LEN;
@@ -38,7 +38,8 @@ impl Dtb {
     /// The format of a layout's records.
     pub fn of(alloc: Global, layout: &Layout) -> Result<Dtb, NoMemory>
         requires { layout.now.format ≡ FormatKind.Dtb }
-        ensures { IfOk result (λ dtb. dtb ≡ layout_pattern (fields_of layout.now)) }
+        ensures pattern { IfOk result (λ dtb. dtb ≡ layout_pattern (fields_of layout.now)) }
+        ensures blobs { IfOk result (IsPatternOf (fields_of layout.now)) }
     {
         let mut pieces = structure(alloc, layout)?;
         let strings = strings(alloc, &layout.vars)?;

@@ -1,8 +1,6 @@
-use Rattle.std.proofs.Common.{◌≡◌, ◌≢◌, ◌+◌, ◌++◌, ◌∷◌, ◌<◌, ◌≤◌, [], ℕ, List, length, arith, sym, take}
-use Rattle.bb_layout.specs.Record.{Grown, grown_by}
-use Rattle.bb_layout.specs.declared.var.Var.{Var}
+use Rattle.std.proofs.Common.{◌<◌, ◌≤◌, length, arith, sym, take}
+use Rattle.bb_layout.specs.Record.{grown_by}
 use Rattle.bb_layout.proofs.Records.{formed_at}
-use Rattle.bb_dtbrec.specs.declared.piece.Piece.{Piece}
 use Rattle.bb_dtbrec.specs.Layouts.{field_for}
 use Rattle.bb_dtbrec.proofs.SpineSteps.{end_within, some_end}
 use Rattle.bb_dtbrec.proofs.Writing.{property_put}

@@ -1,6 +1,6 @@
-use Rattle.std.proofs.Common.{◌≡◌, ◌+◌, ◌++◌, ◌∷◌, [], ℕ, List, ap, sym, ◌∙◌, length, arith, drop, length-append}
+use Rattle.std.proofs.Common.{◌≡◌, ◌+◌, ◌++◌, ◌∷◌, [], ℕ, List, ap, sym, ◌∙◌, length, arith, length-append}
 use Rattle.bb_dtbrec.specs.declared.piece.Piece.{Piece}
-use Rattle.bb_dtbrec.specs.Spine.{begin_piece, marks}
+use Rattle.bb_dtbrec.specs.Spine.{begin_piece}
 use Rattle.bb_dtbrec.proofs.Writing.{turn_ends, turn_pieces}
 use Rattle.bb_dtbrec.proofs.nodes.begin_nodes.Goals as goal
 

@@ -1,4 +1,4 @@
-use Rattle.std.proofs.Common.{◌≡◌, ◌≤◌, ℕ, length, arith, ap, ◌∙◌, ◌++◌, replicate}
+use Rattle.std.proofs.Common.{◌≡◌, ◌≤◌, length, arith, ap, ◌∙◌, ◌++◌, replicate}
 use Rattle.bb_dtbrec.specs.Spine.{end_piece}
 use Rattle.bb_dtbrec.proofs.Writing.{spelt_last}
 use Rattle.bb_dtbrec.proofs.nodes.nodes_of.Goals as goal

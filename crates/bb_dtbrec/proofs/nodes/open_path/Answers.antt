@@ -1,6 +1,5 @@
-use Rattle.std.proofs.Common.{◌≡◌, ◌-◌, ℕ, length, arith, ap, ◌∙◌, take}
-use Rattle.bb_layout.specs.Record.{Grown, grown_by}
-use Rattle.bb_dtbrec.specs.declared.piece.Piece.{Piece}
+use Rattle.std.proofs.Common.{◌≡◌, ◌-◌, length, arith, take}
+use Rattle.bb_layout.specs.Record.{grown_by}
 use Rattle.bb_dtbrec.specs.Layouts.{field_for}
 use Rattle.bb_dtbrec.proofs.Writing.{path_opened, shared_within}
 use Rattle.bb_dtbrec.proofs.nodes.open_path.Goals as goal

@@ -1,15 +1,11 @@
-use Rattle.std.proofs.Common.{◌≡◌, true, ◌+◌, ◌≤◌, ◌++◌, ◌∷◌, [], ℕ, List, length, arith, ap, sym, ◌∙◌, subst}
-use Rattle.std.specs.List.{AllByRecursion}
-use Rattle.std.proofs.lemmas.List.Elements.{recursion_from_All}
+use Rattle.std.proofs.Common.{◌≡◌, true, ◌+◌, length, arith, ap, sym, ◌∙◌, subst}
 use Rattle.bb_tree.specs.Blob.{strings_block}
-use Rattle.bb_layout.specs.Layout.{Laid, fields_of, recorded_of}
-use Rattle.bb_layout.specs.Record.{Recorded}
-use Rattle.bb_layout.specs.Variables.{IsWellFormed}
-use Rattle.bb_dtbrec.specs.declared.piece.Piece.TheVariants.{Fixed}
+use Rattle.bb_layout.specs.Layout.{fields_of, recorded_of}
 use Rattle.bb_dtbrec.specs.Dtb.{Pattern, is_pattern, pieces_len}
 use Rattle.bb_dtbrec.specs.LayoutPieces.{structure_behind}
-use Rattle.bb_dtbrec.specs.Layouts.{layout_pattern}
 use Rattle.bb_dtbrec.specs.Names.{record_names}
+use Rattle.bb_dtbrec.specs.Layouts.{IsPatternOf}
+use Rattle.bb_dtbrec.proofs.LayoutAreas.{layout_blobs}
 use Rattle.bb_dtbrec.proofs.LayoutPieces.{pattern_written, structure_most}
 use Rattle.bb_dtbrec.proofs.LayoutRecords.{layout_is_pattern}
 use Rattle.bb_dtbrec.proofs.dtb.Dtb.of.Goals as goal
@@ -55,8 +51,8 @@ of_pattern-requires c =
     c.in_ok-front.ensures c.in_ok-push.ensures.items))
     (layout_is_pattern (fields_of c.args.layout.now) c.requires c.args.layout.now.facts)
 
-pub returns : goal.returns
-returns c =
+pub returns-clause-pattern : goal.returns-clause-pattern
+returns-clause-pattern c =
     c.of_pattern.ensures
     ∙ pattern_written (fields_of c.args.layout.now) c.in_ok-front.front
     c.in_ok-pieces.pieces.items c.push.new.self.items c.in_ok-strings.strings
@@ -66,3 +62,18 @@ returns c =
     (ap (λ n. 24 + n)
     (c.pieces_len-structure_len.ensures ∙ ap pieces_len c.deref.ensures.value))
     c.in_ok-front.ensures c.in_ok-push.ensures.items
+
+pub returns-clause-blobs : goal.returns-clause-blobs
+returns-clause-blobs c =
+    subst (IsPatternOf (fields_of c.args.layout.now))
+    (sym
+    (c.of_pattern.ensures
+    ∙ pattern_written (fields_of c.args.layout.now) c.in_ok-front.front
+    c.in_ok-pieces.pieces.items c.push.new.self.items c.in_ok-strings.strings
+    (24 + c.pieces_len-structure_len.result) (length c.as_slice.result.now)
+    c.args.layout.now.facts c.in_ok-pieces.ensures c.in_ok-strings.ensures
+    (ap length c.as_slice.ensures)
+    (ap (λ n. 24 + n)
+    (c.pieces_len-structure_len.ensures ∙ ap pieces_len c.deref.ensures.value))
+    c.in_ok-front.ensures c.in_ok-push.ensures.items))
+    (layout_blobs (fields_of c.args.layout.now) c.requires c.args.layout.now.facts)
