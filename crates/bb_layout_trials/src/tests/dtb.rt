@@ -1,6 +1,7 @@
 use super::board::{board, is_bad_prop, layout_on};
 use bb_layout::{FormatKind, Layout, LayoutError, Storage};
 use bb_tree::blob_length;
+use std::alloc::Global;
 use std::test::Fail;
 
 // The record of these variables has 440 bytes, as dtc compiles its text: a root with `bb,crc32`, and in it the state
@@ -37,57 +38,57 @@ fn single_blocks() -> &'static [u8] {
     b"/ { state@1 { backend-storage-type = \"direct\"; }; };\n"
 }
 
+// The board with these properties, on that device.
+fn with_blobs(
+    alloc: Global,
+    more: &[u8],
+    geometry: &str,
+) -> Result<Result<Layout, LayoutError>, Fail> {
+    layout_on(alloc, &board(alloc, two_targets(), more)?, geometry)
+}
+
+fn is_too_small(alloc: Global, more: &[u8], geometry: &str) -> Result<bool, Fail> {
+    let layout = with_blobs(alloc, more, geometry)?;
+    Ok(matches!(layout, Err(LayoutError::TooSmall)))
+}
+
+// How the copies are stored, where the records are blobs.
+fn stored(alloc: Global, more: &[u8], geometry: &str) -> Result<Storage, Fail> {
+    let Ok(layout) = with_blobs(alloc, more, geometry)? else {
+        return Err(Fail::from("the tree is refused"));
+    };
+    if layout.format != FormatKind::Dtb || layout.copies != 3 {
+        return Err(Fail::from("another layout"));
+    }
+    Ok(layout.storage)
+}
+
 #[test]
 fn a_blob_of_440_fits_into_strides_of_448(rt: HostRuntime) -> Result<(), Fail> {
-    let short = board(rt.alloc(), two_targets(), b"")?;
-    let refused = layout_on(rt.alloc(), &short, "ov:1048576")?;
-    assert!(rt; matches!(refused, Err(LayoutError::TooSmall)));
-    let tight = board(rt.alloc(), two_targets(), strides_of_447())?;
-    let refused = layout_on(rt.alloc(), &tight, "ov:1048576")?;
-    assert!(rt; matches!(refused, Err(LayoutError::TooSmall)));
-    let full = board(rt.alloc(), two_targets(), strides_of_448())?;
-    let Ok(layout) = layout_on(rt.alloc(), &full, "ov:1048576")? else {
-        return Err(Fail::from("strides of 448 are refused"));
-    };
-    assert_eq!(rt; layout.format, FormatKind::Dtb);
-    assert_eq!(rt; layout.storage, Storage::Stride(448));
-    let wide = board(rt.alloc(), two_targets(), strides_of_512())?;
-    let Ok(layout) = layout_on(rt.alloc(), &wide, "ov:1048576")? else {
-        return Err(Fail::from("strides of 512 are refused"));
-    };
-    assert_eq!(rt; layout.format, FormatKind::Dtb);
-    assert_eq!(rt; layout.area_len, 20);
-    assert_eq!(rt; layout.copies, 3);
+    assert!(rt; is_too_small(rt.alloc(), b"", "ov:1048576")?);
+    assert!(rt; is_too_small(rt.alloc(), strides_of_447(), "ov:1048576")?);
+    let full = stored(rt.alloc(), strides_of_448(), "ov:1048576")?;
+    assert_eq!(rt; full, Storage::Stride(448));
+    let wide = stored(rt.alloc(), strides_of_512(), "ov:1048576")?;
+    assert_eq!(rt; wide, Storage::Stride(512));
     Ok(())
 }
 
 #[test]
 fn a_blob_of_440_fits_into_no_small_block(rt: HostRuntime) -> Result<(), Fail> {
-    let log = board(rt.alloc(), two_targets(), b"")?;
-    let refused = layout_on(rt.alloc(), &log, "er:64:128:1048576")?;
-    assert!(rt; matches!(refused, Err(LayoutError::TooSmall)));
-    let refused = layout_on(rt.alloc(), &log, "er:64:256:1048576")?;
-    assert!(rt; matches!(refused, Err(LayoutError::TooSmall)));
-    let Ok(layout) = layout_on(rt.alloc(), &log, "er:256:65536:1048576")? else {
-        return Err(Fail::from("a log is refused"));
-    };
-    assert_eq!(rt; layout.format, FormatKind::Dtb);
-    assert_eq!(rt; layout.storage, Storage::Circular);
-    let single = board(rt.alloc(), two_targets(), single_blocks())?;
-    let refused = layout_on(rt.alloc(), &single, "er:64:256:1048576")?;
-    assert!(rt; matches!(refused, Err(LayoutError::TooSmall)));
-    let Ok(layout) = layout_on(rt.alloc(), &single, "er:256:65536:1048576")? else {
-        return Err(Fail::from("blocks of one record are refused"));
-    };
-    assert_eq!(rt; layout.storage, Storage::OneBlock);
-    assert_eq!(rt; layout.copies, 3);
+    assert!(rt; is_too_small(rt.alloc(), b"", "er:64:128:1048576")?);
+    assert!(rt; is_too_small(rt.alloc(), b"", "er:64:256:1048576")?);
+    assert!(rt; is_too_small(rt.alloc(), single_blocks(), "er:64:256:1048576")?);
+    let log = stored(rt.alloc(), b"", "er:256:65536:1048576")?;
+    assert_eq!(rt; log, Storage::Circular);
+    let single = stored(rt.alloc(), single_blocks(), "er:256:65536:1048576")?;
+    assert_eq!(rt; single, Storage::OneBlock);
     Ok(())
 }
 
 #[test]
 fn the_record_has_the_length_that_a_layout_counts(rt: HostRuntime) -> Result<(), Fail> {
-    let wide = board(rt.alloc(), two_targets(), strides_of_512())?;
-    let Ok(layout) = layout_on(rt.alloc(), &wide, "ov:1048576")? else {
+    let Ok(layout) = with_blobs(rt.alloc(), strides_of_512(), "ov:1048576")? else {
         return Err(Fail::from("the tree is refused"));
     };
     if layout.area_len != 20 {
