@@ -1,6 +1,6 @@
 use Rattle.std.proofs.Common.{◌∙◌}
 use Rattle.bb_chooser.proofs.Alone.{keeps_changes}
-use Rattle.bb_state.proofs.Fitting.{changed_fits}
+use Rattle.bb_state.proofs.Fitting.{changed_fits, same_fits}
 use Rattle.bb_state.specs.Kinds.{any_holding}
 use Rattle.bb_state.specs.State.{has_changed, kept_of, keyed_of, kinds_of, used_of}
 use Rattle.bb_state.specs.declared.state.State.{State}
@@ -66,3 +66,13 @@ returns-in-Ok-clause-on g c =
       agrees = start_agrees any_holding c.save.new.self.backing.buckets plan c.try_start.result from to c.try_start.ensures.tried c.save.ensures.on.agrees;
       whole = c.try_start.ensures.whole;
     }
+
+pub returns-in-Ok-clause-fits : goal.returns-in-Ok-clause-fits
+returns-in-Ok-clause-fits g c =
+    same_fits (keyed_of c.args.state.now) (keyed_of c.save.new.self) c.spend.new.table c.save.new.self.table
+    c.in-Ok.ensures.keyed c.in-Ok.ensures.table (save-requires-clause-fits g c)
+
+pub returns-in-Err-clause-fits : goal.returns-in-Err-clause-fits
+returns-in-Err-clause-fits g c =
+    same_fits (keyed_of c.args.state.now) (keyed_of c.save.new.self) c.spend.new.table c.save.new.self.table
+    c.in-Err.ensures.keyed c.in-Err.ensures.table (save-requires-clause-fits g c)
