@@ -1,6 +1,7 @@
-use super::board::{board, is_bad_prop, layout_on};
-use bb_layout::{FormatKind, Layout, LayoutError, Storage};
-use bb_tree::blob_length;
+use super::board::{self, copies_on, in_blocks, in_place, is_bad_prop, layout_on};
+use super::records::has_value;
+use bb_layout::{FormatKind, Layout, Storage};
+use bb_tree::{Tree, blob_length};
 use std::alloc::Global;
 use std::test::Fail;
 
@@ -38,38 +39,26 @@ fn single_blocks() -> &'static [u8] {
     b"/ { state@1 { backend-storage-type = \"direct\"; }; };\n"
 }
 
-// The board with these properties, on that device.
-fn with_blobs(
-    alloc: Global,
-    more: &[u8],
-    geometry: &str,
-) -> Result<Result<Layout, LayoutError>, Fail> {
-    layout_on(alloc, &board(alloc, two_targets(), more)?, geometry)
-}
-
 fn is_too_small(alloc: Global, more: &[u8], geometry: &str) -> Result<bool, Fail> {
-    let layout = with_blobs(alloc, more, geometry)?;
-    Ok(matches!(layout, Err(LayoutError::TooSmall)))
+    board::is_too_small(alloc, two_targets(), more, geometry)
 }
 
 // How the copies are stored, where the records are blobs.
 fn stored(alloc: Global, more: &[u8], geometry: &str) -> Result<Storage, Fail> {
-    let Ok(layout) = with_blobs(alloc, more, geometry)? else {
-        return Err(Fail::from("the tree is refused"));
-    };
-    if layout.format != FormatKind::Dtb || layout.copies != 3 {
+    let copies = copies_on(alloc, two_targets(), more, geometry)?;
+    if copies.format != FormatKind::Dtb || copies.copies != 3 {
         return Err(Fail::from("another layout"));
     }
-    Ok(layout.storage)
+    Ok(copies.storage)
 }
 
 #[test]
 fn a_blob_of_440_fits_into_strides_of_448(rt: HostRuntime) -> Result<(), Fail> {
-    assert!(rt; is_too_small(rt.alloc(), b"", "ov:1048576")?);
-    assert!(rt; is_too_small(rt.alloc(), strides_of_447(), "ov:1048576")?);
-    let full = stored(rt.alloc(), strides_of_448(), "ov:1048576")?;
+    assert!(rt; is_too_small(rt.alloc(), b"", in_place())?);
+    assert!(rt; is_too_small(rt.alloc(), strides_of_447(), in_place())?);
+    let full = stored(rt.alloc(), strides_of_448(), in_place())?;
     assert_eq!(rt; full, Storage::Stride(448));
-    let wide = stored(rt.alloc(), strides_of_512(), "ov:1048576")?;
+    let wide = stored(rt.alloc(), strides_of_512(), in_place())?;
     assert_eq!(rt; wide, Storage::Stride(512));
     Ok(())
 }
@@ -79,40 +68,43 @@ fn a_blob_of_440_fits_into_no_small_block(rt: HostRuntime) -> Result<(), Fail> {
     assert!(rt; is_too_small(rt.alloc(), b"", "er:64:128:1048576")?);
     assert!(rt; is_too_small(rt.alloc(), b"", "er:64:256:1048576")?);
     assert!(rt; is_too_small(rt.alloc(), single_blocks(), "er:64:256:1048576")?);
-    let log = stored(rt.alloc(), b"", "er:256:65536:1048576")?;
+    let log = stored(rt.alloc(), b"", in_blocks())?;
     assert_eq!(rt; log, Storage::Circular);
-    let single = stored(rt.alloc(), single_blocks(), "er:256:65536:1048576")?;
+    let single = stored(rt.alloc(), single_blocks(), in_blocks())?;
     assert_eq!(rt; single, Storage::OneBlock);
     Ok(())
 }
 
-#[test]
-fn the_record_has_the_length_that_a_layout_counts(rt: HostRuntime) -> Result<(), Fail> {
-    let Ok(layout) = with_blobs(rt.alloc(), strides_of_512(), "ov:1048576")? else {
-        return Err(Fail::from("the tree is refused"));
-    };
+fn record_of_defaults(alloc: Global, layout: &Layout) -> Result<Tree, Fail> {
     if layout.area_len != 20 {
         return Err(Fail::from("another area"));
     }
     let mut area = [7u8; 20];
     layout.defaults(&mut area);
-    let record = Layout::record_tree(rt.alloc(), &layout, &area)?;
+    Ok(Layout::record_tree(alloc, layout, &area)?)
+}
+
+fn record(alloc: Global) -> Result<Tree, Fail> {
+    let layout = layout_on(alloc, two_targets(), strides_of_512(), in_place())?;
+    record_of_defaults(alloc, &layout)
+}
+
+#[test]
+fn the_record_has_the_length_that_a_layout_counts(rt: HostRuntime) -> Result<(), Fail> {
+    let record = record(rt.alloc())?;
     assert_eq!(rt; blob_length(&record), 440);
-    let node = record
-        .find("/state@1/bootstate/system0/priority@4")
-        .ok_or("no node")?;
-    let value = node.prop("value").ok_or("no value")?;
-    assert_eq!(rt; value, b"\0\0\0\x14".as_slice());
+    let first = "/state@1/bootstate/system0/priority@4";
+    assert!(rt; has_value(&record, first, "value", b"\0\0\0\x14"));
     Ok(())
+}
+
+fn keyed() -> &'static [u8] {
+    b"backend-type = \"dtb\";\nalgo = \"hmac(sha256)\";\nbackend-stridesize = <0x200>;\n"
 }
 
 #[test]
 fn a_blob_takes_no_key(rt: HostRuntime) -> Result<(), Fail> {
-    let keyed = is_bad_prop(
-        rt.alloc(),
-        b"backend-type = \"dtb\";\nalgo = \"hmac(sha256)\";\nbackend-stridesize = <0x200>;\n",
-        "algo",
-    )?;
+    let keyed = is_bad_prop(rt.alloc(), keyed(), "algo")?;
     assert!(rt; keyed);
     assert!(rt; !FormatKind::Dtb.takes_key());
     assert!(rt; FormatKind::RawHmac.takes_key());
