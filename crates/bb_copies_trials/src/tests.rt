@@ -23,6 +23,12 @@ fn words(alloc: Global, all: &[&str]) -> Result<TextList, Fail> {
     Ok(list)
 }
 
+fn files_of(alloc: Global, text: &str) -> Result<MemFiles, Fail> {
+    let mut files = MemFiles::none(alloc);
+    files.add("a.dts", text.as_bytes())?;
+    Ok(files)
+}
+
 // A session of these words, where the file `a.dts` has this text.
 fn session(
     alloc: Global,
@@ -31,8 +37,7 @@ fn session(
     device: &mut MemBoard,
     out: &mut MemSink,
 ) -> Result<Status, Fail> {
-    let mut files = MemFiles::none(alloc);
-    files.add("a.dts", text.as_bytes())?;
+    let mut files = files_of(alloc, text)?;
     let list = words(alloc, all)?;
     Ok(run(alloc, &list, &mut files, device, out))
 }
@@ -48,11 +53,16 @@ fn says(
     sends: &str,
 ) -> Result<(), Fail> {
     let mut out = MemSink::with_room(alloc, 100)?;
-    assert_eq!(rt;
-        session(alloc, text, all, device, &mut out)?,
-        status,
-        "{sends}"
-    );
-    assert_eq!(rt; out.sent_bytes(), sends.as_bytes());
+    let answer = session(alloc, text, all, device, &mut out)?;
+    answers(rt, answer, status, sends);
+    sent(rt, &out, sends);
     Ok(())
+}
+
+fn answers(rt: &impl Abort, answer: Status, status: Status, sends: &str) {
+    assert_eq!(rt; answer, status, "{sends}");
+}
+
+fn sent(rt: &impl Abort, out: &MemSink, sends: &str) {
+    assert_eq!(rt; out.sent_bytes(), sends.as_bytes());
 }

@@ -8,7 +8,7 @@ use std::test::Fail;
 pub(super) const BLOCK_LEN: usize = 256;
 
 // What a block holds.
-#[derive(Clone, Copy, Debug, PartialEq, Eq)]
+#[derive(Clone, Copy)]
 pub(super) enum Kind {
     // One record.
     OneBlock,
@@ -17,7 +17,7 @@ pub(super) enum Kind {
 }
 
 // The number of a record.
-#[derive(Clone, Copy, Debug, PartialEq, Eq)]
+#[derive(Clone, Copy)]
 pub(super) enum Number {
     One,
     Two,

@@ -2,7 +2,7 @@
 // stands there then, what it passes, and what the next session writes.
 use super::blocks::{Kind, Number, block_of, board, board_of, entry, tree};
 use super::says;
-use super::strides::{LOAD, SET_2};
+use super::strides::{load, set_2};
 use bb_base::Bytes;
 use bb_flash::{Fault, Fill, MemBoard};
 use bb_tool::Status;
@@ -53,7 +53,7 @@ fn cut_off(rt: &impl Abort, alloc: Global, fill: Fill) -> Result<MemBoard, Fail>
         rt,
         alloc,
         text,
-        &SET_2,
+        &set_2(),
         &mut device,
         Status::WriteFault,
         line,
@@ -73,7 +73,7 @@ fn loads_one(
         rt,
         alloc,
         tree(Kind::Log),
-        &LOAD,
+        &load(),
         device,
         Status::Done,
         "1\n",
@@ -99,7 +99,7 @@ fn gives_alone(rt: &impl Abort, alloc: Global, second: &[&[u8]], number: &str) -
         rt,
         alloc,
         tree(Kind::Log),
-        &LOAD,
+        &load(),
         &mut device,
         Status::Done,
         number,
