@@ -96,8 +96,7 @@ pub(super) fn board(alloc: Global, kind: Kind, copies: [&[Number]; 3]) -> Result
     let mut bytes = Bytes::none(alloc);
     for numbers in copies {
         let entries = entries(alloc, kind, numbers)?;
-        let block = block_of(alloc, &[entries.as_slice()])?;
-        bytes.add(block.as_slice())?;
+        add_block(alloc, &mut bytes, &[entries.as_slice()])?;
     }
     board_of(alloc, bytes.as_slice())
 }
@@ -111,15 +110,27 @@ fn entries(alloc: Global, kind: Kind, numbers: &[Number]) -> Result<Bytes, Fail>
 }
 
 // A block that begins with these bytes, one piece behind the other, and else is blank.
-pub(super) fn block_of(alloc: Global, pieces: &[&[u8]]) -> Result<Bytes, Fail> {
+fn block_of(alloc: Global, pieces: &[&[u8]]) -> Result<Bytes, Fail> {
     let mut block = Bytes::none(alloc);
+    fill(&mut block, pieces)?;
+    Ok(block)
+}
+
+fn fill(block: &mut Bytes, pieces: &[&[u8]]) -> Result<(), Fail> {
     for piece in pieces {
         block.add(piece)?;
     }
     for _ in block.as_slice().len()..BLOCK_LEN {
         block.add(b"\xff")?;
     }
-    Ok(block)
+    Ok(())
+}
+
+// Adds such a block.
+pub(super) fn add_block(alloc: Global, bytes: &mut Bytes, pieces: &[&[u8]]) -> Result<(), Fail> {
+    let block = block_of(alloc, pieces)?;
+    bytes.add(block.as_slice())?;
+    Ok(())
 }
 
 // A device of these bytes.
