@@ -13,7 +13,7 @@ fn refusal(alloc: Global, text: &[u8]) -> Option<EntryError> {
     read_entry(alloc, text).err()
 }
 
-fn is(rt: &impl Abort, text: &Text, wanted: &str) {
+fn has_text(rt: &impl Abort, text: &Text, wanted: &str) {
     assert_eq!(rt; text.as_str(), wanted);
 }
 
@@ -38,16 +38,16 @@ fn published_text() -> &'static [u8] {
 #[test]
 fn published_entry(rt: HostRuntime) -> Result<(), Fail> {
     let entry = entry(rt.alloc(), published_text())?;
-    is(&rt, &entry.title, "Fedora 19 (Rawhide)");
-    is(&rt, &entry.sort_key, "fedora");
-    is(&rt, &entry.machine_id, "6a9857a393724b7a981ebb5b8495b9ea");
-    is(&rt, &entry.version, "3.8.0-2.fc19.x86_64");
+    has_text(&rt, &entry.title, "Fedora 19 (Rawhide)");
+    has_text(&rt, &entry.sort_key, "fedora");
+    has_text(&rt, &entry.machine_id, "6a9857a393724b7a981ebb5b8495b9ea");
+    has_text(&rt, &entry.version, "3.8.0-2.fc19.x86_64");
     let options = "root=UUID=6d3376e4-fc93-4509-95ec-a21d68011da2 quiet";
-    is(&rt, &entry.options, options);
-    is(&rt, &entry.architecture, "x64");
+    has_text(&rt, &entry.options, options);
+    has_text(&rt, &entry.architecture, "x64");
     let linux = "/6a9857a393724b7a981ebb5b8495b9ea/3.8.0-2.fc19.x86_64/linux";
-    is(&rt, &entry.linux, linux);
-    is(&rt, &entry.devicetree, "");
+    has_text(&rt, &entry.linux, linux);
+    has_text(&rt, &entry.devicetree, "");
     assert_eq!(rt; entry.initrds.len(), 1);
     Ok(())
 }
@@ -60,12 +60,12 @@ fn text_with_repeated_keys() -> &'static [u8] {
 #[test]
 fn repeated_keys_and_blanks(rt: HostRuntime) -> Result<(), Fail> {
     let entry = entry(rt.alloc(), text_with_repeated_keys())?;
-    is(&rt, &entry.linux, "/b");
-    is(&rt, &entry.options, "quiet a  b rw");
+    has_text(&rt, &entry.linux, "/b");
+    has_text(&rt, &entry.options, "quiet a  b rw");
     is_at(&rt, &entry.initrds, 0, "/i");
     is_at(&rt, &entry.initrds, 1, "/j");
     assert_eq!(rt; entry.initrds.len(), 2);
-    is(&rt, &entry.devicetree, "/d.dtb");
+    has_text(&rt, &entry.devicetree, "/d.dtb");
     Ok(())
 }
 
@@ -103,7 +103,7 @@ fn long_entry(alloc: Global, len: usize) -> Result<Vec<u8>, Fail> {
 fn the_longest_entry_and_one_byte_more(rt: HostRuntime) -> Result<(), Fail> {
     let full = long_entry(rt.alloc(), 65_536)?;
     let entry = entry(rt.alloc(), full.as_slice())?;
-    is(&rt, &entry.linux, "/z");
+    has_text(&rt, &entry.linux, "/z");
     let long = long_entry(rt.alloc(), 65_537)?;
     let cause = refusal(rt.alloc(), long.as_slice());
     assert_eq!(rt; cause, Some(EntryError::TooLong));

@@ -17,9 +17,10 @@ fn bad_place(alloc: Global, line: &str) -> Result<Option<usize>, NoMemory> {
 
 // The words of each line have this place of the first bad one.
 fn are_bad(rt: &impl Abort, alloc: Global, lines: &[(&str, usize)]) -> Result<(), Fail> {
-    for (line, place) in lines {
+    for row in lines {
+        let (line, place) = *row;
         let found = bad_place(alloc, line)?;
-        assert_eq!(rt; found, Some(*place), "at {line}");
+        assert_eq!(rt; found, Some(place), "at {line}");
     }
     Ok(())
 }

@@ -46,7 +46,7 @@ fn boot(alloc: Global, line: &str) -> Result<BootCommand, Fail> {
     }
 }
 
-fn is(rt: &impl Abort, text: &Text, wanted: &str) {
+fn has_text(rt: &impl Abort, text: &Text, wanted: &str) {
     assert_eq!(rt; text.as_str(), wanted);
 }
 
@@ -110,7 +110,7 @@ fn is_dump_shell(action: Option<&Action>) -> bool {
 fn options_come_in_any_order(rt: HostRuntime) -> Result<(), Fail> {
     let line = "state -d --get=a -i x.dts --set=a=b=1 --dump-shell -k key.hex -n -n";
     let state = state(rt.alloc(), line)?;
-    is(&rt, &state.file, "x.dts");
+    has_text(&rt, &state.file, "x.dts");
     says(&rt, &state.name, "-n");
     says(&rt, &state.key, "key.hex");
     has_four_actions(&rt, &state);
@@ -132,8 +132,8 @@ fn has_four_actions(rt: &impl Abort, state: &StateCommand) {
 fn settings_are_named(rt: HostRuntime) -> Result<(), Fail> {
     let line = "mark-good -c set.txt --input=b.dts -n a -k -c";
     let mark = mark_good(rt.alloc(), line)?;
-    is(&rt, &mark.file, "b.dts");
-    is(&rt, &mark.settings, "set.txt");
+    has_text(&rt, &mark.file, "b.dts");
+    has_text(&rt, &mark.settings, "set.txt");
     says(&rt, &mark.name, "a");
     says(&rt, &mark.key, "-c");
     Ok(())
@@ -143,8 +143,8 @@ fn settings_are_named(rt: HostRuntime) -> Result<(), Fail> {
 fn a_cause_is_said(rt: HostRuntime) -> Result<(), Fail> {
     let line = "boot --cause power-on --name=--cause -k key.hex -c set.txt --input b.dts";
     let boot = boot(rt.alloc(), line)?;
-    is(&rt, &boot.file, "b.dts");
-    is(&rt, &boot.settings, "set.txt");
+    has_text(&rt, &boot.file, "b.dts");
+    has_text(&rt, &boot.settings, "set.txt");
     says(&rt, &boot.name, "--cause");
     says(&rt, &boot.key, "key.hex");
     assert_eq!(rt; boot.cause, CauseWord::PowerOn);
