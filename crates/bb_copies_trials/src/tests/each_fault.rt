@@ -48,6 +48,16 @@ impl End {
     }
 }
 
+pub(super) const READ: End = End::Read;
+
+pub(super) const WRITE_0: End = End::Write0;
+
+pub(super) const WRITE_1: End = End::Write1;
+
+pub(super) const WRITE_2: End = End::Write2;
+
+pub(super) const DONE: End = End::Done;
+
 // What the strides of a device begin with, the number that a load gives, and the calls of the
 // device in a session that saves 2. Each is told by how the session ends that is cut off there.
 #[derive(Clone, Copy)]
@@ -63,15 +73,7 @@ fn all_old() -> Row {
         copies: [one(); 3],
         old: "1\n",
         calls: &[
-            End::Read,
-            End::Read,
-            End::Read,
-            End::Read,
-            End::Read,
-            End::Read,
-            End::Write1,
-            End::Write2,
-            End::Write0,
+            READ, READ, READ, READ, READ, READ, WRITE_1, WRITE_2, WRITE_0,
         ],
     }
 }
@@ -81,15 +83,7 @@ fn new_old_none() -> Row {
     Row {
         copies: [two(), one(), blank()],
         old: "2\n",
-        calls: &[
-            End::Read,
-            End::Read,
-            End::Read,
-            End::Read,
-            End::Read,
-            End::Write1,
-            End::Write2,
-        ],
+        calls: &[READ, READ, READ, READ, READ, WRITE_1, WRITE_2],
     }
 }
 
@@ -97,16 +91,7 @@ fn new_old_none() -> Row {
 fn new_old_none_written() -> Row {
     Row {
         calls: &[
-            End::Read,
-            End::Read,
-            End::Read,
-            End::Read,
-            End::Read,
-            End::Write1,
-            End::Write2,
-            End::Write1,
-            End::Write2,
-            End::Write0,
+            READ, READ, READ, READ, READ, WRITE_1, WRITE_2, WRITE_1, WRITE_2, WRITE_0,
         ],
         ..new_old_none()
     }
@@ -118,15 +103,7 @@ fn none_none_old() -> Row {
         copies: [blank(), blank(), one()],
         old: "1\n",
         calls: &[
-            End::Read,
-            End::Read,
-            End::Read,
-            End::Read,
-            End::Write0,
-            End::Write1,
-            End::Write1,
-            End::Write2,
-            End::Write0,
+            READ, READ, READ, READ, WRITE_0, WRITE_1, WRITE_1, WRITE_2, WRITE_0,
         ],
     }
 }
@@ -135,14 +112,7 @@ fn fresh() -> Row {
     Row {
         copies: [blank(); 3],
         old: "3\n",
-        calls: &[
-            End::Read,
-            End::Read,
-            End::Read,
-            End::Write0,
-            End::Write1,
-            End::Write2,
-        ],
+        calls: &[READ, READ, READ, WRITE_0, WRITE_1, WRITE_2],
     }
 }
 
@@ -205,11 +175,7 @@ fn each_fill(
     call: u32,
     cut: End,
 ) -> Result<(), Fail> {
-    let failed = if matches!(cut, End::Read) {
-        End::Read
-    } else {
-        End::Done
-    };
+    let failed = if matches!(cut, End::Read) { READ } else { DONE };
     for fill in [Fill::Old, Fill::Half, Fill::Junk, Fill::Lost] {
         meets(rt, alloc, save, row, call, Fault::Fail(fill), failed)?;
         meets(rt, alloc, save, row, call, Fault::Cut(fill), cut)?;

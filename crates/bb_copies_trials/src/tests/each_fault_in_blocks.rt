@@ -2,8 +2,7 @@
 // filling, failed and cut off. The load after it gives the old or the new number and never an older
 // one, and the new one where the session was done; every copy then passes it.
 use super::blocks::{BLOCK_LEN, Kind, Number, board, entry, tree};
-use super::each_fault::End::{Write0, Write1, Write2};
-use super::each_fault::{End, is_refused};
+use super::each_fault::{DONE, End, READ, WRITE_0, WRITE_1, WRITE_2, is_refused};
 use super::strides::{load, set_2};
 use super::{answers, says, sent, session};
 use bb_base::MemSink;
@@ -32,7 +31,7 @@ fn one_block_all_old() -> Row {
         copies: [&[Number::One], &[Number::One], &[Number::One]],
         old: "1\n",
         reads: 6,
-        writes: &[Write1, Write1, Write2, Write2, Write0, Write0],
+        writes: &[WRITE_1, WRITE_1, WRITE_2, WRITE_2, WRITE_0, WRITE_0],
     }
 }
 
@@ -43,7 +42,7 @@ fn one_block_new_old_none() -> Row {
         copies: [&[Number::Two], &[Number::One], &[]],
         old: "2\n",
         reads: 5,
-        writes: &[Write1, Write1, Write2, Write2],
+        writes: &[WRITE_1, WRITE_1, WRITE_2, WRITE_2],
     }
 }
 
@@ -55,7 +54,8 @@ fn one_block_none_none_old() -> Row {
         old: "1\n",
         reads: 4,
         writes: &[
-            Write0, Write0, Write1, Write1, Write1, Write1, Write2, Write2, Write0, Write0,
+            WRITE_0, WRITE_0, WRITE_1, WRITE_1, WRITE_1, WRITE_1, WRITE_2, WRITE_2, WRITE_0,
+            WRITE_0,
         ],
     }
 }
@@ -66,7 +66,7 @@ fn one_block_fresh() -> Row {
         copies: [&[], &[], &[]],
         old: "3\n",
         reads: 3,
-        writes: &[Write0, Write0, Write1, Write1, Write2, Write2],
+        writes: &[WRITE_0, WRITE_0, WRITE_1, WRITE_1, WRITE_2, WRITE_2],
     }
 }
 
@@ -82,7 +82,7 @@ fn log_all_old() -> Row {
         ],
         old: "1\n",
         reads: 18,
-        writes: &[Write1, Write2, Write0],
+        writes: &[WRITE_1, WRITE_2, WRITE_0],
     }
 }
 
@@ -97,7 +97,7 @@ fn log_new_old_none() -> Row {
         ],
         old: "2\n",
         reads: 20,
-        writes: &[Write1, Write2],
+        writes: &[WRITE_1, WRITE_2],
     }
 }
 
@@ -107,7 +107,7 @@ fn log_none_none_old() -> Row {
         copies: [&[], &[], &[Number::Four, Number::One]],
         old: "1\n",
         reads: 22,
-        writes: &[Write0, Write1, Write1, Write2, Write0],
+        writes: &[WRITE_0, WRITE_1, WRITE_1, WRITE_2, WRITE_0],
     }
 }
 
@@ -117,7 +117,7 @@ fn log_fresh() -> Row {
         copies: [&[], &[], &[]],
         old: "3\n",
         reads: 24,
-        writes: &[Write0, Write1, Write2],
+        writes: &[WRITE_0, WRITE_1, WRITE_2],
     }
 }
 
@@ -132,7 +132,7 @@ fn log_full() -> Row {
         ],
         old: "1\n",
         reads: 6,
-        writes: &[Write1, Write1, Write2, Write2, Write0, Write0],
+        writes: &[WRITE_1, WRITE_1, WRITE_2, WRITE_2, WRITE_0, WRITE_0],
     }
 }
 
@@ -166,10 +166,10 @@ fn a_set_in_logs_outlives_each_fault(rt: HostRuntime) -> Result<(), Fail> {
 fn outlives(rt: &impl Abort, alloc: Global, row: Row) -> Result<(), Fail> {
     whole(rt, alloc, row)?;
     for call in 0..row.reads {
-        each_fill(rt, alloc, row, call, End::Read, End::Read)?;
+        each_fill(rt, alloc, row, call, READ, READ)?;
     }
     for (call, end) in (row.reads..100).zip(row.writes) {
-        each_fill(rt, alloc, row, call, End::Done, *end)?;
+        each_fill(rt, alloc, row, call, DONE, *end)?;
     }
     Ok(())
 }
