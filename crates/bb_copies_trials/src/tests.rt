@@ -17,10 +17,15 @@ mod strides;
 
 fn words(alloc: Global, all: &[&str]) -> Result<TextList, Fail> {
     let mut list = TextList::none(alloc);
+    add_words(alloc, &mut list, all)?;
+    Ok(list)
+}
+
+fn add_words(alloc: Global, list: &mut TextList, all: &[&str]) -> Result<(), Fail> {
     for word in all {
         list.push(Text::of(alloc, word)?)?;
     }
-    Ok(list)
+    Ok(())
 }
 
 fn files_of(alloc: Global, text: &str) -> Result<MemFiles, Fail> {

@@ -95,10 +95,20 @@ fn with_closing_words(number: Number) -> &'static [u8] {
 pub(super) fn board(alloc: Global, kind: Kind, copies: [&[Number]; 3]) -> Result<MemBoard, Fail> {
     let mut bytes = Bytes::none(alloc);
     for numbers in copies {
-        let entries = entries(alloc, kind, numbers)?;
-        add_block(alloc, &mut bytes, &[entries.as_slice()])?;
+        add_entries(alloc, &mut bytes, kind, numbers)?;
     }
     board_of(alloc, bytes.as_slice())
+}
+
+// Adds a block of these entries.
+fn add_entries(
+    alloc: Global,
+    bytes: &mut Bytes,
+    kind: Kind,
+    numbers: &[Number],
+) -> Result<(), Fail> {
+    let entries = entries(alloc, kind, numbers)?;
+    add_block(alloc, bytes, &[entries.as_slice()])
 }
 
 fn entries(alloc: Global, kind: Kind, numbers: &[Number]) -> Result<Bytes, Fail> {

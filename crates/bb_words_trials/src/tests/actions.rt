@@ -87,12 +87,16 @@ fn text_of(alloc: Global, layout: Layout, actions: &ActionList) -> Result<Bytes,
 
 fn five_actions(alloc: Global) -> Result<ActionList, NoMemory> {
     let mut actions = ActionList::none(alloc);
-    add(&mut actions, Ok(Action::DumpShell))?;
-    add(&mut actions, set(alloc, "a.n", "7"))?;
-    add(&mut actions, get(alloc, "a.n"))?;
-    add(&mut actions, set(alloc, "a.n", "8"))?;
-    add(&mut actions, Ok(Action::Dump))?;
+    add_five(alloc, &mut actions)?;
     Ok(actions)
+}
+
+fn add_five(alloc: Global, actions: &mut ActionList) -> Result<(), NoMemory> {
+    add(actions, Ok(Action::DumpShell))?;
+    add(actions, set(alloc, "a.n", "7"))?;
+    add(actions, get(alloc, "a.n"))?;
+    add(actions, set(alloc, "a.n", "8"))?;
+    add(actions, Ok(Action::Dump))
 }
 
 #[test]
@@ -108,10 +112,14 @@ fn actions_come_in_their_order(rt: HostRuntime) -> Result<(), Fail> {
 
 fn three_actions(alloc: Global) -> Result<ActionList, NoMemory> {
     let mut actions = ActionList::none(alloc);
-    add(&mut actions, get(alloc, "a.n"))?;
-    add(&mut actions, set(alloc, "a.n", "256"))?;
-    add(&mut actions, get(alloc, "a"))?;
+    add_three(alloc, &mut actions)?;
     Ok(actions)
+}
+
+fn add_three(alloc: Global, actions: &mut ActionList) -> Result<(), NoMemory> {
+    add(actions, get(alloc, "a.n"))?;
+    add(actions, set(alloc, "a.n", "256"))?;
+    add(actions, get(alloc, "a"))
 }
 
 #[test]
