@@ -9,7 +9,7 @@ use super::devices::{Kind, source};
 use bb_base::{Bytes, MemFiles, NoMemory};
 use bb_chooser::{Cause, Chooser, Settings};
 use bb_dts::read_source;
-use bb_flash::{Flash, Geometry, MemBoard};
+use bb_flash::{Flash, Geometry, MemBoard, PlanList};
 use bb_layout::{Layout, layout_of};
 use bb_shell::{BootEnd, boot_run, read_plans};
 use bb_state::State;
@@ -111,6 +111,22 @@ fn mount(alloc: Global, layout: Layout) -> Result<State, NoMemory>
     State::mount(alloc, layout, None)
 }
 
+// Files in which both systems have this entry.
+fn files(alloc: Global, entry: &[u8]) -> Result<MemFiles, NoMemory> {
+    let mut files = MemFiles::none(alloc);
+    files.add("loader/entries/system0.conf", entry)?;
+    files.add("loader/entries/system1.conf", entry)?;
+    Ok(files)
+}
+
+fn plans(alloc: Global, chooser: &Chooser, entry: &[u8]) -> Result<PlanList, Fail> {
+    let mut files = files(alloc, entry)?;
+    let Ok(plans) = read_plans(alloc, chooser, &mut files) else {
+        return Err(Fail::from("the plans are refused"));
+    };
+    Ok(plans)
+}
+
 /// A boot of both systems with this entry, where `first` says whether it is the session's first. None
 /// where the load before it was refused.
 pub fn boot(
@@ -125,12 +141,7 @@ pub fn boot(
     let layout = layout(alloc, kind, geometry)?;
     let chooser = chooser(alloc, &layout, settings)?;
     let mut state = mount(alloc, layout)?;
-    let mut files = MemFiles::none(alloc);
-    files.add("loader/entries/system0.conf", entry)?;
-    files.add("loader/entries/system1.conf", entry)?;
-    let Ok(plans) = read_plans(alloc, &chooser, &mut files) else {
-        return Err(Fail::from("the plans are refused"));
-    };
+    let plans = plans(alloc, &chooser, entry)?;
     let Ok(_) = state.load(board) else {
         return Ok(None);
     };
