@@ -1,8 +1,7 @@
 -- One action more.
-use Rattle.std.proofs.Common.{◌≡◌, ℕ, ◌+◌, List, [], ◌∷◌, ◌++◌, Option, Some, ap, refl, sym, ◌∙◌, drop, take, fold, slice_get}
+use Rattle.std.proofs.Common.{◌≡◌, ℕ, ◌+◌, List, [], ◌∷◌, ◌++◌, Some, ap, refl, sym, ◌∙◌, drop, take, fold, slice_get}
 use Rattle.std.specs.Option.{option_or}
 use Rattle.bb_layout.specs.declared.var.Var.{Var}
-use Rattle.bb_state.specs.declared.error.StateError.{StateError}
 use Rattle.bb_state.proofs.Lists.{first_next, take_next}
 use Rattle.bb_words.specs.declared.command.Action.{Action}
 use Rattle.bb_actions.specs.Actions.{after, after_all, misfit, misfit_of}

@@ -1,5 +1,6 @@
 ghost use Rattle.std.specs.Prelude.{◌≡◌};
 ghost use Rattle.bb_actions.specs.Actions.{after, after_all};
+ghost use Rattle.bb_layout.specs.Outside.{ChangesVarsAlone};
 ghost use Rattle.bb_state.specs.State.{IsSized, laid_of};
 
 use bb_state::State;
@@ -11,6 +12,7 @@ pub fn make_sets(state: &mut State, actions: &ActionList)
     requires { IsSized state.old }
     ensures table { state.new.table
         ≡ after_all (laid_of state.old).vars state.old.table actions.now }
+    ensures outside { ChangesVarsAlone (laid_of state.old).vars state.old.table state.new.table }
     ensures backing { state.new ≡ record state.old { table = state.new.table } }
     ensures sized { IsSized state.new }
 {
@@ -25,6 +27,7 @@ pub fn make_sets(state: &mut State, actions: &ActionList)
 fn make_set(state: &mut State, action: &Action)
     requires { IsSized state.old }
     ensures table { state.new.table ≡ after (laid_of state.old).vars state.old.table action.now }
+    ensures outside { ChangesVarsAlone (laid_of state.old).vars state.old.table state.new.table }
     ensures backing { state.new ≡ record state.old { table = state.new.table } }
     ensures sized { IsSized state.new }
 {

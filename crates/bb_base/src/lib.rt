@@ -30,6 +30,3 @@ pub use number::{NumberError, read_number};
 pub use sink::Sink;
 pub use text::Text;
 pub use text_list::TextList;
-
-#[cfg(test)]
-mod tests;

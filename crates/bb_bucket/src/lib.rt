@@ -19,6 +19,3 @@ pub use look::record_found;
 pub use one_block::OneBlock;
 pub use parts::{erase_block, program_part, read_part};
 pub use stride::Stride;
-
-#[cfg(test)]
-mod tests;

@@ -1,14 +1,17 @@
-ghost use Rattle.std.specs.Prelude.{◌≡◌, IfOk};
+ghost use Rattle.std.specs.Prelude.{◌≡◌, ◌≤◌, IfOk, OnOk};
+ghost use Rattle.bb_flash.specs.Memory.{device_of};
 ghost use Rattle.bb_bucket_trials.specs.Trials.{tried_device};
-
-use bb_base::NoMemory;
-use bb_flash::{Fill, Geometry, Health, MemBoard};
-use std::alloc::Global;
 
 mod circular;
 mod one_block;
+mod pages;
+mod stride;
 
-const FILLS: [Fill; 4] = [Fill::Old, Fill::Half, Fill::Junk, Fill::Lost];
+use bb_base::NoMemory;
+use bb_flash::{Fault, Geometry, Health, MemBoard};
+use pages::{Page, Pages};
+use std::alloc::Global;
+use std::process::Abort;
 
 // How many contents there are: six kinds of page in four places.
 const CONTENTS: u32 = 1296;
@@ -23,6 +26,29 @@ fn board(alloc: Global, bytes: &[u8; 192]) -> Result<MemBoard, NoMemory>
         size: 192,
     };
     MemBoard::of(alloc, geometry, bytes, 40, 400)
+}
+
+// A board with these bytes, and with the health of these pages.
+fn board_with(alloc: Global, bytes: &[u8; 192], pages: Pages) -> Result<MemBoard, NoMemory>
+    ensures { IfOk result (λ board. board.geometry ≡ tried_device) }
+{
+    let mut board = board(alloc, bytes)?;
+    age(&mut board, 0, pages[0]);
+    age(&mut board, 1, pages[1]);
+    age(&mut board, 2, pages[2]);
+    age(&mut board, 3, pages[3]);
+    Ok(board)
+}
+
+fn age(board: &mut MemBoard, place: u32, page: Page)
+    requires held { board.old.geometry ≡ tried_device }
+    ensures held { board.new.geometry ≡ tried_device }
+{
+    match page {
+        Page::Lost => set_health(board, place, Health::Lost),
+        Page::Worn => set_health(board, place, Health::Worn),
+        _ => {}
+    }
 }
 
 // The health of a page of the block, counted from its start.
@@ -40,4 +66,23 @@ fn restart(board: &mut MemBoard)
     ensures held { board.new.geometry ≡ tried_device }
 {
     board.restart();
+}
+
+// Plans a fault at a call, counted from the next one.
+fn plan_from_here(board: &mut MemBoard, call: u32, fault: Fault) -> Result<(), NoMemory>
+    requires few { call ≤ 1 }
+    ensures held { OnOk result (board.new.geometry ≡ board.old.geometry) }
+    ensures same { OnOk result (device_of board.new ≡ device_of board.old) }
+{
+    let next = board.reads().min(9) as u32 + call;
+    board.plan_fault(next, fault)?;
+    Ok(())
+}
+
+fn has_bytes(board: &MemBoard, bytes: &[u8; 192]) -> bool {
+    board.bytes() == bytes.as_slice()
+}
+
+fn check(rt: &impl Abort, holds: bool, pages: Pages) {
+    assert!(rt; holds, "{pages:?}");
 }

@@ -223,7 +223,7 @@ bound_is layout vars prefix target t h = by_attempts (uint32_at layout vars (att
         let g : bound_of layout vars prefix target ≡ result_and_then (λ q. Ok (record { target = target; attempts_at = p; priority_at = q })) (uint32_at layout vars (priority_name prefix target.name)) = rw a refl in
         by_priority p (uint32_at layout vars (priority_name prefix target.name)) a refl (sym g ∙ h)
 
-all_bound : (layout : List ℕ) (vars : List Var) (prefix : List ℕ) (targets : List Target) (ts : List BoundTarget) → all_ok (map (bound_of layout vars prefix) targets) ≡ Ok ts
+pub all_bound : (layout : List ℕ) (vars : List Var) (prefix : List ℕ) (targets : List Target) (ts : List BoundTarget) → all_ok (map (bound_of layout vars prefix) targets) ≡ Ok ts
     → EachOf (IsBoundAt layout vars prefix) ts × (map (λ t. t.target.name) ts ≡ map (λ t. t.name) targets)
 all_bound layout vars prefix [] ts h = let e : [] ≡ ts = ok_is [] ts _ _ refl refl h in subst (λ (l : List BoundTarget). EachOf (IsBoundAt layout vars prefix) l × (map (λ t. t.target.name) l ≡ [])) e (tt, refl)
 all_bound layout vars prefix (target ∷ targets) ts h = by (bound_of layout vars prefix target) refl (all_bound layout vars prefix targets)
@@ -253,7 +253,7 @@ all_bound layout vars prefix (target ∷ targets) ts h = by (bound_of layout var
 
 -- ---- back from recursion
 
-all_from : (P : BoundTarget → Type 0) (ts : List BoundTarget) → EachOf P ts → (i : ℕ) (d : BoundTarget) → i < length ts → P (get_or ts i d)
+pub all_from : (P : BoundTarget → Type 0) (ts : List BoundTarget) → EachOf P ts → (i : ℕ) (d : BoundTarget) → i < length ts → P (get_or ts i d)
 all_from P [] h i d l = absurd (omega arith)
 all_from P (t ∷ ts) h zero d l = h.0
 all_from P (t ∷ ts) h (suc i) d l = all_from P ts h.1 i d (omega arith)

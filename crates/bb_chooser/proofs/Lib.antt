@@ -1,4 +1,5 @@
 -- Lemmas.
+pub mod Alone
 pub mod Best
 pub mod Binds
 pub mod Bound

@@ -1,5 +1,5 @@
 -- Targets that are bound to the variables of a layout (barebox User Manual, Bootchooser).
-use Rattle.std.specs.Prelude.{ℕ, ◌+◌, ◌<◌, ◌≤◌, Bool, false, true, List, ◌++◌, codes, map, All, AllPairs, Option, Some, None, Result, Ok, Err, if◌then◌else◌, option_and_then, slice_get}
+use Rattle.std.specs.Prelude.{◌≡◌, ℕ, ◌+◌, ◌<◌, ◌≤◌, Bool, false, true, List, ◌++◌, codes, map, All, AllPairs, Any, Option, Some, None, Result, Ok, Err, if◌then◌else◌, option_and_then, slice_get}
 use Rattle.std.specs.Str.{bytes_eq}
 use Rattle.bb_base.specs.Form.{area_limit}
 use Rattle.bb_layout.specs.Results.{all_ok, result_and_then}
@@ -140,3 +140,15 @@ pub record IsBinding (b : Binding) : Type 0 where
   pub each_inside : All (IsInside b.area_len) b.targets
   pub each_alone : All (StandsAlone b.last_chosen_at) b.targets
   pub pairs_apart : AllPairs StandApart b.targets
+
+-- ---- what is true of a chooser and the layout to which it was bound
+
+-- a variable of 4 bytes has this place
+abbrev pub IsVarAt : List Var → ℕ → Type 0
+IsVarAt vars at = Any (λ v. (v.at ≡ at) × (v.size ≡ 4)) vars
+
+-- each of its places is that of one of these variables
+pub record IsBoundTo (vars : List Var) (b : Binding) : Type 0 where
+  pub last_chosen : IsVarAt vars b.last_chosen_at
+  pub attempts : All (λ t. IsVarAt vars t.attempts_at) b.targets
+  pub priorities : All (λ t. IsVarAt vars t.priority_at) b.targets

@@ -1,5 +1,5 @@
 ghost use Rattle.std.specs.Prelude.{◌≡◌, ◌==◌, ◌&&◌, Ok, IfOk, IfErr};
-ghost use Rattle.bb_chooser.specs.Binding.{bind_of};
+ghost use Rattle.bb_chooser.specs.Binding.{IsBoundTo, bind_of};
 ghost use Rattle.bb_chooser.specs.Refusals.{Refuses};
 ghost use Rattle.bb_chooser.specs.Resets.{has_cause};
 
@@ -45,7 +45,7 @@ impl Chooser {
     ghost use Rattle.std.specs.Prelude.{◌<◌, ◌≤◌, ◌↔◌, List, ℕ, Ok, IfOk, IfErr, IfSome, IsNone, IsTrue, IsSome, length};
     ghost use Rattle.std.specs.Option.{option_copied};
     ghost use Rattle.bb_base.specs.Form.{area_limit};
-    ghost use Rattle.bb_chooser.specs.Binding.{IsBinding, bind_of};
+    ghost use Rattle.bb_chooser.specs.Binding.{IsBinding, IsBoundTo, bind_of};
     ghost use Rattle.bb_chooser.specs.Choosing as choosing;
     ghost use Rattle.bb_chooser.specs.Choosing.{IsBest, NoneQualifies, entry_of, name_of};
     ghost use Rattle.bb_chooser.specs.Counting.{chosen_target, mark_good_of, spend_of};
@@ -65,6 +65,7 @@ impl Chooser {
         ensures ok { IfOk result (λ chooser. bind_of settings layout.now ≡ Ok chooser) }
         ensures refused { IfErr result (Refuses (bind_of settings layout.now)) }
         ensures sized { IfOk result (λ chooser. chooser.area_len ≡ layout.now.area_len) }
+        ensures bound { IfOk result (IsBoundTo layout.now.vars) }
 
         // Each refusal, and where it comes.
         ensures no_such_variable { (name : List ℕ) → ComesFrom result
@@ -270,6 +271,7 @@ fn bound_chooser(
     ensures ok { IfOk result (λ chooser. bind_of settings layout.now ≡ Ok chooser) }
     ensures refused { IfErr result (Refuses (bind_of settings layout.now)) }
     ensures sized { IfOk result (λ chooser. chooser.area_len ≡ layout.now.area_len) }
+    ensures bound { IfOk result (IsBoundTo layout.now.vars) }
 {
     let Settings {
         targets,

@@ -12,7 +12,7 @@ use Rattle.bb_dtbrec.specs.Trees.{devicetree_at, pattern_of, root_with_crc}
 use Rattle.bb_dtbrec.proofs.Examples.{after_value, before_value, front, worked}
 
 -- a state with one variable `a@0` of one byte
-one_byte_tree : Branch Piece
+unfoldable pub one_byte_tree : Branch Piece
 one_byte_tree = root_with_crc []
     (node (codes "state")
     ((codes "compatible", Fixed (codes "barebox,state" ++ 0 ∷ []))

@@ -36,7 +36,7 @@ are_values (Value place ∷ pieces) n =
     && (is_apart place (values_among pieces) && b))
     (are_values pieces n)
 
-values-append : (xs ys : List Piece) →
+pub values-append : (xs ys : List Piece) →
     values_among (xs ++ ys) ≡ values_among xs ++ values_among ys
 values-append [] ys = refl
 values-append (Fixed bytes ∷ xs) ys = values-append xs ys

@@ -27,15 +27,15 @@ sound pattern h =
       pieces = (and_parts _ _ parts.1).1;
     }
 
-record IsFit (pattern : Pattern) (area : List ℕ) : Type 0 where
-  made : is_pattern pattern ≡ true
-  whole : length area ≡ pattern.area_len
-  again : area_of_fields pattern (pieces_text pattern.pieces area) ≡ area
+pub record IsFit (pattern : Pattern) (area : List ℕ) : Type 0 where
+  pub made : is_pattern pattern ≡ true
+  pub whole : length area ≡ pattern.area_len
+  pub again : area_of_fields pattern (pieces_text pattern.pieces area) ≡ area
 
 pub same_bytes : (bytes : List ℕ) → bytes_eq bytes bytes ≡ true
 same_bytes bytes = (bytes_eq-Decides bytes bytes).1 refl
 
-fit : (pattern : Pattern) (area : List ℕ) → dtb_fits pattern area ≡ true → IsFit pattern area
+pub fit : (pattern : Pattern) (area : List ℕ) → dtb_fits pattern area ≡ true → IsFit pattern area
 fit pattern area h =
     let parts = and_parts _ _ h in
     record {

@@ -1,9 +1,13 @@
 -- Definitions that contracts cite. These a reader has to believe.
 pub use Rattle.bb_base.specs.Form
 pub mod Dtb
--- Inside: that this record is a format, and that a check field by field is what passes.
+pub mod Layouts
+pub mod Trees
+-- Inside: that this record is a format, that a check field by field is what passes, and in which
+-- order the pieces of a pattern are written.
 pub mod Checking
 pub mod Laws
+pub mod LayoutPieces
+pub mod Names
 pub mod Pieces
--- The pattern of a tree. No contract cites it yet.
-pub mod Trees
+pub mod Spine

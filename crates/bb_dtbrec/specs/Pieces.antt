@@ -13,12 +13,12 @@ use Rattle.bb_dtbrec.specs.Dtb.{are_pieces, field_len, field_of, is_apart, piece
 -- ---- what is known of pieces
 
 -- a value among pieces
-record IsPlaced (place : Place) (pieces : List Piece) (n : ℕ) : Type 0 where
-  inside : place.at + place.size ≤ n
-  apart : is_apart place pieces ≡ true
-  others : are_pieces pieces n ≡ true
+pub record IsPlaced (place : Place) (pieces : List Piece) (n : ℕ) : Type 0 where
+  pub inside : place.at + place.size ≤ n
+  pub apart : is_apart place pieces ≡ true
+  pub others : are_pieces pieces n ≡ true
 
-placed : (place : Place) (pieces : List Piece) (n : ℕ) →
+pub placed : (place : Place) (pieces : List Piece) (n : ℕ) →
     are_pieces (Value place ∷ pieces) n ≡ true → IsPlaced place pieces n
 unfolding are_pieces
 placed place pieces n h =
@@ -61,7 +61,7 @@ length_field_of ByteAsCell value = omega arith
 length_field_of NumberAsCell value = length-reverse value
 length_field_of AsIs value = refl
 
-length_value_of : (spelling : Spelling) (size : ℕ) (field : List ℕ) →
+pub length_value_of : (spelling : Spelling) (size : ℕ) (field : List ℕ) →
     length field ≡ field_len spelling size → length (value_of spelling field) ≡ size
 length_value_of ByteAsCell size field e = omega (arith, length-drop 3 field)
 length_value_of NumberAsCell size field e = length-reverse field ∙ e
@@ -86,7 +86,7 @@ length_pieces_text (piece ∷ pieces) area h =
     ∙ ap (λ n. piece_len piece + n)
     (length_pieces_text pieces area (others_too piece pieces (length area) h))
 
-length_with_value : (place : Place) (value area : List ℕ) → place.at + place.size ≤ length area →
+pub length_with_value : (place : Place) (value area : List ℕ) → place.at + place.size ≤ length area →
     length value ≡ place.size → length (with_value place value area) ≡ length area
 length_with_value place value area inside e =
     let behind : List ℕ = drop (place.at + place.size) area in
@@ -231,7 +231,7 @@ value_read place pieces text area h enough =
 
 -- ---- fields are read back
 
-read_back : (spelling : Spelling) (value : List ℕ) →
+pub read_back : (spelling : Spelling) (value : List ℕ) →
     value_of spelling (field_of spelling value) ≡ value
 read_back ByteAsCell value = refl
 read_back NumberAsCell value = reverse-reverse value

@@ -6,8 +6,11 @@
 mod check;
 mod crc;
 mod dtb;
+mod nodes;
+mod of_layout;
 mod pack;
 mod piece;
+mod token;
 
 pub use dtb::Dtb;
 

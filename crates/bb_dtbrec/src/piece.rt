@@ -1,7 +1,10 @@
 ghost use Rattle.std.specs.Prelude.{◌≡◌, ◌≤◌};
 ghost use Rattle.bb_dtbrec.specs.Dtb as spec;
+ghost use Rattle.bb_dtbrec.specs.Layouts as layouts;
 
 use bb_base::Bytes;
+use bb_layout::Var;
+use bb_vars::Kind;
 
 /// How the value of a variable is spelt in its field.
 #[derive(Clone, Copy)]
@@ -54,6 +57,22 @@ impl Piece {
             Piece::Fixed(bytes) => bytes.as_slice().len(),
             Piece::Value(place) => place.field_len(),
         }
+    }
+}
+
+/// Where a variable stands in the area, and how its value is spelt.
+pub(crate) fn place_of(var: &Var) -> Place
+    ensures { result ≡ layouts.place_of var.now }
+{
+    let spelling = match var.kind {
+        Kind::Uint8 => Spelling::ByteAsCell,
+        Kind::Uint32 | Kind::Enum32(_) => Spelling::NumberAsCell,
+        Kind::Mac | Kind::Chars(_) => Spelling::AsIs,
+    };
+    Place {
+        at: var.at as usize,
+        size: var.size as usize,
+        spelling,
     }
 }
 

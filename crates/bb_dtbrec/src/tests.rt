@@ -2,6 +2,8 @@ ghost use Rattle.std.specs.Prelude.{◌≡◌, ◌∷◌, [], IfOk, replicate};
 ghost use Rattle.bb_dtbrec.specs.declared.piece.Piece.TheVariants.{Fixed, Value};
 ghost use Rattle.bb_dtbrec.specs.declared.piece.Spelling.TheVariants.{ByteAsCell, NumberAsCell};
 
+mod layouts;
+
 use super::*;
 use crate::piece::{Piece, Place, Spelling};
 use bb_base::{Bytes, Format, NoMemory};

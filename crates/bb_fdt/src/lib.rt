@@ -23,6 +23,3 @@ pub use error::{FdtError, Field};
 pub use law::law_read_back;
 pub use read::read_blob;
 pub use write::write_blob;
-
-#[cfg(test)]
-mod tests;

@@ -7,3 +7,4 @@ mod long;
 mod printed;
 mod readers;
 mod same;
+mod values;

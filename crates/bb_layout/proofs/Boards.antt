@@ -7,6 +7,7 @@ use Rattle.std.specs.Option.{option_map, option_or}
 use Rattle.bb_flash.specs.Geometry.{in_place_of}
 use Rattle.bb_flash.specs.declared.geometry.Geometry.{Geometry}
 use Rattle.bb_flash.specs.declared.region.Region.{Region}
+use Rattle.bb_tree.specs.Blob.{blob_text, double_word, word}
 use Rattle.bb_tree.specs.Node.{Branch, forest, preorder}
 use Rattle.bb_tree.specs.Paths.{found}
 use Rattle.bb_vars.specs.declared.kind.Kind.TheVariants.{Uint32}
@@ -15,11 +16,12 @@ use Rattle.bb_layout.specs.Backend.{backend_of, partition_at}
 use Rattle.bb_layout.specs.Copies.{region_of}
 use Rattle.bb_layout.specs.Defaults.{defaults_of}
 use Rattle.bb_layout.specs.Fields.{base_name}
+use Rattle.bb_layout.specs.Formats.{record_len}
 use Rattle.bb_layout.specs.Layout.{Laid, layout_at, layout_from}
 use Rattle.bb_layout.specs.StateNode.{counting, is_wanted}
 use Rattle.bb_layout.specs.Steps.{result_then}
 use Rattle.bb_layout.specs.declared.format_kind.FormatKind.{FormatKind}
-use Rattle.bb_layout.specs.declared.format_kind.FormatKind.TheVariants.{Raw, RawHmac}
+use Rattle.bb_layout.specs.declared.format_kind.FormatKind.TheVariants.{Dtb, Raw, RawHmac}
 use Rattle.bb_layout.specs.declared.layout_error.LayoutError.{LayoutError}
 use Rattle.bb_layout.specs.declared.layout_error.LayoutError.TheVariants.{NoState, Missing, BadProp, BadType, BadReg, Overlap, NoBackend, TooSmall, Unaligned, OutOfDevice, AreaTooLong, NameTwice}
 use Rattle.bb_layout.specs.declared.storage.Storage.TheVariants.{Stride, OneBlock, Circular}
@@ -58,8 +60,11 @@ compatible = (codes "compatible", text (codes "barebox,state"))
 abbrev magic : Value
 magic = (codes "magic", cells (0x4d433230 ∷ []))
 
+abbrev kept_by : List ℕ → Value
+kept_by type = (codes "backend-type", text type)
+
 abbrev raw : Value
-raw = (codes "backend-type", text (codes "raw"))
+raw = kept_by (codes "raw")
 
 abbrev algo : List ℕ → Value
 algo name = (codes "algo", text name)
@@ -169,8 +174,8 @@ no_backend_property = refl
 no_reg : refused (tree good (at (codes "a") ((codes "type", text (codes "mac")) ∷ []) [] ∷ []) (partition 0 96)) small ≡ Err (Missing (codes "reg"))
 no_reg = refl
 
-dtb_records : refused (tree (compatible ∷ magic ∷ (codes "backend-type", text (codes "dtb")) ∷ backend ∷ []) [] (partition 0 96)) small ≡ Err (BadProp (codes "backend-type"))
-dtb_records = refl
+other_records : refused (tree (compatible ∷ magic ∷ kept_by (codes "blob") ∷ backend ∷ []) [] (partition 0 96)) small ≡ Err (BadProp (codes "backend-type"))
+other_records = refl
 
 other_key : refused (tree (compatible ∷ algo (codes "hmac(sha1)") ∷ magic ∷ raw ∷ backend ∷ []) [] (partition 0 96)) small ≡ Err (BadProp (codes "algo"))
 other_key = refl
@@ -291,6 +296,30 @@ strides_of_55 = refl
 
 strides_of_56 : kept_in (keyed 168) ≡ Some (RawHmac, Stride 56)
 strides_of_56 = refl
+
+-- ---- records that are blobs
+
+abbrev blobs : List Value
+blobs = compatible ∷ magic ∷ kept_by (codes "dtb") ∷ backend ∷ []
+
+-- three strides of 181 bytes hold no front and blob of an empty area, three of 182 do
+strides_of_181 : refused (tree blobs [] (partition 0 543)) small ≡ Err TooSmall
+unfolding blob_text word double_word
+strides_of_181 = refl
+
+strides_of_182 : kept_in (tree blobs [] (partition 0 546)) ≡ Some (Dtb, Stride 182)
+unfolding blob_text word double_word
+strides_of_182 = refl
+
+blob_with_key : refused (tree (algo (codes "hmac(sha256)") ∷ blobs) [] (partition 0 546)) small ≡ Err (BadProp (codes "algo"))
+blob_with_key = refl
+
+-- as many bytes as dtc gives the blob
+board_len : record_len Dtb (record { node = codes "state"; magic = 0x4d433230; vars = board_vars }) 20 ≡ 440
+unfolding blob_text word double_word
+board_len = refl
+
+-- ---- regions, paths
 
 -- a region in cells of 64 bits
 abbrev far : List ℕ → Node

@@ -6,6 +6,7 @@ pub mod Examples
 pub mod Failing
 pub mod Filling
 pub mod Meeting
+pub mod Outside
 pub mod Pairs
 pub mod Places
 pub mod RangeFacts

@@ -1,13 +1,11 @@
 -- Trees of records by computation.
 use Rattle.std.specs.Prelude.{◌≡◌, ℕ, List, [], ◌∷◌, ◌++◌, codes, drop, length, map, take, refl}
-use Rattle.bb_flash.specs.Geometry.{in_place_of}
 use Rattle.bb_tree.specs.Blob.{blob_text, double_word, word}
 use Rattle.bb_tree.specs.Node.{Branch, forest}
 use Rattle.bb_vars.specs.declared.kind.Kind.TheVariants.{Uint8, Uint32, Enum32, Mac, Chars}
-use Rattle.bb_layout.specs.Layout.{Laid}
-use Rattle.bb_layout.specs.Record.{grown_of, record_tree_of, value_in}
-use Rattle.bb_layout.specs.declared.format_kind.FormatKind.TheVariants.{Raw}
-use Rattle.bb_layout.specs.declared.storage.Storage.TheVariants.{Stride}
+use Rattle.bb_layout.specs.Formats.{record_len}
+use Rattle.bb_layout.specs.Record.{Recorded, grown_of, record_tree_of, value_in}
+use Rattle.bb_layout.specs.declared.format_kind.FormatKind.TheVariants.{Dtb, Raw}
 use Rattle.bb_layout.specs.declared.var.Var.{Var}
 
 abbrev byte : List (List ℕ) → ℕ → Var
@@ -23,6 +21,9 @@ abbrev valued : List ℕ → ℕ → List Node → Node
 valued name value nodes = record { name = name; props = (codes "value", 0 ∷ 0 ∷ 0 ∷ value ∷ []) ∷ []; nodes = forest nodes }
 
 -- ---- values
+
+small : value_in Uint8 (7 ∷ []) ≡ 0 ∷ 0 ∷ 0 ∷ 7 ∷ []
+small = refl
 
 number : value_in Uint32 (4 ∷ 3 ∷ 2 ∷ 1 ∷ []) ≡ 1 ∷ 2 ∷ 3 ∷ 4 ∷ []
 number = refl
@@ -60,17 +61,10 @@ own_node = refl
 
 -- ---- a record of one variable
 
-one : Laid
+one : Recorded
 one = record {
-  name = codes "state";
   node = codes "state";
   magic = 0x4d433230;
-  format = Raw;
-  storage = Stride 64;
-  geometry = in_place_of 192;
-  region = record { at = 0; size = 192 };
-  copies = 3;
-  area_len = 1;
   vars = byte (codes "a@0" ∷ []) 0 ∷ [];
 }
 
@@ -92,6 +86,14 @@ one_blob = blob_text (record { root = record_tree_of one (7 ∷ []); reserved = 
 one_len : length one_blob ≡ 208
 unfolding one one_blob blob_text word double_word
 one_len = refl
+
+-- also over a zero byte, as a layout counts it
+dtb_len : record_len Dtb one 1 ≡ 208
+unfolding one blob_text word double_word
+dtb_len = refl
+
+raw_len : record_len Raw one 1 ≡ 17
+raw_len = refl
 
 -- FDT_BEGIN_NODE of the root, and FDT_PROP of its CRC, whose 4 bytes begin at 76
 crc_at_76 : take 20 (drop 56 one_blob) ≡ 0 ∷ 0 ∷ 0 ∷ 1 ∷ 0 ∷ 0 ∷ 0 ∷ 0 ∷ 0 ∷ 0 ∷ 0 ∷ 3 ∷ 0 ∷ 0 ∷ 0 ∷ 4 ∷ 0 ∷ 0 ∷ 0 ∷ 0 ∷ []

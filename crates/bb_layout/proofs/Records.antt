@@ -12,7 +12,7 @@ use Rattle.bb_tree.specs.declared.node.NodeList.{NodeList as TreeNodes}
 use Rattle.bb_tree.specs.declared.node.Node.TheViews.{out-Node, out-NodeList}
 use Rattle.bb_tree.specs.Node.{Branch, bare, branches, forest}
 use Rattle.bb_layout.specs.Ranges.{end_of}
-use Rattle.bb_layout.specs.Record.{Grown, grown_of, node_for, nodes_with_prop, put_prop, with_last, with_var}
+use Rattle.bb_layout.specs.Record.{Grown, grown_of, node_for, nodes_with_prop, put_prop, value_of, with_last, with_var}
 use Rattle.bb_layout.specs.Variables.{IsWellFormed}
 use Rattle.bb_layout.specs.declared.var.Var.{Var}
 
@@ -157,14 +157,14 @@ put_on_last shared path prop last nodes h =
 -- ---- variables one after another
 
 pub grown_more : (area : List ℕ) (vars : List Var) (i : ℕ) (v : Var) → slice_get vars i ≡ Some v →
-    grown_of area (take (i + 1) vars) ≡ with_var area (grown_of area (take i vars)) v
+    grown_of area (take (i + 1) vars) ≡ with_var (value_of area) (grown_of area (take i vars)) v
 grown_more area vars i v h =
-    fold_more (with_var area) (record { path = []; nodes = [] }) vars i v (slice_get_within vars i v h)
-    ∙ ap (with_var area (grown_of area (take i vars))) (get_or_from_slice_get vars i v v h)
+    fold_more (with_var (value_of area)) (record { path = []; nodes = [] }) vars i v (slice_get_within vars i v h)
+    ∙ ap (with_var (value_of area) (grown_of area (take i vars))) (get_or_from_slice_get vars i v v h)
 
 -- the path of the last one
 pub path_before : (area : List ℕ) (vars : List Var) (i : ℕ) (v : Var) → slice_get vars i ≡ Some v → (grown_of area (take (i + 1) vars)).path ≡ v.path
-path_before area vars i v h = ap (λ (g : Grown). g.path) (grown_more area vars i v h)
+path_before area vars i v h = ap (λ (g : Grown (List ℕ)). g.path) (grown_more area vars i v h)
 
 pub formed_at : (vars : List Var) (i : ℕ) (v : Var) → All IsWellFormed vars → slice_get vars i ≡ Some v → IsWellFormed v
 formed_at vars i v all h = subst IsWellFormed (get_or_from_slice_get vars i v v h) (all i v (slice_get_within vars i v h))

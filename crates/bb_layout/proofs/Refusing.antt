@@ -5,8 +5,7 @@ use Rattle.bb_flash.specs.declared.region.Region.{Region}
 use Rattle.bb_tree.specs.Node.{Branch}
 use Rattle.bb_layout.specs.Backend.{backend_of}
 use Rattle.bb_layout.specs.Copies.{copies_of}
-use Rattle.bb_layout.specs.Formats.{record_len}
-use Rattle.bb_layout.specs.Layout.{Laid, fields_of, layout_at}
+use Rattle.bb_layout.specs.Layout.{Laid, fields_of, layout_at, len_of}
 use Rattle.bb_layout.specs.Ranges.{area_len_of}
 use Rattle.bb_layout.specs.Refusals.{answer_to, area_step, place_step, progress_of, props_step, region_step, room_step, state_step, vars_step, AtArea, AtBackend, AtPlace, AtProperties, AtProps, AtRoom, AtVars, ComesAt, ComesExactly, HasNoState, Question, Refuses}
 use Rattle.bb_layout.specs.StateNode.{state_of}
@@ -61,9 +60,9 @@ module _ (question : Question) (state : List ℕ × Branch (List ℕ)) where
   abbrev storage_in : Region → Props → Storage
   storage_in region props = storage_of question.geometry region props
 
-  abbrev room_in : Region → Props → ℕ → Result (Unit {0}) LayoutError
-  room_in region props area_len =
-      check_room question.geometry (storage_in region props) region (record_len props.format area_len)
+  abbrev room_in : Region → Props → List Var → ℕ → Result (Unit {0}) LayoutError
+  room_in region props vars area_len =
+      check_room question.geometry (storage_in region props) region (len_of state.1 props vars area_len)
 
   abbrev laid_so : Props → List Var → ℕ → Region → Storage → Laid
   laid_so props vars area_len region storage = record {
@@ -94,20 +93,20 @@ module _ (question : Question) (state : List ℕ × Branch (List ℕ)) where
   from_area props vars area region =
       result_then area (λ area_len.
       result_then region (λ r.
-      from_region props vars area_len r (check_place question.geometry r) (room_in r props area_len)))
+      from_region props vars area_len r (check_place question.geometry r) (room_in r props vars area_len)))
 
-  abbrev last_from_area : Props → Result ℕ LayoutError → Result Region LayoutError → Result (Unit {0}) LayoutError
-  last_from_area props area region =
+  abbrev last_from_area : Props → List Var → Result ℕ LayoutError → Result Region LayoutError → Result (Unit {0}) LayoutError
+  last_from_area props vars area region =
       let backed = result_then area (λ _. region) in
       result_then (result_then backed (check_place question.geometry)) (λ _.
-      result_then backed (λ r. result_then area (λ area_len. room_in r props area_len)))
+      result_then backed (λ r. result_then area (λ area_len. room_in r props vars area_len)))
 
   same_from_area : (props : Props) (vars : List Var) (area : Result ℕ LayoutError) (region : Result Region LayoutError) →
-      refusal_of (from_area props vars area region) ≡ refusal_of (last_from_area props area region)
+      refusal_of (from_area props vars area region) ≡ refusal_of (last_from_area props vars area region)
   same_from_area props vars (Err e) region = refl
   same_from_area props vars (Ok n) (Err e) = refl
   same_from_area props vars (Ok n) (Ok r) =
-      same_from_region props vars n r (check_place question.geometry r) (room_in r props n)
+      same_from_region props vars n r (check_place question.geometry r) (room_in r props vars n)
 
   abbrev from_props : Result Props LayoutError → Result (List Var) LayoutError → Result Region LayoutError → Result Laid LayoutError
   from_props props vars region =
@@ -119,7 +118,8 @@ module _ (question : Question) (state : List ℕ × Branch (List ℕ)) where
       let area = result_then listed area_len_of in
       let backed = result_then area (λ _. region) in
       result_then (result_then backed (check_place question.geometry)) (λ _.
-      result_then backed (λ r. result_then props (λ p. result_then area (λ area_len. room_in r p area_len))))
+      result_then backed (λ r.
+      result_then props (λ p. result_then listed (λ vs. result_then area (λ area_len. room_in r p vs area_len)))))
 
   same_from_props : (props : Result Props LayoutError) (vars : Result (List Var) LayoutError) (region : Result Region LayoutError) →
       refusal_of (from_props props vars region) ≡ refusal_of (last_from_props props vars region)
@@ -136,9 +136,11 @@ module _ (question : Question) where
       let region = result_then area (λ _. result_then state (λ s. backend_of question.tree s.1)) in
       result_then (result_then region (check_place question.geometry)) (λ _.
       result_then region (λ r.
+      result_then state (λ s.
       result_then props (λ p.
+      result_then vars (λ vs.
       result_then area (λ area_len.
-      check_room question.geometry (storage_of question.geometry r p) r (record_len p.format area_len)))))
+      check_room question.geometry (storage_of question.geometry r p) r (len_of s.1 p vs area_len)))))))
 
   same_by : (state : Result (List ℕ × Branch (List ℕ)) LayoutError) →
       refusal_of (result_then state (λ s. layout_at question.tree s.0 s.1 question.geometry)) ≡ refusal_of (last_by state)
@@ -295,9 +297,11 @@ module _ (question : Question) where
       let area = has_area (has_region is) in
       past (place_step question) _ is (λ _.
       past (region_step question) _ (has_region is) (λ region.
+      past (state_step question) _ (has_state (has_props (has_vars area))) (λ state.
       past (props_step question) _ (has_props (has_vars area)) (λ props.
+      past (vars_step question) _ (has_vars area) (λ vars.
       past (area_step question) _ area (λ area_len.
-      fails_room question.geometry (storage_of question.geometry region props) region (record_len props.format area_len)))))
+      fails_room question.geometry (storage_of question.geometry region props) region (len_of state.1 props vars area_len)))))))
 
   may : (e : LayoutError) (r : FirstRefusal question e) → can_be r e ≡ true
   unfolding progress_of

@@ -1,8 +1,8 @@
 -- A variable that a node gives is well formed.
-use Rattle.std.proofs.Common.{◌≡◌, ℕ, zero, suc, ◌+◌, ◌-◌, ◌<◌, ◌≤◌, ◌^◌, Bool, true, false, cond, eqb, leb, List, [], ◌∷◌, Option, Some, None, Result, Ok, Err, length, map, filter, replicate, reverse, arith, refl, sym, subst, ap, ◌∙◌, inl, inr, All, codes, length-append}
+use Rattle.std.proofs.Common.{◌≡◌, ◌≢◌, ℕ, zero, suc, ◌+◌, ◌-◌, ◌<◌, ◌≤◌, ◌^◌, Bool, true, false, cond, eqb, leb, List, [], ◌∷◌, Option, Some, None, Result, Ok, Err, length, map, filter, replicate, reverse, arith, refl, sym, subst, ap, ◌∙◌, inl, inr, All, codes, length-append}
 use Rattle.std.proofs.lemmas.Bool.{cases_Bool, and_parts, eqb-true}
 use Rattle.std.proofs.lemmas.Bool.Decides.{nat_tests}
-use Rattle.std.proofs.lemmas.List.{length-replicate}
+use Rattle.std.proofs.lemmas.List.{length-replicate, length-reverse}
 use Rattle.std.specs.Int.{w8, w32, to_le_bytes}
 use Rattle.std.specs.Option.{ok_or, option_map}
 use Rattle.bb_tree.specs.Node.{Branch}
@@ -123,8 +123,8 @@ default_sized : (kind : Kind) (value : Option (List ℕ)) (bytes : List ℕ) →
 default_sized kind None bytes h = let same : bytes_of_size (size_of kind) [] ≡ bytes = cc in ap length (sym same) ∙ length-bytes_of_size (size_of kind) [] (omega arith)
 default_sized kind (Some value) bytes h = default_fits kind value bytes (ok_or_ok (default_in kind value) (BadProp (codes "default")) bytes h)
 
-pub well_formed : (path : List (List ℕ)) (b : Branch (List ℕ)) (v : Var) → variable_of path b ≡ Ok v → IsWellFormed v
-well_formed path b v h =
+pub well_formed : (path : List (List ℕ)) (b : Branch (List ℕ)) (v : Var) → path ≢ [] → variable_of path b ≡ Ok v → IsWellFormed v
+well_formed path b v led h =
     let t = came (with_type path b) (type_of (prop_of (codes "type") b)) v h in
     let r = came (with_range path b t.value) (range_of t.value (prop_of (codes "reg") b)) v t.then in
     let k = came (with_kind path b r.value) (kind_of t.value r.value.1 (prop_of (codes "names") b)) v r.then in
@@ -138,6 +138,7 @@ well_formed path b v h =
       few_names = kind.few;
       some = some_bytes t.value r.value.1 fits.0;
       end = ends fits.1;
+      led = led;
     })
   where
     ok_is : (x y : Var) → ◌≡◌ {A = Result Var LayoutError} (Ok x) (Ok y) → x ≡ y
@@ -168,7 +169,12 @@ all_from P f each (x ∷ xs) vars h =
 
 at_well_formed : (way : List (Branch (List ℕ))) (v : Var) → variable_at way ≡ Ok v → IsWellFormed v
 at_well_formed [] v h = absurd (cc)
-at_well_formed (b ∷ above) v h = well_formed (reverse (map (λ n. n.name) (b ∷ above))) b v h
+at_well_formed (b ∷ above) v h = well_formed (reverse (map (λ n. n.name) (b ∷ above))) b v (turned b.name (map (λ n. n.name) above)) h
+  where
+    turned : (name : List ℕ) (names : List (List ℕ)) → reverse (name ∷ names) ≢ []
+    turned name names is =
+        let none : length (reverse (name ∷ names)) ≡ 0 = ap length is in
+        omega (arith, none, length-reverse (name ∷ names))
 
 pub all_well_formed : (state : Branch (List ℕ)) (vars : List Var) → variables_of state ≡ Ok vars → All IsWellFormed vars
 all_well_formed state vars h = all_from IsWellFormed variable_at at_well_formed (filter is_variable (ways_of [] state.nodes)) vars h

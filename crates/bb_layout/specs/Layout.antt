@@ -8,6 +8,7 @@ use Rattle.bb_layout.specs.Backend.{backend_of}
 use Rattle.bb_layout.specs.Copies.{copies_of}
 use Rattle.bb_layout.specs.Formats.{record_len}
 use Rattle.bb_layout.specs.Ranges.{area_len_of}
+use Rattle.bb_layout.specs.Record.{Recorded}
 use Rattle.bb_layout.specs.StateNode.{state_of}
 use Rattle.bb_layout.specs.StateProps.{props_of}
 use Rattle.bb_layout.specs.Steps.{result_then}
@@ -17,6 +18,7 @@ use Rattle.bb_layout.specs.declared.format_kind.FormatKind.{FormatKind}
 use Rattle.bb_layout.specs.declared.layout.Layout.{Layout}
 use Rattle.bb_layout.specs.declared.layout_error.LayoutError.{LayoutError}
 use Rattle.bb_layout.specs.declared.layout_error.LayoutError.TheVariants.{NoState}
+use Rattle.bb_layout.specs.declared.state_props.Props.{Props}
 use Rattle.bb_layout.specs.declared.storage.Storage.{Storage}
 use Rattle.bb_layout.specs.declared.var.Var.{Var}
 
@@ -47,9 +49,18 @@ fields_of l = record {
   vars = l.vars;
 }
 
+-- what each record of it says
+abbrev pub recorded_of : Laid → Recorded
+recorded_of l = record { node = l.node; magic = l.magic; vars = l.vars }
+
 -- how many bytes a record of it has
 abbrev pub laid_len : Laid → ℕ
-laid_len l = record_len l.format l.area_len
+laid_len l = record_len l.format (recorded_of l) l.area_len
+
+-- how many bytes a record of these properties of a state node and these variables has
+abbrev pub len_of : Branch (List ℕ) → Props → List Var → ℕ → ℕ
+len_of state props vars area_len =
+    record_len props.format (record { node = state.name; magic = props.magic; vars = vars }) area_len
 
 -- the layout of a state node, by a name
 abbrev pub layout_at : Branch (List ℕ) → List ℕ → Branch (List ℕ) → Geometry → Result Laid LayoutError
@@ -58,7 +69,7 @@ layout_at tree name state geometry =
     result_then (variables_of state) (λ vars.
     result_then (area_len_of vars) (λ area_len.
     result_then (backend_of tree state) (λ region.
-    result_then (storage_in geometry region props (record_len props.format area_len)) (λ storage.
+    result_then (storage_in geometry region props (len_of state props vars area_len)) (λ storage.
     Ok (record {
       name = name;
       node = state.name;

@@ -7,7 +7,9 @@ pub mod Defaults
 pub mod Facts
 pub mod Fields
 pub mod Formats
+pub mod Kept
 pub mod Layout
+pub mod Outside
 pub mod Ranges
 pub mod Record
 pub mod Refusals

@@ -9,8 +9,7 @@ use Rattle.bb_tree.specs.Node.{Branch}
 use Rattle.bb_tree.specs.NodeViews.{branch_of}
 use Rattle.bb_tree.specs.declared.tree.Tree.{Tree}
 use Rattle.bb_layout.specs.Backend.{backend_of}
-use Rattle.bb_layout.specs.Formats.{record_len}
-use Rattle.bb_layout.specs.Layout.{Laid, layout_from}
+use Rattle.bb_layout.specs.Layout.{Laid, layout_from, len_of}
 use Rattle.bb_layout.specs.Ranges.{area_len_of}
 use Rattle.bb_layout.specs.StateNode.{state_of}
 use Rattle.bb_layout.specs.StateProps.{props_of}
@@ -81,10 +80,12 @@ abbrev pub room_step : Question → Result (Unit {0}) LayoutError
 room_step question =
     result_then (place_step question) (λ _.
     result_then (region_step question) (λ region.
+    result_then (state_step question) (λ state.
     result_then (props_step question) (λ props.
+    result_then (vars_step question) (λ vars.
     result_then (area_step question) (λ area_len.
     let storage = storage_of question.geometry region props in
-    check_room question.geometry storage region (record_len props.format area_len)))))
+    check_room question.geometry storage region (len_of state.1 props vars area_len)))))))
 
 unfoldable pub progress_of : Question → Progress
 progress_of question = record {

@@ -8,7 +8,7 @@ use Rattle.bb_tree.specs.Paths.{prop_of}
 use Rattle.bb_layout.specs.Fields.{cell_of}
 use Rattle.bb_layout.specs.Steps.{result_then}
 use Rattle.bb_layout.specs.declared.format_kind.FormatKind.{FormatKind}
-use Rattle.bb_layout.specs.declared.format_kind.FormatKind.TheVariants.{Raw, RawHmac}
+use Rattle.bb_layout.specs.declared.format_kind.FormatKind.TheVariants.{Dtb, Raw, RawHmac}
 use Rattle.bb_layout.specs.declared.layout_error.LayoutError.{LayoutError}
 use Rattle.bb_layout.specs.declared.layout_error.LayoutError.TheVariants.{Missing, BadProp}
 use Rattle.bb_layout.specs.declared.state_props.Props.{Props}
@@ -25,9 +25,12 @@ is_string value text = bytes_eq value (text ++ 0 ∷ [])
 abbrev pub magic_of : Branch (List ℕ) → Result ℕ LayoutError
 magic_of b = result_then (required_prop b (codes "magic")) (λ value. ok_or (cell_of value) (BadProp (codes "magic")))
 
--- `backend-type` is `raw`, the one type of records so far
+-- `backend-type` is `raw` or `dtb`
 abbrev pub type_in : List ℕ → Option FormatKind
-type_in value = if is_string value (codes "raw") then Some Raw else None
+type_in value =
+    if is_string value (codes "raw") then Some Raw
+    else if is_string value (codes "dtb") then Some Dtb
+    else None
 
 abbrev pub type_of : Branch (List ℕ) → Result FormatKind LayoutError
 type_of b =
@@ -37,6 +40,7 @@ type_of b =
 abbrev pub keyed_in : FormatKind → List ℕ → Option FormatKind
 keyed_in Raw value = if is_string value (codes "hmac(sha256)") then Some RawHmac else None
 keyed_in RawHmac value = None
+keyed_in Dtb value = None
 
 abbrev pub format_of : Branch (List ℕ) → FormatKind → Result FormatKind LayoutError
 format_of b type =

@@ -1,5 +1,5 @@
 -- The variables below a state node (barebox User Manual, State Framework).
-use Rattle.std.specs.Prelude.{◌≡◌, ℕ, ◌+◌, ◌-◌, ◌<◌, ◌≤◌, ◌^◌, ◌==◌, ◌&&◌, Bool, false, not, List, [], ◌∷◌, ◌++◌, Option, Some, None, Result, Ok, Err, codes, filter, if◌then◌else◌, is_some, length, map, nat_le, ok_or, option_and_then, option_map, replicate, reverse}
+use Rattle.std.specs.Prelude.{◌≡◌, ◌≢◌, ℕ, ◌+◌, ◌-◌, ◌<◌, ◌≤◌, ◌^◌, ◌==◌, ◌&&◌, Bool, false, not, List, [], ◌∷◌, ◌++◌, Option, Some, None, Result, Ok, Err, codes, filter, if◌then◌else◌, is_some, length, map, nat_le, ok_or, option_and_then, option_map, replicate, reverse}
 use Rattle.std.specs.Int.{w8, w32, to_le_bytes}
 use Rattle.std.specs.List.{join_with_byte, list_any}
 use Rattle.bb_tree.specs.Node.{Forest, empty, node, Branch}
@@ -102,10 +102,12 @@ variable_at (b ∷ above) = variable_of (reverse (map (λ n. n.name) (b ∷ abov
 abbrev pub variables_of : Branch (List ℕ) → Result (List Var) LayoutError
 variables_of state = all_ok (map variable_at (filter is_variable (ways_of [] state.nodes)))
 
--- what each variable of a layout keeps: its size and its default are the kind's, and its range ends below 2^32
+-- what each variable of a layout keeps: its size and its default are the kind's, its range ends
+-- below 2^32, and a path leads to it
 pub record IsWellFormed (v : Var) : Type 0 where
   pub size : v.size ≡ size_of v.kind
   pub default : length v.default ≡ size_of v.kind
   pub few_names : HasFewNames v.kind
   pub some : 1 ≤ v.size
   pub end : v.at + v.size < 2 ^ 32
+  pub led : v.path ≢ []

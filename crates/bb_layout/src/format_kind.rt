@@ -8,6 +8,8 @@ pub enum FormatKind {
     Raw,
     /// A raw record that ends in the HMAC-SHA256 of all bytes before it.
     RawHmac,
+    /// A devicetree blob with the values of the variables, and a CRC of its own.
+    Dtb,
 }
 
 impl FormatKind {
@@ -16,7 +18,7 @@ impl FormatKind {
         ensures { result ≡ takes_key self }
     {
         match self {
-            FormatKind::Raw => false,
+            FormatKind::Raw | FormatKind::Dtb => false,
             FormatKind::RawHmac => true,
         }
     }

@@ -1,9 +1,15 @@
-ghost use Rattle.std.specs.Prelude.{◌≡◌, Ok, IfOk, IfErr, List, ℕ};
+ghost use Rattle.std.specs.Prelude.{◌≡◌, ◌≤◌, All, Ok, IfOk, IfErr, List, ℕ};
 ghost use Rattle.bb_flash.specs.Geometry.{IsGeometry};
 ghost use Rattle.bb_tree.specs.NodeViews.{branch_of};
-ghost use Rattle.bb_layout.specs.Layout.{fields_of, layout_at};
+ghost use Rattle.bb_layout.specs.Copies.{copies_of};
+ghost use Rattle.bb_layout.specs.Facts.{HasCopies};
+ghost use Rattle.bb_layout.specs.Layout.{fields_of, layout_at, len_of};
+ghost use Rattle.bb_layout.specs.Ranges.{end_of};
 ghost use Rattle.bb_layout.specs.Refusals.{AtArea, AtBackend, AtPlace, AtProperties, AtRoom, AtVars};
 ghost use Rattle.bb_layout.specs.Refusals.{ComesAt, ComesExactly, HasNoState, Refuses, answer_to, question_of};
+ghost use Rattle.bb_layout.specs.Steps.{Gives};
+ghost use Rattle.bb_layout.specs.Storage.{storage_in};
+ghost use Rattle.bb_layout.specs.Variables.{IsWellFormed};
 ghost use Rattle.bb_layout.specs.declared.layout_error.LayoutError.TheVariants.{AreaTooLong, BadProp};
 ghost use Rattle.bb_layout.specs.declared.layout_error.LayoutError.TheVariants.{BadReg, BadType, Missing};
 ghost use Rattle.bb_layout.specs.declared.layout_error.LayoutError.TheVariants.{NameTwice, NoBackend};
@@ -16,11 +22,11 @@ use crate::placing::{copies, storage_in};
 use crate::ranges::area_len;
 use crate::record_len::record_len;
 use crate::state_node::{first_wanted, node_by_alias};
-use crate::state_props::state_props;
+use crate::state_props::{Props, state_props};
 use crate::variables::variables;
-use crate::{Layout, LayoutError};
+use crate::{Layout, LayoutError, Storage, VarList};
 use bb_base::Text;
-use bb_flash::Geometry;
+use bb_flash::{Geometry, Region};
 use bb_tree::{Node, Tree};
 use std::alloc::Global;
 
@@ -107,7 +113,7 @@ fn layout_at(
     let vars = variables(alloc, state)?;
     let area_len = area_len(alloc, &vars)?;
     let region = backend(alloc, tree, state)?;
-    let storage = storage_in(geometry, region, props, record_len(props.format, area_len))?;
+    let storage = storage(alloc, geometry, region, props, state, &vars, area_len)?;
     Ok(Layout {
         name: Text::of(alloc, name)?,
         node: state.name.copy()?,
@@ -120,4 +126,27 @@ fn layout_at(
         area_len,
         vars,
     })
+}
+
+// How copies of records of these variables are stored in a partition of the device.
+fn storage(
+    alloc: Global,
+    geometry: Geometry,
+    region: Region,
+    props: Props,
+    state: &Node,
+    vars: &VarList,
+    area_len: u32,
+) -> Result<Storage, LayoutError>
+    requires geometry { IsGeometry geometry }
+    requires formed { All IsWellFormed vars.now }
+    requires inside { All (λ v. end_of v ≤ area_len) vars.now }
+    ensures gives { Gives (storage_in geometry region props
+        (len_of (branch_of state.now) props vars.now area_len)) result }
+    ensures copies { IfOk result (λ storage. HasCopies geometry region storage
+        (copies_of geometry storage region)
+        (len_of (branch_of state.now) props vars.now area_len)) }
+{
+    let len = record_len(alloc, props, &state.name, vars, area_len)?;
+    storage_in(geometry, region, props, len)
 }

@@ -35,7 +35,8 @@ pub struct Layout {
     /// The variables, in the order of the devicetree.
     pub vars: VarList,
     pub ghost facts: { IsLayout geometry region storage copies
-        (record_len format area_len) area_len vars } by { Prim.hlevel (props, HasFewNames-prop) },
+        (record_len format (record { node = node; magic = magic; vars = vars }) area_len)
+        area_len vars } by { Prim.hlevel (props, HasFewNames-prop) },
 }
 
 impl Layout {
@@ -44,7 +45,7 @@ impl Layout {
     ghost use Rattle.bb_layout.specs.Copies.{region_of, room_for};
     ghost use Rattle.bb_layout.specs.Defaults.{defaults_of};
     ghost use Rattle.bb_layout.specs.Facts.{IsAligned, IsWithin};
-    ghost use Rattle.bb_layout.specs.Layout.{fields_of, laid_len};
+    ghost use Rattle.bb_layout.specs.Layout.{fields_of, laid_len, recorded_of};
     ghost use Rattle.bb_layout.specs.Record.{record_tree_of};
     ghost use Rattle.bb_layout.specs.VarNames.{place_of};
 
@@ -85,9 +86,9 @@ impl Layout {
     pub fn record_tree(alloc: Global, layout: &Layout, area: &[u8]) -> Result<Tree, NoMemory>
         requires { length area.now ≡ layout.now.area_len }
         ensures tree { IfOk result (λ tree. branch_of tree.root
-            ≡ record_tree_of (fields_of layout.now) area.now) }
+            ≡ record_tree_of (recorded_of (fields_of layout.now)) area.now) }
         ensures none_reserved { IfOk result (λ tree. tree.reserved ≡ []) }
     {
-        record_tree(alloc, layout, area)
+        record_tree(alloc, &layout.node, layout.magic, &layout.vars, area)
     }
 }

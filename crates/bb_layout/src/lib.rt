@@ -29,6 +29,7 @@ pub use format_kind::FormatKind;
 pub use from_tree::layout_of;
 pub use layout::Layout;
 pub use layout_error::LayoutError;
+pub use record_nodes::shared_len;
 pub use storage::Storage;
 pub use thirds::raw_layout;
 pub use var::Var;

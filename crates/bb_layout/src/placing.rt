@@ -1,5 +1,6 @@
-ghost use Rattle.std.specs.Prelude.{◌≡◌, ◌≤◌, ◌<◌, ◌^◌, IfOk, nat_le};
+ghost use Rattle.std.specs.Prelude.{◌≡◌, ◌≤◌, ◌<◌, ◌^◌, IfOk, ℕ, nat_le};
 ghost use Rattle.bb_flash.specs.Geometry.{IsGeometry};
+ghost use Rattle.bb_tree.specs.Blob.{length_in_64_bits};
 ghost use Rattle.bb_layout.specs.Copies as copy;
 ghost use Rattle.bb_layout.specs.Facts.{HasCopies};
 ghost use Rattle.bb_layout.specs.Steps.{Gives};
@@ -7,10 +8,12 @@ ghost use Rattle.bb_layout.specs.Storage as spec;
 
 use crate::state_props::Props;
 use crate::{LayoutError, Storage};
+use bb_bucket::FRONT_LEN;
 use bb_flash::{Geometry, Region};
 
 #[tactic(auto, using(crate::proofs::Standing::stored_copies))]
-/// How copies with a record of `len` bytes are stored in a partition of a device.
+/// How copies with a record of `len` bytes are stored in a partition of a device. 2^64 - 1 stands for all lengths from
+/// there on, as `blob_length` gives it.
 pub(crate) fn storage_in(
     geometry: Geometry,
     partition: Region,
@@ -18,9 +21,11 @@ pub(crate) fn storage_in(
     len: u64,
 ) -> Result<Storage, LayoutError>
     requires { IsGeometry geometry }
-    ensures gives { result ≡ spec.storage_in geometry partition props len }
-    ensures copies { IfOk result (λ storage. HasCopies geometry partition storage
-        (copy.copies_of geometry storage partition) len) }
+    ensures gives { (full : ℕ) → len ≡ length_in_64_bits full →
+        result ≡ spec.storage_in geometry partition props full }
+    ensures copies { (full : ℕ) → len ≡ length_in_64_bits full →
+        IfOk result (λ storage. HasCopies geometry partition storage
+        (copy.copies_of geometry storage partition) full) }
 {
     check_place(geometry, partition)?;
     let storage = storage_for(geometry, partition, props);
@@ -60,7 +65,7 @@ fn storage_for(geometry: Geometry, partition: Region, props: Props) -> Storage
     }
 }
 
-/// Whether two copies fit, and a record of `len` bytes fits into each.
+/// Whether two copies fit, and a record of `len` bytes fits into each. 2^64 - 1 stands for all lengths from there on.
 pub(crate) fn check_room(
     geometry: Geometry,
     storage: Storage,
@@ -68,7 +73,9 @@ pub(crate) fn check_room(
     len: u64,
 ) -> Result<(), LayoutError>
     requires { IsGeometry geometry }
-    ensures { result ≡ spec.check_room geometry storage partition len }
+    ensures gives { result ≡ spec.check_room geometry storage partition len }
+    ensures full { (full : ℕ) → len ≡ length_in_64_bits full →
+        result ≡ spec.check_room geometry storage partition full }
 {
     if copies(geometry, storage, partition) < 2 || !has_room(geometry, storage, len) {
         return Err(LayoutError::TooSmall);
@@ -89,14 +96,14 @@ pub(crate) fn copies(geometry: Geometry, storage: Storage, partition: Region) ->
 #[tactic(auto, using(crate::proofs::Standing::room_more))]
 fn has_room(geometry: Geometry, storage: Storage, len: u64) -> bool
     requires { IsGeometry geometry }
-    ensures { result ≡ nat_le (copy.room_for geometry storage len) (copy.spacing geometry storage) }
+    ensures fits { result
+        ≡ nat_le (copy.room_for geometry storage len) (copy.spacing geometry storage) }
+    ensures full { (full : ℕ) → len ≡ length_in_64_bits full → result
+        ≡ nat_le (copy.room_for geometry storage full) (copy.spacing geometry storage) }
 {
     let size = u64::from(spacing(geometry, storage));
     len < size && room_for(geometry, storage, len) <= size
 }
-
-// The 8 bytes that stand before a record, or behind it.
-const FRONT_LEN: u64 = 8;
 
 #[tactic(auto, using(crate::proofs::Standing::next_below))]
 fn room_for(geometry: Geometry, storage: Storage, len: u64) -> u64
@@ -104,9 +111,10 @@ fn room_for(geometry: Geometry, storage: Storage, len: u64) -> u64
     requires short { len < 2 ^ 32 }
     ensures { result ≡ copy.room_for geometry storage len }
 {
+    let len = len + u64::from(FRONT_LEN);
     match storage {
-        Storage::Stride(_) | Storage::OneBlock => len + FRONT_LEN,
-        Storage::Circular => (len + FRONT_LEN).next_multiple_of(u64::from(geometry.page)),
+        Storage::Stride(_) | Storage::OneBlock => len,
+        Storage::Circular => len.next_multiple_of(u64::from(geometry.page)),
     }
 }
 

@@ -49,8 +49,8 @@ fn shared_before(vars: &VarList, place: usize, path: &TextList) -> usize
 }
 
 #[tactic(auto, using(crate::proofs::Records::prefix_ends, crate::proofs::Records::prefix_goes_on, crate::proofs::Records::prefix_whole))]
-// How many names two paths have in common, from the first on.
-fn shared_len(path: &TextList, other: &TextList) -> usize
+/// How many names two paths have in common, from the first on.
+pub fn shared_len(path: &TextList, other: &TextList) -> usize
     ensures { result ≡ common_prefix_len bytes_eq path.now other.now }
 {
     for depth in 0..path.len().min(other.len()) {

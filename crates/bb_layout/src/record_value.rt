@@ -1,5 +1,4 @@
-ghost use Rattle.std.specs.Prelude.{◌≡◌, ◌+◌, ◌≤◌, IfOk, length};
-ghost use Rattle.std.specs.Int.{from_le_bytes, w32};
+ghost use Rattle.std.specs.Prelude.{◌≡◌, ◌+◌, ◌≤◌, IfOk, length, reverse};
 ghost use Rattle.bb_tree.specs.NodeViews.{prop_pair};
 ghost use Rattle.bb_vars.specs.Kind.{size_of};
 ghost use Rattle.bb_layout.specs.Record as spec;
@@ -31,7 +30,7 @@ pub(crate) fn value_prop(alloc: Global, var: &Var, area: &[u8]) -> Result<Prop, 
     let at = var.at as usize;
     let bytes = &area[at..at + var.size as usize];
     match var.kind {
-        Kind::Uint8 => prop(alloc, "value", &u32::from(bytes[0]).to_be_bytes()),
+        Kind::Uint8 => prop(alloc, "value", &[0, 0, 0, bytes[0]]),
         Kind::Uint32 | Kind::Enum32(_) => prop(alloc, "value", &big_endian(bytes)),
         Kind::Mac | Kind::Chars(_) => prop(alloc, "value", bytes),
     }
@@ -40,7 +39,7 @@ pub(crate) fn value_prop(alloc: Global, var: &Var, area: &[u8]) -> Result<Prop, 
 // The 4 bytes of a number, the other way round.
 fn big_endian(bytes: &[u8]) -> [u8; 4]
     requires { length bytes.now ≡ 4 }
-    ensures { result ≡ spec.cell (from_le_bytes w32 bytes.now) }
+    ensures { result ≡ reverse bytes.now }
 {
-    u32::from_le_bytes([bytes[0], bytes[1], bytes[2], bytes[3]]).to_be_bytes()
+    [bytes[3], bytes[2], bytes[1], bytes[0]]
 }

@@ -74,7 +74,10 @@ fn record_type(alloc: Global, state: &Node) -> Result<FormatKind, LayoutError>
 fn type_in(value: &[u8]) -> Option<FormatKind>
     ensures { result ≡ spec.type_in value.now }
 {
-    (value == b"raw\0".as_slice()).then_some(FormatKind::Raw)
+    if value == b"raw\0".as_slice() {
+        return Some(FormatKind::Raw);
+    }
+    (value == b"dtb\0".as_slice()).then_some(FormatKind::Dtb)
 }
 
 // The format of records of that type, with a key where `algo` asks for one.
@@ -98,7 +101,7 @@ fn keyed_in(kind: FormatKind, value: &[u8]) -> Option<FormatKind>
             let asks = value == b"hmac(sha256)\0".as_slice();
             asks.then_some(FormatKind::RawHmac)
         }
-        FormatKind::RawHmac => None,
+        FormatKind::RawHmac | FormatKind::Dtb => None,
     }
 }
 

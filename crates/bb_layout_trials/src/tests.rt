@@ -1,5 +1,6 @@
 mod board;
 mod boards;
+mod dtb;
 mod keys;
 mod props;
 mod records;

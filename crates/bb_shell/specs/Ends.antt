@@ -2,6 +2,7 @@
 use Rattle.std.specs.Prelude.{◌≡◌, ◌⊎◌, ℕ, ◌+◌, ◌++◌, Bool, true, false, List, [], ◌∷◌, Option, IsNone, IsSomeAnd, count_by, if◌then◌else◌, length}
 use Rattle.std.specs.Option.{ForSome}
 use Rattle.bb_base.specs.Faults.{Rose}
+use Rattle.bb_chooser.specs.Binding as bindings
 use Rattle.bb_chooser.specs.Binding.{Binding}
 use Rattle.bb_copies.specs.Settling.{RoseBy}
 use Rattle.bb_copies.specs.StandsFor.{EachPassesOrNothing}
@@ -10,6 +11,7 @@ use Rattle.bb_copies.specs.declared.answers.CopyFault.TheVariants.{WriteFault}
 use Rattle.bb_flash.specs.declared.plan.Plan.{Plan}
 use Rattle.bb_flash.specs.Device.{Device, content, starts}
 use Rattle.bb_layout.specs.Layout.{Laid}
+use Rattle.bb_layout.specs.Kept.{IsLaid}
 use Rattle.bb_state.specs.Keyed.{Keyed}
 use Rattle.bb_state.specs.Kinds.{laid_passings}
 use Rattle.bb_state.specs.State.{FitsForm, IsOn, IsSized, is_sure, kept_of, keyed_of, laid_of, used_of}
@@ -27,9 +29,11 @@ use Rattle.bb_shell.specs.declared.outcome.Outcome.TheVariants.{Refused, Unplann
 -- a chooser's variables are those of a layout
 pub record IsBoundTo (b : Binding) (layout : Laid) : Type 0 where
   pub area_len : b.area_len ≡ layout.area_len
+  pub vars : bindings.IsBoundTo layout.vars b
 
 -- a state can be booted: its last load or save answered Ok, and the chooser was bound to its layout
 pub record IsReady (b : Binding) (state : State) (device : Device) : Type 0 where
+  pub facts : IsLaid (laid_of state)
   pub sized : IsSized state
   pub fits : FitsForm state
   pub sure : is_sure state ≡ true

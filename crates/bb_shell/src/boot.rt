@@ -2,6 +2,7 @@ ghost use Rattle.std.specs.Prelude.{◌≡◌, ◌<◌, ◌≤◌, ◌^◌, ◌�
 ghost use Rattle.bb_base.specs.Form.{area_limit};
 ghost use Rattle.bb_chooser.specs.Binding.{IsBinding};
 ghost use Rattle.bb_chooser.specs.Choosing.{IsBest};
+ghost use Rattle.bb_chooser.specs.Others.{KeepsOthers};
 ghost use Rattle.bb_copies.specs.Loading.{KeepsOutside};
 ghost use Rattle.bb_flash.specs.Cuts.{IsLater};
 ghost use Rattle.bb_shell.specs.Boot.{NoneQualifies, all_attempts, end_by, first_table, is_retried};
@@ -80,6 +81,7 @@ fn first_target(chooser: &Chooser, table: &Table, cause: Cause, first: bool) -> 
 fn reset_first(chooser: &Chooser, table: &mut Table, cause: Cause, first: bool)
     requires { length table.old ≡ chooser.now.area_len }
     ensures table { table.new ≡ first_table chooser.now cause first table.old }
+    ensures others { KeepsOthers chooser.now table.old table.new }
     ensures sized { length table.new ≡ length table.old }
 {
     if first {

@@ -1,7 +1,9 @@
 -- Lemmas.
 pub mod Examples
+pub mod Fitting
 pub mod Handed
 pub mod Lists
 pub mod Mounting
 pub mod NamedVars
 pub mod Rooms
+pub mod Sets

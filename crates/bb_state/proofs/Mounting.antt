@@ -3,7 +3,7 @@ use Rattle.std.proofs.Common.{◌≡◌, ℕ, zero, suc, ◌+◌, ◌*◌, ◌/�
 use Rattle.std.specs.List.{range_with_len}
 use Rattle.std.proofs.lemmas.List.FromFn.{length-map-range_with_len, get_or-map-range_with_len, map-range_with_len_more}
 use Rattle.std.proofs.lemmas.Simd.{map-map}
-use Rattle.std.proofs.lemmas.Bool.{cases_lt, eq-eqb, eqb-true}
+use Rattle.std.proofs.lemmas.Bool.{cases_lt, eqb-true}
 use Rattle.std.proofs.lemmas.Bool.Decides.{nat_tests}
 use Rattle.std.proofs.lemmas.Option.{slice_get_within, get_or_from_slice_get}
 use Rattle.bb_base.specs.Form.{Form}
@@ -18,12 +18,14 @@ use Rattle.bb_bucket.specs.Kind.{BucketKind}
 use Rattle.bb_bucket.specs.Blocks.{is_block_of}
 use Rattle.bb_copies.specs.Buckets.{AllAgree, AllServe, HaveRoom, IsApart}
 use Rattle.bb_raw.specs.Raw.{code_len}
+use Rattle.bb_dtbrec.proofs.LayoutRecords.{layout_length}
 use Rattle.bb_layout.specs.Copies.{region_of, spacing}
-use Rattle.bb_layout.specs.Facts.{HasCopies, IsLayout, is_stride}
+use Rattle.bb_layout.specs.Facts.{HasCopies, is_stride}
+use Rattle.bb_layout.specs.Kept.{IsLaid}
 use Rattle.bb_layout.specs.Formats.{record_len}
-use Rattle.bb_layout.specs.Layout.{Laid, laid_len}
+use Rattle.bb_layout.specs.Layout.{Laid, laid_len, recorded_of}
 use Rattle.bb_layout.specs.declared.format_kind.FormatKind.{FormatKind}
-use Rattle.bb_layout.specs.declared.format_kind.FormatKind.TheVariants.{Raw, RawHmac}
+use Rattle.bb_layout.specs.declared.format_kind.FormatKind.TheVariants.{Dtb, Raw, RawHmac}
 use Rattle.bb_layout.specs.declared.storage.Storage.{Storage}
 use Rattle.bb_layout.specs.declared.storage.Storage.TheVariants.{Stride, OneBlock, Circular}
 use Rattle.bb_state.specs.Keyed.{FitsKey, Keyed}
@@ -126,9 +128,26 @@ code_short None = omega arith
 code_short (Some _) = omega arith
 
 -- a record has no more bytes than its layout counts
-record_short : (format : FormatKind) (keyed : Keyed) → (any_form (format_for format keyed)).length ≤ record_len format keyed.layout.area_len
-record_short Raw keyed = omega arith
-record_short RawHmac keyed = let code = code_short keyed.key in omega arith
+record_short : (format : FormatKind) (keyed : Keyed) → keyed.layout.format ≡ format → IsLaid keyed.layout →
+    (any_form (format_for format keyed)).length ≤ record_len format (recorded_of keyed.layout) keyed.layout.area_len
+record_short Raw keyed is facts = omega arith
+record_short RawHmac keyed is facts = let code = code_short keyed.key in omega arith
+record_short Dtb keyed is facts =
+    let layout = keyed.layout in
+    let counted = ap (λ format. record_len format (recorded_of layout) layout.area_len) is in
+    omega (arith, layout_length layout is facts.vars_are, counted)
+
+record_some : (format : FormatKind) (layout : Laid) → layout.format ≡ format → IsLaid layout →
+    1 ≤ record_len format (recorded_of layout) layout.area_len
+record_some Raw layout is facts = omega arith
+record_some RawHmac layout is facts = omega arith
+record_some Dtb layout is facts =
+    let counted = ap (λ format. record_len format (recorded_of layout) layout.area_len) is in
+    omega (arith, layout_length layout is facts.vars_are, counted)
+
+-- a record has bytes
+pub laid_some : (layout : Laid) → IsLaid layout → 1 ≤ laid_len layout
+laid_some layout facts = record_some layout.format layout refl facts
 
 fit_of : (storage : Storage) (form : Form) (geometry : Geometry) (partition : Region) (copies len copy : ℕ) → form.length ≤ len → IsGeometry geometry →
     HasCopies geometry partition storage copies len → copy < copies →
@@ -155,20 +174,17 @@ fit_of Circular form geometry partition copies len copy short is has below =
     record { region_is = refl; room = omega arith; serves = serves_block Circular geometry partition copies len copy is has below refl refl }
 
 -- what the facts of a layout say of a copy
-abbrev pub AreFacts : Laid → Type 0
-AreFacts layout = IsLayout layout.geometry layout.region layout.storage layout.copies (laid_len layout) layout.area_len layout.vars
-
-kind_fit : (keyed : Keyed) (copy : ℕ) (kind : BucketKind) → AreFacts keyed.layout → slice_get (laid_kinds keyed.layout) copy ≡ Some kind →
+kind_fit : (keyed : Keyed) (copy : ℕ) (kind : BucketKind) → IsLaid keyed.layout → slice_get (laid_kinds keyed.layout) copy ≡ Some kind →
     (copy < keyed.layout.copies) × IsFit (laid_form keyed) keyed.layout.geometry (region_of keyed.layout.geometry keyed.layout.storage keyed.layout.region copy) kind
 kind_fit keyed copy kind facts h =
     let layout = keyed.layout in
     let at = kind_there layout copy kind h in (
       at.inside,
       subst (IsFit (laid_form keyed) layout.geometry (region_of layout.geometry layout.storage layout.region copy)) at.kind_is
-          (fit_of layout.storage (laid_form keyed) layout.geometry layout.region layout.copies (laid_len layout) copy (record_short layout.format keyed) facts.geometry_is facts.copied at.inside),
+          (fit_of layout.storage (laid_form keyed) layout.geometry layout.region layout.copies (laid_len layout) copy (record_short layout.format keyed refl facts) facts.geometry_is facts.copied at.inside),
     )
 
-apart_of : (layout : Laid) (one two : ℕ) → AreFacts layout → one ≢ two →
+apart_of : (layout : Laid) (one two : ℕ) → IsLaid layout → one ≢ two →
     IsApart (region_of layout.geometry layout.storage layout.region one) (region_of layout.geometry layout.storage layout.region two)
 apart_of layout one two facts differ =
     elim (cases_lt one two) [
@@ -189,7 +205,7 @@ apart_of layout one two facts differ =
 regions_apart : (one two a b : Region) → one ≡ a → two ≡ b → IsApart a b → IsApart one two
 regions_apart one two a b ea eb h = subst (λ r. IsApart r two) (sym ea) (subst (IsApart a) (sym eb) h)
 
-pub have_room : (keyed : Keyed) → AreFacts keyed.layout → HaveRoom (laid_form keyed) (laid_kinds keyed.layout)
+pub have_room : (keyed : Keyed) → IsLaid keyed.layout → HaveRoom (laid_form keyed) (laid_kinds keyed.layout)
 have_room keyed facts = record {
   room = λ copy kind there. (kind_fit keyed copy kind facts there).1.room;
   apart = λ copy kind there other beside found differ.
@@ -199,7 +215,7 @@ have_room keyed facts = record {
       (apart_of keyed.layout copy other facts (λ same. differ (sym same)));
 }
 
-pub all_serve : (keyed : Keyed) → AreFacts keyed.layout → AllServe (laid_kinds keyed.layout) keyed.layout.geometry
+pub all_serve : (keyed : Keyed) → IsLaid keyed.layout → AllServe (laid_kinds keyed.layout) keyed.layout.geometry
 all_serve keyed facts copy kind there = (kind_fit keyed copy kind facts there).1.serves
 
 -- ---- what holds of a fresh state
@@ -220,13 +236,6 @@ all_agree layout device copy bucket there =
     let is : make copy ≡ bucket = sym (get_or-map-range_with_len make 0 layout.copies copy copy bucket inside (omega arith)) ∙ get_or_from_slice_get (laid_buckets layout) copy bucket bucket there in
     subst (λ (b : AnyBucket). Agrees (any_holding b) device) is (bucket_agrees layout.geometry layout.storage layout.region copy device)
 
-fits_at : (format : FormatKind) (keyed : Keyed) (table : List ℕ) → length table ≡ keyed.layout.area_len → IsTrue ((any_form (format_for format keyed)).fits table)
-fits_at Raw keyed table sized = eq-eqb _ _ sized
-fits_at RawHmac keyed table sized = eq-eqb _ _ sized
-
-pub sized_fits : (keyed : Keyed) (table : List ℕ) → length table ≡ keyed.layout.area_len → IsTrue ((laid_form keyed).fits table)
-sized_fits keyed table sized = fits_at keyed.layout.format keyed table sized
-
 -- ---- the key of a format
 
 none_of : (key : Option (List ℕ)) → is_some key ≡ false → None ≡ key
@@ -236,15 +245,12 @@ none_of (Some _) h = absurd cc
 key_at : (format : FormatKind) (keyed : Keyed) → FitsKey format keyed.key → key_in (format_for format keyed) ≡ keyed.key
 key_at Raw keyed fits = none_of keyed.key fits
 key_at RawHmac keyed fits = refl
+key_at Dtb keyed fits = none_of keyed.key fits
 
 -- records under a layout's key have that key
 pub key_is : (keyed : Keyed) → FitsKey keyed.layout.format keyed.key → key_in (format_of keyed) ≡ keyed.key
 key_is keyed fits = key_at keyed.layout.format keyed fits
 
-same_at : (format : FormatKind) (keyed : Keyed) → FitsKey format keyed.key → raw_under keyed.key keyed.layout ≡ format_for format keyed
-same_at Raw keyed fits = ap (λ key. raw_under key keyed.layout) (sym (none_of keyed.key fits))
-same_at RawHmac keyed fits = refl
-
--- its raw records are under the key that is given, if there is one
-pub raw_is : (keyed : Keyed) → FitsKey keyed.layout.format keyed.key → raw_under keyed.key keyed.layout ≡ format_of keyed
-raw_is keyed fits = same_at keyed.layout.format keyed fits
+-- records without a key, where none is given
+pub raw_is : (keyed : Keyed) → FitsKey Raw keyed.key → raw_under keyed.key keyed.layout ≡ format_for Raw keyed
+raw_is keyed fits = ap (λ key. raw_under key keyed.layout) (sym (none_of keyed.key fits))

@@ -14,6 +14,9 @@ var_of_none name vars h = find_place (λ (v : Var). bytes_eq name v.name) vars �
 pub var_of_some : (name : List ℕ) (vars : List Var) (i : ℕ) (v : Var) → place_of vars name ≡ Some i → slice_get vars i ≡ Some v → var_of vars name ≡ Some v
 var_of_some name vars i v h at = find_place (λ (w : Var). bytes_eq name w.name) vars ∙ ap (option_and_then (slice_get vars)) h ∙ at
 
+pub var_of_past : (name : List ℕ) (vars : List Var) (i : ℕ) → place_of vars name ≡ Some i → slice_get vars i ≡ None → var_of vars name ≡ None
+var_of_past name vars i h at = find_place (λ (w : Var). bytes_eq name w.name) vars ∙ ap (option_and_then (slice_get vars)) h ∙ at
+
 pub line_of_none : (area name : List ℕ) (vars : List Var) → place_of vars name ≡ None → value_line area (var_of vars name) ≡ []
 line_of_none area name vars h = ap (value_line area) (var_of_none name vars h)
 

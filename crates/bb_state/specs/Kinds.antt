@@ -13,6 +13,9 @@ use Rattle.bb_bucket.specs.Stride.{stride_holding}
 use Rattle.bb_bucket.specs.StrideLaws.{stride_laws}
 use Rattle.bb_circular.specs.Circular.{circular_holding}
 use Rattle.bb_circular.specs.CircularLaws.{circle_laws}
+use Rattle.bb_dtbrec.specs.Dtb.{dtb_form}
+use Rattle.bb_dtbrec.specs.Laws.{dtb_laws}
+use Rattle.bb_dtbrec.specs.Layouts.{layout_pattern}
 use Rattle.bb_raw.specs.Laws.{raw_laws}
 use Rattle.bb_raw.specs.Raw.{raw_form}
 use Rattle.bb_layout.specs.Copies.{region_of}
@@ -27,7 +30,7 @@ use Rattle.bb_state.specs.Keyed.{Keyed}
 use Rattle.bb_state.specs.declared.any_bucket.AnyBucket.{AnyBucket}
 use Rattle.bb_state.specs.declared.any_bucket.AnyBucket.TheVariants.{Stride, OneBlock, Circular}
 use Rattle.bb_state.specs.declared.any_format.AnyFormat.{AnyFormat}
-use Rattle.bb_state.specs.declared.any_format.AnyFormat.TheVariants.{Raw}
+use Rattle.bb_state.specs.declared.any_format.AnyFormat.TheVariants.{Dtb, Raw}
 
 -- ---- each is what the kind inside is
 
@@ -44,9 +47,11 @@ any_bucket_laws (Circular circle) = circle_laws circle
 
 abbrev pub any_form : AnyFormat → Form
 any_form (Raw kind) = raw_form kind
+any_form (Dtb pattern) = dtb_form pattern
 
 pub any_format_laws : (format : AnyFormat) → IsForm (any_form format)
 any_format_laws (Raw kind) = raw_laws kind
+any_format_laws (Dtb pattern) = dtb_laws pattern
 
 -- ---- of a layout
 
@@ -82,6 +87,7 @@ raw_under key layout = Raw (record { magic = layout.magic; area_len = layout.are
 abbrev pub format_for : FormatKind → Keyed → AnyFormat
 format_for formats.Raw keyed = raw_under None keyed.layout
 format_for formats.RawHmac keyed = raw_under keyed.key keyed.layout
+format_for formats.Dtb keyed = Dtb (layout_pattern keyed.layout)
 
 -- its records, and what they are to the copies
 abbrev pub format_of : Keyed → AnyFormat
@@ -93,6 +99,7 @@ laid_form keyed = any_form (format_of keyed)
 -- the block of the key of such records, if they stand under one
 abbrev pub key_in : AnyFormat → Option (List ℕ)
 key_in (Raw kind) = kind.key
+key_in (Dtb pattern) = None
 
 -- what each of its copies passes in an image: an area, or nothing
 abbrev pub laid_passings : Keyed → Image → List (Option (List ℕ))

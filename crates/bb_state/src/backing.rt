@@ -16,6 +16,7 @@ ghost use Rattle.bb_copies.specs.Store.{used_after};
 ghost use Rattle.bb_copies.specs.declared.answers.CopyFault.TheVariants.{ReadFault, Unsure};
 ghost use Rattle.bb_layout.specs.Layout.{fields_of};
 ghost use Rattle.bb_state.specs.Backed.{form_in, kinds_in};
+ghost use Rattle.bb_layout.specs.Kept.{IsLaid};
 ghost use Rattle.bb_state.specs.Keyed.{FitsKey};
 ghost use Rattle.bb_state.specs.Kinds.{any_holding, bucket_at, format_of, laid_buckets};
 ghost use Rattle.bb_state.specs.State.{IsDefault, IsRefused, IsStored};
@@ -25,6 +26,7 @@ use bb_base::NoMemory;
 use bb_bucket::{OneBlock, Stride};
 use bb_circular::Circular;
 use bb_copies::{BucketList, Copies, CopyFault, Loaded};
+use bb_dtbrec::Dtb;
 use bb_flash::Flash;
 use bb_hmac::Key;
 use bb_layout::{FormatKind, Layout, Storage};
@@ -77,7 +79,8 @@ impl Backing {
     {
         let kept = vec![in alloc; 0u8; layout.area_len as usize]?;
         let buckets = buckets_of(alloc, &layout)?;
-        let copies = Copies::mount(alloc, buckets, format_of(&layout, key))?;
+        let format = format_of(alloc, &layout, key)?;
+        let copies = Copies::mount(alloc, buckets, format)?;
         Ok(Backing {
             layout,
             copies,
@@ -111,6 +114,7 @@ impl Backing {
         ensures gives { IfOk result (LoadGives (form_in self.old) (kinds_in self.old) self.new.kept
             (F.device flash.old) (F.device flash.new)) }
         ensures defaults { IfOk result (IsDefault self.old.keyed.layout self.new.kept) }
+        ensures fits { OnOk result (IsTrue ((form_in self.old).fits self.new.kept)) }
         ensures fails { IfErr result (IsRefused self.old.keyed
             (F.device flash.old) (F.device flash.new)) }
         ensures exact { IfOk result (LoadsExactly (form_in self.old) (kinds_in self.old)
@@ -123,6 +127,7 @@ impl Backing {
         ensures starts { LeavesStarts (F.device flash.old) (F.device flash.new) }
         ensures whole { IsDevice (F.device flash.new) }
         ensures keyed { self.new.keyed ≡ self.old.keyed }
+        ensures facts { IsLaid self.new.keyed.layout }
         ensures agrees { AllAgree any_holding (F.device flash.new) self.new.buckets }
         ensures placed { OnOk result (AllPlaced any_holding self.new.buckets) }
         ensures used { IfOk result (λ loaded. self.new.used ≡ used_after loaded) }
@@ -233,13 +238,16 @@ fn bucket_at(alloc: Global, layout: &Layout, copy: u32) -> Result<AnyBucket, NoM
 }
 
 #[tactic(auto, using(crate::proofs::Mounting::raw_is))]
-fn format_of(layout: &Layout, key: Option<Key>) -> AnyFormat
+fn format_of(alloc: Global, layout: &Layout, key: Option<Key>) -> Result<AnyFormat, NoMemory>
     requires { FitsKey layout.now.format key }
-    ensures { result ≡ format_of (record { layout = fields_of layout.now; key = key }) }
+    ensures { IfOk result (λ format. format
+        ≡ format_of (record { layout = fields_of layout.now; key = key })) }
 {
     match layout.format {
         FormatKind::Raw | FormatKind::RawHmac => {
-            AnyFormat::Raw(Raw::of(layout.magic, layout.area_len, key))
+            let raw = Raw::of(layout.magic, layout.area_len, key);
+            Ok(AnyFormat::Raw(raw))
         }
+        FormatKind::Dtb => Ok(AnyFormat::Dtb(Dtb::of(alloc, layout)?)),
     }
 }

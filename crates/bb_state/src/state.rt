@@ -15,6 +15,8 @@ ghost use Rattle.bb_copies.specs.Store.{used_after};
 ghost use Rattle.bb_copies.specs.declared.answers.CopyFault.TheVariants.{ReadFault, Unsure};
 ghost use Rattle.bb_layout.specs.Defaults.{defaults_of};
 ghost use Rattle.bb_layout.specs.Layout.{fields_of};
+ghost use Rattle.bb_layout.specs.Outside.{ChangesVarsAlone};
+ghost use Rattle.bb_layout.specs.Kept.{IsLaid};
 ghost use Rattle.bb_state.specs.Keyed.{FitsKey};
 ghost use Rattle.bb_state.specs.Named.{Refuses, after_set, refusal_for, text_for};
 ghost use Rattle.bb_state.specs.State.{FitsForm, form_of, kinds_of, IsDefault, IsFresh, IsOn};
@@ -43,7 +45,6 @@ pub struct State {
 impl State {
     /// The state of a layout, of which no copy was looked at yet. The table has the defaults. A key
     /// is given exactly where the layout's records are kept under one.
-    #[tactic(auto, using(crate::proofs::Mounting::sized_fits))]
     pub fn mount(alloc: Global, layout: Layout, key: Option<Key>) -> Result<State, NoMemory>
         requires { FitsKey layout.format key }
         ensures keyed { IfOk result (λ state.
@@ -51,6 +52,7 @@ impl State {
         ensures table { IfOk result (λ state.
             state.table ≡ defaults_of layout.area_len layout.vars) }
         ensures sure { IfOk result (λ state. is_sure state ≡ false) }
+        ensures facts { IfOk result (λ state. IsLaid (laid_of state)) }
         ensures sized { IfOk result IsSized }
         ensures fits { IfOk result FitsForm }
         ensures fresh { IfOk result IsFresh }
@@ -70,7 +72,6 @@ impl State {
     /// Reads all copies. The table is then the area of the first that passes, and all copies pass
     /// it or nothing: those that don't are written. Where no copy passes the table has the
     /// defaults. After a refusal it is as before.
-    #[tactic(auto, using(crate::proofs::Mounting::sized_fits))]
     pub fn load<F: Flash>(&mut self, flash: &mut F) -> Result<Loaded, CopyFault>
         requires sized { IsSized self.old }
         requires on { IsOn self.old (F.device flash.old) }
@@ -94,7 +95,9 @@ impl State {
         ensures kept { OnOk result (kept_of self.new ≡ self.new.table) }
         ensures used { IfOk result (λ loaded. used_of self.new ≡ used_after loaded) }
         ensures sure { is_sure self.new ≡ is_ok result }
+        ensures facts { IsLaid (laid_of self.new) }
         ensures sized { IsSized self.new }
+        ensures loaded_fits { OnOk result (FitsForm self.new) }
         ensures fits { FitsForm self.old → FitsForm self.new }
         ensures on { IsOn self.new (F.device flash.new) }
         ensures placed { OnOk result (IsPlaced self.new) }
@@ -220,7 +223,6 @@ impl State {
 
     /// Gives the variable of that name the value that a text stands for. NoSuchVariable where there
     /// is none, and Value where the text is no value of it; the table is then as before.
-    #[tactic(auto, using(crate::proofs::Mounting::sized_fits))]
     pub fn set(&mut self, name: &str, text: &[u8]) -> Result<(), StateError>
         requires { IsSized self.old }
         ensures table { self.new.table
@@ -230,6 +232,7 @@ impl State {
         ensures refused { IfErr result (λ e.
             refusal_for (laid_of self.old).vars name.now text.now ≡ Some e) }
         ensures unchanged { OnErr result (self.new.table ≡ self.old.table) }
+        ensures outside { ChangesVarsAlone (laid_of self.old).vars self.old.table self.new.table }
         ensures backing { self.new ≡ record self.old { table = self.new.table } }
         ensures sized { IsSized self.new }
         ensures fits { FitsForm self.old → FitsForm self.new }

@@ -1,9 +1,8 @@
 -- The area of a plan's layout has one length: in its defaults, in what its copies pass, and in what a boot is bound to; and
 -- no two variables to which a boot is bound share a byte of it.
-use Rattle.std.proofs.Common.{◌≡◌, ℕ, suc, ◌+◌, ◌≤◌, Bool, true, false, List, [], ◌∷◌, All, length, Option, Some, None, Result, Ok, Err, IfOk, IsTrue, cond, nat_lt, refl, subst, ◌∙◌, arith}
+use Rattle.std.proofs.Common.{◌≡◌, ℕ, suc, ◌+◌, ◌≤◌, Bool, true, false, List, [], ◌∷◌, All, length, Option, Some, None, Result, Ok, Err, IfOk, cond, nat_lt, refl, subst, ◌∙◌, arith}
 use Rattle.std.specs.Prelude.{⊤, fold, map, ok_or, replicate}
 use Rattle.std.specs.Option.{option_and_then}
-use Rattle.std.proofs.lemmas.Bool.{eqb-true}
 use Rattle.std.proofs.lemmas.Bool.Decides.{nat_tests}
 use Rattle.std.proofs.lemmas.List.{length-replicate}
 use Rattle.bb_base.specs.Form.{Form}
@@ -34,7 +33,6 @@ use Rattle.bb_layout.specs.Steps.{result_then}
 use Rattle.bb_layout.specs.Storage.{storage_in}
 use Rattle.bb_layout.specs.Variables.{IsWellFormed, variables_of}
 use Rattle.bb_layout.specs.declared.format_kind.FormatKind.{FormatKind}
-use Rattle.bb_layout.specs.declared.format_kind.FormatKind.TheVariants.{Raw as RawFormat, RawHmac}
 use Rattle.bb_layout.specs.declared.layout_error.LayoutError.{LayoutError}
 use Rattle.bb_layout.specs.declared.layout_error.LayoutError.TheVariants.{AreaTooLong, NameTwice, NoState, Overlap}
 use Rattle.bb_layout.specs.declared.storage.Storage.{Storage}
@@ -43,7 +41,8 @@ use Rattle.bb_layout.proofs.Apart.{share_no_byte}
 use Rattle.bb_layout.proofs.RangeFacts.{ends_inside, names_apart, ranges_apart}
 use Rattle.bb_layout.proofs.WellFormed.{all_well_formed}
 use Rattle.bb_state.specs.Keyed.{Keyed}
-use Rattle.bb_state.specs.Kinds.{any_form, any_format_laws, format_for, format_of, laid_form, laid_kinds}
+use Rattle.bb_state.proofs.Fitting.{fits_sized}
+use Rattle.bb_state.specs.Kinds.{any_format_laws, format_of, laid_form, laid_kinds}
 use Rattle.bb_tree.specs.Node.{Branch}
 use Rattle.bb_vars.specs.Table.{table_with}
 use Rattle.bb_vars.proofs.TableRanges.{length-table_with}
@@ -309,14 +308,9 @@ planned_sized words geometry files plan is =
 abbrev PassesSized : Form → ℕ → Type 0
 PassesSized form len = (bytes area : List ℕ) → form.passes bytes ≡ Some area → length area ≡ len
 
-fits_sized : (format : FormatKind) (keyed : Keyed) (area : List ℕ) → IsTrue ((any_form (format_for format keyed)).fits area) →
-    length area ≡ keyed.layout.area_len
-fits_sized RawFormat keyed area fits = eqb-true _ _ fits
-fits_sized RawHmac keyed area fits = eqb-true _ _ fits
-
 form_sized : (keyed : Keyed) → PassesSized (laid_form keyed) keyed.layout.area_len
 form_sized keyed bytes area passes =
-    fits_sized keyed.layout.format keyed area ((any_format_laws (format_of keyed)).passed_fits bytes area passes)
+    fits_sized keyed area ((any_format_laws (format_of keyed)).passed_fits bytes area passes)
 
 candidate_sized : (form : Form) (len : ℕ) → PassesSized form len → (o : Option (List ℕ)) (area : List ℕ) →
     option_and_then form.passes o ≡ Some area → length area ≡ len

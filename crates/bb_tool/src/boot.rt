@@ -1,4 +1,5 @@
 ghost use Rattle.std.specs.Prelude.{◌≡◌, ◌<◌, ◌≤◌, List, ℕ, Ok, IfErr, IfOk, length};
+ghost use Rattle.bb_chooser.specs.Binding.{IsBoundTo};
 ghost use Rattle.bb_flash.specs.Cuts.{IsLater};
 ghost use Rattle.bb_flash.specs.Device.{IsDevice};
 ghost use Rattle.bb_state.specs.Keyed.{FitsKey};
@@ -102,6 +103,7 @@ fn boot_by<B: Board>(
     requires geometry { keyed.layout.geometry ≡ (B.device board.old).geometry }
     requires whole { IsDevice (B.device board.old) }
     requires sized { chooser.now.area_len ≡ keyed.layout.area_len }
+    requires bound { IsBoundTo keyed.layout.vars chooser.now }
     ensures gives { IsWorkedOut (keyed_as keyed)
         (Boot chooser.now cause plans.now)
         (B.device board.old) (B.device board.new) result }
@@ -124,6 +126,7 @@ fn boot_on<B: Board>(
 ) -> Result<Report, Refusal>
     requires table { IsSized state.old }
     requires sized { chooser.now.area_len ≡ (laid_of state.old).area_len }
+    requires bound { IsBoundTo (laid_of state.old).vars chooser.now }
     requires on { IsOn state.old (B.device board.old) }
     requires many { 2 ≤ (laid_of state.old).copies }
     ensures gives { IsWorkedOut (keyed_of state.old) (Boot chooser.now cause plans.now)

@@ -1,5 +1,6 @@
 ghost use Rattle.std.specs.Prelude.{◌≡◌, ◌≤◌, List, ℕ, Ok, IfErr, IfOk, length};
 ghost use Rattle.std.specs.Option.{option_map};
+ghost use Rattle.bb_chooser.specs.Binding.{IsBoundTo};
 ghost use Rattle.bb_flash.specs.Cuts.{IsLater};
 ghost use Rattle.bb_flash.specs.Device.{IsDevice, LeavesStarts};
 ghost use Rattle.bb_state.specs.Keyed.{FitsKey};
@@ -60,6 +61,7 @@ fn mark<F: Flash>(
     requires geometry { keyed.layout.geometry ≡ (F.device flash.old).geometry }
     requires whole { IsDevice (F.device flash.old) }
     requires sized { chooser.now.area_len ≡ keyed.layout.area_len }
+    requires bound { IsBoundTo keyed.layout.vars chooser.now }
     ensures gives { IsWorkedOut (keyed_as keyed)
         (Good chooser.now)
         (F.device flash.old) (F.device flash.new) result }
@@ -81,6 +83,7 @@ fn mark_on<F: Flash>(
 ) -> Result<Report, Refusal>
     requires table { IsSized state.old }
     requires sized { chooser.now.area_len ≡ (laid_of state.old).area_len }
+    requires bound { IsBoundTo (laid_of state.old).vars chooser.now }
     requires on { IsOn state.old (F.device flash.old) }
     requires many { 2 ≤ (laid_of state.old).copies }
     ensures gives { IsWorkedOut (keyed_of state.old) (Good chooser.now)

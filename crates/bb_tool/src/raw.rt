@@ -129,6 +129,7 @@ fn save_on<F: Flash>(
 ) -> Result<Report, Refusal>
     requires table { IsSized state.old }
     requires sized { length area.now ≡ (laid_of state.old).area_len }
+    requires unkeyed { (laid_of state.old).format ≡ FormatKind.Raw }
     requires on { IsOn state.old (F.device flash.old) }
     requires many { 2 ≤ (laid_of state.old).copies }
     ensures gives { IsWorkedOut (keyed_of state.old) (Write area.now)

@@ -1,4 +1,5 @@
 ghost use Rattle.std.specs.Prelude.{◌≡◌, IfErr, IfOk};
+ghost use Rattle.bb_chooser.specs.Binding.{IsBoundTo};
 ghost use Rattle.bb_layout.specs.Layout.{fields_of};
 ghost use Rattle.bb_tool.specs.Filing.{IsFolderLater, IsReadFor};
 ghost use Rattle.bb_tool.specs.Plan.{binding_in};
@@ -22,6 +23,7 @@ pub(crate) fn read_targets<N: Files>(
         (binding_in file.now (fields_of layout.now)) (λ chooser. chooser) result }
     ensures tellable { IfErr result IsTellable }
     ensures sized { IfOk result (λ chooser. chooser.area_len ≡ layout.now.area_len) }
+    ensures bound { IfOk result (IsBoundTo layout.now.vars) }
     ensures files { IsFolderLater (N.folder files.old) (N.folder files.new) }
 {
     let text = read_file(alloc, files, file)?;

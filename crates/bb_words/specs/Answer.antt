@@ -1,5 +1,6 @@
 -- What an answer of the reader says of what the words are.
 use Rattle.std.specs.Prelude.{◌≡◌, ℕ, ◌≤◌, ⊤, Result, Err, length}
+use Rattle.bb_base.specs.Form.{area_limit}
 use Rattle.bb_words.specs.declared.command.Command.{Command}
 use Rattle.bb_words.specs.declared.command.Command.TheVariants.{Raw, State, MarkGood, Boot}
 use Rattle.bb_words.specs.declared.command.RawAction.{RawAction}
@@ -21,7 +22,7 @@ IsSizedFor len (Write area) = length area ≡ len
 
 -- and so has that of `raw`, of at most 65,535 bytes
 pub record IsSizedRaw (raw : RawCommand) : Type 0 where
-  pub bound : raw.area_len ≤ 65535
+  pub bound : raw.area_len ≤ area_limit
   pub exact : IsSizedFor raw.area_len raw.action
 
 -- of each command

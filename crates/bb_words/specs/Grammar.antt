@@ -2,6 +2,7 @@
 use Rattle.std.specs.Prelude.{◌≡◌, ℕ, Bool, true, false, ◌&&◌, List, [], ◌∷◌, ◌++◌, codes, Option, Some, None, is_some}
 use Rattle.std.specs.List.{filter_map, flat_map, list_all}
 use Rattle.std.specs.Option.{option_to_list}
+use Rattle.bb_base.specs.Form.{area_limit}
 use Rattle.bb_words.specs.declared.command.Action.{Action}
 use Rattle.bb_words.specs.declared.command.Action.TheVariants.{Get, Dump, DumpShell}
 use Rattle.bb_words.specs.declared.command.CauseWord.{CauseWord}
@@ -34,7 +35,7 @@ pub record IsRaw (words : List (List ℕ)) (raw : RawCommand) : Type 0 where
   pub action : List (List ℕ)
   pub spelt : words ≡ magic ∷ len ∷ action
   pub magic_is : number_up_to 4294967295 magic ≡ Some raw.magic
-  pub len_is : number_up_to 65535 len ≡ Some raw.area_len
+  pub len_is : number_up_to area_limit len ≡ Some raw.area_len
   pub action_is : IsAction raw.area_len raw.action action
 
 -- ---- commands with options

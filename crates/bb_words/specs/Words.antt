@@ -4,6 +4,7 @@ use Rattle.std.specs.Option.{ok_or, option_map, option_map_or, option_or}
 use Rattle.std.specs.Result.{result_ok}
 use Rattle.std.specs.Str.{bytes_eq}
 use Rattle.hex.specs.Hex.{decode_sized}
+use Rattle.bb_base.specs.Form.{area_limit}
 use Rattle.bb_base.specs.Number.{number_of}
 use Rattle.bb_words.specs.declared.command.Command.{Command}
 use Rattle.bb_words.specs.declared.command.Action.{Action}
@@ -76,7 +77,7 @@ next Start word =
     if bytes_eq word (codes "raw") then Some Magic
     else option_map (λ row. Options row None none_given) (row_of word)
 next Magic word = option_map (λ n. Length n) (number_up_to 4294967295 word)
-next (Length magic) word = option_map (λ n. Mode magic n) (number_up_to 65535 word)
+next (Length magic) word = option_map (λ n. Mode magic n) (number_up_to area_limit word)
 next (Mode magic len) word =
     if bytes_eq word (codes "-g") then Some (Whole (raw_of magic len Look))
     else if bytes_eq word (codes "-s") then Some (Area magic len)

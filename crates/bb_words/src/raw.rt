@@ -7,12 +7,9 @@ ghost use Rattle.bb_words.specs.Words.{Magic, Mode, Whole, raw_of, number_up_to,
 
 use crate::word::word_at;
 use crate::{RawAction, RawCommand, WordsError};
-use bb_base::{Bytes, TextList, read_number};
+use bb_base::{AREA_LIMIT, Bytes, TextList, read_number};
 use hex::FromHexError;
 use std::alloc::Global;
-
-// In bytes.
-const MOST_AREA_LEN: u32 = 65_535;
 
 /// Reads the words behind `raw`.
 pub(crate) fn read_raw(alloc: Global, words: &TextList) -> Result<RawCommand, WordsError>
@@ -21,7 +18,7 @@ pub(crate) fn read_raw(alloc: Global, words: &TextList) -> Result<RawCommand, Wo
     ensures refused { IfErr result (Refuses (words_from 1 Magic (drop 1 words.now))) }
 {
     let magic = number_at(words, 1, u32::MAX)?;
-    let area_len = number_at(words, 2, MOST_AREA_LEN)?;
+    let area_len = number_at(words, 2, AREA_LIMIT)?;
     let action = read_action(alloc, words, area_len)?;
     Ok(RawCommand {
         magic,

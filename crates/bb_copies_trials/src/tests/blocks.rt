@@ -8,7 +8,7 @@ use std::test::Fail;
 pub(super) const BLOCK_LEN: usize = 256;
 
 // What a block holds.
-#[derive(Clone, Copy, Debug, PartialEq, Eq)]
+#[derive(Clone, Copy)]
 pub(super) enum Kind {
     // One record.
     OneBlock,
@@ -17,7 +17,7 @@ pub(super) enum Kind {
 }
 
 // The number of a record.
-#[derive(Clone, Copy, Debug, PartialEq, Eq)]
+#[derive(Clone, Copy)]
 pub(super) enum Number {
     One,
     Two,
@@ -95,11 +95,20 @@ fn with_closing_words(number: Number) -> &'static [u8] {
 pub(super) fn board(alloc: Global, kind: Kind, copies: [&[Number]; 3]) -> Result<MemBoard, Fail> {
     let mut bytes = Bytes::none(alloc);
     for numbers in copies {
-        let entries = entries(alloc, kind, numbers)?;
-        let block = block_of(alloc, &[entries.as_slice()])?;
-        bytes.add(block.as_slice())?;
+        add_entries(alloc, &mut bytes, kind, numbers)?;
     }
     board_of(alloc, bytes.as_slice())
+}
+
+// Adds a block of these entries.
+fn add_entries(
+    alloc: Global,
+    bytes: &mut Bytes,
+    kind: Kind,
+    numbers: &[Number],
+) -> Result<(), Fail> {
+    let entries = entries(alloc, kind, numbers)?;
+    add_block(alloc, bytes, &[entries.as_slice()])
 }
 
 fn entries(alloc: Global, kind: Kind, numbers: &[Number]) -> Result<Bytes, Fail> {
@@ -111,15 +120,27 @@ fn entries(alloc: Global, kind: Kind, numbers: &[Number]) -> Result<Bytes, Fail>
 }
 
 // A block that begins with these bytes, one piece behind the other, and else is blank.
-pub(super) fn block_of(alloc: Global, pieces: &[&[u8]]) -> Result<Bytes, Fail> {
+fn block_of(alloc: Global, pieces: &[&[u8]]) -> Result<Bytes, Fail> {
     let mut block = Bytes::none(alloc);
+    fill(&mut block, pieces)?;
+    Ok(block)
+}
+
+fn fill(block: &mut Bytes, pieces: &[&[u8]]) -> Result<(), Fail> {
     for piece in pieces {
         block.add(piece)?;
     }
     for _ in block.as_slice().len()..BLOCK_LEN {
         block.add(b"\xff")?;
     }
-    Ok(block)
+    Ok(())
+}
+
+// Adds such a block.
+pub(super) fn add_block(alloc: Global, bytes: &mut Bytes, pieces: &[&[u8]]) -> Result<(), Fail> {
+    let block = block_of(alloc, pieces)?;
+    bytes.add(block.as_slice())?;
+    Ok(())
 }
 
 // A device of these bytes.

@@ -1,8 +1,8 @@
 // A save in logs that hold one entry each, of 1, cut off in its first program, that of copy 1: what
 // stands there then, what it passes, and what the next session writes.
-use super::blocks::{Kind, Number, block_of, board, board_of, entry, tree};
+use super::blocks::{Kind, Number, add_block, board, board_of, entry, tree};
 use super::says;
-use super::strides::{LOAD, SET_2};
+use super::strides::{load, set_2};
 use bb_base::Bytes;
 use bb_flash::{Fault, Fill, MemBoard};
 use bb_tool::Status;
@@ -26,20 +26,28 @@ fn half_of_two() -> &'static [u8] {
 fn a_torn_page_stays_and_is_written_behind(rt: HostRuntime) -> Result<(), Fail> {
     let alloc = rt.alloc();
     let mut device = cut_off(&rt, alloc, Fill::Half)?;
-    holds(&rt, alloc, &device, &[one(), half_of_two()])?;
-    gives_alone(&rt, alloc, &[one(), half_of_two()], "3\n")?;
-    loads_one(&rt, alloc, &mut device, 1)?;
-    holds(&rt, alloc, &device, &[one(), half_of_two(), one()])
+    is_written_behind(&rt, alloc, &mut device)
+}
+
+fn is_written_behind(rt: &impl Abort, alloc: Global, device: &mut MemBoard) -> Result<(), Fail> {
+    holds(rt, alloc, device, &[one(), half_of_two()])?;
+    gives_alone(rt, alloc, &[one(), half_of_two()], "3\n")?;
+    loads_one(rt, alloc, device, 1)?;
+    holds(rt, alloc, device, &[one(), half_of_two(), one()])
 }
 
 #[test]
 fn a_page_that_is_as_it_was_is_not_written(rt: HostRuntime) -> Result<(), Fail> {
     let alloc = rt.alloc();
     let mut device = cut_off(&rt, alloc, Fill::Old)?;
-    holds(&rt, alloc, &device, &[one()])?;
-    gives_alone(&rt, alloc, &[one()], "1\n")?;
-    loads_one(&rt, alloc, &mut device, 0)?;
-    holds(&rt, alloc, &device, &[one()])
+    is_not_written(&rt, alloc, &mut device)
+}
+
+fn is_not_written(rt: &impl Abort, alloc: Global, device: &mut MemBoard) -> Result<(), Fail> {
+    holds(rt, alloc, device, &[one()])?;
+    gives_alone(rt, alloc, &[one()], "1\n")?;
+    loads_one(rt, alloc, device, 0)?;
+    holds(rt, alloc, device, &[one()])
 }
 
 // A device after such a save. Of each copy six blank pages were read, the entry's last one, and the
@@ -47,18 +55,14 @@ fn a_page_that_is_as_it_was_is_not_written(rt: HostRuntime) -> Result<(), Fail> 
 fn cut_off(rt: &impl Abort, alloc: Global, fill: Fill) -> Result<MemBoard, Fail> {
     let copies: [&[Number]; 3] = [&[Number::One], &[Number::One], &[Number::One]];
     let mut device = board(alloc, Kind::Log, copies)?;
-    device.plan_fault(24, Fault::Cut(fill))?;
-    let (text, line) = (tree(Kind::Log), "fault 9 WriteFault 1\n");
-    says(
-        rt,
-        alloc,
-        text,
-        &SET_2,
-        &mut device,
-        Status::WriteFault,
-        line,
-    )?;
+    cut(rt, alloc, &mut device, fill)?;
     Ok(device)
+}
+
+fn cut(rt: &impl Abort, alloc: Global, device: &mut MemBoard, fill: Fill) -> Result<(), Fail> {
+    device.plan_fault(24, Fault::Cut(fill))?;
+    let (status, line) = (Status::WriteFault, "fault 9 WriteFault 1\n");
+    says(rt, alloc, tree(Kind::Log), &set_2(), device, status, line)
 }
 
 // The session after a restart gives 1, and makes so many programs and no erase.
@@ -73,7 +77,7 @@ fn loads_one(
         rt,
         alloc,
         tree(Kind::Log),
-        &LOAD,
+        &load(),
         device,
         Status::Done,
         "1\n",
@@ -99,7 +103,7 @@ fn gives_alone(rt: &impl Abort, alloc: Global, second: &[&[u8]], number: &str) -
         rt,
         alloc,
         tree(Kind::Log),
-        &LOAD,
+        &load(),
         &mut device,
         Status::Done,
         number,
@@ -108,11 +112,9 @@ fn gives_alone(rt: &impl Abort, alloc: Global, second: &[&[u8]], number: &str) -
 
 // The bytes of a device whose blocks begin with these, the first and the third alike.
 fn image(alloc: Global, others: &[&[u8]], second: &[&[u8]]) -> Result<Bytes, Fail> {
-    let other = block_of(alloc, others)?;
-    let block = block_of(alloc, second)?;
     let mut bytes = Bytes::none(alloc);
-    bytes.add(other.as_slice())?;
-    bytes.add(block.as_slice())?;
-    bytes.add(other.as_slice())?;
+    add_block(alloc, &mut bytes, others)?;
+    add_block(alloc, &mut bytes, second)?;
+    add_block(alloc, &mut bytes, others)?;
     Ok(bytes)
 }

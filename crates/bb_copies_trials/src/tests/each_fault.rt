@@ -2,9 +2,9 @@
 // and cut off. The load after it gives the old or the new number, and the new one where the session
 // was done.
 use super::strides::{
-    ENTRY_LEN, LOAD, SET_2, STRIDE_LEN, blank, board, half, one, strides, tree, two,
+    ENTRY_LEN, STRIDE_LEN, blank, board, half, holds, load, one, set_2, tree, two,
 };
-use super::{says, session};
+use super::{answers, says, sent, session};
 use bb_base::MemSink;
 use bb_flash::{Fault, Fill, MemBoard};
 use bb_tool::Status;
@@ -12,39 +12,51 @@ use std::alloc::Global;
 use std::process::Abort;
 use std::test::Fail;
 
-const WRITE_2_ALWAYS: [&str; 5] = ["raw", "0x12345678", "4", "-s", "02000000"];
-
-// What a session answers and sends that is cut off in a call of the device.
-#[derive(Clone, Copy)]
-pub(super) struct End {
-    pub(super) status: Status,
-    pub(super) line: &'static str,
+fn write_2_always() -> [&'static str; 5] {
+    ["raw", "0x12345678", "4", "-s", "02000000"]
 }
 
-pub(super) const READ: End = End {
-    status: Status::ReadFault,
-    line: "fault 8 ReadFault\n",
-};
+// How a session ends that is cut off in a call of the device.
+#[derive(Clone, Copy)]
+pub(super) enum End {
+    Done,
+    Read,
+    Write0,
+    Write1,
+    Write2,
+}
 
-pub(super) const WRITE_0: End = End {
-    status: Status::WriteFault,
-    line: "fault 9 WriteFault 0\n",
-};
+impl End {
+    // What it answers.
+    pub(super) fn status(self) -> Status {
+        match self {
+            End::Done => Status::Done,
+            End::Read => Status::ReadFault,
+            End::Write0 | End::Write1 | End::Write2 => Status::WriteFault,
+        }
+    }
 
-pub(super) const WRITE_1: End = End {
-    status: Status::WriteFault,
-    line: "fault 9 WriteFault 1\n",
-};
+    // What it sends.
+    pub(super) fn line(self) -> &'static str {
+        match self {
+            End::Done => "",
+            End::Read => "fault 8 ReadFault\n",
+            End::Write0 => "fault 9 WriteFault 0\n",
+            End::Write1 => "fault 9 WriteFault 1\n",
+            End::Write2 => "fault 9 WriteFault 2\n",
+        }
+    }
+}
 
-pub(super) const WRITE_2: End = End {
-    status: Status::WriteFault,
-    line: "fault 9 WriteFault 2\n",
-};
+pub(super) const READ: End = End::Read;
 
-pub(super) const DONE: End = End {
-    status: Status::Done,
-    line: "",
-};
+pub(super) const WRITE_0: End = End::Write0;
+
+pub(super) const WRITE_1: End = End::Write1;
+
+pub(super) const WRITE_2: End = End::Write2;
+
+pub(super) const DONE: End = End::Done;
 
 // What the strides of a device begin with, the number that a load gives, and the calls of the
 // device in a session that saves 2. Each is told by how the session ends that is cut off there.
@@ -107,7 +119,7 @@ fn fresh() -> Row {
 #[test]
 fn a_set_outlives_each_fault(rt: HostRuntime) -> Result<(), Fail> {
     for row in [all_old(), new_old_none(), none_none_old(), fresh()] {
-        outlives(&rt, rt.alloc(), &SET_2, row)?;
+        outlives(&rt, rt.alloc(), &set_2(), row)?;
     }
     Ok(())
 }
@@ -115,7 +127,7 @@ fn a_set_outlives_each_fault(rt: HostRuntime) -> Result<(), Fail> {
 #[test]
 fn an_area_that_is_always_written_outlives_each_fault(rt: HostRuntime) -> Result<(), Fail> {
     for row in [all_old(), new_old_none_written(), none_none_old(), fresh()] {
-        outlives(&rt, rt.alloc(), &WRITE_2_ALWAYS, row)?;
+        outlives(&rt, rt.alloc(), &write_2_always(), row)?;
     }
     Ok(())
 }
@@ -132,17 +144,26 @@ fn outlives(rt: &impl Abort, alloc: Global, save: &[&str], row: Row) -> Result<(
 fn whole(rt: &impl Abort, alloc: Global, save: &[&str], row: Row) -> Result<(), Fail> {
     let mut device = board(alloc, row.copies)?;
     says(rt, alloc, tree(), save, &mut device, Status::Done, "")?;
-    let reads = row
-        .calls
-        .iter()
-        .filter(|end| end.status == Status::ReadFault);
-    let writes = row
-        .calls
-        .iter()
-        .filter(|end| end.status == Status::WriteFault);
-    assert_eq!(rt; device.reads(), reads.count() as u64);
-    assert_eq!(rt; device.programs(), writes.count() as u64);
+    makes_calls(rt, &device, row);
     gives(rt, alloc, &mut device, row.old, Status::Done)
+}
+
+fn makes_calls(rt: &impl Abort, device: &MemBoard, row: Row) {
+    let reads = count_of(row.calls, Status::ReadFault);
+    let writes = count_of(row.calls, Status::WriteFault);
+    assert_eq!(rt; device.reads(), reads);
+    assert_eq!(rt; device.programs(), writes);
+}
+
+// How many calls end so.
+fn count_of(calls: &[End], status: Status) -> u64 {
+    let mut count = 0u64;
+    for end in calls {
+        if end.status() == status {
+            count = count.saturating_add(1);
+        }
+    }
+    count
 }
 
 // A read that fails ends the session, and a write that fails doesn't.
@@ -154,16 +175,19 @@ fn each_fill(
     call: u32,
     cut: End,
 ) -> Result<(), Fail> {
-    let failed = if cut.status == Status::ReadFault {
-        READ
-    } else {
-        DONE
-    };
+    let failed = if matches!(cut, End::Read) { READ } else { DONE };
     for fill in [Fill::Old, Fill::Half, Fill::Junk, Fill::Lost] {
         meets(rt, alloc, save, row, call, Fault::Fail(fill), failed)?;
         meets(rt, alloc, save, row, call, Fault::Cut(fill), cut)?;
     }
     Ok(())
+}
+
+// A device of the row that meets a fault at a call.
+fn faulty(alloc: Global, row: Row, call: u32, fault: Fault) -> Result<MemBoard, Fail> {
+    let mut device = board(alloc, row.copies)?;
+    device.plan_fault(call, fault)?;
+    Ok(device)
 }
 
 // A session that meets a fault at a call, and the load after a restart.
@@ -176,12 +200,12 @@ fn meets(
     fault: Fault,
     end: End,
 ) -> Result<(), Fail> {
-    let mut device = board(alloc, row.copies)?;
-    device.plan_fault(call, fault)?;
-    says(rt, alloc, tree(), save, &mut device, end.status, end.line)?;
+    let mut device = faulty(alloc, row, call, fault)?;
+    let (status, line) = (end.status(), end.line());
+    says(rt, alloc, tree(), save, &mut device, status, line)?;
     device.restart();
     has_no_luck(rt, &device);
-    gives(rt, alloc, &mut device, row.old, end.status)
+    gives(rt, alloc, &mut device, row.old, status)
 }
 
 // No copy passes by luck: what begins as an entry is the one of 1, that of 2, or the torn front of
@@ -192,12 +216,13 @@ fn has_no_luck(rt: &impl Abort, device: &MemBoard) {
         let at = copy * STRIDE_LEN;
         assert!(rt; at + ENTRY_LEN <= bytes.len());
         let begins = &bytes[at..at + ENTRY_LEN];
-        let (old, new, torn) = (one(), two(), half());
-        let known = begins == old.as_slice()
-            || begins == new.as_slice()
-            || begins == torn.as_slice();
-        assert!(rt; known || begins[0] != 0xf3);
+        assert!(rt; is_known(begins) || begins[0] != 0xf3);
     }
+}
+
+fn is_known(begins: &[u8]) -> bool {
+    let (old, new, torn) = (one(), two(), half());
+    begins == old.as_slice() || begins == new.as_slice() || begins == torn.as_slice()
 }
 
 // What a load gives after a session that answered this status, and what all copies then hold.
@@ -209,18 +234,20 @@ fn gives(
     status: Status,
 ) -> Result<(), Fail> {
     let mut out = MemSink::with_room(alloc, 100)?;
-    assert_eq!(rt;
-        session(alloc, tree(), &LOAD, device, &mut out)?,
-        Status::Done
-    );
+    let loaded = session(alloc, tree(), &load(), device, &mut out)?;
+    answers(rt, loaded, Status::Done, old);
     if out.sent_bytes() == b"2\n".as_slice() {
-        assert_eq!(rt; device.bytes(), strides([two(); 3]).as_slice());
+        holds(rt, device, [two(); 3]);
         return Ok(());
     }
-    assert_eq!(rt; out.sent_bytes(), old.as_bytes());
-    assert_ne!(rt; status, Status::Done);
+    sent(rt, &out, old);
+    is_refused(rt, status);
     if old == "1\n" {
-        assert_eq!(rt; device.bytes(), strides([one(); 3]).as_slice());
+        holds(rt, device, [one(); 3]);
     }
     Ok(())
+}
+
+pub(super) fn is_refused(rt: &impl Abort, status: Status) {
+    assert_ne!(rt; status, Status::Done);
 }

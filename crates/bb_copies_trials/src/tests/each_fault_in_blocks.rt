@@ -2,9 +2,9 @@
 // filling, failed and cut off. The load after it gives the old or the new number and never an older
 // one, and the new one where the session was done; every copy then passes it.
 use super::blocks::{BLOCK_LEN, Kind, Number, board, entry, tree};
-use super::each_fault::{DONE, End, READ, WRITE_0, WRITE_1, WRITE_2};
-use super::strides::{LOAD, SET_2};
-use super::{says, session};
+use super::each_fault::{DONE, End, READ, WRITE_0, WRITE_1, WRITE_2, is_refused};
+use super::strides::{load, set_2};
+use super::{answers, says, sent, session};
 use bb_base::MemSink;
 use bb_flash::{Fault, Fill, MemBoard};
 use bb_tool::Status;
@@ -181,16 +181,20 @@ fn whole(rt: &impl Abort, alloc: Global, row: Row) -> Result<(), Fail> {
         rt,
         alloc,
         tree(row.kind),
-        &SET_2,
+        &set_2(),
         &mut device,
         Status::Done,
         "",
     )?;
+    makes_calls(rt, &device, row);
+    gives(rt, alloc, row, &mut device, Status::Done)
+}
+
+fn makes_calls(rt: &impl Abort, device: &MemBoard, row: Row) {
     let reads = device.reads();
     let writes = device.programs().checked_add(device.erase_count());
     assert_eq!(rt; reads, u64::from(row.reads));
     assert_eq!(rt; writes, Some(row.writes.len() as u64));
-    gives(rt, alloc, row, &mut device, Status::Done)
 }
 
 // How a session ends in which a call fails, and how one that is cut off there.
@@ -209,6 +213,13 @@ fn each_fill(
     Ok(())
 }
 
+// A device of the row that meets a fault at a call.
+fn faulty(alloc: Global, row: Row, call: u32, fault: Fault) -> Result<MemBoard, Fail> {
+    let mut device = board(alloc, row.kind, row.copies)?;
+    device.plan_fault(call, fault)?;
+    Ok(device)
+}
+
 // A session that meets a fault at a call, and the load after a restart.
 fn meets(
     rt: &impl Abort,
@@ -218,12 +229,11 @@ fn meets(
     fault: Fault,
     end: End,
 ) -> Result<(), Fail> {
-    let mut device = board(alloc, row.kind, row.copies)?;
-    device.plan_fault(call, fault)?;
-    let text = tree(row.kind);
-    says(rt, alloc, text, &SET_2, &mut device, end.status, end.line)?;
+    let mut device = faulty(alloc, row, call, fault)?;
+    let (text, status, line) = (tree(row.kind), end.status(), end.line());
+    says(rt, alloc, text, &set_2(), &mut device, status, line)?;
     device.restart();
-    gives(rt, alloc, row, &mut device, end.status)
+    gives(rt, alloc, row, &mut device, status)
 }
 
 // What a load gives after a session that answered this status, and what all copies then pass.
@@ -235,14 +245,14 @@ fn gives(
     status: Status,
 ) -> Result<(), Fail> {
     let mut out = MemSink::with_room(alloc, 100)?;
-    let loaded = session(alloc, tree(row.kind), &LOAD, device, &mut out)?;
-    assert_eq!(rt; loaded, Status::Done);
+    let loaded = session(alloc, tree(row.kind), &load(), device, &mut out)?;
+    answers(rt, loaded, Status::Done, row.old);
     if out.sent_bytes() == b"2\n".as_slice() {
         passes(rt, device, entry(row.kind, Number::Two));
         return Ok(());
     }
-    assert_eq!(rt; out.sent_bytes(), row.old.as_bytes());
-    assert_ne!(rt; status, Status::Done);
+    sent(rt, &out, row.old);
+    is_refused(rt, status);
     if row.old == "1\n" {
         passes(rt, device, entry(row.kind, Number::One));
     }

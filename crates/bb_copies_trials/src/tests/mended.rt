@@ -2,8 +2,10 @@
 use super::large::{ENTRY_LEN, blank, board, holds};
 use super::{says, session};
 use bb_base::MemSink;
-use bb_flash::{Fault, Fill};
+use bb_flash::{Fault, Fill, MemBoard};
 use bb_tool::Status;
+use std::alloc::Global;
+use std::process::Abort;
 use std::test::Fail;
 
 fn tree() -> &'static str {
@@ -28,11 +30,17 @@ fn tree() -> &'static str {
 };"
 }
 
-const LOAD: [&str; 3] = ["state", "-i", "a.dts"];
+fn load() -> [&'static str; 3] {
+    ["state", "-i", "a.dts"]
+}
 
-const GET: [&str; 5] = ["state", "-i", "a.dts", "-g", "bootstate.last_chosen"];
+fn get() -> [&'static str; 5] {
+    ["state", "-i", "a.dts", "-g", "bootstate.last_chosen"]
+}
 
-const SET: [&str; 5] = ["state", "-i", "a.dts", "-s", "bootstate.last_chosen=1"];
+fn set() -> [&'static str; 5] {
+    ["state", "-i", "a.dts", "-s", "bootstate.last_chosen=1"]
+}
 
 // The front of a stride, and the record of the defaults.
 fn old() -> [u8; ENTRY_LEN] {
@@ -62,51 +70,76 @@ fn a_load_writes_the_first_area_to_the_others(rt: HostRuntime) -> Result<(), Fai
         ([blank(), old(), new()], old()),
     ] {
         let mut device = board(alloc, copies)?;
-        says(&rt, alloc, tree(), &LOAD, &mut device, Status::Done, "")?;
-        assert_eq!(rt; device.programs(), 2);
-        holds(&rt, alloc, &device, [area; 3])?;
-        says(&rt, alloc, tree(), &LOAD, &mut device, Status::Done, "")?;
-        assert_eq!(rt; device.programs(), 2);
+        is_mended_once(&rt, alloc, &mut device, area)?;
     }
     Ok(())
+}
+
+// A load writes two copies, and all are then this one. The next load writes none.
+fn is_mended_once(
+    rt: &impl Abort,
+    alloc: Global,
+    device: &mut MemBoard,
+    area: [u8; ENTRY_LEN],
+) -> Result<(), Fail> {
+    says(rt, alloc, tree(), &load(), device, Status::Done, "")?;
+    programs(rt, device, 2);
+    holds(rt, alloc, device, [area; 3])?;
+    says(rt, alloc, tree(), &load(), device, Status::Done, "")?;
+    programs(rt, device, 2);
+    Ok(())
+}
+
+fn programs(rt: &impl Abort, device: &MemBoard, count: u64) {
+    assert_eq!(rt; device.programs(), count);
 }
 
 #[test]
 fn a_copy_that_cant_be_voided_ends_the_save(rt: HostRuntime) -> Result<(), Fail> {
     let alloc = rt.alloc();
     let mut device = board(alloc, [old(); 3])?;
-    // Six reads, and then the write of copy 1 and its voiding.
+    fails_twice(&mut device)?;
+    ends_the_save(&rt, alloc, &mut device)?;
+    device.restart();
+    says(&rt, alloc, tree(), &get(), &mut device, Status::Done, "0\n")
+}
+
+// Six reads, and then the write of copy 1 and its voiding.
+fn fails_twice(device: &mut MemBoard) -> Result<(), Fail> {
     device.plan_fault(6, Fault::Fail(Fill::Old))?;
     device.plan_fault(7, Fault::Fail(Fill::Old))?;
-    let line = "fault 9 WriteFault 1\n";
-    says(
-        &rt,
-        alloc,
-        tree(),
-        &SET,
-        &mut device,
-        Status::WriteFault,
-        line,
-    )?;
+    Ok(())
+}
+
+fn ends_the_save(rt: &impl Abort, alloc: Global, device: &mut MemBoard) -> Result<(), Fail> {
+    let (status, line) = (Status::WriteFault, "fault 9 WriteFault 1\n");
+    says(rt, alloc, tree(), &set(), device, status, line)?;
     assert_eq!(rt; Status::WriteFault.code(), 9);
-    assert_eq!(rt; device.programs(), 0);
-    holds(&rt, alloc, &device, [old(); 3])?;
-    device.restart();
-    says(&rt, alloc, tree(), &GET, &mut device, Status::Done, "0\n")
+    programs(rt, device, 0);
+    holds(rt, alloc, device, [old(); 3])
 }
 
 #[test]
 fn a_copy_that_is_voided_is_written_by_the_next_load(rt: HostRuntime) -> Result<(), Fail> {
     let alloc = rt.alloc();
     let mut device = board(alloc, [old(); 3])?;
+    voids_copy_1(&rt, alloc, &mut device)?;
+    writes_copy_1(&rt, alloc, &mut device)
+}
+
+fn voids_copy_1(rt: &impl Abort, alloc: Global, device: &mut MemBoard) -> Result<(), Fail> {
     device.plan_fault(6, Fault::Fail(Fill::Junk))?;
-    says(&rt, alloc, tree(), &SET, &mut device, Status::Done, "")?;
-    holds(&rt, alloc, &device, [new(), voided(), new()])?;
-    assert_eq!(rt; device.programs(), 3);
+    says(rt, alloc, tree(), &set(), device, Status::Done, "")?;
+    holds(rt, alloc, device, [new(), voided(), new()])?;
+    programs(rt, device, 3);
+    Ok(())
+}
+
+fn writes_copy_1(rt: &impl Abort, alloc: Global, device: &mut MemBoard) -> Result<(), Fail> {
     device.restart();
-    says(&rt, alloc, tree(), &GET, &mut device, Status::Done, "1\n")?;
-    holds(&rt, alloc, &device, [new(); 3])?;
-    assert_eq!(rt; device.programs(), 4);
+    says(rt, alloc, tree(), &get(), device, Status::Done, "1\n")?;
+    holds(rt, alloc, device, [new(); 3])?;
+    programs(rt, device, 4);
     Ok(())
 }
 
@@ -114,21 +147,29 @@ fn a_copy_that_is_voided_is_written_by_the_next_load(rt: HostRuntime) -> Result<
 fn a_save_is_made_where_the_output_fails(rt: HostRuntime) -> Result<(), Fail> {
     let alloc = rt.alloc();
     let mut device = board(alloc, [blank(); 3])?;
-    let mut out = MemSink::with_room(alloc, 100)?;
-    out.fail_call(0)?;
-    let name = "bootstate.system1.priority";
-    let all = [
+    saves_unheard(&rt, alloc, &mut device)?;
+    holds(&rt, alloc, &device, [preferred(); 3])
+}
+
+fn words() -> [&'static str; 7] {
+    [
         "state",
         "-i",
         "a.dts",
         "-s",
         "bootstate.system1.priority=30",
         "-g",
-        name,
-    ];
-    let status = session(alloc, tree(), &all, &mut device, &mut out)?;
+        "bootstate.system1.priority",
+    ]
+}
+
+// A session whose output takes nothing.
+fn saves_unheard(rt: &impl Abort, alloc: Global, device: &mut MemBoard) -> Result<(), Fail> {
+    let mut out = MemSink::with_room(alloc, 100)?;
+    out.fail_call(0)?;
+    let status = session(alloc, tree(), &words(), device, &mut out)?;
     assert_eq!(rt; status, Status::SinkFault);
     assert_eq!(rt; status.code(), 14);
     assert_eq!(rt; out.sent_bytes(), [].as_slice());
-    holds(&rt, alloc, &device, [preferred(); 3])
+    Ok(())
 }

@@ -2,6 +2,7 @@
 // the device gets.
 use super::large::{ENTRY_LEN, blank, board, holds};
 use super::says;
+use bb_flash::MemBoard;
 use bb_tool::Status;
 use std::alloc::Global;
 use std::process::Abort;
@@ -40,9 +41,13 @@ fn asks(
 ) -> Result<(), Fail> {
     let mut device = board(alloc, [blank(); 3])?;
     says(rt, alloc, tree(), all, &mut device, status, sends)?;
+    makes_calls(rt, &device, reads, programs, sends);
+    Ok(())
+}
+
+fn makes_calls(rt: &impl Abort, device: &MemBoard, reads: u64, programs: u64, sends: &str) {
     assert_eq!(rt; device.reads(), reads, "{sends}");
     assert_eq!(rt; device.programs(), programs, "{sends}");
-    Ok(())
 }
 
 // A session that reads three fronts and writes three copies.

@@ -3,6 +3,7 @@ ghost use Rattle.std.specs.Prelude.{◌≤◌};
 
 use bb_flash::{MemBoard, geometry_of};
 use std::alloc::Global;
+use std::process::Abort;
 use std::test::Fail;
 
 pub(super) const ENTRY_LEN: usize = 28;
@@ -20,11 +21,17 @@ pub(super) fn tree() -> &'static str {
 };"
 }
 
-pub(super) const LOAD: [&str; 5] = ["state", "-i", "a.dts", "-g", "n"];
+pub(super) fn load() -> [&'static str; 5] {
+    ["state", "-i", "a.dts", "-g", "n"]
+}
 
-pub(super) const SET_1: [&str; 5] = ["state", "-i", "a.dts", "-s", "n=1"];
+pub(super) fn set_1() -> [&'static str; 5] {
+    ["state", "-i", "a.dts", "-s", "n=1"]
+}
 
-pub(super) const SET_2: [&str; 5] = ["state", "-i", "a.dts", "-s", "n=2"];
+pub(super) fn set_2() -> [&'static str; 5] {
+    ["state", "-i", "a.dts", "-s", "n=2"]
+}
 
 // The front of a stride, and the record of the number 1 under the magic 0x12345678.
 pub(super) fn one() -> [u8; ENTRY_LEN] {
@@ -57,6 +64,12 @@ fn with(mut device: [u8; 192], at: usize, begins: [u8; ENTRY_LEN]) -> [u8; 192]
 {
     device[at..at + ENTRY_LEN].copy_from_slice(&begins);
     device
+}
+
+// The strides of the device begin with these bytes.
+pub(super) fn holds(rt: &impl Abort, device: &MemBoard, copies: [[u8; ENTRY_LEN]; 3]) {
+    let wanted = strides(copies);
+    assert_eq!(rt; device.bytes(), wanted.as_slice());
 }
 
 pub(super) fn board(alloc: Global, copies: [[u8; ENTRY_LEN]; 3]) -> Result<MemBoard, Fail> {

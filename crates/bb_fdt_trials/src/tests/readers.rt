@@ -87,3 +87,25 @@ fn other_texts_have_other_trees(rt: HostRuntime) -> Result<(), Fail> {
     }
     Ok(())
 }
+
+// The blob with one bit of a byte turned.
+fn turned(alloc: Global, blob: &[u8], place: usize) -> Result<Vec<u8>, Fail> {
+    let mut bytes = blob.to_vec(alloc)?;
+    let Some(byte) = bytes.get_mut(place) else {
+        return Err(Fail::from("a place behind the blob"));
+    };
+    *byte ^= 1;
+    Ok(bytes)
+}
+
+// In a reserved pair, in the name of a node, in a value, and in the name of a property.
+#[test]
+fn a_turned_bit_gives_another_tree(rt: HostRuntime) -> Result<(), Fail> {
+    let tree = read_blob(rt.alloc(), compiled::board())?;
+    for place in [44, 116, 164, 387] {
+        let bytes = turned(rt.alloc(), compiled::board(), place)?;
+        let other = read_blob(rt.alloc(), bytes.as_slice())?;
+        assert!(rt; !is_same_tree(&tree, &other), "{place}");
+    }
+    Ok(())
+}

@@ -1,5 +1,5 @@
-use super::board::{board, in_place, is_bad_prop, layout, layout_on};
-use bb_layout::{FormatKind, LayoutError, Storage};
+use super::board::{Copies, copies_on, in_place, is_bad_prop, is_too_small};
+use bb_layout::{FormatKind, Storage};
 use std::test::Fail;
 
 // An area of 20 bytes under a key: a front of 8 bytes, 16 bytes and the area, and an HMAC of 32.
@@ -25,14 +25,17 @@ a@10 { reg = <16 4>; type = \"uint32\"; };
 
 #[test]
 fn a_key_takes_32_bytes_more(rt: HostRuntime) -> Result<(), Fail> {
-    let keyed = layout(rt.alloc(), stride_of_76())?;
-    assert_eq!(rt; keyed.format, FormatKind::RawHmac);
-    assert_eq!(rt; keyed.area_len, 20);
-    assert_eq!(rt; keyed.storage, Storage::Stride(76));
-    assert_eq!(rt; keyed.copies, 3);
-    let refused = in_place(rt.alloc(), stride_of_75())?;
-    assert!(rt; matches!(refused, Err(LayoutError::TooSmall)));
-    let plain = layout(rt.alloc(), no_key())?;
+    let strides = Copies {
+        format: FormatKind::RawHmac,
+        storage: Storage::Stride(76),
+        copies: 3,
+        last: 131_224,
+        area_len: 20,
+    };
+    let keyed = copies_on(rt.alloc(), stride_of_76(), b"", in_place())?;
+    assert_eq!(rt; keyed, strides);
+    assert!(rt; is_too_small(rt.alloc(), stride_of_75(), b"", in_place())?);
+    let plain = copies_on(rt.alloc(), no_key(), b"", in_place())?;
     assert_eq!(rt; plain.format, FormatKind::Raw);
     Ok(())
 }
@@ -57,43 +60,67 @@ fn two_larger_blocks() -> &'static [u8] {
     b"&p { reg = <0 256>; };\n"
 }
 
+fn plain_logs() -> Copies {
+    Copies {
+        format: FormatKind::Raw,
+        storage: Storage::Circular,
+        copies: 3,
+        last: 128,
+        area_len: 16,
+    }
+}
+
+fn keyed_logs() -> Copies {
+    Copies {
+        format: FormatKind::RawHmac,
+        storage: Storage::Circular,
+        copies: 2,
+        last: 128,
+        area_len: 16,
+    }
+}
+
+fn small() -> &'static str {
+    "er:64:64:1024"
+}
+
+fn larger() -> &'static str {
+    "er:64:128:1024"
+}
+
 #[test]
 fn an_entry_under_a_key_has_a_page_more(rt: HostRuntime) -> Result<(), Fail> {
-    let plain = board(rt.alloc(), log_without_key(), three_small_blocks())?;
-    let Ok(layout) = layout_on(rt.alloc(), &plain, "er:64:64:1024")? else {
-        return Err(Fail::from("the tree is refused"));
-    };
-    assert_eq!(rt; layout.format, FormatKind::Raw);
-    assert_eq!(rt; layout.copies, 3);
-    let keyed = board(rt.alloc(), log_with_key(), three_small_blocks())?;
-    let refused = layout_on(rt.alloc(), &keyed, "er:64:64:1024")?;
-    assert!(rt; matches!(refused, Err(LayoutError::TooSmall)));
-    let larger = board(rt.alloc(), log_with_key(), two_larger_blocks())?;
-    let Ok(layout) = layout_on(rt.alloc(), &larger, "er:64:128:1024")? else {
-        return Err(Fail::from("the larger blocks are refused"));
-    };
-    assert_eq!(rt; layout.format, FormatKind::RawHmac);
-    assert_eq!(rt; layout.storage, Storage::Circular);
-    assert_eq!(rt; layout.copies, 2);
+    let plain = copies_on(rt.alloc(), log_without_key(), three_small_blocks(), small())?;
+    assert_eq!(rt; plain, plain_logs());
+    let refused = is_too_small(rt.alloc(), log_with_key(), three_small_blocks(), small())?;
+    assert!(rt; refused);
+    let keyed = copies_on(rt.alloc(), log_with_key(), two_larger_blocks(), larger())?;
+    assert_eq!(rt; keyed, keyed_logs());
     Ok(())
+}
+
+fn another_hash() -> &'static [u8] {
+    b"algo = \"hmac(sha1)\";\n"
+}
+
+fn no_hmac() -> &'static [u8] {
+    b"algo = \"sha256\";\n"
+}
+
+fn unended() -> &'static [u8] {
+    b"algo = [68 6d 61 63 28 73 68 61 32 35 36 29];\n"
+}
+
+fn two() -> &'static [u8] {
+    b"algo = \"hmac(sha256)\", \"hmac(sha256)\";\n"
 }
 
 #[test]
 fn another_algo_is_refused(rt: HostRuntime) -> Result<(), Fail> {
-    assert!(rt; is_bad_prop(rt.alloc(), b"algo = \"hmac(sha1)\";\n", "algo")?);
-    assert!(rt; is_bad_prop(rt.alloc(), b"algo = \"sha256\";\n", "algo")?);
+    assert!(rt; is_bad_prop(rt.alloc(), another_hash(), "algo")?);
+    assert!(rt; is_bad_prop(rt.alloc(), no_hmac(), "algo")?);
     assert!(rt; is_bad_prop(rt.alloc(), b"algo;\n", "algo")?);
-    let unended = is_bad_prop(
-        rt.alloc(),
-        b"algo = [68 6d 61 63 28 73 68 61 32 35 36 29];\n",
-        "algo",
-    )?;
-    assert!(rt; unended);
-    let two = is_bad_prop(
-        rt.alloc(),
-        b"algo = \"hmac(sha256)\", \"hmac(sha256)\";\n",
-        "algo",
-    )?;
-    assert!(rt; two);
+    assert!(rt; is_bad_prop(rt.alloc(), unended(), "algo")?);
+    assert!(rt; is_bad_prop(rt.alloc(), two(), "algo")?);
     Ok(())
 }

@@ -1,6 +1,7 @@
-use super::board::{layout_on, tree};
+use super::board::{laid_out, tree};
 use bb_layout::Layout;
-use bb_tree::blob_length;
+use bb_tree::{Tree, blob_length};
+use std::alloc::Global;
 use std::test::Fail;
 
 fn lone_byte() -> &'static [u8] {
@@ -18,22 +19,31 @@ fn lone_byte() -> &'static [u8] {
 "
 }
 
-#[test]
-fn a_record_of_one_byte_is_a_blob_of_208(rt: HostRuntime) -> Result<(), Fail> {
-    let tree = tree(rt.alloc(), lone_byte())?;
-    let Ok(layout) = layout_on(rt.alloc(), &tree, "ov:192")? else {
-        return Err(Fail::from("the tree is refused"));
+/// Whether the node at a path has that value.
+pub fn has_value(record: &Tree, path: &str, name: &str, value: &[u8]) -> bool {
+    let Some(node) = record.find(path) else {
+        return false;
     };
+    node.prop(name) == Some(value)
+}
+
+fn record_of_seven(alloc: Global, layout: &Layout) -> Result<Tree, Fail> {
     if layout.area_len != 1 {
         return Err(Fail::from("another area"));
     }
-    let record = Layout::record_tree(rt.alloc(), &layout, &[7])?;
+    Ok(Layout::record_tree(alloc, layout, &[7])?)
+}
+
+fn record(alloc: Global) -> Result<Tree, Fail> {
+    let tree = tree(alloc, lone_byte())?;
+    record_of_seven(alloc, &laid_out(alloc, &tree, "ov:192")?)
+}
+
+#[test]
+fn a_record_of_one_byte_is_a_blob_of_208(rt: HostRuntime) -> Result<(), Fail> {
+    let record = record(rt.alloc())?;
     assert_eq!(rt; blob_length(&record), 208);
-    let byte = record.find("/state/a@0").ok_or("no node")?;
-    let value = byte.prop("value").ok_or("no value")?;
-    assert_eq!(rt; value, b"\0\0\0\x07".as_slice());
-    let state = record.find("/state").ok_or("no state node")?;
-    let magic = state.prop("magic").ok_or("no magic")?;
-    assert_eq!(rt; magic, b"MC20".as_slice());
+    assert!(rt; has_value(&record, "/state/a@0", "value", b"\0\0\0\x07"));
+    assert!(rt; has_value(&record, "/state", "magic", b"MC20"));
     Ok(())
 }

@@ -3,7 +3,7 @@
 // computed apart from this program.
 
 /// The area of a record.
-#[derive(Clone, Copy, Debug, PartialEq, Eq)]
+#[derive(Clone, Copy)]
 pub enum Content {
     /// All attempts are there: 3, 20, 3, 10, 0.
     Full,

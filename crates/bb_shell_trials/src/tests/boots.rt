@@ -36,17 +36,60 @@ fn leaves(
     Ok(())
 }
 
+fn ends(rt: &impl Abort, end: Option<BootEnd>, wanted: BootEnd) {
+    assert_eq!(rt; end, Some(wanted));
+}
+
+fn started(target: u32, left: u32, tries: u64) -> BootEnd {
+    BootEnd::Started {
+        target,
+        left,
+        tries,
+    }
+}
+
+fn failed(target: u32, tries: u64) -> BootEnd {
+    BootEnd::StartFailed { target, tries }
+}
+
+// A boot by these settings and this entry ends so.
+fn boots(
+    rt: &impl Abort,
+    alloc: Global,
+    settings: &[u8],
+    entry: &[u8],
+    device: &mut MemBoard,
+    wanted: BootEnd,
+) -> Result<(), Fail> {
+    let end = boot(alloc, Kind::Stride, settings, entry, true, device)?;
+    ends(rt, end, wanted);
+    Ok(())
+}
+
+fn boots_plainly(
+    rt: &impl Abort,
+    alloc: Global,
+    device: &mut MemBoard,
+    wanted: BootEnd,
+) -> Result<(), Fail> {
+    let end = boot_plainly(alloc, device)?;
+    ends(rt, end, wanted);
+    Ok(())
+}
+
+fn programs(rt: &impl Abort, device: &MemBoard, count: u64) {
+    assert_eq!(rt; device.programs(), count);
+}
+
 #[test]
 fn a_fresh_board_starts_the_first_system(rt: HostRuntime) -> Result<(), Fail> {
     let mut device = fresh(rt.alloc())?;
-    let end = boot_plainly(rt.alloc(), &mut device)?;
-    let started = BootEnd::Started {
-        target: 0,
-        left: 2,
-        tries: 1,
-    };
-    assert_eq!(rt; end, Some(started));
+    boots_plainly(&rt, rt.alloc(), &mut device, started(0, 2, 1))?;
     leaves(&rt, rt.alloc(), &device, 1, Content::OneSpent)?;
+    starts_the_first(&rt, &device)
+}
+
+fn starts_the_first(rt: &impl Abort, device: &MemBoard) -> Result<(), Fail> {
     let Some(plan) = device.plan_at(0) else {
         return Err(Fail::from("no plan"));
     };
@@ -56,116 +99,76 @@ fn a_fresh_board_starts_the_first_system(rt: HostRuntime) -> Result<(), Fail> {
     Ok(())
 }
 
+// A board that holds nothing, and whose first start fails.
+fn failing(alloc: Global) -> Result<MemBoard, Fail> {
+    let mut device = fresh(alloc)?;
+    device.fail_start(0)?;
+    Ok(device)
+}
+
 #[test]
 fn a_start_that_failed_costs_an_attempt(rt: HostRuntime) -> Result<(), Fail> {
-    let mut device = fresh(rt.alloc())?;
-    device.fail_start(0)?;
-    let end = boot_plainly(rt.alloc(), &mut device)?;
-    let failed = BootEnd::StartFailed {
-        target: 0,
-        tries: 1,
-    };
-    assert_eq!(rt; end, Some(failed));
-    leaves(&rt, rt.alloc(), &device, 0, Content::OneSpent)?;
-    let end = boot_plainly(rt.alloc(), &mut device)?;
-    let started = BootEnd::Started {
-        target: 0,
-        left: 1,
-        tries: 1,
-    };
-    assert_eq!(rt; end, Some(started));
+    let mut device = failing(rt.alloc())?;
+    costs_an_attempt(&rt, rt.alloc(), &mut device)?;
+    boots_plainly(&rt, rt.alloc(), &mut device, started(0, 1, 1))?;
     leaves(&rt, rt.alloc(), &device, 1, Content::TwoSpent)
+}
+
+fn costs_an_attempt(rt: &impl Abort, alloc: Global, device: &mut MemBoard) -> Result<(), Fail> {
+    boots_plainly(rt, alloc, device, failed(0, 1))?;
+    leaves(rt, alloc, device, 0, Content::OneSpent)
 }
 
 #[test]
 fn a_system_with_attempts_is_started(rt: HostRuntime) -> Result<(), Fail> {
     let mut device = holding(rt.alloc(), Content::FirstEmpty)?;
-    let end = boot_plainly(rt.alloc(), &mut device)?;
-    let started = BootEnd::Started {
-        target: 1,
-        left: 2,
-        tries: 1,
-    };
-    assert_eq!(rt; end, Some(started));
+    boots_plainly(&rt, rt.alloc(), &mut device, started(1, 2, 1))?;
     leaves(&rt, rt.alloc(), &device, 1, Content::OtherSpent)
 }
 
 #[test]
 fn no_attempt_no_write(rt: HostRuntime) -> Result<(), Fail> {
     let mut device = holding(rt.alloc(), Content::Empty)?;
-    let end = boot_plainly(rt.alloc(), &mut device)?;
-    assert_eq!(rt; end, Some(BootEnd::NoTarget));
-    assert_eq!(rt; device.programs(), 0);
+    boots_plainly(&rt, rt.alloc(), &mut device, BootEnd::NoTarget)?;
+    programs(&rt, &device, 0);
     leaves(&rt, rt.alloc(), &device, 0, Content::Empty)
 }
 
 #[test]
 fn a_reset_gives_attempts_back(rt: HostRuntime) -> Result<(), Fail> {
     let mut device = holding(rt.alloc(), Content::Empty)?;
-    let end = boot(
-        rt.alloc(),
-        Kind::Stride,
-        with_reset(),
-        entry(),
-        false,
-        &mut device,
-    )?;
-    assert_eq!(rt; end, Some(BootEnd::NoTarget));
-    let end = boot(
-        rt.alloc(),
-        Kind::Stride,
-        with_reset(),
-        entry(),
-        true,
-        &mut device,
-    )?;
-    let started = BootEnd::Started {
-        target: 0,
-        left: 2,
-        tries: 1,
-    };
-    assert_eq!(rt; end, Some(started));
+    resets_nothing_later(&rt, rt.alloc(), &mut device)?;
+    resets(&rt, rt.alloc(), &mut device)
+}
+
+// A boot that isn't the first of its session.
+fn resets_nothing_later(rt: &impl Abort, alloc: Global, device: &mut MemBoard) -> Result<(), Fail> {
+    let end = boot(alloc, Kind::Stride, with_reset(), entry(), false, device)?;
+    ends(rt, end, BootEnd::NoTarget);
+    Ok(())
+}
+
+fn resets(rt: &impl Abort, alloc: Global, device: &mut MemBoard) -> Result<(), Fail> {
+    boots(rt, alloc, with_reset(), entry(), device, started(0, 2, 1))?;
     // one save of three copies: the reset isn't stored alone
-    assert_eq!(rt; device.programs(), 3);
-    leaves(&rt, rt.alloc(), &device, 1, Content::OneSpent)
+    programs(rt, device, 3);
+    leaves(rt, alloc, device, 1, Content::OneSpent)
 }
 
 #[test]
 fn all_systems_are_tried(rt: HostRuntime) -> Result<(), Fail> {
-    let mut device = fresh(rt.alloc())?;
-    let end = boot(
-        rt.alloc(),
-        Kind::Stride,
-        with_retry(),
-        no_kernel(),
-        true,
-        &mut device,
-    )?;
-    let failed = BootEnd::StartFailed {
-        target: 1,
-        tries: 6,
-    };
-    assert_eq!(rt; end, Some(failed));
-    leaves(&rt, rt.alloc(), &device, 0, Content::AllSpent)
+    let alloc = rt.alloc();
+    let mut device = fresh(alloc)?;
+    let end = failed(1, 6);
+    boots(&rt, alloc, with_retry(), no_kernel(), &mut device, end)?;
+    leaves(&rt, alloc, &device, 0, Content::AllSpent)
 }
 
 #[test]
 fn a_later_start_is_tried(rt: HostRuntime) -> Result<(), Fail> {
-    let mut device = fresh(rt.alloc())?;
-    device.fail_start(0)?;
-    let end = boot(
-        rt.alloc(),
-        Kind::Stride,
-        with_retry(),
-        entry(),
-        true,
-        &mut device,
-    )?;
-    let started = BootEnd::Started {
-        target: 0,
-        left: 1,
-        tries: 2,
-    };
-    assert_eq!(rt; end, Some(started));
-    leaves(&rt, rt.alloc(), &device, 1, Content::TwoSpent)
+    let alloc = rt.alloc();
+    let mut device = failing(alloc)?;
+    let end = started(0, 1, 2);
+    boots(&rt, alloc, with_retry(), entry(), &mut device, end)?;
+    leaves(&rt, alloc, &device, 1, Content::TwoSpent)
 }

@@ -7,7 +7,7 @@ use std::alloc::Global;
 use std::test::Fail;
 
 /// What a copy stands in.
-#[derive(Clone, Copy, Debug, PartialEq, Eq)]
+#[derive(Clone, Copy)]
 pub enum Kind {
     Stride,
     OneBlock,
@@ -44,41 +44,64 @@ pub fn board(alloc: Global, kind: Kind, copies: [&[Content]; 3]) -> Result<MemBo
 pub fn image(alloc: Global, kind: Kind, copies: [&[Content]; 3]) -> Result<Bytes, NoMemory> {
     let mut bytes = Bytes::none(alloc);
     for records in copies {
-        let copy = copy_of(alloc, kind, records)?;
-        bytes.add(copy.as_slice())?;
+        add_copy(alloc, &mut bytes, kind, records)?;
     }
     Ok(bytes)
 }
 
+fn add_copy(
+    alloc: Global,
+    bytes: &mut Bytes,
+    kind: Kind,
+    records: &[Content],
+) -> Result<(), NoMemory> {
+    let copy = copy_of(alloc, kind, records)?;
+    bytes.add(copy.as_slice())
+}
+
 fn copy_of(alloc: Global, kind: Kind, records: &[Content]) -> Result<Bytes, NoMemory> {
     let mut copy = Bytes::none(alloc);
+    add_records(&mut copy, kind, records)?;
+    Ok(copy)
+}
+
+// Adds these records, and fills the copy up.
+fn add_records(copy: &mut Bytes, kind: Kind, records: &[Content]) -> Result<(), NoMemory> {
     for which in records {
-        add_record(&mut copy, kind, record(*which))?;
+        add_record(copy, kind, record(*which))?;
     }
     for _ in copy.as_slice().len()..copy_len(kind) {
         copy.add(b"\xff")?;
     }
-    Ok(copy)
+    Ok(())
 }
 
 // Adds a record behind its front; in a log filled up to two pages, at whose end the closing words
 // stand.
 fn add_record(copy: &mut Bytes, kind: Kind, record: &[u8]) -> Result<(), NoMemory> {
-    if kind == Kind::Log {
-        copy.add(record)?;
-        copy.add(&[0xff; 20])?;
-        return copy.add(b"\x02\x2d\xfa\x14\x40\x00\x00\x00");
+    match kind {
+        Kind::Log => {
+            copy.add(record)?;
+            copy.add(&[0xff; 20])?;
+            copy.add(b"\x02\x2d\xfa\x14\x40\x00\x00\x00")
+        }
+        Kind::Stride | Kind::OneBlock => {
+            copy.add(front())?;
+            copy.add(record)
+        }
     }
-    copy.add(front())?;
-    copy.add(record)
 }
 
 /// The devicetree of such a board, with two systems.
 pub fn source(alloc: Global, kind: Kind) -> Result<Bytes, NoMemory> {
     let mut text = Bytes::none(alloc);
-    text.add(backend(kind))?;
-    text.add(variables())?;
+    add_source(&mut text, kind)?;
     Ok(text)
+}
+
+fn add_source(text: &mut Bytes, kind: Kind) -> Result<(), NoMemory> {
+    text.add(backend(kind))?;
+    text.add(variables())
 }
 
 fn backend(kind: Kind) -> &'static [u8] {

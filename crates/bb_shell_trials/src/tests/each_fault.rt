@@ -102,6 +102,12 @@ fn board_of(alloc: Global, row: Row, failing: u32) -> Result<MemBoard, Fail> {
     Ok(device)
 }
 
+fn makes_calls(rt: &impl Abort, device: &MemBoard, reads: u32, writes: u32) {
+    let done = device.programs().saturating_add(device.erase_count());
+    assert_eq!(rt; device.reads(), u64::from(reads));
+    assert_eq!(rt; done, u64::from(writes));
+}
+
 // How many calls a boot makes that meets no fault: those of the row, and no other.
 fn calls_without_a_fault(
     rt: &impl Abort,
@@ -121,11 +127,25 @@ fn calls_without_a_fault(
     assert!(rt; matches!(end, Some(BootEnd::Started { .. })));
     let further = row.further.saturating_mul(failing);
     let writes = row.mends.saturating_add(row.first).saturating_add(further);
-    let done = device.programs().saturating_add(device.erase_count());
-    assert_eq!(rt; device.reads(), u64::from(row.reads));
-    assert_eq!(rt; done, u64::from(writes));
+    makes_calls(rt, &device, row.reads, writes);
     shows_round(rt, alloc, row, &mut device, failing)?;
     Ok(row.reads.saturating_add(writes))
+}
+
+fn plan(device: &mut MemBoard, call: u32, fill: Fill, meeting: Meeting) -> Result<(), Fail> {
+    match meeting {
+        Meeting::Fails => device.plan_fault(call, Fault::Fail(fill))?,
+        Meeting::FailsTwice => {
+            device.plan_fault(call, Fault::Fail(fill))?;
+            device.plan_fault(call.saturating_add(1), Fault::Fail(fill))?;
+        }
+        Meeting::IsCut => device.plan_fault(call, Fault::Cut(fill))?,
+    }
+    Ok(())
+}
+
+fn makes_starts(rt: &impl Abort, device: &MemBoard, starts: u32) {
+    assert_eq!(rt; device.start_count(), starts);
 }
 
 fn meets(
@@ -138,18 +158,11 @@ fn meets(
     meeting: Meeting,
 ) -> Result<(), Fail> {
     let mut device = board_of(alloc, row, failing)?;
-    match meeting {
-        Meeting::Fails => device.plan_fault(call, Fault::Fail(fill))?,
-        Meeting::FailsTwice => {
-            device.plan_fault(call, Fault::Fail(fill))?;
-            device.plan_fault(call.saturating_add(1), Fault::Fail(fill))?;
-        }
-        Meeting::IsCut => device.plan_fault(call, Fault::Cut(fill))?,
-    }
+    plan(&mut device, call, fill, meeting)?;
     let settings = with_retry_and_reset();
     let end = boot(alloc, row.kind, settings, entry(), true, &mut device)?;
     let has_started = matches!(end, Some(BootEnd::Started { .. }));
-    assert_eq!(rt; device.start_count(), u32::from(has_started));
+    makes_starts(rt, &device, u32::from(has_started));
     device.restart();
     if has_started {
         return shows_round(rt, alloc, row, &mut device, failing);

@@ -1,5 +1,6 @@
 // Boots of two systems, and the load after them.
 ghost use Rattle.std.specs.Prelude.{◌≡◌, IfOk, false};
+ghost use Rattle.bb_chooser.specs.Binding.{IsBoundTo};
 ghost use Rattle.bb_flash.specs.Geometry.{IsGeometry};
 ghost use Rattle.bb_layout.specs.Formats.{takes_key};
 ghost use Rattle.bb_state.specs.State.{FitsForm, IsFresh, IsSized, laid_of};
@@ -8,7 +9,7 @@ use super::devices::{Kind, source};
 use bb_base::{Bytes, MemFiles, NoMemory};
 use bb_chooser::{Cause, Chooser, Settings};
 use bb_dts::read_source;
-use bb_flash::{Flash, Geometry, MemBoard};
+use bb_flash::{Flash, Geometry, MemBoard, PlanList};
 use bb_layout::{Layout, layout_of};
 use bb_shell::{BootEnd, boot_run, read_plans};
 use bb_state::State;
@@ -86,7 +87,8 @@ fn layout(alloc: Global, kind: Kind, geometry: Geometry) -> Result<Layout, Fail>
 }
 
 fn chooser(alloc: Global, layout: &Layout, settings: &[u8]) -> Result<Chooser, Fail>
-    ensures { IfOk result (λ chooser. chooser.area_len ≡ layout.now.area_len) }
+    ensures sized { IfOk result (λ chooser. chooser.area_len ≡ layout.now.area_len) }
+    ensures bound { IfOk result (IsBoundTo layout.now.vars) }
 {
     let Ok(settings) = Settings::read(alloc, settings) else {
         return Err(Fail::from("the settings are refused"));
@@ -101,11 +103,28 @@ fn mount(alloc: Global, layout: Layout) -> Result<State, NoMemory>
     requires no_key { takes_key layout.format ≡ false }
     ensures geometry { IfOk result (λ state. (laid_of state).geometry ≡ layout.geometry) }
     ensures area_len { IfOk result (λ state. (laid_of state).area_len ≡ layout.area_len) }
+    ensures vars { IfOk result (λ state. (laid_of state).vars ≡ layout.vars) }
     ensures sized { IfOk result IsSized }
     ensures fits { IfOk result FitsForm }
     ensures fresh { IfOk result IsFresh }
 {
     State::mount(alloc, layout, None)
+}
+
+// Files in which both systems have this entry.
+fn files(alloc: Global, entry: &[u8]) -> Result<MemFiles, NoMemory> {
+    let mut files = MemFiles::none(alloc);
+    files.add("loader/entries/system0.conf", entry)?;
+    files.add("loader/entries/system1.conf", entry)?;
+    Ok(files)
+}
+
+fn plans(alloc: Global, chooser: &Chooser, entry: &[u8]) -> Result<PlanList, Fail> {
+    let mut files = files(alloc, entry)?;
+    let Ok(plans) = read_plans(alloc, chooser, &mut files) else {
+        return Err(Fail::from("the plans are refused"));
+    };
+    Ok(plans)
 }
 
 /// A boot of both systems with this entry, where `first` says whether it is the session's first. None
@@ -122,12 +141,7 @@ pub fn boot(
     let layout = layout(alloc, kind, geometry)?;
     let chooser = chooser(alloc, &layout, settings)?;
     let mut state = mount(alloc, layout)?;
-    let mut files = MemFiles::none(alloc);
-    files.add("loader/entries/system0.conf", entry)?;
-    files.add("loader/entries/system1.conf", entry)?;
-    let Ok(plans) = read_plans(alloc, &chooser, &mut files) else {
-        return Err(Fail::from("the plans are refused"));
-    };
+    let plans = plans(alloc, &chooser, entry)?;
     let Ok(_) = state.load(board) else {
         return Ok(None);
     };

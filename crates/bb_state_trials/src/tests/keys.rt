@@ -1,8 +1,11 @@
 // Copies under a key. The values of HMAC-SHA256 and of the CRCs are those of another program
 // (Python's hmac and zlib).
 ghost use Rattle.std.specs.Prelude.{◌≡◌, ◌≤◌, IfOk};
+ghost use Rattle.bb_flash.specs.Device.{IsDevice};
+ghost use Rattle.bb_flash.specs.Memory.{device_of};
 
-use super::rig::{IN_PLACE, board, layout, loaded_state, plain, save};
+use super::rig::{IN_PLACE, blank, board, first_save, layout, loaded_state, plain, value};
+use bb_flash::MemBoard;
 use bb_hmac::Key;
 use bb_layout::Layout;
 use bb_state::Loaded;
@@ -38,6 +41,26 @@ fn with(mut device: [u8; 192], at: usize, begins: [u8; COPY_LEN]) -> [u8; 192]
     device
 }
 
+fn whole() -> [u8; 192] {
+    strides(good_copy(), good_copy(), good_copy())
+}
+
+fn first_decayed() -> [u8; 192] {
+    strides(decayed_copy(), good_copy(), good_copy())
+}
+
+fn second_decayed() -> [u8; 192] {
+    strides(good_copy(), decayed_copy(), good_copy())
+}
+
+fn first_alone() -> [u8; 192] {
+    strides(good_copy(), decayed_copy(), decayed_copy())
+}
+
+fn second_alone() -> [u8; 192] {
+    strides(decayed_copy(), good_copy(), decayed_copy())
+}
+
 fn key(text: &[u8]) -> Result<Option<Key>, Fail> {
     let Ok(key) = Key::from_hex(text) else {
         return Err(Fail::from("the key is refused"));
@@ -53,6 +76,23 @@ fn under_key(alloc: Global) -> Result<Layout, Fail>
     layout(alloc, b"algo = \"hmac(sha256)\";", b"", IN_PLACE)
 }
 
+// The value that a load under a key gives, with this answer.
+fn loaded_value(
+    rt: &impl Abort,
+    alloc: Global,
+    hex: &[u8],
+    board: &mut MemBoard,
+    answer: Loaded,
+) -> Result<Option<u8>, Fail>
+    requires geometry { board.old.geometry ≡ record { page = 1; block = 0; size = 192 } }
+    requires whole { IsDevice (device_of board.old) }
+{
+    let key = key(hex)?;
+    let layout = under_key(alloc)?;
+    let state = loaded_state(rt, alloc, layout, key, board, answer)?;
+    Ok(value(&state))
+}
+
 // A load under a key from a device of these bytes gives an answer and a value, and leaves these.
 fn gives(
     rt: &impl Abort,
@@ -64,68 +104,71 @@ fn gives(
     after: [u8; 192],
 ) -> Result<(), Fail> {
     let mut board = board(alloc, IN_PLACE, &before)?;
-    let key = key(hex)?;
-    let state = loaded_state(rt, alloc, under_key(alloc)?, key, &mut board, answer)?;
-    assert_eq!(rt; state.table.bytes(), [value].as_slice());
+    let found = loaded_value(rt, alloc, hex, &mut board, answer)?;
+    assert_eq!(rt; found, Some(value));
     assert_eq!(rt; board.bytes(), after.as_slice());
     Ok(())
 }
 
+fn save_under_key(rt: &impl Abort, alloc: Global, board: &mut MemBoard) -> Result<(), Fail>
+    requires geometry { board.old.geometry ≡ record { page = 1; block = 0; size = 192 } }
+    requires whole { IsDevice (device_of board.old) }
+{
+    let key = key(b"4a656665\n")?;
+    let layout = under_key(alloc)?;
+    first_save(rt, alloc, layout, key, board)
+}
+
 #[test]
 fn a_save_writes_records_with_their_hmac(rt: HostRuntime) -> Result<(), Fail> {
-    let mut board = board(rt.alloc(), IN_PLACE, &[0xff; 192])?;
-    let key = key(b"4a656665\n")?;
-    let layout = under_key(rt.alloc())?;
-    let mut state = loaded_state(&rt, rt.alloc(), layout, key, &mut board, Loaded::NoCopy)?;
-    save(&rt, &mut state, &mut board, b"7");
-    assert_eq!(rt;
-        board.bytes(),
-        strides(good_copy(), good_copy(), good_copy()).as_slice()
-    );
+    let mut board = blank(rt.alloc())?;
+    save_under_key(&rt, rt.alloc(), &mut board)?;
+    assert_eq!(rt; board.bytes(), whole().as_slice());
     Ok(())
+}
+
+// From a device of these bytes the first copy is loaded, and all copies are whole then.
+fn repairs(rt: &impl Abort, alloc: Global, before: [u8; 192]) -> Result<(), Fail> {
+    let all = Loaded::Copy { used: 0, live: 3 };
+    gives(rt, alloc, b"4a656665", before, all, 7, whole())
 }
 
 // Two copies decay and are repaired, one after the other, so that the third may decay then: each of
 // the repaired ones passes alone.
 #[test]
 fn a_repaired_copy_passes_under_the_key(rt: HostRuntime) -> Result<(), Fail> {
-    let whole = strides(good_copy(), good_copy(), good_copy());
-    let first = strides(decayed_copy(), good_copy(), good_copy());
-    let second = strides(good_copy(), decayed_copy(), good_copy());
-    let all = |used| Loaded::Copy { used, live: 3 };
-    gives(&rt, rt.alloc(), b"4a656665", first, all(0), 7, whole)?;
-    gives(&rt, rt.alloc(), b"4a656665", second, all(0), 7, whole)?;
-    let first_alone = strides(good_copy(), decayed_copy(), decayed_copy());
-    let second_alone = strides(decayed_copy(), good_copy(), decayed_copy());
-    gives(&rt, rt.alloc(), b"4a656665", first_alone, all(0), 7, whole)?;
-    gives(&rt, rt.alloc(), b"4a656665", second_alone, all(0), 7, whole)
+    repairs(&rt, rt.alloc(), first_decayed())?;
+    repairs(&rt, rt.alloc(), second_decayed())?;
+    repairs(&rt, rt.alloc(), first_alone())?;
+    repairs(&rt, rt.alloc(), second_alone())
 }
 
 // Where no copy passes the defaults are loaded, and nothing is written.
+fn passes_nothing(rt: &impl Abort, alloc: Global, hex: &[u8]) -> Result<(), Fail> {
+    gives(rt, alloc, hex, whole(), Loaded::NoCopy, 3, whole())
+}
+
 #[test]
 fn a_record_under_another_key_passes_nothing(rt: HostRuntime) -> Result<(), Fail> {
-    let whole = strides(good_copy(), good_copy(), good_copy());
-    gives(
-        &rt,
-        rt.alloc(),
-        b"4a656666",
-        whole,
-        Loaded::NoCopy,
-        3,
-        whole,
-    )?;
-    gives(&rt, rt.alloc(), b"00", whole, Loaded::NoCopy, 3, whole)
+    passes_nothing(&rt, rt.alloc(), b"4a656666")?;
+    passes_nothing(&rt, rt.alloc(), b"00")
+}
+
+fn save_without_key(rt: &impl Abort, alloc: Global, board: &mut MemBoard) -> Result<(), Fail>
+    requires geometry { board.old.geometry ≡ record { page = 1; block = 0; size = 192 } }
+    requires whole { IsDevice (device_of board.old) }
+    ensures geometry { board.new.geometry ≡ board.old.geometry }
+    ensures whole { IsDevice (device_of board.new) }
+{
+    let layout = plain(alloc)?;
+    first_save(rt, alloc, layout, None, board)
 }
 
 #[test]
 fn a_record_without_a_key_passes_nothing_under_one(rt: HostRuntime) -> Result<(), Fail> {
-    let mut board = board(rt.alloc(), IN_PLACE, &[0xff; 192])?;
-    let layout = plain(rt.alloc())?;
-    let mut state = loaded_state(&rt, rt.alloc(), layout, None, &mut board, Loaded::NoCopy)?;
-    save(&rt, &mut state, &mut board, b"7");
-    let key = key(b"4a656665")?;
-    let layout = under_key(rt.alloc())?;
-    let state = loaded_state(&rt, rt.alloc(), layout, key, &mut board, Loaded::NoCopy)?;
-    assert_eq!(rt; state.table.bytes(), b"\x03".as_slice());
+    let mut board = blank(rt.alloc())?;
+    save_without_key(&rt, rt.alloc(), &mut board)?;
+    let found = loaded_value(&rt, rt.alloc(), b"4a656665", &mut board, Loaded::NoCopy)?;
+    assert_eq!(rt; found, Some(3));
     Ok(())
 }

@@ -1,38 +1,67 @@
+ghost use Rattle.std.specs.Prelude.{◌≡◌, length};
+
 use super::rig::{IN_PLACE, layout_in, plain};
-use bb_base::Bytes;
+use bb_base::{Bytes, NoMemory};
+use bb_layout::Layout;
 use bb_state::{
     StateError, add_dump, add_shell_dump, add_value_line, check_value, get_value, set_value,
 };
 use bb_vars::{Table, ValueError};
+use std::alloc::Global;
+use std::process::Abort;
 use std::test::Fail;
+
+fn lines(alloc: Global) -> Result<Bytes, Fail> {
+    let layout = plain(alloc)?;
+    let mut out = Bytes::none(alloc);
+    add_lines(alloc, &layout, &mut out)?;
+    Ok(out)
+}
+
+fn add_lines(alloc: Global, layout: &Layout, out: &mut Bytes) -> Result<(), NoMemory>
+    requires { layout.now.area_len ≡ 1 }
+{
+    let area = [7u8; 1];
+    add_shell_dump(alloc, layout, &area, out)?;
+    add_value_line(layout, &area, "a.n", out)?;
+    add_dump(layout, &area, out)
+}
 
 #[test]
 fn lines_have_values(rt: HostRuntime) -> Result<(), Fail> {
-    let layout = plain(rt.alloc())?;
-    let area = [7u8; 1];
-    let mut out = Bytes::none(rt.alloc());
-    add_shell_dump(rt.alloc(), &layout, &area, &mut out)?;
-    add_value_line(&layout, &area, "a.n", &mut out)?;
-    add_dump(&layout, &area, &mut out)?;
-    let lines = b"state_a_n=\"7\"\n7\na.n=7\n".as_slice();
-    assert_eq!(rt; out.as_slice(), lines);
+    let out = lines(rt.alloc())?;
+    assert_eq!(rt; out.as_slice(), b"state_a_n=\"7\"\n7\na.n=7\n".as_slice());
     Ok(())
+}
+
+// Values that are refused, then the largest, which is taken.
+fn values_are_set(rt: &impl Abort, layout: &Layout, table: &mut Table)
+    requires { length table.old ≡ layout.now.area_len }
+    ensures { length table.new ≡ layout.now.area_len }
+{
+    let past = set_value(layout, table, "a.n", b"256");
+    assert_eq!(rt; past, Err(StateError::Value(ValueError::TooLarge)));
+    let unknown = set_value(layout, table, "a", b"1");
+    assert_eq!(rt; unknown, Err(StateError::NoSuchVariable));
+    assert_eq!(rt; check_value(layout, "a.n", b"255"), Ok(()));
+    let last = set_value(layout, table, "a.n", b"255");
+    assert_eq!(rt; last, Ok(()));
+}
+
+fn value_is_got(rt: &impl Abort, layout: &Layout, table: &Table, out: &mut Bytes)
+    requires { length table.now ≡ layout.now.area_len }
+{
+    let got = get_value(layout, table.bytes(), "a.n", out);
+    assert_eq!(rt; got, Ok(()));
 }
 
 #[test]
 fn a_variable_is_set_and_got(rt: HostRuntime) -> Result<(), Fail> {
     let layout = plain(rt.alloc())?;
     let mut table = Table::of(rt.alloc(), b"\x03")?;
-    let past = set_value(&layout, &mut table, "a.n", b"256");
-    assert_eq!(rt; past, Err(StateError::Value(ValueError::TooLarge)));
-    let unknown = set_value(&layout, &mut table, "a", b"1");
-    assert_eq!(rt; unknown, Err(StateError::NoSuchVariable));
-    assert_eq!(rt; check_value(&layout, "a.n", b"255"), Ok(()));
+    values_are_set(&rt, &layout, &mut table);
     let mut out = Bytes::none(rt.alloc());
-    let last = set_value(&layout, &mut table, "a.n", b"255");
-    assert_eq!(rt; last, Ok(()));
-    let got = get_value(&layout, table.bytes(), "a.n", &mut out);
-    assert_eq!(rt; got, Ok(()));
+    value_is_got(&rt, &layout, &table, &mut out);
     assert_eq!(rt; out.as_slice(), b"255".as_slice());
     Ok(())
 }
@@ -52,15 +81,27 @@ fn marks() -> &'static [u8] {
 "
 }
 
-#[test]
-fn a_shell_reads_its_line(rt: HostRuntime) -> Result<(), Fail> {
-    let layout = layout_in(rt.alloc(), marks(), IN_PLACE)?;
+fn shell_line(alloc: Global) -> Result<Bytes, Fail> {
+    let layout = layout_in(alloc, marks(), IN_PLACE)?;
+    let mut out = Bytes::none(alloc);
+    add_marks(alloc, &layout, &mut out)?;
+    Ok(out)
+}
+
+fn add_marks(alloc: Global, layout: &Layout, out: &mut Bytes) -> Result<(), Fail> {
     if layout.area_len != 9 {
         return Err(Fail::from("another area"));
     }
-    let mut out = Bytes::none(rt.alloc());
-    add_shell_dump(rt.alloc(), &layout, b"a\\b\"c$d`e", &mut out)?;
-    let line = b"boot_state_a_b_n=\"a\\\\b\\\"c\\$d\\`e\"\n".as_slice();
-    assert_eq!(rt; out.as_slice(), line);
+    Ok(add_shell_dump(alloc, layout, b"a\\b\"c$d`e", out)?)
+}
+
+fn quoted() -> &'static [u8] {
+    b"boot_state_a_b_n=\"a\\\\b\\\"c\\$d\\`e\"\n"
+}
+
+#[test]
+fn a_shell_reads_its_line(rt: HostRuntime) -> Result<(), Fail> {
+    let out = shell_line(rt.alloc())?;
+    assert_eq!(rt; out.as_slice(), quoted());
     Ok(())
 }

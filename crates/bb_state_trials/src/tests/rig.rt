@@ -106,6 +106,15 @@ pub fn board(alloc: Global, geometry: Geometry, bytes: &[u8]) -> Result<MemBoard
     MemBoard::of(alloc, geometry, bytes, 999, 9999)
 }
 
+/// A board for three strides, which are blank.
+pub fn blank(alloc: Global) -> Result<MemBoard, NoMemory>
+    ensures geometry { IfOk result (λ board.
+        board.geometry ≡ record { page = 1; block = 0; size = 192 }) }
+    ensures whole { IfOk result (λ board. IsDevice (device_of board)) }
+{
+    board(alloc, IN_PLACE, &[0xff; 192])
+}
+
 /// The state of a layout, under a key where its records are kept under one.
 pub fn mount(alloc: Global, layout: Layout, key: Option<Key>) -> Result<State, Fail>
     ensures geometry { IfOk result (λ state. (laid_of state).geometry ≡ layout.geometry) }
@@ -140,9 +149,42 @@ pub fn loaded_state(
     ensures on { IfOk result (λ state. IsOn state (device_of board.new)) }
 {
     let mut state = mount(alloc, layout, key)?;
+    load(rt, &mut state, board, answer);
+    Ok(state)
+}
+
+/// Loads, with this answer.
+fn load(rt: &impl Abort, state: &mut State, board: &mut MemBoard, answer: Loaded)
+    requires sized { IsSized state.old }
+    requires fits { FitsForm state.old }
+    requires on { IsOn state.old (device_of board.old) }
+    ensures geometry { board.new.geometry ≡ board.old.geometry }
+    ensures area_len { (laid_of state.new).area_len ≡ (laid_of state.old).area_len }
+    ensures sized { IsSized state.new }
+    ensures fits { FitsForm state.new }
+    ensures on { IsOn state.new (device_of board.new) }
+{
     let loaded = state.load(board);
     assert_eq!(rt; loaded, Ok(answer));
-    Ok(state)
+}
+
+/// Loads from a board where no copy passes, and saves the value 7.
+pub fn first_save(
+    rt: &impl Abort,
+    alloc: Global,
+    layout: Layout,
+    key: Option<Key>,
+    board: &mut MemBoard,
+) -> Result<(), Fail>
+    requires geometry { board.old.geometry ≡ layout.geometry }
+    requires whole { IsDevice (device_of board.old) }
+    requires area_len { layout.area_len ≡ 1 }
+    ensures geometry { board.new.geometry ≡ board.old.geometry }
+    ensures whole { IsDevice (device_of board.new) }
+{
+    let mut state = loaded_state(rt, alloc, layout, key, board, Loaded::NoCopy)?;
+    save(rt, &mut state, board, b"7");
+    Ok(())
 }
 
 /// Gives the variable a value, and saves.
@@ -155,8 +197,38 @@ pub fn save(rt: &impl Abort, state: &mut State, board: &mut MemBoard, value: &[u
     ensures fits { FitsForm state.new }
     ensures on { IsOn state.new (device_of board.new) }
 {
+    set(rt, state, value);
+    store(rt, state, board);
+}
+
+/// Gives the variable a value.
+pub fn set(rt: &impl Abort, state: &mut State, value: &[u8])
+    requires { IsSized state.old }
+    ensures backing { state.new ≡ record state.old { table = state.new.table } }
+    ensures sized { IsSized state.new }
+    ensures fits { FitsForm state.old → FitsForm state.new }
+{
     let set = state.set("a.n", value);
     assert_eq!(rt; set, Ok(()));
+}
+
+fn store(rt: &impl Abort, state: &mut State, board: &mut MemBoard)
+    requires sized { IsSized state.old }
+    requires fits { FitsForm state.old }
+    requires on { IsOn state.old (device_of board.old) }
+    ensures geometry { board.new.geometry ≡ board.old.geometry }
+    ensures sized { IsSized state.new }
+    ensures fits { FitsForm state.new }
+    ensures on { IsOn state.new (device_of board.new) }
+{
     let saved = state.save(board);
     assert_eq!(rt; saved, Ok(()));
+}
+
+/// The value of the variable.
+pub fn value(state: &State) -> Option<u8> {
+    match state.table.bytes() {
+        [value] => Some(*value),
+        _ => None,
+    }
 }

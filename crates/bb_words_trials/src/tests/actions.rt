@@ -17,20 +17,12 @@ fn one_byte(alloc: Global) -> Result<Layout, NoMemory>
     ensures area_len { IfOk result (λ layout. layout.area_len ≡ 1) }
     ensures format { IfOk result (λ layout. takes_key layout.format ≡ false) }
 {
-    let mut default = Bytes::none(alloc);
-    default.add(b"\x03")?;
-    let mut vars = VarList::none(alloc);
-    vars.push(Var {
-        name: Text::of(alloc, "a.n")?,
-        path: TextList::none(alloc),
-        at: 0,
-        size: 1,
-        kind: Kind::Uint8,
-        default,
-    })?;
+    let vars = one_var(alloc)?;
+    let name = Text::of(alloc, "state")?;
+    let node = Text::of(alloc, "state")?;
     Ok(Layout {
-        name: Text::of(alloc, "state")?,
-        node: Text::of(alloc, "state")?,
+        name,
+        node,
         magic: 1,
         format: FormatKind::Raw,
         storage: Storage::Stride(64),
@@ -46,39 +38,97 @@ fn one_byte(alloc: Global) -> Result<Layout, NoMemory>
     })
 }
 
-fn set(alloc: Global, name: &str, value: &str) -> Result<Action, NoMemory> {
-    Ok(Action::Set {
-        name: Text::of(alloc, name)?,
-        value: Text::of(alloc, value)?,
+fn one_var(alloc: Global) -> Result<VarList, NoMemory> {
+    let mut vars = VarList::none(alloc);
+    vars.push(var(alloc)?)?;
+    Ok(vars)
+}
+
+fn var(alloc: Global) -> Result<Var, NoMemory> {
+    let name = Text::of(alloc, "a.n")?;
+    let mut default = Bytes::none(alloc);
+    default.add(b"\x03")?;
+    Ok(Var {
+        name,
+        path: TextList::none(alloc),
+        at: 0,
+        size: 1,
+        kind: Kind::Uint8,
+        default,
     })
+}
+
+fn set(alloc: Global, name: &str, value: &str) -> Result<Action, NoMemory> {
+    let name = Text::of(alloc, name)?;
+    let value = Text::of(alloc, value)?;
+    Ok(Action::Set { name, value })
+}
+
+fn get(alloc: Global, name: &str) -> Result<Action, NoMemory> {
+    Ok(Action::Get(Text::of(alloc, name)?))
+}
+
+fn add(actions: &mut ActionList, action: Result<Action, NoMemory>) -> Result<(), NoMemory> {
+    actions.push(action?)
+}
+
+fn misfit<'a>(layout: &Layout, actions: &'a ActionList) -> Option<(&'a Text, StateError)> {
+    first_misfit(layout, actions)
+}
+
+// What a state of this layout says after the sets of these actions.
+fn text_of(alloc: Global, layout: Layout, actions: &ActionList) -> Result<Bytes, NoMemory>
+    requires { takes_key layout.format ≡ false }
+{
+    let mut state = State::mount(alloc, layout, None)?;
+    make_sets(&mut state, actions);
+    actions_text(alloc, state.layout(), state.table.bytes(), actions)
+}
+
+fn five_actions(alloc: Global) -> Result<ActionList, NoMemory> {
+    let mut actions = ActionList::none(alloc);
+    add_five(alloc, &mut actions)?;
+    Ok(actions)
+}
+
+fn add_five(alloc: Global, actions: &mut ActionList) -> Result<(), NoMemory> {
+    add(actions, Ok(Action::DumpShell))?;
+    add(actions, set(alloc, "a.n", "7"))?;
+    add(actions, get(alloc, "a.n"))?;
+    add(actions, set(alloc, "a.n", "8"))?;
+    add(actions, Ok(Action::Dump))
 }
 
 #[test]
 fn actions_come_in_their_order(rt: HostRuntime) -> Result<(), Fail> {
     let layout = one_byte(rt.alloc())?;
-    let mut actions = ActionList::none(rt.alloc());
-    actions.push(Action::DumpShell)?;
-    actions.push(set(rt.alloc(), "a.n", "7")?)?;
-    actions.push(Action::Get(Text::of(rt.alloc(), "a.n")?))?;
-    actions.push(set(rt.alloc(), "a.n", "8")?)?;
-    actions.push(Action::Dump)?;
-    assert!(rt; first_misfit(&layout, &actions).is_none());
-    let mut state = State::mount(rt.alloc(), layout, None)?;
-    make_sets(&mut state, &actions);
-    let text = actions_text(rt.alloc(), state.layout(), state.table.bytes(), &actions)?;
+    let actions = five_actions(rt.alloc())?;
+    assert!(rt; misfit(&layout, &actions).is_none());
+    let text = text_of(rt.alloc(), layout, &actions)?;
     let lines = b"state_a_n=\"8\"\n8\na.n=8\n".as_slice();
     assert_eq!(rt; text.as_slice(), lines);
     Ok(())
 }
 
+fn three_actions(alloc: Global) -> Result<ActionList, NoMemory> {
+    let mut actions = ActionList::none(alloc);
+    add_three(alloc, &mut actions)?;
+    Ok(actions)
+}
+
+fn add_three(alloc: Global, actions: &mut ActionList) -> Result<(), NoMemory> {
+    add(actions, get(alloc, "a.n"))?;
+    add(actions, set(alloc, "a.n", "256"))?;
+    add(actions, get(alloc, "a"))
+}
+
 #[test]
 fn the_first_misfit_is_found(rt: HostRuntime) -> Result<(), Fail> {
     let layout = one_byte(rt.alloc())?;
-    let mut actions = ActionList::none(rt.alloc());
-    actions.push(Action::Get(Text::of(rt.alloc(), "a.n")?))?;
-    actions.push(set(rt.alloc(), "a.n", "256")?)?;
-    actions.push(Action::Get(Text::of(rt.alloc(), "a")?))?;
-    let (name, cause) = first_misfit(&layout, &actions).ok_or("no misfit")?;
+    let actions = three_actions(rt.alloc())?;
+    let Some((name, cause)) = misfit(&layout, &actions) else {
+        return Err(Fail::from("no misfit"));
+    };
     assert_eq!(rt; name.as_str(), "a.n");
     assert_eq!(rt; cause, StateError::Value(ValueError::TooLarge));
     Ok(())

@@ -14,15 +14,20 @@ fn cause_in(alloc: Global, line: &str) -> Result<Option<CauseWord>, NoMemory> {
     }
 }
 
+fn causes() -> [(&'static str, CauseWord); 4] {
+    [
+        ("boot -i a -c b", CauseWord::Other),
+        ("boot -i a -c b --cause power-on", CauseWord::PowerOn),
+        ("boot -i a -c b --cause reset", CauseWord::Reset),
+        ("boot -i a -c b --cause other", CauseWord::Other),
+    ]
+}
+
 #[test]
 fn each_cause_has_its_word(rt: HostRuntime) -> Result<(), Fail> {
-    let none = cause_in(rt.alloc(), "boot -i a -c b")?;
-    assert_eq!(rt; none, Some(CauseWord::Other));
-    let power_on = cause_in(rt.alloc(), "boot -i a -c b --cause power-on")?;
-    assert_eq!(rt; power_on, Some(CauseWord::PowerOn));
-    let reset = cause_in(rt.alloc(), "boot -i a -c b --cause reset")?;
-    assert_eq!(rt; reset, Some(CauseWord::Reset));
-    let other = cause_in(rt.alloc(), "boot -i a -c b --cause other")?;
-    assert_eq!(rt; other, Some(CauseWord::Other));
+    for (line, cause) in causes() {
+        let said = cause_in(rt.alloc(), line)?;
+        assert_eq!(rt; said, Some(cause), "at {line}");
+    }
     Ok(())
 }

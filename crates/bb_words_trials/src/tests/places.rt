@@ -3,6 +3,7 @@ use super::lists::words_in;
 use bb_base::NoMemory;
 use bb_words::{WordsError, read_words};
 use std::alloc::Global;
+use std::process::Abort;
 use std::test::Fail;
 
 // The place of the first bad word of a line, `None` where its words are a command.
@@ -14,46 +15,60 @@ fn bad_place(alloc: Global, line: &str) -> Result<Option<usize>, NoMemory> {
     }
 }
 
+// The words of each line have this place of the first bad one.
+fn are_bad(rt: &impl Abort, alloc: Global, lines: &[(&str, usize)]) -> Result<(), Fail> {
+    for row in lines {
+        let (line, place) = *row;
+        let found = bad_place(alloc, line)?;
+        assert_eq!(rt; found, Some(place), "at {line}");
+    }
+    Ok(())
+}
+
+fn boots() -> [(&'static str, usize); 7] {
+    [
+        ("boot -i a", 3),
+        ("boot -i a -c b --cause", 6),
+        ("boot -i a -c b --cause=reset", 5),
+        ("boot -i a -c b --cause warm", 6),
+        ("boot --cause reset --cause reset", 3),
+        ("boot -i a -c b -d", 5),
+        ("state -i a --cause reset", 3),
+    ]
+}
+
 #[test]
 fn a_boot_has_its_bad_words(rt: HostRuntime) -> Result<(), Fail> {
-    assert_eq!(rt; bad_place(rt.alloc(), "boot -i a")?, Some(3));
-    assert_eq!(rt; bad_place(rt.alloc(), "boot -i a -c b --cause")?, Some(6));
-    assert_eq!(rt;
-        bad_place(rt.alloc(), "boot -i a -c b --cause=reset")?,
-        Some(5)
-    );
-    assert_eq!(rt;
-        bad_place(rt.alloc(), "boot -i a -c b --cause warm")?,
-        Some(6)
-    );
-    assert_eq!(rt;
-        bad_place(rt.alloc(), "boot --cause reset --cause reset")?,
-        Some(3)
-    );
-    assert_eq!(rt; bad_place(rt.alloc(), "boot -i a -c b -d")?, Some(5));
-    assert_eq!(rt; bad_place(rt.alloc(), "state -i a --cause reset")?, Some(3));
-    Ok(())
+    are_bad(&rt, rt.alloc(), &boots())
+}
+
+fn raws() -> [(&'static str, usize); 6] {
+    [
+        ("raw 1", 2),
+        ("raw 0x1 9 -g x", 4),
+        ("raw 1 9 -s 31323334353637383", 4),
+        ("raw 1 1 -s 31 x", 5),
+        ("raw 4294967296 9 -g", 1),
+        ("raw 1 65536 -g", 2),
+    ]
+}
+
+fn states() -> [(&'static str, usize); 9] {
+    [
+        ("", 0),
+        ("state -d", 2),
+        ("state -i a --input a", 3),
+        ("state -i a -s abc", 4),
+        ("state -i a -k", 4),
+        ("state -k=a", 1),
+        ("mark-good -k a -k a", 3),
+        ("mark-good -i a", 3),
+        ("mark-good -i a -c b -d", 5),
+    ]
 }
 
 #[test]
 fn a_bad_word_has_its_place(rt: HostRuntime) -> Result<(), Fail> {
-    assert_eq!(rt; bad_place(rt.alloc(), "")?, Some(0));
-    assert_eq!(rt; bad_place(rt.alloc(), "state -d")?, Some(2));
-    assert_eq!(rt; bad_place(rt.alloc(), "raw 1")?, Some(2));
-    assert_eq!(rt; bad_place(rt.alloc(), "raw 0x1 9 -g x")?, Some(4));
-    assert_eq!(rt;
-        bad_place(rt.alloc(), "raw 1 9 -s 31323334353637383")?,
-        Some(4)
-    );
-    assert_eq!(rt; bad_place(rt.alloc(), "raw 1 1 -s 31 x")?, Some(5));
-    assert_eq!(rt; bad_place(rt.alloc(), "raw 4294967296 9 -g")?, Some(1));
-    assert_eq!(rt; bad_place(rt.alloc(), "raw 1 65536 -g")?, Some(2));
-    assert_eq!(rt; bad_place(rt.alloc(), "state -i a --input a")?, Some(3));
-    assert_eq!(rt; bad_place(rt.alloc(), "state -i a -s abc")?, Some(4));
-    assert_eq!(rt; bad_place(rt.alloc(), "state -i a -k")?, Some(4));
-    assert_eq!(rt; bad_place(rt.alloc(), "state -k=a")?, Some(1));
-    assert_eq!(rt; bad_place(rt.alloc(), "mark-good -k a -k a")?, Some(3));
-    assert_eq!(rt; bad_place(rt.alloc(), "mark-good -i a")?, Some(3));
-    assert_eq!(rt; bad_place(rt.alloc(), "mark-good -i a -c b -d")?, Some(5));
-    Ok(())
+    are_bad(&rt, rt.alloc(), &raws())?;
+    are_bad(&rt, rt.alloc(), &states())
 }

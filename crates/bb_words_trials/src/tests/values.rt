@@ -1,15 +1,34 @@
 // Values as text and as bytes.
-use bb_base::{Bytes, Text, TextList};
+ghost use Rattle.std.specs.Prelude.{◌≡◌, ◌+◌, ◌≤◌, IfOk, length};
+ghost use Rattle.bb_vars.specs.Kind.{HasFewNames, size_of};
+
+use bb_base::{Bytes, NoMemory, Text, TextList};
 use bb_vars::{Kind, Table, ValueError, check_value, print_value, read_value};
+use std::alloc::Global;
 use std::test::Fail;
+
+fn read(kind: &Kind, text: &[u8], out: &mut [u8]) -> Result<(), ValueError>
+    requires sized { length out.old ≡ size_of kind.now }
+    requires few_names { HasFewNames kind.now }
+{
+    read_value(kind, text, out)
+}
+
+fn printed(alloc: Global, kind: &Kind, bytes: &[u8]) -> Result<Bytes, NoMemory>
+    requires { length bytes.now ≡ size_of kind.now }
+{
+    let mut text = Bytes::none(alloc);
+    print_value(kind, bytes, &mut text)?;
+    Ok(text)
+}
 
 #[test]
 fn a_uint8_ends_at_255(rt: HostRuntime) {
     let mut out = [7u8; 1];
-    let past = read_value(&Kind::Uint8, b"256", &mut out);
+    let past = read(&Kind::Uint8, b"256", &mut out);
     assert_eq!(rt; past, Err(ValueError::TooLarge));
     assert_eq!(rt; out[0], 7);
-    let last = read_value(&Kind::Uint8, b"255", &mut out);
+    let last = read(&Kind::Uint8, b"255", &mut out);
     assert_eq!(rt; last, Ok(()));
     assert_eq!(rt; out[0], 255);
 }
@@ -17,29 +36,36 @@ fn a_uint8_ends_at_255(rt: HostRuntime) {
 #[test]
 fn a_string_is_filled_up(rt: HostRuntime) {
     let mut out = [7u8; 4];
-    let long = read_value(&Kind::Chars(4), b"abcde", &mut out);
+    let long = read(&Kind::Chars(4), b"abcde", &mut out);
     assert_eq!(rt; long, Err(ValueError::TooLong));
-    let zero = read_value(&Kind::Chars(4), b"a\0c", &mut out);
+    let zero = read(&Kind::Chars(4), b"a\0c", &mut out);
     assert_eq!(rt; zero, Err(ValueError::HasZeroByte));
-    let short = read_value(&Kind::Chars(4), b"ab", &mut out);
+    let short = read(&Kind::Chars(4), b"ab", &mut out);
     assert_eq!(rt; short, Ok(()));
     assert_eq!(rt; out.as_slice(), b"ab\0\0".as_slice());
 }
 
+// The kind of two names.
+fn mode(alloc: Global) -> Result<Kind, NoMemory>
+    ensures few_names { IfOk result HasFewNames }
+    ensures sized { IfOk result (λ kind. size_of kind ≡ 4) }
+{
+    let mut names = TextList::none(alloc);
+    names.push(Text::of(alloc, "primary")?)?;
+    names.push(Text::of(alloc, "backup")?)?;
+    Ok(Kind::Enum32(names))
+}
+
 #[test]
 fn an_enum_has_its_names(rt: HostRuntime) -> Result<(), Fail> {
-    let mut names = TextList::none(rt.alloc());
-    names.push(Text::of(rt.alloc(), "primary")?)?;
-    names.push(Text::of(rt.alloc(), "backup")?)?;
-    let mode = Kind::Enum32(names);
+    let mode = mode(rt.alloc())?;
     let mut out = [7u8; 4];
-    let spare = read_value(&mode, b"spare", &mut out);
+    let spare = read(&mode, b"spare", &mut out);
     assert_eq!(rt; spare, Err(ValueError::NoSuchName));
-    let backup = read_value(&mode, b"backup", &mut out);
+    let backup = read(&mode, b"backup", &mut out);
     assert_eq!(rt; backup, Ok(()));
     assert_eq!(rt; out.as_slice(), b"\x01\0\0\0".as_slice());
-    let mut text = Bytes::none(rt.alloc());
-    print_value(&mode, b"\x02\0\0\0", &mut text)?;
+    let text = printed(rt.alloc(), &mode, b"\x02\0\0\0")?;
     assert_eq!(rt; text.as_slice(), b"2".as_slice());
     Ok(())
 }
@@ -47,25 +73,46 @@ fn an_enum_has_its_names(rt: HostRuntime) -> Result<(), Fail> {
 #[test]
 fn a_mac_has_six_pairs(rt: HostRuntime) -> Result<(), Fail> {
     let mut out = [7u8; 6];
-    let five = read_value(&Kind::Mac, b"00:11:22:33:44", &mut out);
+    let five = read(&Kind::Mac, b"00:11:22:33:44", &mut out);
     assert_eq!(rt; five, Err(ValueError::NotMac));
-    let six = read_value(&Kind::Mac, b"00:11:22:33:44:55", &mut out);
+    let six = read(&Kind::Mac, b"00:11:22:33:44:55", &mut out);
     assert_eq!(rt; six, Ok(()));
-    let mut text = Bytes::none(rt.alloc());
-    print_value(&Kind::Mac, &out, &mut text)?;
+    let text = printed(rt.alloc(), &Kind::Mac, &out)?;
     assert_eq!(rt; text.as_slice(), b"00:11:22:33:44:55".as_slice());
     Ok(())
 }
 
+// Six bytes, two of which are put in.
+fn table(alloc: Global) -> Result<Table, NoMemory>
+    ensures { IfOk result (λ table. length table ≡ 6) }
+{
+    let mut table = Table::of(alloc, b"abcdef")?;
+    table.put(2, b"XY");
+    Ok(table)
+}
+
+fn put(table: &mut Table, kind: &Kind, at: u32, text: &[u8]) -> Result<(), ValueError>
+    requires inside { at + size_of kind.now ≤ length table.old }
+    requires few_names { HasFewNames kind.now }
+{
+    table.put_value(kind, at, text)
+}
+
+fn check(kind: &Kind, text: &[u8]) -> Result<(), ValueError>
+    requires { HasFewNames kind.now }
+{
+    check_value(kind, text)
+}
+
 #[test]
 fn a_table_takes_bytes_at_a_place(rt: HostRuntime) -> Result<(), Fail> {
-    let mut table = Table::of(rt.alloc(), b"abcdef")?;
-    table.put(2, b"XY");
+    let mut table = table(rt.alloc())?;
     assert_eq!(rt; table.bytes(), b"abXYef".as_slice());
-    let put = table.put_value(&Kind::Uint8, 3, b"0x7a");
-    assert_eq!(rt; put, Ok(()));
+    let was_put = put(&mut table, &Kind::Uint8, 3, b"0x7a");
+    assert_eq!(rt; was_put, Ok(()));
     assert_eq!(rt; table.bytes(), b"abXzef".as_slice());
-    assert_eq!(rt; check_value(&Kind::Chars(4), b"abcd"), Ok(()));
+    let fits = check(&Kind::Chars(4), b"abcd");
+    assert_eq!(rt; fits, Ok(()));
     assert_eq!(rt; Kind::Chars(9).size(), 9);
     Ok(())
 }

@@ -1,16 +1,71 @@
 // Words that are a command.
 use super::lists::words_in;
-use bb_base::NoMemory;
-use bb_words::{Action, CauseWord, Command, RawAction, read_words};
+use bb_base::Text;
+use bb_words::{
+    Action, BootCommand, CauseWord, Command, MarkGoodCommand, RawAction, RawCommand, StateCommand,
+    read_words,
+};
+use std::alloc::Global;
+use std::process::Abort;
 use std::test::Fail;
+
+// The command that the words of a line are.
+fn command(alloc: Global, line: &str) -> Result<Command, Fail> {
+    let words = words_in(alloc, line)?;
+    match read_words(alloc, &words) {
+        Ok(command) => Ok(command),
+        Err(_) => Err(Fail::from("no command")),
+    }
+}
+
+fn raw(alloc: Global, line: &str) -> Result<RawCommand, Fail> {
+    match command(alloc, line)? {
+        Command::Raw(raw) => Ok(raw),
+        _ => Err(Fail::from("another command")),
+    }
+}
+
+fn state(alloc: Global, line: &str) -> Result<StateCommand, Fail> {
+    match command(alloc, line)? {
+        Command::State(state) => Ok(state),
+        _ => Err(Fail::from("another command")),
+    }
+}
+
+fn mark_good(alloc: Global, line: &str) -> Result<MarkGoodCommand, Fail> {
+    match command(alloc, line)? {
+        Command::MarkGood(mark) => Ok(mark),
+        _ => Err(Fail::from("another command")),
+    }
+}
+
+fn boot(alloc: Global, line: &str) -> Result<BootCommand, Fail> {
+    match command(alloc, line)? {
+        Command::Boot(boot) => Ok(boot),
+        _ => Err(Fail::from("another command")),
+    }
+}
+
+fn has_text(rt: &impl Abort, text: &Text, wanted: &str) {
+    assert_eq!(rt; text.as_str(), wanted);
+}
+
+// A text is said, and it is this.
+fn says(rt: &impl Abort, text: &Option<Text>, wanted: &str) {
+    let said = text_in(text);
+    assert_eq!(rt; said, Some(wanted));
+}
+
+fn text_in(text: &Option<Text>) -> Option<&str> {
+    match text {
+        Some(text) => Some(text.as_str()),
+        None => None,
+    }
+}
 
 #[test]
 fn a_look_is_read(rt: HostRuntime) -> Result<(), Fail> {
-    let words = words_in(rt.alloc(), "raw 0x12345678 9 -g")?;
-    let command = read_words(rt.alloc(), &words).map_err(|_| NoMemory)?;
-    let Command::Raw(raw) = command else {
-        return Err(Fail::from(NoMemory));
-    };
+    let raw = raw(rt.alloc(), "raw 0x12345678 9 -g")?;
     assert_eq!(rt; raw.magic, 0x1234_5678);
     assert_eq!(rt; raw.area_len, 9);
     assert!(rt; matches!(raw.action, RawAction::Look));
@@ -19,13 +74,9 @@ fn a_look_is_read(rt: HostRuntime) -> Result<(), Fail> {
 
 #[test]
 fn an_area_is_read(rt: HostRuntime) -> Result<(), Fail> {
-    let words = words_in(rt.alloc(), "raw 1 3 -s 00aBfF")?;
-    let command = read_words(rt.alloc(), &words).map_err(|_| NoMemory)?;
-    let Command::Raw(raw) = command else {
-        return Err(Fail::from(NoMemory));
-    };
+    let raw = raw(rt.alloc(), "raw 1 3 -s 00aBfF")?;
     let RawAction::Write(area) = raw.action else {
-        return Err(Fail::from(NoMemory));
+        return Err(Fail::from("another action"));
     };
     assert_eq!(rt; area.as_slice(), b"\x00\xab\xff".as_slice());
     Ok(())
@@ -39,56 +90,63 @@ fn is_set(action: Option<&Action>, variable: &str, text: &str) -> bool {
     }
 }
 
+// Whether an action gets this variable.
+fn is_get(action: Option<&Action>, variable: &str) -> bool {
+    match action {
+        Some(Action::Get(name)) => name.as_str() == variable,
+        _ => false,
+    }
+}
+
+fn is_dump(action: Option<&Action>) -> bool {
+    matches!(action, Some(Action::Dump))
+}
+
+fn is_dump_shell(action: Option<&Action>) -> bool {
+    matches!(action, Some(Action::DumpShell))
+}
+
 #[test]
 fn options_come_in_any_order(rt: HostRuntime) -> Result<(), Fail> {
     let line = "state -d --get=a -i x.dts --set=a=b=1 --dump-shell -k key.hex -n -n";
-    let words = words_in(rt.alloc(), line)?;
-    let command = read_words(rt.alloc(), &words).map_err(|_| NoMemory)?;
-    let Command::State(state) = command else {
-        return Err(Fail::from(NoMemory));
-    };
-    assert_eq!(rt; state.file.as_str(), "x.dts");
-    assert_eq!(rt; state.name.as_ref().map(|name| name.as_str()), Some("-n"));
-    assert_eq!(rt; state.key.as_ref().map(|key| key.as_str()), Some("key.hex"));
-    assert_eq!(rt; state.actions.len(), 4);
-    assert!(rt; !state.actions.is_empty());
-    assert!(rt; matches!(state.actions.get(0), Some(Action::Dump)));
-    assert!(rt; matches!(state.actions.get(1), Some(Action::Get(name)) if name.as_str() == "a"));
-    assert!(rt; is_set(state.actions.get(2), "a", "b=1"));
-    assert!(rt; matches!(state.actions.get(3), Some(Action::DumpShell)));
-    assert!(rt; state.actions.get(4).is_none());
+    let state = state(rt.alloc(), line)?;
+    has_text(&rt, &state.file, "x.dts");
+    says(&rt, &state.name, "-n");
+    says(&rt, &state.key, "key.hex");
+    has_four_actions(&rt, &state);
     Ok(())
+}
+
+fn has_four_actions(rt: &impl Abort, state: &StateCommand) {
+    let actions = &state.actions;
+    assert_eq!(rt; actions.len(), 4);
+    assert!(rt; !actions.is_empty());
+    assert!(rt; is_dump(actions.get(0)));
+    assert!(rt; is_get(actions.get(1), "a"));
+    assert!(rt; is_set(actions.get(2), "a", "b=1"));
+    assert!(rt; is_dump_shell(actions.get(3)));
+    assert!(rt; actions.get(4).is_none());
 }
 
 #[test]
 fn settings_are_named(rt: HostRuntime) -> Result<(), Fail> {
-    let words = words_in(rt.alloc(), "mark-good -c set.txt --input=b.dts -n a -k -c")?;
-    let command = read_words(rt.alloc(), &words).map_err(|_| NoMemory)?;
-    let Command::MarkGood(mark) = command else {
-        return Err(Fail::from(NoMemory));
-    };
-    assert_eq!(rt; mark.file.as_str(), "b.dts");
-    assert_eq!(rt; mark.settings.as_str(), "set.txt");
-    assert_eq!(rt; mark.name.as_ref().map(|name| name.as_str()), Some("a"));
-    assert_eq!(rt; mark.key.as_ref().map(|key| key.as_str()), Some("-c"));
+    let line = "mark-good -c set.txt --input=b.dts -n a -k -c";
+    let mark = mark_good(rt.alloc(), line)?;
+    has_text(&rt, &mark.file, "b.dts");
+    has_text(&rt, &mark.settings, "set.txt");
+    says(&rt, &mark.name, "a");
+    says(&rt, &mark.key, "-c");
     Ok(())
 }
 
 #[test]
 fn a_cause_is_said(rt: HostRuntime) -> Result<(), Fail> {
     let line = "boot --cause power-on --name=--cause -k key.hex -c set.txt --input b.dts";
-    let words = words_in(rt.alloc(), line)?;
-    let command = read_words(rt.alloc(), &words).map_err(|_| NoMemory)?;
-    let Command::Boot(boot) = command else {
-        return Err(Fail::from(NoMemory));
-    };
-    assert_eq!(rt; boot.file.as_str(), "b.dts");
-    assert_eq!(rt; boot.settings.as_str(), "set.txt");
-    assert_eq!(rt;
-        boot.name.as_ref().map(|name| name.as_str()),
-        Some("--cause")
-    );
-    assert_eq!(rt; boot.key.as_ref().map(|key| key.as_str()), Some("key.hex"));
+    let boot = boot(rt.alloc(), line)?;
+    has_text(&rt, &boot.file, "b.dts");
+    has_text(&rt, &boot.settings, "set.txt");
+    says(&rt, &boot.name, "--cause");
+    says(&rt, &boot.key, "key.hex");
     assert_eq!(rt; boot.cause, CauseWord::PowerOn);
     Ok(())
 }

@@ -5,38 +5,15 @@ ghost use Rattle.bb_circular.specs.Circular.{circular_holding, circular_kind};
 ghost use Rattle.bb_circular.specs.Wear.{IsWritten};
 ghost use Rattle.bb_bucket_trials.specs.Trials.{tried_block, tried_device};
 
-use super::pages::{Page, Pages, found_in, image_of, record_in};
-use crate::tests::{board, set_health};
+use super::pages::{RECORD, found_in, is_record};
+use crate::tests::check;
+use crate::tests::pages::Pages;
 use bb_base::{Failed, NoMemory};
 use bb_bucket::{Bucket, Found};
 use bb_circular::Circular;
-use bb_flash::{Health, MemBoard, Region};
+use bb_flash::{MemBoard, Region};
 use std::alloc::Global;
 use std::process::Abort;
-use std::test::Fail;
-
-// A board that holds these pages.
-pub(super) fn board_with(alloc: Global, pages: Pages) -> Result<MemBoard, NoMemory>
-    ensures { IfOk result (λ board. board.geometry ≡ tried_device) }
-{
-    let mut board = board(alloc, &image_of(pages))?;
-    age(&mut board, 0, pages[0]);
-    age(&mut board, 1, pages[1]);
-    age(&mut board, 2, pages[2]);
-    age(&mut board, 3, pages[3]);
-    Ok(board)
-}
-
-fn age(board: &mut MemBoard, place: u32, page: Page)
-    requires held { board.old.geometry ≡ tried_device }
-    ensures held { board.new.geometry ≡ tried_device }
-{
-    match page {
-        Page::Lost => set_health(board, place, Health::Lost),
-        Page::Worn => set_health(board, place, Health::Worn),
-        _ => {}
-    }
-}
 
 pub(super) fn log(alloc: Global) -> Result<Circular, NoMemory>
     ensures { IfOk result (λ log. log ≡ record { block = tried_block; kept = None }) }
@@ -81,13 +58,21 @@ pub(super) fn void(log: &mut Circular, board: &mut MemBoard) -> Result<(), Faile
     log.void(board)
 }
 
+// A write of the record, which answers Ok.
+pub(super) fn must_write(rt: &impl Abort, log: &mut Circular, board: &mut MemBoard, pages: Pages)
+    requires here { (circular_holding log.old).kind ≡ circular_kind tried_block }
+    requires held { board.old.geometry ≡ tried_device }
+    requires agreed { Agrees (circular_holding log.old) (device_of board.old) }
+    ensures here { (circular_holding log.new).kind ≡ circular_kind tried_block }
+    ensures held { board.new.geometry ≡ tried_device }
+    ensures agreed { Agrees (circular_holding log.new) (device_of board.new) }
+{
+    let written = write(log, board, &RECORD).is_ok();
+    check(rt, written, pages);
+}
+
 // The bucket finds what stands in these pages.
-pub(super) fn finds(
-    rt: &impl Abort,
-    log: &mut Circular,
-    board: &mut MemBoard,
-    pages: Pages,
-) -> Result<(), Fail>
+pub(super) fn finds(rt: &impl Abort, log: &mut Circular, board: &mut MemBoard, pages: Pages)
     requires here { (circular_holding log.old).kind ≡ circular_kind tried_block }
     requires held { board.old.geometry ≡ tried_device }
     requires agreed { Agrees (circular_holding log.old) (device_of board.old) }
@@ -96,11 +81,11 @@ pub(super) fn finds(
     ensures agreed { Agrees (circular_holding log.new) (device_of board.new) }
 {
     let mut out = [0; 56];
-    let found = found_in(pages);
-    assert_eq!(rt; read(log, board, &mut out), Ok(found), "{pages:?}");
-    if let Some(len) = found.len {
-        let len = len as usize;
-        assert_eq!(rt; out[..len], record_in(pages)[..len], "{pages:?}");
-    }
-    Ok(())
+    let answer = read(log, board, &mut out);
+    check(rt, is_answer(answer, pages), pages);
+    check(rt, is_record(&out, pages), pages);
+}
+
+fn is_answer(answer: Result<Found, Failed>, pages: Pages) -> bool {
+    answer == Ok(found_in(pages))
 }

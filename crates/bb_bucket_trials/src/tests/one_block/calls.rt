@@ -4,37 +4,14 @@ ghost use Rattle.bb_bucket.specs.Calls.{Agrees};
 ghost use Rattle.bb_bucket.specs.OneBlock.{one_block_holding, one_block_kind};
 ghost use Rattle.bb_bucket_trials.specs.Trials.{tried_block, tried_device};
 
-use super::pages::{Page, Pages, RECORD, candidate, found_in, image_of};
-use crate::tests::{board, set_health};
+use super::pages::{RECORD, found_in, is_record};
+use crate::tests::check;
+use crate::tests::pages::Pages;
 use bb_base::{Failed, NoMemory};
 use bb_bucket::{Bucket, Found, OneBlock};
-use bb_flash::{Health, MemBoard, Region};
+use bb_flash::{MemBoard, Region};
 use std::alloc::Global;
 use std::process::Abort;
-use std::test::Fail;
-
-// A board that holds these pages.
-pub(super) fn board_with(alloc: Global, pages: Pages) -> Result<MemBoard, NoMemory>
-    ensures { IfOk result (λ board. board.geometry ≡ tried_device) }
-{
-    let mut board = board(alloc, &image_of(pages))?;
-    age(&mut board, 0, pages[0]);
-    age(&mut board, 1, pages[1]);
-    age(&mut board, 2, pages[2]);
-    age(&mut board, 3, pages[3]);
-    Ok(board)
-}
-
-fn age(board: &mut MemBoard, place: u32, page: Page)
-    requires held { board.old.geometry ≡ tried_device }
-    ensures held { board.new.geometry ≡ tried_device }
-{
-    match page {
-        Page::Lost => set_health(board, place, Health::Lost),
-        Page::Worn => set_health(board, place, Health::Worn),
-        _ => {}
-    }
-}
 
 pub(super) fn one_block(alloc: Global) -> Result<OneBlock, NoMemory>
     ensures { IfOk result (λ block. block ≡ tried_block) }
@@ -76,12 +53,7 @@ pub(super) fn void(block: &mut OneBlock, board: &mut MemBoard) -> Result<(), Fai
 }
 
 // The bucket finds what stands in these pages.
-pub(super) fn finds(
-    rt: &impl Abort,
-    block: &mut OneBlock,
-    board: &mut MemBoard,
-    pages: Pages,
-) -> Result<(), Fail>
+pub(super) fn finds(rt: &impl Abort, block: &mut OneBlock, board: &mut MemBoard, pages: Pages)
     requires here { (one_block_holding block.old).kind ≡ one_block_kind tried_block }
     requires held { board.old.geometry ≡ tried_device }
     requires agreed { Agrees (one_block_holding block.old) (device_of board.old) }
@@ -90,13 +62,11 @@ pub(super) fn finds(
     ensures agreed { Agrees (one_block_holding block.new) (device_of board.new) }
 {
     let mut out = [0; 56];
-    assert_eq!(rt;
-        read(block, board, &mut out),
-        Ok(found_in(pages)),
-        "{pages:?}"
-    );
-    if let Some(len) = candidate(pages) {
-        assert_eq!(rt; out[..len], image_of(pages)[72..72 + len], "{pages:?}");
-    }
-    Ok(())
+    let answer = read(block, board, &mut out);
+    check(rt, is_answer(answer, pages), pages);
+    check(rt, is_record(&out, pages), pages);
+}
+
+fn is_answer(answer: Result<Found, Failed>, pages: Pages) -> bool {
+    answer == Ok(found_in(pages))
 }

@@ -1,6 +1,8 @@
 use Rattle.std.proofs.Common.{rules, ◌≡◌, ◌+◌, Bool, true, false, ap, arith, length, not, refl, subst, sym, ◌∙◌}
+use Rattle.bb_chooser.specs.Binding.{IsBoundTo}
 use Rattle.bb_copies.specs.Loading.{KeepsOutside}
 use Rattle.bb_flash.proofs.Moments.{later_joined}
+use Rattle.bb_layout.specs.Kept.{IsLaid}
 use Rattle.bb_state.specs.Keyed.{Keyed}
 use Rattle.bb_state.specs.Kinds.{laid_kinds}
 use Rattle.bb_state.specs.State.{is_sure, kept_of, keyed_of, kinds_of, used_of}
@@ -105,11 +107,15 @@ loop-tries-preserved g c =
     let last = subst (λ l. StaysStored l (kept_of old) new.table mid to) invariant.same_keyed (done.stored saved) in
     record {
       ready = record {
+        facts = subst (λ (k : Keyed). IsLaid k.layout) (sym done.keyed) invariant.ready.facts;
         sized = done.sized;
         fits = done.fits;
         sure = sure;
         on = done.on;
-        bound = record { area_len = invariant.ready.bound.area_len ∙ ap (λ (k : Keyed). k.layout.area_len) (sym done.keyed) };
+        bound = record {
+          area_len = invariant.ready.bound.area_len ∙ ap (λ (k : Keyed). k.layout.area_len) (sym done.keyed);
+          vars = subst (λ (k : Keyed). IsBoundTo k.layout.vars b) (sym done.keyed) invariant.ready.bound.vars;
+        };
       };
       best = c.in-Some.ensures.best;
       spare = omega (arith, spare, less, spent);

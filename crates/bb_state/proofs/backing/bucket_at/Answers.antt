@@ -1,10 +1,20 @@
-use Rattle.std.proofs.Common.{◌≤◌, sym, ap, subst}
+use Rattle.std.proofs.Common.{◌≤◌, arith, sym, ap, subst}
 use Rattle.bb_flash.specs.declared.region.Region.{Region}
-use Rattle.bb_layout.specs.Copies.{spacing}
+use Rattle.bb_layout.specs.Copies.{room_for, spacing}
 use Rattle.bb_layout.specs.Facts.{is_stride}
 use Rattle.bb_layout.specs.Layout.{fields_of, laid_len}
-use Rattle.bb_state.proofs.Mounting.{block_at_copy}
+use Rattle.bb_layout.specs.declared.storage.Storage.{Storage}
+use Rattle.bb_state.proofs.Mounting.{block_at_copy, laid_some}
 use Rattle.bb_state.proofs.backing.bucket_at.Goals as goal
+
+pub of-requires : goal.of-requires
+of-requires c =
+    let layout = c.args.layout.now in
+    let some : 1 ≤ laid_len (fields_of layout) = laid_some (fields_of layout) layout.facts in
+    let room =
+    subst (λ (storage : Storage). room_for layout.geometry storage (laid_len (fields_of layout)) ≤ c.region-region.result.size)
+    c.in-Stride.is c.region-region.ensures.room in
+    omega (arith, some, room)
 
 pub of-requires-in-OneBlock-clause-some : goal.of-requires-in-OneBlock-clause-some
 of-requires-in-OneBlock-clause-some c =

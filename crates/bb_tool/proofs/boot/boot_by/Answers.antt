@@ -1,4 +1,5 @@
 use Rattle.std.proofs.Common.{◌≡◌, ◌∙◌, ◌≤◌, ap, sym, subst}
+use Rattle.bb_chooser.specs.Binding.{IsBoundTo}
 use Rattle.bb_state.specs.Keyed.{Keyed}
 use Rattle.bb_tool.specs.Plan.{Boot}
 use Rattle.bb_tool.specs.Work.{IsWorkedOut}
@@ -9,6 +10,11 @@ pub boot_on-requires-clause-sized : goal.boot_on-requires-clause-sized
 boot_on-requires-clause-sized g c =
     subst (λ (k : Keyed). c.args.chooser.now.area_len ≡ k.layout.area_len) (sym c.in_ok-state.ensures.keyed)
     c.requires.sized
+
+pub boot_on-requires-clause-bound : goal.boot_on-requires-clause-bound
+boot_on-requires-clause-bound g c =
+    subst (λ (k : Keyed). IsBoundTo k.layout.vars c.args.chooser.now) (sym c.in_ok-state.ensures.keyed)
+    c.requires.bound
 
 pub boot_on-requires-clause-on : goal.boot_on-requires-clause-on
 boot_on-requires-clause-on g c =

@@ -1,8 +1,8 @@
-use Rattle.std.proofs.Common.{◌∙◌, Err, ap, sym}
+use Rattle.std.proofs.Common.{◌∙◌, Err, ap, subst, sym}
 use Rattle.std.proofs.lemmas.Result.{err_from_is_err_and}
+use Rattle.bb_chooser.specs.Binding.{IsBoundTo}
 use Rattle.bb_flash.proofs.Moments.{later_joined}
 use Rattle.bb_state.specs.Keyed.{Keyed}
-use Rattle.bb_state.proofs.Mounting.{sized_fits}
 use Rattle.bb_state.specs.State.{keyed_of}
 use Rattle.bb_tool.proofs.Booted.{boot_out, boot_unloaded}
 use Rattle.bb_tool.proofs.boot.boot_on.Goals as goal
@@ -29,11 +29,15 @@ returns-in_err-load-clause-gives g c =
 
 pub boot_run-end-requires : goal.boot_run-end-requires
 boot_run-end-requires g c = record {
+  facts = c.in_ok-load.ensures.facts;
   sized = c.in_ok-load.ensures.sized;
-  fits = sized_fits c.load.new.self.backing.keyed c.load.new.self.table c.in_ok-load.ensures.sized;
+  fits = c.in_ok-load.ensures.loaded_fits;
   sure = c.in_ok-load.ensures.sure;
   on = c.in_ok-load.ensures.on;
-  bound = record { area_len = c.requires.sized ∙ ap (λ (l : Keyed). l.layout.area_len) (sym c.in_ok-load.ensures.keyed) };
+  bound = record {
+    area_len = c.requires.sized ∙ ap (λ (l : Keyed). l.layout.area_len) (sym c.in_ok-load.ensures.keyed);
+    vars = subst (λ (k : Keyed). IsBoundTo k.layout.vars c.args.chooser.now) (sym c.in_ok-load.ensures.keyed) c.requires.bound;
+  };
 }
 
 pub returns-clause-gives : goal.returns-clause-gives

@@ -1,11 +1,14 @@
-use Rattle.std.proofs.Common.{◌≡◌, ◌∙◌, ℕ, List, None, IsSome, Ok, Err, ap, sym, refl}
+use Rattle.std.proofs.Common.{◌≡◌, ◌∙◌, ℕ, List, None, IsSome, Ok, Err, ap, subst, sym, refl}
 use Rattle.std.proofs.lemmas.Result.{err_from_is_err_and}
+use Rattle.bb_chooser.proofs.Alone.{keeps_changes}
+use Rattle.bb_chooser.specs.Binding.{IsBoundTo}
 use Rattle.bb_chooser.specs.Choosing.{last_chosen_of}
 use Rattle.bb_chooser.specs.Counting.{chosen_target, mark_good_of}
 use Rattle.bb_copies.specs.Store.{used_after}
+use Rattle.bb_state.specs.Keyed.{Keyed}
 use Rattle.bb_state.specs.State.{keyed_of}
 use Rattle.bb_state.specs.declared.state.State.{State}
-use Rattle.bb_state.proofs.Mounting.{sized_fits}
+use Rattle.bb_state.proofs.Fitting.{changed_fits}
 use Rattle.bb_tool.specs.Marking.{good_text}
 use Rattle.bb_tool.specs.Plan.{Good}
 use Rattle.bb_tool.specs.Refusal.{copy_refusal}
@@ -63,8 +66,11 @@ returns-then-not-mark_good-clause-gives g c =
 
 pub save-requires-clause-fits : goal.save-requires-clause-fits
 save-requires-clause-fits g c =
-    sized_fits c.load.new.self.backing.keyed c.mark_good.new.table
-    (c.mark_good.ensures.others.same_length ∙ c.in_ok-load.ensures.sized)
+    let keyed = c.load.new.self.backing.keyed in
+    let table = c.load.new.self.table in
+    let bound = subst (λ (k : Keyed). IsBoundTo k.layout.vars c.args.chooser.now) (sym c.in_ok-load.ensures.keyed) c.requires.bound in
+    changed_fits keyed table c.mark_good.new.table c.in_ok-load.ensures.facts c.in_ok-load.ensures.loaded_fits
+    (keeps_changes keyed.layout.vars c.args.chooser.now table c.mark_good.new.table c.mark_good.ensures.others bound)
 
 pub returns-in_err-save-clause-gives : goal.returns-in_err-save-clause-gives
 returns-in_err-save-clause-gives g c =

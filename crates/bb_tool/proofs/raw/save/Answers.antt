@@ -10,6 +10,9 @@ save_on-requires-clause-sized g c =
     subst (λ (k : Keyed). length c.args.area.now ≡ k.layout.area_len) (sym c.in_ok-state.ensures.keyed)
     c.requires.sized
 
+pub save_on-requires-clause-unkeyed : goal.save_on-requires-clause-unkeyed
+save_on-requires-clause-unkeyed g c = ap (λ (k : Keyed). k.layout.format) c.in_ok-state.ensures.keyed ∙ c.requires.unkeyed
+
 pub save_on-requires-clause-on : goal.save_on-requires-clause-on
 save_on-requires-clause-on g c =
     c.in_ok-state.ensures.fresh (g.F.Flash.device c.args.flash.now)

@@ -4,7 +4,7 @@ use Rattle.bb_copies.specs.Store.{used_after}
 use Rattle.bb_flash.proofs.Moments.{later_joined}
 use Rattle.bb_state.specs.Keyed.{Keyed}
 use Rattle.bb_state.specs.State.{keyed_of}
-use Rattle.bb_state.proofs.Mounting.{sized_fits}
+use Rattle.bb_state.proofs.Fitting.{raw_fits}
 use Rattle.bb_tool.specs.Plan.{Write}
 use Rattle.bb_tool.specs.Refusal.{copy_refusal}
 use Rattle.bb_tool.specs.Work.{IsSaved}
@@ -34,7 +34,8 @@ returns-in_err-load-clause-gives g c =
 
 pub save_always-requires-clause-fits : goal.save_always-requires-clause-fits
 save_always-requires-clause-fits g c =
-    sized_fits c.load.new.self.backing.keyed c.put.new.self
+    raw_fits c.load.new.self.backing.keyed c.put.new.self
+    (ap (λ (k : Keyed). k.layout.format) c.in_ok-load.ensures.keyed ∙ c.requires.unkeyed)
     (c.put.ensures.same_length ∙ c.in_ok-load.ensures.sized)
 
 pub returns-in_err-save_always-clause-gives : goal.returns-in_err-save_always-clause-gives

@@ -1,12 +1,13 @@
-use Rattle.std.proofs.Common.{◌≡◌, ◌∙◌, ℕ, List, Ok, Err, ap, sym, subst, refl}
+use Rattle.std.proofs.Common.{◌≡◌, ◌∙◌, ℕ, List, Ok, Err, IsTrue, ap, sym, subst, refl}
 use Rattle.std.proofs.lemmas.Result.{err_from_is_err_and}
 use Rattle.bb_actions.specs.Actions.{actions_text, after_all}
 use Rattle.bb_copies.specs.Store.{used_after}
 use Rattle.bb_layout.specs.Layout.{Laid}
 use Rattle.bb_state.specs.Keyed.{Keyed}
+use Rattle.bb_state.specs.Kinds.{laid_form}
 use Rattle.bb_state.specs.State.{IsOn, is_sure, keyed_of}
 use Rattle.bb_state.specs.declared.state.State.{State}
-use Rattle.bb_state.proofs.Mounting.{sized_fits}
+use Rattle.bb_state.proofs.Fitting.{changed_fits}
 use Rattle.bb_tool.specs.Plan.{Act}
 use Rattle.bb_tool.specs.Refusal.{copy_refusal}
 use Rattle.bb_tool.specs.Session.{loaded_area}
@@ -38,7 +39,10 @@ returns-in_err-load-clause-gives g c =
 
 pub save-requires-clause-fits : goal.save-requires-clause-fits
 save-requires-clause-fits g c =
-    sized_fits c.make_sets.new.state.backing.keyed c.make_sets.new.state.table c.make_sets.ensures.sized
+    let keyed = c.load.new.self.backing.keyed in
+    let table = c.make_sets.new.state.table in
+    subst (λ (s : State). IsTrue ((laid_form (keyed_of s)).fits table)) (sym c.make_sets.ensures.backing)
+    (changed_fits keyed c.load.new.self.table table c.in_ok-load.ensures.facts c.in_ok-load.ensures.loaded_fits c.make_sets.ensures.outside)
 
 pub save-requires-clause-on : goal.save-requires-clause-on
 save-requires-clause-on g c =

@@ -1,5 +1,7 @@
-use Rattle.std.proofs.Common.{◌∙◌, ap, is_ok, sym}
+use Rattle.std.proofs.Common.{◌≡◌, ◌∙◌, List, ap, is_ok, subst, sym}
+use Rattle.bb_chooser.specs.Binding.{IsBoundTo}
 use Rattle.bb_flash.specs.Memory.{device_of}
+use Rattle.bb_layout.specs.declared.var.Var.{Var}
 use Rattle.bb_state.specs.Keyed.{Keyed}
 use Rattle.bb_shell_trials.proofs.tests.rig.boot.Goals as goal
 
@@ -12,12 +14,17 @@ load-requires-clause-on c =
 pub boot_run-requires : goal.boot_run-requires
 boot_run-requires c =
     record {
+      facts = c.load.ensures.facts;
       sized = c.load.ensures.sized;
       fits = c.load.ensures.fits c.in_ok-state.ensures.fits;
       sure = c.load.ensures.sure ∙ ap is_ok c.in-Ok-load.is;
       on = c.load.ensures.on;
       bound = record {
-        area_len = c.in_ok-chooser.ensures ∙ sym c.in_ok-state.ensures.area_len
+        area_len = c.in_ok-chooser.ensures.sized ∙ sym c.in_ok-state.ensures.area_len
             ∙ ap (λ (k : Keyed). k.layout.area_len) (sym c.load.ensures.keyed);
+        vars =
+            subst (λ (vars : List Var). IsBoundTo vars c.in_ok-chooser.chooser)
+            (sym c.in_ok-state.ensures.vars ∙ ap (λ (k : Keyed). k.layout.vars) (sym c.load.ensures.keyed))
+            c.in_ok-chooser.ensures.bound;
       };
     }

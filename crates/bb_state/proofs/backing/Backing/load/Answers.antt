@@ -1,8 +1,15 @@
-use Rattle.std.proofs.Common.{◌≡◌, ◌∙◌, ap, subst, sym, ◌++◌, List, drop, length, arith, take}
+use Rattle.std.proofs.Common.{◌≡◌, ◌∙◌, ℕ, IsTrue, ap, subst, sym, ◌++◌, List, drop, length, arith, take}
+use Rattle.std.proofs.lemmas.Bool.{false≢true}
+use Rattle.bb_base.specs.Form.{Form}
 use Rattle.bb_copies.specs.Buckets.{AllAgree, kinds_of}
+use Rattle.bb_copies.specs.declared.answers.Loaded.TheVariants.{NoCopy}
+use Rattle.bb_layout.specs.Defaults.{defaults_of}
+use Rattle.bb_layout.specs.Layout.{fields_of}
 use Rattle.bb_state.specs.Backed.{Backed}
-use Rattle.bb_state.specs.Kinds.{any_form, any_holding, laid_form, laid_kinds}
+use Rattle.bb_state.specs.Keyed.{Keyed}
+use Rattle.bb_state.specs.Kinds.{any_form, any_holding, key_in, laid_form, laid_kinds}
 use Rattle.bb_state.specs.declared.any_bucket.AnyBucket.{AnyBucket}
+use Rattle.bb_state.proofs.Fitting.{defaults_fit}
 use Rattle.bb_state.proofs.Handed.{erasing_of, exact_of, gives_of, images_of, outside_of, raised, refused_of, whole_written}
 use Rattle.bb_state.proofs.backing.Backing.load.Goals as goal
 
@@ -74,3 +81,23 @@ returns-else-eq-clause-gives g c =
     let kept = take c.self.inside.kept.len (c.load.new.area ++ drop (length c.load.new.area) c.self.inside.kept.items) in
     let same : kept ≡ c.load.new.area = whole_written c.self.inside.kept.len c.load.new.area c.self.inside.kept.items (grind arith) (grind arith) in
     gives_of _ _ c.args.self.now.keyed c.load.new.area kept (g.F.Flash.device c.args.flash.now) (g.F.Flash.device c.load.new.flash) c.in_ok-loaded.loaded form kinds same c.in_ok-loaded.ensures.gives
+
+pub returns-then-eq-clause-fits : goal.returns-then-eq-clause-fits
+returns-then-eq-clause-fits g c =
+    let layout = c.self.inside.layout in
+    let len = c.self.inside.kept.len in
+    let keyed : Keyed = record { layout = fields_of layout; key = key_in c.self.inside.copies.format } in
+    let loaded = take len (c.load.new.area ++ drop (length c.load.new.area) c.self.inside.kept.items) in
+    let kept = take len (c.defaults.new.out ++ drop (length c.defaults.new.out) loaded) in
+    let same : kept ≡ defaults_of layout.area_len layout.vars = whole_written len c.defaults.new.out loaded (grind arith) (grind arith) ∙ c.defaults.ensures in
+    subst (λ (k : Keyed). IsTrue ((laid_form k).fits kept)) (ap (λ (b : Backed). b.keyed) c.self.view_is)
+    (subst (λ (table : List ℕ). IsTrue ((laid_form keyed).fits table)) (sym same) (defaults_fit keyed layout.facts))
+
+pub returns-else-eq-clause-fits : goal.returns-else-eq-clause-fits
+returns-else-eq-clause-fits g c =
+    let form : any_form c.self.inside.copies.format ≡ laid_form c.args.self.now.keyed = ap any_form c.self.invariant.format_is ∙ ap (λ (b : Backed). laid_form b.keyed) c.self.view_is in
+    let kept = take c.self.inside.kept.len (c.load.new.area ++ drop (length c.load.new.area) c.self.inside.kept.items) in
+    let same : kept ≡ c.load.new.area = whole_written c.self.inside.kept.len c.load.new.area c.self.inside.kept.items (grind arith) (grind arith) in
+    let some : c.in_ok-loaded.loaded ≡ NoCopy → ⊥ = λ is. (let equal = rw is at c.eq.ensures in false≢true (sym c.if-eq.false ∙ equal)) in
+    subst (λ (f : Form). IsTrue (f.fits kept)) form
+    (subst (λ (table : List ℕ). IsTrue ((any_form c.self.inside.copies.format).fits table)) (sym same) (c.in_ok-loaded.ensures.fits some))

@@ -23,14 +23,14 @@ pub mount-requires-clause-room : goal.mount-requires-clause-room
 mount-requires-clause-room c =
     let keyed : Keyed = record { layout = fields_of c.args.layout; key = c.args.key } in
     let kinds = ap (kinds_of any_holding) c.in_ok-buckets.ensures in
-    let form = ap any_form c.format_of.ensures in
+    let form = ap any_form c.in_ok-format.ensures in
     subst (λ form. HaveRoom form (kinds_of any_holding c.in_ok-buckets.buckets)) (sym form) (subst (HaveRoom (laid_form keyed)) (sym kinds) (have_room keyed c.args.layout.facts))
 
 pub invariant_of-result : goal.invariant_of-result
 invariant_of-result c =
     let keyed : Keyed = record { layout = fields_of c.args.layout; key = c.args.key } in
     let buckets : c.in_ok-copies.copies.buckets ≡ laid_buckets (fields_of c.args.layout) = c.in_ok-copies.ensures.buckets ∙ c.in_ok-buckets.ensures in
-    let format : c.in_ok-copies.copies.format ≡ format_of keyed = c.in_ok-copies.ensures.format ∙ c.format_of.ensures in
+    let format : c.in_ok-copies.copies.format ≡ format_of keyed = c.in_ok-copies.ensures.format ∙ c.in_ok-format.ensures in
     let key : key_in c.in_ok-copies.copies.format ≡ c.args.key = ap key_in format ∙ key_is keyed c.requires in
     record {
       kinds = ap (kinds_of any_holding) buckets;
@@ -42,7 +42,7 @@ invariant_of-result c =
 pub returns-clause-keyed : goal.returns-clause-keyed
 returns-clause-keyed c =
     let keyed : Keyed = record { layout = fields_of c.args.layout; key = c.args.key } in
-    let key : key_in c.in_ok-copies.copies.format ≡ c.args.key = ap key_in (c.in_ok-copies.ensures.format ∙ c.format_of.ensures) ∙ key_is keyed c.requires in
+    let key : key_in c.in_ok-copies.copies.format ≡ c.args.key = ap key_in (c.in_ok-copies.ensures.format ∙ c.in_ok-format.ensures) ∙ key_is keyed c.requires in
     ap (λ (key : Option (List ℕ)). record { layout = fields_of c.args.layout; key = key }) key
 
 pub returns-clause-agrees : goal.returns-clause-agrees

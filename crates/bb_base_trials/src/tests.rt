@@ -1,0 +1,4 @@
+mod files;
+mod numbers;
+mod outputs;
+mod texts;
