@@ -1,7 +1,9 @@
-ghost use Rattle.std.specs.Prelude.{◌≡◌, ◌+◌, ◌≤◌, ◌++◌, length, take, IfOk, IsErrOf, Ok, Err, OnErr, OnOk};
+ghost use Rattle.std.specs.Prelude.{◌≡◌, ◌+◌, ◌≤◌, ◌++◌, length, take, IfOk, IsErrOf, Ok, Err};
+ghost use Rattle.std.specs.Prelude.{OnErr, OnOk};
 ghost use Rattle.std.specs.Bool.{OnFalse};
 ghost use Rattle.std.specs.Option.{ForSome};
-ghost use Rattle.bb_base.specs.Folder.{CountsFaults, CountsNoOther, Folder, file_limit, file_of, file_read, has_folder, names_in};
+ghost use Rattle.bb_base.specs.Folder.{CountsFaults, CountsNoOther, Folder, file_limit, file_of};
+ghost use Rattle.bb_base.specs.Folder.{file_read, has_folder, names_in};
 ghost use Rattle.bb_base.specs.declared.files.FileFail.TheVariants.{TooLong};
 
 use crate::{Bytes, NoMemory, TextList};

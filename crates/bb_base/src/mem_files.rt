@@ -1,9 +1,11 @@
-ghost use Rattle.std.specs.Prelude.{◌≡◌, ◌+◌, ◌≤◌, ◌++◌, ◌∷◌, [], length, take, IfOk, IsErrOf, IsTrue, OnErr, OnOk, Ok, Err, option_map};
+ghost use Rattle.std.specs.Prelude.{◌≡◌, ◌+◌, ◌≤◌, ◌++◌, ◌∷◌, [], length, take, IfOk, IsErrOf};
+ghost use Rattle.std.specs.Prelude.{IsTrue, OnErr, OnOk, Ok, Err, option_map};
 ghost use Rattle.std.specs.Bool.{OnFalse};
 ghost use Rattle.std.specs.FinMap as map;
 ghost use Rattle.std.specs.Option.{ForSome};
 ghost use Rattle.bb_base.specs.Faults.{HasCause};
-ghost use Rattle.bb_base.specs.Folder.{CountsFaults, CountsNoOther, file_limit, file_of, file_read, has_folder, is_fault, is_under, name_in, names_in};
+ghost use Rattle.bb_base.specs.Folder.{CountsFaults, CountsNoOther, file_limit, file_of, file_read};
+ghost use Rattle.bb_base.specs.Folder.{has_folder, is_fault, is_under, name_in, names_in};
 ghost use Rattle.bb_base.specs.MemFiles.{after_call, folder_of, refuses_next};
 ghost use Rattle.bb_base.specs.declared.files.FileFail.TheVariants.{TooLong};
 

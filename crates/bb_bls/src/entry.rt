@@ -1,5 +1,7 @@
-ghost use Rattle.std.specs.Prelude.{◌≡◌, ◌<◌, ◌↔◌, ◌⊎◌, [], IfOk, IfErr, IsTrue, codes, length, map, Ok, Err};
-ghost use Rattle.bb_bls.specs.Entry.{IsShortNoText, IsShortText, Refuses, entry_in, entry_of, entry_with, lacks_linux, pairs_of, values_of};
+ghost use Rattle.std.specs.Prelude.{◌≡◌, ◌<◌, ◌↔◌, ◌⊎◌, [], IfOk, IfErr, IsTrue, codes, length};
+ghost use Rattle.std.specs.Prelude.{map, Ok, Err};
+ghost use Rattle.bb_bls.specs.Entry.{IsShortNoText, IsShortText, Refuses, entry_in, entry_of};
+ghost use Rattle.bb_bls.specs.Entry.{entry_with, lacks_linux, pairs_of, values_of};
 ghost use Rattle.bb_bls.specs.References.{text_pair};
 
 use crate::EntryError;

@@ -2,6 +2,7 @@
 use Rattle.std.proofs.Common.{◌≡◌, ◌+◌, ◌≤◌, ◌%◌, ap, ◌∙◌, arith, IsTrue}
 use Rattle.std.proofs.lemmas.Bool.Decides.{nat_tests}
 use Rattle.bb_flash.specs.declared.geometry.Geometry.{Geometry}
+use Rattle.bb_flash.specs.Geometry.{size_limit}
 use Rattle.bb_flash.proofs.Geometries.{multiple_twice}
 use Rattle.bb_bucket.specs.declared.block.Block.{Block}
 use Rattle.bb_bucket.specs.Blocks.{is_block_of}
@@ -16,7 +17,7 @@ pub record HasBlock (block : Block) (geometry : Geometry) : Type 0 where
   pub page : geometry.page ≡ block.page
   pub size : geometry.block ≡ block.region.size
   pub inside : block.region.at + block.region.size ≤ geometry.size
-  pub small : geometry.size ≤ 268435456
+  pub small : geometry.size ≤ size_limit
 
 pub block_of :
     (block : Block) (geometry : Geometry) →

@@ -3,6 +3,7 @@
 use Rattle.std.specs.Prelude.{◌≡◌, ℕ, ◌+◌, ◌-◌, ◌*◌, ◌/◌, ◌≤◌, ◌%◌, ◌==◌, Bool, ◌&&◌, nat_le, List, ◌++◌, length, replicate}
 use Rattle.std.specs.Int.{div_ceil}
 use Rattle.bb_flash.specs.declared.geometry.Geometry.{Geometry}
+use Rattle.bb_flash.specs.Geometry.{size_limit}
 use Rattle.bb_flash.specs.declared.health.Health.TheVariants.{Fine}
 use Rattle.bb_flash.specs.Image.{Image}
 use Rattle.bb_bucket.specs.declared.block.Block.{Block}
@@ -19,7 +20,7 @@ is_block_of block geometry =
     is_paged block
     && ((geometry.page == block.page && geometry.block == block.region.size)
     && (nat_le (block.region.at + block.region.size) geometry.size
-    && nat_le geometry.size 268435456))
+    && nat_le geometry.size size_limit))
 
 -- what every bucket over a block keeps: a region of whole pages, and as many bytes of memory
 pub record IsBlockBucket (block : Block) (bytes : List ℕ) : Type 0 where

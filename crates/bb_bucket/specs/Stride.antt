@@ -2,6 +2,7 @@
 -- record follows.
 use Rattle.std.specs.Prelude.{◌≡◌, ℕ, ◌+◌, ◌-◌, ◌≤◌, ◌==◌, Bool, true, false, ◌&&◌, nat_le, List, [], ◌∷◌, length, replicate, Option}
 use Rattle.bb_flash.specs.declared.geometry.Geometry.{Geometry}
+use Rattle.bb_flash.specs.Geometry.{size_limit}
 use Rattle.bb_flash.specs.declared.region.Region.{Region}
 use Rattle.bb_flash.specs.Image.{Image}
 use Rattle.bb_bucket.specs.Front.{entry_of, first_bytes, front_candidate, front_is_worn, front_len, put_at}
@@ -9,7 +10,7 @@ use Rattle.bb_bucket.specs.Kind.{BucketKind, Holding}
 
 -- a device that is overwritten in place, byte by byte
 abbrev pub is_in_place : Geometry → Bool
-is_in_place geometry = geometry.block == 0 && (geometry.page == 1 && nat_le geometry.size 268435456)
+is_in_place geometry = geometry.block == 0 && (geometry.page == 1 && nat_le geometry.size size_limit)
 
 -- a region lies on such a device
 abbrev pub lies_on : Region → Geometry → Bool

@@ -4,6 +4,7 @@ use Rattle.std.proofs.Math.Nat.{mod-one}
 use Rattle.std.proofs.lemmas.Bool.Decides.{nat_tests}
 use Rattle.std.proofs.lemmas.List.{append-nil}
 use Rattle.bb_flash.specs.declared.geometry.Geometry.{Geometry}
+use Rattle.bb_flash.specs.Geometry.{size_limit}
 use Rattle.bb_flash.specs.declared.region.Region.{Region}
 use Rattle.bb_bucket.specs.Front.{entry_of}
 use Rattle.bb_bucket.specs.FrontLaws.{written_begins}
@@ -14,7 +15,7 @@ use Rattle.bb_bucket.specs.Stride.{lies_on, stride_kind}
 pub record IsHeld (region : Region) (geometry : Geometry) : Type 0 where
   pub block : geometry.block ≡ 0
   pub page : geometry.page ≡ 1
-  pub small : geometry.size ≤ 268435456
+  pub small : geometry.size ≤ size_limit
   pub inside : region.at + region.size ≤ geometry.size
 
 pub held_by :

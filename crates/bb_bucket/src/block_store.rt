@@ -2,7 +2,8 @@ ghost use Rattle.std.specs.Prelude.{◌≡◌, ◌≤◌, ◌+◌, IsErr, IsTrue
 ghost use Rattle.bb_base.specs.Faults.{HasCause};
 ghost use Rattle.bb_flash.specs.Device.{reads};
 ghost use Rattle.bb_bucket.specs.Blocks.{is_block_of};
-ghost use Rattle.bb_bucket.specs.Calls.{ChangesWithin, EachCall, ErasesWhere, IsVoidCall, IsWriteCall, Leaves};
+ghost use Rattle.bb_bucket.specs.Calls.{ChangesWithin, EachCall, ErasesWhere, IsVoidCall};
+ghost use Rattle.bb_bucket.specs.Calls.{IsWriteCall, Leaves};
 ghost use Rattle.bb_bucket.specs.Front.{front_len};
 ghost use Rattle.bb_bucket.specs.OneBlock.{one_block_kind};
 

@@ -20,7 +20,8 @@ pub struct Found {
 /// that failed, it agrees again. A call fails only where the flash's count of faults rose.
 pub trait Bucket {
     ghost use Rattle.bb_bucket.specs.Kind.{Holding, IsKind, part_of};
-    ghost use Rattle.bb_bucket.specs.Calls.{Agrees, ChangesWithin, EachCall, ErasesWhere, IsFound, IsQuiet, IsVoidCall, IsWriteCall, Leaves};
+    ghost use Rattle.bb_bucket.specs.Calls.{Agrees, ChangesWithin, EachCall, ErasesWhere, IsFound};
+    ghost use Rattle.bb_bucket.specs.Calls.{IsQuiet, IsVoidCall, IsWriteCall, Leaves};
 
     ghost holding: { Self → Holding };
 

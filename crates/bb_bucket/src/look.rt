@@ -3,7 +3,8 @@ ghost use Rattle.std.specs.Option.{ForSome};
 ghost use Rattle.bb_base.specs.Faults.{HasCause};
 ghost use Rattle.bb_flash.specs.Device.{content};
 ghost use Rattle.bb_bucket.specs.Calls.{IsFoundAs, IsQuiet};
-ghost use Rattle.bb_bucket.specs.Front.{found_of, front_candidate, front_is_worn, front_len, is_lost};
+ghost use Rattle.bb_bucket.specs.Front.{found_of, front_candidate, front_is_worn, front_len};
+ghost use Rattle.bb_bucket.specs.Front.{is_lost};
 ghost use Rattle.bb_bucket.specs.Kind.{LiesOn, part_of};
 
 use crate::Found;

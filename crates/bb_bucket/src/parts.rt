@@ -1,4 +1,5 @@
-ghost use Rattle.std.specs.Prelude.{◌≡◌, ◌≤◌, ◌<◌, ◌+◌, ◌%◌, ◌^◌, IfOk, IsErr, IsTrue, OnOk, length, replicate, true};
+ghost use Rattle.std.specs.Prelude.{◌≡◌, ◌≤◌, ◌<◌, ◌+◌, ◌%◌, ◌^◌, IfOk, IsErr, IsTrue, OnOk};
+ghost use Rattle.std.specs.Prelude.{length, replicate, true};
 ghost use Rattle.std.specs.Option.{ForSome};
 ghost use Rattle.bb_base.specs.Faults.{HasCause};
 ghost use Rattle.bb_flash.specs.Calls.{ChangesOnly};

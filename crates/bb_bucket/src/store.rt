@@ -1,7 +1,8 @@
 ghost use Rattle.std.specs.Prelude.{◌≡◌, ◌≤◌, ◌<◌, ◌+◌, ◌^◌, IsErr, IsTrue, OnOk, length};
 ghost use Rattle.bb_base.specs.Faults.{HasCause};
 ghost use Rattle.bb_flash.specs.Device.{reads};
-ghost use Rattle.bb_bucket.specs.Calls.{ChangesWithin, EachCall, ErasesWhere, IsVoidCall, IsWriteCall, Leaves};
+ghost use Rattle.bb_bucket.specs.Calls.{ChangesWithin, EachCall, ErasesWhere, IsVoidCall};
+ghost use Rattle.bb_bucket.specs.Calls.{IsWriteCall, Leaves};
 ghost use Rattle.bb_bucket.specs.Front.{front_len};
 ghost use Rattle.bb_bucket.specs.Stride.{lies_on, stride_kind};
 

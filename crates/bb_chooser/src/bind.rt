@@ -1,7 +1,8 @@
 ghost use Rattle.std.specs.Prelude.{◌≡◌, ◌++◌, ◌∷◌, [], Ok, IfOk, IfErr, OnOk};
 ghost use Rattle.std.specs.Option.{option_copied, option_map};
 ghost use Rattle.bb_chooser.specs.Binding as binding;
-ghost use Rattle.bb_chooser.specs.InLayout.{all_bound_in, bound_in, last_chosen_place, uint32_place, variable_in};
+ghost use Rattle.bb_chooser.specs.InLayout.{all_bound_in, bound_in, last_chosen_place};
+ghost use Rattle.bb_chooser.specs.InLayout.{uint32_place, variable_in};
 ghost use Rattle.bb_chooser.specs.Lines.{sides_at};
 ghost use Rattle.bb_chooser.specs.Refusals.{Refuses};
 ghost use Rattle.bb_chooser.specs.References.{text_pair};

@@ -42,7 +42,8 @@ impl Model for Chooser {
 }
 
 impl Chooser {
-    ghost use Rattle.std.specs.Prelude.{◌<◌, ◌≤◌, ◌↔◌, List, ℕ, Ok, IfOk, IfErr, IfSome, IsNone, IsTrue, IsSome, length};
+    ghost use Rattle.std.specs.Prelude.{◌<◌, ◌≤◌, ◌↔◌, List, ℕ, Ok, IfOk, IfErr, IfSome, IsNone};
+    ghost use Rattle.std.specs.Prelude.{IsTrue, IsSome, length};
     ghost use Rattle.std.specs.Option.{option_copied};
     ghost use Rattle.bb_base.specs.Form.{area_limit};
     ghost use Rattle.bb_chooser.specs.Binding.{IsBinding, IsBoundTo, bind_of};

@@ -1,5 +1,6 @@
 ghost use Rattle.std.specs.Prelude.{◌≡◌};
-ghost use Rattle.bb_chooser.specs.Keys.{has_name_letters, is_name_letter, is_target_name, key_of, target_key_of};
+ghost use Rattle.bb_chooser.specs.Keys.{has_name_letters, is_name_letter, is_target_name, key_of};
+ghost use Rattle.bb_chooser.specs.Keys.{target_key_of};
 
 /// What a line of settings may set for all targets.
 #[derive(Clone, Copy, Debug, PartialEq, Eq)]

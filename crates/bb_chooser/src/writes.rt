@@ -1,6 +1,7 @@
 ghost use Rattle.std.specs.Prelude.{◌≡◌, All, length};
 ghost use Rattle.bb_chooser.specs.Binding.{IsInside};
-ghost use Rattle.bb_chooser.specs.Resets.{with_attempts, with_attempts_if, with_priorities, with_priorities_if};
+ghost use Rattle.bb_chooser.specs.Resets.{with_attempts, with_attempts_if, with_priorities};
+ghost use Rattle.bb_chooser.specs.Resets.{with_priorities_if};
 
 use crate::bound_target::BoundTarget;
 use crate::number::put_number;

@@ -9,6 +9,7 @@ use Rattle.std.specs.List.{AllByRecursion}
 use Rattle.std.proofs.lemmas.Option.{same_Some}
 use Rattle.bb_bucket.specs.Calls.{ErasesWhere, Leaves, erases_after}
 use Rattle.bb_flash.specs.declared.geometry.Geometry.{Geometry}
+use Rattle.bb_flash.specs.Geometry.{size_limit}
 use Rattle.bb_flash.specs.Cuts.{IsLater}
 use Rattle.bb_flash.specs.Device.{Device, content, erases}
 use Rattle.bb_flash.specs.Image.{Image}
@@ -45,7 +46,7 @@ one_less room entry some fits =
     ap (λ n. n / entry) sum ∙ add-div_right (room - entry) some
 
 module _ (block : Block) (len : ℕ) (least : 16 ≤ block.page) (whole : block.region.size % block.page ≡ 0)
-    (small : block.region.size ≤ 268435456) (room : len + 8 ≤ block.region.size) where
+    (small : block.region.size ≤ size_limit) (room : len + 8 ≤ block.region.size) where
   entry_least : 0 < entry_len block.page len
   entry_least = let is = entry_len_is block.page len (omega (arith, least)) in omega (arith, is.least, least)
 
@@ -278,7 +279,7 @@ wears_little block len from events serves whole room history before counts after
     let held = block_of block from.geometry serves in
     let told = told_of_numbers from.told before counts in
     let paged = block_paged block from.geometry told.0 held (whole.image told.0 told.1) in
-    let small : block.region.size ≤ 268435456 = omega (arith, held.inside, held.small) in
+    let small : block.region.size ≤ size_limit = omega (arith, held.inside, held.small) in
     let count = rises block from.geometry len events from told.0 before after refl told.1 counts end history in
     let most = worn_at_most block len held.page_least held.pages small room (records_in events) (part_of from.geometry.page block.region told.0) paged (all_sized block len from events history) in
     omega (arith, count, most)

@@ -11,6 +11,7 @@ use Rattle.bb_flash.specs.declared.health.Health.{Health}
 use Rattle.bb_flash.specs.declared.health.Health.TheVariants.{Fine, Worn, Lost}
 use Rattle.bb_flash.specs.Image.{Image, IsBlank, health_of, touched_pages, worse_of, worst_of}
 use Rattle.bb_flash.proofs.Geometries.{whole_times}
+use Rattle.bb_flash.specs.Geometry.{size_limit}
 use Rattle.bb_bucket.specs.Front.{is_lost}
 use Rattle.bb_bucket.proofs.Pages.{div_moved, sum_aligned, touched_region}
 use Rattle.bb_circular.specs.Pages.{Page, is_blank, page_at, pages_of, written_pages}
@@ -21,7 +22,7 @@ pub record IsPaged (page size : ℕ) (block : Image) : Type 0 where
   pub whole : size % page ≡ 0
   pub bytes : length block.bytes ≡ size
   pub pages : length block.health * page ≡ size
-  pub small : size ≤ 268435456
+  pub small : size ≤ size_limit
 
 -- ---- lists of which the end passes a test
 

@@ -6,6 +6,7 @@ use Rattle.std.proofs.lemmas.Bool.{and_right}
 use Rattle.std.proofs.Math.Seq.{take-append_seam}
 use Rattle.std.proofs.lemmas.List.{append_assoc, drop-replicate, drop_at, length-replicate, length-take-le}
 use Rattle.bb_flash.specs.declared.geometry.Geometry.{Geometry}
+use Rattle.bb_flash.specs.Geometry.{size_limit}
 use Rattle.bb_flash.specs.declared.health.Health.{Health}
 use Rattle.bb_flash.specs.declared.health.Health.TheVariants.{Fine}
 use Rattle.bb_flash.specs.declared.region.Region.{Region}
@@ -106,7 +107,7 @@ module _ (page size at : ℕ) (bytes : List ℕ) (block : Image)
       ∙ written_fine page bytes (part_of page region block) k n some_page fits
 
 -- a blank block has no page that isn't blank
-pub blank_paged : (page size : ℕ) → 16 ≤ page → size % page ≡ 0 → size ≤ 268435456 →
+pub blank_paged : (page size : ℕ) → 16 ≤ page → size % page ≡ 0 → size ≤ size_limit →
     IsPaged page size (blank_block page size)
 blank_paged page size least whole small = record {
   page_least = least;
@@ -126,7 +127,7 @@ blank_pages page size k least whole inside =
     blank_page page (blank_block page size) k
     (blank_is_blank page size (k * page) page (omega arith) whole (omega arith))
 
-pub none_written : (page size : ℕ) → 16 ≤ page → size % page ≡ 0 → size ≤ 268435456 →
+pub none_written : (page size : ℕ) → 16 ≤ page → size % page ≡ 0 → size ≤ size_limit →
     written_pages page (blank_block page size) ≡ 0
 none_written page size least whole small =
     written_is page size (blank_block page size) (blank_paged page size least whole small) 0
@@ -185,7 +186,7 @@ blank_candidate page blank_page size =
     (blank_newest page blank_page size)
 
 -- and the next entry goes to its start
-pub blank_kept : (page size : ℕ) → 16 ≤ page → size % page ≡ 0 → size ≤ 268435456 →
+pub blank_kept : (page size : ℕ) → 16 ≤ page → size % page ≡ 0 → size ≤ size_limit →
     kept_of page (blank_block page size) ≡ record { next = 0; newest = None }
 blank_kept page size least whole small =
     let kept = λ (next : ℕ) (newest : Option Entry).

@@ -1,8 +1,10 @@
-ghost use Rattle.std.specs.Prelude.{◌≡◌, ◌≤◌, ◌<◌, ◌+◌, ◌-◌, ◌*◌, ◌/◌, ◌%◌, ◌^◌, ◌++◌, ◌&&◌, IfSome, length, nat_le, not, take};
+ghost use Rattle.std.specs.Prelude.{◌≡◌, ◌≤◌, ◌<◌, ◌+◌, ◌-◌, ◌*◌, ◌/◌, ◌%◌, ◌^◌, ◌++◌, ◌&&◌};
+ghost use Rattle.std.specs.Prelude.{IfSome, length, nat_le, not, take};
 ghost use Rattle.bb_bucket.specs.Blocks.{filled_to};
 ghost use Rattle.bb_bucket.specs.Front.{is_lost};
 ghost use Rattle.bb_circular.specs.Circular.{IsEntryIn};
-ghost use Rattle.bb_circular.specs.Entries.{closed_entry, closes, closing_len, closing_words, entry_len, log_entry};
+ghost use Rattle.bb_circular.specs.Entries.{closed_entry, closes, closing_len, closing_words};
+ghost use Rattle.bb_circular.specs.Entries.{entry_len, log_entry};
 
 use crate::kept::Entry;
 use crate::last_page::{LastPage, is_lost};

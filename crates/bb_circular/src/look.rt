@@ -1,11 +1,13 @@
-ghost use Rattle.std.specs.Prelude.{◌≡◌, ◌≤◌, ◌-◌, IfOk, IfSome, IsErr, IsTrue, Some, None, is_some, length, option_map, option_and_then, if◌then◌else◌};
+ghost use Rattle.std.specs.Prelude.{◌≡◌, ◌≤◌, ◌-◌, IfOk, IfSome, IsErr, IsTrue, Some, None};
+ghost use Rattle.std.specs.Prelude.{is_some, length, option_map, option_and_then, if◌then◌else◌};
 ghost use Rattle.std.specs.Option.{ForSome};
 ghost use Rattle.bb_base.specs.Faults.{HasCause};
 ghost use Rattle.bb_flash.specs.Device.{content, reads};
 ghost use Rattle.bb_bucket.specs.Blocks.{is_block_of};
 ghost use Rattle.bb_bucket.specs.Calls.{IsFoundAs, IsQuiet};
 ghost use Rattle.bb_bucket.specs.Kind.{part_of};
-ghost use Rattle.bb_circular.specs.Circular.{IsEntryIn, IsKeptIn, agrees_with, circular_candidate, circular_is_worn, kept_of, readable, record_of};
+ghost use Rattle.bb_circular.specs.Circular.{IsEntryIn, IsKeptIn, agrees_with, circular_candidate};
+ghost use Rattle.bb_circular.specs.Circular.{circular_is_worn, kept_of, readable, record_of};
 ghost use Rattle.bb_circular.specs.Entries.{closing_len};
 ghost use Rattle.bb_circular.specs.Looking.{IsKnown, worn_of};
 

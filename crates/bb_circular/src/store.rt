@@ -1,11 +1,14 @@
-ghost use Rattle.std.specs.Prelude.{◌≡◌, ◌≤◌, ◌<◌, ◌+◌, ◌%◌, ◌^◌, IfOk, IfSome, IsErr, IsTrue, OnOk, false, is_some, length};
+ghost use Rattle.std.specs.Prelude.{◌≡◌, ◌≤◌, ◌<◌, ◌+◌, ◌%◌, ◌^◌, IfOk, IfSome, IsErr, IsTrue};
+ghost use Rattle.std.specs.Prelude.{OnOk, false, is_some, length};
 ghost use Rattle.std.specs.Option.{ForSome};
 ghost use Rattle.bb_base.specs.Faults.{HasCause};
 ghost use Rattle.bb_flash.specs.Device.{IsDevice, content, reads};
 ghost use Rattle.bb_bucket.specs.Blocks.{is_block_of};
-ghost use Rattle.bb_bucket.specs.Calls.{ChangesWithin, EachCall, ErasesWhere, IsVoidCall, IsWriteCall, Leaves};
+ghost use Rattle.bb_bucket.specs.Calls.{ChangesWithin, EachCall, ErasesWhere, IsVoidCall};
+ghost use Rattle.bb_bucket.specs.Calls.{IsWriteCall, Leaves};
 ghost use Rattle.bb_bucket.specs.Kind.{part_of};
-ghost use Rattle.bb_circular.specs.Circular.{IsKeptIn, agrees_with, circular_kind, fits_behind, kept_of, next_place};
+ghost use Rattle.bb_circular.specs.Circular.{IsKeptIn, agrees_with, circular_kind, fits_behind};
+ghost use Rattle.bb_circular.specs.Circular.{kept_of, next_place};
 ghost use Rattle.bb_circular.specs.Entries.{closing_len, entry_len};
 ghost use Rattle.bb_circular.specs.Looking.{kept_at};
 

@@ -1,8 +1,10 @@
 ghost use Rattle.std.specs.Prelude.{◌≡◌, ◌+◌, ◌≤◌, IsTrue, drop, length, replicate};
 ghost use Rattle.std.specs.Bool.{OnTrue};
-ghost use Rattle.bb_dtbrec.specs.Dtb.{IsInside, are_pieces, field_len, head_len, value_of, with_fields};
+ghost use Rattle.bb_dtbrec.specs.Dtb.{IsInside, are_pieces, field_len, head_len, value_of};
+ghost use Rattle.bb_dtbrec.specs.Dtb.{with_fields};
 ghost use Rattle.bb_dtbrec.specs.Dtb.{piece_len, pieces_len, with_piece};
-ghost use Rattle.bb_dtbrec.specs.Checking.{field_agrees, fields_agree, head_agrees, piece_agrees, record_agrees};
+ghost use Rattle.bb_dtbrec.specs.Checking.{field_agrees, fields_agree, head_agrees, piece_agrees};
+ghost use Rattle.bb_dtbrec.specs.Checking.{record_agrees};
 
 use crate::crc::{FRONT_LEN, HEAD_LEN, record_crc};
 use crate::piece::{Piece, Spelling, pieces_len};

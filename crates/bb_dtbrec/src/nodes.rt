@@ -1,10 +1,12 @@
-ghost use Rattle.std.specs.Prelude.{◌≡◌, ◌≢◌, ◌+◌, ◌<◌, ◌≤◌, ◌++◌, [], All, IfOk, OnOk, drop, length, map, replicate, take};
+ghost use Rattle.std.specs.Prelude.{◌≡◌, ◌≢◌, ◌+◌, ◌<◌, ◌≤◌, ◌++◌, [], All, IfOk, OnOk, drop};
+ghost use Rattle.std.specs.Prelude.{length, map, replicate, take};
 ghost use Rattle.std.specs.List.{common_prefix_len};
 ghost use Rattle.std.specs.Str.{bytes_eq};
 ghost use Rattle.bb_layout.specs.Record.{grown_by};
 ghost use Rattle.bb_layout.specs.Variables.{IsWellFormed};
 ghost use Rattle.bb_dtbrec.specs.Layouts.{field_for};
-ghost use Rattle.bb_dtbrec.specs.Spine.{IsOpened, Spells, begin_piece, end_piece, marks, nodes_written};
+ghost use Rattle.bb_dtbrec.specs.Spine.{IsOpened, Spells, begin_piece, end_piece, marks};
+ghost use Rattle.bb_dtbrec.specs.Spine.{nodes_written};
 
 use crate::piece::Piece;
 use crate::token::{begin, end, field};

@@ -15,7 +15,9 @@ use crate::word::word_text;
 use bb_tree::DEPTH_LIMIT;
 
 impl Reader {
-    ghost use Rattle.bb_dts.specs.Readers.{AddsFewNodes, LabelsOnly, body_walk, items_walk, name_walk, node_walk, walk_after_body_read, walk_after_item_read};
+    ghost use Rattle.bb_dts.specs.Readers.{AddsFewNodes, LabelsOnly, body_walk, items_walk};
+    ghost use Rattle.bb_dts.specs.Readers.{name_walk, node_walk, walk_after_body_read};
+    ghost use Rattle.bb_dts.specs.Readers.{walk_after_item_read};
 
     /// Reads the body of the node at this level, behind its `{`, with its `}`.
     #[cycle(body)]

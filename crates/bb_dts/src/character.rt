@@ -1,5 +1,6 @@
 ghost use Rattle.std.specs.Prelude.{◌≡◌};
-ghost use Rattle.bb_dts.specs.Characters.{is_blank, is_word, begins_label, is_name, is_octal, is_hexadecimal};
+ghost use Rattle.bb_dts.specs.Characters.{is_blank, is_word, begins_label, is_name, is_octal};
+ghost use Rattle.bb_dts.specs.Characters.{is_hexadecimal};
 
 /// Space, tab, LF, form feed or CR.
 pub(crate) fn is_blank(c: u8) -> bool

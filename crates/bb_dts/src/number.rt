@@ -1,7 +1,8 @@
 ghost use Rattle.std.specs.Prelude.{◌≡◌, ◌≤◌, ◌*◌, ◌+◌, not, length, option_and_then};
 ghost use Rattle.std.specs.List.{list_any, prefix_len};
 ghost use Rattle.std.specs.Str.{bytes_eq};
-ghost use Rattle.bb_dts.specs.Numbers.{number_value, numeral_value, radix_value, is_ending_letter, in_64_bits, fits_64, endings};
+ghost use Rattle.bb_dts.specs.Numbers.{number_value, numeral_value, radix_value, is_ending_letter};
+ghost use Rattle.bb_dts.specs.Numbers.{in_64_bits, fits_64, endings};
 
 /// Why a word gives no number of 64 bits.
 #[derive(Clone, Copy, Debug, PartialEq, Eq)]

@@ -1,11 +1,13 @@
-ghost use Rattle.std.specs.Prelude.{◌≡◌, ◌≢◌, ◌≤◌, ◌<◌, ◌+◌, [], Ok, Err, Some, None, IfOk, IfErr, OnOk, length};
+ghost use Rattle.std.specs.Prelude.{◌≡◌, ◌≢◌, ◌≤◌, ◌<◌, ◌+◌, [], Ok, Err, Some, None, IfOk, IfErr};
+ghost use Rattle.std.specs.Prelude.{OnOk, length};
 ghost use Rattle.std.specs.Str.{IsAscii};
 ghost use Rattle.std.specs.String.{string_bytes};
 ghost use Rattle.bb_tree.specs.Draft.{path_labelled, draft_with_body, draft_with_pair};
 ghost use Rattle.bb_tree.specs.DraftViews.{draft_of};
 ghost use Rattle.bb_dts.specs.Walk.{stem_of};
 ghost use Rattle.bb_dts.specs.Descent.{node_count, node_of_content, RefusesResult};
-ghost use Rattle.bb_dts.specs.Outermost.{outer_level, rest_len, led_to, semicolon_of, StaysAtHead, IsShorter};
+ghost use Rattle.bb_dts.specs.Outermost.{outer_level, rest_len, led_to, semicolon_of, StaysAtHead};
+ghost use Rattle.bb_dts.specs.Outermost.{IsShorter};
 ghost use Rattle.bb_dts.specs.Tokens.{first_token, token_seen, IsPlainWord};
 ghost use Rattle.bb_dts.specs.declared.token_kind.TokenKind.TheVariants.{Label};
 ghost use Rattle.bb_dts.specs.declared.label.Level.TheVariants.{AtHead, AtTop};
@@ -35,7 +37,11 @@ pub(crate) enum Next<'a> {
 }
 
 impl Reader {
-    ghost use Rattle.bb_dts.specs.Readers.{TreeAddsFewNodes, node_path, source_end, source_end_after_body, source_end_after_step, source_end_at_address, source_end_at_body, source_end_at_token, source_end_in_body, source_end_read, tree_read};
+    ghost use Rattle.bb_dts.specs.Readers.{TreeAddsFewNodes, node_path, source_end};
+    ghost use Rattle.bb_dts.specs.Readers.{source_end_after_body, source_end_after_step};
+    ghost use Rattle.bb_dts.specs.Readers.{source_end_at_address, source_end_at_body};
+    ghost use Rattle.bb_dts.specs.Readers.{source_end_at_token, source_end_in_body};
+    ghost use Rattle.bb_dts.specs.Readers.{source_end_read, tree_read};
 
     /// Reads the reserves and the bodies behind the version, to the text's end.
     pub(crate) fn read_outermost(&mut self, text: &[u8]) -> Result<(), DtsError>

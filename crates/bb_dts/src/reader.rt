@@ -20,7 +20,8 @@ pub(crate) struct Reader {
 }
 
 impl Reader {
-    ghost use Rattle.bb_dts.specs.Readers.{LabelsOnly, GoesInto, labels_of_child, labels_of_node, names_other_node, node_path};
+    ghost use Rattle.bb_dts.specs.Readers.{LabelsOnly, GoesInto, labels_of_child, labels_of_node};
+    ghost use Rattle.bb_dts.specs.Readers.{names_other_node, node_path};
 
     /// Goes into the node of that name, and gives it the labels. The name must be ASCII.
     pub(crate) fn enter(&mut self, waiting: &Vec<Waiting>, name: &[u8]) -> Result<(), DtsError>

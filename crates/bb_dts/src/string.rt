@@ -1,8 +1,10 @@
-ghost use Rattle.std.specs.Prelude.{◌≡◌, ◌++◌, ◌<◌, ◌≤◌, ◌==◌, not, false, IfSome, IfOk, OnOk, length};
+ghost use Rattle.std.specs.Prelude.{◌≡◌, ◌++◌, ◌<◌, ◌≤◌, ◌==◌, not, false, IfSome, IfOk, OnOk};
+ghost use Rattle.std.specs.Prelude.{length};
 ghost use Rattle.std.specs.List.{prefix_len};
 ghost use Rattle.bb_dts.specs.Characters.{is_octal, is_hexadecimal};
 ghost use Rattle.bb_dts.specs.Numbers.{numeral_value};
-ghost use Rattle.bb_dts.specs.Strings.{named_escape, byte_of, octal_len, hexadecimal_len, escape_of, string_len, quoted_bytes};
+ghost use Rattle.bb_dts.specs.Strings.{named_escape, byte_of, octal_len, hexadecimal_len};
+ghost use Rattle.bb_dts.specs.Strings.{escape_of, string_len, quoted_bytes};
 
 use crate::character::{is_hexadecimal, is_octal};
 use crate::number::read_digits;

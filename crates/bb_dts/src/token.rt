@@ -1,9 +1,12 @@
-ghost use Rattle.std.specs.Prelude.{◌≡◌, ◌==◌, ◌+◌, ◌<◌, ◌≤◌, ◌&&◌, ◌∷◌, ℕ, List, not, false, nat_eq, IfSome, IsTrue, is_some, length};
+ghost use Rattle.std.specs.Prelude.{◌≡◌, ◌==◌, ◌+◌, ◌<◌, ◌≤◌, ◌&&◌, ◌∷◌, ℕ, List, not, false};
+ghost use Rattle.std.specs.Prelude.{nat_eq, IfSome, IsTrue, is_some, length};
 ghost use Rattle.std.specs.List.{prefix_len, list_any, starts_with};
 ghost use Rattle.std.specs.Str.{bytes_eq};
 ghost use Rattle.bb_dts.specs.Characters.{is_name, is_word, is_blank, is_hexadecimal};
 ghost use Rattle.bb_dts.specs.Numbers.{number_value};
-ghost use Rattle.bb_dts.specs.Tokens.{token_at, slash_at, quoted_at, reference_at, word_at, name_at, number_at, value_at, byte_at, mark_of, comment_len, label_len, left_out_words, directives, IsWithin, IsPlain};
+ghost use Rattle.bb_dts.specs.Tokens.{token_at, slash_at, quoted_at, reference_at, word_at};
+ghost use Rattle.bb_dts.specs.Tokens.{name_at, number_at, value_at, byte_at, mark_of, comment_len};
+ghost use Rattle.bb_dts.specs.Tokens.{label_len, left_out_words, directives, IsWithin, IsPlain};
 
 use crate::character::{begins_label, is_blank, is_hexadecimal, is_name, is_word};
 use crate::number::{NumberFault, read_number};

@@ -1,9 +1,12 @@
-ghost use Rattle.std.specs.Prelude.{◌≡◌, ◌≤◌, ◌<◌, ◌^◌, ◌++◌, ◌∷◌, [], Ok, IfOk, IfErr, OnOk, length};
+ghost use Rattle.std.specs.Prelude.{◌≡◌, ◌≤◌, ◌<◌, ◌^◌, ◌++◌, ◌∷◌, [], Ok, IfOk, IfErr, OnOk};
+ghost use Rattle.std.specs.Prelude.{length};
 ghost use Rattle.std.specs.Str.{IsAscii};
 ghost use Rattle.bb_dts.specs.Places.{Value, Cells, Bytes, After};
 ghost use Rattle.bb_dts.specs.Strings.{quoted_bytes};
-ghost use Rattle.bb_dts.specs.Walk.{number_below, byte_value, property_of_name, with_reference, with_bytes};
-ghost use Rattle.bb_dts.specs.Descent.{value_walk_from, walk_after_value, walk_after_prop, RefusesResult, RefusesValue};
+ghost use Rattle.bb_dts.specs.Walk.{number_below, byte_value, property_of_name, with_reference};
+ghost use Rattle.bb_dts.specs.Walk.{with_bytes};
+ghost use Rattle.bb_dts.specs.Descent.{value_walk_from, walk_after_value, walk_after_prop};
+ghost use Rattle.bb_dts.specs.Descent.{RefusesResult, RefusesValue};
 
 use crate::DtsError;
 use crate::input::Input;

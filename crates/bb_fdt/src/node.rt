@@ -2,7 +2,8 @@ ghost use Rattle.std.specs.Prelude.{◌≡◌, ◌≤◌, ◌<◌, Ok, IfOk, IfE
 ghost use Rattle.bb_tree.specs.Depth.{depth_limit};
 ghost use Rattle.bb_tree.specs.NodeViews.{branch_of};
 ghost use Rattle.bb_fdt.specs.Walk.{Inside, open_node, node_of_open, child_name, prop_name};
-ghost use Rattle.bb_fdt.specs.Descent.{block_walk, walk_after_node_read, open_of, RefusesResult, RefusesWalk};
+ghost use Rattle.bb_fdt.specs.Descent.{block_walk, walk_after_node_read, open_of, RefusesResult};
+ghost use Rattle.bb_fdt.specs.Descent.{RefusesWalk};
 
 use crate::FdtError;
 use crate::input::Input;

@@ -1,5 +1,6 @@
 ghost use Rattle.std.specs.Prelude.{◌≡◌, ◌<◌, ◌+◌, ◌++◌, OnOk, OnErr, IfOk, length};
-ghost use Rattle.bb_tree.specs.Blob.{devicetree_of, blob_text, names_of, offset_of, structure_block, reservation_list, header_text, double_word};
+ghost use Rattle.bb_tree.specs.Blob.{devicetree_of, blob_text, names_of, offset_of};
+ghost use Rattle.bb_tree.specs.Blob.{structure_block, reservation_list, header_text, double_word};
 ghost use Rattle.bb_tree.specs.NodeViews.{branch_of};
 
 use crate::names::Names;

@@ -6,6 +6,7 @@ use Rattle.std.proofs.lemmas.Grind.{common_steps}
 use Rattle.std.proofs.lemmas.List.{take_at, take_all, length-replicate}
 use Rattle.std.proofs.Math.Nat.{div-mul-le_self, mul-le-mul_right}
 use Rattle.std.proofs.Math.ListN.{length-set}
+use Rattle.bb_base.specs.Faults.{one_more}
 use Rattle.bb_flash.specs.declared.fault.Fault.{Fault}
 use Rattle.bb_flash.specs.declared.geometry.Geometry.{Geometry}
 use Rattle.bb_flash.specs.Geometry.{IsGeometry}
@@ -13,7 +14,7 @@ use Rattle.bb_flash.specs.Calls.{CanErase, CanProgram, ChangesOnly, IsTornBy, Is
 use Rattle.bb_flash.specs.Cuts.{IsContinued, IsLater}
 use Rattle.bb_flash.specs.Device.{Change, IsDevice, Told, change_of, moment}
 use Rattle.bb_flash.specs.Image.{Image, IsImageOf, IsInside}
-use Rattle.bb_flash.specs.Memory.{Memory, after_erase, after_program, after_read, with_blanks, count_up, device_of, erase_by, with_fault, fault_of, is_erase_refused, is_program_refused, is_read_refused, program_by, read_by, with_read_fault, with_write}
+use Rattle.bb_flash.specs.Memory.{Memory, after_erase, after_program, after_read, with_blanks, device_of, erase_by, with_fault, fault_of, is_erase_refused, is_program_refused, is_read_refused, program_by, read_by, with_read_fault, with_write}
 use Rattle.bb_flash.proofs.Moments.{image_at-now}
 use Rattle.bb_flash.proofs.Tearing.{Torn-left_by}
 
@@ -23,8 +24,8 @@ for_some P x p y e = let same : x ≡ y = cc in subst P same p
 same_number : (n : ℕ) → n ≤ n
 same_number n = omega arith
 
-count_up-le : (count : ℕ) → count ≤ count_up count
-count_up-le count = grind (arith, common_steps)
+more_is_more : (count : ℕ) → count ≤ one_more count
+more_is_more count = grind (arith, common_steps)
 
 -- the device goes on
 later_of : (m n : Memory) → n.geometry ≡ m.geometry → m.faults ≤ n.faults → m.read_faults ≤ n.read_faults → IsContinued m.told n.told → IsLater (device_of m) (device_of n)
@@ -101,9 +102,9 @@ pub read_whole : (m : Memory) → IsDevice (device_of m) → IsDevice (device_of
 read_whole m whole = read_whole_by m (is_read_refused m) (fault_of m) whole
 
 read_later_by : (m : Memory) (refused : Bool) (fault : Option Fault) → IsLater (device_of m) (device_of (cond refused (with_read_fault m) (read_by fault m)))
-read_later_by m true fault = later_of m (with_read_fault m) refl (count_up-le m.faults) (count_up-le m.read_faults) (continued_same m.told m.told.reads)
+read_later_by m true fault = later_of m (with_read_fault m) refl (more_is_more m.faults) (more_is_more m.read_faults) (continued_same m.told m.told.reads)
 read_later_by m false None = later_of m (read_by None m) refl (same_number m.faults) (same_number m.read_faults) (continued_same m.told (m.told.reads + 1))
-read_later_by m false (Some fault) = later_of m (read_by (Some fault) m) refl (count_up-le m.faults) (count_up-le m.read_faults) (continued_same m.told m.told.reads)
+read_later_by m false (Some fault) = later_of m (read_by (Some fault) m) refl (more_is_more m.faults) (more_is_more m.read_faults) (continued_same m.told m.told.reads)
 
 pub read_later : (m : Memory) → IsLater (device_of m) (device_of (after_read m))
 read_later m = read_later_by m (is_read_refused m) (fault_of m)
@@ -115,9 +116,9 @@ written_later m fault at bytes faults more =
     (continued_more m.told _ (change_of m.geometry.page at bytes m.told.image) refl refl)
 
 program_later_by : (m : Memory) (refused : Bool) (fault : Option Fault) (at : ℕ) (bytes : List ℕ) → IsLater (device_of m) (device_of (cond refused (with_fault m) (program_by fault at bytes m)))
-program_later_by m true fault at bytes = later_of m (with_fault m) refl (count_up-le m.faults) (same_number m.read_faults) (continued_same m.told m.told.reads)
+program_later_by m true fault at bytes = later_of m (with_fault m) refl (more_is_more m.faults) (same_number m.read_faults) (continued_same m.told m.told.reads)
 program_later_by m false None at bytes = written_later m None at bytes m.faults (same_number m.faults)
-program_later_by m false (Some fault) at bytes = written_later m (Some fault) at bytes (count_up m.faults) (count_up-le m.faults)
+program_later_by m false (Some fault) at bytes = written_later m (Some fault) at bytes (one_more m.faults) (more_is_more m.faults)
 
 pub program_later : (m : Memory) (at : ℕ) (bytes : List ℕ) → IsLater (device_of m) (device_of (after_program at bytes m))
 program_later m at bytes = program_later_by m (is_program_refused m (length bytes)) (fault_of m) at bytes
@@ -157,9 +158,9 @@ abbrev erase_change : Memory → ℕ → Change
 erase_change m block = change_of m.geometry.page (block * m.geometry.block) (blank_block m.geometry) m.told.image
 
 erase_later_by : (m : Memory) (refused : Bool) (fault : Option Fault) (block : ℕ) → IsLater (device_of m) (device_of (cond refused (with_fault m) (erase_by fault block m)))
-erase_later_by m true fault block = later_of m (with_fault m) refl (count_up-le m.faults) (same_number m.read_faults) (continued_same m.told m.told.reads)
+erase_later_by m true fault block = later_of m (with_fault m) refl (more_is_more m.faults) (same_number m.read_faults) (continued_same m.told m.told.reads)
 erase_later_by m false None block = later_of m (erase_by None block m) refl (same_number m.faults) (same_number m.read_faults) (continued_more m.told _ (erase_change m block) refl refl)
-erase_later_by m false (Some fault) block = later_of m (erase_by (Some fault) block m) refl (count_up-le m.faults) (same_number m.read_faults) (continued_more m.told _ (erase_change m block) refl refl)
+erase_later_by m false (Some fault) block = later_of m (erase_by (Some fault) block m) refl (more_is_more m.faults) (same_number m.read_faults) (continued_more m.told _ (erase_change m block) refl refl)
 
 pub erase_later : (m : Memory) (block : ℕ) → IsLater (device_of m) (device_of (after_erase block m))
 erase_later m block = erase_later_by m (is_erase_refused m block) (fault_of m) block

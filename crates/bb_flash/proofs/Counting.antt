@@ -5,8 +5,8 @@ use Rattle.std.specs.Option.{ForSome, is_some, option_map}
 use Rattle.std.proofs.lemmas.List.{length-take}
 use Rattle.std.proofs.lemmas.Option.{slice_get_within}
 use Rattle.bb_flash.specs.Calls.{IsUntouched}
-use Rattle.bb_flash.specs.Counted.{Counts, CountsNow, CountsTorn, EachCounted, IsFair}
-use Rattle.bb_flash.specs.Cuts.{Cuts, EachImage, IsContinued, IsLater, IsTornSince}
+use Rattle.bb_flash.specs.Counted.{Counts, CountsNow, EachCounted, IsFair}
+use Rattle.bb_flash.specs.Cuts.{Cuts, EachImage, IsContinued, IsLater}
 use Rattle.bb_flash.specs.Device.{Change, Device, Told, image_at, moment}
 use Rattle.bb_flash.specs.Image.{Image, Torn}
 use Rattle.bb_flash.proofs.Moments.{image_at-now}

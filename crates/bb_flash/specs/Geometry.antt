@@ -5,6 +5,10 @@ use Rattle.std.specs.List.{starts_with, before_first, after_first}
 use Rattle.bb_base.specs.Number.{number_of}
 use Rattle.bb_flash.specs.declared.geometry.Geometry.{Geometry}
 
+-- the most bytes that a device may have
+abbrev pub size_limit : ℕ
+size_limit = 268435456
+
 -- a device that is erased in blocks: its blocks hold whole pages, and the device holds whole blocks
 pub record HasBlocks (geometry : Geometry) : Type 0 where
   pub page_least : 16 ≤ geometry.page
@@ -18,7 +22,7 @@ pub record HasBlocks (geometry : Geometry) : Type 0 where
 pub record IsGeometry (geometry : Geometry) : Type 0 where
   pub page_some : 1 ≤ geometry.page
   pub size_some : 1 ≤ geometry.size
-  pub size_most : geometry.size ≤ 268435456
+  pub size_most : geometry.size ≤ size_limit
   pub in_place : geometry.block ≡ 0 → geometry.page ≡ 1
   pub blocks : 0 < geometry.block → HasBlocks geometry
 
@@ -54,7 +58,7 @@ blocks_from text =
     option_and_then
     (λ block.
     option_map (λ size. record { page = page; block = block; size = size })
-    (multiple_of block 1 268435456 (other_parts (other_parts text))))
+    (multiple_of block 1 size_limit (other_parts (other_parts text))))
     (multiple_of page 1 4194304 (first_part (other_parts text))))
     (multiple_of 1 16 16384 (first_part text))
 
@@ -62,5 +66,5 @@ blocks_from text =
 abbrev pub geometry_from : List ℕ → Option Geometry
 geometry_from word =
     if starts_with nat_eq word (codes "ov:")
-    then option_map in_place_of (multiple_of 1 1 268435456 (drop 3 word))
+    then option_map in_place_of (multiple_of 1 1 size_limit (drop 3 word))
     else (if starts_with nat_eq word (codes "er:") then blocks_from (drop 3 word) else None)

@@ -1,6 +1,7 @@
 -- A board in memory as contracts see it.
 use Rattle.std.specs.Prelude.{ℕ, ◌+◌, ◌-◌, ◌*◌, ◌/◌, ◌^◌, ◌<◌, ◌≤◌, ◌==◌, ◌&&◌, ◌||◌, Bool, true, false, nat_le, nat_lt, List, [], length, find, replicate, Option, Some, None, option_map, is_some, is_none, slice_index, slice_set, if◌then◌else◌}
 use Rattle.std.specs.List.{list_any}
+use Rattle.bb_base.specs.Faults.{one_more}
 use Rattle.bb_flash.specs.declared.geometry.Geometry.{Geometry}
 use Rattle.bb_flash.specs.declared.health.Health.{Health}
 use Rattle.bb_flash.specs.declared.health.Health.TheVariants.{Fine}
@@ -122,17 +123,13 @@ fails_to_program memory len = is_program_refused memory len || is_some (fault_of
 abbrev pub fails_to_erase : Memory → ℕ → Bool
 fails_to_erase memory block = is_erase_refused memory block || is_some (fault_of memory)
 
--- one more, up to the greatest number of 64 bits
-abbrev pub count_up : ℕ → ℕ
-count_up count = if is_full count then count else count + 1
-
 -- with one call more that failed
 abbrev pub with_fault : Memory → Memory
-with_fault memory = record memory { faults = count_up memory.faults }
+with_fault memory = record memory { faults = one_more memory.faults }
 
 -- with one read more that failed
 abbrev pub with_read_fault : Memory → Memory
-with_read_fault memory = record (with_fault memory) { read_faults = count_up memory.read_faults }
+with_read_fault memory = record (with_fault memory) { read_faults = one_more memory.read_faults }
 
 -- with one call more that is recorded, which was to write so many bytes, and met its planned fault
 abbrev pub with_call : Option Fault → ℕ → Memory → Memory
@@ -212,7 +209,7 @@ abbrev pub after_failed_start : Memory → Memory
 after_failed_start memory =
     record memory {
       tried = (if is_start_refused memory then memory.tried else memory.tried + 1);
-      start_faults = count_up memory.start_faults;
+      start_faults = one_more memory.start_faults;
     }
 
 -- after a start that was made; the copy of what the board holds takes room for good

@@ -1,6 +1,7 @@
 ghost use Rattle.std.specs.Prelude.{◌≡◌, ◌+◌, ◌*◌, ◌≤◌, length, option_map, IfOk, OnOk, OnErr};
 ghost use Rattle.std.specs.Option.{ForSome};
-ghost use Rattle.bb_flash.specs.Calls.{CanErase, CanProgram, IsChangeCall, IsReadCall, blank_block, told_after_erase, told_after_program};
+ghost use Rattle.bb_flash.specs.Calls.{CanErase, CanProgram, IsChangeCall, IsReadCall, blank_block};
+ghost use Rattle.bb_flash.specs.Calls.{told_after_erase, told_after_program};
 ghost use Rattle.bb_flash.specs.Device.{Device, IsDevice, IsReading, content, erases};
 
 use crate::{Geometry, Health};

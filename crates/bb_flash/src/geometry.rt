@@ -1,5 +1,6 @@
 ghost use Rattle.std.specs.Prelude.{◌≡◌, ◌/◌, ◌<◌, ◌==◌, IfSome, option_map, position};
-ghost use Rattle.bb_flash.specs.Geometry.{IsGeometry, IsMultiple, geometry_from, blocks_from, multiple_of, in_place_of, first_part, other_parts};
+ghost use Rattle.bb_flash.specs.Geometry.{IsGeometry, IsMultiple, geometry_from, blocks_from};
+ghost use Rattle.bb_flash.specs.Geometry.{multiple_of, in_place_of, first_part, other_parts, size_limit};
 
 use bb_base::read_number;
 
@@ -48,7 +49,7 @@ pub fn geometry_of(word: &str) -> Option<Geometry>
 }
 
 fn in_place(size: &[u8]) -> Option<Geometry>
-    ensures value { result ≡ option_map in_place_of (multiple_of 1 1 268435456 size.now) }
+    ensures value { result ≡ option_map in_place_of (multiple_of 1 1 size_limit size.now) }
     ensures bounds { IfSome result IsGeometry }
 {
     let size = multiple(1, 1, MOST_SIZE, size)?;

@@ -1,6 +1,8 @@
-ghost use Rattle.std.specs.Prelude.{◌≡◌, ◌+◌, ◌*◌, ◌<◌, ◌≤◌, ◌∷◌, length, option_map, IfOk, OnOk, OnErr, is_err};
+ghost use Rattle.std.specs.Prelude.{◌≡◌, ◌+◌, ◌*◌, ◌<◌, ◌≤◌, ◌∷◌, length, option_map, IfOk, OnOk};
+ghost use Rattle.std.specs.Prelude.{OnErr, is_err};
 ghost use Rattle.std.specs.Option.{ForSome};
-ghost use Rattle.bb_flash.specs.Calls.{CanErase, CanProgram, IsChangeCall, IsReadCall, blank_block, told_after_erase, told_after_program};
+ghost use Rattle.bb_flash.specs.Calls.{CanErase, CanProgram, IsChangeCall, IsReadCall, blank_block};
+ghost use Rattle.bb_flash.specs.Calls.{told_after_erase, told_after_program};
 ghost use Rattle.bb_flash.specs.Device.{IsReading, content, erases};
 ghost use Rattle.bb_flash.specs.Geometry.{IsGeometry};
 ghost use Rattle.bb_flash.specs.Memory as memory;

@@ -3,7 +3,8 @@ ghost use Rattle.std.specs.Result.{result_map_both};
 ghost use Rattle.hex.specs.Hex.{decode_of};
 ghost use Rattle.sha2.specs.Sha256.{sha256};
 ghost use Rattle.bb_hmac.specs.Hmac.{block_of, filled_block, masked_block};
-ghost use Rattle.bb_hmac.specs.Key.{IsBadAt, IsSpelt, digits_of, first_bad, is_blank, key_of, spelt_key};
+ghost use Rattle.bb_hmac.specs.Key.{IsBadAt, IsSpelt, digits_of, first_bad, is_blank, key_of};
+ghost use Rattle.bb_hmac.specs.Key.{spelt_key};
 ghost use Rattle.bb_hmac.specs.declared.error.KeyError.TheVariants.{BadHex, Empty};
 
 use crate::KeyError;

@@ -1,6 +1,7 @@
 ghost use Rattle.std.specs.Prelude.{◌≡◌, ◌≢◌, ◌≤◌, All, AllPairs, IfOk, IfErr, OnOk, map};
 ghost use Rattle.bb_base.specs.Form.{area_limit};
-ghost use Rattle.bb_layout.specs.Ranges.{AreApart, area_len_of, end_of, greatest_end, has_same_name, shares_byte, some_pair};
+ghost use Rattle.bb_layout.specs.Ranges.{AreApart, area_len_of, end_of, greatest_end};
+ghost use Rattle.bb_layout.specs.Ranges.{has_same_name, shares_byte, some_pair};
 ghost use Rattle.bb_layout.specs.Spans.{has_meeting_spans, span_of};
 ghost use Rattle.bb_layout.specs.VarNames.{is_first_of_name};
 ghost use Rattle.bb_layout.specs.Variables.{IsWellFormed};

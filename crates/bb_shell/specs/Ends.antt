@@ -27,7 +27,7 @@ use Rattle.bb_shell.specs.declared.outcome.Outcome.TheVariants.{Refused, Unplann
 -- ---- before
 
 -- a chooser's variables are those of a layout
-pub record IsBoundTo (b : Binding) (layout : Laid) : Type 0 where
+pub record IsBoundIn (b : Binding) (layout : Laid) : Type 0 where
   pub area_len : b.area_len ≡ layout.area_len
   pub vars : bindings.IsBoundTo layout.vars b
 
@@ -38,7 +38,7 @@ pub record IsReady (b : Binding) (state : State) (device : Device) : Type 0 wher
   pub fits : FitsForm state
   pub sure : is_sure state ≡ true
   pub on : IsOn state device
-  pub bound : IsBoundTo b (laid_of state)
+  pub bound : IsBoundIn b (laid_of state)
 
 -- ---- behind
 

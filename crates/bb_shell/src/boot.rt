@@ -1,4 +1,5 @@
-ghost use Rattle.std.specs.Prelude.{◌≡◌, ◌<◌, ◌≤◌, ◌^◌, ◌↔◌, IfSome, IsNone, IsSome, not, length, true};
+ghost use Rattle.std.specs.Prelude.{◌≡◌, ◌<◌, ◌≤◌, ◌^◌, ◌↔◌, IfSome, IsNone, IsSome, not, length};
+ghost use Rattle.std.specs.Prelude.{true};
 ghost use Rattle.bb_base.specs.Form.{area_limit};
 ghost use Rattle.bb_chooser.specs.Binding.{IsBinding};
 ghost use Rattle.bb_chooser.specs.Choosing.{IsBest};
@@ -6,8 +7,10 @@ ghost use Rattle.bb_chooser.specs.Others.{KeepsOthers};
 ghost use Rattle.bb_copies.specs.Loading.{KeepsOutside};
 ghost use Rattle.bb_flash.specs.Cuts.{IsLater};
 ghost use Rattle.bb_shell.specs.Boot.{NoneQualifies, all_attempts, end_by, first_table, is_retried};
-ghost use Rattle.bb_shell.specs.Ends.{AddsStarts, HasEndCause, HaveRun, IsBooted, IsReady, IsUnchanged, StaysStored, is_fault};
-ghost use Rattle.bb_state.specs.State.{FitsForm, IsOn, IsSized, is_sure, kept_of, keyed_of, kinds_of};
+ghost use Rattle.bb_shell.specs.Ends.{AddsStarts, HasEndCause, HaveRun, IsBooted, IsReady};
+ghost use Rattle.bb_shell.specs.Ends.{IsUnchanged, StaysStored, is_fault};
+ghost use Rattle.bb_state.specs.State.{FitsForm, IsOn, IsSized, is_sure, kept_of, keyed_of};
+ghost use Rattle.bb_state.specs.State.{kinds_of};
 
 use crate::boot_end::BootEnd;
 use crate::outcome::Outcome;

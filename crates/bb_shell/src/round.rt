@@ -7,7 +7,8 @@ ghost use Rattle.bb_flash.specs.Device.{IsDevice};
 ghost use Rattle.bb_shell.specs.Boot.{IsOutcome, IsRound, plan_at};
 ghost use Rattle.bb_shell.specs.Ends.{AddsStart, IsReady, StaysStored, failed_start};
 ghost use Rattle.bb_shell.specs.Running.{IsRoundRun, IsTried, is_refused};
-ghost use Rattle.bb_state.specs.State.{FitsForm, IsOn, IsSized, is_sure, kept_of, keyed_of, kinds_of, used_of};
+ghost use Rattle.bb_state.specs.State.{FitsForm, IsOn, IsSized, is_sure, kept_of, keyed_of};
+ghost use Rattle.bb_state.specs.State.{kinds_of, used_of};
 
 use crate::outcome::Outcome;
 use bb_chooser::Chooser;

@@ -209,18 +209,18 @@ keyed_sized state geometry tree key =
 
 -- ---- what a boot is bound to
 
-abbrev pub IsBoundTo : Laid → Binding → Type 0
-IsBoundTo layout targets = targets.area_len ≡ layout.area_len
+abbrev pub IsAsLongAs : Laid → Binding → Type 0
+IsAsLongAs layout targets = targets.area_len ≡ layout.area_len
 
 bind_sized : (settings : Configuration) (layout : Laid) →
-    IfOk (bind_from settings layout.name layout.vars layout.area_len) (IsBoundTo layout)
+    IfOk (bind_from settings layout.name layout.vars layout.area_len) (IsAsLongAs layout)
 bind_sized settings layout =
-    then_ok (IsBoundTo layout)
+    then_ok (IsAsLongAs layout)
     (λ (targets : List BoundTarget).
     result_and_then (λ place. Ok (binding targets settings.rules place layout.area_len))
     (uint32_at layout.name layout.vars (last_chosen_name settings.prefix)))
     (all_ok (map (bound_of layout.name layout.vars settings.prefix) settings.targets)) (λ targets has_targets.
-    then_ok (IsBoundTo layout) (λ place. Ok (binding targets settings.rules place layout.area_len))
+    then_ok (IsAsLongAs layout) (λ place. Ok (binding targets settings.rules place layout.area_len))
     (uint32_at layout.name layout.vars (last_chosen_name settings.prefix)) (λ place has_place. refl))
 
 bound_apart : (file : List ℕ) (layout : Laid) (answer : FileAnswer) → IsSized layout → IfOk (binding_in file layout answer) IsBinding
@@ -231,12 +231,12 @@ bound_apart file layout answer sized =
     (then_ok IsBinding (λ settings. bind_from settings layout.name layout.vars layout.area_len) (settings_of text)
     (λ settings read. bind_apart text settings layout read sized.vars sized.short)))
 
-bound_sized : (file : List ℕ) (layout : Laid) (answer : FileAnswer) → IfOk (binding_in file layout answer) (IsBoundTo layout)
+bound_sized : (file : List ℕ) (layout : Laid) (answer : FileAnswer) → IfOk (binding_in file layout answer) (IsAsLongAs layout)
 bound_sized file layout answer =
-    then_ok (IsBoundTo layout) (λ text. refused_as refusals.BadSettings (bound_in layout text)) (bytes_in file answer)
+    then_ok (IsAsLongAs layout) (λ text. refused_as refusals.BadSettings (bound_in layout text)) (bytes_in file answer)
     (λ text has_bytes.
-    as_ok (IsBoundTo layout) refusals.BadSettings (bound_in layout text)
-    (then_ok (IsBoundTo layout) (λ settings. bind_from settings layout.name layout.vars layout.area_len) (settings_of text)
+    as_ok (IsAsLongAs layout) refusals.BadSettings (bound_in layout text)
+    (then_ok (IsAsLongAs layout) (λ settings. bind_from settings layout.name layout.vars layout.area_len) (settings_of text)
     (λ settings read. bind_sized settings layout)))
 
 -- ---- the plan
@@ -244,7 +244,7 @@ bound_sized file layout answer =
 -- of a boot: it was bound to the variables of the layout, of which no two share a byte
 pub record IsSizedBoot (layout : Laid) (targets : Binding) : Type 0 where
   pub layout_is : IsSized layout
-  pub bound : IsBoundTo layout targets
+  pub bound : IsAsLongAs layout targets
   pub binding : IsBinding targets
 
 abbrev pub IsSizedWork : Work → Laid → Type 0
@@ -293,7 +293,7 @@ plan_sized (Ok (BootWords command)) geometry files =
     record {
       layout_is = sized;
       bound =
-          if_ok (IsBoundTo keyed.layout) is_bound targets bound (bound_sized command.settings keyed.layout (files.named Settings));
+          if_ok (IsAsLongAs keyed.layout) is_bound targets bound (bound_sized command.settings keyed.layout (files.named Settings));
       binding = if_ok IsBinding is_bound targets bound (bound_apart command.settings keyed.layout (files.named Settings) sized);
     })))
 plan_sized (Err place) geometry files = tt

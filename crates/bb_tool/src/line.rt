@@ -1,5 +1,8 @@
-ghost use Rattle.std.specs.Prelude.{◌≡◌, ◌≤◌, ◌++◌, true, IfOk, IfSome, None, codes, decimal, length, string_bytes};
-ghost use Rattle.bb_tool.specs.Refusal.{blob_words, fault_text, field_name, key_words, layout_words, line_of, refusal_words, settings_words, tree_words, value_words, variable_words};
+ghost use Rattle.std.specs.Prelude.{◌≡◌, ◌≤◌, ◌++◌, true, IfOk, IfSome, None, codes, decimal};
+ghost use Rattle.std.specs.Prelude.{length, string_bytes};
+ghost use Rattle.bb_tool.specs.Refusal.{blob_words, fault_text, field_name, key_words};
+ghost use Rattle.bb_tool.specs.Refusal.{layout_words, line_of, refusal_words, settings_words};
+ghost use Rattle.bb_tool.specs.Refusal.{tree_words, value_words, variable_words};
 ghost use Rattle.bb_tool.specs.Telling.{takes_memory};
 
 use crate::Status;

@@ -1,13 +1,21 @@
 ghost use Rattle.std.specs.Prelude.{◌≡◌, ◌≤◌, false, IfErr, IfOk};
 ghost use Rattle.bb_flash.specs.Cuts.{IsLater};
-ghost use Rattle.bb_tool.specs.Calls.{AsksNothing, ComesByDevice, ComesByFiles, ComesByOutlet, ComesByPlan, ComesByPlanAlone, ComesByReads, ComesByTable, ComesByWords, CutsTheText, IsSession, IsUndisturbed, IsUndisturbedAlone, KeepsFiles, KeepsHistory, LeavesUnnamedFiles, NamesTheCopy, WantsMemory};
-ghost use Rattle.bb_tool.specs.Copying.{KeepsATrail, KeepsAtExit, KeepsOthers, KnowsWriteFaults, LeavesUnread, MakesAlike, StopsAtFileFault, StopsBetweenSaves, WritesExactly};
+ghost use Rattle.bb_tool.specs.Calls.{AsksNothing, ComesByDevice, ComesByFiles, ComesByOutlet};
+ghost use Rattle.bb_tool.specs.Calls.{ComesByPlan, ComesByPlanAlone, ComesByReads, ComesByTable};
+ghost use Rattle.bb_tool.specs.Calls.{ComesByWords, CutsTheText, IsSession, IsUndisturbed};
+ghost use Rattle.bb_tool.specs.Calls.{IsUndisturbedAlone, KeepsFiles, KeepsHistory};
+ghost use Rattle.bb_tool.specs.Calls.{LeavesUnnamedFiles, NamesTheCopy, WantsMemory};
+ghost use Rattle.bb_tool.specs.Copying.{KeepsATrail, KeepsAtExit, KeepsOthers, KnowsWriteFaults};
+ghost use Rattle.bb_tool.specs.Copying.{LeavesUnread, MakesAlike, StopsAtFileFault};
+ghost use Rattle.bb_tool.specs.Copying.{StopsBetweenSaves, WritesExactly};
 ghost use Rattle.bb_tool.specs.Ending.{IsGiven};
 ghost use Rattle.bb_tool.specs.Filing.{IsFolderLater};
 ghost use Rattle.bb_tool.specs.Plan.{names_file};
 ghost use Rattle.bb_tool.specs.Ran.{ran_by};
 ghost use Rattle.bb_tool.specs.Refusal.{IsTellable};
-ghost use Rattle.bb_tool.specs.Starting.{BootsInTurn, CountsFailedStarts, KnowsStartFaults, NamesTheTarget, RunsRounds, StartsAtMostOne, StartsBehindSave, StartsTheLast};
+ghost use Rattle.bb_tool.specs.Starting.{BootsInTurn, CountsFailedStarts, KnowsStartFaults};
+ghost use Rattle.bb_tool.specs.Starting.{NamesTheTarget, RunsRounds, StartsAtMostOne};
+ghost use Rattle.bb_tool.specs.Starting.{StartsBehindSave, StartsTheLast};
 ghost use Rattle.bb_tool.specs.Work.{IsSendable};
 
 use crate::Status;

@@ -1,6 +1,7 @@
 ghost use Rattle.std.specs.Prelude.{◌≡◌, ◌≤◌, ◌++◌, OnOk, length, true};
 ghost use Rattle.bb_tool.specs.Refusal.{IsTellable, fault_text, line_of, status_of};
-ghost use Rattle.bb_tool.specs.Telling.{IsTold, IsToldMade, IsToldMemory, IsToldOr, IsToldRefusal, IsToldReport, status_unsent, takes_memory};
+ghost use Rattle.bb_tool.specs.Telling.{IsTold, IsToldMade, IsToldMemory, IsToldOr, IsToldRefusal};
+ghost use Rattle.bb_tool.specs.Telling.{IsToldReport, status_unsent, takes_memory};
 ghost use Rattle.bb_tool.specs.Work.{IsSendable};
 
 use crate::Status;

@@ -1,6 +1,8 @@
 ghost use Rattle.std.specs.Prelude.{◌≡◌, ◌≤◌, ◌<◌, ◌+◌, ◌-◌, ◌^◌, false, length, map, take};
-ghost use Rattle.bb_tree.specs.Blob.{blob_text, devicetree_of, length_in_64_bits, has_name, whole_words};
-ghost use Rattle.bb_tree.specs.BlobLength.{nodes_length, props_length, node_names, names_in, name_growth, growth_at, StandAt};
+ghost use Rattle.bb_tree.specs.Blob.{blob_text, devicetree_of, length_in_64_bits, has_name};
+ghost use Rattle.bb_tree.specs.Blob.{whole_words};
+ghost use Rattle.bb_tree.specs.BlobLength.{nodes_length, props_length, node_names, names_in};
+ghost use Rattle.bb_tree.specs.BlobLength.{name_growth, growth_at, StandAt};
 ghost use Rattle.bb_tree.specs.Node.{grow, empty};
 ghost use Rattle.bb_tree.specs.NodeViews.{branch_of, prop_pair};
 

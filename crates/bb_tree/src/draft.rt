@@ -1,4 +1,5 @@
-ghost use Rattle.std.specs.Prelude.{◌≡◌, ◌≢◌, ◌↔◌, ◌++◌, ◌∷◌, [], None, OnOk, OnErr, IfOk, IfErr, IsSome, IsTrue, is_some, length, ◌≤◌};
+ghost use Rattle.std.specs.Prelude.{◌≡◌, ◌≢◌, ◌↔◌, ◌++◌, ◌∷◌, [], None, OnOk, OnErr, IfOk, IfErr};
+ghost use Rattle.std.specs.Prelude.{IsSome, IsTrue, is_some, length, ◌≤◌};
 ghost use Rattle.std.specs.Option.{option_copied};
 ghost use Rattle.bb_tree.specs.Draft.{path_labelled};
 ghost use Rattle.bb_tree.specs.Texts.{labels_in};
@@ -41,7 +42,8 @@ impl Model for Draft {
 }
 
 impl Draft {
-    ghost use Rattle.bb_tree.specs.Draft.{empty_draft, names_another, draft_with_label, draft_with_pair, draft_with_body};
+    ghost use Rattle.bb_tree.specs.Draft.{empty_draft, names_another, draft_with_label};
+    ghost use Rattle.bb_tree.specs.Draft.{draft_with_pair, draft_with_body};
     ghost use Rattle.bb_tree.specs.DraftViews.{draft_of};
     ghost use Rattle.bb_tree.specs.NodeViews.{branch_of};
     ghost use Rattle.bb_tree.specs.Node.{preorder};

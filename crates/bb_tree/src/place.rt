@@ -2,7 +2,8 @@ ghost use Rattle.std.specs.Prelude.{◌≡◌, ◌<◌, OnOk, IfOk, vec_len};
 ghost use Rattle.std.specs.Map.{lookup};
 ghost use Rattle.std.specs.Str.{bytes_eq};
 ghost use Rattle.bb_tree.specs.Paths.{names_between};
-ghost use Rattle.bb_tree.specs.Slots.{IsSound, IsRooted, Changes, HasChild, slot_at_path, slot_through, table_at, with_prop};
+ghost use Rattle.bb_tree.specs.Slots.{IsSound, IsRooted, Changes, HasChild, slot_at_path};
+ghost use Rattle.bb_tree.specs.Slots.{slot_through, table_at, with_prop};
 
 use crate::DraftProp;
 use crate::slot::Slot;

@@ -1,5 +1,6 @@
 ghost use Rattle.std.specs.Prelude.{◌≡◌, ◌++◌, ◌∷◌, [], OnOk, IfErr};
-ghost use Rattle.bb_tree.specs.SlotValues.{Surveys, references_at, references_of_part, references_of_props, references_of_value};
+ghost use Rattle.bb_tree.specs.SlotValues.{Surveys, references_at, references_of_part};
+ghost use Rattle.bb_tree.specs.SlotValues.{references_of_props, references_of_value};
 ghost use Rattle.bb_tree.specs.Slots.{IsSound, props_at};
 ghost use Rattle.bb_tree.specs.Texts.{labels_in};
 

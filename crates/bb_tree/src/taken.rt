@@ -1,8 +1,10 @@
-ghost use Rattle.std.specs.Prelude.{List, ℕ, codes, vec_len, IfOk, ◌≡◌, ◌<◌, ◌≤◌, ◌^◌, ◌-◌, ◌++◌, ◌∷◌, [], false, IfSome, OnOk};
+ghost use Rattle.std.specs.Prelude.{List, ℕ, codes, vec_len, IfOk, ◌≡◌, ◌<◌, ◌≤◌, ◌^◌, ◌-◌, ◌++◌};
+ghost use Rattle.std.specs.Prelude.{◌∷◌, [], false, IfSome, OnOk};
 ghost use Rattle.bb_tree.specs.Resolve.{phandle_value};
 ghost use Rattle.bb_tree.specs.SlotValues.{phandles_at};
 ghost use Rattle.bb_tree.specs.Slots.{IsSound};
-ghost use Rattle.bb_tree.specs.Taking.{Gives, IsNumbered, IsTaken, LeadAll, Takes, TakesAll, TakenBelow, has};
+ghost use Rattle.bb_tree.specs.Taking.{Gives, IsNumbered, IsTaken, LeadAll, Takes, TakesAll};
+ghost use Rattle.bb_tree.specs.Taking.{TakenBelow, has};
 
 use crate::place::put_prop;
 use crate::slot::Slot;

@@ -5,7 +5,8 @@ ghost use Rattle.std.specs.Option.{option_copied};
 ghost use Rattle.std.specs.Str.{bytes_eq};
 ghost use Rattle.bb_tree.specs.Draft.{path_labelled};
 ghost use Rattle.bb_tree.specs.Resolve as resolve;
-ghost use Rattle.bb_tree.specs.SlotValues.{cell_labelled, part_in, phandle_at, slot_labelled, value_in};
+ghost use Rattle.bb_tree.specs.SlotValues.{cell_labelled, part_in, phandle_at, slot_labelled};
+ghost use Rattle.bb_tree.specs.SlotValues.{value_in};
 ghost use Rattle.bb_tree.specs.Slots.{IsSound, props_at};
 ghost use Rattle.bb_tree.specs.Texts.{labels_in};
 

@@ -1,4 +1,5 @@
-ghost use Rattle.std.specs.Prelude.{◌≡◌, ◌+◌, ◌<◌, ◌≤◌, ◌⊎◌, List, ℕ, length, slice_index, slice_range};
+ghost use Rattle.std.specs.Prelude.{◌≡◌, ◌+◌, ◌<◌, ◌≤◌, ◌⊎◌, List, ℕ, length, slice_index};
+ghost use Rattle.std.specs.Prelude.{slice_range};
 ghost use Rattle.bb_vars.specs.declared.kind.Kind.{Kind};
 ghost use Rattle.bb_vars.specs.Kind.{size_of, HasFewNames};
 ghost use Rattle.bb_vars.specs.RoundTrip.{IsValue, ReadsBack, plain_text};

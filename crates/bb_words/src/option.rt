@@ -1,6 +1,7 @@
 ghost use Rattle.std.specs.Prelude.{◌≡◌};
 ghost use Rattle.std.specs.Option.{option_map};
-ghost use Rattle.bb_words.specs.Options.{cause_of, cut_at_sign, dump_of, long_of, valued_of, value_in};
+ghost use Rattle.bb_words.specs.Options.{cause_of, cut_at_sign, dump_of, long_of, valued_of};
+ghost use Rattle.bb_words.specs.Options.{value_in};
 
 use crate::{Action, CauseWord};
 

@@ -1,9 +1,11 @@
-ghost use Rattle.std.specs.Prelude.{◌≡◌, ◌≤◌, ℕ, IfOk, IfErr, IfSome, OnOk, drop, length, option_and_then, slice_get};
+ghost use Rattle.std.specs.Prelude.{◌≡◌, ◌≤◌, ℕ, IfOk, IfErr, IfSome, OnOk, drop, length};
+ghost use Rattle.std.specs.Prelude.{option_and_then, slice_get};
 ghost use Rattle.std.specs.Option.{ok_or};
 ghost use Rattle.bb_words.specs.Answer.{IsSizedFor, IsSizedRaw, Refuses};
 ghost use Rattle.bb_words.specs.declared.command.Command.{Command};
 ghost use Rattle.bb_words.specs.declared.command.Command.TheVariants.{Raw};
-ghost use Rattle.bb_words.specs.Words.{Magic, Mode, Whole, raw_of, number_up_to, area_of, words_from};
+ghost use Rattle.bb_words.specs.Words.{Magic, Mode, Whole, raw_of, number_up_to, area_of};
+ghost use Rattle.bb_words.specs.Words.{words_from};
 
 use crate::word::word_at;
 use crate::{RawAction, RawCommand, WordsError};

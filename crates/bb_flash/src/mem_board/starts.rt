@@ -1,4 +1,5 @@
-ghost use Rattle.std.specs.Prelude.{◌≡◌, ◌==◌, ◌+◌, ◌-◌, ◌≤◌, ◌++◌, ◌∷◌, [], length, option_map, slice_get, IsErr, IsTrue, OnErr, OnOk};
+ghost use Rattle.std.specs.Prelude.{◌≡◌, ◌==◌, ◌+◌, ◌-◌, ◌≤◌, ◌++◌, ◌∷◌, [], length, option_map};
+ghost use Rattle.std.specs.Prelude.{slice_get, IsErr, IsTrue, OnErr, OnOk};
 ghost use Rattle.std.specs.Bool.{OnFalse};
 ghost use Rattle.std.specs.List.{list_any};
 ghost use Rattle.std.specs.Option.{option_copied};
@@ -6,6 +7,7 @@ ghost use Rattle.bb_base.specs.Faults.{HasCause};
 ghost use Rattle.bb_flash.specs.Calls.{told_after_start};
 ghost use Rattle.bb_flash.specs.Cuts.{IsLater};
 ghost use Rattle.bb_flash.specs.Device.{IsDevice, StartKeeps};
+ghost use Rattle.bb_base.specs.Faults.{one_more};
 ghost use Rattle.bb_flash.specs.Memory as memory;
 ghost use Rattle.bb_flash.specs.Memory.{device_of};
 
@@ -91,7 +93,7 @@ impl MemBoard {
 
     fn count_failed_start(&mut self) -> Failed
         ensures { self.new
-            ≡ record self.old { start_faults = memory.count_up self.old.start_faults } }
+            ≡ record self.old { start_faults = one_more self.old.start_faults } }
     {
         self.start_faults = self.start_faults.saturating_add(1);
         Failed
