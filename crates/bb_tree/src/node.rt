@@ -49,6 +49,10 @@ impl NodeList {
             ≡ branches_of self.old ++ branch_of node ∷ []) }
         ensures err { OnErr result (branches_of self.new ≡ branches_of self.old) }
     {
+        // many nodes hold one node
+        if self.inner.is_empty() {
+            self.inner.reserve_exact(1)?;
+        }
         self.inner.push(node)?;
         Ok(())
     }

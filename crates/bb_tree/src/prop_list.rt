@@ -44,6 +44,10 @@ impl PropList {
         ensures ok { OnOk result (self.new ≡ self.old ++ prop ∷ []) }
         ensures err { OnErr result (self.new ≡ self.old) }
     {
+        // many lists have one property
+        if self.inner.is_empty() {
+            self.inner.reserve_exact(1)?;
+        }
         self.inner.push(prop)?;
         Ok(())
     }
