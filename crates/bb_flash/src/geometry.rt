@@ -1,6 +1,7 @@
 ghost use Rattle.std.specs.Prelude.{◌≡◌, ◌/◌, ◌<◌, ◌==◌, IfSome, option_map, position};
 ghost use Rattle.bb_flash.specs.Geometry.{IsGeometry, IsMultiple, geometry_from, blocks_from};
-ghost use Rattle.bb_flash.specs.Geometry.{multiple_of, in_place_of, first_part, other_parts, size_limit};
+ghost use Rattle.bb_flash.specs.Geometry.{multiple_of, in_place_of, first_part, other_parts};
+ghost use Rattle.bb_flash.specs.Geometry.{size_limit};
 
 use bb_base::read_number;
 
