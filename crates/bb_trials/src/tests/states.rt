@@ -1,5 +1,5 @@
 // Looks at a state: its file, its layout, and what is shown of it.
-use super::{blank, board, entry, fresh, strides, words, written};
+use super::{answers, blank, board, entry, fresh, holds, sent, strides, words, written};
 use bb_base::{MemFiles, MemSink};
 use bb_flash::{Fault, Fill, MemBoard};
 use bb_tool::{Status, run};
@@ -26,7 +26,9 @@ const DEFAULTS: &str = "n=3\nmode=backup\nc=0\n";
 // The table that `123456789` is: two numbers of 4 bytes, the second of which names nothing, and one byte.
 const FOUND: &str = "n=875770417\nmode=943142453\nc=57\n";
 
-const DUMP: [&str; 4] = ["state", "-i", "a.dts", "-d"];
+fn dump() -> [&'static str; 4] {
+    ["state", "-i", "a.dts", "-d"]
+}
 
 fn files(alloc: Global, text: &str) -> Result<MemFiles, Fail> {
     let mut files = MemFiles::none(alloc);
@@ -34,7 +36,19 @@ fn files(alloc: Global, text: &str) -> Result<MemFiles, Fail> {
     Ok(files)
 }
 
-// What a session of these words answers and sends.
+// What a session of these words answers. It sends to `out`.
+fn session(
+    alloc: Global,
+    all: &[&str],
+    files: &mut MemFiles,
+    device: &mut MemBoard,
+    out: &mut MemSink,
+) -> Result<Status, Fail> {
+    let list = words(alloc, all)?;
+    Ok(run(alloc, &list, files, device, out))
+}
+
+// A session of these words answers and sends this.
 fn says(
     rt: &impl Abort,
     alloc: Global,
@@ -42,16 +56,37 @@ fn says(
     files: &mut MemFiles,
     device: &mut MemBoard,
     status: Status,
-    text: &str,
+    sends: &str,
 ) -> Result<(), Fail> {
     let mut out = MemSink::with_room(alloc, 200)?;
-    let list = words(alloc, all)?;
-    assert_eq!(rt; run(alloc, &list, files, device, &mut out), status);
-    assert_eq!(rt; out.sent_bytes(), text.as_bytes());
+    let answer = session(alloc, all, files, device, &mut out)?;
+    answers(rt, answer, status, sends);
+    sent(rt, &out, sends);
     Ok(())
 }
 
-// The same of words that are refused before the device is asked, whose first call would fail.
+// The same over a file with this text.
+fn says_of(
+    rt: &impl Abort,
+    alloc: Global,
+    all: &[&str],
+    text: &str,
+    device: &mut MemBoard,
+    status: Status,
+    sends: &str,
+) -> Result<(), Fail> {
+    let mut files = files(alloc, text)?;
+    says(rt, alloc, all, &mut files, device, status, sends)
+}
+
+// A fresh device whose first call fails.
+fn failing(alloc: Global) -> Result<MemBoard, Fail> {
+    let mut device = board(alloc, &fresh())?;
+    device.plan_fault(0, Fault::Fail(Fill::Old))?;
+    Ok(device)
+}
+
+// The words are refused before the device is asked, whose first call would fail.
 fn refuses(
     rt: &impl Abort,
     alloc: Global,
@@ -60,17 +95,8 @@ fn refuses(
     status: Status,
     line: &str,
 ) -> Result<(), Fail> {
-    let mut device = board(rt, alloc, "ov:192", &fresh())?;
-    device.plan_fault(0, Fault::Fail(Fill::Old))?;
-    says(
-        rt,
-        alloc,
-        all,
-        &mut files(alloc, text)?,
-        &mut device,
-        status,
-        line,
-    )
+    let mut device = failing(alloc)?;
+    says_of(rt, alloc, all, text, &mut device, status, line)
 }
 
 // The session ends with this text, and the status of one that was done.
@@ -79,76 +105,56 @@ fn prints(
     alloc: Global,
     words: &[&str],
     device: &mut MemBoard,
-    text: &str,
+    sends: &str,
 ) -> Result<(), Fail> {
-    let mut files = files(alloc, tree())?;
-    says(rt, alloc, words, &mut files, device, Status::Done, text)
+    says_of(rt, alloc, words, tree(), device, Status::Done, sends)
+}
+
+fn shows_defaults(rt: &impl Abort, alloc: Global, device: &mut MemBoard) -> Result<(), Fail> {
+    let get = ["state", "-g", "mode", "--input=a.dts", "--get", "n"];
+    prints(rt, alloc, &get, device, "backup\n3\n")?;
+    prints(rt, alloc, &dump(), device, DEFAULTS)?;
+    let shell = ["state", "-i", "a.dts", "--dump-shell"];
+    let text = "state_n=\"3\"\nstate_mode=\"backup\"\nstate_c=\"0\"\n";
+    prints(rt, alloc, &shell, device, text)
 }
 
 #[test]
 fn a_fresh_device_shows_the_defaults(rt: HostRuntime) -> Result<(), Fail> {
     let alloc = rt.alloc();
-    let mut device = board(&rt, alloc, "ov:192", &fresh())?;
-    let get = ["state", "-g", "mode", "--input=a.dts", "--get", "n"];
-    prints(&rt, alloc, &get, &mut device, "backup\n3\n")?;
-    prints(&rt, alloc, &DUMP, &mut device, DEFAULTS)?;
-    let shell = ["state", "-i", "a.dts", "--dump-shell"];
-    let text = "state_n=\"3\"\nstate_mode=\"backup\"\nstate_c=\"0\"\n";
-    prints(&rt, alloc, &shell, &mut device, text)?;
-    assert_eq!(rt; device.bytes(), fresh().as_slice());
+    let mut device = board(alloc, &fresh())?;
+    shows_defaults(&rt, alloc, &mut device)?;
+    holds(&rt, &device, &fresh());
     Ok(())
+}
+
+// A device with these bytes prints this table.
+fn dumps(rt: &impl Abort, alloc: Global, bytes: &[u8], table: &str) -> Result<(), Fail> {
+    let mut device = board(alloc, bytes)?;
+    prints(rt, alloc, &dump(), &mut device, table)
 }
 
 #[test]
 fn the_first_passing_copy_is_shown(rt: HostRuntime) -> Result<(), Fail> {
     let alloc = rt.alloc();
-    let mut files = files(alloc, tree())?;
-    let mut all = board(&rt, alloc, "ov:192", &written())?;
-    says(&rt, alloc, &DUMP, &mut files, &mut all, Status::Done, FOUND)?;
+    dumps(&rt, alloc, &written(), FOUND)?;
     let mut bytes = strides([blank(), entry(), blank()]);
-    let mut one = board(&rt, alloc, "ov:192", &bytes)?;
-    says(&rt, alloc, &DUMP, &mut files, &mut one, Status::Done, FOUND)?;
+    dumps(&rt, alloc, &bytes, FOUND)?;
     // One bit of the area in copy 1 is another one.
     bytes[64 + 24] = 0x30;
-    let mut none = board(&rt, alloc, "ov:192", &bytes)?;
-    says(
-        &rt,
-        alloc,
-        &DUMP,
-        &mut files,
-        &mut none,
-        Status::Done,
-        DEFAULTS,
-    )
+    dumps(&rt, alloc, &bytes, DEFAULTS)
 }
 
 #[test]
 fn refused_words_come_before_the_device(rt: HostRuntime) -> Result<(), Fail> {
     let alloc = rt.alloc();
-    refuses(
-        &rt,
-        alloc,
-        &["state", "-d"],
-        tree(),
-        Status::BadWords,
-        "fault 1 BadWords 3\n",
-    )?;
-    refuses(
-        &rt,
-        alloc,
-        &["state", "-i", "no.dts"],
-        tree(),
-        Status::FileMissing,
-        "fault 5 FileMissing no.dts\n",
-    )?;
-    refuses(
-        &rt,
-        alloc,
-        &["state", "-i", "a.dts", "-g", "nope"],
-        tree(),
-        Status::BadVariable,
-        "fault 4 BadVariable nope NoSuchVariable\n",
-    )
+    let (words, line) = (["state", "-d"], "fault 1 BadWords 3\n");
+    refuses(&rt, alloc, &words, tree(), Status::BadWords, line)?;
+    let (words, line) = (["state", "-i", "no.dts"], "fault 5 FileMissing no.dts\n");
+    refuses(&rt, alloc, &words, tree(), Status::FileMissing, line)?;
+    let words = ["state", "-i", "a.dts", "-g", "nope"];
+    let line = "fault 4 BadVariable nope NoSuchVariable\n";
+    refuses(&rt, alloc, &words, tree(), Status::BadVariable, line)
 }
 
 #[test]
@@ -156,40 +162,45 @@ fn refused_sources_come_before_the_device(rt: HostRuntime) -> Result<(), Fail> {
     let alloc = rt.alloc();
     let left_out = "/dts-v1/; / { a = <(1)>; };";
     let line = "fault 2 BadTree LeftOut 19\n";
-    refuses(&rt, alloc, &DUMP, left_out, Status::BadTree, line)?;
+    refuses(&rt, alloc, &dump(), left_out, Status::BadTree, line)?;
     let too_large = "/dts-v1/; / { a = <4294967296>; };";
     let line = "fault 2 BadTree NumberTooLarge 19\n";
-    refuses(&rt, alloc, &DUMP, too_large, Status::BadTree, line)?;
+    refuses(&rt, alloc, &dump(), too_large, Status::BadTree, line)?;
     let no_state = "/dts-v1/; / { a = <4294967295>; };";
     let line = "fault 3 BadLayout NoState\n";
-    refuses(&rt, alloc, &DUMP, no_state, Status::BadLayout, line)
+    refuses(&rt, alloc, &dump(), no_state, Status::BadLayout, line)
+}
+
+fn failing_files(alloc: Global) -> Result<MemFiles, Fail> {
+    let mut files = files(alloc, tree())?;
+    files.fail_call(0)?;
+    Ok(files)
+}
+
+// The file isn't read, and after it, by the same files, the device isn't.
+fn tells_both_faults(rt: &impl Abort, alloc: Global, device: &mut MemBoard) -> Result<(), Fail> {
+    let mut files = failing_files(alloc)?;
+    tells_each(rt, alloc, &mut files, device)
+}
+
+fn tells_each(
+    rt: &impl Abort,
+    alloc: Global,
+    files: &mut MemFiles,
+    device: &mut MemBoard,
+) -> Result<(), Fail> {
+    let line = "fault 6 FileFault a.dts\n";
+    says(rt, alloc, &dump(), files, device, Status::FileFault, line)?;
+    device.plan_fault(0, Fault::Fail(Fill::Old))?;
+    let line = "fault 8 ReadFault\n";
+    says(rt, alloc, &dump(), files, device, Status::ReadFault, line)
 }
 
 #[test]
 fn faults_of_the_files_and_the_device_are_told(rt: HostRuntime) -> Result<(), Fail> {
     let alloc = rt.alloc();
-    let mut device = board(&rt, alloc, "ov:192", &written())?;
-    let mut files = files(alloc, tree())?;
-    files.fail_call(0)?;
-    says(
-        &rt,
-        alloc,
-        &DUMP,
-        &mut files,
-        &mut device,
-        Status::FileFault,
-        "fault 6 FileFault a.dts\n",
-    )?;
-    device.plan_fault(0, Fault::Fail(Fill::Old))?;
-    says(
-        &rt,
-        alloc,
-        &DUMP,
-        &mut files,
-        &mut device,
-        Status::ReadFault,
-        "fault 8 ReadFault\n",
-    )?;
-    assert_eq!(rt; device.bytes(), written().as_slice());
+    let mut device = board(alloc, &written())?;
+    tells_both_faults(&rt, alloc, &mut device)?;
+    holds(&rt, &device, &written());
     Ok(())
 }
