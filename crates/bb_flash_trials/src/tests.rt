@@ -4,34 +4,40 @@ use bb_base::{Failed, NoMemory, Text, TextList};
 use bb_flash::{Board, Fault, Fill, Flash, Geometry, Health, MemBoard, Plan, geometry_of};
 use std::test::Fail;
 
+fn spells(rt: &HostRuntime, word: &str, geometry: Geometry) {
+    assert_eq!(rt; geometry_of(word), Some(geometry));
+}
+
+fn spells_none(rt: &HostRuntime, word: &str) {
+    assert!(rt; geometry_of(word).is_none());
+}
+
 #[test]
 fn words_spell_geometries(rt: HostRuntime) {
-    assert_eq!(rt;
-        geometry_of("ov:192"),
-        Some(Geometry {
-            page: 1,
-            block: 0,
-            size: 192
-        })
-    );
+    let in_place = Geometry {
+        page: 1,
+        block: 0,
+        size: 192,
+    };
+    spells(&rt, "ov:192", in_place);
     let blocks = Geometry {
         page: 256,
         block: 65536,
         size: 1048576,
     };
-    assert_eq!(rt; geometry_of("er:256:65536:1048576"), Some(blocks));
-    assert_eq!(rt; geometry_of("er:0x100:0x10000:0X100000"), Some(blocks));
+    spells(&rt, "er:256:65536:1048576", blocks);
+    spells(&rt, "er:0x100:0x10000:0X100000", blocks);
 }
 
 #[test]
 fn other_words_spell_none(rt: HostRuntime) {
-    assert_eq!(rt; geometry_of("ov:0"), None);
-    assert_eq!(rt; geometry_of("ov:268435457"), None);
-    assert_eq!(rt; geometry_of("ov:192:1"), None);
-    assert_eq!(rt; geometry_of("er:15:30:60"), None);
-    assert_eq!(rt; geometry_of("er:16:40:80"), None);
-    assert_eq!(rt; geometry_of("er:16:32"), None);
-    assert_eq!(rt; geometry_of("nand:192"), None);
+    spells_none(&rt, "ov:0");
+    spells_none(&rt, "ov:268435457");
+    spells_none(&rt, "ov:192:1");
+    spells_none(&rt, "er:15:30:60");
+    spells_none(&rt, "er:16:40:80");
+    spells_none(&rt, "er:16:32");
+    spells_none(&rt, "nand:192");
 }
 
 // A board of four bytes that is overwritten in place.
@@ -46,30 +52,54 @@ fn small(rt: &HostRuntime) -> Result<MemBoard, NoMemory>
     MemBoard::of(rt.alloc(), geometry, &[1, 2, 3, 4], 9, 9)
 }
 
-fn get(board: &mut MemBoard, at: u32) -> (Result<Health, Failed>, u8)
+// A read of one byte answers this.
+fn reads(rt: &HostRuntime, board: &mut MemBoard, at: u32, answer: Result<Health, Failed>)
     requires small { board.old.geometry ≡ record { page = 1; block = 0; size = 4 } }
     requires inside { at < 4 }
     ensures { board.new.geometry ≡ board.old.geometry }
 {
     let mut out = [0; 1];
-    let answer = board.read(at, &mut out);
-    (answer, out[0])
+    assert_eq!(rt; board.read(at, &mut out), answer);
 }
 
-fn put(board: &mut MemBoard, at: u32, byte: u8) -> Result<(), Failed>
+// It gives this byte and health.
+fn gives(rt: &HostRuntime, board: &mut MemBoard, at: u32, health: Health, byte: u8)
     requires small { board.old.geometry ≡ record { page = 1; block = 0; size = 4 } }
     requires inside { at < 4 }
     ensures { board.new.geometry ≡ board.old.geometry }
 {
-    board.program(at, &[byte])
+    let mut out = [0; 1];
+    assert_eq!(rt; board.read(at, &mut out), Ok(health));
+    assert_eq!(rt; out[0], byte);
+}
+
+// A program of this byte answers this.
+fn puts(rt: &HostRuntime, board: &mut MemBoard, at: u32, byte: u8, answer: Result<(), Failed>)
+    requires small { board.old.geometry ≡ record { page = 1; block = 0; size = 4 } }
+    requires inside { at < 4 }
+    ensures { board.new.geometry ≡ board.old.geometry }
+{
+    assert_eq!(rt; board.program(at, &[byte]), answer);
+}
+
+fn starts(rt: &HostRuntime, board: &mut MemBoard, plan: &Plan, answer: Result<(), Failed>) {
+    assert_eq!(rt; board.start(plan), answer);
+}
+
+fn holds(rt: &HostRuntime, board: &MemBoard, bytes: &[u8]) {
+    assert_eq!(rt; board.bytes(), bytes);
+}
+
+fn counts(rt: &HostRuntime, count: u64, wanted: u64) {
+    assert_eq!(rt; count, wanted);
 }
 
 #[test]
 fn a_read_gives_the_byte_and_the_health_of_its_page(rt: HostRuntime) -> Result<(), Fail> {
     let mut board = small(&rt)?;
     board.set_health(3, Health::Worn);
-    assert_eq!(rt; get(&mut board, 1), (Ok(Health::Fine), 2));
-    assert_eq!(rt; get(&mut board, 3), (Ok(Health::Worn), 4));
+    gives(&rt, &mut board, 1, Health::Fine, 2);
+    gives(&rt, &mut board, 3, Health::Worn, 4);
     Ok(())
 }
 
@@ -77,19 +107,20 @@ fn a_read_gives_the_byte_and_the_health_of_its_page(rt: HostRuntime) -> Result<(
 fn a_planned_read_fails(rt: HostRuntime) -> Result<(), Fail> {
     let mut board = small(&rt)?;
     board.plan_fault(1, Fault::Fail(Fill::Junk))?;
-    assert_eq!(rt; get(&mut board, 0).0, Ok(Health::Fine));
-    assert_eq!(rt; get(&mut board, 0).0, Err(Failed));
-    assert_eq!(rt; get(&mut board, 0).0, Ok(Health::Fine));
-    assert_eq!(rt; board.reads(), 2);
+    reads(&rt, &mut board, 0, Ok(Health::Fine));
+    reads(&rt, &mut board, 0, Err(Failed));
+    reads(&rt, &mut board, 0, Ok(Health::Fine));
+    counts(&rt, board.reads(), 2);
     Ok(())
 }
 
 #[test]
 fn a_program_writes_its_bytes_alone(rt: HostRuntime) -> Result<(), Fail> {
     let mut board = small(&rt)?;
-    assert_eq!(rt; put(&mut board, 1, 9), Ok(()));
-    assert_eq!(rt; board.bytes(), [1, 9, 3, 4].as_slice());
-    assert_eq!(rt; (board.programs(), board.erase_count()), (1, 0));
+    puts(&rt, &mut board, 1, 9, Ok(()));
+    holds(&rt, &board, &[1, 9, 3, 4]);
+    counts(&rt, board.programs(), 1);
+    counts(&rt, board.erase_count(), 0);
     Ok(())
 }
 
@@ -99,11 +130,11 @@ fn a_failed_program_leaves_its_filling(rt: HostRuntime) -> Result<(), Fail> {
     board.plan_fault(0, Fault::Fail(Fill::Half))?;
     board.plan_fault(1, Fault::Fail(Fill::Junk))?;
     board.plan_fault(2, Fault::Fail(Fill::Lost))?;
-    assert_eq!(rt; put(&mut board, 0, 9), Err(Failed));
-    assert_eq!(rt; put(&mut board, 1, 9), Err(Failed));
-    assert_eq!(rt; put(&mut board, 2, 9), Err(Failed));
-    assert_eq!(rt; board.bytes(), [1, 0xA5, 3, 4].as_slice());
-    assert_eq!(rt; get(&mut board, 2).0, Ok(Health::Lost));
+    puts(&rt, &mut board, 0, 9, Err(Failed));
+    puts(&rt, &mut board, 1, 9, Err(Failed));
+    puts(&rt, &mut board, 2, 9, Err(Failed));
+    holds(&rt, &board, &[1, 0xA5, 3, 4]);
+    reads(&rt, &mut board, 2, Ok(Health::Lost));
     Ok(())
 }
 
@@ -111,12 +142,12 @@ fn a_failed_program_leaves_its_filling(rt: HostRuntime) -> Result<(), Fail> {
 fn a_cut_lasts_until_a_restart(rt: HostRuntime) -> Result<(), Fail> {
     let mut board = small(&rt)?;
     board.plan_fault(0, Fault::Cut(Fill::Old))?;
-    assert_eq!(rt; put(&mut board, 0, 9), Err(Failed));
-    assert_eq!(rt; put(&mut board, 1, 9), Err(Failed));
+    puts(&rt, &mut board, 0, 9, Err(Failed));
+    puts(&rt, &mut board, 1, 9, Err(Failed));
     assert!(rt; board.was_cut());
     board.restart();
-    assert_eq!(rt; put(&mut board, 1, 9), Ok(()));
-    assert_eq!(rt; board.bytes(), [1, 9, 3, 4].as_slice());
+    puts(&rt, &mut board, 1, 9, Ok(()));
+    holds(&rt, &board, &[1, 9, 3, 4]);
     Ok(())
 }
 
@@ -131,7 +162,7 @@ fn an_erase_blanks_its_block(rt: HostRuntime) -> Result<(), Fail> {
     let mut expected = [0; 64];
     expected[32..].fill(255);
     assert_eq!(rt; board.erase(1), Ok(()));
-    assert_eq!(rt; board.bytes(), expected.as_slice());
+    holds(&rt, &board, &expected);
     Ok(())
 }
 
@@ -151,9 +182,9 @@ fn plan(rt: &HostRuntime) -> Result<Plan, NoMemory> {
 fn a_start_outlives_a_restart(rt: HostRuntime) -> Result<(), Fail> {
     let mut board = small(&rt)?;
     let plan = plan(&rt)?;
-    assert_eq!(rt; board.start(&plan), Ok(()));
+    starts(&rt, &mut board, &plan, Ok(()));
     board.restart();
-    assert_eq!(rt; board.start_count(), 1);
+    counts(&rt, u64::from(board.start_count()), 1);
     assert_eq!(rt; board.plan_at(0).map(|plan| plan.place), Some(2));
     assert_eq!(rt; board.plan_at(1).is_none(), true);
     Ok(())
@@ -164,9 +195,9 @@ fn a_planned_start_fails(rt: HostRuntime) -> Result<(), Fail> {
     let mut board = small(&rt)?;
     let plan = plan(&rt)?;
     board.fail_start(1)?;
-    assert_eq!(rt; board.start(&plan), Ok(()));
-    assert_eq!(rt; board.start(&plan), Err(Failed));
-    assert_eq!(rt; board.start_count(), 1);
+    starts(&rt, &mut board, &plan, Ok(()));
+    starts(&rt, &mut board, &plan, Err(Failed));
+    counts(&rt, u64::from(board.start_count()), 1);
     Ok(())
 }
 
@@ -175,9 +206,9 @@ fn a_planned_start_fails(rt: HostRuntime) -> Result<(), Fail> {
 fn a_start_takes_room_for_what_the_board_holds(rt: HostRuntime) -> Result<(), Fail> {
     let mut board = small(&rt)?;
     let plan = plan(&rt)?;
-    assert_eq!(rt; board.start(&plan), Ok(()));
-    assert_eq!(rt; board.start(&plan), Ok(()));
+    starts(&rt, &mut board, &plan, Ok(()));
+    starts(&rt, &mut board, &plan, Ok(()));
     board.restart();
-    assert_eq!(rt; board.start(&plan), Err(Failed));
+    starts(&rt, &mut board, &plan, Err(Failed));
     Ok(())
 }
