@@ -2,13 +2,15 @@ ghost use Rattle.std.specs.Prelude.{◌≡◌, ◌<◌, IfOk};
 
 use bb_base::{Failed, NoMemory, Text, TextList};
 use bb_flash::{Board, Fault, Fill, Flash, Geometry, Health, MemBoard, Plan, geometry_of};
+use std::alloc::Global;
+use std::process::Abort;
 use std::test::Fail;
 
-fn spells(rt: &HostRuntime, word: &str, geometry: Geometry) {
+fn spells(rt: &impl Abort, word: &str, geometry: Geometry) {
     assert_eq!(rt; geometry_of(word), Some(geometry));
 }
 
-fn spells_none(rt: &HostRuntime, word: &str) {
+fn spells_none(rt: &impl Abort, word: &str) {
     assert!(rt; geometry_of(word).is_none());
 }
 
@@ -41,7 +43,7 @@ fn other_words_spell_none(rt: HostRuntime) {
 }
 
 // A board of four bytes that is overwritten in place.
-fn small(rt: &HostRuntime) -> Result<MemBoard, NoMemory>
+fn small(alloc: Global) -> Result<MemBoard, NoMemory>
     ensures { IfOk result (λ board. board.geometry ≡ record { page = 1; block = 0; size = 4 }) }
 {
     let geometry = Geometry {
@@ -49,11 +51,11 @@ fn small(rt: &HostRuntime) -> Result<MemBoard, NoMemory>
         block: 0,
         size: 4,
     };
-    MemBoard::of(rt.alloc(), geometry, &[1, 2, 3, 4], 9, 9)
+    MemBoard::of(alloc, geometry, &[1, 2, 3, 4], 9, 9)
 }
 
 // A read of one byte answers this.
-fn reads(rt: &HostRuntime, board: &mut MemBoard, at: u32, answer: Result<Health, Failed>)
+fn reads(rt: &impl Abort, board: &mut MemBoard, at: u32, answer: Result<Health, Failed>)
     requires small { board.old.geometry ≡ record { page = 1; block = 0; size = 4 } }
     requires inside { at < 4 }
     ensures { board.new.geometry ≡ board.old.geometry }
@@ -63,7 +65,7 @@ fn reads(rt: &HostRuntime, board: &mut MemBoard, at: u32, answer: Result<Health,
 }
 
 // It gives this byte and health.
-fn gives(rt: &HostRuntime, board: &mut MemBoard, at: u32, health: Health, byte: u8)
+fn gives(rt: &impl Abort, board: &mut MemBoard, at: u32, health: Health, byte: u8)
     requires small { board.old.geometry ≡ record { page = 1; block = 0; size = 4 } }
     requires inside { at < 4 }
     ensures { board.new.geometry ≡ board.old.geometry }
@@ -74,29 +76,37 @@ fn gives(rt: &HostRuntime, board: &mut MemBoard, at: u32, health: Health, byte: 
 }
 
 // A program of this byte answers this.
-fn puts(rt: &HostRuntime, board: &mut MemBoard, at: u32, byte: u8, answer: Result<(), Failed>)
+fn puts(rt: &impl Abort, board: &mut MemBoard, at: u32, byte: u8, answer: Result<(), Failed>)
     requires small { board.old.geometry ≡ record { page = 1; block = 0; size = 4 } }
     requires inside { at < 4 }
     ensures { board.new.geometry ≡ board.old.geometry }
 {
-    assert_eq!(rt; board.program(at, &[byte]), answer);
+    assert_eq!(rt; put(board, at, byte), answer);
 }
 
-fn starts(rt: &HostRuntime, board: &mut MemBoard, plan: &Plan, answer: Result<(), Failed>) {
+fn put(board: &mut MemBoard, at: u32, byte: u8) -> Result<(), Failed>
+    requires small { board.old.geometry ≡ record { page = 1; block = 0; size = 4 } }
+    requires inside { at < 4 }
+    ensures { board.new.geometry ≡ board.old.geometry }
+{
+    board.program(at, &[byte])
+}
+
+fn starts(rt: &impl Abort, board: &mut MemBoard, plan: &Plan, answer: Result<(), Failed>) {
     assert_eq!(rt; board.start(plan), answer);
 }
 
-fn holds(rt: &HostRuntime, board: &MemBoard, bytes: &[u8]) {
+fn holds(rt: &impl Abort, board: &MemBoard, bytes: &[u8]) {
     assert_eq!(rt; board.bytes(), bytes);
 }
 
-fn counts(rt: &HostRuntime, count: u64, wanted: u64) {
+fn counts(rt: &impl Abort, count: u64, wanted: u64) {
     assert_eq!(rt; count, wanted);
 }
 
 #[test]
 fn a_read_gives_the_byte_and_the_health_of_its_page(rt: HostRuntime) -> Result<(), Fail> {
-    let mut board = small(&rt)?;
+    let mut board = small(rt.alloc())?;
     board.set_health(3, Health::Worn);
     gives(&rt, &mut board, 1, Health::Fine, 2);
     gives(&rt, &mut board, 3, Health::Worn, 4);
@@ -105,7 +115,7 @@ fn a_read_gives_the_byte_and_the_health_of_its_page(rt: HostRuntime) -> Result<(
 
 #[test]
 fn a_planned_read_fails(rt: HostRuntime) -> Result<(), Fail> {
-    let mut board = small(&rt)?;
+    let mut board = small(rt.alloc())?;
     board.plan_fault(1, Fault::Fail(Fill::Junk))?;
     reads(&rt, &mut board, 0, Ok(Health::Fine));
     reads(&rt, &mut board, 0, Err(Failed));
@@ -116,7 +126,7 @@ fn a_planned_read_fails(rt: HostRuntime) -> Result<(), Fail> {
 
 #[test]
 fn a_program_writes_its_bytes_alone(rt: HostRuntime) -> Result<(), Fail> {
-    let mut board = small(&rt)?;
+    let mut board = small(rt.alloc())?;
     puts(&rt, &mut board, 1, 9, Ok(()));
     holds(&rt, &board, &[1, 9, 3, 4]);
     counts(&rt, board.programs(), 1);
@@ -124,12 +134,19 @@ fn a_program_writes_its_bytes_alone(rt: HostRuntime) -> Result<(), Fail> {
     Ok(())
 }
 
-#[test]
-fn a_failed_program_leaves_its_filling(rt: HostRuntime) -> Result<(), Fail> {
-    let mut board = small(&rt)?;
+fn plan_three(board: &mut MemBoard) -> Result<(), Fail>
+    ensures { board.new.geometry ≡ board.old.geometry }
+{
     board.plan_fault(0, Fault::Fail(Fill::Half))?;
     board.plan_fault(1, Fault::Fail(Fill::Junk))?;
     board.plan_fault(2, Fault::Fail(Fill::Lost))?;
+    Ok(())
+}
+
+#[test]
+fn a_failed_program_leaves_its_filling(rt: HostRuntime) -> Result<(), Fail> {
+    let mut board = small(rt.alloc())?;
+    plan_three(&mut board)?;
     puts(&rt, &mut board, 0, 9, Err(Failed));
     puts(&rt, &mut board, 1, 9, Err(Failed));
     puts(&rt, &mut board, 2, 9, Err(Failed));
@@ -140,7 +157,7 @@ fn a_failed_program_leaves_its_filling(rt: HostRuntime) -> Result<(), Fail> {
 
 #[test]
 fn a_cut_lasts_until_a_restart(rt: HostRuntime) -> Result<(), Fail> {
-    let mut board = small(&rt)?;
+    let mut board = small(rt.alloc())?;
     board.plan_fault(0, Fault::Cut(Fill::Old))?;
     puts(&rt, &mut board, 0, 9, Err(Failed));
     puts(&rt, &mut board, 1, 9, Err(Failed));
@@ -166,49 +183,69 @@ fn an_erase_blanks_its_block(rt: HostRuntime) -> Result<(), Fail> {
     Ok(())
 }
 
-fn plan(rt: &HostRuntime) -> Result<Plan, NoMemory> {
-    let mut initrds = TextList::none(rt.alloc());
-    initrds.push(Text::of(rt.alloc(), "/initrd")?)?;
+fn plan(alloc: Global) -> Result<Plan, NoMemory> {
+    let mut initrds = TextList::none(alloc);
+    initrds.push(Text::of(alloc, "/initrd")?)?;
     Ok(Plan {
         place: 2,
-        linux: Text::of(rt.alloc(), "/zImage")?,
+        linux: Text::of(alloc, "/zImage")?,
         initrds,
-        options: Text::of(rt.alloc(), "rw")?,
-        devicetree: Text::of(rt.alloc(), "")?,
+        options: Text::of(alloc, "rw")?,
+        devicetree: Text::of(alloc, "")?,
     })
+}
+
+fn start_one(rt: &impl Abort, alloc: Global, board: &mut MemBoard) -> Result<(), Fail> {
+    let plan = plan(alloc)?;
+    starts(rt, board, &plan, Ok(()));
+    Ok(())
+}
+
+fn places_one(rt: &impl Abort, board: &MemBoard) {
+    assert_eq!(rt; board.plan_at(0).map(|plan| plan.place), Some(2));
+    assert!(rt; board.plan_at(1).is_none());
 }
 
 #[test]
 fn a_start_outlives_a_restart(rt: HostRuntime) -> Result<(), Fail> {
-    let mut board = small(&rt)?;
-    let plan = plan(&rt)?;
-    starts(&rt, &mut board, &plan, Ok(()));
+    let mut board = small(rt.alloc())?;
+    start_one(&rt, rt.alloc(), &mut board)?;
     board.restart();
     counts(&rt, u64::from(board.start_count()), 1);
-    assert_eq!(rt; board.plan_at(0).map(|plan| plan.place), Some(2));
-    assert_eq!(rt; board.plan_at(1).is_none(), true);
+    places_one(&rt, &board);
+    Ok(())
+}
+
+// The second start fails.
+fn start_twice(rt: &impl Abort, alloc: Global, board: &mut MemBoard) -> Result<(), Fail> {
+    let plan = plan(alloc)?;
+    starts(rt, board, &plan, Ok(()));
+    starts(rt, board, &plan, Err(Failed));
     Ok(())
 }
 
 #[test]
 fn a_planned_start_fails(rt: HostRuntime) -> Result<(), Fail> {
-    let mut board = small(&rt)?;
-    let plan = plan(&rt)?;
+    let mut board = small(rt.alloc())?;
     board.fail_start(1)?;
-    starts(&rt, &mut board, &plan, Ok(()));
-    starts(&rt, &mut board, &plan, Err(Failed));
+    start_twice(&rt, rt.alloc(), &mut board)?;
     counts(&rt, u64::from(board.start_count()), 1);
+    Ok(())
+}
+
+// The third start fails, after a restart too.
+fn start_three(rt: &impl Abort, alloc: Global, board: &mut MemBoard) -> Result<(), Fail> {
+    let plan = plan(alloc)?;
+    starts(rt, board, &plan, Ok(()));
+    starts(rt, board, &plan, Ok(()));
+    board.restart();
+    starts(rt, board, &plan, Err(Failed));
     Ok(())
 }
 
 // Nine bytes have room for what a board of four bytes holds twice.
 #[test]
 fn a_start_takes_room_for_what_the_board_holds(rt: HostRuntime) -> Result<(), Fail> {
-    let mut board = small(&rt)?;
-    let plan = plan(&rt)?;
-    starts(&rt, &mut board, &plan, Ok(()));
-    starts(&rt, &mut board, &plan, Ok(()));
-    board.restart();
-    starts(&rt, &mut board, &plan, Err(Failed));
-    Ok(())
+    let mut board = small(rt.alloc())?;
+    start_three(&rt, rt.alloc(), &mut board)
 }

@@ -1,6 +1,6 @@
 use Rattle.std.proofs.Common.{◌%◌, ◌∙◌, ap, arith}
 use Rattle.std.proofs.Math.Nat.{mod-one}
-use Rattle.bb_flash_trials.proofs.tests.puts.Goals as goal
+use Rattle.bb_flash_trials.proofs.tests.put.Goals as goal
 
 pub program-requires : goal.program-requires
 program-requires c =
