@@ -1,22 +1,17 @@
 use Rattle.std.proofs.Common.{◌∙◌}
-use Rattle.bb_chooser.proofs.Alone.{keeps_changes}
-use Rattle.bb_state.proofs.Fitting.{changed_fits, same_fits}
+use Rattle.bb_state.proofs.Fitting.{same_fits}
 use Rattle.bb_state.specs.Kinds.{any_holding}
 use Rattle.bb_state.specs.State.{has_changed, kept_of, keyed_of, kinds_of, used_of}
 use Rattle.bb_state.specs.declared.state.State.{State}
 use Rattle.bb_shell.proofs.Joins.{changed_outside}
-use Rattle.bb_shell.proofs.Saves.{saved_ok}
+use Rattle.bb_shell.proofs.Saves.{saved_ok, spent_fits}
 use Rattle.bb_shell.proofs.Starts.{round_adds, round_later, round_ok, round_outside, round_stored, start_agrees, start_geometry}
 use Rattle.bb_shell.specs.Boot.{plan_at}
 use Rattle.bb_shell.proofs.round.run_round.Goals as goal
 
 pub save-requires-clause-fits : goal.save-requires-clause-fits
 save-requires-clause-fits g c =
-    let ready = c.requires.ready in
-    let keyed = keyed_of c.args.state.now in
-    let table = c.args.state.now.table in
-    changed_fits keyed table c.spend.new.table ready.facts ready.fits
-    (keeps_changes keyed.layout.vars c.args.chooser.now table c.spend.new.table c.spend.ensures.others ready.bound.vars)
+    spent_fits c.args.chooser.now c.args.state.now (g.B.Flash.device c.args.board.now) c.spend.new.table c.requires.ready c.spend.ensures.others
 
 pub returns-in-Ok-clause-run : goal.returns-in-Ok-clause-run
 returns-in-Ok-clause-run g c =
@@ -70,9 +65,11 @@ returns-in-Ok-clause-on g c =
 pub returns-in-Ok-clause-fits : goal.returns-in-Ok-clause-fits
 returns-in-Ok-clause-fits g c =
     same_fits (keyed_of c.args.state.now) (keyed_of c.save.new.self) c.spend.new.table c.save.new.self.table
-    c.in-Ok.ensures.keyed c.in-Ok.ensures.table (save-requires-clause-fits g c)
+    c.in-Ok.ensures.keyed c.in-Ok.ensures.table
+    (spent_fits c.args.chooser.now c.args.state.now (g.B.Flash.device c.args.board.now) c.spend.new.table c.requires.ready c.spend.ensures.others)
 
 pub returns-in-Err-clause-fits : goal.returns-in-Err-clause-fits
 returns-in-Err-clause-fits g c =
     same_fits (keyed_of c.args.state.now) (keyed_of c.save.new.self) c.spend.new.table c.save.new.self.table
-    c.in-Err.ensures.keyed c.in-Err.ensures.table (save-requires-clause-fits g c)
+    c.in-Err.ensures.keyed c.in-Err.ensures.table
+    (spent_fits c.args.chooser.now c.args.state.now (g.B.Flash.device c.args.board.now) c.spend.new.table c.requires.ready c.spend.ensures.others)
