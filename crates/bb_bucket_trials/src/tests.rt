@@ -74,9 +74,15 @@ fn plan_from_here(board: &mut MemBoard, call: u32, fault: Fault) -> Result<(), N
     ensures held { OnOk result (board.new.geometry ≡ board.old.geometry) }
     ensures same { OnOk result (device_of board.new ≡ device_of board.old) }
 {
-    let next = board.reads().min(9) as u32 + call;
-    board.plan_fault(next, fault)?;
+    board.plan_fault(next_call(board) + call, fault)?;
     Ok(())
+}
+
+// The number of the next call, where only up to nine reads were made.
+fn next_call(board: &MemBoard) -> u32
+    ensures few { result ≤ 9 }
+{
+    board.reads().min(9) as u32
 }
 
 fn has_bytes(board: &MemBoard, bytes: &[u8; 192]) -> bool {

@@ -8,7 +8,7 @@ mod calls;
 mod pages;
 
 use super::pages::{Page, Pages, pages_of, torn_erase};
-use super::{CONTENTS, board_with, check, has_bytes, plan_from_here, restart};
+use super::{CONTENTS, board_with, check, has_bytes, next_call, plan_from_here, restart};
 use bb_base::NoMemory;
 use bb_circular::Circular;
 use bb_flash::{Fault, Fill, MemBoard};
@@ -69,7 +69,7 @@ fn tears_void(
     let mut log = log(alloc)?;
     let mut board = board_with(alloc, &image_of(pages), pages)?;
     finds(rt, &mut log, &mut board, pages);
-    plan_from_here(&mut board, 0, fault)?;
+    board.plan_fault(next_call(&board), fault)?;
     check(rt, void(&mut log, &mut board).is_err(), pages);
     left(rt, alloc, &mut log, &mut board, after)
 }
