@@ -21,10 +21,9 @@ use Rattle.bb_flash.specs.declared.plan.Plan.{Plan as StartPlan}
 use Rattle.bb_flash.specs.declared.region.Region.{Region}
 use Rattle.bb_layout.specs.Backend.{backend_of}
 use Rattle.bb_layout.specs.Copies.{copies_of}
-use Rattle.bb_layout.specs.Formats.{record_len}
 use Rattle.bb_layout.specs.Defaults.{defaults_of}
 use Rattle.bb_layout.specs.Facts.{AreVars}
-use Rattle.bb_layout.specs.Layout.{Laid, layout_at, layout_from}
+use Rattle.bb_layout.specs.Layout.{Laid, layout_at, layout_from, len_of}
 use Rattle.bb_layout.specs.Ranges.{area_len_of, end_of, greatest_end, has_same_name, shares_byte, some_pair}
 use Rattle.bb_layout.specs.Results.{all_ok, result_and_then}
 use Rattle.bb_layout.specs.StateNode.{state_of}
@@ -141,7 +140,7 @@ pub record IsSized (layout : Laid) : Type 0 where
 -- whatever its properties are
 module _ {Props : Type 0} (tree : Branch (List ℕ)) (name : List ℕ) (state : Branch (List ℕ)) (geometry : Geometry)
     (given : Result Props LayoutError) (magic_of : Props → ℕ) (format_of : Props → FormatKind)
-    (stores : Props → ℕ → Region → Result Storage LayoutError) where
+    (stores : Props → List Var → ℕ → Region → Result Storage LayoutError) where
   -- the steps of a layout, from each on
   abbrev stored_so : Props → List Var → ℕ → Region → Storage → Result Laid LayoutError
   stored_so props vars len region storage =
@@ -159,7 +158,7 @@ module _ {Props : Type 0} (tree : Branch (List ℕ)) (name : List ℕ) (state : 
       })
 
   abbrev in_region : Props → List Var → ℕ → Region → Result Laid LayoutError
-  in_region props vars len region = result_then (stores props len region) (stored_so props vars len region)
+  in_region props vars len region = result_then (stores props vars len region) (stored_so props vars len region)
 
   abbrev of_length : Props → List Var → ℕ → Result Laid LayoutError
   of_length props vars len = result_then (backend_of tree state) (in_region props vars len)
@@ -176,7 +175,7 @@ module _ {Props : Type 0} (tree : Branch (List ℕ)) (name : List ℕ) (state : 
       then_ok IsSized (of_vars props) (variables_of state) (λ vars has_vars.
       then_ok IsSized (of_length props vars) (area_len_of vars) (λ len has_len.
       then_ok IsSized (in_region props vars len) (backend_of tree state) (λ region has_region.
-      then_ok IsSized (stored_so props vars len region) (stores props len region) (λ storage has_storage.
+      then_ok IsSized (stored_so props vars len region) (stores props vars len region) (λ storage has_storage.
       let formed = all_well_formed state vars has_vars in
       record {
         defaults = defaults_sized vars len formed has_len;
@@ -189,7 +188,7 @@ layout_sized tree name geometry =
     then_ok IsSized (λ (found : List ℕ × Branch (List ℕ)). layout_at tree found.0 found.1 geometry)
     (ok_or (state_of tree name) NoState) (λ found has_state.
     laid_sized tree found.0 found.1 geometry (props_of found.1) (λ props. props.magic)
-    (λ props. props.format) (λ props len region. storage_in geometry region props (record_len props.format len)))
+    (λ props. props.format) (λ props vars len region. storage_in geometry region props (len_of found.1 props vars len)))
 
 laid_in : (file : List ℕ) (name : Option (List ℕ)) (geometry : Geometry) (answer : FileAnswer) →
     IfOk (layout_in file name geometry answer) IsSized

@@ -15,8 +15,7 @@ use Rattle.bb_flash.specs.declared.geometry.Geometry.{Geometry}
 use Rattle.bb_tree.specs.Blob.{Devicetree}
 use Rattle.bb_tree.specs.Node.{Branch}
 use Rattle.bb_layout.specs.Backend.{backend_of}
-use Rattle.bb_layout.specs.Formats.{record_len}
-use Rattle.bb_layout.specs.Layout.{Laid, layout_at, layout_from}
+use Rattle.bb_layout.specs.Layout.{Laid, layout_at, layout_from, len_of}
 use Rattle.bb_layout.specs.Ranges.{area_len_of}
 use Rattle.bb_layout.specs.Results.{result_and_then}
 use Rattle.bb_layout.specs.StateNode.{state_of}
@@ -182,7 +181,7 @@ layout_geometry tree name state geometry found e =
     let vars = step_of (variables_of state) _ found props.next_is in
     let area = step_of (area_len_of vars.value) _ found vars.next_is in
     let region = step_of (backend_of tree state) _ found area.next_is in
-    let storage = step_of (storage_in geometry region.value props.value (record_len props.value.format area.value)) _ found region.next_is in
+    let storage = step_of (storage_in geometry region.value props.value (len_of state props.value vars.value area.value)) _ found region.next_is in
     ap (λ (l : Laid). l.geometry) (sym (ok_is _ found _ refl storage.next_is))
 
 pub laid_geometry : (tree : Branch (List ℕ)) (name : Option (List ℕ)) (geometry : Geometry) (found : Laid) → layout_from tree name geometry ≡ Ok found → found.geometry ≡ geometry

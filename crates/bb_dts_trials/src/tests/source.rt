@@ -1,6 +1,7 @@
 use bb_dts::{DtsError, read_source};
 use bb_tree::Tree;
 use std::alloc::Global;
+use std::process::Abort;
 use std::test::Fail;
 
 fn read(alloc: Global, text: &str) -> Result<Tree, DtsError> {
@@ -12,14 +13,13 @@ fn read(alloc: Global, text: &str) -> Result<Tree, DtsError> {
 }
 
 // The node at the path has the property with these bytes.
-fn has(tree: &Tree, path: &str, name: &str, bytes: &[u8]) -> bool {
-    let Some(node) = tree.find(path) else {
-        return false;
-    };
-    let Some(value) = node.prop(name) else {
-        return false;
-    };
-    value == bytes
+fn has(rt: &impl Abort, tree: &Tree, path: &str, name: &str, bytes: &[u8]) {
+    let node = tree.find(path);
+    assert_eq!(rt;
+        node.and_then(|node| node.prop(name)),
+        Some(bytes),
+        "{path} {name}"
+    );
 }
 
 // A board with a state node, and the same with variables of other types.
@@ -169,78 +169,102 @@ const PRINTED: [&str; 3] = [
 };\n",
 ];
 
+fn is_the_board(rt: &impl Abort, tree: &Tree) {
+    let priority = "/state/bootstate/system0/priority@4";
+    has(rt, tree, priority, "default", &[0, 0, 0, 0x14]);
+    has(rt, tree, priority, "reg", &[0, 0, 0, 4, 0, 0, 0, 4]);
+    has(rt, tree, "/state", "magic", &[0x4d, 0x43, 0x32, 0x30]);
+    has(rt, tree, "/state", "compatible", b"barebox,state\0");
+    assert!(rt; tree.by_phandle(1).is_some());
+    assert_eq!(rt; tree.reserved.len(), 1);
+}
+
 #[test]
 fn reads_the_board(rt: HostRuntime) -> Result<(), Fail> {
     let tree = read(rt.alloc(), BOARD)?;
-    let priority = "/state/bootstate/system0/priority@4";
-    assert!(rt; has(&tree, priority, "default", &[0, 0, 0, 0x14]));
-    assert!(rt; has(&tree, priority, "reg", &[0, 0, 0, 4, 0, 0, 0, 4]));
-    assert!(rt; has(&tree, "/state", "magic", &[0x4d, 0x43, 0x32, 0x30]));
-    assert!(rt; has(&tree, "/state", "compatible", b"barebox,state\0"));
-    assert!(rt; tree.by_phandle(1).is_some());
-    assert_eq!(rt; tree.reserved.len(), 1);
+    is_the_board(&rt, &tree);
     Ok(())
+}
+
+fn has_other_types(rt: &impl Abort, tree: &Tree) {
+    has(rt, tree, "/state/mode@4", "names", b"primary\0backup\0");
+    let address = [0, 0x11, 0x22, 0x33, 0x44, 0x55];
+    has(rt, tree, "/state/eth@8", "default", &address);
+    has(rt, tree, "/state/host@10", "default", b"ab\0");
+    assert!(rt; tree.find("/state/bootstate").is_none());
 }
 
 #[test]
 fn reads_variables_of_other_types(rt: HostRuntime) -> Result<(), Fail> {
     let tree = read(rt.alloc(), TWO)?;
-    assert!(rt; has(&tree, "/state/mode@4", "names", b"primary\0backup\0"));
-    assert!(rt;
-        has(
-            &tree,
-            "/state/eth@8",
-            "default",
-            &[0, 0x11, 0x22, 0x33, 0x44, 0x55]
-        )
-    );
-    assert!(rt; has(&tree, "/state/host@10", "default", b"ab\0"));
-    assert!(rt; tree.find("/state/bootstate").is_none());
+    has_other_types(&rt, &tree);
+    Ok(())
+}
+
+fn is_the_first(rt: &impl Abort, tree: &Tree) {
+    let clocks = [0, 0, 0, 1, 0, 0, 0, 1];
+    has(rt, tree, "/uart@fe001000", "clocks", &clocks);
+    let quoted = b"tab\there \"x\" \\ end\0";
+    has(rt, tree, "/clock-controller", "quoted", quoted);
+    has(rt, tree, "/chosen", "stdout-path", b"/uart@fe001000\0");
+    has(rt, tree, "/chosen", "empty", b"");
+}
+
+fn reads_the_first(rt: &impl Abort, alloc: Global) -> Result<(), Fail> {
+    let tree = read(alloc, PRINTED[0])?;
+    is_the_first(rt, &tree);
+    Ok(())
+}
+
+// In what is read of the text, the node at the path has the property with these bytes.
+fn reads(
+    rt: &impl Abort,
+    alloc: Global,
+    text: &str,
+    path: &str,
+    name: &str,
+    bytes: &[u8],
+) -> Result<(), Fail> {
+    let tree = read(alloc, text)?;
+    has(rt, &tree, path, name, bytes);
     Ok(())
 }
 
 #[test]
 fn reads_what_dtc_prints(rt: HostRuntime) -> Result<(), Fail> {
-    let tree = read(rt.alloc(), PRINTED[0])?;
-    assert!(rt; has(&tree, "/uart@fe001000", "clocks", &[0, 0, 0, 1, 0, 0, 0, 1]));
-    assert!(rt;
-        has(
-            &tree,
-            "/clock-controller",
-            "quoted",
-            b"tab\there \"x\" \\ end\0"
-        )
-    );
-    assert!(rt; has(&tree, "/chosen", "stdout-path", b"/uart@fe001000\0"));
-    assert!(rt; has(&tree, "/chosen", "empty", b""));
-    let tree = read(rt.alloc(), PRINTED[1])?;
+    reads_the_first(&rt, rt.alloc())?;
     let second = "/flash@0/partitions/partition@20000";
-    assert!(rt; has(&tree, second, "reg", &[0, 2, 0, 0, 0, 2, 0, 0]));
-    let tree = read(rt.alloc(), PRINTED[2])?;
-    assert!(rt; has(&tree, "/a/b/c", "mixed", &[0x78, 0, 1, 0, 0, 0, 2]));
-    Ok(())
+    let region = [0, 2, 0, 0, 0, 2, 0, 0];
+    reads(&rt, rt.alloc(), PRINTED[1], second, "reg", &region)?;
+    let mixed = [0x78, 0, 1, 0, 0, 0, 2];
+    reads(&rt, rt.alloc(), PRINTED[2], "/a/b/c", "mixed", &mixed)
 }
 
 #[test]
 fn gives_a_referred_node_the_first_phandle(rt: HostRuntime) -> Result<(), Fail> {
-    let tree = read(rt.alloc(), "/dts-v1/; / { b = <&x>; x: a { }; };")?;
-    assert!(rt; has(&tree, "/", "b", &[0, 0, 0, 1]));
-    assert!(rt; has(&tree, "/a", "phandle", &[0, 0, 0, 1]));
-    Ok(())
+    let text = "/dts-v1/; / { b = <&x>; x: a { }; };";
+    reads(&rt, rt.alloc(), text, "/", "b", &[0, 0, 0, 1])?;
+    reads(&rt, rt.alloc(), text, "/a", "phandle", &[0, 0, 0, 1])
+}
+
+// The name of the root's property at a place.
+fn is_named(rt: &impl Abort, tree: &Tree, place: usize, name: &str) {
+    let prop = tree.root.props.get(place);
+    assert_eq!(rt; prop.map(|prop| prop.name.as_str()), Some(name));
+}
+
+fn is_merged(rt: &impl Abort, tree: &Tree) {
+    has(rt, tree, "/", "a", b"q\0");
+    is_named(rt, tree, 0, "a");
+    is_named(rt, tree, 1, "c");
+    is_named(rt, tree, 2, "b");
 }
 
 #[test]
 fn keeps_the_place_of_a_merged_property(rt: HostRuntime) -> Result<(), Fail> {
-    let tree = read(
-        rt.alloc(),
-        "/dts-v1/; / { a = \"p\"; c; }; / { a = \"q\"; b; };",
-    )?;
-    assert!(rt; has(&tree, "/", "a", b"q\0"));
-    let names = ["a", "c", "b"];
-    for i in 0..3 {
-        let prop = tree.root.props.get(i).ok_or("a property is missing")?;
-        assert_eq!(rt; prop.name.as_str(), names[i]);
-    }
+    let text = "/dts-v1/; / { a = \"p\"; c; }; / { a = \"q\"; b; };";
+    let tree = read(rt.alloc(), text)?;
+    is_merged(&rt, &tree);
     Ok(())
 }
 
