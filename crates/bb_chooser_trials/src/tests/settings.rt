@@ -2,6 +2,7 @@
 use bb_base::NoMemory;
 use bb_chooser::{Settings, SettingsError};
 use std::alloc::Global;
+use std::process::Abort;
 use std::test::Fail;
 
 // The refusal of a text, with its line where it has one.
@@ -19,35 +20,32 @@ fn refusal(alloc: Global, text: &[u8]) -> Result<(&'static str, usize), NoMemory
     }
 }
 
+// A text is refused so, in this line where it has one.
+fn is(rt: &impl Abort, alloc: Global, text: &[u8], name: &str, line: usize) -> Result<(), Fail> {
+    let (found, at) = refusal(alloc, text)?;
+    assert_eq!(rt; found, name);
+    assert_eq!(rt; at, line);
+    Ok(())
+}
+
 #[test]
 fn settings_are_read(rt: HostRuntime) -> Result<(), Fail> {
     let text = b"# a board\r\n \t\r\n\
           global.bootchooser.targets=\"a b\"\n\
           global.bootchooser.a.boot=x"
         .as_slice();
-    let (name, _) = refusal(rt.alloc(), text)?;
-    assert_eq!(rt; name, "");
-    Ok(())
+    is(&rt, rt.alloc(), text, "", 0)
 }
 
 #[test]
 fn the_first_bad_line_decides(rt: HostRuntime) -> Result<(), Fail> {
-    let (name, _) = refusal(rt.alloc(), b"")?;
-    assert_eq!(rt; name, "NoTargets");
-    let (name, line) = refusal(rt.alloc(), b"targets=a a")?;
-    assert_eq!(rt; name, "BadLine");
-    assert_eq!(rt; line, 1);
-    let (name, line) = refusal(rt.alloc(), b"global.bootchooser.targets=a a")?;
-    assert_eq!(rt; name, "TargetTwice");
-    assert_eq!(rt; line, 1);
+    is(&rt, rt.alloc(), b"", "NoTargets", 0)?;
+    is(&rt, rt.alloc(), b"targets=a a", "BadLine", 1)?;
+    let twice = b"global.bootchooser.targets=a a".as_slice();
+    is(&rt, rt.alloc(), twice, "TargetTwice", 1)?;
     let noon =
         b"global.bootchooser.targets=a\n\nglobal.bootchooser.reset_attempts=noon\nx".as_slice();
-    let (name, line) = refusal(rt.alloc(), noon)?;
-    assert_eq!(rt; name, "BadEvent");
-    assert_eq!(rt; line, 3);
+    is(&rt, rt.alloc(), noon, "BadEvent", 3)?;
     let large = b"#\xc3\xa9\nglobal.bootchooser.retry=2\nglobal.bootchooser.retry=1\n".as_slice();
-    let (name, line) = refusal(rt.alloc(), large)?;
-    assert_eq!(rt; name, "BadNumber");
-    assert_eq!(rt; line, 2);
-    Ok(())
+    is(&rt, rt.alloc(), large, "BadNumber", 2)
 }
