@@ -1,5 +1,6 @@
 // Lists of actions.
-ghost use Rattle.std.specs.Prelude.{◌≡◌, IfOk, false};
+ghost use Rattle.std.specs.Prelude.{◌≡◌, ◌≢◌, [], IfOk, false, length};
+ghost use Rattle.bb_layout.specs.Facts.{AreVars};
 ghost use Rattle.bb_layout.specs.Formats.{takes_key};
 
 use bb_actions::{actions_text, first_misfit, make_sets};
@@ -38,24 +39,41 @@ fn one_byte(alloc: Global) -> Result<Layout, NoMemory>
     })
 }
 
-fn one_var(alloc: Global) -> Result<VarList, NoMemory> {
-    let mut vars = VarList::none(alloc);
-    vars.push(var(alloc)?)?;
-    Ok(vars)
-}
-
-fn var(alloc: Global) -> Result<Var, NoMemory> {
+fn one_var(alloc: Global) -> Result<VarList, NoMemory>
+    ensures { IfOk result (AreVars 1) }
+{
     let name = Text::of(alloc, "a.n")?;
-    let mut default = Bytes::none(alloc);
-    default.add(b"\x03")?;
-    Ok(Var {
+    let path = path(alloc)?;
+    let default = three(alloc)?;
+    let mut vars = VarList::none(alloc);
+    vars.push(Var {
         name,
-        path: TextList::none(alloc),
+        path,
         at: 0,
         size: 1,
         kind: Kind::Uint8,
         default,
-    })
+    })?;
+    Ok(vars)
+}
+
+// The names of the nodes that lead to it.
+fn path(alloc: Global) -> Result<TextList, NoMemory>
+    ensures { IfOk result (λ path. path ≢ []) }
+{
+    let mut path = TextList::none(alloc);
+    path.push(Text::of(alloc, "a")?)?;
+    path.push(Text::of(alloc, "n@0")?)?;
+    Ok(path)
+}
+
+// The byte 3.
+fn three(alloc: Global) -> Result<Bytes, NoMemory>
+    ensures { IfOk result (λ bytes. length bytes ≡ 1) }
+{
+    let mut bytes = Bytes::none(alloc);
+    bytes.add(b"\x03")?;
+    Ok(bytes)
 }
 
 fn set(alloc: Global, name: &str, value: &str) -> Result<Action, NoMemory> {
