@@ -7,6 +7,7 @@ use Rattle.bb_flash.specs.declared.plan.Plan.{Plan}
 use Rattle.bb_flash.specs.Device.{Device}
 use Rattle.bb_state.specs.State.{kept_of, keyed_of, laid_of, used_of}
 use Rattle.bb_state.specs.declared.state.State.{State}
+use Rattle.bb_layout.specs.Kept.{IsLaid}
 use Rattle.bb_shell.proofs.Reached.{stops_refused}
 use Rattle.bb_shell.proofs.Trails.{boot_exit, boot_trail}
 use Rattle.bb_shell.proofs.Underway.{last_is}
@@ -17,9 +18,9 @@ use Rattle.bb_shell.specs.declared.boot_end.BootEnd.{BootEnd}
 use Rattle.bb_shell.specs.declared.boot_end.BootEnd.TheVariants as ends
 
 pub booted_of : (b : Binding) (plans : List (Option Plan)) (first table : List ℕ) (before after : State) (from to : Device) (end : BootEnd) →
-    table ≡ first → from.geometry ≡ (laid_of before).geometry →
-    HaveRun b plans (record before { table = table }) after from to end → IsBooted b plans first before after from to end
-booted_of b plans first table before after from to end same geometry run =
+    table ≡ first → from.geometry ≡ (laid_of before).geometry → (facts : IsLaid (laid_of before)) →
+    HaveRun b plans (record before { table = table; facts = facts }) after from to end → IsBooted b plans first before after from to end
+booted_of b plans first table before after from to end same geometry facts run =
     let rounds = run.earlier ++ run.last ∷ [] in
     let last = last_is run.earlier run.last in
     let len : length rounds ≡ length run.earlier + 1 = length-append run.earlier (run.last ∷ []) in

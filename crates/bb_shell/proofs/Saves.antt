@@ -40,7 +40,7 @@ pub spent_fits : (b : Binding) (state : State) (device : Device) (spent : List â
     â†’ IsTrue ((laid_form (keyed_of state)).fits spent)
 spent_fits b state device spent ready others =
     let keyed = keyed_of state in
-    changed_fits keyed state.table spent ready.facts ready.fits
+    changed_fits keyed state.table spent state.facts ready.fits
     (keeps_changes keyed.layout.vars b state.table spent others ready.bound.vars)
 
 -- a save that answered Ok

@@ -11,7 +11,6 @@ use Rattle.bb_copies.specs.declared.answers.CopyFault.TheVariants.{WriteFault}
 use Rattle.bb_flash.specs.declared.plan.Plan.{Plan}
 use Rattle.bb_flash.specs.Device.{Device, content, starts}
 use Rattle.bb_layout.specs.Layout.{Laid}
-use Rattle.bb_layout.specs.Kept.{IsLaid}
 use Rattle.bb_state.specs.Keyed.{Keyed}
 use Rattle.bb_state.specs.Kinds.{laid_passings}
 use Rattle.bb_state.specs.State.{FitsForm, IsOn, IsSized, is_sure, kept_of, keyed_of, laid_of, used_of}
@@ -33,7 +32,6 @@ pub record IsBoundIn (b : Binding) (layout : Laid) : Type 0 where
 
 -- a state can be booted: its last load or save answered Ok, and the chooser was bound to its layout
 pub record IsReady (b : Binding) (state : State) (device : Device) : Type 0 where
-  pub facts : IsLaid (laid_of state)
   pub sized : IsSized state
   pub fits : FitsForm state
   pub sure : is_sure state ≡ true

@@ -16,7 +16,6 @@ ghost use Rattle.bb_copies.specs.Store.{used_after};
 ghost use Rattle.bb_copies.specs.declared.answers.CopyFault.TheVariants.{ReadFault, Unsure};
 ghost use Rattle.bb_layout.specs.Layout.{fields_of};
 ghost use Rattle.bb_state.specs.Backed.{form_in, kinds_in};
-ghost use Rattle.bb_layout.specs.Kept.{IsLaid};
 ghost use Rattle.bb_state.specs.Keyed.{FitsKey};
 ghost use Rattle.bb_state.specs.Kinds.{any_holding, bucket_at, format_of, laid_buckets};
 ghost use Rattle.bb_state.specs.State.{IsDefault, IsRefused, IsStored};
@@ -127,7 +126,6 @@ impl Backing {
         ensures starts { LeavesStarts (F.device flash.old) (F.device flash.new) }
         ensures whole { IsDevice (F.device flash.new) }
         ensures keyed { self.new.keyed ≡ self.old.keyed }
-        ensures facts { IsLaid self.new.keyed.layout }
         ensures agrees { AllAgree any_holding (F.device flash.new) self.new.buckets }
         ensures placed { OnOk result (AllPlaced any_holding self.new.buckets) }
         ensures used { IfOk result (λ loaded. self.new.used ≡ used_after loaded) }

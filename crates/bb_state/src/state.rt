@@ -1,28 +1,8 @@
-ghost use Rattle.std.specs.Prelude.{◌≡◌, ◌↔◌, ◌++◌, IfErr, IfOk, IsErr, IsErrOf, IsOk};
-ghost use Rattle.std.specs.Prelude.{None, Ok, OnErr, OnOk, Some, false, is_ok, length, true};
-ghost use Rattle.std.specs.Result.{result_map_both};
-ghost use Rattle.bb_base.specs.Faults.{HasCause};
-ghost use Rattle.bb_flash.specs.Cuts.{IsLater};
-ghost use Rattle.bb_flash.specs.Device.{LeavesStarts};
-ghost use Rattle.bb_bucket.specs.Calls.{IsQuiet};
-ghost use Rattle.bb_copies.specs.Erasing.{ErasesBy};
-ghost use Rattle.bb_copies.specs.Loading.{KeepsOutside, LoadGives, LoadImages, LoadsErasing};
-ghost use Rattle.bb_copies.specs.Loading.{LoadsExactly, LookGives};
-ghost use Rattle.bb_copies.specs.Placing.{ReadsNothing};
-ghost use Rattle.bb_copies.specs.Saving.{EachWritten, SaveFails, SaveRuns};
-ghost use Rattle.bb_copies.specs.Settling.{IsUndisturbed};
-ghost use Rattle.bb_copies.specs.Store.{used_after};
-ghost use Rattle.bb_copies.specs.declared.answers.CopyFault.TheVariants.{ReadFault, Unsure};
-ghost use Rattle.bb_layout.specs.Defaults.{defaults_of};
-ghost use Rattle.bb_layout.specs.Layout.{fields_of};
-ghost use Rattle.bb_layout.specs.Outside.{ChangesVarsAlone};
+ghost use Rattle.bb_layout.specs.Facts.{HasFewNames-prop};
 ghost use Rattle.bb_layout.specs.Kept.{IsLaid};
-ghost use Rattle.bb_state.specs.Keyed.{FitsKey};
-ghost use Rattle.bb_state.specs.Named.{Refuses, after_set, refusal_for, text_for};
-ghost use Rattle.bb_state.specs.State.{FitsForm, form_of, kinds_of, IsDefault, IsFresh, IsOn};
-ghost use Rattle.bb_state.specs.State.{IsPlaced};
-ghost use Rattle.bb_state.specs.State.{IsRefused, IsSized, IsStored, has_changed, is_kept, is_sure};
-ghost use Rattle.bb_state.specs.State.{kept_of, keyed_of, laid_of, used_of};
+ghost use Rattle.std.proofs.Props.{props};
+ghost use Rattle.std.specs.Prelude.{◌≡◌, IfOk, length};
+ghost use Rattle.bb_layout.specs.Defaults.{defaults_of};
 
 use crate::backing::Backing;
 use crate::{StateError, get_value, set_value};
@@ -40,9 +20,34 @@ pub struct State {
     /// The bytes of all variables.
     pub table: Table,
     pub(crate) backing: Backing,
+    pub ghost facts: { IsLaid backing.keyed.layout } by { Prim.hlevel (props, HasFewNames-prop) },
 }
 
 impl State {
+    ghost use Rattle.std.specs.Prelude.{◌≡◌, ◌↔◌, ◌++◌, IfErr, IfOk, IsErr, IsErrOf, IsOk};
+    ghost use Rattle.std.specs.Prelude.{None, Ok, OnErr, OnOk, Some, false, is_ok, length, true};
+    ghost use Rattle.std.specs.Result.{result_map_both};
+    ghost use Rattle.bb_base.specs.Faults.{HasCause};
+    ghost use Rattle.bb_flash.specs.Cuts.{IsLater};
+    ghost use Rattle.bb_flash.specs.Device.{LeavesStarts};
+    ghost use Rattle.bb_bucket.specs.Calls.{IsQuiet};
+    ghost use Rattle.bb_copies.specs.Erasing.{ErasesBy};
+    ghost use Rattle.bb_copies.specs.Loading.{KeepsOutside, LoadGives, LoadImages, LoadsErasing};
+    ghost use Rattle.bb_copies.specs.Loading.{LoadsExactly, LookGives};
+    ghost use Rattle.bb_copies.specs.Placing.{ReadsNothing};
+    ghost use Rattle.bb_copies.specs.Saving.{EachWritten, SaveFails, SaveRuns};
+    ghost use Rattle.bb_copies.specs.Settling.{IsUndisturbed};
+    ghost use Rattle.bb_copies.specs.Store.{used_after};
+    ghost use Rattle.bb_copies.specs.declared.answers.CopyFault.TheVariants.{ReadFault, Unsure};
+    ghost use Rattle.bb_layout.specs.Layout.{fields_of};
+    ghost use Rattle.bb_layout.specs.Outside.{ChangesVarsAlone};
+    ghost use Rattle.bb_state.specs.Keyed.{FitsKey};
+    ghost use Rattle.bb_state.specs.Named.{Refuses, after_set, refusal_for, text_for};
+    ghost use Rattle.bb_state.specs.State.{FitsForm, form_of, kinds_of, IsDefault, IsFresh, IsOn};
+    ghost use Rattle.bb_state.specs.State.{IsPlaced};
+    ghost use Rattle.bb_state.specs.State.{IsRefused, IsSized, IsStored, has_changed, is_kept, is_sure};
+    ghost use Rattle.bb_state.specs.State.{kept_of, keyed_of, laid_of, used_of};
+
     /// The state of a layout, of which no copy was looked at yet. The table has the defaults. A key
     /// is given exactly where the layout's records are kept under one.
     pub fn mount(alloc: Global, layout: Layout, key: Option<Key>) -> Result<State, NoMemory>
@@ -52,7 +57,6 @@ impl State {
         ensures table { IfOk result (λ state.
             state.table ≡ defaults_of layout.area_len layout.vars) }
         ensures sure { IfOk result (λ state. is_sure state ≡ false) }
-        ensures facts { IfOk result (λ state. IsLaid (laid_of state)) }
         ensures sized { IfOk result IsSized }
         ensures fits { IfOk result FitsForm }
         ensures fresh { IfOk result IsFresh }
@@ -95,7 +99,6 @@ impl State {
         ensures kept { OnOk result (kept_of self.new ≡ self.new.table) }
         ensures used { IfOk result (λ loaded. used_of self.new ≡ used_after loaded) }
         ensures sure { is_sure self.new ≡ is_ok result }
-        ensures facts { IsLaid (laid_of self.new) }
         ensures sized { IsSized self.new }
         ensures loaded_fits { OnOk result (FitsForm self.new) }
         ensures fits { FitsForm self.old → FitsForm self.new }

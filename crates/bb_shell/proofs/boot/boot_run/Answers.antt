@@ -14,10 +14,9 @@ run_rounds-requires-clause-ready g c =
     let keyed = keyed_of c.args.state.now in
     let table = c.args.state.now.table in
     record {
-      facts = ready.facts;
       sized = c.reset_first.ensures.sized ∙ ready.sized;
       fits =
-          changed_fits keyed table c.reset_first.new.table ready.facts ready.fits
+          changed_fits keyed table c.reset_first.new.table c.args.state.now.facts ready.fits
           (keeps_changes keyed.layout.vars c.args.chooser.now table c.reset_first.new.table c.reset_first.ensures.others ready.bound.vars);
       sure = ready.sure;
       on = record { geometry = ready.on.geometry; agrees = ready.on.agrees; whole = ready.on.whole };
@@ -40,4 +39,4 @@ pub returns-clause-booted : goal.returns-clause-booted
 returns-clause-booted g c =
     booted_of c.args.chooser.now c.args.plans.now (first_table c.args.chooser.now c.args.cause c.args.first c.args.state.now.table)
     c.reset_first.new.table c.args.state.now c.run_rounds.new.state (g.B.Flash.device c.args.board.now) (g.B.Flash.device c.run_rounds.new.board)
-    c.run_rounds.result c.reset_first.ensures.table c.requires.on.geometry c.run_rounds.ensures.have_run
+    c.run_rounds.result c.reset_first.ensures.table c.requires.on.geometry _ c.run_rounds.ensures.have_run

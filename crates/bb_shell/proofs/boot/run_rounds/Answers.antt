@@ -2,7 +2,6 @@ use Rattle.std.proofs.Common.{rules, ◌≡◌, ◌+◌, Bool, true, false, ap, 
 use Rattle.bb_chooser.specs.Binding.{IsBoundTo}
 use Rattle.bb_copies.specs.Loading.{KeepsOutside}
 use Rattle.bb_flash.proofs.Moments.{later_joined}
-use Rattle.bb_layout.specs.Kept.{IsLaid}
 use Rattle.bb_state.specs.Keyed.{Keyed}
 use Rattle.bb_state.specs.Kinds.{laid_kinds}
 use Rattle.bb_state.specs.State.{is_sure, kept_of, keyed_of, kinds_of, used_of}
@@ -107,7 +106,6 @@ loop-tries-preserved g c =
     let last = subst (λ l. StaysStored l (kept_of old) new.table mid to) invariant.same_keyed (done.stored saved) in
     record {
       ready = record {
-        facts = subst (λ (k : Keyed). IsLaid k.layout) (sym done.keyed) invariant.ready.facts;
         sized = done.sized;
         fits = done.fits;
         sure = sure;

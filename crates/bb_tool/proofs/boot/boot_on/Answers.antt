@@ -29,7 +29,6 @@ returns-in_err-load-clause-gives g c =
 
 pub boot_run-end-requires : goal.boot_run-end-requires
 boot_run-end-requires g c = record {
-  facts = c.in_ok-load.ensures.facts;
   sized = c.in_ok-load.ensures.sized;
   fits = c.in_ok-load.ensures.loaded_fits;
   sure = c.in_ok-load.ensures.sure;

@@ -69,7 +69,7 @@ save-requires-clause-fits g c =
     let keyed = c.load.new.self.backing.keyed in
     let table = c.load.new.self.table in
     let bound = subst (λ (k : Keyed). IsBoundTo k.layout.vars c.args.chooser.now) (sym c.in_ok-load.ensures.keyed) c.requires.bound in
-    changed_fits keyed table c.mark_good.new.table c.in_ok-load.ensures.facts c.in_ok-load.ensures.loaded_fits
+    changed_fits keyed table c.mark_good.new.table c.load.new.self.facts c.in_ok-load.ensures.loaded_fits
     (keeps_changes keyed.layout.vars c.args.chooser.now table c.mark_good.new.table c.mark_good.ensures.others bound)
 
 pub returns-in_err-save-clause-gives : goal.returns-in_err-save-clause-gives

@@ -42,7 +42,7 @@ save-requires-clause-fits g c =
     let keyed = c.load.new.self.backing.keyed in
     let table = c.make_sets.new.state.table in
     subst (λ (s : State). IsTrue ((laid_form (keyed_of s)).fits table)) (sym c.make_sets.ensures.backing)
-    (changed_fits keyed c.load.new.self.table table c.in_ok-load.ensures.facts c.in_ok-load.ensures.loaded_fits c.make_sets.ensures.outside)
+    (changed_fits keyed c.load.new.self.table table c.load.new.self.facts c.in_ok-load.ensures.loaded_fits c.make_sets.ensures.outside)
 
 pub save-requires-clause-on : goal.save-requires-clause-on
 save-requires-clause-on g c =

@@ -1,13 +1,9 @@
 use Rattle.std.proofs.Common.{List, ℕ, IsTrue, subst, sym}
 use Rattle.bb_layout.specs.Layout.{fields_of}
-use Rattle.bb_layout.specs.Kept.{IsLaid}
 use Rattle.bb_state.specs.Keyed.{Keyed}
 use Rattle.bb_state.specs.Kinds.{laid_form}
 use Rattle.bb_state.proofs.Fitting.{defaults_fit}
 use Rattle.bb_state.proofs.state.State.mount.Goals as goal
-
-pub returns-clause-facts : goal.returns-clause-facts
-returns-clause-facts c = subst (λ (k : Keyed). IsLaid k.layout) (sym c.in_ok-backing.ensures.keyed) c.args.layout.facts
 
 pub returns-clause-fits : goal.returns-clause-fits
 returns-clause-fits c =
