@@ -16,15 +16,15 @@ use Rattle.bb_copies.proofs.Runs.{later_refl}
 use Rattle.bb_flash.specs.Cuts.{IsLater}
 use Rattle.bb_flash.specs.Device.{Device, IsDevice, LeavesStarts, content}
 use Rattle.bb_chooser.specs.Others.{KeepsOthers}
-use Rattle.bb_chooser.specs.Binding.{Binding}
+use Rattle.bb_chooser.specs.Binding.{Binding, IsBoundTo}
 use Rattle.bb_chooser.proofs.Alone.{keeps_changes}
 use Rattle.bb_state.proofs.Fitting.{changed_fits}
 use Rattle.bb_state.specs.Keyed.{Keyed}
 use Rattle.bb_state.specs.Kinds.{laid_form, laid_kinds}
-use Rattle.bb_state.specs.State.{IsStored, form_of, has_changed, is_kept, is_sure, kept_of, keyed_of, kinds_of, used_of}
+use Rattle.bb_state.specs.State.{IsStored, form_of, has_changed, is_kept, is_sure, kept_of, keyed_of, kinds_of, laid_of, used_of}
 use Rattle.bb_state.specs.declared.state.State.{State}
 use Rattle.bb_shell.proofs.Joins.{outside_refl, stored_refl}
-use Rattle.bb_shell.specs.Ends.{IsReady, IsWriteFault, StaysStored}
+use Rattle.bb_shell.specs.Ends.{IsWriteFault, StaysStored}
 use Rattle.bb_shell.specs.Running.{IsSaveRun}
 
 -- ---- the state's words
@@ -35,13 +35,11 @@ changed_is state same sure e = ap (λ s. s && not (bytes_eq state.table (kept_of
 kept_is : (state : State) → is_sure state ≡ true → bytes_eq state.table (kept_of state) ≡ true → is_kept state ≡ true
 kept_is state sure e = ap (λ s. s && bytes_eq state.table (kept_of state)) sure ∙ e
 
--- what a spent attempt leaves has its place in a record
-pub spent_fits : (b : Binding) (state : State) (device : Device) (spent : List ℕ) → IsReady b state device → KeepsOthers b state.table spent
-    → IsTrue ((laid_form (keyed_of state)).fits spent)
-spent_fits b state device spent ready others =
-    let keyed = keyed_of state in
-    changed_fits keyed state.table spent state.facts ready.fits
-    (keeps_changes keyed.layout.vars b state.table spent others ready.bound.vars)
+-- a table in which a chooser changed its own variables alone can be kept as a record
+pub chosen_fits : (b : Binding) (state : State) (table : List ℕ) → IsBoundTo (laid_of state).vars b → KeepsOthers b state.table table
+    → IsTrue ((form_of state).fits table)
+chosen_fits b state table bound others =
+    changed_fits (keyed_of state) state.table table state.facts state.fits (keeps_changes (laid_of state).vars b state.table table others bound)
 
 -- a save that answered Ok
 pub saved_ok : (state : State) (now : Option ℕ) (from to : Device) → is_sure state ≡ true →

@@ -13,7 +13,7 @@ use Rattle.bb_flash.specs.Device.{Device, content, starts}
 use Rattle.bb_layout.specs.Layout.{Laid}
 use Rattle.bb_state.specs.Keyed.{Keyed}
 use Rattle.bb_state.specs.Kinds.{laid_passings}
-use Rattle.bb_state.specs.State.{FitsForm, IsOn, IsSized, is_sure, kept_of, keyed_of, laid_of, used_of}
+use Rattle.bb_state.specs.State.{IsOn, is_sure, kept_of, keyed_of, laid_of, used_of}
 use Rattle.bb_state.specs.declared.state.State.{State}
 use Rattle.bb_shell.specs.Boot.{AreRounds, Round, end_by, end_of, plan_at, table_after}
 use Rattle.bb_shell.specs.Running.{AreRun}
@@ -32,8 +32,6 @@ pub record IsBoundIn (b : Binding) (layout : Laid) : Type 0 where
 
 -- a state can be booted: its last load or save answered Ok, and the chooser was bound to its layout
 pub record IsReady (b : Binding) (state : State) (device : Device) : Type 0 where
-  pub sized : IsSized state
-  pub fits : FitsForm state
   pub sure : is_sure state ≡ true
   pub on : IsOn state device
   pub bound : IsBoundIn b (laid_of state)

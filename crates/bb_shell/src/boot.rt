@@ -9,7 +9,7 @@ ghost use Rattle.bb_flash.specs.Cuts.{IsLater};
 ghost use Rattle.bb_shell.specs.Boot.{NoneQualifies, all_attempts, end_by, first_table, is_retried};
 ghost use Rattle.bb_shell.specs.Ends.{AddsStarts, HasEndCause, HaveRun, IsBooted, IsReady};
 ghost use Rattle.bb_shell.specs.Ends.{IsUnchanged, StaysStored, is_fault};
-ghost use Rattle.bb_state.specs.State.{FitsForm, IsOn, IsSized, is_sure, kept_of, keyed_of};
+ghost use Rattle.bb_state.specs.State.{IsOn, is_sure, kept_of, keyed_of};
 ghost use Rattle.bb_state.specs.State.{kinds_of};
 
 use crate::boot_end::BootEnd;
@@ -56,8 +56,6 @@ pub fn boot_run<B: Board>(
     ensures later { IsLater (B.device board.old) (B.device board.new) }
     ensures keyed { keyed_of state.new ≡ keyed_of state.old }
     ensures sure { is_sure state.new ≡ not (is_fault result) }
-    ensures sized { IsSized state.new }
-    ensures fits { FitsForm state.new }
     ensures on { IsOn state.new (B.device board.new) }
 {
     let Some(target) = first_target(chooser, &state.table, cause, first) else {
@@ -128,8 +126,6 @@ fn run_rounds<B: Board>(
     ensures later { IsLater (B.device board.old) (B.device board.new) }
     ensures keyed { keyed_of state.new ≡ keyed_of state.old }
     ensures sure { is_sure state.new ≡ not (is_fault result) }
-    ensures sized { IsSized state.new }
-    ensures fits { FitsForm state.new }
     ensures on { IsOn state.new (B.device board.new) }
 {
     let attempts = attempts_in(chooser, &state.table);

@@ -1,11 +1,9 @@
-ghost use Rattle.std.specs.Prelude.{◌≡◌, ◌<◌, ◌+◌, ◌^◌, ◌≢◌, ◌↔◌, ℕ, IfErr, IfOk, IsTrue, Ok, Err};
+ghost use Rattle.std.specs.Prelude.{◌≡◌, ◌<◌, ◌+◌, ℕ, IfErr, IfOk, IsTrue, Ok, Err};
 ghost use Rattle.std.specs.Prelude.{length};
 ghost use Rattle.std.specs.Bool.{OnFalse};
 ghost use Rattle.std.specs.Option.{ForSome};
 ghost use Rattle.bb_base.specs.Form.{area_limit};
 ghost use Rattle.bb_base.specs.Faults.{HasCause};
-ghost use Rattle.bb_bls.specs.Entry.{entry_of};
-ghost use Rattle.bb_bls.specs.declared.error.EntryError.TheVariants as entry_errors;
 ghost use Rattle.bb_shell.specs.Plans.{IsPlanOf, IsPlanned, NamesTarget, is_file_fault, plan_by};
 ghost use Rattle.bb_shell.specs.Plans.{plan_with, plans_of};
 

@@ -7,7 +7,7 @@ ghost use Rattle.bb_flash.specs.Device.{IsDevice};
 ghost use Rattle.bb_shell.specs.Boot.{IsOutcome, IsRound, plan_at};
 ghost use Rattle.bb_shell.specs.Ends.{AddsStart, IsReady, StaysStored, failed_start};
 ghost use Rattle.bb_shell.specs.Running.{IsRoundRun, IsTried, is_refused};
-ghost use Rattle.bb_state.specs.State.{FitsForm, IsOn, IsSized, is_sure, kept_of, keyed_of};
+ghost use Rattle.bb_state.specs.State.{IsOn, is_sure, kept_of, keyed_of};
 ghost use Rattle.bb_state.specs.State.{kinds_of, used_of};
 
 use crate::outcome::Outcome;
@@ -43,8 +43,6 @@ pub(crate) fn run_round<B: Board>(
     ensures keyed { keyed_of state.new ≡ keyed_of state.old }
     ensures kept { is_sure state.new ≡ true → kept_of state.new ≡ state.new.table }
     ensures sure { is_sure state.new ≡ not (is_refused result) }
-    ensures sized { IsSized state.new }
-    ensures fits { FitsForm state.new }
     ensures on { IsOn state.new (B.device board.new) }
 {
     chooser.spend(&mut state.table, target);

@@ -7,3 +7,4 @@ pub mod Mounting
 pub mod NamedVars
 pub mod Rooms
 pub mod Sets
+pub mod Tables

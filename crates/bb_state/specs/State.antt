@@ -1,5 +1,5 @@
 -- What a state is to those who load and save it.
-use Rattle.std.specs.Prelude.{◌≡◌, ℕ, Bool, ◌&&◌, not, ⊤, List, Option, length, IsTrue}
+use Rattle.std.specs.Prelude.{◌≡◌, ℕ, Bool, ◌&&◌, not, ⊤, List, Option}
 use Rattle.std.specs.Str.{bytes_eq}
 use Rattle.bb_base.specs.Form.{Form}
 use Rattle.bb_flash.specs.Device.{Device, IsDevice}
@@ -49,14 +49,6 @@ is_kept state = is_sure state && bytes_eq state.table (kept_of state)
 
 abbrev pub has_changed : State → Bool
 has_changed state = is_sure state && not (bytes_eq state.table (kept_of state))
-
--- its table has the layout's length
-abbrev pub IsSized : State → Type 0
-IsSized state = length state.table ≡ (laid_of state).area_len
-
--- its table can be kept as a record
-abbrev pub FitsForm : State → Type 0
-FitsForm state = IsTrue ((form_of state).fits state.table)
 
 -- it may be used with a device: one of the layout's geometry, of which its buckets keep what
 -- stands there

@@ -1,7 +1,8 @@
 ghost use Rattle.bb_layout.specs.Facts.{HasFewNames-prop};
 ghost use Rattle.bb_layout.specs.Kept.{IsLaid};
+ghost use Rattle.bb_state.specs.Backed.{form_in};
 ghost use Rattle.std.proofs.Props.{props};
-ghost use Rattle.std.specs.Prelude.{◌≡◌, IfOk, length};
+ghost use Rattle.std.specs.Prelude.{◌≡◌, IfOk, IsTrue, length};
 ghost use Rattle.bb_layout.specs.Defaults.{defaults_of};
 
 use crate::backing::Backing;
@@ -14,12 +15,14 @@ use bb_layout::Layout;
 use bb_vars::Table;
 use std::alloc::Global;
 
-/// The variables of a layout, over the copies of their area.
+/// The variables of a layout, over the copies of their area. The table always has the length of that area, and can be
+/// kept as a record.
 #[derive(Drop)]
 pub struct State {
     /// The bytes of all variables.
     pub table: Table,
     pub(crate) backing: Backing,
+    pub ghost fits: { IsTrue ((form_in backing).fits table) },
     pub ghost facts: { IsLaid backing.keyed.layout } by { Prim.hlevel (props, HasFewNames-prop) },
 }
 
@@ -43,9 +46,9 @@ impl State {
     ghost use Rattle.bb_layout.specs.Outside.{ChangesVarsAlone};
     ghost use Rattle.bb_state.specs.Keyed.{FitsKey};
     ghost use Rattle.bb_state.specs.Named.{Refuses, after_set, refusal_for, text_for};
-    ghost use Rattle.bb_state.specs.State.{FitsForm, form_of, kinds_of, IsDefault, IsFresh, IsOn};
+    ghost use Rattle.bb_state.specs.State.{form_of, kinds_of, IsDefault, IsFresh, IsOn};
     ghost use Rattle.bb_state.specs.State.{IsPlaced};
-    ghost use Rattle.bb_state.specs.State.{IsRefused, IsSized, IsStored, has_changed, is_kept, is_sure};
+    ghost use Rattle.bb_state.specs.State.{IsRefused, IsStored, has_changed, is_kept, is_sure};
     ghost use Rattle.bb_state.specs.State.{kept_of, keyed_of, laid_of, used_of};
 
     /// The state of a layout, of which no copy was looked at yet. The table has the defaults. A key
@@ -57,8 +60,6 @@ impl State {
         ensures table { IfOk result (λ state.
             state.table ≡ defaults_of layout.area_len layout.vars) }
         ensures sure { IfOk result (λ state. is_sure state ≡ false) }
-        ensures sized { IfOk result IsSized }
-        ensures fits { IfOk result FitsForm }
         ensures fresh { IfOk result IsFresh }
     {
         let table = defaults(alloc, &layout)?;
@@ -77,8 +78,7 @@ impl State {
     /// it or nothing: those that don't are written. Where no copy passes the table has the
     /// defaults. After a refusal it is as before.
     pub fn load<F: Flash>(&mut self, flash: &mut F) -> Result<Loaded, CopyFault>
-        requires sized { IsSized self.old }
-        requires on { IsOn self.old (F.device flash.old) }
+        requires { IsOn self.old (F.device flash.old) }
         ensures images { LoadImages (form_of self.old) (kinds_of self.old)
             (F.device flash.old) (F.device flash.new) }
         ensures gives { IfOk result (LoadGives (form_of self.old) (kinds_of self.old) self.new.table
@@ -99,9 +99,6 @@ impl State {
         ensures kept { OnOk result (kept_of self.new ≡ self.new.table) }
         ensures used { IfOk result (λ loaded. used_of self.new ≡ used_after loaded) }
         ensures sure { is_sure self.new ≡ is_ok result }
-        ensures sized { IsSized self.new }
-        ensures loaded_fits { OnOk result (FitsForm self.new) }
-        ensures fits { FitsForm self.old → FitsForm self.new }
         ensures on { IsOn self.new (F.device flash.new) }
         ensures placed { OnOk result (IsPlaced self.new) }
     {
@@ -116,9 +113,7 @@ impl State {
     /// save was refused. Once a load or a save answered Ok, a save in which no call fails reads
     /// nothing.
     pub fn save<F: Flash>(&mut self, flash: &mut F) -> Result<(), CopyFault>
-        requires sized { IsSized self.old }
-        requires fits { FitsForm self.old }
-        requires on { IsOn self.old (F.device flash.old) }
+        requires { IsOn self.old (F.device flash.old) }
         ensures unsure { IsErrOf result Unsure ↔ (is_sure self.old ≡ false) }
         ensures same { is_kept self.old ≡ true → IsOk result }
         ensures idle { has_changed self.old ≡ false → F.device flash.new ≡ F.device flash.old }
@@ -157,9 +152,7 @@ impl State {
 
     /// Saves the table to all copies, whatever was last loaded or saved. Unsure as in `save`.
     pub fn save_always<F: Flash>(&mut self, flash: &mut F) -> Result<(), CopyFault>
-        requires sized { IsSized self.old }
-        requires fits { FitsForm self.old }
-        requires on { IsOn self.old (F.device flash.old) }
+        requires { IsOn self.old (F.device flash.old) }
         ensures unsure { IsErrOf result Unsure ↔ (is_sure self.old ≡ false) }
         ensures idle { is_sure self.old ≡ false → F.device flash.new ≡ F.device flash.old }
         ensures unchanged { is_sure self.old ≡ false → self.new ≡ self.old }
@@ -215,7 +208,6 @@ impl State {
     /// Appends the text of the value of the variable of that name. NoSuchVariable where there is
     /// none, and NoMemory.
     pub fn get(&self, name: &str, out: &mut Bytes) -> Result<(), StateError>
-        requires { IsSized self.now }
         ensures got { OnOk result (result_map_both (λ text. out.old ++ text) (λ e. e)
             (text_for (laid_of self.now).vars name.now self.now.table) ≡ Ok out.new) }
         ensures refused { IfErr result
@@ -227,7 +219,6 @@ impl State {
     /// Gives the variable of that name the value that a text stands for. NoSuchVariable where there
     /// is none, and Value where the text is no value of it; the table is then as before.
     pub fn set(&mut self, name: &str, text: &[u8]) -> Result<(), StateError>
-        requires { IsSized self.old }
         ensures table { self.new.table
             ≡ after_set (laid_of self.old).vars name.now text.now self.old.table }
         ensures value { OnOk result
@@ -236,9 +227,7 @@ impl State {
             refusal_for (laid_of self.old).vars name.now text.now ≡ Some e) }
         ensures unchanged { OnErr result (self.new.table ≡ self.old.table) }
         ensures outside { ChangesVarsAlone (laid_of self.old).vars self.old.table self.new.table }
-        ensures backing { self.new ≡ record self.old { table = self.new.table } }
-        ensures sized { IsSized self.new }
-        ensures fits { FitsForm self.old → FitsForm self.new }
+        ensures backing { self.new.backing ≡ self.old.backing }
     {
         set_value(self.backing.layout(), &mut self.table, name, text)
     }

@@ -17,6 +17,7 @@ use Rattle.bb_flash.proofs.Moments.{later_joined}
 use Rattle.bb_actions.specs.Actions.{after_all}
 use Rattle.bb_words.specs.declared.command.Action.{Action}
 use Rattle.bb_tool.proofs.Quiet.{starts_joined}
+use Rattle.bb_state.specs.Backed.{Backed}
 use Rattle.bb_state.specs.Keyed.{Keyed}
 use Rattle.bb_vars.specs.Table.{table_with}
 use Rattle.bb_state.specs.Kinds.{laid_form, laid_kinds}
@@ -369,7 +370,7 @@ is_kept_is state area new sure table kept =
 
 module _ (first state : State) (keyed : Keyed) (new : List ℕ) (loaded : Loaded)
     (mid to : Device) (now : Option ℕ)
-    (backing : state ≡ record first { table = state.table })
+    (backing : state.backing ≡ first.backing)
     (new_is : state.table ≡ new)
     (layout_is : keyed_of first ≡ keyed) (used : used_of first ≡ used_after loaded)
     (sure : is_sure first ≡ true) (kept : kept_of first ≡ first.table)
@@ -378,10 +379,10 @@ module _ (first state : State) (keyed : Keyed) (new : List ℕ) (loaded : Loaded
     to)
     (idle : has_changed state ≡ false → to ≡ mid) where
   sure_is : is_sure state ≡ true
-  sure_is = ap is_sure backing ∙ sure
+  sure_is = ap (λ (b : Backed). b.sure) backing ∙ sure
 
   kept_so : kept_of state ≡ first.table
-  kept_so = ap kept_of backing ∙ kept
+  kept_so = ap (λ (b : Backed). b.kept) backing ∙ kept
 
   changed_so : has_changed state ≡ not (bytes_eq new first.table)
   changed_so = has_changed_is state first.table new sure_is new_is kept_so
@@ -390,9 +391,9 @@ module _ (first state : State) (keyed : Keyed) (new : List ℕ) (loaded : Loaded
       IsSaved keyed (used_after loaded) new mid to answer
   moved answer done =
       subst (λ (l : Keyed). IsSaved l (used_after loaded) new mid to answer)
-      (ap keyed_of backing ∙ layout_is)
+      (ap (λ (b : Backed). b.keyed) backing ∙ layout_is)
       (subst (λ (u : Option ℕ). IsSaved (keyed_of state) u new mid to answer)
-      (ap used_of backing ∙ used)
+      (ap (λ (b : Backed). b.used) backing ∙ used)
       (subst (λ (a : List ℕ). IsSaved (keyed_of state) (used_of state) a mid to answer) new_is done))
 
   pub changed_ok :
@@ -435,7 +436,7 @@ module _ (first state : State) (keyed : Keyed) (new : List ℕ) (loaded : Loaded
 
 module _ (first state : State) (keyed : Keyed) (actions : List Action) (loaded : Loaded)
     (mid to : Device) (now : Option ℕ)
-    (backing : state ≡ record first { table = state.table })
+    (backing : state.backing ≡ first.backing)
     (table : state.table ≡ after_all (keyed_of first).layout.vars first.table actions)
     (layout_is : keyed_of first ≡ keyed) (used : used_of first ≡ used_after loaded)
     (sure : is_sure first ≡ true) (kept : kept_of first ≡ first.table)

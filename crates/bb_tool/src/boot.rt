@@ -1,9 +1,9 @@
-ghost use Rattle.std.specs.Prelude.{◌≡◌, ◌<◌, ◌≤◌, List, ℕ, Ok, IfErr, IfOk, length};
+ghost use Rattle.std.specs.Prelude.{◌≡◌, ◌<◌, List, ℕ, Ok, IfErr, IfOk, length};
 ghost use Rattle.bb_chooser.specs.Binding.{IsBoundTo};
 ghost use Rattle.bb_flash.specs.Cuts.{IsLater};
 ghost use Rattle.bb_flash.specs.Device.{IsDevice};
 ghost use Rattle.bb_state.specs.Keyed.{FitsKey};
-ghost use Rattle.bb_state.specs.State.{IsOn, IsSized, keyed_of, laid_of};
+ghost use Rattle.bb_state.specs.State.{IsOn, keyed_of, laid_of};
 ghost use Rattle.bb_words.specs.Words.{words_of};
 ghost use Rattle.bb_words.specs.declared.command.Command.TheVariants as commands;
 ghost use Rattle.bb_tool.specs.Booting.{start_line, target_name, tries_line};
@@ -124,11 +124,9 @@ fn boot_on<B: Board>(
     plans: &PlanList,
     cause: Cause,
 ) -> Result<Report, Refusal>
-    requires table { IsSized state.old }
     requires sized { chooser.now.area_len ≡ (laid_of state.old).area_len }
     requires bound { IsBoundTo (laid_of state.old).vars chooser.now }
     requires on { IsOn state.old (B.device board.old) }
-    requires many { 2 ≤ (laid_of state.old).copies }
     ensures gives { IsWorkedOut (keyed_of state.old) (Boot chooser.now cause plans.now)
         (B.device board.old) (B.device board.new) result }
     ensures sends { IfOk result IsSendable }

@@ -1,4 +1,4 @@
-ghost use Rattle.std.specs.Prelude.{◌≡◌, IfErr, IfOk};
+ghost use Rattle.std.specs.Prelude.{IfErr, IfOk};
 ghost use Rattle.std.specs.Option.{option_copied};
 ghost use Rattle.bb_state.specs.Keyed.{FitsKey};
 ghost use Rattle.bb_tool.specs.Filing.{IsFolderLater, IsKeyRead, IsReadFor};

@@ -1,10 +1,10 @@
-ghost use Rattle.std.specs.Prelude.{◌≡◌, ◌≤◌, List, ℕ, Ok, IfErr, IfOk, length};
+ghost use Rattle.std.specs.Prelude.{◌≡◌, List, ℕ, Ok, IfErr, IfOk, length};
 ghost use Rattle.std.specs.Option.{option_map};
 ghost use Rattle.bb_chooser.specs.Binding.{IsBoundTo};
 ghost use Rattle.bb_flash.specs.Cuts.{IsLater};
 ghost use Rattle.bb_flash.specs.Device.{IsDevice, LeavesStarts};
 ghost use Rattle.bb_state.specs.Keyed.{FitsKey};
-ghost use Rattle.bb_state.specs.State.{IsOn, IsSized, keyed_of, laid_of};
+ghost use Rattle.bb_state.specs.State.{IsOn, keyed_of, laid_of};
 ghost use Rattle.bb_words.specs.Words.{words_of};
 ghost use Rattle.bb_words.specs.declared.command.Command.TheVariants as commands;
 ghost use Rattle.bb_tool.specs.Ending.{IsGiven};
@@ -81,11 +81,9 @@ fn mark_on<F: Flash>(
     state: &mut State,
     chooser: &Chooser,
 ) -> Result<Report, Refusal>
-    requires table { IsSized state.old }
     requires sized { chooser.now.area_len ≡ (laid_of state.old).area_len }
     requires bound { IsBoundTo (laid_of state.old).vars chooser.now }
     requires on { IsOn state.old (F.device flash.old) }
-    requires many { 2 ≤ (laid_of state.old).copies }
     ensures gives { IsWorkedOut (keyed_of state.old) (Good chooser.now)
         (F.device flash.old) (F.device flash.new) result }
     ensures sends { IfOk result IsSendable }

@@ -1,10 +1,10 @@
-ghost use Rattle.std.specs.Prelude.{◌≡◌, ◌⊎◌, ◌≤◌, List, ℕ, None, Ok, IfErr, IfOk, length};
+ghost use Rattle.std.specs.Prelude.{◌≡◌, List, ℕ, None, Ok, IfErr, IfOk, length};
 ghost use Rattle.std.specs.Prelude.{option_map, vec_len};
 ghost use Rattle.bb_base.specs.Folder.{Folder};
 ghost use Rattle.bb_flash.specs.Cuts.{IsLater};
 ghost use Rattle.bb_flash.specs.Device.{IsDevice, LeavesStarts};
 ghost use Rattle.bb_layout.specs.Layout.{fields_of};
-ghost use Rattle.bb_state.specs.State.{IsOn, IsSized, keyed_of, laid_of};
+ghost use Rattle.bb_state.specs.State.{IsOn, keyed_of, laid_of};
 ghost use Rattle.bb_words.specs.Answer.{IsSizedRaw};
 ghost use Rattle.bb_words.specs.Words.{words_of};
 ghost use Rattle.bb_words.specs.declared.command.Command.TheVariants as commands;
@@ -12,7 +12,7 @@ ghost use Rattle.bb_tool.specs.Ending.{IsGiven};
 ghost use Rattle.bb_tool.specs.Looking.{look_text};
 ghost use Rattle.bb_tool.specs.Plan.{Show, Write};
 ghost use Rattle.bb_tool.specs.Refusal.{IsTellable};
-ghost use Rattle.bb_tool.specs.Work.{IsRefusedMemory, IsSendable, IsWorkedOut};
+ghost use Rattle.bb_tool.specs.Work.{IsSendable, IsWorkedOut};
 
 use crate::refusal::Refusal;
 use crate::report::Report;
@@ -128,11 +128,9 @@ fn save_on<F: Flash>(
     state: &mut State,
     area: &[u8],
 ) -> Result<Report, Refusal>
-    requires table { IsSized state.old }
     requires sized { length area.now ≡ (laid_of state.old).area_len }
     requires unkeyed { (laid_of state.old).format ≡ FormatKind.Raw }
     requires on { IsOn state.old (F.device flash.old) }
-    requires many { 2 ≤ (laid_of state.old).copies }
     ensures gives { IsWorkedOut (keyed_of state.old) (Write area.now)
         (F.device flash.old) (F.device flash.new) result }
     ensures sends { IfOk result IsSendable }

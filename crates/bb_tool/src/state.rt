@@ -1,9 +1,9 @@
-ghost use Rattle.std.specs.Prelude.{◌≡◌, ◌≤◌, List, ℕ, Ok, IfErr, IfOk};
+ghost use Rattle.std.specs.Prelude.{◌≡◌, List, ℕ, Ok, IfErr, IfOk};
 ghost use Rattle.bb_flash.specs.Cuts.{IsLater};
 ghost use Rattle.bb_flash.specs.Device.{IsDevice, LeavesStarts};
 ghost use Rattle.bb_actions.specs.Actions.{misfit_of};
 ghost use Rattle.bb_state.specs.Keyed.{FitsKey};
-ghost use Rattle.bb_state.specs.State.{IsOn, IsSized, keyed_of, laid_of};
+ghost use Rattle.bb_state.specs.State.{IsOn, keyed_of};
 ghost use Rattle.bb_words.specs.Words.{words_of};
 ghost use Rattle.bb_words.specs.declared.command.Command.TheVariants as commands;
 ghost use Rattle.bb_tool.specs.Ending.{IsGiven};
@@ -88,9 +88,7 @@ fn act_on<F: Flash>(
     state: &mut State,
     actions: &ActionList,
 ) -> Result<Report, Refusal>
-    requires sized { IsSized state.old }
-    requires on { IsOn state.old (F.device flash.old) }
-    requires many { 2 ≤ (laid_of state.old).copies }
+    requires { IsOn state.old (F.device flash.old) }
     ensures gives { IsWorkedOut (keyed_of state.old) (Act actions.now)
         (F.device flash.old) (F.device flash.new) result }
     ensures sends { IfOk result IsSendable }

@@ -3,7 +3,7 @@ ghost use Rattle.std.specs.Prelude.{◌≡◌, IfOk, false};
 ghost use Rattle.bb_chooser.specs.Binding.{IsBoundTo};
 ghost use Rattle.bb_flash.specs.Geometry.{IsGeometry};
 ghost use Rattle.bb_layout.specs.Formats.{takes_key};
-ghost use Rattle.bb_state.specs.State.{FitsForm, IsFresh, IsSized, laid_of};
+ghost use Rattle.bb_state.specs.State.{IsFresh, laid_of};
 
 use super::devices::{Kind, source};
 use bb_base::{Bytes, MemFiles, NoMemory};
@@ -104,8 +104,6 @@ fn mount(alloc: Global, layout: Layout) -> Result<State, NoMemory>
     ensures geometry { IfOk result (λ state. (laid_of state).geometry ≡ layout.geometry) }
     ensures area_len { IfOk result (λ state. (laid_of state).area_len ≡ layout.area_len) }
     ensures vars { IfOk result (λ state. (laid_of state).vars ≡ layout.vars) }
-    ensures sized { IfOk result IsSized }
-    ensures fits { IfOk result FitsForm }
     ensures fresh { IfOk result IsFresh }
 {
     State::mount(alloc, layout, None)

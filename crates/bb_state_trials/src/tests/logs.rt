@@ -2,7 +2,7 @@
 ghost use Rattle.std.specs.Prelude.{◌≡◌, IfOk};
 ghost use Rattle.bb_flash.specs.Device.{IsDevice};
 ghost use Rattle.bb_flash.specs.Memory.{device_of};
-ghost use Rattle.bb_state.specs.State.{FitsForm, IsOn, IsSized};
+ghost use Rattle.bb_state.specs.State.{IsOn};
 
 use super::rig::{board, layout, loaded_state, save};
 use bb_base::NoMemory;
@@ -35,18 +35,14 @@ fn blank(alloc: Global) -> Result<MemBoard, NoMemory>
 fn loaded(rt: &impl Abort, alloc: Global, board: &mut MemBoard) -> Result<State, Fail>
     requires geometry { board.old.geometry ≡ record { page = 64; block = 4096; size = 12288 } }
     requires whole { IsDevice (device_of board.old) }
-    ensures sized { IfOk result IsSized }
-    ensures fits { IfOk result FitsForm }
-    ensures on { IfOk result (λ state. IsOn state (device_of board.new)) }
+    ensures { IfOk result (λ state. IsOn state (device_of board.new)) }
 {
     let layout = layout(alloc, b"", whole_device(), LOGS)?;
     loaded_state(rt, alloc, layout, None, board, Loaded::NoCopy)
 }
 
 fn three_saves(rt: &impl Abort, state: &mut State, board: &mut MemBoard)
-    requires sized { IsSized state.old }
-    requires fits { FitsForm state.old }
-    requires on { IsOn state.old (device_of board.old) }
+    requires { IsOn state.old (device_of board.old) }
 {
     save(rt, state, board, b"1");
     // The load read each of the 64 blank pages of each block.

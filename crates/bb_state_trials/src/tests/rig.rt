@@ -3,7 +3,7 @@ ghost use Rattle.std.specs.Prelude.{◌≡◌, IfOk, length};
 ghost use Rattle.bb_flash.specs.Device.{IsDevice};
 ghost use Rattle.bb_flash.specs.Geometry.{IsGeometry};
 ghost use Rattle.bb_flash.specs.Memory.{device_of};
-ghost use Rattle.bb_state.specs.State.{FitsForm, IsFresh, IsOn, IsSized, laid_of};
+ghost use Rattle.bb_state.specs.State.{IsFresh, IsOn, laid_of};
 
 use bb_base::{Bytes, NoMemory};
 use bb_dts::read_source;
@@ -119,8 +119,6 @@ pub fn blank(alloc: Global) -> Result<MemBoard, NoMemory>
 pub fn mount(alloc: Global, layout: Layout, key: Option<Key>) -> Result<State, Fail>
     ensures geometry { IfOk result (λ state. (laid_of state).geometry ≡ layout.geometry) }
     ensures area_len { IfOk result (λ state. (laid_of state).area_len ≡ layout.area_len) }
-    ensures sized { IfOk result IsSized }
-    ensures fits { IfOk result FitsForm }
     ensures fresh { IfOk result IsFresh }
 {
     if key.is_some() != layout.format.takes_key() {
@@ -144,8 +142,6 @@ pub fn loaded_state(
     ensures geometry { board.new.geometry ≡ board.old.geometry }
     ensures whole { IsDevice (device_of board.new) }
     ensures area_len { IfOk result (λ state. (laid_of state).area_len ≡ 1) }
-    ensures sized { IfOk result IsSized }
-    ensures fits { IfOk result FitsForm }
     ensures on { IfOk result (λ state. IsOn state (device_of board.new)) }
 {
     let mut state = mount(alloc, layout, key)?;
@@ -155,13 +151,9 @@ pub fn loaded_state(
 
 /// Loads, with this answer.
 fn load(rt: &impl Abort, state: &mut State, board: &mut MemBoard, answer: Loaded)
-    requires sized { IsSized state.old }
-    requires fits { FitsForm state.old }
-    requires on { IsOn state.old (device_of board.old) }
+    requires { IsOn state.old (device_of board.old) }
     ensures geometry { board.new.geometry ≡ board.old.geometry }
     ensures area_len { (laid_of state.new).area_len ≡ (laid_of state.old).area_len }
-    ensures sized { IsSized state.new }
-    ensures fits { FitsForm state.new }
     ensures on { IsOn state.new (device_of board.new) }
 {
     let loaded = state.load(board);
@@ -189,12 +181,8 @@ pub fn first_save(
 
 /// Gives the variable a value, and saves.
 pub fn save(rt: &impl Abort, state: &mut State, board: &mut MemBoard, value: &[u8])
-    requires sized { IsSized state.old }
-    requires fits { FitsForm state.old }
-    requires on { IsOn state.old (device_of board.old) }
+    requires { IsOn state.old (device_of board.old) }
     ensures geometry { board.new.geometry ≡ board.old.geometry }
-    ensures sized { IsSized state.new }
-    ensures fits { FitsForm state.new }
     ensures on { IsOn state.new (device_of board.new) }
 {
     set(rt, state, value);
@@ -203,22 +191,15 @@ pub fn save(rt: &impl Abort, state: &mut State, board: &mut MemBoard, value: &[u
 
 /// Gives the variable a value.
 pub fn set(rt: &impl Abort, state: &mut State, value: &[u8])
-    requires { IsSized state.old }
-    ensures backing { state.new ≡ record state.old { table = state.new.table } }
-    ensures sized { IsSized state.new }
-    ensures fits { FitsForm state.old → FitsForm state.new }
+    ensures { state.new.backing ≡ state.old.backing }
 {
     let set = state.set("a.n", value);
     assert_eq!(rt; set, Ok(()));
 }
 
 fn store(rt: &impl Abort, state: &mut State, board: &mut MemBoard)
-    requires sized { IsSized state.old }
-    requires fits { FitsForm state.old }
-    requires on { IsOn state.old (device_of board.old) }
+    requires { IsOn state.old (device_of board.old) }
     ensures geometry { board.new.geometry ≡ board.old.geometry }
-    ensures sized { IsSized state.new }
-    ensures fits { FitsForm state.new }
     ensures on { IsOn state.new (device_of board.new) }
 {
     let saved = state.save(board);

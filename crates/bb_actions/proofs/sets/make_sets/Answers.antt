@@ -3,7 +3,7 @@ use Rattle.bb_layout.proofs.Outside.{changes_joined, changes_none}
 use Rattle.bb_layout.specs.Outside.{ChangesVarsAlone}
 use Rattle.bb_layout.specs.declared.var.Var.{Var}
 use Rattle.bb_state.specs.State.{laid_of}
-use Rattle.bb_state.specs.declared.state.State.{State}
+use Rattle.bb_state.specs.Backed.{Backed}
 use Rattle.bb_actions.specs.Actions.{after}
 use Rattle.bb_actions.proofs.Steps.{after_next}
 use Rattle.bb_actions.proofs.sets.make_sets.Goals as goal
@@ -13,7 +13,6 @@ loop-place-init c = record {
   table = refl;
   outside = changes_none (laid_of c.args.state.now).vars c.args.state.now.table;
   backing = refl;
-  sized = c.requires;
 }
 
 pub loop-place-preserved : goal.loop-place-preserved
@@ -22,7 +21,7 @@ loop-place-preserved c =
     let before = c.args.state.now.table in
     let invariant = c.loop-place.invariant in
     let done = c.make_set.ensures in
-    let same : (laid_of c.loop-place.state).vars ≡ vars = ap (λ (s : State). (laid_of s).vars) invariant.backing in
+    let same : (laid_of c.loop-place.state).vars ≡ vars = ap (λ (b : Backed). b.keyed.layout.vars) invariant.backing in
     record {
       table =
           done.table
@@ -32,6 +31,5 @@ loop-place-preserved c =
       outside =
           changes_joined vars before c.loop-place.state.table c.make_set.new.state.table invariant.outside
           (subst (λ (vs : List Var). ChangesVarsAlone vs c.loop-place.state.table c.make_set.new.state.table) same done.outside);
-      backing = done.backing ∙ ap (λ (s : State). record s { table = c.make_set.new.state.table }) invariant.backing;
-      sized = done.sized;
+      backing = done.backing ∙ invariant.backing;
     }

@@ -1,6 +1,6 @@
 use Rattle.std.proofs.Common.{◌≡◌, take}
 use Rattle.bb_layout.specs.Outside.{ChangesVarsAlone}
-use Rattle.bb_state.specs.State.{IsSized, laid_of}
+use Rattle.bb_state.specs.State.{laid_of}
 use Rattle.bb_actions.specs.Actions.{after_all}
 use Rattle.bb_actions.proofs.sets.make_sets.Given as goal
 
@@ -9,6 +9,5 @@ abbrev pub invariant-loop-place : goal.invariant-loop-place
 invariant-loop-place l = record {
   table : l.state.table ≡ after_all (laid_of l.fn.state).vars l.fn.state.table (take l.place l.actions);
   outside : ChangesVarsAlone (laid_of l.fn.state).vars l.fn.state.table l.state.table;
-  backing : l.state ≡ record l.fn.state { table = l.state.table };
-  sized : IsSized l.state;
+  backing : l.state.backing ≡ l.fn.state.backing;
 }

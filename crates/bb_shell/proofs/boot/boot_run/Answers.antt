@@ -1,27 +1,24 @@
-use Rattle.std.proofs.Common.{rules, ◌∙◌}
-use Rattle.bb_chooser.proofs.Alone.{keeps_changes}
+use Rattle.std.proofs.Common.{rules}
 use Rattle.bb_copies.proofs.Runs.{later_refl}
 use Rattle.bb_shell.proofs.Booted.{booted_none, booted_of}
 use Rattle.bb_shell.proofs.Joins.{outside_refl}
+use Rattle.bb_shell.proofs.Saves.{chosen_fits}
 use Rattle.bb_shell.specs.Boot.{NoneQualifies, first_table}
-use Rattle.bb_state.proofs.Fitting.{changed_fits}
-use Rattle.bb_state.specs.State.{keyed_of, kinds_of}
+use Rattle.bb_state.specs.State.{kinds_of}
 use Rattle.bb_shell.proofs.boot.boot_run.Goals as goal
 
 pub run_rounds-requires-clause-ready : goal.run_rounds-requires-clause-ready
 run_rounds-requires-clause-ready g c =
     let ready = c.requires in
-    let keyed = keyed_of c.args.state.now in
-    let table = c.args.state.now.table in
     record {
-      sized = c.reset_first.ensures.sized ∙ ready.sized;
-      fits =
-          changed_fits keyed table c.reset_first.new.table c.args.state.now.facts ready.fits
-          (keeps_changes keyed.layout.vars c.args.chooser.now table c.reset_first.new.table c.reset_first.ensures.others ready.bound.vars);
       sure = ready.sure;
       on = record { geometry = ready.on.geometry; agrees = ready.on.agrees; whole = ready.on.whole };
       bound = ready.bound;
     }
+
+pub invariant_of-state-clause-fits : goal.invariant_of-state-clause-fits
+invariant_of-state-clause-fits g c =
+    chosen_fits c.args.chooser.now c.args.state.now c.reset_first.new.table c.requires.bound.vars c.reset_first.ensures.others
 
 pub returns-in_default-clause-booted : goal.returns-in_default-clause-booted
 returns-in_default-clause-booted g c =
@@ -39,4 +36,4 @@ pub returns-clause-booted : goal.returns-clause-booted
 returns-clause-booted g c =
     booted_of c.args.chooser.now c.args.plans.now (first_table c.args.chooser.now c.args.cause c.args.first c.args.state.now.table)
     c.reset_first.new.table c.args.state.now c.run_rounds.new.state (g.B.Flash.device c.args.board.now) (g.B.Flash.device c.run_rounds.new.board)
-    c.run_rounds.result c.reset_first.ensures.table c.requires.on.geometry _ c.run_rounds.ensures.have_run
+    c.run_rounds.result c.reset_first.ensures.table c.requires.on.geometry _ _ c.run_rounds.ensures.have_run

@@ -2,6 +2,7 @@ use Rattle.std.proofs.Common.{rules, ◌≡◌, ◌+◌, Bool, true, false, ap, 
 use Rattle.bb_chooser.specs.Binding.{IsBoundTo}
 use Rattle.bb_copies.specs.Loading.{KeepsOutside}
 use Rattle.bb_flash.proofs.Moments.{later_joined}
+use Rattle.bb_state.proofs.Tables.{table_sized}
 use Rattle.bb_state.specs.Keyed.{Keyed}
 use Rattle.bb_state.specs.Kinds.{laid_kinds}
 use Rattle.bb_state.specs.State.{is_sure, kept_of, keyed_of, kinds_of, used_of}
@@ -99,15 +100,13 @@ loop-tries-preserved g c =
     let retried : is_retried b outcome ≡ true = c.next_target.ensures.retried (search rules) in
     let saved : is_refused outcome ≡ false = retried_saved b outcome retried in
     let sure : is_sure new ≡ true = done.sure ∙ ap not saved in
-    let sized : length old.table ≡ b.area_len = invariant.ready.sized ∙ sym invariant.ready.bound.area_len in
+    let sized : length old.table ≡ b.area_len = table_sized old ∙ sym invariant.ready.bound.area_len in
     let less = total_spent b old.table c.loop-tries.target c.attempts_in-attempts.ensures.binding sized invariant.best in
     let spent : all_attempts b new.table ≡ _ = ap (all_attempts b) done.round.spent in
     let spare = invariant.spare in
     let last = subst (λ l. StaysStored l (kept_of old) new.table mid to) invariant.same_keyed (done.stored saved) in
     record {
       ready = record {
-        sized = done.sized;
-        fits = done.fits;
         sure = sure;
         on = done.on;
         bound = record {

@@ -1,21 +1,21 @@
 use Rattle.std.proofs.Common.{◌∙◌}
-use Rattle.bb_state.proofs.Fitting.{same_fits}
 use Rattle.bb_state.specs.Kinds.{any_holding}
 use Rattle.bb_state.specs.State.{has_changed, kept_of, keyed_of, kinds_of, used_of}
 use Rattle.bb_state.specs.declared.state.State.{State}
 use Rattle.bb_shell.proofs.Joins.{changed_outside}
-use Rattle.bb_shell.proofs.Saves.{saved_ok, spent_fits}
+use Rattle.bb_shell.proofs.Saves.{chosen_fits, saved_ok}
 use Rattle.bb_shell.proofs.Starts.{round_adds, round_later, round_ok, round_outside, round_stored, start_agrees, start_geometry}
 use Rattle.bb_shell.specs.Boot.{plan_at}
 use Rattle.bb_shell.proofs.round.run_round.Goals as goal
 
-pub save-requires-clause-fits : goal.save-requires-clause-fits
-save-requires-clause-fits g c =
-    spent_fits c.args.chooser.now c.args.state.now (g.B.Flash.device c.args.board.now) c.spend.new.table c.requires.ready c.spend.ensures.others
+pub invariant_of-state-clause-fits : goal.invariant_of-state-clause-fits
+invariant_of-state-clause-fits g c =
+    chosen_fits c.args.chooser.now c.args.state.now c.spend.new.table c.requires.ready.bound.vars c.spend.ensures.others
 
 pub returns-in-Ok-clause-run : goal.returns-in-Ok-clause-run
 returns-in-Ok-clause-run g c =
-    let state : State = record c.args.state.now { table = c.spend.new.table } in
+    let fits = chosen_fits c.args.chooser.now c.args.state.now c.spend.new.table c.requires.ready.bound.vars c.spend.ensures.others in
+    let state : State = record c.args.state.now { table = c.spend.new.table; fits = fits } in
     let saved = c.in-Ok.ensures in
     round_ok (keyed_of c.args.state.now) c.args.plans.now (kept_of c.args.state.now) (used_of c.args.state.now) (used_of c.save.new.self)
     c.args.target c.spend.new.table c.save.new.self.table c.try_start.result
@@ -36,7 +36,8 @@ returns-in-Ok-clause-later g c =
 
 pub returns-in-Err-clause-outside : goal.returns-in-Err-clause-outside
 returns-in-Err-clause-outside g c =
-    let state : State = record c.args.state.now { table = c.spend.new.table } in
+    let fits = chosen_fits c.args.chooser.now c.args.state.now c.spend.new.table c.requires.ready.bound.vars c.spend.ensures.others in
+    let state : State = record c.args.state.now { table = c.spend.new.table; fits = fits } in
     changed_outside (kinds_of c.args.state.now) (has_changed state) (g.B.Flash.device c.args.board.now) (g.B.Flash.device c.save.new.flash)
     c.in-Err.ensures.idle (λ changed. (c.in-Err.ensures.runs changed).outside)
 
@@ -61,15 +62,3 @@ returns-in-Ok-clause-on g c =
       agrees = start_agrees any_holding c.save.new.self.backing.buckets plan c.try_start.result from to c.try_start.ensures.tried c.save.ensures.on.agrees;
       whole = c.try_start.ensures.whole;
     }
-
-pub returns-in-Ok-clause-fits : goal.returns-in-Ok-clause-fits
-returns-in-Ok-clause-fits g c =
-    same_fits (keyed_of c.args.state.now) (keyed_of c.save.new.self) c.spend.new.table c.save.new.self.table
-    c.in-Ok.ensures.keyed c.in-Ok.ensures.table
-    (spent_fits c.args.chooser.now c.args.state.now (g.B.Flash.device c.args.board.now) c.spend.new.table c.requires.ready c.spend.ensures.others)
-
-pub returns-in-Err-clause-fits : goal.returns-in-Err-clause-fits
-returns-in-Err-clause-fits g c =
-    same_fits (keyed_of c.args.state.now) (keyed_of c.save.new.self) c.spend.new.table c.save.new.self.table
-    c.in-Err.ensures.keyed c.in-Err.ensures.table
-    (spent_fits c.args.chooser.now c.args.state.now (g.B.Flash.device c.args.board.now) c.spend.new.table c.requires.ready c.spend.ensures.others)

@@ -2,6 +2,7 @@ use Rattle.std.proofs.Common.{◌∙◌, Err, ap, subst, sym}
 use Rattle.std.proofs.lemmas.Result.{err_from_is_err_and}
 use Rattle.bb_chooser.specs.Binding.{IsBoundTo}
 use Rattle.bb_flash.proofs.Moments.{later_joined}
+use Rattle.bb_state.proofs.Tables.{table_sized}
 use Rattle.bb_state.specs.Keyed.{Keyed}
 use Rattle.bb_state.specs.State.{keyed_of}
 use Rattle.bb_tool.proofs.Booted.{boot_out, boot_unloaded}
@@ -14,7 +15,7 @@ returns-in_err-load-clause-gives g c =
     let fault = c.in_err-load.field-0.0 in
     let p = err_from_is_err_and c.from_residual.result c.from_residual.ensures.1 in
     boot_unloaded (keyed_of c.args.state.now) c.args.chooser.now c.args.cause c.args.plans.now c.load.new.self.table from to fault
-    c.from_residual.result c.requires.on.geometry c.requires.many
+    c.from_residual.result c.requires.on.geometry c.args.state.now.facts.copied.least
     (record {
       images = c.in_err-load.ensures.images;
       outside = c.in_err-load.ensures.outside;
@@ -29,8 +30,6 @@ returns-in_err-load-clause-gives g c =
 
 pub boot_run-end-requires : goal.boot_run-end-requires
 boot_run-end-requires g c = record {
-  sized = c.in_ok-load.ensures.sized;
-  fits = c.in_ok-load.ensures.loaded_fits;
   sure = c.in_ok-load.ensures.sure;
   on = c.in_ok-load.ensures.on;
   bound = record {
@@ -47,7 +46,7 @@ returns-clause-gives g c =
     let loaded = c.in_ok-load.field-0 in
     let boot = c.boot_run-end.ensures in
     boot_out (keyed_of c.args.state.now) c.args.chooser.now c.args.cause c.args.plans.now from mid to loaded c.load.new.self
-    c.boot_run-end.new.state c.boot_run-end.result c.report.result c.requires.on.geometry c.requires.many c.in_ok-load.ensures.keyed
+    c.boot_run-end.new.state c.boot_run-end.result c.report.result c.requires.on.geometry c.args.state.now.facts.copied.least c.in_ok-load.ensures.keyed
     (record {
       images = c.in_ok-load.ensures.images;
       outside = c.in_ok-load.ensures.outside;
@@ -59,7 +58,7 @@ returns-clause-gives g c =
       fails = tt;
     })
     c.in_ok-load.ensures.used c.in_ok-load.ensures.kept c.count.ensures.binding
-    (c.in_ok-load.ensures.sized ∙ ap (λ (l : Keyed). l.layout.area_len) c.in_ok-load.ensures.keyed ∙ sym c.requires.sized)
+    (table_sized c.load.new.self ∙ ap (λ (l : Keyed). l.layout.area_len) c.in_ok-load.ensures.keyed ∙ sym c.requires.sized)
     (record {
       booted = boot.booted;
       end_cause = boot.cause;

@@ -21,10 +21,6 @@ mark_on-requires-clause-on g c =
     c.in_ok-state.ensures.fresh (g.F.Flash.device c.args.flash.now)
     (sym c.requires.geometry ∙ ap (λ (k : Keyed). k.layout.geometry) (sym c.in_ok-state.ensures.keyed)) c.requires.whole
 
-pub mark_on-requires-clause-many : goal.mark_on-requires-clause-many
-mark_on-requires-clause-many g c =
-    subst (λ (k : Keyed). 2 ≤ k.layout.copies) (sym c.in_ok-state.ensures.keyed) c.args.keyed.layout.facts.copied.least
-
 pub returns-clause-gives : goal.returns-clause-gives
 returns-clause-gives g c =
     subst

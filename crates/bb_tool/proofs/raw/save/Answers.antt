@@ -18,10 +18,6 @@ save_on-requires-clause-on g c =
     c.in_ok-state.ensures.fresh (g.F.Flash.device c.args.flash.now)
     (sym c.requires.geometry ∙ ap (λ (k : Keyed). k.layout.geometry) (sym c.in_ok-state.ensures.keyed)) c.requires.whole
 
-pub save_on-requires-clause-many : goal.save_on-requires-clause-many
-save_on-requires-clause-many g c =
-    subst (λ (k : Keyed). 2 ≤ k.layout.copies) (sym c.in_ok-state.ensures.keyed) c.args.layout.facts.copied.least
-
 pub returns-clause-gives : goal.returns-clause-gives
 returns-clause-gives g c =
     subst

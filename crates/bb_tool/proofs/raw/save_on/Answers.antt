@@ -2,6 +2,7 @@ use Rattle.std.proofs.Common.{◌≡◌, ◌∙◌, ℕ, false, List, Option, Ok
 use Rattle.std.proofs.lemmas.Result.{err_from_is_err_and}
 use Rattle.bb_copies.specs.Store.{used_after}
 use Rattle.bb_flash.proofs.Moments.{later_joined}
+use Rattle.bb_state.proofs.Tables.{table_sized}
 use Rattle.bb_state.specs.Keyed.{Keyed}
 use Rattle.bb_state.specs.State.{keyed_of}
 use Rattle.bb_state.proofs.Fitting.{raw_fits}
@@ -19,7 +20,7 @@ returns-in_err-load-clause-gives g c =
     let fault = c.in_err-load.field-0.0 in
     let p = err_from_is_err_and c.from_residual.result c.from_residual.ensures.1 in
     load_refused (keyed_of c.args.state.now) (Write c.args.area.now) area from to fault
-    c.from_residual.result refl c.requires.many
+    c.from_residual.result refl c.args.state.now.facts.copied.least
     (record {
       images = c.in_err-load.ensures.images;
       outside = c.in_err-load.ensures.outside;
@@ -32,11 +33,11 @@ returns-in_err-load-clause-gives g c =
     })
     (p.1 ∙ ap (λ e. Err e) p.2)
 
-pub save_always-requires-clause-fits : goal.save_always-requires-clause-fits
-save_always-requires-clause-fits g c =
+pub invariant_of-state-clause-fits : goal.invariant_of-state-clause-fits
+invariant_of-state-clause-fits g c =
     raw_fits c.load.new.self.backing.keyed c.put.new.self
     (ap (λ (k : Keyed). k.layout.format) c.in_ok-load.ensures.keyed ∙ c.requires.unkeyed)
-    (c.put.ensures.same_length ∙ c.in_ok-load.ensures.sized)
+    (c.put.ensures.same_length ∙ table_sized c.load.new.self)
 
 pub returns-in_err-save_always-clause-gives : goal.returns-in_err-save_always-clause-gives
 returns-in_err-save_always-clause-gives g c =
@@ -49,7 +50,7 @@ returns-in_err-save_always-clause-gives g c =
     let fault = c.in_err-save_always.field-0.0 in
     let same = c.in_ok-load.ensures.keyed in
     let p = err_from_is_err_and c.from_residual-in_err-save_always.result c.from_residual-in_err-save_always.ensures.1 in
-    let new : c.put.new.self ≡ c.args.area.now = c.put.ensures.replaced ∙ put_whole table c.args.area.now (c.requires.sized ∙ sym (c.in_ok-load.ensures.sized ∙ ap (λ (l : Keyed). l.layout.area_len) same)) in
+    let new : c.put.new.self ≡ c.args.area.now = c.put.ensures.replaced ∙ put_whole table c.args.area.now (c.requires.sized ∙ sym (table_sized c.load.new.self ∙ ap (λ (l : Keyed). l.layout.area_len) same)) in
     let done : IsSaved c.load.new.self.backing.keyed c.load.new.self.backing.used c.put.new.self mid to (Err fault) = record {
       now = c.save_always.new.self.backing.used;
       runs = c.in_err-save_always.ensures.runs;
@@ -58,7 +59,7 @@ returns-in_err-save_always-clause-gives g c =
       sure = λ is. (let unsure = c.in_err-save_always.ensures.unsure.0 (ap (λ f. Err f) is) in let sure = c.in_ok-load.ensures.sure in cc);
       exact = λ calm. tt;
     } in
-    stored_out keyed (Write c.args.area.now) from mid to table loaded refl c.requires.many
+    stored_out keyed (Write c.args.area.now) from mid to table loaded refl c.args.state.now.facts.copied.least
     (record {
       images = c.in_ok-load.ensures.images;
       outside = c.in_ok-load.ensures.outside;
@@ -86,7 +87,7 @@ returns-clause-gives g c =
     let table = c.load.new.self.table in
     let loaded = c.in_ok-load.field-0 in
     let same = c.in_ok-load.ensures.keyed in
-    let new : c.put.new.self ≡ c.args.area.now = c.put.ensures.replaced ∙ put_whole table c.args.area.now (c.requires.sized ∙ sym (c.in_ok-load.ensures.sized ∙ ap (λ (l : Keyed). l.layout.area_len) same)) in
+    let new : c.put.new.self ≡ c.args.area.now = c.put.ensures.replaced ∙ put_whole table c.args.area.now (c.requires.sized ∙ sym (table_sized c.load.new.self ∙ ap (λ (l : Keyed). l.layout.area_len) same)) in
     let done : IsSaved c.load.new.self.backing.keyed c.load.new.self.backing.used c.put.new.self mid to (Ok false) = record {
       now = c.save_always.new.self.backing.used;
       runs = c.in_ok-save_always.ensures.runs;
@@ -95,7 +96,7 @@ returns-clause-gives g c =
       sure = tt;
       exact = c.in_ok-save_always.ensures.exact;
     } in
-    stored_out keyed (Write c.args.area.now) from mid to table loaded refl c.requires.many
+    stored_out keyed (Write c.args.area.now) from mid to table loaded refl c.args.state.now.facts.copied.least
     (record {
       images = c.in_ok-load.ensures.images;
       outside = c.in_ok-load.ensures.outside;

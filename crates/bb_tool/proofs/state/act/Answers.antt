@@ -5,14 +5,10 @@ use Rattle.bb_tool.specs.Work.{IsWorkedOut}
 use Rattle.bb_tool.proofs.Tellable.{tellable_of}
 use Rattle.bb_tool.proofs.state.act.Goals as goal
 
-pub act_on-requires-clause-on : goal.act_on-requires-clause-on
-act_on-requires-clause-on g c =
+pub act_on-requires : goal.act_on-requires
+act_on-requires g c =
     c.in_ok-state.ensures.fresh (g.F.Flash.device c.args.flash.now)
     (sym c.requires.geometry ∙ ap (λ (k : Keyed). k.layout.geometry) (sym c.in_ok-state.ensures.keyed)) c.requires.whole
-
-pub act_on-requires-clause-many : goal.act_on-requires-clause-many
-act_on-requires-clause-many g c =
-    subst (λ (k : Keyed). 2 ≤ k.layout.copies) (sym c.in_ok-state.ensures.keyed) c.args.keyed.layout.facts.copied.least
 
 pub returns-clause-gives : goal.returns-clause-gives
 returns-clause-gives g c =

@@ -1,13 +1,13 @@
-use Rattle.std.proofs.Common.{◌≡◌, ◌∙◌, ℕ, List, Ok, Err, IsTrue, ap, sym, subst, refl}
+use Rattle.std.proofs.Common.{◌≡◌, ◌∙◌, ℕ, List, Ok, Err, ap, sym, subst, refl}
 use Rattle.std.proofs.lemmas.Result.{err_from_is_err_and}
 use Rattle.bb_actions.specs.Actions.{actions_text, after_all}
 use Rattle.bb_copies.specs.Store.{used_after}
 use Rattle.bb_layout.specs.Layout.{Laid}
+use Rattle.bb_copies.specs.Buckets.{AllAgree}
+use Rattle.bb_state.specs.Backed.{Backed}
 use Rattle.bb_state.specs.Keyed.{Keyed}
-use Rattle.bb_state.specs.Kinds.{laid_form}
-use Rattle.bb_state.specs.State.{IsOn, is_sure, keyed_of}
-use Rattle.bb_state.specs.declared.state.State.{State}
-use Rattle.bb_state.proofs.Fitting.{changed_fits}
+use Rattle.bb_state.specs.Kinds.{any_holding}
+use Rattle.bb_state.specs.State.{keyed_of}
 use Rattle.bb_tool.specs.Plan.{Act}
 use Rattle.bb_tool.specs.Refusal.{copy_refusal}
 use Rattle.bb_tool.specs.Session.{loaded_area}
@@ -24,7 +24,7 @@ returns-in_err-load-clause-gives g c =
     let fault = c.in_err-load.field-0.0 in
     let p = err_from_is_err_and c.from_residual.result c.from_residual.ensures.1 in
     load_refused (keyed_of c.args.state.now) (Act c.args.actions.now) area from to fault
-    c.from_residual.result refl c.requires.many
+    c.from_residual.result refl c.args.state.now.facts.copied.least
     (record {
       images = c.in_err-load.ensures.images;
       outside = c.in_err-load.ensures.outside;
@@ -37,18 +37,15 @@ returns-in_err-load-clause-gives g c =
     })
     (p.1 ∙ ap (λ e. Err e) p.2)
 
-pub save-requires-clause-fits : goal.save-requires-clause-fits
-save-requires-clause-fits g c =
-    let keyed = c.load.new.self.backing.keyed in
-    let table = c.make_sets.new.state.table in
-    subst (λ (s : State). IsTrue ((laid_form (keyed_of s)).fits table)) (sym c.make_sets.ensures.backing)
-    (changed_fits keyed c.load.new.self.table table c.load.new.self.facts c.in_ok-load.ensures.loaded_fits c.make_sets.ensures.outside)
-
-pub save-requires-clause-on : goal.save-requires-clause-on
-save-requires-clause-on g c =
+pub save-requires : goal.save-requires
+save-requires g c =
     let on = c.in_ok-load.ensures.on in
-    subst (λ (s : State). IsOn s (g.F.Flash.device c.load.new.flash)) (sym c.make_sets.ensures.backing)
-    (record { geometry = on.geometry; agrees = on.agrees; whole = on.whole })
+    let same = c.make_sets.ensures.backing in
+    record {
+      geometry = on.geometry ∙ ap (λ (b : Backed). b.keyed.layout.geometry) (sym same);
+      agrees = subst (λ (b : Backed). AllAgree any_holding (g.F.Flash.device c.load.new.flash) b.buckets) (sym same) on.agrees;
+      whole = on.whole;
+    }
 
 pub returns-in_err-save-clause-gives : goal.returns-in_err-save-clause-gives
 returns-in_err-save-clause-gives g c =
@@ -63,9 +60,9 @@ returns-in_err-save-clause-gives g c =
     c.in_ok-load.ensures.keyed c.in_ok-load.ensures.used c.in_ok-load.ensures.sure c.in_ok-load.ensures.kept
     c.in_err-save.ensures.runs c.in_err-save.ensures.idle c.in_err-save.field-0.0
     (λ is. (let h = c.in_err-save.ensures.same is in cc))
-    (λ is. (let unsure = c.in_err-save.ensures.unsure.0 (ap (λ f. Err f) is) in let sure = ap is_sure c.make_sets.ensures.backing ∙ c.in_ok-load.ensures.sure in cc))
+    (λ is. (let unsure = c.in_err-save.ensures.unsure.0 (ap (λ f. Err f) is) in let sure = ap (λ (b : Backed). b.sure) c.make_sets.ensures.backing ∙ c.in_ok-load.ensures.sure in cc))
     c.in_err-save.ensures.fails in
-    stored_out keyed (Act c.args.actions.now) from mid to first.table loaded refl c.requires.many
+    stored_out keyed (Act c.args.actions.now) from mid to first.table loaded refl c.args.state.now.facts.copied.least
     (record {
       images = c.in_ok-load.ensures.images;
       outside = c.in_ok-load.ensures.outside;
@@ -90,7 +87,7 @@ returns-in_err-save-clause-later g c =
     c.in_ok-load.ensures.keyed c.in_ok-load.ensures.used c.in_ok-load.ensures.sure c.in_ok-load.ensures.kept
     c.in_err-save.ensures.runs c.in_err-save.ensures.idle c.in_err-save.field-0.0
     (λ is. (let h = c.in_err-save.ensures.same is in cc))
-    (λ is. (let unsure = c.in_err-save.ensures.unsure.0 (ap (λ f. Err f) is) in let sure = ap is_sure c.make_sets.ensures.backing ∙ c.in_ok-load.ensures.sure in cc))
+    (λ is. (let unsure = c.in_err-save.ensures.unsure.0 (ap (λ f. Err f) is) in let sure = ap (λ (b : Backed). b.sure) c.make_sets.ensures.backing ∙ c.in_ok-load.ensures.sure in cc))
     c.in_err-save.ensures.fails in
     begun_later keyed (used_after loaded) _ begun.saves from mid to begun.are c.in_ok-load.ensures.later
 
@@ -106,7 +103,7 @@ returns-in_err-save-clause-starts g c =
     c.in_ok-load.ensures.keyed c.in_ok-load.ensures.used c.in_ok-load.ensures.sure c.in_ok-load.ensures.kept
     c.in_err-save.ensures.runs c.in_err-save.ensures.idle c.in_err-save.field-0.0
     (λ is. (let h = c.in_err-save.ensures.same is in cc))
-    (λ is. (let unsure = c.in_err-save.ensures.unsure.0 (ap (λ f. Err f) is) in let sure = ap is_sure c.make_sets.ensures.backing ∙ c.in_ok-load.ensures.sure in cc))
+    (λ is. (let unsure = c.in_err-save.ensures.unsure.0 (ap (λ f. Err f) is) in let sure = ap (λ (b : Backed). b.sure) c.make_sets.ensures.backing ∙ c.in_ok-load.ensures.sure in cc))
     c.in_err-save.ensures.fails in
     begun_starts keyed (used_after loaded) _ begun.saves from mid to begun.are c.in_ok-load.ensures.starts
 
@@ -122,7 +119,7 @@ returns-in_err-text-clause-gives g c =
     let begun = acted_ok first c.make_sets.new.state keyed c.args.actions.now loaded mid to c.save.new.self.backing.used c.make_sets.ensures.backing c.make_sets.ensures.table
     c.in_ok-load.ensures.keyed c.in_ok-load.ensures.used c.in_ok-load.ensures.sure c.in_ok-load.ensures.kept
     c.in_ok-save.ensures.runs c.in_ok-save.ensures.idle c.in_ok-save.ensures.saved c.in_ok-save.ensures.exact in
-    stored_textless keyed (Act c.args.actions.now) from mid to first.table loaded refl c.requires.many
+    stored_textless keyed (Act c.args.actions.now) from mid to first.table loaded refl c.args.state.now.facts.copied.least
     (record {
       images = c.in_ok-load.ensures.images;
       outside = c.in_ok-load.ensures.outside;
@@ -176,7 +173,7 @@ returns-clause-gives g c =
     let found : IsFound keyed first.table loaded from mid =
     record { gives = c.in_ok-load.ensures.gives; defaults = c.in_ok-load.ensures.defaults; exact = c.in_ok-load.ensures.exact } in
     let whole : loaded_area keyed.layout (area_taken first.table loaded) ≡ first.table = load_area keyed first.table loaded from mid found in
-    stored_out keyed (Act c.args.actions.now) from mid to first.table loaded refl c.requires.many
+    stored_out keyed (Act c.args.actions.now) from mid to first.table loaded refl c.args.state.now.facts.copied.least
     (record {
       images = c.in_ok-load.ensures.images;
       outside = c.in_ok-load.ensures.outside;
@@ -191,7 +188,7 @@ returns-clause-gives g c =
     (ap (λ r. Ok r) c.done.ensures ∙ ap (λ (t : List ℕ). Ok (told_whole t))
     (c.in_ok-text.ensures
     ∙ ap (λ (l : Laid). actions_text l c.bytes.result.now c.args.actions.now)
-    (c.layout.ensures ∙ ap (λ (k : Keyed). k.layout) (c.in_ok-save.ensures.keyed ∙ ap keyed_of c.make_sets.ensures.backing ∙ same))
+    (c.layout.ensures ∙ ap (λ (k : Keyed). k.layout) (c.in_ok-save.ensures.keyed ∙ ap (λ (b : Backed). b.keyed) c.make_sets.ensures.backing ∙ same))
     ∙ ap (λ (a : List ℕ). actions_text keyed.layout a c.args.actions.now)
     (c.bytes.ensures ∙ (c.in_ok-save.ensures.table ∙ c.make_sets.ensures.table
     ∙ ap (λ (l : Keyed). after_all l.layout.vars first.table c.args.actions.now) same

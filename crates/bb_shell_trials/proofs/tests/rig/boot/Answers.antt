@@ -5,8 +5,8 @@ use Rattle.bb_layout.specs.declared.var.Var.{Var}
 use Rattle.bb_state.specs.Keyed.{Keyed}
 use Rattle.bb_shell_trials.proofs.tests.rig.boot.Goals as goal
 
-pub load-requires-clause-on : goal.load-requires-clause-on
-load-requires-clause-on c =
+pub load-requires : goal.load-requires
+load-requires c =
     c.in_ok-state.ensures.fresh (device_of c.args.board.now)
     (sym c.geometry-geometry.ensures.value ∙ sym c.in_ok-layout.ensures.geometry ∙ sym c.in_ok-state.ensures.geometry)
     c.geometry-geometry.ensures.whole
@@ -14,9 +14,6 @@ load-requires-clause-on c =
 pub boot_run-requires : goal.boot_run-requires
 boot_run-requires c =
     record {
-      facts = c.load.ensures.facts;
-      sized = c.load.ensures.sized;
-      fits = c.load.ensures.fits c.in_ok-state.ensures.fits;
       sure = c.load.ensures.sure ∙ ap is_ok c.in-Ok.is;
       on = c.load.ensures.on;
       bound = record {
