@@ -95,6 +95,7 @@ fn misfit<'a>(layout: &Layout, actions: &'a ActionList) -> Option<(&'a Text, Sta
 }
 
 // What a state of this layout says after the sets of these actions.
+#[tactic(auto, using(bb_state::proofs::Tables::table_sized))]
 fn text_of(alloc: Global, layout: Layout, actions: &ActionList) -> Result<Bytes, NoMemory>
     requires { takes_key layout.format ≡ false }
 {
