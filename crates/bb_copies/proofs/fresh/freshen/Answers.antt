@@ -1,6 +1,7 @@
 use Rattle.std.proofs.Common.{◌≡◌, ◌∙◌, ℕ, ◌<◌, Bool, true, false, List, Err, IfErr, length, set, length-set, MatchOption, get_or-set_same, get_or-set_other, not, ap, sym, subst, arith}
 use Rattle.std.proofs.lemmas.List.{get_or_read, length-map}
 use Rattle.std.proofs.lemmas.Result.{err_from_is_err_and}
+use Rattle.std.proofs.lemmas.Grind.{common_steps}
 use Rattle.bb_base.specs.Form.{Form}
 use Rattle.bb_flash.specs.Device.{Device}
 use Rattle.bb_bucket.specs.Kind.{BucketKind}
@@ -464,3 +465,6 @@ settle_copy-requires-clause-found g c =
     let r = c.refresh.ensures in
     subst (λ (ks : List BucketKind). AllFit ks (length c.refresh.new.room.found.items)) (sym r.kinds)
     (subst (λ (n : ℕ). AllFit (kinds_of g.B.Bucket.holding c.args.buckets.now.items) n) (sym r.found) c.requires.found)
+
+pub settle_copy-requires-clause-inside : goal.settle_copy-requires-clause-inside
+settle_copy-requires-clause-inside g c = grind (arith, common_steps)

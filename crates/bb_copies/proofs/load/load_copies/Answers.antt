@@ -1,6 +1,7 @@
-use Rattle.std.proofs.Common.{◌≡◌, ◌∙◌, ℕ, ◌<◌, Bool, List, Option, IfSome, IsTrue, count_by, length, ap, sym, subst}
+use Rattle.std.proofs.Common.{◌≡◌, ◌∙◌, ℕ, ◌<◌, Bool, List, Option, IfSome, IsTrue, count_by, length, ap, sym, subst, arith}
 use Rattle.std.specs.Option.{ForSome}
 use Rattle.std.proofs.lemmas.List.{length-map}
+use Rattle.std.proofs.lemmas.Grind.{common_steps}
 use Rattle.bb_base.specs.Form.{Form}
 use Rattle.bb_flash.specs.Device.{Device, content}
 use Rattle.bb_bucket.specs.Kind.{BucketKind}
@@ -227,3 +228,15 @@ returns-in-Err-clause-fails g c =
 pub returns-in-Ok-freshen-clause-fits : goal.returns-in-Ok-freshen-clause-fits
 returns-in-Ok-freshen-clause-fits g c = λ taken.
     subst (λ (o : Option ℕ). IfSome o (λ _. IsTrue ((g.M.Format.form c.args.format.now).fits c.look_over.new.area))) c.in-Some.is c.in-Ok.ensures.fits
+
+pub freshen-requires-clause-marks : goal.freshen-requires-clause-marks
+freshen-requires-clause-marks g c = grind (arith, common_steps)
+
+pub freshen-requires-clause-many : goal.freshen-requires-clause-many
+freshen-requires-clause-many g c = grind (arith, common_steps)
+
+pub freshen-requires-clause-inside : goal.freshen-requires-clause-inside
+freshen-requires-clause-inside g c = grind (arith, common_steps)
+
+pub overflow_cast-result : goal.overflow_cast-result
+overflow_cast-result g c = grind (arith, common_steps)

@@ -1,5 +1,6 @@
 use Rattle.std.proofs.Common.{◌≡◌, ◌∙◌, ℕ, List, length, ap, sym, arith}
 use Rattle.std.proofs.lemmas.List.{length-map}
+use Rattle.std.proofs.lemmas.Grind.{common_steps}
 use Rattle.bb_base.specs.Form.{Form}
 use Rattle.bb_flash.specs.Device.{Device}
 use Rattle.bb_bucket.specs.Kind.{BucketKind}
@@ -56,3 +57,12 @@ returns-clause-gives g c =
 
 pub returns-then-is_some-clause-placed : goal.returns-then-is_some-clause-placed
 returns-then-is_some-clause-placed g c = λ all place. c.in_ok-passed.ensures.placed place (λ other. c.loop-copy.invariant.placed all place)
+
+pub read_at-requires-clause-inside : goal.read_at-requires-clause-inside
+read_at-requires-clause-inside g c = grind (arith, common_steps)
+
+pub returns-in_err-passed-clause-found : goal.returns-in_err-passed-clause-found
+returns-in_err-passed-clause-found g c = grind (arith, common_steps)
+
+pub returns-then-is_some-clause-found : goal.returns-then-is_some-clause-found
+returns-then-is_some-clause-found g c = grind (arith, common_steps)

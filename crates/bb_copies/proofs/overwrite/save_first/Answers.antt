@@ -1,5 +1,6 @@
 use Rattle.std.proofs.Common.{◌≡◌, ◌∙◌, ℕ, ◌+◌, ◌-◌, Bool, not, List, MatchOption, length, ap, sym, subst, arith, inr}
 use Rattle.std.proofs.lemmas.List.{length-map}
+use Rattle.std.proofs.lemmas.Grind.{common_steps}
 use Rattle.bb_base.specs.Form.{Form}
 use Rattle.bb_flash.specs.Device.{Device}
 use Rattle.bb_bucket.specs.Kind.{BucketKind}
@@ -57,3 +58,6 @@ returns-clause-erases g c =
 
 pub returns-clause-placed : goal.returns-clause-placed
 returns-clause-placed g c = λ copy. c.in_ok-refresh.ensures.placed copy (λ mark. let clash = c.requires.unmarked copy in absurd cc)
+
+pub returns-in_err-refresh-clause-inside : goal.returns-in_err-refresh-clause-inside
+returns-in_err-refresh-clause-inside g c = grind (arith, common_steps)

@@ -1,6 +1,7 @@
 use Rattle.std.proofs.Common.{◌≡◌, ◌∙◌, ℕ, ◌<◌, Bool, true, false, not, List, Err, Some, IfErr, MatchOption, length, length-set, get_or-set_same, get_or-set_other, ap, sym, subst, arith, inl, inr}
 use Rattle.std.proofs.lemmas.List.{length-map}
 use Rattle.std.proofs.lemmas.Result.{err_from_is_err_and}
+use Rattle.std.proofs.lemmas.Grind.{common_steps}
 use Rattle.bb_base.specs.Form.{Form}
 use Rattle.bb_flash.specs.Device.{Device}
 use Rattle.bb_bucket.specs.Kind.{BucketKind}
@@ -360,3 +361,9 @@ settle_copy-requires-clause-found g c =
     let r = c.refresh.ensures in
     subst (λ (ks : List BucketKind). AllFit ks (length c.refresh.new.room.found.items)) (sym r.kinds)
     (subst (λ (n : ℕ). AllFit (kinds_of g.B.Bucket.holding c.args.buckets.now.items) n) (sym r.found) c.requires.found)
+
+pub returns-in_err-refresh-clause-inside : goal.returns-in_err-refresh-clause-inside
+returns-in_err-refresh-clause-inside g c = grind (arith, common_steps)
+
+pub settle_copy-requires-clause-inside : goal.settle_copy-requires-clause-inside
+settle_copy-requires-clause-inside g c = grind (arith, common_steps)

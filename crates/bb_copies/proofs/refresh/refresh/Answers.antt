@@ -1,6 +1,7 @@
 use Rattle.std.proofs.Common.{◌≡◌, ◌∙◌, ℕ, ◌<◌, Bool, false, List, length, set, length-set, Err, IfErr, ap, sym, subst, refl, arith, inr}
 use Rattle.std.proofs.lemmas.List.{get_or_read, length-map}
 use Rattle.std.proofs.lemmas.Result.{err_from_is_err_and}
+use Rattle.std.proofs.lemmas.Grind.{common_steps}
 use Rattle.bb_base.specs.Form.{Form}
 use Rattle.bb_flash.specs.Device.{Device}
 use Rattle.bb_bucket.specs.Kind.{BucketKind}
@@ -163,3 +164,6 @@ pub returns-clause-placed : goal.returns-clause-placed
 returns-clause-placed g c =
     let i = c.loop-copy.invariant in
     unmarked_placed g.B.Bucket.holding c.args.good.now.items c.loop-copy.copy c.args.buckets.now.items c.loop-copy.buckets.items (omega (arith, c.len-copy-end.ensures, c.args.buckets.now.ok)) i.placed
+
+pub settle_copy-requires-clause-inside : goal.settle_copy-requires-clause-inside
+settle_copy-requires-clause-inside g c = grind (arith, common_steps)

@@ -1,4 +1,5 @@
-use Rattle.std.proofs.Common.{◌∙◌, ℕ, List, ap, sym, subst, refl, option_map}
+use Rattle.std.proofs.Common.{◌∙◌, ℕ, List, ap, sym, subst, refl, option_map, arith}
+use Rattle.std.proofs.lemmas.Grind.{common_steps}
 use Rattle.bb_bucket.proofs.Quiet.{keeps_of_quiet}
 use Rattle.bb_copies.specs.Settling.{IsCompared}
 use Rattle.bb_copies.proofs.Ends.{read_as, whole_slice}
@@ -26,3 +27,18 @@ returns-in-Err-clause-settles g c =
 
 pub returns-in-Err-clause-placed : goal.returns-in-Err-clause-placed
 returns-in-Err-clause-placed g c = λ other. absurd (other refl)
+
+pub returns-in-Ok-None-clause-found : goal.returns-in-Ok-None-clause-found
+returns-in-Ok-None-clause-found g c = grind (arith, common_steps)
+
+pub returns-in-Ok-None-clause-scratch : goal.returns-in-Ok-None-clause-scratch
+returns-in-Ok-None-clause-scratch g c = grind (arith, common_steps)
+
+pub returns-in-Ok-Some-clause-found : goal.returns-in-Ok-Some-clause-found
+returns-in-Ok-Some-clause-found g c = grind (arith, common_steps)
+
+pub returns-in-Err-clause-found : goal.returns-in-Err-clause-found
+returns-in-Err-clause-found g c = grind (arith, common_steps)
+
+pub returns-in-Err-clause-scratch : goal.returns-in-Err-clause-scratch
+returns-in-Err-clause-scratch g c = grind (arith, common_steps)
