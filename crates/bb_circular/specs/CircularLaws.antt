@@ -1,6 +1,6 @@
 -- A block that is written as a log is a kind of bucket: what was written last stands there, and is
 -- what there is to keep.
-use Rattle.std.proofs.Common.{◌≡◌, ℕ, zero, ◌+◌, ◌-◌, ◌*◌, ◌/◌, ◌%◌, ◌^◌, ◌<◌, ◌≤◌, true, false, ◌&&◌, not, List, eqb, leb, length, take, drop, replicate, Option, Some, None, sym, ap, ◌∙◌, subst, arith, cond, option_map, inl, inr, take_all}
+use Rattle.std.proofs.Common.{◌≡◌, ℕ, ◌+◌, ◌-◌, ◌*◌, ◌/◌, ◌%◌, ◌^◌, ◌<◌, ◌≤◌, true, false, ◌&&◌, not, List, eqb, leb, length, take, drop, replicate, Option, Some, None, sym, ap, ◌∙◌, subst, arith, cond, option_map, inl, inr, take_all}
 use Rattle.std.specs.Option.{option_and_then}
 use Rattle.std.specs.List.{list_all}
 use Rattle.std.proofs.Math.Nat.{add-mul, le_of_mul-le-mul_right, lt_of_mul-lt-mul_right, mul-le-mul_right, mul-mod_left, zero-mod}

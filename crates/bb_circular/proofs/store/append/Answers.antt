@@ -1,5 +1,6 @@
 use Rattle.std.proofs.Common.{◌≡◌, ℕ, ◌+◌, ◌*◌, ◌/◌, ◌%◌, ◌<◌, ◌≤◌, List, length, take, sym, ap, ◌∙◌, subst, arith}
 use Rattle.std.proofs.Math.Nat.{add-mul, le_of_mul-le-mul_right}
+use Rattle.std.proofs.lemmas.Grind.{common_steps}
 use Rattle.bb_flash.specs.Image.{Image, IsBlank}
 use Rattle.bb_flash.proofs.Geometries.{whole_times}
 use Rattle.bb_bucket.specs.BlockLaws.{block_lies_on, block_of}
@@ -63,3 +64,9 @@ returns-clause-calls g c =
     let held = block_of c.args.block (g.F.Flash.device c.args.flash.now).geometry c.requires.held in
     let made = c.program_part.ensures in
     append_calls c.args.block c.args.rec.now c.args.next _ (g.F.Flash.device c.args.flash.now) (g.F.Flash.device c.program_part.new.flash) held c.requires.aligned c.requires.fits c.pack_entry-len.ensures.entry c.requires.placed made.within.later made.within.whole made.changes
+
+pub returns-clause-done : goal.returns-clause-done
+returns-clause-done g c = grind (arith, common_steps)
+
+pub returns-clause-erases : goal.returns-clause-erases
+returns-clause-erases g c = grind (arith, common_steps)

@@ -1,4 +1,5 @@
 use Rattle.std.proofs.Common.{ℕ, ◌+◌, ◌%◌, ◌<◌, ◌≤◌, List, length, take, sym, ap, ◌∙◌, subst, arith}
+use Rattle.std.proofs.lemmas.Grind.{common_steps}
 use Rattle.bb_flash.specs.declared.geometry.Geometry.{Geometry}
 use Rattle.bb_flash.specs.Image.{Image, IsBlank}
 use Rattle.bb_bucket.specs.Blocks.{blank_block}
@@ -77,3 +78,6 @@ returns-clause-calls g c =
 
 pub returns-clause-within : goal.returns-clause-within
 returns-clause-within g c = within_joined c.args.block.region (g.F.Flash.device c.args.flash.now) (g.F.Flash.device c.erase_block.new.flash) (g.F.Flash.device c.program_part.new.flash) c.erase_block.ensures.within c.program_part.ensures.within
+
+pub returns-clause-erases : goal.returns-clause-erases
+returns-clause-erases g c = grind (arith, common_steps)

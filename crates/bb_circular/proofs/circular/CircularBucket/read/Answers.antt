@@ -1,4 +1,5 @@
-use Rattle.std.proofs.Common.{◌≡◌, ℕ, sym, ap, ◌∙◌, subst, IsTrue}
+use Rattle.std.proofs.Common.{◌≡◌, ℕ, sym, ap, ◌∙◌, subst, IsTrue, arith}
+use Rattle.std.proofs.lemmas.Grind.{common_steps}
 use Rattle.bb_flash.specs.declared.geometry.Geometry.{Geometry}
 use Rattle.bb_bucket.specs.declared.block.Block.{Block}
 use Rattle.bb_bucket.specs.Blocks.{is_block_of}
@@ -28,3 +29,12 @@ returns-clause-done g c = λ image told.
     subst (λ (block : Block). IsFoundAs (circular_candidate block.page (part_of device_page block.region image)) (circular_is_worn block.page (part_of device_page block.region image)) c.read_log.new.out c.in_ok-answer.answer.0) block_is
     (subst (λ page. IsFoundAs (circular_candidate c.self.inside.block.page (part_of page c.self.inside.block.region image)) (circular_is_worn c.self.inside.block.page (part_of page c.self.inside.block.region image)) c.read_log.new.out c.in_ok-answer.answer.0) (sym held.page)
     (c.in_ok-answer.ensures.done image told))
+
+pub read_log-requires-clause-agreed : goal.read_log-requires-clause-agreed
+read_log-requires-clause-agreed g c = grind (arith, common_steps)
+
+pub invariant_of-self : goal.invariant_of-self
+invariant_of-self g c = grind (arith, common_steps)
+
+pub invariant_of-self-2 : goal.invariant_of-self-2
+invariant_of-self-2 g c = grind (arith, common_steps)

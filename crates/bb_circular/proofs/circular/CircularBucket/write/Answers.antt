@@ -1,4 +1,5 @@
-use Rattle.std.proofs.Common.{◌≡◌, sym, ap, ◌∙◌, subst, IsTrue}
+use Rattle.std.proofs.Common.{◌≡◌, sym, ap, ◌∙◌, subst, IsTrue, arith}
+use Rattle.std.proofs.lemmas.Grind.{common_steps}
 use Rattle.bb_flash.specs.declared.geometry.Geometry.{Geometry}
 use Rattle.bb_bucket.specs.declared.block.Block.{Block}
 use Rattle.bb_bucket.specs.Blocks.{is_block_of}
@@ -14,3 +15,12 @@ returns-clause-agrees g c =
     let held = block_of c.self.inside.block (g.F.Flash.device c.args.flash.now).geometry serves in
     let page = ap (λ (geometry : Geometry). geometry.page) c.write_log.ensures.within.later.geometry ∙ held.page in
     holding_agrees c.self.inside.block c.in_ok-written.written (g.F.Flash.device c.write_log.new.flash) page c.in_ok-written.ensures.kept
+
+pub write_log-requires-clause-agreed : goal.write_log-requires-clause-agreed
+write_log-requires-clause-agreed g c = grind (arith, common_steps)
+
+pub invariant_of-self : goal.invariant_of-self
+invariant_of-self g c = grind (arith, common_steps)
+
+pub invariant_of-self-2 : goal.invariant_of-self-2
+invariant_of-self-2 g c = grind (arith, common_steps)
