@@ -1,8 +1,9 @@
-use Rattle.std.proofs.Common.{◌≡◌, [], get_or, true, Ok, map, take, sym, ap, ◌∙◌}
+use Rattle.std.proofs.Common.{◌≡◌, [], get_or, true, Ok, map, take, sym, ap, ◌∙◌, arith}
 use Rattle.std.proofs.lemmas.Bool.{not-false}
 use Rattle.std.specs.List.{list_any}
 use Rattle.std.specs.Str.{bytes_eq}
 use Rattle.std.proofs.lemmas.List.{take_all}
+use Rattle.std.proofs.lemmas.Grind.{common_steps}
 use Rattle.bb_layout.specs.Ranges.{some_pair}
 use Rattle.bb_chooser.proofs.Texts.{differing_good, differing_twice, get_or_same, now, twice_at}
 use Rattle.bb_chooser.proofs.value.differing_names.Goals as goal
@@ -23,3 +24,6 @@ returns-clause-ok c =
     let whole : take n words ≡ words = take_all n words c.loop-word-test.false in
     let is : c.loop-word.names ≡ map now words = c.loop-word.invariant.taken ∙ ap (map now) whole in
     differing_good (map now words) (ap (some_pair bytes_eq) (sym is) ∙ c.loop-word.invariant.differ) ∙ ap Ok (sym is)
+
+pub loop-word-preserved : goal.loop-word-preserved
+loop-word-preserved c = grind (arith, common_steps)

@@ -1,7 +1,8 @@
-use Rattle.std.proofs.Common.{List, ℕ, map, not, sym, ap, ◌∙◌}
+use Rattle.std.proofs.Common.{List, ℕ, map, not, sym, ap, ◌∙◌, arith}
 use Rattle.std.specs.List.{list_any}
 use Rattle.std.specs.Str.{bytes_eq}
 use Rattle.std.specs.String.{string_bytes}
+use Rattle.std.proofs.lemmas.Grind.{common_steps}
 use Rattle.bb_layout.specs.Ranges.{some_pair}
 use Rattle.bb_chooser.proofs.Texts.{list_any-map, put_differ}
 use Rattle.bb_chooser.proofs.names.Names.add.Goals as goal
@@ -23,3 +24,6 @@ pub returns-clause-differ : goal.returns-clause-differ
 returns-clause-differ c =
     ap (λ l. some_pair bytes_eq (map string_bytes l)) c.in_ok-added.ensures.keys
     ∙ put_differ c.self.inside.inner.keys c.in_ok-name.name c.self.invariant
+
+pub returns-clause-names : goal.returns-clause-names
+returns-clause-names c = grind (arith, common_steps)

@@ -1,7 +1,8 @@
-use Rattle.std.proofs.Common.{rules, ◌≡◌, List, ℕ, length, sym, ap, ◌∙◌}
+use Rattle.std.proofs.Common.{rules, ◌≡◌, List, ℕ, length, sym, ap, ◌∙◌, arith}
 use Rattle.std.specs.Map.{lookup}
 use Rattle.std.specs.Str.{bytes_eq}
 use Rattle.std.specs.String.{string_bytes}
+use Rattle.std.proofs.lemmas.Grind.{common_steps}
 use Rattle.bb_tree.specs.Texts.{texts_in}
 use Rattle.bb_layout.specs.VarNames.{place_of, with_place}
 use Rattle.bb_layout.proofs.Places.{from_ok, places_push}
@@ -19,3 +20,9 @@ invariant_of-self-else-is_err c = λ name.
     ap (lookup (bytes_eq name)) (noted_is ∙ ap (λ (m : List ℕ). with_place places m c.len-place.result) key ∙ ap (with_place places c.args.var.name) count)
     ∙ places_push vars places c.args.var c.self.invariant name
     ∙ ap (λ vs. place_of vs name) (sym c.in_ok-push.ensures.items)
+
+pub invariant_of-self-then-is_err : goal.invariant_of-self-then-is_err
+invariant_of-self-then-is_err c = grind (arith, common_steps)
+
+pub returns-then-is_err-clause-err : goal.returns-then-is_err-clause-err
+returns-then-is_err-clause-err c = grind (arith, common_steps)
