@@ -12,3 +12,6 @@ loop-i-preserved c =
     let got : slice_get c.args.self.now c.loop-i.i ≡ Some c.in-Some.name.now = ap (λ l. slice_get l c.loop-i.i) (sym c.self.view_is) ∙ slice_get-map (λ (e : List ℕ × ℕ). e.0) entries c.loop-i.i ∙ ap (option_map (λ (e : List ℕ × ℕ). e.0)) (sym c.in-Some.ensures) in
     let next = flat_next (λ (name : List ℕ). name ++ 0 ∷ []) c.args.self.now c.loop-i.i c.in-Some.name.now got in
     grind (arith, common_steps)
+
+pub returns : goal.returns
+returns c = grind (arith, common_steps)
