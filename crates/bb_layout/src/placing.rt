@@ -1,9 +1,8 @@
-ghost use Rattle.std.specs.Prelude.{◌≡◌, ◌≤◌, ◌<◌, ◌^◌, IfOk, ℕ, nat_le};
+ghost use Rattle.std.specs.Prelude.{◌≡◌, ◌<◌, ◌^◌, IfOk, ℕ, nat_le};
 ghost use Rattle.bb_flash.specs.Geometry.{IsGeometry};
 ghost use Rattle.bb_tree.specs.Blob.{length_in_64_bits};
 ghost use Rattle.bb_layout.specs.Copies as copy;
 ghost use Rattle.bb_layout.specs.Facts.{HasCopies};
-ghost use Rattle.bb_layout.specs.Steps.{Gives};
 ghost use Rattle.bb_layout.specs.Storage as spec;
 
 use crate::state_props::Props;

@@ -55,10 +55,3 @@ defaults_at Dtb keyed is facts =
 
 pub defaults_fit : (keyed : Keyed) → IsLaid keyed.layout → IsTrue ((laid_form keyed).fits (defaults_of keyed.layout.area_len keyed.layout.vars))
 defaults_fit keyed facts = defaults_at keyed.layout.format keyed refl facts
-
--- ---- the same table under the same layout and key
-
-pub same_fits : (keyed after : Keyed) (table left : List ℕ) → after ≡ keyed → left ≡ table → IsTrue ((laid_form keyed).fits table)
-    → IsTrue ((laid_form after).fits left)
-same_fits keyed after table left same kept fits =
-    subst (λ keyed. IsTrue ((laid_form keyed).fits left)) (sym same) (subst (λ table. IsTrue ((laid_form keyed).fits table)) (sym kept) fits)

@@ -3,7 +3,7 @@ ghost use Rattle.std.specs.Option.{ok_or, option_map};
 ghost use Rattle.bb_words.specs.Answer.{IsSized, Refuses};
 ghost use Rattle.bb_words.specs.Options.{given_once, none_given, set_in, value_in, valued_of};
 ghost use Rattle.bb_words.specs.Options.{with_value};
-ghost use Rattle.bb_words.specs.Table.{command_of, may_come};
+ghost use Rattle.bb_words.specs.Table.{may_come};
 ghost use Rattle.bb_words.specs.Words.{Options, after_joined, after_option, after_value};
 ghost use Rattle.bb_words.specs.Words.{before_value, command_at, next};
 

@@ -1,4 +1,5 @@
-use Rattle.std.proofs.Common.{rules}
+use Rattle.std.proofs.Common.{rules, arith}
+use Rattle.std.proofs.lemmas.Grind.{common_steps}
 use Rattle.bb_copies.proofs.Runs.{later_refl}
 use Rattle.bb_shell.proofs.Booted.{booted_none, booted_of}
 use Rattle.bb_shell.proofs.Joins.{outside_refl}
@@ -37,3 +38,6 @@ returns-clause-booted g c =
     booted_of c.args.chooser.now c.args.plans.now (first_table c.args.chooser.now c.args.cause c.args.first c.args.state.now.table)
     c.reset_first.new.table c.args.state.now c.run_rounds.new.state (g.B.Flash.device c.args.board.now) (g.B.Flash.device c.run_rounds.new.board)
     c.run_rounds.result c.reset_first.ensures.table c.requires.on.geometry _ _ c.run_rounds.ensures.have_run
+
+pub reset_first-requires : goal.reset_first-requires
+reset_first-requires g c = grind (arith, common_steps)

@@ -1,4 +1,5 @@
 use Rattle.std.proofs.Common.{rules, ◌≡◌, ◌<◌, ◌+◌, Ok, Err, arith, length, refl, subst, sym, ◌∙◌}
+use Rattle.std.proofs.lemmas.Grind.{common_steps}
 use Rattle.bb_shell.proofs.Reading.{AreRead, ended_long, ended_planned, planned_before, read_all, read_more, read_none}
 use Rattle.bb_shell.specs.Plans.{IsPlanned}
 use Rattle.bb_shell.specs.declared.plan_fault.PlanFault.TheVariants.{FileTooLong}
@@ -53,3 +54,9 @@ returns-clause-ok g c =
     let b = c.args.chooser.now in
     let all : c.loop-target.target ≡ length b.targets = search rules in
     read_all b (g.F.Files.folder c.args.files.now) c.loop-target.target c.loop-target.plans all c.loop-target.invariant.read
+
+pub returns-in_err-push-clause-planned : goal.returns-in_err-push-clause-planned
+returns-in_err-push-clause-planned g c = grind (arith, common_steps)
+
+pub returns-clause-planned : goal.returns-clause-planned
+returns-clause-planned g c = grind (arith, common_steps)

@@ -1,5 +1,6 @@
 use Rattle.std.proofs.Common.{◌≡◌, ◌∙◌, ℕ, IsTrue, ap, subst, sym, ◌++◌, List, drop, length, arith, take}
 use Rattle.std.proofs.lemmas.Bool.{false≢true}
+use Rattle.std.proofs.lemmas.Grind.{common_steps}
 use Rattle.bb_base.specs.Form.{Form}
 use Rattle.bb_copies.specs.Buckets.{AllAgree, kinds_of}
 use Rattle.bb_copies.specs.declared.answers.Loaded.TheVariants.{NoCopy}
@@ -101,3 +102,15 @@ returns-else-eq-clause-fits g c =
     let some : c.in_ok-loaded.loaded ≡ NoCopy → ⊥ = λ is. (let equal = rw is at c.eq.ensures in false≢true (sym c.if-eq.false ∙ equal)) in
     subst (λ (f : Form). IsTrue (f.fits kept)) form
     (subst (λ (table : List ℕ). IsTrue ((any_form c.self.inside.copies.format).fits table)) (sym same) (c.in_ok-loaded.ensures.fits some))
+
+pub invariant_of-self : goal.invariant_of-self
+invariant_of-self g c = grind (arith, common_steps)
+
+pub invariant_of-self-then-eq : goal.invariant_of-self-then-eq
+invariant_of-self-then-eq g c = grind (arith, common_steps)
+
+pub invariant_of-self-else-eq : goal.invariant_of-self-else-eq
+invariant_of-self-else-eq g c = grind (arith, common_steps)
+
+pub returns-then-eq-clause-defaults : goal.returns-then-eq-clause-defaults
+returns-then-eq-clause-defaults g c = grind (arith, common_steps)
