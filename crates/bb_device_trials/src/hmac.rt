@@ -1,4 +1,4 @@
-use super::*;
+use bb_hmac::{Key, KeyError, Mac, hmac, same_mac};
 
 // The code under a key that is spelt in hexadecimal, spelt so too.
 fn code(key: &[u8], text: &[u8]) -> Result<[u8; 64], KeyError> {

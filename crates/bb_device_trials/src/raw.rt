@@ -1,6 +1,6 @@
-use super::*;
 use bb_base::Format;
 use bb_hmac::{Key, KeyError};
+use bb_raw::Raw;
 
 // The record of `123456789` under the magic 0x12345678.
 const RECORD: [u8; 25] =
