@@ -11,6 +11,3 @@ pub use error::KeyError;
 pub use key::Key;
 pub use law::law_block_stands_for_key;
 pub use mac::{Mac, hmac, same_mac};
-
-#[cfg(test)]
-mod tests;

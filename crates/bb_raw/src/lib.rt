@@ -5,6 +5,3 @@
 mod raw;
 
 pub use raw::{HEADER_LEN, Raw};
-
-#[cfg(test)]
-mod tests;

@@ -1,6 +1,0 @@
-//! Blobs that are cut, changed byte by byte, deep, long, or compiled of a source, and what the reader answers to each.
-//! Nothing stands on it.
-#![tactic(auto)]
-
-#[cfg(test)]
-mod tests;
