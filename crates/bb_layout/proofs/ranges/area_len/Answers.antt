@@ -1,4 +1,4 @@
-use Rattle.std.proofs.Common.{sym, ◌∙◌, subst, All, ℕ, ◌≤◌}
+use Rattle.std.proofs.Common.{sym, ◌∙◌, subst, All, ℕ, ◌≤◌, rules}
 use Rattle.bb_layout.specs.Ranges.{end_of}
 use Rattle.bb_layout.proofs.RangeFacts.{names_apart, ranges_apart, ends_inside}
 use Rattle.bb_layout.proofs.ranges.area_len.Goals as goal
@@ -11,3 +11,9 @@ returns-clause-apart c = ranges_apart c.args.vars.now c.requires (sym c.in_ok-ha
 
 pub returns-clause-inside : goal.returns-clause-inside
 returns-clause-inside c = subst (λ (n : ℕ). All (λ v. end_of v ≤ n) c.args.vars.now) (sym c.last_end-end.ensures) (ends_inside c.args.vars.now)
+
+pub returns-clause-ok : goal.returns-clause-ok
+returns-clause-ok c = search rules
+
+pub returns-clause-short : goal.returns-clause-short
+returns-clause-short c = search rules

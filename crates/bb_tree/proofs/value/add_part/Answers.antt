@@ -1,7 +1,8 @@
-use Rattle.std.proofs.Common.{◌≡◌, ◌++◌, List, ℕ, Option, unwrap_or, sym, ap, ◌∙◌}
+use Rattle.std.proofs.Common.{◌≡◌, ◌++◌, List, ℕ, Option, unwrap_or, sym, ap, ◌∙◌, arith}
 use Rattle.std.specs.Int.{to_be_bytes, w32}
 use Rattle.std.specs.Option.{option_and_then}
 use Rattle.std.proofs.lemmas.Result.{IfOk-weaker}
+use Rattle.std.proofs.lemmas.Grind.{common_steps}
 use Rattle.bb_tree.specs.Resolve.{resolved_part, phandle_among}
 use Rattle.bb_tree.specs.Slots.{tree_of, props_at}
 use Rattle.bb_tree.specs.SlotValues.{slot_labelled}
@@ -25,3 +26,6 @@ returns-in-Cell c =
     ≡ c.args.bytes ++ resolved_part labels (tree_of slots) c.args.part.now)
     (λ x h. h ∙ ap (λ l. c.args.bytes ++ l) (cell
     ∙ ap (resolved_part labels (tree_of slots)) (sym c.in-Cell.is))) c.with_more-in-Cell.ensures
+
+pub returns-in-Path : goal.returns-in-Path
+returns-in-Path c = grind (arith, common_steps)

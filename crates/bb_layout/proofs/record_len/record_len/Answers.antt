@@ -1,0 +1,5 @@
+use Rattle.std.proofs.Common.{rules}
+use Rattle.bb_layout.proofs.record_len.record_len.Goals as goal
+
+pub returns-in-Dtb : goal.returns-in-Dtb
+returns-in-Dtb c = search rules
