@@ -2,4 +2,5 @@ mod keys;
 mod lines;
 mod logs;
 mod rig;
+mod steps;
 mod table;

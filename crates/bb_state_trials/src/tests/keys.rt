@@ -4,7 +4,8 @@ ghost use Rattle.std.specs.Prelude.{◌≡◌, ◌≤◌, IfOk};
 ghost use Rattle.bb_flash.specs.Device.{IsDevice};
 ghost use Rattle.bb_flash.specs.Memory.{device_of};
 
-use super::rig::{IN_PLACE, blank, board, first_save, layout, loaded_state, plain, value};
+use super::rig::{IN_PLACE, blank, board, layout, mounted_plays, plain_plays};
+use super::steps::Step::{self, Has, Holds, Loads, Saves, Sets};
 use bb_flash::MemBoard;
 use bb_hmac::Key;
 use bb_layout::Layout;
@@ -76,61 +77,55 @@ fn under_key(alloc: Global) -> Result<Layout, Fail>
     layout(alloc, b"algo = \"hmac(sha256)\";", b"", IN_PLACE)
 }
 
-// The value that a load under a key gives, with this answer.
-fn loaded_value(
+// A state under a key is mounted anew, and plays these steps.
+fn key_plays(
     rt: &impl Abort,
     alloc: Global,
     hex: &[u8],
     board: &mut MemBoard,
-    answer: Loaded,
-) -> Result<Option<u8>, Fail>
+    steps: &[Step],
+) -> Result<(), Fail>
     requires geometry { board.old.geometry ≡ record { page = 1; block = 0; size = 192 } }
     requires whole { IsDevice (device_of board.old) }
 {
     let key = key(hex)?;
     let layout = under_key(alloc)?;
-    let state = loaded_state(rt, alloc, layout, key, board, answer)?;
-    Ok(value(&state))
+    mounted_plays(rt, alloc, layout, key, board, steps)
 }
 
-// A load under a key from a device of these bytes gives an answer and a value, and leaves these.
-fn gives(
+// The same on a device of these bytes.
+fn plays_from(
     rt: &impl Abort,
     alloc: Global,
     hex: &[u8],
     before: [u8; 192],
-    answer: Loaded,
-    value: u8,
-    after: [u8; 192],
+    steps: &[Step],
 ) -> Result<(), Fail> {
     let mut board = board(alloc, IN_PLACE, &before)?;
-    let found = loaded_value(rt, alloc, hex, &mut board, answer)?;
-    assert_eq!(rt; found, Some(value));
-    assert_eq!(rt; board.bytes(), after.as_slice());
-    Ok(())
-}
-
-fn save_under_key(rt: &impl Abort, alloc: Global, board: &mut MemBoard) -> Result<(), Fail>
-    requires geometry { board.old.geometry ≡ record { page = 1; block = 0; size = 192 } }
-    requires whole { IsDevice (device_of board.old) }
-{
-    let key = key(b"4a656665\n")?;
-    let layout = under_key(alloc)?;
-    first_save(rt, alloc, layout, key, board)
+    key_plays(rt, alloc, hex, &mut board, steps)
 }
 
 #[test]
 fn a_save_writes_records_with_their_hmac(rt: HostRuntime) -> Result<(), Fail> {
-    let mut board = blank(rt.alloc())?;
-    save_under_key(&rt, rt.alloc(), &mut board)?;
-    assert_eq!(rt; board.bytes(), whole().as_slice());
-    Ok(())
+    let steps = [
+        Loads(Loaded::NoCopy),
+        Sets(b"7"),
+        Saves(Ok(())),
+        Holds(whole()),
+    ];
+    plays_from(&rt, rt.alloc(), b"4a656665\n", [0xff; 192], &steps)
 }
 
 // From a device of these bytes the first copy is loaded, and all copies are whole then.
 fn repairs(rt: &impl Abort, alloc: Global, before: [u8; 192]) -> Result<(), Fail> {
     let all = Loaded::Copy { used: 0, live: 3 };
-    gives(rt, alloc, b"4a656665", before, all, 7, whole())
+    plays_from(
+        rt,
+        alloc,
+        b"4a656665",
+        before,
+        &[Loads(all), Has(7), Holds(whole())],
+    )
 }
 
 // Two copies decay and are repaired, one after the other, so that the third may decay then: each of
@@ -145,7 +140,8 @@ fn a_repaired_copy_passes_under_the_key(rt: HostRuntime) -> Result<(), Fail> {
 
 // Where no copy passes the defaults are loaded, and nothing is written.
 fn passes_nothing(rt: &impl Abort, alloc: Global, hex: &[u8]) -> Result<(), Fail> {
-    gives(rt, alloc, hex, whole(), Loaded::NoCopy, 3, whole())
+    let steps = [Loads(Loaded::NoCopy), Has(3), Holds(whole())];
+    plays_from(rt, alloc, hex, whole(), &steps)
 }
 
 #[test]
@@ -154,21 +150,28 @@ fn a_record_under_another_key_passes_nothing(rt: HostRuntime) -> Result<(), Fail
     passes_nothing(&rt, rt.alloc(), b"00")
 }
 
-fn save_without_key(rt: &impl Abort, alloc: Global, board: &mut MemBoard) -> Result<(), Fail>
+// Saves without a key, and loads under one then.
+fn saves_and_loads(rt: &impl Abort, alloc: Global, board: &mut MemBoard) -> Result<(), Fail>
     requires geometry { board.old.geometry ≡ record { page = 1; block = 0; size = 192 } }
     requires whole { IsDevice (device_of board.old) }
-    ensures geometry { board.new.geometry ≡ board.old.geometry }
-    ensures whole { IsDevice (device_of board.new) }
 {
-    let layout = plain(alloc)?;
-    first_save(rt, alloc, layout, None, board)
+    plain_plays(
+        rt,
+        alloc,
+        board,
+        &[Loads(Loaded::NoCopy), Sets(b"7"), Saves(Ok(()))],
+    )?;
+    key_plays(
+        rt,
+        alloc,
+        b"4a656665",
+        board,
+        &[Loads(Loaded::NoCopy), Has(3)],
+    )
 }
 
 #[test]
 fn a_record_without_a_key_passes_nothing_under_one(rt: HostRuntime) -> Result<(), Fail> {
     let mut board = blank(rt.alloc())?;
-    save_without_key(&rt, rt.alloc(), &mut board)?;
-    let found = loaded_value(&rt, rt.alloc(), b"4a656665", &mut board, Loaded::NoCopy)?;
-    assert_eq!(rt; found, Some(3));
-    Ok(())
+    saves_and_loads(&rt, rt.alloc(), &mut board)
 }

@@ -11,14 +11,12 @@ use std::alloc::Global;
 use std::process::Abort;
 use std::test::Fail;
 
-fn lines(alloc: Global) -> Result<Bytes, Fail> {
+fn add_lines(alloc: Global, out: &mut Bytes) -> Result<(), Fail> {
     let layout = plain(alloc)?;
-    let mut out = Bytes::none(alloc);
-    add_lines(alloc, &layout, &mut out)?;
-    Ok(out)
+    Ok(add_lines_of(alloc, &layout, out)?)
 }
 
-fn add_lines(alloc: Global, layout: &Layout, out: &mut Bytes) -> Result<(), NoMemory>
+fn add_lines_of(alloc: Global, layout: &Layout, out: &mut Bytes) -> Result<(), NoMemory>
     requires { layout.now.area_len ≡ 1 }
 {
     let area = [7u8; 1];
@@ -29,9 +27,23 @@ fn add_lines(alloc: Global, layout: &Layout, out: &mut Bytes) -> Result<(), NoMe
 
 #[test]
 fn lines_have_values(rt: HostRuntime) -> Result<(), Fail> {
-    let out = lines(rt.alloc())?;
+    let mut out = Bytes::none(rt.alloc());
+    add_lines(rt.alloc(), &mut out)?;
     assert_eq!(rt; out.as_slice(), b"state_a_n=\"7\"\n7\na.n=7\n".as_slice());
     Ok(())
+}
+
+// A name, a text, and what a set of the one to the other answers.
+type Row = (&'static str, &'static [u8], Result<(), StateError>);
+
+fn are_set(rt: &impl Abort, layout: &Layout, table: &mut Table, rows: &[Row])
+    requires { length table.old ≡ layout.now.area_len }
+    ensures { length table.new ≡ layout.now.area_len }
+{
+    for row in rows {
+        let set = set_value(layout, table, row.0, row.1);
+        assert_eq!(rt; set, row.2);
+    }
 }
 
 // Values that are refused, then the largest, which is taken.
@@ -39,13 +51,17 @@ fn values_are_set(rt: &impl Abort, layout: &Layout, table: &mut Table)
     requires { length table.old ≡ layout.now.area_len }
     ensures { length table.new ≡ layout.now.area_len }
 {
-    let past = set_value(layout, table, "a.n", b"256");
-    assert_eq!(rt; past, Err(StateError::Value(ValueError::TooLarge)));
-    let unknown = set_value(layout, table, "a", b"1");
-    assert_eq!(rt; unknown, Err(StateError::NoSuchVariable));
+    let too_large = StateError::Value(ValueError::TooLarge);
+    let rows: [Row; 3] = [
+        ("a.n", b"256", Err(too_large)),
+        ("a", b"1", Err(StateError::NoSuchVariable)),
+        ("a.n", b"255", Ok(())),
+    ];
+    are_set(rt, layout, table, &rows);
+}
+
+fn value_is_checked(rt: &impl Abort, layout: &Layout) {
     assert_eq!(rt; check_value(layout, "a.n", b"255"), Ok(()));
-    let last = set_value(layout, table, "a.n", b"255");
-    assert_eq!(rt; last, Ok(()));
 }
 
 fn value_is_got(rt: &impl Abort, layout: &Layout, table: &Table, out: &mut Bytes)
@@ -53,16 +69,23 @@ fn value_is_got(rt: &impl Abort, layout: &Layout, table: &Table, out: &mut Bytes
 {
     let got = get_value(layout, table.bytes(), "a.n", out);
     assert_eq!(rt; got, Ok(()));
+    assert_eq!(rt; out.as_slice(), b"255".as_slice());
+}
+
+fn set_and_got(rt: &impl Abort, layout: &Layout, table: &mut Table, out: &mut Bytes)
+    requires { length table.old ≡ layout.now.area_len }
+{
+    value_is_checked(rt, layout);
+    values_are_set(rt, layout, table);
+    value_is_got(rt, layout, table, out);
 }
 
 #[test]
 fn a_variable_is_set_and_got(rt: HostRuntime) -> Result<(), Fail> {
     let layout = plain(rt.alloc())?;
     let mut table = Table::of(rt.alloc(), b"\x03")?;
-    values_are_set(&rt, &layout, &mut table);
     let mut out = Bytes::none(rt.alloc());
-    value_is_got(&rt, &layout, &table, &mut out);
-    assert_eq!(rt; out.as_slice(), b"255".as_slice());
+    set_and_got(&rt, &layout, &mut table, &mut out);
     Ok(())
 }
 
@@ -81,18 +104,9 @@ fn marks() -> &'static [u8] {
 "
 }
 
-fn shell_line(alloc: Global) -> Result<Bytes, Fail> {
-    let layout = layout_in(alloc, marks(), IN_PLACE)?;
-    let mut out = Bytes::none(alloc);
-    add_marks(alloc, &layout, &mut out)?;
-    Ok(out)
-}
-
-fn add_marks(alloc: Global, layout: &Layout, out: &mut Bytes) -> Result<(), Fail> {
-    if layout.area_len != 9 {
-        return Err(Fail::from("another area"));
-    }
-    Ok(add_shell_dump(alloc, layout, b"a\\b\"c$d`e", out)?)
+fn add_marks(alloc: Global, out: &mut Bytes) -> Result<(), Fail> {
+    let layout = layout_in(alloc, marks(), IN_PLACE, 9)?;
+    Ok(add_shell_dump(alloc, &layout, b"a\\b\"c$d`e", out)?)
 }
 
 fn quoted() -> &'static [u8] {
@@ -101,7 +115,8 @@ fn quoted() -> &'static [u8] {
 
 #[test]
 fn a_shell_reads_its_line(rt: HostRuntime) -> Result<(), Fail> {
-    let out = shell_line(rt.alloc())?;
+    let mut out = Bytes::none(rt.alloc());
+    add_marks(rt.alloc(), &mut out)?;
     assert_eq!(rt; out.as_slice(), quoted());
     Ok(())
 }

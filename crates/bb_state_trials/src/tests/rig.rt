@@ -3,14 +3,16 @@ ghost use Rattle.std.specs.Prelude.{◌≡◌, IfOk, length};
 ghost use Rattle.bb_flash.specs.Device.{IsDevice};
 ghost use Rattle.bb_flash.specs.Geometry.{IsGeometry};
 ghost use Rattle.bb_flash.specs.Memory.{device_of};
-ghost use Rattle.bb_state.specs.State.{IsFresh, IsOn, laid_of};
+ghost use Rattle.bb_state.specs.State.{IsFresh, laid_of};
 
+use super::steps::{Step, plays};
 use bb_base::{Bytes, NoMemory};
 use bb_dts::read_source;
 use bb_flash::{Geometry, MemBoard};
 use bb_hmac::Key;
 use bb_layout::{Layout, layout_of};
-use bb_state::{Loaded, State};
+use bb_state::State;
+use bb_tree::Tree;
 use std::alloc::Global;
 use std::process::Abort;
 use std::test::Fail;
@@ -60,17 +62,19 @@ pub fn layout(alloc: Global, props: &[u8], more: &[u8], geometry: Geometry) -> R
     ensures area_len { IfOk result (λ layout. layout.area_len ≡ 1) }
 {
     let source = source(alloc, props, more)?;
-    let layout = layout_in(alloc, source.as_slice(), geometry)?;
-    if layout.area_len != 1 {
-        return Err(Fail::from("another area"));
-    }
-    Ok(layout)
+    layout_in(alloc, source.as_slice(), geometry, 1)
 }
 
-/// The layout that a short source gives.
-pub fn layout_in(alloc: Global, text: &[u8], geometry: Geometry) -> Result<Layout, Fail>
+/// The layout that a short source gives, with an area of this length.
+pub fn layout_in(
+    alloc: Global,
+    text: &[u8],
+    geometry: Geometry,
+    area_len: u32,
+) -> Result<Layout, Fail>
     requires { IsGeometry geometry }
-    ensures { IfOk result (λ layout. layout.geometry ≡ geometry) }
+    ensures geometry { IfOk result (λ layout. layout.geometry ≡ geometry) }
+    ensures area_len { IfOk result (λ layout. layout.area_len ≡ area_len) }
 {
     if text.len() > 4096 {
         return Err(Fail::from("a long source"));
@@ -78,11 +82,19 @@ pub fn layout_in(alloc: Global, text: &[u8], geometry: Geometry) -> Result<Layou
     let Ok(tree) = read_source(alloc, text) else {
         return Err(Fail::from("the source is refused"));
     };
-    let Ok(layout) = layout_of(alloc, &tree, None, geometry) else {
+    layout_on(alloc, &tree, geometry, area_len)
+}
+
+fn layout_on(alloc: Global, tree: &Tree, geometry: Geometry, area_len: u32) -> Result<Layout, Fail>
+    requires { IsGeometry geometry }
+    ensures geometry { IfOk result (λ layout. layout.geometry ≡ geometry) }
+    ensures area_len { IfOk result (λ layout. layout.area_len ≡ area_len) }
+{
+    let Ok(layout) = layout_of(alloc, tree, None, geometry) else {
         return Err(Fail::from("the tree is refused"));
     };
-    if layout.geometry != geometry {
-        return Err(Fail::from("another geometry"));
+    if layout.geometry != geometry || layout.area_len != area_len {
+        return Err(Fail::from("another layout"));
     }
     Ok(layout)
 }
@@ -116,9 +128,8 @@ pub fn blank(alloc: Global) -> Result<MemBoard, NoMemory>
 }
 
 /// The state of a layout, under a key where its records are kept under one.
-pub fn mount(alloc: Global, layout: Layout, key: Option<Key>) -> Result<State, Fail>
+fn mount(alloc: Global, layout: Layout, key: Option<Key>) -> Result<State, Fail>
     ensures geometry { IfOk result (λ state. (laid_of state).geometry ≡ layout.geometry) }
-    ensures area_len { IfOk result (λ state. (laid_of state).area_len ≡ layout.area_len) }
     ensures fresh { IfOk result IsFresh }
 {
     if key.is_some() != layout.format.takes_key() {
@@ -127,89 +138,43 @@ pub fn mount(alloc: Global, layout: Layout, key: Option<Key>) -> Result<State, F
     Ok(State::mount(alloc, layout, key)?)
 }
 
-/// A state that was mounted anew, whose load gives this answer.
-pub fn loaded_state(
+/// A state of this layout is mounted anew, and plays these steps.
+pub fn mounted_plays(
     rt: &impl Abort,
     alloc: Global,
     layout: Layout,
     key: Option<Key>,
     board: &mut MemBoard,
-    answer: Loaded,
-) -> Result<State, Fail>
-    requires geometry { board.old.geometry ≡ layout.geometry }
-    requires whole { IsDevice (device_of board.old) }
-    requires area_len { layout.area_len ≡ 1 }
-    ensures geometry { board.new.geometry ≡ board.old.geometry }
-    ensures whole { IsDevice (device_of board.new) }
-    ensures area_len { IfOk result (λ state. (laid_of state).area_len ≡ 1) }
-    ensures on { IfOk result (λ state. IsOn state (device_of board.new)) }
-{
-    let mut state = mount(alloc, layout, key)?;
-    load(rt, &mut state, board, answer);
-    Ok(state)
-}
-
-/// Loads, with this answer.
-fn load(rt: &impl Abort, state: &mut State, board: &mut MemBoard, answer: Loaded)
-    requires { IsOn state.old (device_of board.old) }
-    ensures geometry { board.new.geometry ≡ board.old.geometry }
-    ensures area_len { (laid_of state.new).area_len ≡ (laid_of state.old).area_len }
-    ensures on { IsOn state.new (device_of board.new) }
-{
-    let loaded = state.load(board);
-    assert_eq!(rt; loaded, Ok(answer));
-}
-
-/// Loads from a board where no copy passes, and saves the value 7.
-pub fn first_save(
-    rt: &impl Abort,
-    alloc: Global,
-    layout: Layout,
-    key: Option<Key>,
-    board: &mut MemBoard,
+    steps: &[Step],
 ) -> Result<(), Fail>
     requires geometry { board.old.geometry ≡ layout.geometry }
     requires whole { IsDevice (device_of board.old) }
-    requires area_len { layout.area_len ≡ 1 }
     ensures geometry { board.new.geometry ≡ board.old.geometry }
     ensures whole { IsDevice (device_of board.new) }
 {
-    let mut state = loaded_state(rt, alloc, layout, key, board, Loaded::NoCopy)?;
-    save(rt, &mut state, board, b"7");
+    let mut state = mount(alloc, layout, key)?;
+    plays(rt, &mut state, board, steps);
     Ok(())
 }
 
-/// Gives the variable a value, and saves.
-pub fn save(rt: &impl Abort, state: &mut State, board: &mut MemBoard, value: &[u8])
-    requires { IsOn state.old (device_of board.old) }
+/// A state without a key is mounted anew, and plays these steps.
+pub fn plain_plays(
+    rt: &impl Abort,
+    alloc: Global,
+    board: &mut MemBoard,
+    steps: &[Step],
+) -> Result<(), Fail>
+    requires geometry { board.old.geometry ≡ record { page = 1; block = 0; size = 192 } }
+    requires whole { IsDevice (device_of board.old) }
     ensures geometry { board.new.geometry ≡ board.old.geometry }
-    ensures on { IsOn state.new (device_of board.new) }
+    ensures whole { IsDevice (device_of board.new) }
 {
-    set(rt, state, value);
-    store(rt, state, board);
+    let layout = plain(alloc)?;
+    mounted_plays(rt, alloc, layout, None, board, steps)
 }
 
-/// Gives the variable a value.
-pub fn set(rt: &impl Abort, state: &mut State, value: &[u8])
-    ensures { state.new.backing ≡ state.old.backing }
-{
-    let set = state.set("a.n", value);
-    assert_eq!(rt; set, Ok(()));
-}
-
-fn store(rt: &impl Abort, state: &mut State, board: &mut MemBoard)
-    requires { IsOn state.old (device_of board.old) }
-    ensures geometry { board.new.geometry ≡ board.old.geometry }
-    ensures on { IsOn state.new (device_of board.new) }
-{
-    let saved = state.save(board);
-    assert_eq!(rt; saved, Ok(()));
-}
-
-/// The value of the variable.
-pub fn value(state: &State) -> Option<u8> {
-    match state.table.bytes() {
-        [value] => Some(*value),
-        _ => None,
-    }
+/// Such a state on a blank board.
+pub fn plays_on_blank(rt: &impl Abort, alloc: Global, steps: &[Step]) -> Result<(), Fail> {
+    let mut board = blank(alloc)?;
+    plain_plays(rt, alloc, &mut board, steps)
 }
