@@ -1,0 +1,5 @@
+use Rattle.std.proofs.Common.{rules}
+use Rattle.bb_words.proofs.given.Given.given_once.Goals as goal
+
+pub returns-in-Cause : goal.returns-in-Cause
+returns-in-Cause c = search rules
