@@ -1,0 +1,5 @@
+use Rattle.std.proofs.Common.{rules}
+use Rattle.bb_flash.proofs.mem_board.MemBoard.fail.Goals as goal
+
+pub returns : goal.returns
+returns c = search rules
