@@ -3,3 +3,6 @@ use Rattle.bb_words.proofs.given.set_in.Goals as goal
 
 pub returns-in_default : goal.returns-in_default
 returns-in_default c = search rules
+
+pub returns : goal.returns
+returns c = search rules
