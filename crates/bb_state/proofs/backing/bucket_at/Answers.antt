@@ -1,4 +1,4 @@
-use Rattle.std.proofs.Common.{◌≤◌, arith, sym, ap, subst}
+use Rattle.std.proofs.Common.{◌≤◌, arith, sym, ap, subst, rules}
 use Rattle.bb_flash.specs.declared.region.Region.{Region}
 use Rattle.bb_layout.specs.Copies.{room_for, spacing}
 use Rattle.bb_layout.specs.Facts.{is_stride}
@@ -31,3 +31,6 @@ of-requires-in-Circular-clause-some c =
     block_at_copy c.args.layout.now.storage c.args.layout.now.geometry c.args.layout.now.region c.args.layout.now.copies (laid_len (fields_of c.args.layout.now)) c.args.copy facts.geometry_is facts.copied
     (ap is_stride c.in-Circular.is) (ap (spacing c.args.layout.now.geometry) c.in-Circular.is) in
     subst (λ (region : Region). c.args.layout.now.geometry.page ≤ region.size) (sym c.region-region.ensures.value) at.page_most
+
+pub returns-in_ok-of-in-Circular : goal.returns-in_ok-of-in-Circular
+returns-in_ok-of-in-Circular c = search rules

@@ -1,4 +1,4 @@
-use Rattle.std.proofs.Common.{◌∙◌, ℕ, List, Option, None, Some, Err, ap, refl, sym, subst}
+use Rattle.std.proofs.Common.{◌∙◌, ℕ, List, Option, None, Some, Err, ap, refl, sym, subst, rules}
 use Rattle.std.proofs.lemmas.Result.{err_from_is_err_and}
 use Rattle.std.specs.Option.{option_copied}
 use Rattle.bb_tool.specs.Filing.{IsKeyRead}
@@ -31,3 +31,6 @@ pub returns-in-None-clause-read : goal.returns-in-None-clause-read
 returns-in-None-clause-read g c =
     key_missing c.args.format (sym c.takes_key.ensures ∙ c.if-not-takes_key.false) (option_copied c.args.file)
     (g.N.Files.folder c.args.files.now) (λ (key : Option (List ℕ)). key) (ap option_copied c.in-None.is)
+
+pub returns-in-None-clause-files : goal.returns-in-None-clause-files
+returns-in-None-clause-files g c = search rules

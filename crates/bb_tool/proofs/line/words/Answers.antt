@@ -1,3 +1,4 @@
+use Rattle.std.proofs.Common.{rules}
 use Rattle.bb_tool.proofs.Lines.{variable_made}
 use Rattle.bb_tool.proofs.line.words.Goals as goal
 
@@ -6,3 +7,6 @@ returns-in-BadVariable c =
     variable_made c.format-in-BadVariable.result c.args.refusal.now c.as_str.result.now
     c.variable_words.result.now c.in-BadVariable.name c.in-BadVariable.cause c.in-BadVariable.is
     c.as_str.ensures c.variable_words.ensures c.format-in-BadVariable.ensures.ok
+
+pub returns-in-BadWords : goal.returns-in-BadWords
+returns-in-BadWords c = search rules
