@@ -5,27 +5,25 @@ use std::alloc::Global;
 use std::process::Abort;
 use std::test::Fail;
 
-mod blocks;
 mod cut_log;
 mod each_fault;
 mod each_fault_in_blocks;
-mod large;
+mod entries;
+mod faults;
 mod mended;
 mod old_record;
+mod rig;
 mod sets;
-mod strides;
+mod steps;
 
-fn words(alloc: Global, all: &[&str]) -> Result<TextList, Fail> {
+use rig::Rig;
+
+fn words(alloc: Global, line: &str) -> Result<TextList, Fail> {
     let mut list = TextList::none(alloc);
-    add_words(alloc, &mut list, all)?;
-    Ok(list)
-}
-
-fn add_words(alloc: Global, list: &mut TextList, all: &[&str]) -> Result<(), Fail> {
-    for word in all {
+    for word in line.split(' ') {
         list.push(Text::of(alloc, word)?)?;
     }
-    Ok(())
+    Ok(list)
 }
 
 fn files_of(alloc: Global, text: &str) -> Result<MemFiles, Fail> {
@@ -34,16 +32,16 @@ fn files_of(alloc: Global, text: &str) -> Result<MemFiles, Fail> {
     Ok(files)
 }
 
-// A session of these words, where the file `a.dts` has this text.
+// A session of the words of this line, where the file `a.dts` has the rig's source.
 fn session(
     alloc: Global,
-    text: &str,
-    all: &[&str],
+    rig: Rig,
+    line: &str,
     device: &mut MemBoard,
     out: &mut MemSink,
 ) -> Result<Status, Fail> {
-    let mut files = files_of(alloc, text)?;
-    let list = words(alloc, all)?;
+    let mut files = files_of(alloc, rig.source())?;
+    let list = words(alloc, line)?;
     Ok(run(alloc, &list, &mut files, device, out))
 }
 
@@ -51,14 +49,14 @@ fn session(
 fn says(
     rt: &impl Abort,
     alloc: Global,
-    text: &str,
-    all: &[&str],
+    rig: Rig,
+    line: &str,
     device: &mut MemBoard,
     status: Status,
     sends: &str,
 ) -> Result<(), Fail> {
     let mut out = MemSink::with_room(alloc, 100)?;
-    let answer = session(alloc, text, all, device, &mut out)?;
+    let answer = session(alloc, rig, line, device, &mut out)?;
     answers(rt, answer, status, sends);
     sent(rt, &out, sends);
     Ok(())
