@@ -1,4 +1,5 @@
 pub mod Capped
+pub mod Counts
 pub mod Division
 pub mod Entries
 pub mod Examples

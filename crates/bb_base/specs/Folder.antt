@@ -1,13 +1,12 @@
 -- What is known of files by name.
-use Rattle.std.specs.Prelude.{◌≡◌, ℕ, Bool, true, false, List, [], ◌∷◌, ◌++◌, length, drop, nat_eq, nat_lt, filter_map, Option, Some, None, unwrap_or, option_and_then, Result, Ok, Err, IsTrue, if◌then◌else◌}
-use Rattle.std.specs.Bool.{OnFalse}
+use Rattle.std.specs.Prelude.{◌≡◌, ℕ, Bool, true, false, List, [], ◌∷◌, ◌++◌, length, drop, nat_eq, nat_lt, filter_map, Option, Some, None, unwrap_or, option_and_then, Result, Ok, Err, if◌then◌else◌}
 use Rattle.std.specs.Cmp.Lexicographic.{slice_cmp}
 use Rattle.std.specs.FinMap.{FinMap, get, keys}
 use Rattle.std.specs.List.{list_any, starts_with}
 use Rattle.std.specs.Ordering.{nat_cmp}
 use Rattle.std.specs.Path.{rsplit_once, slash}
 use Rattle.std.specs.Str.{bytes_eq}
-use Rattle.bb_base.specs.Faults.{HasCause}
+use Rattle.bb_base.specs.Faults.{counted}
 use Rattle.bb_base.specs.declared.files.FileFail.{FileFail}
 use Rattle.bb_base.specs.declared.files.FileFail.TheVariants.{Fault, TooLong, NoMemory}
 
@@ -63,10 +62,6 @@ is_fault (Err Fault) = true
 is_fault (Err TooLong) = false
 is_fault (Err NoMemory) = false
 
--- a count of faults never falls, and a call meets a fault only where it rose
+-- a fault is counted once, and no other answer changes the count
 abbrev pub CountsFaults : Result Bool FileFail → Folder → Folder → Type 0
-CountsFaults result before now = HasCause before.faults now.faults (IsTrue (is_fault result))
-
--- it rises only where a call meets a fault
-abbrev pub CountsNoOther : Result Bool FileFail → Folder → Folder → Type 0
-CountsNoOther result before now = OnFalse (is_fault result) (now.faults ≡ before.faults)
+CountsFaults result before now = now.faults ≡ counted (is_fault result) before.faults

@@ -2,7 +2,7 @@ ghost use Rattle.std.specs.Prelude.{◌≡◌, ◌+◌, ◌≤◌, ◌++◌, len
 ghost use Rattle.std.specs.Prelude.{OnErr, OnOk};
 ghost use Rattle.std.specs.Bool.{OnFalse};
 ghost use Rattle.std.specs.Option.{ForSome};
-ghost use Rattle.bb_base.specs.Folder.{CountsFaults, CountsNoOther, Folder, file_limit, file_of};
+ghost use Rattle.bb_base.specs.Folder.{CountsFaults, Folder, file_limit, file_of};
 ghost use Rattle.bb_base.specs.Folder.{file_read, has_folder, names_in};
 ghost use Rattle.bb_base.specs.declared.files.FileFail.TheVariants.{TooLong};
 
@@ -51,10 +51,9 @@ pub trait Files {
         ensures missing { IfOk result (λ there. OnFalse there (out.new ≡ out.old)) }
         ensures err { OnErr result (out.new ≡ out.old) }
 
-        // A fault is counted, and no other answer changes the count.
+        // A fault is counted once, and no other answer changes the count.
         ensures told { (folder self.new).told ≡ (folder self.old).told }
-        ensures cause { CountsFaults result (folder self.old) (folder self.new) }
-        ensures calm { CountsNoOther result (folder self.old) (folder self.new) };
+        ensures counts { CountsFaults result (folder self.old) (folder self.new) };
 
     /// Appends the names in a folder in rising order of their bytes, each without the folder's name and the `/` behind
     /// it, or answers false where the folder isn't there: where no name begins with the folder's name and a `/`. A
@@ -72,8 +71,7 @@ pub trait Files {
         ensures missing { IfOk result (λ there. OnFalse there (out.new ≡ out.old)) }
         ensures err { OnErr result (out.new ≡ out.old) }
 
-        // A fault is counted, and no other answer changes the count.
+        // A fault is counted once, and no other answer changes the count.
         ensures told { (folder self.new).told ≡ (folder self.old).told }
-        ensures cause { CountsFaults result (folder self.old) (folder self.new) }
-        ensures calm { CountsNoOther result (folder self.old) (folder self.new) };
+        ensures counts { CountsFaults result (folder self.old) (folder self.new) };
 }

@@ -1,10 +1,9 @@
 ghost use Rattle.std.specs.Prelude.{◌≡◌, ◌+◌, ◌≤◌, ◌++◌, ◌∷◌, [], length, take, IfOk, IsErrOf};
-ghost use Rattle.std.specs.Prelude.{IsTrue, OnErr, OnOk, Ok, Err, option_map};
+ghost use Rattle.std.specs.Prelude.{OnErr, OnOk, Ok, Err, option_map};
 ghost use Rattle.std.specs.Bool.{OnFalse};
 ghost use Rattle.std.specs.FinMap as map;
 ghost use Rattle.std.specs.Option.{ForSome};
-ghost use Rattle.bb_base.specs.Faults.{HasCause};
-ghost use Rattle.bb_base.specs.Folder.{CountsFaults, CountsNoOther, file_limit, file_of, file_read};
+ghost use Rattle.bb_base.specs.Folder.{CountsFaults, file_limit, file_of, file_read};
 ghost use Rattle.bb_base.specs.Folder.{has_folder, is_fault, is_under, name_in, names_in};
 ghost use Rattle.bb_base.specs.MemFiles.{after_call, folder_of, refuses_next};
 ghost use Rattle.bb_base.specs.declared.files.FileFail.TheVariants.{TooLong};
@@ -85,7 +84,6 @@ impl MemFiles {
     // Counts a call, and answers whether it is to fail.
     fn is_refused(&mut self) -> bool
         ensures answer { result ≡ refuses_next self.old }
-        ensures cause { HasCause self.old.faults self.new.faults (IsTrue result) }
         ensures kept { self.new ≡ after_call self.old }
     {
         let refused = is_planned(self.planned.as_slice(), self.calls);
@@ -155,8 +153,7 @@ impl Files for MemFiles {
         ensures missing { IfOk result (λ there. OnFalse there (out.new ≡ out.old)) }
         ensures err { OnErr result (out.new ≡ out.old) }
         ensures told { (folder_of self.new).told ≡ (folder_of self.old).told }
-        ensures cause { CountsFaults result (folder_of self.old) (folder_of self.new) }
-        ensures calm { CountsNoOther result (folder_of self.old) (folder_of self.new) }
+        ensures counts { CountsFaults result (folder_of self.old) (folder_of self.new) }
 
         // It meets a fault exactly where it is planned to.
         ensures exact { is_fault result ≡ refuses_next self.old }
@@ -185,8 +182,7 @@ impl Files for MemFiles {
         ensures missing { IfOk result (λ there. OnFalse there (out.new ≡ out.old)) }
         ensures err { OnErr result (out.new ≡ out.old) }
         ensures told { (folder_of self.new).told ≡ (folder_of self.old).told }
-        ensures cause { CountsFaults result (folder_of self.old) (folder_of self.new) }
-        ensures calm { CountsNoOther result (folder_of self.old) (folder_of self.new) }
+        ensures counts { CountsFaults result (folder_of self.old) (folder_of self.new) }
 
         // It meets a fault exactly where it is planned to.
         ensures exact { is_fault result ≡ refuses_next self.old }

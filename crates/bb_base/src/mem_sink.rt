@@ -1,5 +1,5 @@
-ghost use Rattle.std.specs.Prelude.{◌≡◌, ◌++◌, ◌∷◌, [], IfOk, IsErr, OnErr, OnOk, is_err};
-ghost use Rattle.bb_base.specs.Faults.{HasCause};
+ghost use Rattle.std.specs.Prelude.{◌≡◌, ◌++◌, ◌∷◌, [], IfOk, OnErr, OnOk, is_err};
+ghost use Rattle.bb_base.specs.Faults.{counted};
 ghost use Rattle.bb_base.specs.MemSink.{after_write, outlet_of, refuses_next};
 ghost use Rattle.bb_base.specs.Outlet.{Sends, SendsFront};
 
@@ -82,7 +82,7 @@ impl Sink for MemSink {
         ensures sent { OnOk result (Sends piece.now (outlet_of self.old) (outlet_of self.new)) }
         ensures front { OnErr result
             (SendsFront piece.now (outlet_of self.old) (outlet_of self.new)) }
-        ensures cause { HasCause self.old.faults self.new.faults (IsErr result) }
+        ensures counts { self.new.faults ≡ counted (is_err result) self.old.faults }
 
         // It fails exactly where it is planned to or the piece doesn't fit, and then sends nothing.
         ensures exact { is_err result ≡ refuses_next self.old piece.now }

@@ -1,5 +1,5 @@
-ghost use Rattle.std.specs.Prelude.{IsErr, OnErr, OnOk};
-ghost use Rattle.bb_base.specs.Faults.{HasCause};
+ghost use Rattle.std.specs.Prelude.{◌≡◌, OnErr, OnOk, is_err};
+ghost use Rattle.bb_base.specs.Faults.{counted};
 ghost use Rattle.bb_base.specs.Outlet.{Outlet, Sends, SendsFront};
 
 use crate::Failed;
@@ -9,9 +9,11 @@ pub trait Sink {
     /// What was sent, where the output tells it, and its count of faults.
     ghost outlet: { Self → Outlet };
 
-    /// Sends the whole piece, or fails after some front of it.
+    /// Sends the whole piece, or fails after some front of it. A call that fails is counted once, and one
+    /// that answers Ok not at all; the count stands still at 2^64 - 1.
     fn write(&mut self, piece: &[u8]) -> Result<(), Failed>
         ensures sent { OnOk result (Sends piece.now (outlet self.old) (outlet self.new)) }
         ensures front { OnErr result (SendsFront piece.now (outlet self.old) (outlet self.new)) }
-        ensures cause { HasCause (outlet self.old).faults (outlet self.new).faults (IsErr result) };
+        ensures counts { (outlet self.new).faults
+            ≡ counted (is_err result) (outlet self.old).faults };
 }

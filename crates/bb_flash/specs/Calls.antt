@@ -1,7 +1,7 @@
 -- What each call of a flash leaves of what the device tells.
-use Rattle.std.specs.Prelude.{◌≡◌, ℕ, ◌+◌, ◌*◌, ◌/◌, ◌<◌, ◌≤◌, ◌%◌, ◌⊎◌, Bool, List, [], ◌∷◌, ◌++◌, length, replicate, slice_index, slice_set, if◌then◌else◌, Result, IsErr, is_ok, option_map}
+use Rattle.std.specs.Prelude.{◌≡◌, ℕ, ◌+◌, ◌*◌, ◌/◌, ◌<◌, ◌≤◌, ◌%◌, ◌⊎◌, Bool, List, [], ◌∷◌, ◌++◌, length, replicate, slice_index, slice_set, if◌then◌else◌, Result, is_err, is_ok, option_map}
 use Rattle.std.specs.Option.{ForSome}
-use Rattle.bb_base.specs.Faults.{HasCause}
+use Rattle.bb_base.specs.Faults.{counted}
 use Rattle.bb_flash.specs.declared.geometry.Geometry.{Geometry}
 use Rattle.bb_flash.specs.declared.health.Health.TheVariants.{Fine}
 use Rattle.bb_flash.specs.declared.plan.Plan.{Plan}
@@ -62,13 +62,14 @@ pub record ChangesOnly (at : ℕ) (bytes : List ℕ) (from to : Device) : Type 0
       ForSome to.told
       (λ after. IsUntouched before after ⊎ IsTornBy from.geometry.page at bytes before after))
 
--- a read, whatever it answers: it is counted where it answers Ok, and changes nothing
+-- a read, whatever it answers: it is counted where it answers Ok, as a fault where it fails, and
+-- changes nothing
 pub record IsReadCall {T E : Type 0} (result : Result T E) (before after : Device) : Type 0 where
   pub told : after.told ≡ option_map (told_after_read (is_ok result)) before.told
   pub later : IsLater before after
   pub whole : IsDevice after
-  pub faults : HasCause before.faults after.faults (IsErr result)
-  pub read_faults : HasCause before.read_faults after.read_faults (IsErr result)
+  pub faults : after.faults ≡ counted (is_err result) before.faults
+  pub read_faults : after.read_faults ≡ counted (is_err result) before.read_faults
   pub start_faults : after.start_faults ≡ before.start_faults
 
 -- a program or an erase that is to write these bytes at a place, whatever it answers: nothing but
@@ -82,7 +83,7 @@ pub record IsChangeCall
   pub later : IsLater before after
   pub starts : LeavesStarts before after
   pub whole : IsDevice after
-  pub faults : HasCause before.faults after.faults (IsErr result)
+  pub faults : after.faults ≡ counted (is_err result) before.faults
   pub read_faults : after.read_faults ≡ before.read_faults
 
 -- bytes may be programmed at a place: whole pages inside the device, and blank ones where it is

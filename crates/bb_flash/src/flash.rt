@@ -8,7 +8,8 @@ use crate::{Geometry, Health};
 use bb_base::Failed;
 
 /// A flash device. It means a `Device`: its geometry, what it holds, where it tells that, and counts of faults,
-/// which are 64-bit numbers that never fall and stand still at 2^64 - 1.
+/// which are 64-bit numbers that stand still at 2^64 - 1. A call that fails raises its counts by one, and one
+/// that answers Ok raises none.
 pub trait Flash {
     ghost device: { Self → Device };
 

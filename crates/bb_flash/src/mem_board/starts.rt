@@ -1,13 +1,12 @@
 ghost use Rattle.std.specs.Prelude.{◌≡◌, ◌==◌, ◌+◌, ◌-◌, ◌≤◌, ◌++◌, ◌∷◌, [], length, option_map};
-ghost use Rattle.std.specs.Prelude.{slice_get, IsErr, IsTrue, OnErr, OnOk};
+ghost use Rattle.std.specs.Prelude.{slice_get, is_err, IsErr, IsTrue, OnErr, OnOk};
 ghost use Rattle.std.specs.Bool.{OnFalse};
 ghost use Rattle.std.specs.List.{list_any};
 ghost use Rattle.std.specs.Option.{option_copied};
-ghost use Rattle.bb_base.specs.Faults.{HasCause};
 ghost use Rattle.bb_flash.specs.Calls.{told_after_start};
 ghost use Rattle.bb_flash.specs.Cuts.{IsLater};
 ghost use Rattle.bb_flash.specs.Device.{IsDevice, StartKeeps};
-ghost use Rattle.bb_base.specs.Faults.{one_more};
+ghost use Rattle.bb_base.specs.Faults.{counted, one_more};
 ghost use Rattle.bb_flash.specs.Memory as memory;
 ghost use Rattle.bb_flash.specs.Memory.{device_of};
 
@@ -112,7 +111,8 @@ impl Board for MemBoard {
         ensures keeps { StartKeeps (device_of self.old) (device_of self.new) }
         ensures later { IsLater (device_of self.old) (device_of self.new) }
         ensures whole { IsDevice (device_of self.new) }
-        ensures start_faults { HasCause self.old.start_faults self.new.start_faults (IsErr result) }
+        ensures start_faults { self.new.start_faults
+            ≡ counted (is_err result) self.old.start_faults }
     {
         if self.refuses_start() {
             return Err(self.count_failed_start());
