@@ -4,6 +4,7 @@ pub mod Erases
 pub mod Examples
 pub mod OneBlockCalls
 pub mod OneCall
+pub mod Making
 pub mod Outcomes
 pub mod Pages
 pub mod Programs

@@ -16,7 +16,7 @@ use Rattle.bb_flash.proofs.Tearing.{Torn-refl}
 use Rattle.bb_bucket.specs.Calls.{ChangesWithin, EachCall, EndsTorn, ErasesWhere, IsQuiet, IsTornLast, Leaves, but_reads, erases_after, told_but_reads}
 use Rattle.bb_bucket.specs.Kind.{part_of}
 
-some_of : {T : Type 0} (o : Option T) → is_some o ≡ true → (x : T) × (o ≡ Some x)
+pub some_of : {T : Type 0} (o : Option T) → is_some o ≡ true → (x : T) × (o ≡ Some x)
 some_of None e = absurd cc
 some_of (Some x) e = (x, refl)
 
@@ -107,7 +107,7 @@ ends_joined one two three h first_run second_run = record {
 }
 
 -- a run that changed nothing but the number of reads
-quiet_told :
+pub quiet_told :
     (from to : Option Told) (first last : Told) →
     option_map but_reads to ≡ option_map but_reads from → from ≡ Some first → to ≡ Some last →
     IsUntouched first last

@@ -1,6 +1,7 @@
 -- What a bucket's calls make of a device.
-use Rattle.std.specs.Prelude.{◌≡◌, ℕ, ◌+◌, ◌/◌, ◌≤◌, ◌⊎◌, Bool, List, [], ◌∷◌, ◌++◌, length, take, slice_get, slice_index, slice_set, Contains, Option, Some, None, option_map, IsTrue, if◌then◌else◌}
+use Rattle.std.specs.Prelude.{◌≡◌, ℕ, ◌+◌, ◌/◌, ◌≤◌, ◌⊎◌, Bool, false, List, [], ◌∷◌, ◌++◌, length, take, slice_get, slice_index, slice_set, Contains, Option, Some, None, option_map, Result, IsErr, OnOk, IsTrue, if◌then◌else◌}
 use Rattle.std.specs.Option.{ForSome}
+use Rattle.bb_base.specs.Faults.{one_more}
 use Rattle.bb_flash.specs.declared.geometry.Geometry.{Geometry}
 use Rattle.bb_flash.specs.declared.region.Region.{Region}
 use Rattle.bb_flash.specs.Calls.{IsUntouched}
@@ -147,3 +148,34 @@ pub record ErasesWhere (region : Region) (f : Image → Bool) (from to : Device)
       (λ before.
       let erased = f (part_of from.geometry.page region before) in
       erases to ≡ option_map (erases_after from.geometry region erased) (erases from))
+
+-- how many flash calls of a write change the device: one that programs, and one before it that
+-- erases where the kind says so
+abbrev pub calls_of_write : BucketKind → List ℕ → Image → ℕ
+calls_of_write kind rec old = if kind.write_erases rec old then 2 else 1
+
+-- How many flash calls a call made that changed the device, or failed to: as many as f says of what
+-- stood in the region where it answered Ok, and else at most so many.
+pub record MakesCalls
+    {T E : Type 0} (result : Result T E) (region : Region) (f : Image → ℕ) (from to : Device)
+    : Type 0 where
+  pub most :
+      ForSome from.told
+      (λ first.
+      ForSome to.told
+      (λ last. moment last ≤ moment first + f (part_of from.geometry.page region first.image)))
+  pub done :
+      OnOk result
+      (ForSome from.told
+      (λ first.
+      ForSome to.told
+      (λ last. moment last ≡ moment first + f (part_of from.geometry.page region first.image))))
+
+-- The call failed since the look that it began with did: it didn't know the place of a record, and
+-- nothing changed.
+pub record FailsToLook
+    {T E : Type 0} (knows_place : Bool) (result : Result T E) (from to : Device) : Type 0 where
+  pub unknown : knows_place ≡ false
+  pub fails : IsErr result
+  pub quiet : IsQuiet from to
+  pub read_faults : to.read_faults ≡ one_more from.read_faults

@@ -1,9 +1,9 @@
-ghost use Rattle.std.specs.Prelude.{◌≡◌, ◌≤◌, ◌+◌, IsErr, IsTrue, OnOk, length};
-ghost use Rattle.bb_base.specs.Faults.{HasCause};
+ghost use Rattle.std.specs.Prelude.{◌≡◌, ◌≤◌, ◌+◌, IsTrue, OnOk, is_err, length};
+ghost use Rattle.bb_base.specs.Faults.{counted};
 ghost use Rattle.bb_flash.specs.Device.{reads};
 ghost use Rattle.bb_bucket.specs.Blocks.{is_block_of};
 ghost use Rattle.bb_bucket.specs.Calls.{ChangesWithin, EachCall, ErasesWhere, IsVoidCall};
-ghost use Rattle.bb_bucket.specs.Calls.{IsWriteCall, Leaves};
+ghost use Rattle.bb_bucket.specs.Calls.{IsWriteCall, Leaves, MakesCalls, calls_of_write};
 ghost use Rattle.bb_bucket.specs.Front.{front_len};
 ghost use Rattle.bb_bucket.specs.OneBlock.{one_block_kind};
 
@@ -33,8 +33,11 @@ pub(crate) fn write_block<F: Flash>(
     ensures erases { OnOk result (ErasesWhere block.region
         ((one_block_kind block).write_erases rec.now)
         (F.device flash.old) (F.device flash.new)) }
-    ensures faults { HasCause (F.device flash.old).faults
-        (F.device flash.new).faults (IsErr result) }
+    ensures made { MakesCalls result block.region (calls_of_write (one_block_kind block) rec.now)
+        (F.device flash.old) (F.device flash.new) }
+    ensures faults { (F.device flash.new).faults
+        ≡ counted (is_err result) (F.device flash.old).faults }
+    ensures read_faults { (F.device flash.new).read_faults ≡ (F.device flash.old).read_faults }
     ensures reads { reads (F.device flash.new) ≡ reads (F.device flash.old) }
 {
     erase_block(flash, block)?;
@@ -56,8 +59,11 @@ pub(crate) fn void_block<F: Flash>(flash: &mut F, block: Block) -> Result<(), Fa
     ensures erases { OnOk result (ErasesWhere block.region
         (λ region. (one_block_kind block).void_erases)
         (F.device flash.old) (F.device flash.new)) }
-    ensures faults { HasCause (F.device flash.old).faults
-        (F.device flash.new).faults (IsErr result) }
+    ensures made { MakesCalls result block.region (λ region. 1)
+        (F.device flash.old) (F.device flash.new) }
+    ensures faults { (F.device flash.new).faults
+        ≡ counted (is_err result) (F.device flash.old).faults }
+    ensures read_faults { (F.device flash.new).read_faults ≡ (F.device flash.old).read_faults }
     ensures reads { reads (F.device flash.new) ≡ reads (F.device flash.old) }
 {
     erase_block(flash, block)

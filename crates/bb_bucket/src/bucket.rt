@@ -1,6 +1,6 @@
-ghost use Rattle.std.specs.Prelude.{◌≡◌, ◌≤◌, IfOk, IfSome, IsErr, IsTrue, OnOk, length};
+ghost use Rattle.std.specs.Prelude.{◌≡◌, ◌≤◌, ◌⊎◌, IfOk, IfSome, IsTrue, OnOk, is_err, length};
 ghost use Rattle.std.specs.Option.{ForSome};
-ghost use Rattle.bb_base.specs.Faults.{HasCause};
+ghost use Rattle.bb_base.specs.Faults.{counted};
 ghost use Rattle.bb_flash.specs.Device.{content, reads};
 
 use bb_base::Failed;
@@ -17,11 +17,13 @@ pub struct Found {
 
 /// A region of a device that holds one record. All calls need a flash of a geometry for which the
 /// bucket was made, and a bucket that agrees with what its region holds; after each call, and each
-/// that failed, it agrees again. A call fails only where the flash's count of faults rose.
+/// that failed, it agrees again. A call that fails raises the flash's count of faults by one, and
+/// one that answers Ok leaves it.
 pub trait Bucket {
     ghost use Rattle.bb_bucket.specs.Kind.{Holding, IsKind, part_of};
     ghost use Rattle.bb_bucket.specs.Calls.{Agrees, ChangesWithin, EachCall, ErasesWhere, IsFound};
-    ghost use Rattle.bb_bucket.specs.Calls.{IsQuiet, IsVoidCall, IsWriteCall, Leaves};
+    ghost use Rattle.bb_bucket.specs.Calls.{IsQuiet, IsVoidCall, IsWriteCall, Leaves, MakesCalls};
+    ghost use Rattle.bb_bucket.specs.Calls.{FailsToLook, calls_of_write};
 
     ghost holding: { Self → Holding };
 
@@ -34,8 +36,8 @@ pub trait Bucket {
         ensures { result ≡ (holding self.now).kind.room };
 
     /// Looks for the record, and leaves it at the front of `out`, which has `room` bytes. It
-    /// changes nothing on the device. It fails only where both counts of faults rose; what `out`
-    /// then holds isn't said.
+    /// changes nothing on the device. Where it fails both counts of faults rose by one, and what
+    /// `out` then holds isn't said.
     fn read<F: Flash>(&mut self, flash: &mut F, out: &mut [u8]) -> Result<Found, Failed>
         requires serves { IsTrue ((holding self.old).kind.serves (F.device flash.old).geometry) }
         requires agreed { Agrees (holding self.old) (F.device flash.old) }
@@ -47,17 +49,18 @@ pub trait Bucket {
         ensures fits { IfOk result (λ found.
             IfSome found.len (λ len. len ≤ (holding self.old).kind.room)) }
         ensures quiet { IsQuiet (F.device flash.old) (F.device flash.new) }
-        ensures faults { HasCause (F.device flash.old).faults
-            (F.device flash.new).faults (IsErr result) }
-        ensures read_faults { HasCause (F.device flash.old).read_faults
-            (F.device flash.new).read_faults (IsErr result) }
+        ensures faults { (F.device flash.new).faults
+            ≡ counted (is_err result) (F.device flash.old).faults }
+        ensures read_faults { (F.device flash.new).read_faults
+            ≡ counted (is_err result) (F.device flash.old).read_faults }
         ensures kind { (holding self.new).kind ≡ (holding self.old).kind }
         ensures agrees { Agrees (holding self.new) (F.device flash.new) }
         ensures placed { OnOk result (IsTrue (holding self.new).knows_place) };
 
-    /// Writes a record of at most `room` bytes, which outlives a cut once the call answered Ok. A
-    /// cut while it goes on, and a call that fails, change nothing outside the ranges that the
-    /// bucket's kind names, which lie in the region.
+    /// Writes a record of at most `room` bytes, which outlives a cut once the call answered Ok: by
+    /// one program, and one erase before it where the bucket's kind says so. A cut while it goes
+    /// on, and a call that fails, change nothing outside the ranges that the kind names, which lie
+    /// in the region.
     fn write<F: Flash>(&mut self, flash: &mut F, rec: &[u8]) -> Result<(), Failed>
         requires serves { IsTrue ((holding self.old).kind.serves (F.device flash.old).geometry) }
         requires agreed { Agrees (holding self.old) (F.device flash.old) }
@@ -73,17 +76,23 @@ pub trait Bucket {
         ensures erases { OnOk result (ErasesWhere (holding self.old).kind.region
             ((holding self.old).kind.write_erases rec.now)
             (F.device flash.old) (F.device flash.new)) }
-        ensures faults { HasCause (F.device flash.old).faults
-            (F.device flash.new).faults (IsErr result) }
+        ensures made { MakesCalls result (holding self.old).kind.region
+            (calls_of_write (holding self.old).kind rec.now)
+            (F.device flash.old) (F.device flash.new) }
+        ensures faults { (F.device flash.new).faults
+            ≡ counted (is_err result) (F.device flash.old).faults }
+        ensures read_faults { ((F.device flash.new).read_faults ≡ (F.device flash.old).read_faults)
+            ⊎ FailsToLook (holding self.old).knows_place result
+            (F.device flash.old) (F.device flash.new) }
         ensures reads { IsTrue (holding self.old).knows_place →
             reads (F.device flash.new) ≡ reads (F.device flash.old) }
         ensures kind { (holding self.new).kind ≡ (holding self.old).kind }
         ensures agrees { Agrees (holding self.new) (F.device flash.new) }
         ensures placed { OnOk result (IsTrue (holding self.new).knows_place) };
 
-    /// Makes the region hold no record, which outlives a cut once the call answered Ok. A cut while
-    /// it goes on, and a call that fails, change nothing outside the ranges that the bucket's kind
-    /// names, which lie in the region.
+    /// Makes the region hold no record, which outlives a cut once the call answered Ok, by one
+    /// program or erase. A cut while it goes on, and a call that fails, change nothing outside the
+    /// ranges that the bucket's kind names, which lie in the region.
     fn void<F: Flash>(&mut self, flash: &mut F) -> Result<(), Failed>
         requires serves { IsTrue ((holding self.old).kind.serves (F.device flash.old).geometry) }
         requires agreed { Agrees (holding self.old) (F.device flash.old) }
@@ -97,8 +106,11 @@ pub trait Bucket {
         ensures erases { OnOk result (ErasesWhere (holding self.old).kind.region
             (λ region. (holding self.old).kind.void_erases)
             (F.device flash.old) (F.device flash.new)) }
-        ensures faults { HasCause (F.device flash.old).faults
-            (F.device flash.new).faults (IsErr result) }
+        ensures made { MakesCalls result (holding self.old).kind.region (λ region. 1)
+            (F.device flash.old) (F.device flash.new) }
+        ensures faults { (F.device flash.new).faults
+            ≡ counted (is_err result) (F.device flash.old).faults }
+        ensures read_faults { (F.device flash.new).read_faults ≡ (F.device flash.old).read_faults }
         ensures kind { (holding self.new).kind ≡ (holding self.old).kind }
         ensures agrees { Agrees (holding self.new) (F.device flash.new) }
         ensures placed { OnOk result (IsTrue (holding self.new).knows_place) };

@@ -1,6 +1,6 @@
-ghost use Rattle.std.specs.Prelude.{◌≡◌, ◌≤◌, ◌<◌, ◌+◌, ◌-◌, ◌^◌, IfOk, IfSome, IsErr, length};
+ghost use Rattle.std.specs.Prelude.{◌≡◌, ◌≤◌, ◌<◌, ◌+◌, ◌-◌, ◌^◌, IfOk, IfSome, is_err, length};
 ghost use Rattle.std.specs.Option.{ForSome};
-ghost use Rattle.bb_base.specs.Faults.{HasCause};
+ghost use Rattle.bb_base.specs.Faults.{counted};
 ghost use Rattle.bb_flash.specs.Device.{content};
 ghost use Rattle.bb_bucket.specs.Calls.{IsFoundAs, IsQuiet};
 ghost use Rattle.bb_bucket.specs.Front.{found_of, front_candidate, front_is_worn, front_len};
@@ -36,10 +36,10 @@ pub(crate) fn read_record<F: Flash>(
         IsFoundAs (front_candidate page part) (front_is_worn page part) out.new found)) }
     ensures fits { IfOk result (λ found. IfSome found.len (λ len. len ≤ region.size - front_len)) }
     ensures quiet { IsQuiet (F.device flash.old) (F.device flash.new) }
-    ensures faults { HasCause (F.device flash.old).faults
-        (F.device flash.new).faults (IsErr result) }
-    ensures read_faults { HasCause (F.device flash.old).read_faults
-        (F.device flash.new).read_faults (IsErr result) }
+    ensures faults { (F.device flash.new).faults
+        ≡ counted (is_err result) (F.device flash.old).faults }
+    ensures read_faults { (F.device flash.new).read_faults
+        ≡ counted (is_err result) (F.device flash.old).read_faults }
 {
     let mut front = [0u8; FRONT_LEN as usize];
     let front_health = read_part(flash, region, 0, &mut front)?;

@@ -1,12 +1,12 @@
-ghost use Rattle.std.specs.Prelude.{◌≡◌, ◌≤◌, ◌<◌, ◌+◌, ◌%◌, ◌^◌, IfOk, IsErr, IsTrue, OnOk};
+ghost use Rattle.std.specs.Prelude.{◌≡◌, ◌≤◌, ◌<◌, ◌+◌, ◌%◌, ◌^◌, IfOk, IsTrue, OnOk, is_err};
 ghost use Rattle.std.specs.Prelude.{length, replicate, true};
 ghost use Rattle.std.specs.Option.{ForSome};
-ghost use Rattle.bb_base.specs.Faults.{HasCause};
+ghost use Rattle.bb_base.specs.Faults.{counted};
 ghost use Rattle.bb_flash.specs.Calls.{ChangesOnly};
 ghost use Rattle.bb_flash.specs.Device.{content, erases, reads};
 ghost use Rattle.bb_flash.specs.Image.{IsBlank};
 ghost use Rattle.bb_bucket.specs.Blocks.{blank_block, is_block_of};
-ghost use Rattle.bb_bucket.specs.Calls.{ChangesWithin, ErasesWhere, IsQuiet, Leaves};
+ghost use Rattle.bb_bucket.specs.Calls.{ChangesWithin, ErasesWhere, IsQuiet, Leaves, MakesCalls};
 ghost use Rattle.bb_bucket.specs.Front.{IsPart, put_at};
 ghost use Rattle.bb_bucket.specs.Kind.{LiesOn, part_of};
 
@@ -29,10 +29,10 @@ pub fn read_part<F: Flash>(
         (part_of (F.device flash.old).geometry.page region image)
         region.size at out.new health)) }
     ensures quiet { IsQuiet (F.device flash.old) (F.device flash.new) }
-    ensures faults { HasCause (F.device flash.old).faults
-        (F.device flash.new).faults (IsErr result) }
-    ensures read_faults { HasCause (F.device flash.old).read_faults
-        (F.device flash.new).read_faults (IsErr result) }
+    ensures faults { (F.device flash.new).faults
+        ≡ counted (is_err result) (F.device flash.old).faults }
+    ensures read_faults { (F.device flash.new).read_faults
+        ≡ counted (is_err result) (F.device flash.old).read_faults }
 {
     flash.read(region.at + at, out)
 }
@@ -62,9 +62,11 @@ pub fn program_part<F: Flash>(
     ensures changes { ChangesOnly (region.at + at) bytes.now
         (F.device flash.old) (F.device flash.new) }
     ensures within { ChangesWithin region (F.device flash.old) (F.device flash.new) }
+    ensures made { MakesCalls result region (λ part. 1) (F.device flash.old) (F.device flash.new) }
     ensures erases { erases (F.device flash.new) ≡ erases (F.device flash.old) }
-    ensures faults { HasCause (F.device flash.old).faults
-        (F.device flash.new).faults (IsErr result) }
+    ensures faults { (F.device flash.new).faults
+        ≡ counted (is_err result) (F.device flash.old).faults }
+    ensures read_faults { (F.device flash.new).read_faults ≡ (F.device flash.old).read_faults }
     ensures reads { reads (F.device flash.new) ≡ reads (F.device flash.old) }
 {
     flash.program(region.at + at, bytes)
@@ -79,10 +81,13 @@ pub fn erase_block<F: Flash>(flash: &mut F, block: Block) -> Result<(), Failed>
     ensures changes { ChangesOnly block.region.at (replicate block.region.size 255)
         (F.device flash.old) (F.device flash.new) }
     ensures within { ChangesWithin block.region (F.device flash.old) (F.device flash.new) }
+    ensures made { MakesCalls result block.region (λ part. 1)
+        (F.device flash.old) (F.device flash.new) }
     ensures erases { OnOk result (ErasesWhere block.region (λ part. true)
         (F.device flash.old) (F.device flash.new)) }
-    ensures faults { HasCause (F.device flash.old).faults
-        (F.device flash.new).faults (IsErr result) }
+    ensures faults { (F.device flash.new).faults
+        ≡ counted (is_err result) (F.device flash.old).faults }
+    ensures read_faults { (F.device flash.new).read_faults ≡ (F.device flash.old).read_faults }
     ensures reads { reads (F.device flash.new) ≡ reads (F.device flash.old) }
 {
     flash.erase(block.region.at / block.region.size)

@@ -1,8 +1,8 @@
-ghost use Rattle.std.specs.Prelude.{◌≡◌, ◌≤◌, ◌<◌, ◌+◌, ◌^◌, IsErr, IsTrue, OnOk, length};
-ghost use Rattle.bb_base.specs.Faults.{HasCause};
+ghost use Rattle.std.specs.Prelude.{◌≡◌, ◌≤◌, ◌<◌, ◌+◌, ◌^◌, IsTrue, OnOk, is_err, length};
+ghost use Rattle.bb_base.specs.Faults.{counted};
 ghost use Rattle.bb_flash.specs.Device.{reads};
 ghost use Rattle.bb_bucket.specs.Calls.{ChangesWithin, EachCall, ErasesWhere, IsVoidCall};
-ghost use Rattle.bb_bucket.specs.Calls.{IsWriteCall, Leaves};
+ghost use Rattle.bb_bucket.specs.Calls.{IsWriteCall, Leaves, MakesCalls, calls_of_write};
 ghost use Rattle.bb_bucket.specs.Front.{front_len};
 ghost use Rattle.bb_bucket.specs.Stride.{lies_on, stride_kind};
 
@@ -31,8 +31,11 @@ pub(crate) fn write_record<F: Flash>(
     ensures within { ChangesWithin stride (F.device flash.old) (F.device flash.new) }
     ensures erases { OnOk result (ErasesWhere stride ((stride_kind stride).write_erases rec.now)
         (F.device flash.old) (F.device flash.new)) }
-    ensures faults { HasCause (F.device flash.old).faults
-        (F.device flash.new).faults (IsErr result) }
+    ensures made { MakesCalls result stride (calls_of_write (stride_kind stride) rec.now)
+        (F.device flash.old) (F.device flash.new) }
+    ensures faults { (F.device flash.new).faults
+        ≡ counted (is_err result) (F.device flash.old).faults }
+    ensures read_faults { (F.device flash.new).read_faults ≡ (F.device flash.old).read_faults }
     ensures reads { reads (F.device flash.new) ≡ reads (F.device flash.old) }
 {
     let entry = &mut memory[..FRONT_LEN as usize + rec.len()];
@@ -51,8 +54,11 @@ pub(crate) fn void_record<F: Flash>(flash: &mut F, stride: Region) -> Result<(),
     ensures within { ChangesWithin stride (F.device flash.old) (F.device flash.new) }
     ensures erases { OnOk result (ErasesWhere stride (λ region. (stride_kind stride).void_erases)
         (F.device flash.old) (F.device flash.new)) }
-    ensures faults { HasCause (F.device flash.old).faults
-        (F.device flash.new).faults (IsErr result) }
+    ensures made { MakesCalls result stride (λ region. 1)
+        (F.device flash.old) (F.device flash.new) }
+    ensures faults { (F.device flash.new).faults
+        ≡ counted (is_err result) (F.device flash.old).faults }
+    ensures read_faults { (F.device flash.new).read_faults ≡ (F.device flash.old).read_faults }
     ensures reads { reads (F.device flash.new) ≡ reads (F.device flash.old) }
 {
     program_part(flash, stride, 0, &[0; FRONT_LEN as usize])

@@ -1,4 +1,4 @@
-use Rattle.std.proofs.Common.{◌≡◌, ℕ, ◌+◌, ◌≤◌, length, take, sym, ap, ◌∙◌, subst, arith}
+use Rattle.std.proofs.Common.{◌≡◌, ℕ, ◌+◌, ◌≤◌, length, take, sym, ap, ◌∙◌, subst, arith, rules}
 use Rattle.std.proofs.lemmas.List.{length-take, length-take-le}
 use Rattle.bb_flash.specs.declared.geometry.Geometry.{Geometry}
 use Rattle.bb_flash.specs.Image.{Image, IsBlank}
@@ -12,6 +12,7 @@ use Rattle.bb_bucket.proofs.OneBlockCalls.{one_block_calls, one_block_erase, one
 use Rattle.bb_bucket.proofs.Outcomes.{on_ok_weaker}
 use Rattle.bb_bucket.proofs.Pages.{filled_fits}
 use Rattle.bb_bucket.proofs.Runs.{part_after, within_joined}
+use Rattle.bb_bucket.proofs.Making.{made_behind_one, refused_most}
 use Rattle.bb_bucket.proofs.block_store.write_block.Goals as goal
 
 pub returns-in_err-erase_block-clause-calls : goal.returns-in_err-erase_block-clause-calls
@@ -80,3 +81,14 @@ returns-clause-calls g c =
 
 pub returns-clause-within : goal.returns-clause-within
 returns-clause-within g c = within_joined c.args.block.region (g.F.Flash.device c.args.flash.now) (g.F.Flash.device c.erase_block.new.flash) (g.F.Flash.device c.program_part.new.flash) c.erase_block.ensures.within c.program_part.ensures.within
+
+pub returns-in_err-erase_block-clause-made : goal.returns-in_err-erase_block-clause-made
+returns-in_err-erase_block-clause-made g c =
+    refused_most c.erase_block.result c.from_residual.result c.args.block.region (λ part. 1) (λ part. 2)
+    (g.F.Flash.device c.args.flash.now) (g.F.Flash.device c.erase_block.new.flash) (λ part. omega arith) (search rules) c.erase_block.ensures.made
+
+pub returns-clause-made : goal.returns-clause-made
+returns-clause-made g c =
+    made_behind_one _ c.program_part.result c.args.block.region (g.F.Flash.device c.args.flash.now)
+    (g.F.Flash.device c.erase_block.new.flash) (g.F.Flash.device c.program_part.new.flash)
+    c.erase_block.ensures.within.later c.in_ok-erase_block.ensures.made c.program_part.ensures.made

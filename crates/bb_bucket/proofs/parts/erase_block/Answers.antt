@@ -1,7 +1,10 @@
+use Rattle.std.proofs.Common.{◌/◌}
 use Rattle.bb_bucket.specs.BlockLaws.{block_of}
 use Rattle.bb_bucket.proofs.Erases.{erase_changes, erase_torn, leaves_blank}
 use Rattle.bb_bucket.proofs.OneCall.{ends_torn}
 use Rattle.bb_bucket.proofs.Outcomes.{on_ok_weaker}
+use Rattle.bb_flash.specs.Calls.{told_after_erase}
+use Rattle.bb_bucket.proofs.Making.{erase_adds, made_one}
 use Rattle.bb_bucket.proofs.parts.erase_block.Goals as goal
 
 pub returns-clause-done : goal.returns-clause-done
@@ -34,3 +37,11 @@ returns-clause-within g c =
       starts = call.starts;
       whole = call.whole;
     }
+
+pub returns-clause-made : goal.returns-clause-made
+returns-clause-made g c =
+    let made = c.erase.ensures in
+    let from = g.F.Flash.device c.args.flash.now in
+    let number = c.args.block.region.at / c.args.block.region.size in
+    made_one (told_after_erase from.geometry number) c.erase.result c.args.block.region _ _ from
+    (g.F.Flash.device c.erase.new.self) (erase_adds from.geometry number) made.call.changes made.done

@@ -1,10 +1,12 @@
-use Rattle.std.proofs.Common.{ap, arith, length}
+use Rattle.std.proofs.Common.{◌+◌, ap, arith, length}
 use Rattle.bb_flash.specs.declared.geometry.Geometry.{Geometry}
 use Rattle.bb_bucket.proofs.Erases.{blank_on_device}
 use Rattle.bb_bucket.proofs.OneCall.{ends_torn}
 use Rattle.bb_bucket.proofs.Outcomes.{on_ok_weaker}
 use Rattle.bb_bucket.proofs.Pages.{sum_aligned}
 use Rattle.bb_bucket.proofs.Programs.{leaves_program, torn_in_region}
+use Rattle.bb_flash.specs.Calls.{told_after_program}
+use Rattle.bb_bucket.proofs.Making.{made_one, program_adds}
 use Rattle.bb_bucket.proofs.parts.program_part.Goals as goal
 
 pub returns-clause-done : goal.returns-clause-done
@@ -43,3 +45,12 @@ program-requires g c = record {
       (length c.args.bytes.now) c.requires.page c.requires.lies c.requires.within
       (c.requires.blank blocks image told);
 }
+
+pub returns-clause-made : goal.returns-clause-made
+returns-clause-made g c =
+    let made = c.program.ensures in
+    let from = g.F.Flash.device c.args.flash.now in
+    let at = c.args.region.at + c.args.at in
+    made_one (told_after_program from.geometry.page at c.args.bytes.now) c.program.result
+    c.args.region at c.args.bytes.now from (g.F.Flash.device c.program.new.self)
+    (program_adds from.geometry.page at c.args.bytes.now) made.call.changes made.done
