@@ -41,7 +41,7 @@ module _ (block : Block) (rec : List ℕ) where
   abbrev pub IsPlaced : ℕ → Image → Type 0
   IsPlaced next image = next ≡ next_place block.page (part_of block.page block.region image)
 
-  fits_there :
+  pub fits_there :
       (next : ℕ) (image : Image) → IsPlaced next image →
       next + entry_len block.page (length rec) ≤ block.region.size →
       fits_behind block rec (part_of block.page block.region image) ≡ true

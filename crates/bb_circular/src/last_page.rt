@@ -1,7 +1,7 @@
-ghost use Rattle.std.specs.Prelude.{◌≡◌, ◌≤◌, ◌/◌, ◌==◌, ◌&&◌, IfOk, IsErr, IsTrue, length};
+ghost use Rattle.std.specs.Prelude.{◌≡◌, ◌≤◌, ◌/◌, ◌==◌, ◌&&◌, IfOk, IsTrue, is_err, length};
 ghost use Rattle.std.specs.List.{list_all};
 ghost use Rattle.std.specs.Option.{ForSome};
-ghost use Rattle.bb_base.specs.Faults.{HasCause};
+ghost use Rattle.bb_base.specs.Faults.{counted};
 ghost use Rattle.bb_flash.specs.Device.{content};
 ghost use Rattle.bb_bucket.specs.Blocks.{is_block_of};
 ghost use Rattle.bb_bucket.specs.Calls.{IsQuiet};
@@ -36,10 +36,10 @@ pub(crate) fn find_last_page<F: Flash>(
         IsLastPage block.page (part_of block.page block.region image) page.new last)) }
     ensures inside { IfOk result (λ last. last.pages ≤ block.region.size / block.page) }
     ensures quiet { IsQuiet (F.device flash.old) (F.device flash.new) }
-    ensures faults { HasCause (F.device flash.old).faults
-        (F.device flash.new).faults (IsErr result) }
-    ensures read_faults { HasCause (F.device flash.old).read_faults
-        (F.device flash.new).read_faults (IsErr result) }
+    ensures faults { (F.device flash.new).faults
+        ≡ counted (is_err result) (F.device flash.old).faults }
+    ensures read_faults { (F.device flash.new).read_faults
+        ≡ counted (is_err result) (F.device flash.old).read_faults }
 {
     let _ = flash.geometry();
     let mut pages = block.region.size / block.page;

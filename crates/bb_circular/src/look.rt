@@ -1,7 +1,8 @@
-ghost use Rattle.std.specs.Prelude.{◌≡◌, ◌≤◌, ◌-◌, IfOk, IfSome, IsErr, IsTrue, Some, None};
-ghost use Rattle.std.specs.Prelude.{is_some, length, option_map, option_and_then, if◌then◌else◌};
+ghost use Rattle.std.specs.Prelude.{◌≡◌, ◌≤◌, ◌-◌, IfOk, IfSome, IsTrue, OnErr, Some, None};
+ghost use Rattle.std.specs.Prelude.{false, is_err, is_some, length, option_map, option_and_then};
+ghost use Rattle.std.specs.Prelude.{if◌then◌else◌};
 ghost use Rattle.std.specs.Option.{ForSome};
-ghost use Rattle.bb_base.specs.Faults.{HasCause};
+ghost use Rattle.bb_base.specs.Faults.{counted};
 ghost use Rattle.bb_flash.specs.Device.{content, reads};
 ghost use Rattle.bb_bucket.specs.Blocks.{is_block_of};
 ghost use Rattle.bb_bucket.specs.Calls.{IsFoundAs, IsQuiet};
@@ -49,10 +50,10 @@ pub(crate) fn read_log<F: Flash>(
         answer.1 ≡ kept_of block.page (part_of block.page block.region image))) }
     ensures inside { IfOk result (λ answer. IsKeptIn block answer.1) }
     ensures quiet { IsQuiet (F.device flash.old) (F.device flash.new) }
-    ensures faults { HasCause (F.device flash.old).faults
-        (F.device flash.new).faults (IsErr result) }
-    ensures read_faults { HasCause (F.device flash.old).read_faults
-        (F.device flash.new).read_faults (IsErr result) }
+    ensures faults { (F.device flash.new).faults
+        ≡ counted (is_err result) (F.device flash.old).faults }
+    ensures read_faults { (F.device flash.new).read_faults
+        ≡ counted (is_err result) (F.device flash.old).read_faults }
 {
     let kept = look_up(flash, block, kept, memory)?;
     let found = read_newest(flash, block, kept.newest, out)?;
@@ -77,11 +78,12 @@ pub(crate) fn look_up<F: Flash>(
     ensures inside { IfOk result (IsKeptIn block) }
     ensures reads { IsTrue (is_some kept) →
         reads (F.device flash.new) ≡ reads (F.device flash.old) }
+    ensures unknown { OnErr result (is_some kept ≡ false) }
     ensures quiet { IsQuiet (F.device flash.old) (F.device flash.new) }
-    ensures faults { HasCause (F.device flash.old).faults
-        (F.device flash.new).faults (IsErr result) }
-    ensures read_faults { HasCause (F.device flash.old).read_faults
-        (F.device flash.new).read_faults (IsErr result) }
+    ensures faults { (F.device flash.new).faults
+        ≡ counted (is_err result) (F.device flash.old).faults }
+    ensures read_faults { (F.device flash.new).read_faults
+        ≡ counted (is_err result) (F.device flash.old).read_faults }
 {
     let _ = flash.geometry();
     match kept {
@@ -98,10 +100,10 @@ fn find_newest<F: Flash>(flash: &mut F, block: Block, memory: &mut [u8]) -> Resu
         IsKnown block.page (part_of block.page block.region image) known)) }
     ensures inside { IfOk result (IsKeptIn block) }
     ensures quiet { IsQuiet (F.device flash.old) (F.device flash.new) }
-    ensures faults { HasCause (F.device flash.old).faults
-        (F.device flash.new).faults (IsErr result) }
-    ensures read_faults { HasCause (F.device flash.old).read_faults
-        (F.device flash.new).read_faults (IsErr result) }
+    ensures faults { (F.device flash.new).faults
+        ≡ counted (is_err result) (F.device flash.old).faults }
+    ensures read_faults { (F.device flash.new).read_faults
+        ≡ counted (is_err result) (F.device flash.old).read_faults }
 {
     let page = &mut memory[..block.page as usize];
     let last = find_last_page(flash, block, page)?;
@@ -129,10 +131,10 @@ fn read_newest<F: Flash>(
     ensures fits { IfOk result (λ found.
         IfSome found.len (λ len. len ≤ block.region.size - closing_len)) }
     ensures quiet { IsQuiet (F.device flash.old) (F.device flash.new) }
-    ensures faults { HasCause (F.device flash.old).faults
-        (F.device flash.new).faults (IsErr result) }
-    ensures read_faults { HasCause (F.device flash.old).read_faults
-        (F.device flash.new).read_faults (IsErr result) }
+    ensures faults { (F.device flash.new).faults
+        ≡ counted (is_err result) (F.device flash.old).faults }
+    ensures read_faults { (F.device flash.new).read_faults
+        ≡ counted (is_err result) (F.device flash.old).read_faults }
 {
     let _ = flash.geometry();
     let Some(entry) = newest else {

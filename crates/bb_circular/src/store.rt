@@ -1,11 +1,12 @@
-ghost use Rattle.std.specs.Prelude.{◌≡◌, ◌≤◌, ◌<◌, ◌+◌, ◌%◌, ◌^◌, IfOk, IfSome, IsErr, IsTrue};
-ghost use Rattle.std.specs.Prelude.{OnOk, false, is_some, length};
+ghost use Rattle.std.specs.Prelude.{◌≡◌, ◌≤◌, ◌<◌, ◌+◌, ◌%◌, ◌^◌, ◌⊎◌, IfOk, IfSome, IsTrue};
+ghost use Rattle.std.specs.Prelude.{OnOk, false, is_err, is_some, length};
 ghost use Rattle.std.specs.Option.{ForSome};
-ghost use Rattle.bb_base.specs.Faults.{HasCause};
+ghost use Rattle.bb_base.specs.Faults.{counted};
 ghost use Rattle.bb_flash.specs.Device.{IsDevice, content, reads};
 ghost use Rattle.bb_bucket.specs.Blocks.{is_block_of};
-ghost use Rattle.bb_bucket.specs.Calls.{ChangesWithin, EachCall, ErasesWhere, IsVoidCall};
-ghost use Rattle.bb_bucket.specs.Calls.{IsWriteCall, Leaves};
+ghost use Rattle.bb_bucket.specs.Calls.{ChangesWithin, EachCall, ErasesWhere, FailsToLook};
+ghost use Rattle.bb_bucket.specs.Calls.{IsVoidCall, IsWriteCall, Leaves, MakesCalls};
+ghost use Rattle.bb_bucket.specs.Calls.{calls_of_write};
 ghost use Rattle.bb_bucket.specs.Kind.{part_of};
 ghost use Rattle.bb_circular.specs.Circular.{IsKeptIn, agrees_with, circular_kind, fits_behind};
 ghost use Rattle.bb_circular.specs.Circular.{kept_of, next_place};
@@ -47,8 +48,12 @@ pub(crate) fn write_log<F: Flash>(
     ensures erases { OnOk result (ErasesWhere block.region
         ((circular_kind block).write_erases rec.now)
         (F.device flash.old) (F.device flash.new)) }
-    ensures faults { HasCause (F.device flash.old).faults
-        (F.device flash.new).faults (IsErr result) }
+    ensures made { MakesCalls result block.region (calls_of_write (circular_kind block) rec.now)
+        (F.device flash.old) (F.device flash.new) }
+    ensures faults { (F.device flash.new).faults
+        ≡ counted (is_err result) (F.device flash.old).faults }
+    ensures read_faults { ((F.device flash.new).read_faults ≡ (F.device flash.old).read_faults)
+        ⊎ FailsToLook (is_some kept) result (F.device flash.old) (F.device flash.new) }
     ensures reads { IsTrue (is_some kept) →
         reads (F.device flash.new) ≡ reads (F.device flash.old) }
 {
@@ -84,8 +89,11 @@ fn put_entry<F: Flash>(
     ensures erases { OnOk result (ErasesWhere block.region
         ((circular_kind block).write_erases rec.now)
         (F.device flash.old) (F.device flash.new)) }
-    ensures faults { HasCause (F.device flash.old).faults
-        (F.device flash.new).faults (IsErr result) }
+    ensures made { MakesCalls result block.region (calls_of_write (circular_kind block) rec.now)
+        (F.device flash.old) (F.device flash.new) }
+    ensures faults { (F.device flash.new).faults
+        ≡ counted (is_err result) (F.device flash.old).faults }
+    ensures read_faults { (F.device flash.new).read_faults ≡ (F.device flash.old).read_faults }
     ensures reads { reads (F.device flash.new) ≡ reads (F.device flash.old) }
 {
     let len = whole_pages(block.page, rec.len() as u32 + CLOSING_LEN);
@@ -137,8 +145,11 @@ fn append<F: Flash>(
     ensures erases { OnOk result (ErasesWhere block.region
         ((circular_kind block).write_erases rec.now)
         (F.device flash.old) (F.device flash.new)) }
-    ensures faults { HasCause (F.device flash.old).faults
-        (F.device flash.new).faults (IsErr result) }
+    ensures made { MakesCalls result block.region (calls_of_write (circular_kind block) rec.now)
+        (F.device flash.old) (F.device flash.new) }
+    ensures faults { (F.device flash.new).faults
+        ≡ counted (is_err result) (F.device flash.old).faults }
+    ensures read_faults { (F.device flash.new).read_faults ≡ (F.device flash.old).read_faults }
     ensures reads { reads (F.device flash.new) ≡ reads (F.device flash.old) }
 {
     let len = pack_entry(block, rec, memory);
@@ -170,8 +181,11 @@ fn start_anew<F: Flash>(
     ensures erases { OnOk result (ErasesWhere block.region
         ((circular_kind block).write_erases rec.now)
         (F.device flash.old) (F.device flash.new)) }
-    ensures faults { HasCause (F.device flash.old).faults
-        (F.device flash.new).faults (IsErr result) }
+    ensures made { MakesCalls result block.region (calls_of_write (circular_kind block) rec.now)
+        (F.device flash.old) (F.device flash.new) }
+    ensures faults { (F.device flash.new).faults
+        ≡ counted (is_err result) (F.device flash.old).faults }
+    ensures read_faults { (F.device flash.new).read_faults ≡ (F.device flash.old).read_faults }
     ensures reads { reads (F.device flash.new) ≡ reads (F.device flash.old) }
 {
     erase_block(flash, block)?;
@@ -194,8 +208,11 @@ pub(crate) fn void_log<F: Flash>(flash: &mut F, block: Block) -> Result<Kept, Fa
     ensures erases { OnOk result (ErasesWhere block.region
         (λ region. (circular_kind block).void_erases)
         (F.device flash.old) (F.device flash.new)) }
-    ensures faults { HasCause (F.device flash.old).faults
-        (F.device flash.new).faults (IsErr result) }
+    ensures made { MakesCalls result block.region (λ region. 1)
+        (F.device flash.old) (F.device flash.new) }
+    ensures faults { (F.device flash.new).faults
+        ≡ counted (is_err result) (F.device flash.old).faults }
+    ensures read_faults { (F.device flash.new).read_faults ≡ (F.device flash.old).read_faults }
     ensures reads { reads (F.device flash.new) ≡ reads (F.device flash.old) }
 {
     erase_block(flash, block)?;

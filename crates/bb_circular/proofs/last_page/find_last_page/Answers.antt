@@ -1,4 +1,4 @@
-use Rattle.std.proofs.Common.{◌≡◌, ℕ, ◌-◌, ◌*◌, length, sym, ap, ◌∙◌, subst, arith}
+use Rattle.std.proofs.Common.{◌≡◌, ℕ, ◌-◌, ◌*◌, length, refl, sym, ap, ◌∙◌, subst, arith}
 use Rattle.bb_flash.specs.declared.geometry.Geometry.{Geometry}
 use Rattle.bb_flash.specs.Image.{Image}
 use Rattle.bb_bucket.specs.BlockLaws.{block_lies_on, block_of}
@@ -18,6 +18,8 @@ loop-pages-init g c =
           looked_all c.args.block.page c.args.block.region.size (part_of c.args.block.page c.args.block.region image)
           (part_paged c.args.block (g.F.Flash.device c.args.flash.now).geometry image held (c.geometry.ensures.whole.image image told));
       quiet = quiet_same (g.F.Flash.device c.args.flash.now) c.geometry.ensures.whole;
+      faults = refl;
+      read_faults = refl;
       sized = c.requires.page;
     }
 
@@ -57,6 +59,8 @@ loop-pages-preserved g c =
           c.loop-pages.pages c.loop-pages-test.true i.inside (i.looked image told)
           (sym (blank_read page old c.args.block.region.size (c.loop-pages.pages - 1) c.read_part.new.out c.in_ok-health.health part long) ∙ sym c.is_blank.ensures ∙ c.if-not-is_blank.false);
       quiet = quiet_joined (g.F.Flash.device c.args.flash.now) (g.F.Flash.device c.loop-pages.flash) (g.F.Flash.device c.read_part.new.flash) i.quiet r.quiet;
+      faults = r.faults ∙ i.faults;
+      read_faults = r.read_faults ∙ i.read_faults;
       sized = long;
     }
 

@@ -14,6 +14,8 @@ invariant-loop-pages g l =
       inside : l.pages ≤ l.block.region.size / l.block.page;
       looked : ForSome (content from) (λ image. IsLookedAt l.block.page (part_of l.block.page l.block.region image) l.pages);
       quiet : IsQuiet from now;
+      faults : now.faults ≡ from.faults;
+      read_faults : now.read_faults ≡ from.read_faults;
       sized : length l.page ≡ l.block.page;
     }
 

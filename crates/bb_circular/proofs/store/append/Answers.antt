@@ -12,6 +12,7 @@ use Rattle.bb_circular.specs.Pages.{written_pages}
 use Rattle.bb_circular.specs.PagesLaws.{blank_behind, pages_blank}
 use Rattle.bb_circular.proofs.LogCalls.{append_calls, append_keeps}
 use Rattle.bb_circular.proofs.LogDevices.{part_paged}
+use Rattle.bb_circular.proofs.LogMaking.{append_made}
 use Rattle.bb_circular.proofs.store.append.Goals as goal
 
 pub program_part-requires-clause-lies : goal.program_part-requires-clause-lies
@@ -70,3 +71,9 @@ returns-clause-done g c = grind (arith, common_steps)
 
 pub returns-clause-erases : goal.returns-clause-erases
 returns-clause-erases g c = grind (arith, common_steps)
+
+pub returns-clause-made : goal.returns-clause-made
+returns-clause-made g c =
+    let held = block_of c.args.block (g.F.Flash.device c.args.flash.now).geometry c.requires.held in
+    append_made c.program_part.result c.args.block c.args.rec.now (g.F.Flash.device c.args.flash.now)
+    (g.F.Flash.device c.program_part.new.flash) held c.args.next c.requires.fits c.requires.placed c.program_part.ensures.made

@@ -1,4 +1,4 @@
-use Rattle.std.proofs.Common.{ℕ, ◌+◌, ◌%◌, ◌<◌, ◌≤◌, List, length, take, sym, ap, ◌∙◌, subst, arith}
+use Rattle.std.proofs.Common.{ℕ, ◌+◌, ◌%◌, ◌<◌, ◌≤◌, List, length, take, sym, ap, ◌∙◌, subst, arith, rules}
 use Rattle.std.proofs.lemmas.Grind.{common_steps}
 use Rattle.bb_flash.specs.declared.geometry.Geometry.{Geometry}
 use Rattle.bb_flash.specs.Image.{Image, IsBlank}
@@ -11,6 +11,8 @@ use Rattle.bb_bucket.proofs.Runs.{part_after, within_joined}
 use Rattle.bb_circular.specs.CircularLaws.{entry_fits}
 use Rattle.bb_circular.specs.EntryLaws.{entry_len_is, entry_size}
 use Rattle.bb_circular.proofs.LogCalls.{anew_calls, anew_erase, anew_keeps, anew_leaves}
+use Rattle.bb_bucket.proofs.Making.{made_behind_one, refused_most}
+use Rattle.bb_circular.proofs.LogMaking.{anew_made}
 use Rattle.bb_circular.proofs.store.start_anew.Goals as goal
 
 pub returns-in_err-erase_block-clause-calls : goal.returns-in_err-erase_block-clause-calls
@@ -81,3 +83,20 @@ returns-clause-within g c = within_joined c.args.block.region (g.F.Flash.device 
 
 pub returns-clause-erases : goal.returns-clause-erases
 returns-clause-erases g c = grind (arith, common_steps)
+
+pub returns-in_err-erase_block-clause-made : goal.returns-in_err-erase_block-clause-made
+returns-in_err-erase_block-clause-made g c =
+    let held = block_of c.args.block (g.F.Flash.device c.args.flash.now).geometry c.requires.held in
+    anew_made c.from_residual.result c.args.block c.args.rec.now (g.F.Flash.device c.args.flash.now)
+    (g.F.Flash.device c.erase_block.new.flash) held c.requires.full
+    (refused_most c.erase_block.result c.from_residual.result c.args.block.region (λ part. 1) (λ part. 2)
+    (g.F.Flash.device c.args.flash.now) (g.F.Flash.device c.erase_block.new.flash) (λ part. omega arith) (search rules) c.erase_block.ensures.made)
+
+pub returns-clause-made : goal.returns-clause-made
+returns-clause-made g c =
+    let held = block_of c.args.block (g.F.Flash.device c.args.flash.now).geometry c.requires.held in
+    anew_made c.program_part.result c.args.block c.args.rec.now (g.F.Flash.device c.args.flash.now)
+    (g.F.Flash.device c.program_part.new.flash) held c.requires.full
+    (made_behind_one _ c.program_part.result c.args.block.region (g.F.Flash.device c.args.flash.now)
+    (g.F.Flash.device c.erase_block.new.flash) (g.F.Flash.device c.program_part.new.flash)
+    c.erase_block.ensures.within.later c.in_ok-erase_block.ensures.made c.program_part.ensures.made)

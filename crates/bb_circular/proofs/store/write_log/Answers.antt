@@ -1,10 +1,11 @@
-use Rattle.std.proofs.Common.{ap, subst}
+use Rattle.std.proofs.Common.{◌∙◌, ap, subst, inl, inr, rules}
 use Rattle.bb_flash.specs.declared.geometry.Geometry.{Geometry}
 use Rattle.bb_bucket.specs.Calls.{EachCall, IsWriteCall}
 use Rattle.bb_bucket.proofs.Outcomes.{on_ok_weaker}
 use Rattle.bb_bucket.proofs.Quiet.{keeps_of_quiet}
 use Rattle.bb_bucket.proofs.Runs.{calls_after_quiet, leaves_after_quiet, quiet_calls, within_joined, within_of_quiet}
 use Rattle.bb_circular.specs.Circular.{after_write, circular_kind}
+use Rattle.bb_bucket.proofs.Making.{made_behind_look, made_none}
 use Rattle.bb_circular.proofs.store.write_log.Goals as goal
 
 pub returns-in_err-known-clause-calls : goal.returns-in_err-known-clause-calls
@@ -42,3 +43,27 @@ returns-clause-within g c =
     (g.F.Flash.device c.look_up.new.flash) (g.F.Flash.device c.put_entry.new.flash)
     (within_of_quiet c.args.block.region (g.F.Flash.device c.args.flash.now)
     (g.F.Flash.device c.look_up.new.flash) c.look_up.ensures.quiet) c.put_entry.ensures.within
+
+pub returns-in_err-known-clause-made : goal.returns-in_err-known-clause-made
+returns-in_err-known-clause-made g c =
+    made_none c.from_residual.result c.args.block.region _ (g.F.Flash.device c.args.flash.now)
+    (g.F.Flash.device c.look_up.new.flash) (search rules) c.look_up.ensures.quiet
+
+pub returns-clause-made : goal.returns-clause-made
+returns-clause-made g c =
+    made_behind_look c.put_entry.result c.args.block.region _ (g.F.Flash.device c.args.flash.now)
+    (g.F.Flash.device c.look_up.new.flash) (g.F.Flash.device c.put_entry.new.flash)
+    c.look_up.ensures.quiet c.put_entry.ensures.made
+
+pub returns-in_err-known-clause-read_faults : goal.returns-in_err-known-clause-read_faults
+returns-in_err-known-clause-read_faults g c =
+    inr (record {
+      unknown = c.in_err-known.ensures.unknown;
+      fails = search rules;
+      quiet = c.look_up.ensures.quiet;
+      read_faults = c.in_err-known.ensures.read_faults;
+    })
+
+pub returns-clause-read_faults : goal.returns-clause-read_faults
+returns-clause-read_faults g c =
+    inl (c.put_entry.ensures.read_faults ∙ c.in_ok-known.ensures.read_faults)
