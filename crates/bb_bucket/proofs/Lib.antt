@@ -1,3 +1,4 @@
+pub mod Blank
 pub mod BlockCalls
 pub mod Candidates
 pub mod Erases

@@ -1,3 +1,4 @@
+pub mod Blank
 pub mod Examples
 pub mod Keeping
 pub mod LogCalls
