@@ -2,7 +2,6 @@
 use Rattle.std.proofs.Common.{◌≡◌, ℕ, ◌+◌, ◌++◌, List, [], ◌∷◌, Option, IsTrue, ap, arith, length, length-append, refl, sym, subst, ◌∙◌}
 use Rattle.std.specs.Option.{option_map_or}
 use Rattle.bb_chooser.specs.Binding.{Binding}
-use Rattle.bb_copies.specs.Settling.{RoseBy}
 use Rattle.bb_flash.specs.declared.plan.Plan.{Plan}
 use Rattle.bb_flash.specs.Device.{Device}
 use Rattle.bb_state.specs.State.{form_of, kept_of, keyed_of, laid_of, used_of}
@@ -12,7 +11,7 @@ use Rattle.bb_shell.proofs.Reached.{stops_refused}
 use Rattle.bb_shell.proofs.Trails.{boot_exit, boot_trail}
 use Rattle.bb_shell.proofs.Underway.{last_is}
 use Rattle.bb_shell.specs.Boot.{AreRounds, NoneQualifies, Round, end_by}
-use Rattle.bb_shell.specs.Ends.{HaveRun, IsBooted}
+use Rattle.bb_shell.specs.Ends.{HaveRun, IsBooted, RaisedBy}
 use Rattle.bb_shell.specs.Running.{AreRun}
 use Rattle.bb_shell.specs.declared.boot_end.BootEnd.{BootEnd}
 use Rattle.bb_shell.specs.declared.boot_end.BootEnd.TheVariants as ends
@@ -40,7 +39,7 @@ booted_of b plans first table before after from to end same geometry fits facts 
       start_faults = run.start_faults;
     }
 
-rose_none : (n : ℕ) → RoseBy 0 n n
+rose_none : (n : ℕ) → RaisedBy 0 n n
 rose_none n = omega arith
 
 pub booted_none : (b : Binding) (plans : List (Option Plan)) (first : List ℕ) (state : State) (device : Device) → NoneQualifies b first →

@@ -5,14 +5,13 @@ use Rattle.std.specs.Option.{IsSomeAnd, option_map}
 use Rattle.std.specs.Prelude.{is_some}
 use Rattle.bb_base.specs.Faults.{Rose}
 use Rattle.bb_chooser.specs.Binding.{Binding}
-use Rattle.bb_copies.specs.Settling.{RoseBy}
 use Rattle.bb_flash.specs.declared.plan.Plan.{Plan}
 use Rattle.bb_flash.specs.Device.{Device, Start, Told, starts}
 use Rattle.bb_state.specs.Keyed.{Keyed}
 use Rattle.bb_shell.proofs.Joins.{some_is}
 use Rattle.bb_shell.proofs.Saves.{write_fault}
 use Rattle.bb_shell.specs.Boot.{IsOutcome, Round, end_by, is_retried, plan_at}
-use Rattle.bb_shell.specs.Ends.{AddsStart, AddsStarts, HasEndCause, StartsOnce, failed_start}
+use Rattle.bb_shell.specs.Ends.{AddsStart, AddsStarts, HasEndCause, RaisedBy, StartsOnce, failed_start}
 use Rattle.bb_shell.specs.Running.{IsRoundRun, is_refused}
 use Rattle.bb_shell.specs.declared.outcome.Outcome.{Outcome}
 use Rattle.bb_shell.specs.declared.outcome.Outcome.TheVariants.{Refused, Unplanned, Failed, Started}
@@ -66,13 +65,13 @@ retried_saved b Started h = refl
 
 -- ---- causes
 
-rose_once : (n one two : ℕ) → RoseBy (n + 1) one two → Rose one two
+rose_once : (n one two : ℕ) → RaisedBy (n + 1) one two → Rose one two
 rose_once n one two h = omega arith
 
 pub end_cause : (b : Binding) (plans : List (Option Plan)) (tries : ℕ) (round : Round) (keyed : Keyed) (kept : List ℕ) (used now : Option ℕ)
     (mid to : Device) (outcome : Outcome) (from : Device) (n : ℕ) →
     IsRoundRun keyed plans kept used now (record round { outcome = outcome }) mid to → IsOutcome (plan_at plans round.target) outcome →
-    RoseBy (n + failed_start outcome) from.start_faults to.start_faults →
+    RaisedBy (n + failed_start outcome) from.start_faults to.start_faults →
     HasEndCause plans from to (end_by b tries round outcome)
 end_cause b plans tries round keyed kept used now mid to (Refused fault) from n run fits rose =
     write_fault keyed kept used now round.table fault mid run.middle run.saved

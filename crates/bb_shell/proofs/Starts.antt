@@ -1,11 +1,11 @@
 -- What the start of a round makes of the device, and then the round.
-use Rattle.std.proofs.Common.{◌≡◌, ℕ, ◌++◌, Bool, true, false, IsTrue, List, [], ◌∷◌, Option, Some, None, ap, arith, refl, sym, subst, ◌∙◌}
+use Rattle.std.proofs.Common.{◌≡◌, ℕ, ◌+◌, ◌-◌, ◌^◌, ◌++◌, max, min, Bool, true, false, IsTrue, List, [], ◌∷◌, Option, Some, None, ap, arith, refl, sym, subst, ◌∙◌}
 use Rattle.std.specs.Option.{IsSomeAnd, option_map}
 use Rattle.std.specs.Prelude.{is_some}
+use Rattle.bb_base.specs.Faults.{one_more}
 use Rattle.bb_bucket.specs.Kind.{Holding, part_of}
 use Rattle.bb_copies.specs.Buckets.{AllAgree}
 use Rattle.bb_copies.specs.Loading.{KeepsOutside}
-use Rattle.bb_copies.specs.Settling.{RoseBy}
 use Rattle.bb_copies.proofs.Runs.{later_refl}
 use Rattle.bb_flash.proofs.Moments.{later_joined}
 use Rattle.bb_flash.specs.declared.geometry.Geometry.{Geometry}
@@ -18,7 +18,7 @@ use Rattle.bb_state.specs.Kinds.{laid_kinds}
 use Rattle.bb_shell.proofs.Joins.{outside_joined, outside_refl, some_is, still_outside, stored_joined, stored_refl}
 use Rattle.bb_shell.proofs.Saves.{save_later, save_outside, save_starts, save_stored}
 use Rattle.bb_shell.specs.Boot.{Round, plan_at}
-use Rattle.bb_shell.specs.Ends.{AddsStart, StartsOnce, StaysStored, failed_start}
+use Rattle.bb_shell.specs.Ends.{AddsStart, RaisedBy, StartsOnce, StaysStored, failed_start}
 use Rattle.bb_shell.specs.Running.{IsRoundRun, IsSaveRun, IsStartFailed, IsStartMade, IsTried, StartRuns, is_refused, refusal_of}
 use Rattle.bb_shell.specs.declared.outcome.Outcome.{Outcome}
 use Rattle.bb_shell.specs.declared.outcome.Outcome.TheVariants.{Refused, Unplanned, Failed, Started}
@@ -69,17 +69,21 @@ start_outside keyed plan outcome from to =
     by_start from to (KeepsOutside (laid_kinds keyed.layout) from) (outside_refl (laid_kinds keyed.layout) from)
     (λ made runs. still_outside (laid_kinds keyed.layout) from to runs.keeps.content runs.keeps.changes) plan outcome
 
+-- a call that failed counts once
+raised_once : (n : ℕ) → one_more n ≡ max n (min (n + 1) (2 ^ 64 - 1))
+raised_once n = grind arith
+
 -- a device's own count rose by nothing
-rose_same : (n : ℕ) → RoseBy 0 n n
+rose_same : (n : ℕ) → RaisedBy 0 n n
 rose_same n = omega arith
 
-pub start_rose : (plan : Option Plan) (outcome : Outcome) (from to : Device) → IsTried plan outcome from to → RoseBy (failed_start outcome) from.start_faults to.start_faults
-start_rose plan (Refused fault) from to h = subst (λ d. RoseBy 0 from.start_faults d.start_faults) (sym h) (rose_same from.start_faults)
-start_rose plan Unplanned from to h = subst (λ d. RoseBy 0 from.start_faults d.start_faults) (sym h) (rose_same from.start_faults)
+pub start_rose : (plan : Option Plan) (outcome : Outcome) (from to : Device) → IsTried plan outcome from to → RaisedBy (failed_start outcome) from.start_faults to.start_faults
+start_rose plan (Refused fault) from to h = subst (λ d. RaisedBy 0 from.start_faults d.start_faults) (sym h) (rose_same from.start_faults)
+start_rose plan Unplanned from to h = subst (λ d. RaisedBy 0 from.start_faults d.start_faults) (sym h) (rose_same from.start_faults)
 start_rose None Failed from to h = absurd h
-start_rose (Some plan) Failed from to h = h.runs.start_faults.rose refl
+start_rose (Some plan) Failed from to h = h.runs.start_faults ∙ raised_once from.start_faults
 start_rose None Started from to h = absurd h
-start_rose (Some plan) Started from to h = let more = h.runs.start_faults.later in omega (arith, more)
+start_rose (Some plan) Started from to h = h.runs.start_faults ∙ rose_same from.start_faults
 
 -- ---- what it adds
 
@@ -161,10 +165,10 @@ module _ (keyed : Keyed) (plans : List (Option Plan)) (kept : List ℕ) (used no
       let saved = save_starts keyed kept used now round.table (refusal_of round.outcome) from run.middle run.saved in
       start_adds (plan_at plans round.target) round.outcome from run.middle to saved.starts to_middle run.tried
 
-  pub round_rose : RoseBy (failed_start round.outcome) from.start_faults to.start_faults
+  pub round_rose : RaisedBy (failed_start round.outcome) from.start_faults to.start_faults
   round_rose =
       let saved = save_starts keyed kept used now round.table (refusal_of round.outcome) from run.middle run.saved in
-      subst (λ n. RoseBy (failed_start round.outcome) n to.start_faults) saved.start_faults
+      subst (λ n. RaisedBy (failed_start round.outcome) n to.start_faults) saved.start_faults
       (start_rose (plan_at plans round.target) round.outcome run.middle to run.tried)
 
   pub round_stored : from.geometry ≡ keyed.layout.geometry → is_refused round.outcome ≡ false → StaysStored keyed kept round.table from to

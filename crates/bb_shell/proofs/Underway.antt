@@ -3,12 +3,11 @@ use Rattle.std.proofs.Common.{◌≡◌, ℕ, ◌+◌, ◌-◌, Bool, true, fals
 use Rattle.std.proofs.lemmas.List.Sums.{sum_by_push}
 use Rattle.std.specs.Prelude.{MatchBool, slice_get}
 use Rattle.bb_chooser.specs.Binding.{Binding}
-use Rattle.bb_copies.specs.Settling.{RoseBy}
 use Rattle.bb_flash.specs.declared.plan.Plan.{Plan}
 use Rattle.bb_flash.specs.Device.{Device}
 use Rattle.bb_state.specs.Keyed.{Keyed}
 use Rattle.bb_shell.specs.Boot.{AreRounds, IsRound, NoneQualifies, Round, is_retried, last_round}
-use Rattle.bb_shell.specs.Ends.{failed_start, failed_starts}
+use Rattle.bb_shell.specs.Ends.{RaisedBy, failed_start, failed_starts}
 use Rattle.bb_shell.specs.Running.{AreRun, IsRoundRun}
 
 -- From a table, a copy and a device on some rounds were run, each of which failed; whatever rounds
@@ -23,12 +22,12 @@ pub record IsUnderway
   pub run :
       (later : List Round) (end : Option ℕ) (to : Device) →
       AreRun keyed plans kept' used' end later now to → AreRun keyed plans kept used end (earlier ++ later) from to
-  pub rose : RoseBy (failed_starts earlier) from.start_faults now.start_faults
+  pub rose : RaisedBy (failed_starts earlier) from.start_faults now.start_faults
 
-rose_none : (n : ℕ) → RoseBy 0 n n
+rose_none : (n : ℕ) → RaisedBy 0 n n
 rose_none n = omega arith
 
-rose_more : (x y one two three : ℕ) → RoseBy x one two → RoseBy y two three → RoseBy (x + y) one three
+rose_more : (x y one two three : ℕ) → RaisedBy x one two → RaisedBy y two three → RaisedBy (x + y) one three
 rose_more x y one two three h k = omega arith
 
 pub underway_none : (b : Binding) (plans : List (Option Plan)) (keyed : Keyed) (first kept : List ℕ) (used : Option ℕ) (from : Device) →
@@ -52,10 +51,10 @@ module _ (b : Binding) (plans : List (Option Plan)) (keyed : Keyed) (first kept 
     (underway : IsUnderway b plans keyed first kept used from done table kept' used' now)
     (round : Round) (used'' : Option ℕ) (next : Device)
     (is : IsRound b plans table round) (runs : IsRoundRun keyed plans kept' used' used'' round now next)
-    (rose : RoseBy (failed_start round.outcome) now.start_faults next.start_faults) where
-  rose_all : RoseBy (failed_starts (underway.earlier ++ round ∷ [])) from.start_faults next.start_faults
+    (rose : RaisedBy (failed_start round.outcome) now.start_faults next.start_faults) where
+  rose_all : RaisedBy (failed_starts (underway.earlier ++ round ∷ [])) from.start_faults next.start_faults
   rose_all =
-      subst (λ n. RoseBy n from.start_faults next.start_faults) (sym (failed_more underway.earlier round))
+      subst (λ n. RaisedBy n from.start_faults next.start_faults) (sym (failed_more underway.earlier round))
       (rose_more (failed_starts underway.earlier) (failed_start round.outcome) from.start_faults now.start_faults next.start_faults underway.rose rose)
 
   pub underway_next : is_retried b round.outcome ≡ true → IsUnderway b plans keyed first kept used from (done + 1) round.table round.table used'' next
@@ -84,7 +83,7 @@ module _ (b : Binding) (plans : List (Option Plan)) (keyed : Keyed) (first kept 
   unfolding AreRun
   ended_run = underway.run (round ∷ []) used'' next (record { copy = used''; device = next; before = runs; behind = (refl, refl) })
 
-  pub ended_rose : RoseBy (failed_starts (underway.earlier ++ round ∷ [])) from.start_faults next.start_faults
+  pub ended_rose : RaisedBy (failed_starts (underway.earlier ++ round ∷ [])) from.start_faults next.start_faults
   ended_rose = rose_all
 
 -- the last of some rounds

@@ -1,10 +1,9 @@
 -- What a boot leaves of a state and its device, as its contract sees it.
-use Rattle.std.specs.Prelude.{◌≡◌, ◌⊎◌, ℕ, ◌+◌, ◌++◌, Bool, true, false, List, [], ◌∷◌, Option, IsNone, IsSomeAnd, count_by, if◌then◌else◌, length}
+use Rattle.std.specs.Prelude.{◌≡◌, ◌⊎◌, ℕ, ◌+◌, ◌-◌, ◌^◌, ◌++◌, max, min, Bool, true, false, List, [], ◌∷◌, Option, IsNone, IsSomeAnd, count_by, if◌then◌else◌, length}
 use Rattle.std.specs.Option.{ForSome}
 use Rattle.bb_base.specs.Faults.{Rose}
 use Rattle.bb_chooser.specs.Binding as bindings
 use Rattle.bb_chooser.specs.Binding.{Binding}
-use Rattle.bb_copies.specs.Settling.{RoseBy}
 use Rattle.bb_copies.specs.StandsFor.{EachPassesOrNothing}
 use Rattle.bb_copies.specs.declared.answers.CopyFault.{CopyFault}
 use Rattle.bb_copies.specs.declared.answers.CopyFault.TheVariants.{WriteFault}
@@ -48,6 +47,10 @@ is_failed_start Started = false
 abbrev pub failed_start : Outcome → ℕ
 failed_start outcome = if is_failed_start outcome then 1 else 0
 
+-- a count rose by exactly this much; at its greatest value it stands still
+abbrev pub RaisedBy : ℕ → ℕ → ℕ → Type 0
+RaisedBy rise before now = now ≡ max before (min (before + rise) (2 ^ 64 - 1))
+
 -- how many rounds failed although their target has a plan
 abbrev pub failed_starts : List Round → ℕ
 failed_starts rounds = count_by (λ round. is_failed_start round.outcome) rounds
@@ -66,7 +69,7 @@ pub record HaveRun
   pub end_is : end ≡ end_by b (length earlier + 1) last last.outcome
   pub table : after.table ≡ last.table
   pub kept : is_sure after ≡ true → kept_of after ≡ last.table
-  pub start_faults : RoseBy (failed_starts (earlier ++ last ∷ [])) from.start_faults to.start_faults
+  pub start_faults : RaisedBy (failed_starts (earlier ++ last ∷ [])) from.start_faults to.start_faults
 
 -- Some rounds came from the first table, to this end. The device is what their saves and starts made
 -- of it, and the table is the last one that they left, which is also the one that was last saved.
@@ -84,7 +87,7 @@ pub record IsBooted
   pub trail : KeepsATrail (keyed_of before) (kept_of before) (used_of before) rounds from to
   pub exit :
       KeepsAtExit (keyed_of before) (kept_of before) (used_of before) (used_of after) rounds from to
-  pub start_faults : RoseBy (failed_starts rounds) from.start_faults to.start_faults
+  pub start_faults : RaisedBy (failed_starts rounds) from.start_faults to.start_faults
 
 -- nothing was saved or started, and the table is the one before any reset
 pub record IsUnchanged (before after : State) (from to : Device) : Type 0 where

@@ -1,7 +1,7 @@
 -- What the rounds of a boot make of a device: first each save, then each start.
-use Rattle.std.specs.Prelude.{◌≡◌, ◌≢◌, ℕ, Bool, true, false, List, [], ◌∷◌, Option, Some, None, IfNone, IfSome, IsSomeAnd, is_some, option_map}
+use Rattle.std.specs.Prelude.{◌≡◌, ◌≢◌, ℕ, Bool, true, false, not, List, [], ◌∷◌, Option, Some, None, IfNone, IfSome, IsSomeAnd, is_some, option_map}
 use Rattle.std.specs.Str.{bytes_eq}
-use Rattle.bb_base.specs.Faults.{HasCause}
+use Rattle.bb_base.specs.Faults.{counted}
 use Rattle.bb_copies.specs.Saving.{EachWritten, SaveFails, SaveRuns}
 use Rattle.bb_copies.specs.Settling.{IsUndisturbed}
 use Rattle.bb_copies.specs.declared.answers.CopyFault.{CopyFault}
@@ -63,7 +63,7 @@ pub record StartRuns (made : Bool) (from to : Device) : Type 0 where
   pub keeps : StartKeeps from to
   pub later : IsLater from to
   pub whole : IsDevice to
-  pub start_faults : HasCause from.start_faults to.start_faults (made ≡ false)
+  pub start_faults : to.start_faults ≡ counted (not made) from.start_faults
 
 pub record IsStartMade (from to : Device) (plan : Plan) : Type 0 where
   pub runs : StartRuns true from to

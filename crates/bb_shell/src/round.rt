@@ -1,11 +1,11 @@
 ghost use Rattle.std.specs.Prelude.{◌≡◌, false, true, not};
 ghost use Rattle.bb_chooser.specs.Choosing.{IsBest};
 ghost use Rattle.bb_copies.specs.Loading.{KeepsOutside};
-ghost use Rattle.bb_copies.specs.Settling.{RoseBy};
 ghost use Rattle.bb_flash.specs.Cuts.{IsLater};
 ghost use Rattle.bb_flash.specs.Device.{IsDevice};
 ghost use Rattle.bb_shell.specs.Boot.{IsOutcome, IsRound, plan_at};
-ghost use Rattle.bb_shell.specs.Ends.{AddsStart, IsReady, StaysStored, failed_start};
+ghost use Rattle.bb_shell.specs.Ends.{AddsStart, IsReady, RaisedBy, StaysStored};
+ghost use Rattle.bb_shell.specs.Ends.{failed_start};
 ghost use Rattle.bb_shell.specs.Running.{IsRoundRun, IsTried, is_refused};
 ghost use Rattle.bb_state.specs.State.{IsOn, is_sure, kept_of, keyed_of};
 ghost use Rattle.bb_state.specs.State.{kinds_of, used_of};
@@ -33,7 +33,7 @@ pub(crate) fn run_round<B: Board>(
         (B.device board.old) (B.device board.new) }
     ensures starts { AddsStart (plan_at plans.now target) result
         (B.device board.old) (B.device board.new) }
-    ensures start_faults { RoseBy (failed_start result)
+    ensures start_faults { RaisedBy (failed_start result)
         (B.device board.old).start_faults (B.device board.new).start_faults }
     ensures stored { is_refused result ≡ false
         → StaysStored (keyed_of state.old) (kept_of state.old) state.new.table
