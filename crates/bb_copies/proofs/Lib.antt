@@ -1,4 +1,5 @@
 mod Examples
+pub mod Bounded
 pub mod Calls
 pub mod Ends
 pub mod Erased
