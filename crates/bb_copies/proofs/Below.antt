@@ -6,7 +6,7 @@ use Rattle.std.proofs.lemmas.List.{get_or-set_other, get_or-set_same, take-set}
 use Rattle.std.proofs.lemmas.List.Sums.{count_by_more_no, count_by_more_yes}
 use Rattle.std.proofs.lemmas.Option.{slice_get_within}
 use Rattle.std.proofs.Math.Seq.{take-length}
-use Rattle.bb_base.specs.Faults.{Rose}
+use Rattle.bb_base.specs.Faults.{Rose, one_more}
 use Rattle.bb_base.specs.Form.{Form}
 use Rattle.bb_flash.specs.Cuts.{IsLater}
 use Rattle.bb_flash.specs.Device.{Device, IsDevice, content}
@@ -14,10 +14,11 @@ use Rattle.bb_flash.specs.Image.{Image}
 use Rattle.bb_bucket.specs.Calls.{Leaves}
 use Rattle.bb_bucket.specs.Kind.{BucketKind, part_of}
 use Rattle.bb_copies.specs.Buckets.{EachCopy}
-use Rattle.bb_copies.specs.Erasing.{ErasesBy, unmarked_kinds}
+use Rattle.bb_copies.specs.Erasing.{ErasesBy, IsBounded, unmarked_kinds}
 use Rattle.bb_copies.specs.Passing.{passing_of}
-use Rattle.bb_copies.specs.Refreshing.{AllSettled, AllWritten, IsSettledAt, IsStuckAt, IsUntouched, IsWrittenAt, KeepsMarked, LeavesOthers, Refreshes, area_if, is_marked}
+use Rattle.bb_copies.specs.Refreshing.{AllSettled, AllWritten, IsBoundedAt, IsSettledAt, IsStuckAt, IsUntouched, IsWrittenAt, KeepsMarked, LeavesOthers, Refreshes, area_if, is_marked}
 use Rattle.bb_copies.specs.Settling.{IsStale, IsUndisturbed, IsUnread, PassesAnother, RoseBy}
+use Rattle.bb_copies.proofs.Bounded.{bounded_joined, bounded_wider, none_bounded, unmarked_below}
 use Rattle.bb_copies.proofs.Ends.{content_before}
 use Rattle.bb_copies.proofs.Erased.{count_append, erases_joined, none_erased, unmarked_enough, unmarked_more, unmarked_skip, written_erases}
 use Rattle.bb_copies.proofs.Many.{images_now, same_or_not, same_part, same_passing}
@@ -39,6 +40,8 @@ pub record RefreshedBelow (form : Form) (kinds : List BucketKind) (area rec : Li
   pub dead : RoseBy (count_by not (take bound good)) from.faults to.faults
   pub exact : IsUndisturbed from to → EachCopy kinds (λ copy kind. copy < bound → is_marked marked copy ≡ false → Leaves kind.region (kind.after_write rec) from to)
   pub erased : IsUndisturbed from to → ErasesBy (unmarked_kinds (take bound marked) (take bound kinds)) rec from to
+  pub bounded : IsBounded (unmarked_kinds (take bound marked) (take bound kinds)) rec from to
+  pub read_faults : to.read_faults ≡ from.read_faults
 
 pub none_refreshed : (form : Form) (kinds : List BucketKind) (area rec : List ℕ) (marked : List Bool) (device : Device) → IsDevice device → RefreshedBelow form kinds area rec marked marked 0 device device
 none_refreshed form kinds area rec marked device whole = record {
@@ -49,6 +52,8 @@ none_refreshed form kinds area rec marked device whole = record {
   dead = omega arith;
   exact = λ quiet copy kind e low. absurd (omega arith);
   erased = λ quiet. none_erased rec device;
+  bounded = none_bounded _ rec device;
+  read_faults = refl;
 }
 
 pub kind_inside : (kinds : List BucketKind) (copy : ℕ) → copy < length kinds → (kind : BucketKind) × (slice_get kinds copy ≡ Some kind)
@@ -76,6 +81,12 @@ erased_next kinds rec marked bound written from to is erased =
     subst (λ (n : ℕ). ErasesBy (unmarked_kinds (take n marked) (take n kinds)) rec from to) (sym next)
     (subst (λ (ks : List BucketKind). ErasesBy ks rec from to) (sym is) erased)
 
+bounded_next : (kinds : List BucketKind) (rec : List ℕ) (marked : List Bool) (bound : ℕ) (settled : List BucketKind) (from to : Device) → unmarked_kinds (take (suc bound) marked) (take (suc bound) kinds) ≡ settled → IsBounded settled rec from to → IsBounded (unmarked_kinds (take (bound + 1) marked) (take (bound + 1) kinds)) rec from to
+bounded_next kinds rec marked bound settled from to is bounded =
+    let next : bound + 1 ≡ suc bound = omega arith in
+    subst (λ (n : ℕ). IsBounded (unmarked_kinds (take n marked) (take n kinds)) rec from to) (sym next)
+    (subst (λ (ks : List BucketKind). IsBounded ks rec from to) (sym is) bounded)
+
 pub skipped : (form : Form) (kinds : List BucketKind) (area rec : List ℕ) (marked good : List Bool) (bound : ℕ) (from to : Device) → bound < length good → is_marked good bound ≡ true → RefreshedBelow form kinds area rec marked good bound from to → RefreshedBelow form kinds area rec marked good (bound + 1) from to
 skipped form kinds area rec marked good bound from to inside mark below =
     let here : is_marked marked bound ≡ true = sym (below.same bound (inr (omega arith))) ∙ mark in
@@ -94,6 +105,8 @@ skipped form kinds area rec marked good bound from to inside mark below =
         | inr at ↦ let clash : is_marked marked bound ≡ false = ap (is_marked marked) (sym at) ∙ new in absurd cc
       ];
       erased = λ quiet. erased_next kinds rec marked bound _ from to (unmarked_skip marked kinds bound here) (below.erased quiet);
+      bounded = bounded_next kinds rec marked bound _ from to (unmarked_skip marked kinds bound here) below.bounded;
+      read_faults = below.read_faults;
     }
 
 -- ---- over a copy that was settled
@@ -102,7 +115,7 @@ skipped form kinds area rec marked good bound from to inside mark below =
 pub passes_still : (form : Form) (kind : BucketKind) (page : ℕ) (passes : Option (List ℕ)) (mid to : Device) → mid.geometry.page ≡ page → IsLater mid to → IsUntouched kind mid to → ForSome (content mid) (λ image. passing_of form page kind image ≡ passes) → ForSome (content to) (λ image. passing_of form page kind image ≡ passes)
 passes_still form kind page passes mid to same later untouched before = λ after f.
     let there = content_before mid to later after f in
-    let region = images_now _ mid to untouched there.0 after there.1 f in
+    let region = images_now _ mid to untouched.images there.0 after there.1 f in
     let old = before there.0 there.1 in
     let kept : passing_of form mid.geometry.page kind after ≡ passing_of form mid.geometry.page kind there.0 = same_passing form mid.geometry.page kind there.0 after region in
     subst (λ (p : ℕ). passing_of form p kind after ≡ passing_of form p kind there.0) same kept ∙ old
@@ -112,7 +125,7 @@ pub leaves_still : (kind : BucketKind) (f : Image → Image) (one two three : De
 leaves_still kind f one two three h k untouched leaves = record {
   there = λ before e after g.
       let mid = content_before two three k after g in
-      let region = images_now _ two three untouched mid.0 after mid.1 g in
+      let region = images_now _ two three untouched.images mid.0 after mid.1 g in
       let kept : part_of two.geometry.page kind.region after ≡ part_of two.geometry.page kind.region mid.0 = same_part two.geometry.page kind.region mid.0 after region in
       subst (λ (p : ℕ). part_of p kind.region after ≡ part_of p kind.region mid.0) (ap (λ geo. geo.page) h.geometry) kept ∙ leaves.there before e mid.0 mid.1;
 }
@@ -122,7 +135,7 @@ pub still_leaves : (kind : BucketKind) (f : Image → Image) (one two three : De
 still_leaves kind f one two three h k untouched leaves = record {
   there = λ before e after g.
       let mid = content_before two three k after g in
-      let region = images_now _ one two untouched before mid.0 e mid.1 in
+      let region = images_now _ one two untouched.images before mid.0 e mid.1 in
       let kept : part_of one.geometry.page kind.region mid.0 ≡ part_of one.geometry.page kind.region before = same_part one.geometry.page kind.region before mid.0 region in
       let left : part_of two.geometry.page kind.region after ≡ f (part_of two.geometry.page kind.region mid.0) = leaves.there mid.0 mid.1 after g in
       subst (λ (p : ℕ). part_of p kind.region after ≡ f (part_of p kind.region mid.0)) (ap (λ geo. geo.page) h.geometry) left ∙ ap f kept;
@@ -142,8 +155,18 @@ dead_more good bound false one two three inside here k cause rose =
     let more : count_by not (take (bound + 1) (set good bound false)) ≡ count_by not (take bound good) + 1 = count_by_more_yes not (set good bound false) bound false inside (ap not here) ∙ ap (λ xs. count_by not xs + 1) (take-set good bound false) in
     subst (λ (n : ℕ). RoseBy n one.faults three.faults) (sym more) (rose_again (count_by not (take bound good)) one two three rose (cause refl))
 
-pub settled_more : (form : Form) (kinds : List BucketKind) (area rec : List ℕ) (marked good : List Bool) (bound : ℕ) (g : Bool) (from mid to : Device) → bound < length good → bound < length (set good bound g) → bound < length marked → bound < length kinds → is_marked good bound ≡ false → RefreshedBelow form kinds area rec marked good bound from mid → Refreshes form kinds area mid to → LeavesOthers kinds bound mid to → IsSettledAt form kinds area bound mid to g → (IsUndisturbed mid to → IsWrittenAt kinds bound rec mid to) → RefreshedBelow form kinds area rec marked (set good bound g) (bound + 1) from to
-settled_more form kinds area rec marked good bound g from mid to inside within among there fresh_here below run others settled exact =
+-- one more copy was settled, or is stuck
+bounded_more : (form : Form) (kinds : List BucketKind) (area rec : List ℕ) (marked good : List Bool) (bound : ℕ) (from mid to : Device) → bound < length marked → bound < length kinds → is_marked good bound ≡ false → RefreshedBelow form kinds area rec marked good bound from mid → IsBoundedAt kinds bound rec mid to → IsBounded (unmarked_kinds (take (bound + 1) marked) (take (bound + 1) kinds)) rec from to
+bounded_more form kinds area rec marked good bound from mid to among there fresh_here below bounds =
+    let kind = kind_inside kinds bound there in
+    let new : is_marked marked bound ≡ false = sym (below.same bound (inr (omega arith))) ∙ fresh_here in
+    let first : List BucketKind = unmarked_kinds (take bound marked) (take bound kinds) in
+    bounded_next kinds rec marked bound (first ++ kind.0 ∷ []) from to (unmarked_more marked kinds bound kind.0 kind.1 among new)
+    (bounded_joined first (first ++ kind.0 ∷ []) kind.0 rec from mid to below.refreshes.later (below.kept bound kind.0 kind.1 (inr (omega arith))) below.bounded (bounds bound kind.0 kind.1 refl)
+    (λ p. let sum = count_append p first (kind.0 ∷ []) in omega (arith, sum)))
+
+pub settled_more : (form : Form) (kinds : List BucketKind) (area rec : List ℕ) (marked good : List Bool) (bound : ℕ) (g : Bool) (from mid to : Device) → bound < length good → bound < length (set good bound g) → bound < length marked → bound < length kinds → is_marked good bound ≡ false → RefreshedBelow form kinds area rec marked good bound from mid → Refreshes form kinds area mid to → LeavesOthers kinds bound mid to → IsSettledAt form kinds area bound mid to g → (IsUndisturbed mid to → IsWrittenAt kinds bound rec mid to) → IsBoundedAt kinds bound rec mid to → to.read_faults ≡ mid.read_faults → RefreshedBelow form kinds area rec marked (set good bound g) (bound + 1) from to
+settled_more form kinds area rec marked good bound g from mid to inside within among there fresh_here below run others settled exact bounds calm =
     let page : mid.geometry.page ≡ from.geometry.page = ap (λ geo. geo.page) below.refreshes.later.geometry in
     let new : is_marked marked bound ≡ false = sym (below.same bound (inr (omega arith))) ∙ fresh_here in
     let here : is_marked (set good bound g) bound ≡ g = get_or-set_same good bound g false inside in
@@ -178,11 +201,13 @@ settled_more form kinds area rec marked good bound g from mid to inside within a
       erased = λ quiet.
           let kind = kind_inside kinds bound there in
           let before : ErasesBy (unmarked_kinds (take bound marked) (take bound kinds)) rec from mid = below.erased (undisturbed_first from mid to run.later quiet) in
-          let last = written_erases kind.0 rec mid to (exact (undisturbed_second from mid to below.refreshes.later quiet) bound kind.0 kind.1 refl).erases in
+          let last = written_erases kind.0 rec mid to (exact (undisturbed_second from mid to below.refreshes.later quiet) bound kind.0 kind.1 refl) in
           let whole : List BucketKind = unmarked_kinds (take bound marked) (take bound kinds) ++ kind.0 ∷ [] in
           erased_next kinds rec marked bound whole from to (unmarked_more marked kinds bound kind.0 kind.1 among new)
           (erases_joined (unmarked_kinds (take bound marked) (take bound kinds)) whole kind.0 rec from mid to below.refreshes.later run.later
           (below.kept bound kind.0 kind.1 (inr (omega arith))) before last (λ p. count_append p (unmarked_kinds (take bound marked) (take bound kinds)) (kind.0 ∷ [])));
+      bounded = bounded_more form kinds area rec marked good bound from mid to among there fresh_here below bounds;
+      read_faults = calm ∙ below.read_faults;
     }
 
 -- ---- at the end
@@ -207,7 +232,15 @@ all_written form kinds area rec marked good from to many below quiet =
 pub keeps_marked : (form : Form) (kinds : List BucketKind) (area rec : List ℕ) (marked good : List Bool) (bound : ℕ) (from to : Device) → RefreshedBelow form kinds area rec marked good bound from to → KeepsMarked kinds marked from to
 keeps_marked form kinds area rec marked good bound from to below = λ copy kind e mark. below.kept copy kind e (inl mark)
 
+pub all_bounded : (form : Form) (kinds : List BucketKind) (area rec : List ℕ) (marked good : List Bool) (bound : ℕ) (from to : Device) → RefreshedBelow form kinds area rec marked good bound from to → IsBounded (unmarked_kinds marked kinds) rec from to
+all_bounded form kinds area rec marked good bound from to below = bounded_wider _ (unmarked_kinds marked kinds) rec from to (unmarked_below bound marked kinds) below.bounded
+
 -- ---- where a copy is stuck
+
+pub stuck_bounded : (form : Form) (kinds : List BucketKind) (area rec : List ℕ) (marked good : List Bool) (bound : ℕ) (from mid to : Device) → bound < length marked → bound < length kinds → is_marked good bound ≡ false → RefreshedBelow form kinds area rec marked good bound from mid → IsBoundedAt kinds bound rec mid to → IsBounded (unmarked_kinds marked kinds) rec from to
+stuck_bounded form kinds area rec marked good bound from mid to among there fresh_here below bounds =
+    bounded_wider _ (unmarked_kinds marked kinds) rec from to (unmarked_below (bound + 1) marked kinds)
+    (bounded_more form kinds area rec marked good bound from mid to among there fresh_here below bounds)
 
 cause_earlier : (form : Form) (kind : BucketKind) (area : List ℕ) (from mid to : Device) → IsLater from mid → IsLater mid to → IsStale form kind area mid to ⊎ IsUnread mid to → IsStale form kind area from to ⊎ IsUnread from to
 cause_earlier form kind area from mid to h k (inl stale) =
@@ -224,9 +257,10 @@ cause_earlier form kind area from mid to h k (inr unread) =
     let read = unread.read in
     inr (record { cause = omega (arith, before, cause); read = omega (arith, reads, read) })
 
-pub stuck_earlier : (form : Form) (kinds : List BucketKind) (area : List ℕ) (copy : ℕ) (from mid to : Device) → IsLater from mid → IsLater mid to → IsStuckAt form kinds area copy mid to → IsStuckAt form kinds area copy from to
-stuck_earlier form kinds area copy from mid to h k stuck = record {
+pub stuck_earlier : (form : Form) (kinds : List BucketKind) (area : List ℕ) (copy : ℕ) (from mid to : Device) → IsLater from mid → IsLater mid to → mid.read_faults ≡ from.read_faults → IsStuckAt form kinds area copy mid to → IsStuckAt form kinds area copy from to
+stuck_earlier form kinds area copy from mid to h k calm stuck = record {
   inside = stuck.inside;
+  read_faults = elim stuck.read_faults [ inl same ↦ inl (same ∙ calm) | inr more ↦ inr (more ∙ ap one_more calm) ];
   cause = λ place kind e same. cause_earlier form kind area from mid to h k (stuck.cause place kind e same);
 }
 

@@ -7,10 +7,12 @@ use Rattle.std.proofs.lemmas.Slice.Eq.{bytes_eq-Decides}
 use Rattle.std.proofs.lemmas.List.{length-append}
 use Rattle.bb_flash.specs.Calls.{IsUntouched}
 use Rattle.bb_flash.specs.Counted.{EachCounted}
+use Rattle.bb_flash.specs.Cuts.{IsLater}
 use Rattle.bb_flash.specs.Device.{Change, Device, Told, image_at, moment}
 use Rattle.bb_flash.specs.Image.{Image, Torn}
 use Rattle.bb_flash.proofs.Moments.{image_at-now}
 use Rattle.bb_bucket.specs.Calls.{EachCall, EndsTorn, IsTornLast, but_reads, told_but_reads}
+use Rattle.bb_bucket.proofs.Runs.{calls_joined}
 use Rattle.bb_copies.specs.Luck.{IsLucky}
 use Rattle.bb_copies.specs.Passing.{passes_at}
 
@@ -84,3 +86,11 @@ same_told o p same first last e f =
 -- a run of reads changes nothing
 pub reads_untouched : (from to : Device) → told_but_reads to ≡ told_but_reads from → ForSome from.told (λ first. ForSome to.told (IsUntouched first))
 reads_untouched from to same = λ first e last f. same_told to.told from.told same first last e f
+
+-- what holds of the calls of two runs
+pub each_joined : (P : Change → Type 0) (one two three : Device) → IsLater one two → IsLater two three → EachCall (λ before change. P change) one two → EachCall (λ before change. P change) two three → EachCall (λ before change. P change) one three
+each_joined P one two three h k first second =
+    calls_joined (λ before change. P change) (λ before change. P change) (λ before change. P change) (λ x y. Unit {0}) one two three (λ x change holds. holds) (λ x y change between holds. holds) h k (λ x e y f. tt) first second
+
+pub each_weaker : (P Q : Image → Change → Type 0) (from to : Device) → ((x : Image) (change : Change) → P x change → Q x change) → EachCall P from to → EachCall Q from to
+each_weaker P Q from to weaker calls = record { each = λ first e last f call change late made. weaker first.image change (calls.each first e last f call change late made) }

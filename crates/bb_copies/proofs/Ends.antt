@@ -1,18 +1,19 @@
 -- How a copy ends that was settled.
-use Rattle.std.proofs.Common.{◌≡◌, ◌∙◌, ℕ, ◌≤◌, ◌++◌, true, false, List, length, take, drop, Result, Ok, Err, OnOk, IsErr, is_ok, Option, Some, None, ap, sym, subst, arith, refl, inl, inr, IsTrue, option_map, option_and_then}
+use Rattle.std.proofs.Common.{◌≡◌, ◌⊎◌, ◌∙◌, ℕ, ◌+◌, ◌≤◌, ◌++◌, true, false, List, length, take, drop, Result, Ok, Err, OnOk, IsErr, is_err, is_ok, Bool, Option, Some, None, ap, sym, subst, arith, refl, inl, inr, IsTrue, option_map, option_and_then}
 use Rattle.std.specs.Option.{ForSome, is_some}
 use Rattle.std.proofs.Math.Seq.{take-append_seam}
-use Rattle.bb_base.specs.Faults.{Rose}
+use Rattle.bb_base.specs.Faults.{Rose, counted, one_more}
 use Rattle.bb_base.specs.Form.{Form, IsForm}
+use Rattle.bb_base.proofs.Counts.{one_more_rose}
 use Rattle.bb_flash.specs.Cuts.{IsLater}
 use Rattle.bb_flash.specs.Device.{Device, IsDevice, Told, content}
 use Rattle.bb_flash.specs.Image.{Image}
-use Rattle.bb_bucket.specs.Calls.{Leaves}
+use Rattle.bb_bucket.specs.Calls.{ErasesWhere, FailsToLook, Leaves, MakesCalls, calls_of_write}
 use Rattle.bb_bucket.specs.Kind.{BucketKind, IsKind, part_of}
 use Rattle.bb_copies.specs.declared.settle.Settled.{Settled}
 use Rattle.bb_copies.specs.declared.settle.Settled.TheVariants.{Good, Dead, Stuck}
 use Rattle.bb_copies.specs.Passing.{passing_of}
-use Rattle.bb_copies.specs.Settling.{EndsAs, IsCompared, IsDead, IsGood, PassesAnother, ReadsAs, RoseBy}
+use Rattle.bb_copies.specs.Settling.{CountsAs, EndsAs, FailsBy, IsCompared, IsDead, IsGood, IsWritten, PassesAnother, ReadsAs, ReadsOnce, RoseBy, twice_more}
 use Rattle.bb_copies.proofs.OneCopy.{begun_passes}
 
 pub some_of : {T : Type 0} → (o : Option T) → is_some o ≡ true → (x : T) × (o ≡ Some x)
@@ -94,3 +95,66 @@ whole_slice xs ys n e = ap (λ k. take k (xs ++ drop (length xs) ys)) (sym e) �
 pub written_good_as : (form : Form) (kind : BucketKind) (area rec : List ℕ) (from to : Device) → rec ≡ form.text area → IsForm form → IsKind kind → IsTrue (kind.serves from.geometry) → IsTrue (form.fits area) → form.length ≤ kind.room → IsDevice from → IsLater from to → Leaves kind.region (kind.after_write rec) from to → IsGood form kind area from to
 written_good_as form kind area rec from to packed laws kinds serves fits room whole later leaves =
     written_good form kind area from to laws kinds serves fits room whole later (subst (λ (r : List ℕ). Leaves kind.region (kind.after_write r) from to) packed leaves)
+
+-- ---- which calls failed
+
+pub not_failed : {T E : Type 0} (r : Result T E) (before now : ℕ) → is_ok r ≡ true → now ≡ counted (is_err r) before → now ≡ before
+not_failed (Ok x) before now ok e = e
+not_failed (Err x) before now ok e = absurd cc
+
+pub failed_once : {T E : Type 0} (r : Result T E) (before now : ℕ) → is_ok r ≡ false → now ≡ counted (is_err r) before → now ≡ one_more before
+failed_once (Ok x) before now ok e = absurd cc
+failed_once (Err x) before now ok e = e
+
+-- a write of a bucket that knows the place of a record doesn't look first
+pub no_look : {T E : Type 0} (knows : Bool) (r : Result T E) (from to : Device) → IsTrue knows → (to.read_faults ≡ from.read_faults) ⊎ FailsToLook knows r from to → to.read_faults ≡ from.read_faults
+no_look knows r from to placed (inl same) = same
+no_look true r from to placed (inr failed) = let clash : true ≡ false = failed.unknown in absurd cc
+no_look false r from to placed (inr failed) = absurd cc
+
+pub twice_rose : (before : ℕ) → RoseBy 2 before (twice_more before)
+twice_rose before =
+    let one = one_more_rose before in
+    let two = one_more_rose (one_more before) in
+    omega (arith, one, two)
+
+pub one_more_most : (before : ℕ) → one_more before ≤ before + 1
+one_more_most before = grind arith
+
+pub twice_most : (before : ℕ) → twice_more before ≤ before + 2
+twice_most before =
+    let one = one_more_most before in
+    let two = one_more_most (one_more before) in
+    omega (arith, one, two)
+
+-- the write was the only call
+pub written_once : {T E : Type 0} (kind : BucketKind) (rec : List ℕ) (r : Result T E) (from to : Device) → is_ok r ≡ true → OnOk r (Leaves kind.region (kind.after_write rec) from to) → OnOk r (ErasesWhere kind.region (kind.write_erases rec) from to) → MakesCalls r kind.region (calls_of_write kind rec) from to → to.faults ≡ from.faults → to.read_faults ≡ from.read_faults → IsWritten kind rec from to
+written_once kind rec r from to ok leaves erases made faults reads = record {
+  leaves = ok_gives r _ leaves ok;
+  erases = ok_gives r _ erases ok;
+  made = ok_gives r _ made.done ok;
+  faults = faults;
+  read_faults = reads;
+}
+
+-- which calls failed, by what reading back added
+pub counts_read : (kind : BucketKind) (rec : List ℕ) (from mid to : Device) (settled : Settled) → FailsBy twice_more from mid → ReadsOnce mid to settled → CountsAs kind rec from to settled
+counts_read kind rec from mid to Good by read = inr (record { faults = read.0 ∙ by.faults; read_faults = read.1 ∙ by.read_faults })
+counts_read kind rec from mid to Dead by read = inr (record { faults = read.0 ∙ by.faults; read_faults = read.1 ∙ by.read_faults })
+counts_read kind rec from mid to Stuck by (inl read) = inl (record { faults = read.0 ∙ by.faults; read_faults = read.1 ∙ by.read_faults })
+counts_read kind rec from mid to Stuck by (inr read) = inr (record { faults = read.0 ∙ ap one_more by.faults; read_faults = read.1 ∙ ap one_more by.read_faults })
+
+pub read_most : (from to : Device) (settled : Settled) → ReadsOnce from to settled → to.faults ≤ from.faults + 1
+read_most from to Good read = let same = read.0 in omega (arith, same)
+read_most from to Dead read = let same = read.0 in omega (arith, same)
+read_most from to Stuck (inl read) = let same = read.0 in omega (arith, same)
+read_most from to Stuck (inr read) =
+    let more = read.0 in
+    let most = one_more_most from.faults in
+    omega (arith, more, most)
+
+-- a copy was read back
+pub counts_compared : (from to : Device) (settled : Settled) → to.faults ≡ from.faults → to.read_faults ≡ from.read_faults → ReadsOnce from to settled
+counts_compared from to Good faults reads = (faults, reads)
+counts_compared from to Dead faults reads = (faults, reads)
+counts_compared from to Stuck faults reads = inl (faults, reads)

@@ -13,13 +13,14 @@ use Rattle.bb_flash.specs.Image.{Image}
 use Rattle.bb_flash.proofs.Moments.{images_joined}
 use Rattle.bb_bucket.specs.Kind.{BucketKind}
 use Rattle.bb_copies.specs.Buckets.{EachCopy}
-use Rattle.bb_copies.specs.Erasing.{unmarked_kinds}
+use Rattle.bb_copies.specs.Erasing.{IsBounded, unmarked_kinds}
 use Rattle.bb_copies.specs.Looking.{IsFirst}
 use Rattle.bb_copies.specs.Passing.{passing_of, passings}
-use Rattle.bb_copies.specs.Refreshing.{AllHeld, AllSettled, AllWritten, IsFirstMarked, IsSettledAt, IsUntouched, IsWrittenAt, KeepsMarked, LeavesOthers, NeverEmpty, NoOther, area_if, is_marked}
+use Rattle.bb_copies.specs.Refreshing.{AllHeld, AllSettled, AllWritten, IsFirstMarked, IsSettledAt, IsUntouched, IsBoundedAt, IsWrittenAt, KeepsMarked, LeavesOthers, NeverEmpty, NoOther, area_if, is_marked}
 use Rattle.bb_copies.specs.Settling.{IsUndisturbed, RoseBy}
 use Rattle.bb_copies.specs.StandsFor.{SomePasses}
 use Rattle.bb_copies.proofs.Below.{kind_inside, leaves_still, passes_still, still_leaves}
+use Rattle.bb_copies.proofs.Bounded.{bounded_joined, unmarked_fewer}
 use Rattle.bb_copies.proofs.Erased.{erases_joined, one_more, written_erases}
 use Rattle.bb_copies.proofs.Many.{same_or_not, same_passing}
 use Rattle.bb_copies.proofs.Passed.{some_passes}
@@ -69,7 +70,7 @@ spares_by form kinds copy kind area from to e untouched passes = record {
       let page : ℕ = from.geometry.page in
       let held_map : Told → Image = λ t. t.image in
       let old = passes first.image (ap (option_map held_map) f) in
-      let kept = same_passing form page kind first.image image (untouched.each first f last h image cut) in
+      let kept = same_passing form page kind first.image image (untouched.images.each first f last h image cut) in
       some_passes (λ k. passing_of form page k image) kinds copy kind area e (kept ∙ old);
 }
 
@@ -185,7 +186,7 @@ written_others kinds rec good used from mid to h k kept written others last insi
       let kind = kind_inside kinds used there in
       erases_joined (unmarked_kinds (set good used true) kinds) (unmarked_kinds good kinds) kind.0 rec from mid to h k
       (kept used kind.0 kind.1 (get_or-set_same good used true false inside)) written.erases
-      (written_erases kind.0 rec mid to (last used kind.0 kind.1 refl).erases) (one_more good kinds used kind.0 kind.1 inside stale);
+      (written_erases kind.0 rec mid to (last used kind.0 kind.1 refl)) (one_more good kinds used kind.0 kind.1 inside stale);
 }
 
 pub kept_others : (kinds : List BucketKind) (good : List Bool) (used : ℕ) (from mid to : Device) → IsLater from mid → IsLater mid to → is_marked good used ≡ false → KeepsMarked kinds (set good used true) from mid → LeavesOthers kinds used mid to → KeepsMarked kinds good from to
@@ -203,6 +204,17 @@ kept_marked kinds good used from to inside kept = λ copy kind e mark. kept copy
 pub written_fresh : (kinds : List BucketKind) (rec : List ℕ) (good : List Bool) (used : ℕ) (from to : Device) → is_marked good used ≡ true → AllWritten kinds rec (set good used true) from to → AllWritten kinds rec good from to
 written_fresh kinds rec good used from to mark written =
     subst (λ (xs : List Bool). AllWritten kinds rec xs from to) (set_again good used mark) written
+
+-- how often the others and the used one were tried
+pub bounded_used : (kinds : List BucketKind) (rec : List ℕ) (good : List Bool) (used : ℕ) (from mid to : Device) → used < length good → used < length kinds → is_marked good used ≡ false → IsLater from mid → KeepsMarked kinds (set good used true) from mid → IsBounded (unmarked_kinds (set good used true) kinds) rec from mid → IsBoundedAt kinds used rec mid to → IsBounded kinds rec from to
+bounded_used kinds rec good used from mid to inside there stale h kept first last =
+    let kind = kind_inside kinds used there in
+    bounded_joined (unmarked_kinds (set good used true) kinds) kinds kind.0 rec from mid to h
+    (kept used kind.0 kind.1 (get_or-set_same good used true false inside)) first (last used kind.0 kind.1 refl)
+    (λ p.
+    let more = one_more good kinds used kind.0 kind.1 inside stale p in
+    let fewer = unmarked_fewer good kinds p in
+    omega (arith, more, fewer))
 
 -- ---- a save over a used copy
 

@@ -1,5 +1,7 @@
 mod Examples
+pub mod Bounded
 pub mod Calls
+pub mod Cutting
 pub mod Ends
 pub mod Erased
 pub mod Finding

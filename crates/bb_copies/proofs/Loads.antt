@@ -3,7 +3,9 @@ use Rattle.std.proofs.Common.{◌≡◌, ◌∙◌, ℕ, suc, ◌+◌, ◌-◌, 
 use Rattle.std.specs.Option.{ForSome}
 use Rattle.std.proofs.lemmas.List.Sums.{get_or-le-sum_by, sum_by-cons}
 use Rattle.std.proofs.lemmas.Option.{slice_get_within}
+use Rattle.bb_base.specs.Faults.{Rose, one_more}
 use Rattle.bb_base.specs.Form.{Form}
+use Rattle.bb_base.proofs.Counts.{one_more_rose}
 use Rattle.bb_flash.specs.Cuts.{EachImage, IsLater}
 use Rattle.bb_flash.specs.Device.{Device, IsDevice, ReadKeeps, Told, content}
 use Rattle.bb_flash.specs.Image.{Image}
@@ -15,8 +17,8 @@ use Rattle.bb_copies.specs.declared.answers.Loaded.{Loaded}
 use Rattle.bb_copies.specs.declared.answers.Loaded.TheVariants.{Copy, NoCopy}
 use Rattle.bb_copies.specs.declared.read.Passed.{Passed}
 use Rattle.bb_copies.specs.Buckets.{EachCopy}
-use Rattle.bb_copies.specs.Loading.{IsAllKept, IsEmpty, IsExact, IsFirstArea, IsLoadStuck, LoadErases, LoadGives, LoadImages, LoadRuns, LoadsExactly, StandsStill}
-use Rattle.bb_copies.specs.Erasing.{ErasesBy, unmarked_kinds}
+use Rattle.bb_copies.specs.Loading.{IsAllKept, IsEmpty, IsExact, IsFirstArea, IsLoadStuck, IsReadFault, LoadErases, LoadGives, LoadImages, LoadRuns, LoadsExactly, StandsStill}
+use Rattle.bb_copies.specs.Erasing.{ErasesBy, IsBounded, unmarked_kinds}
 use Rattle.bb_copies.specs.Looking.{IsFirst, IsReadAt, PassNothing}
 use Rattle.bb_copies.specs.Luck.{IsLucky}
 use Rattle.bb_copies.specs.Passing.{passing_of, passings}
@@ -24,12 +26,12 @@ use Rattle.bb_copies.specs.Refreshing.{AllHeld, AllWritten, IsFirstMarked, IsStu
 use Rattle.bb_copies.specs.Settling.{IsUndisturbed, RoseBy}
 use Rattle.bb_copies.specs.StandsFor.{IsAreaOrNone, KeepsOrTakes, SomePasses, Stands, first_passed}
 use Rattle.bb_copies.proofs.Below.{kind_inside, stuck_earlier}
-use Rattle.bb_copies.proofs.Erased.{erases_behind}
+use Rattle.bb_copies.proofs.Erased.{erases_behind, read_changes}
 use Rattle.bb_copies.proofs.Held.{never_joined, true_or_false}
 use Rattle.bb_copies.proofs.History.{load_during}
 use Rattle.bb_copies.proofs.Many.{images_now, passes_kind, same_or_not, same_part}
 use Rattle.bb_copies.proofs.Passed.{each_passes, first_found, none_passes, some_passes}
-use Rattle.bb_copies.proofs.Runs.{read_images, refreshes_joined, unchanged_refreshes, undisturbed_second}
+use Rattle.bb_copies.proofs.Runs.{read_images, read_untouched, refreshes_joined, unchanged_refreshes, undisturbed_second, untouched_joined}
 
 -- ---- reading alone
 
@@ -49,10 +51,23 @@ unchanged_runs form kinds from to told keeps later whole =
       whole = whole;
     }
 
-pub none_found : (form : Form) (kinds : List BucketKind) (bound : ℕ) (good : List Bool) (from to : Device) → bound ≡ length kinds → content to ≡ content from → ForSome (content from) (λ image. PassNothing form from.geometry.page kinds bound good image) → IsEmpty form kinds from to
-none_found form kinds bound good from to many same none = record {
+pub none_found : (form : Form) (kinds : List BucketKind) (bound : ℕ) (good : List Bool) (from to : Device) → bound ≡ length kinds → content to ≡ content from → told_but_reads to ≡ told_but_reads from → to.faults ≡ from.faults → to.read_faults ≡ from.read_faults → ForSome (content from) (λ image. PassNothing form from.geometry.page kinds bound good image) → IsEmpty form kinds from to
+none_found form kinds bound good from to many same told calm quiet none = record {
   none = λ image e. none_passes (λ kind. passing_of form from.geometry.page kind image) kinds (λ copy kind f. (none image e).each copy kind f (omega (arith, slice_get_within kinds copy kind f, many)));
   content = same;
+  changes = read_changes from to told;
+  faults = calm;
+  read_faults = quiet;
+}
+
+pub read_fault : (from to : Device) → content to ≡ content from → told_but_reads to ≡ told_but_reads from → to.faults ≡ one_more from.faults → to.read_faults ≡ one_more from.read_faults → IsReadFault from to
+read_fault from to same told faults reads = record {
+  cause = subst (Rose from.faults) (sym faults) (one_more_rose from.faults);
+  read = subst (Rose from.read_faults) (sym reads) (one_more_rose from.read_faults);
+  content = same;
+  changes = read_changes from to told;
+  faults = faults;
+  read_faults = reads;
 }
 
 -- ---- the first that passes
@@ -151,8 +166,8 @@ live_and_dead (g ∷ good) =
     let size : length (g ∷ good) ≡ length good + 1 = omega arith in
     omega (arith, one, two, rest, both, size)
 
-pub all_kept : (form : Form) (kinds : List BucketKind) (area : List ℕ) (good : List Bool) (used live : ℕ) (from mid to : Device) → length good ≡ length kinds → IsLater from mid → IsFirstMarked good (length good) used → live ≡ count_by (λ marked. marked) good → AllHeld form kinds area good mid to → IsAllKept form kinds area used live from to
-all_kept form kinds area good used live from mid to many h first is_live all =
+pub all_kept : (form : Form) (kinds : List BucketKind) (area : List ℕ) (good : List Bool) (used live : ℕ) (from mid to : Device) → length good ≡ length kinds → IsLater from mid → IsFirstMarked good (length good) used → live ≡ count_by (λ marked. marked) good → AllHeld form kinds area good mid to → to.read_faults ≡ from.read_faults → IsAllKept form kinds area used live from to
+all_kept form kinds area good used live from mid to many h first is_live all calm =
     let page : mid.geometry.page ≡ from.geometry.page = ap (λ geo. geo.page) h.geometry in
     let each : EachCopy kinds (λ copy kind. ForSome (content to) (λ image. passing_of form from.geometry.page kind image ≡ area_if area (is_marked good copy))) =
     λ copy kind e. subst (λ (p : ℕ). ForSome (content to) (λ image. passing_of form p kind image ≡ area_if area (is_marked good copy))) page (all.each copy kind e) in
@@ -179,13 +194,14 @@ all_kept form kinds area good used live from mid to many h first is_live all =
       dead =
           let n : length kinds - live ≡ count_by not good = omega (arith, sum, many, is_live) in
           subst (λ (k : ℕ). RoseBy k from.faults to.faults) (sym n) (omega (arith, dead, before));
+      read_faults = calm;
     }
 
-pub load_gives : (form : Form) (kinds : List BucketKind) (area : List ℕ) (good : List Bool) (used live : ℕ) (from mid to : Device) → length good ≡ length kinds → IsLater from mid → ForSome (content from) (λ image. IsFirstArea area (passings form from.geometry.page kinds image)) → AllHeld form kinds area good mid to → IsFirstMarked good (length good) used → live ≡ count_by (λ marked. marked) good → LoadGives form kinds area from to (Copy used live)
-load_gives form kinds area good used live from mid to many h entry all first counted = record { entry = entry; exit = all_kept form kinds area good used live from mid to many h first counted all }
+pub load_gives : (form : Form) (kinds : List BucketKind) (area : List ℕ) (good : List Bool) (used live : ℕ) (from mid to : Device) → length good ≡ length kinds → IsLater from mid → ForSome (content from) (λ image. IsFirstArea area (passings form from.geometry.page kinds image)) → AllHeld form kinds area good mid to → IsFirstMarked good (length good) used → live ≡ count_by (λ marked. marked) good → to.read_faults ≡ from.read_faults → IsBounded kinds (form.text area) from to → LoadGives form kinds area from to (Copy used live)
+load_gives form kinds area good used live from mid to many h entry all first counted calm bounded = record { entry = entry; exit = all_kept form kinds area good used live from mid to many h first counted all calm; bounded = bounded }
 
-pub load_stuck : (form : Form) (kinds : List BucketKind) (area : List ℕ) (copy : ℕ) (from mid to : Device) → IsLater from mid → IsLater mid to → ForSome (content from) (λ image. IsFirstArea area (passings form from.geometry.page kinds image)) → IsStuckAt form kinds area copy mid to → IsLoadStuck form kinds area copy from to
-load_stuck form kinds area copy from mid to h k entry stuck = record { entry = entry; stuck = stuck_earlier form kinds area copy from mid to h k stuck }
+pub load_stuck : (form : Form) (kinds : List BucketKind) (area : List ℕ) (copy : ℕ) (from mid to : Device) → IsLater from mid → IsLater mid to → ForSome (content from) (λ image. IsFirstArea area (passings form from.geometry.page kinds image)) → mid.read_faults ≡ from.read_faults → IsStuckAt form kinds area copy mid to → IsBounded kinds (form.text area) from to → IsLoadStuck form kinds area copy from to
+load_stuck form kinds area copy from mid to h k entry calm stuck bounded = record { entry = entry; stuck = stuck_earlier form kinds area copy from mid to h k calm stuck; bounded = bounded }
 
 -- ---- without a fault
 
@@ -196,7 +212,7 @@ exact_copies form kinds area good bound used from mid to many keeps first kept w
     let held_then : content mid ≡ Some before = keeps.content ∙ e in
     record {
       fresh = λ fresh.
-          let region = images_now _ mid to (kept copy kind there (test.1 fresh)) before after held_then f in
+          let region = images_now _ mid to (kept copy kind there (test.1 fresh)).images before after held_then f in
           subst (λ (p : ℕ). part_of p kind.region after ≡ part_of p kind.region before) page (same_part mid.geometry.page kind.region before after region);
       stale = λ stale.
           let mark : is_marked good copy ≡ false = elim (true_or_false (is_marked good copy)) [ inl h ↦ absurd (stale (test.0 h)) | inr h ↦ h ] in
@@ -211,13 +227,14 @@ loads_exactly form kinds area rec good bound used from mid to (Copy taken live) 
     exact_copies form kinds area good bound used from mid to many keeps first (kept here) (subst (λ (r : List ℕ). AllWritten kinds r good mid to) packed (written here))
 
 -- what was erased, from the marks that reading all copies left
-pub loads_erasing : (form : Form) (kinds : List BucketKind) (area rec : List ℕ) (good : List Bool) (bound used : ℕ) (from mid to : Device) → bound ≡ length kinds → rec ≡ form.text area → told_but_reads mid ≡ told_but_reads from → IsLater from mid → ReadKeeps from mid → ForSome (content from) (λ image. IsFirst form from.geometry.page kinds bound area good image used) → (IsUndisturbed mid to → AllWritten kinds rec good mid to) → IsUndisturbed from to → LoadErases form kinds area from to
-loads_erasing form kinds area rec good bound used from mid to many packed told h keeps first written quiet = record {
+pub loads_erasing : (form : Form) (kinds : List BucketKind) (area rec : List ℕ) (good : List Bool) (bound used : ℕ) (from mid to : Device) → bound ≡ length kinds → rec ≡ form.text area → told_but_reads mid ≡ told_but_reads from → IsLater from mid → ReadKeeps from mid → ForSome (content from) (λ image. IsFirst form from.geometry.page kinds bound area good image used) → (IsUndisturbed mid to → KeepsMarked kinds good mid to) → (IsUndisturbed mid to → AllWritten kinds rec good mid to) → IsLater mid to → IsUndisturbed from to → LoadErases form kinds area from to
+loads_erasing form kinds area rec good bound used from mid to many packed told h keeps first kept written k quiet = record {
   fresh = good;
   marks = λ image e copy kind there. (first image e).fresh copy kind there (omega (arith, slice_get_within kinds copy kind there, many));
   erases =
       let by : ErasesBy (unmarked_kinds good kinds) rec mid to = (written (undisturbed_second from mid to h quiet)).erases in
       erases_behind (unmarked_kinds good kinds) (form.text area) from mid to told keeps (subst (λ (r : List ℕ). ErasesBy (unmarked_kinds good kinds) r mid to) packed by);
+  kept = λ copy kind there mark. untouched_joined kind from mid to h k (read_untouched kind from mid told) (kept (undisturbed_second from mid to h quiet) copy kind there mark);
 }
 
 -- ---- a look

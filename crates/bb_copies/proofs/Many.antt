@@ -12,7 +12,7 @@ use Rattle.bb_flash.specs.Image.{Image, Torn}
 use Rattle.bb_flash.proofs.Counting.{counted_both, counted_fewer}
 use Rattle.bb_flash.proofs.Moments.{Cuts-now, images_weaker}
 use Rattle.bb_flash.proofs.Regions.{Torn-region}
-use Rattle.bb_bucket.specs.Calls.{Agrees}
+use Rattle.bb_bucket.specs.Calls.{Agrees, EachCall, IsWithin, range_of}
 use Rattle.bb_bucket.specs.Kind.{BucketKind, Holding, IsKind, part_of}
 use Rattle.bb_copies.specs.Buckets.{AllAgree, AllServe, AreApart, EachCopy, IsApart, kinds_of}
 use Rattle.bb_copies.specs.Luck.{IsLucky}
@@ -20,6 +20,7 @@ use Rattle.bb_copies.specs.Passing.{passes_at, passing_of, passings}
 use Rattle.bb_copies.specs.Refreshing.{IsUntouched, LeavesOthers, Refreshes}
 use Rattle.bb_copies.specs.Settling.{SettlesCopy}
 use Rattle.bb_copies.specs.StandsFor.{IsKeptOrTaken, KeepsOrTakes}
+use Rattle.bb_copies.proofs.Calls.{each_weaker}
 use Rattle.bb_copies.proofs.Ends.{content_before}
 
 -- ---- lists
@@ -142,9 +143,17 @@ one_of_all form page kinds copy kind area before image e here others =
       | inr other ↦ inl (inl (others place beside f other))
     ])
 
-pub settled_others : (kinds : List BucketKind) (copy : ℕ) (kind : BucketKind) (from to : Device) → EachCopy kinds (λ place other. IsKind other) → AreApart kinds → AllServe kinds from.geometry → IsDevice from → slice_get kinds copy ≡ Some kind → EachTorn kind.region.at kind.region.size from to → LeavesOthers kinds copy from to
-settled_others kinds copy kind from to laws apart serves whole e torn = λ place beside f other.
-    images_apart kind beside.region from to (laws copy kind e) (serves copy kind e) whole (apart copy kind e place beside f other) torn
+call_apart : (region beside : Region) (change : Change) → IsApart region beside → IsWithin region change → IsApart beside (range_of change)
+call_apart region beside change (inl before) within = let high = within.high in inr (omega (arith, before, high))
+call_apart region beside change (inr behind) within = let low = within.low in inl (omega (arith, behind, low))
+
+pub settled_others : (kinds : List BucketKind) (copy : ℕ) (kind : BucketKind) (from to : Device) → EachCopy kinds (λ place other. IsKind other) → AreApart kinds → AllServe kinds from.geometry → IsDevice from → slice_get kinds copy ≡ Some kind → EachTorn kind.region.at kind.region.size from to → EachCall (λ before change. IsWithin kind.region change) from to → LeavesOthers kinds copy from to
+settled_others kinds copy kind from to laws apart serves whole e torn calls = λ place beside f other.
+    let between = apart copy kind e place beside f other in
+    record {
+      images = images_apart kind beside.region from to (laws copy kind e) (serves copy kind e) whole between torn;
+      calls = each_weaker (λ before change. IsWithin kind.region change) (λ before change. IsApart beside.region (range_of change)) from to (λ x change within. call_apart kind.region beside.region change between within) calls;
+    }
 
 pub settled_refreshes : (form : Form) (kinds : List BucketKind) (area : List ℕ) (copy : ℕ) (kind : BucketKind) (from to : Device) → EachCopy kinds (λ place other. IsKind other) → AreApart kinds → AllServe kinds from.geometry → IsDevice from → slice_get kinds copy ≡ Some kind → SettlesCopy form kind area from to → Refreshes form kinds area from to
 unfolding OthersPass
@@ -186,7 +195,7 @@ pub agrees_beside : (holding : Holding) (from to : Device) → IsLater from to �
 agrees_beside holding from to later same agrees = record {
   here = λ after f.
       let there = content_before from to later after f in
-      let region = images_now _ from to same there.0 after there.1 f in
+      let region = images_now _ from to same.images there.0 after there.1 f in
       let page = ap (λ geo. geo.page) later.geometry in
       subst (λ (p : ℕ). IsTrue (holding.agrees (part_of p holding.kind.region after))) (sym page)
       (subst (λ (part : Image). IsTrue (holding.agrees part)) (sym (same_part from.geometry.page holding.kind.region there.0 after region)) (agrees.here there.0 there.1));

@@ -8,13 +8,14 @@ use Rattle.bb_flash.specs.Image.{Image, Torn}
 use Rattle.bb_flash.proofs.Counting.{counted_joined, counted_of_images, images_untouched}
 use Rattle.bb_flash.proofs.Moments.{images_weaker, later_joined, torn_joined}
 use Rattle.bb_flash.proofs.Tearing.{Torn-refl}
-use Rattle.bb_bucket.specs.Calls.{EachCall, EndsTorn, IsOldOrBegun, IsOldOrNone, IsVoidCall, IsWriteCall, told_but_reads}
+use Rattle.bb_bucket.specs.Calls.{EachCall, EndsTorn, IsOldOrBegun, IsOldOrNone, IsVoidCall, IsWithin, IsWriteCall, told_but_reads}
 use Rattle.bb_bucket.specs.Kind.{BucketKind, IsBegun}
+use Rattle.bb_bucket.proofs.Runs.{quiet_calls}
 use Rattle.bb_copies.specs.Luck.{IsLucky}
 use Rattle.bb_copies.specs.Passing.{passing_of, passings}
 use Rattle.bb_copies.specs.Settling.{SettlesCopy}
 use Rattle.bb_copies.specs.StandsFor.{IsKeptOrLost, IsKeptOrTaken}
-use Rattle.bb_copies.proofs.Calls.{counted_of_calls, reads_untouched, unlucky_passes}
+use Rattle.bb_copies.proofs.Calls.{counted_of_calls, each_joined, each_weaker, reads_untouched, unlucky_passes}
 
 -- ---- what a copy passes as, over two runs and over a call
 
@@ -59,6 +60,7 @@ written_copy form kind area from to laws fits calls ends torn later starts whole
       (λ other passes. unlucky_passes (passings form from.geometry.page (kind ∷ [])) change image 0 other unlucky passes))
       calls ends;
   torn = torn;
+  calls = each_weaker (IsWriteCall kind from.geometry.page (form.text area)) (λ before change. IsWithin kind.region change) from to (λ x change call. call.within) calls;
   later = later;
   starts = starts;
   whole = whole;
@@ -80,6 +82,7 @@ voided_copy form kind area from to calls ends torn later starts whole = record {
       (λ other passes. unlucky_passes (passings form from.geometry.page (kind ∷ [])) change image 0 other unlucky passes))
       calls ends;
   torn = torn;
+  calls = each_weaker (IsVoidCall kind from.geometry.page) (λ before change. IsWithin kind.region change) from to (λ x change call. call.within) calls;
   later = later;
   starts = starts;
   whole = whole;
@@ -99,6 +102,7 @@ read_copy_settles form kind area from to told keeps later whole =
             images_weaker (λ before image. image ≡ before) (Torn from.geometry.page kind.region.at kind.region.size) from to
             (λ before image e. subst (λ (i : Image). Torn from.geometry.page kind.region.at kind.region.size before i) (sym e) (Torn-refl from.geometry.page before kind.region.at kind.region.size)) same;
       };
+      calls = quiet_calls (λ before change. IsWithin kind.region change) from to told;
       later = later;
       starts = record { starts = keeps.starts; start_faults = keeps.start_faults };
       whole = whole;
@@ -115,6 +119,7 @@ settles_joined form kind area one two three h k =
           (λ x y z r s. kept_joined area (passing_of form page kind x) (passing_of form page kind y) (passing_of form page kind z) r s)
           h.later k.later h.counted second;
       torn = torn_joined kind.region.at kind.region.size one two three h.later k.later h.torn k.torn;
+      calls = each_joined (IsWithin kind.region) one two three h.later k.later h.calls k.calls;
       later = later_joined one two three h.later k.later;
       starts = record { starts = k.starts.starts ∙ h.starts.starts; start_faults = k.starts.start_faults ∙ h.starts.start_faults };
       whole = k.whole;

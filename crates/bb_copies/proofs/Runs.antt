@@ -9,14 +9,16 @@ use Rattle.bb_flash.specs.Device.{Device, IsDevice, LeavesStarts, Told}
 use Rattle.bb_flash.specs.Image.{Image}
 use Rattle.bb_flash.proofs.Counting.{counted_joined, counted_of_images, images_untouched}
 use Rattle.bb_flash.proofs.Moments.{image_at-now, images_same_joined, images_weaker, later_joined}
-use Rattle.bb_bucket.specs.Calls.{told_but_reads}
+use Rattle.bb_bucket.specs.Calls.{range_of, told_but_reads}
 use Rattle.bb_bucket.specs.Kind.{BucketKind}
+use Rattle.bb_bucket.proofs.Runs.{quiet_calls}
+use Rattle.bb_copies.specs.Buckets.{IsApart}
 use Rattle.bb_copies.specs.Luck.{IsLucky}
 use Rattle.bb_copies.specs.Passing.{passing_of, passings}
 use Rattle.bb_copies.specs.Refreshing.{IsUntouched, Refreshes}
 use Rattle.bb_copies.specs.Settling.{IsUndisturbed}
 use Rattle.bb_copies.specs.StandsFor.{IsKeptOrTaken, KeepsOrTakes}
-use Rattle.bb_copies.proofs.Calls.{reads_untouched}
+use Rattle.bb_copies.proofs.Calls.{each_joined, reads_untouched}
 use Rattle.bb_copies.proofs.Many.{zip_joined, zip_kinds}
 use Rattle.bb_copies.proofs.OneCopy.{kept_joined}
 
@@ -41,10 +43,13 @@ unchanged_refreshes form kinds area from to same later starts whole = record {
   whole = whole;
 }
 
-pub unchanged_untouched : (kind : BucketKind) (from to : Device) → EachImage (λ before image. image ≡ before) from to → IsUntouched kind from to
-unchanged_untouched kind from to same = images_weaker (λ before image. image ≡ before) (IsSameRegion from.geometry.page kind.region.at kind.region.size) from to (same_region from.geometry.page kind.region.at kind.region.size) same
+unchanged_untouched : (kind : BucketKind) (from to : Device) → EachImage (λ before image. image ≡ before) from to → told_but_reads to ≡ told_but_reads from → IsUntouched kind from to
+unchanged_untouched kind from to same told = record {
+  images = images_weaker (λ before image. image ≡ before) (IsSameRegion from.geometry.page kind.region.at kind.region.size) from to (same_region from.geometry.page kind.region.at kind.region.size) same;
+  calls = quiet_calls (λ before change. IsApart kind.region (range_of change)) from to told;
+}
 
-same_told : (device : Device) (first last : Told) → device.told ≡ Some first → device.told ≡ Some last → first ≡ last
+pub same_told : (device : Device) (first last : Told) → device.told ≡ Some first → device.told ≡ Some last → first ≡ last
 same_told device first last e f = let both : Some first ≡ Some last = sym e ∙ f in cc
 
 pub later_refl : (device : Device) → IsLater device device
@@ -63,18 +68,24 @@ pub none_refreshes : (form : Form) (kinds : List BucketKind) (area : List ℕ) (
 none_refreshes form kinds area device whole = unchanged_refreshes form kinds area device device (same_images device) (later_refl device) (record { starts = refl; start_faults = refl }) whole
 
 pub none_untouched : (kind : BucketKind) (device : Device) → IsUntouched kind device device
-none_untouched kind device = unchanged_untouched kind device device (same_images device)
+none_untouched kind device = unchanged_untouched kind device device (same_images device) refl
 
 -- reads change nothing
 pub read_images : (from to : Device) → told_but_reads to ≡ told_but_reads from → EachImage (λ before image. image ≡ before) from to
 read_images from to told = images_untouched from to (reads_untouched from to told)
 
+pub read_untouched : (kind : BucketKind) (from to : Device) → told_but_reads to ≡ told_but_reads from → IsUntouched kind from to
+read_untouched kind from to told = unchanged_untouched kind from to (read_images from to told) told
+
 -- ---- two runs
 
 pub untouched_joined : (kind : BucketKind) (one two three : Device) → IsLater one two → IsLater two three → IsUntouched kind one two → IsUntouched kind two three → IsUntouched kind one three
-untouched_joined kind one two three h k first second =
-    images_same_joined one.geometry.page kind.region.at kind.region.size one two three h k first
-    (subst (λ (p : ℕ). EachImage (IsSameRegion p kind.region.at kind.region.size) two three) (ap (λ geo. geo.page) h.geometry) second)
+untouched_joined kind one two three h k first second = record {
+  images =
+      images_same_joined one.geometry.page kind.region.at kind.region.size one two three h k first.images
+      (subst (λ (p : ℕ). EachImage (IsSameRegion p kind.region.at kind.region.size) two three) (ap (λ geo. geo.page) h.geometry) second.images);
+  calls = each_joined (λ change. IsApart kind.region (range_of change)) one two three h k first.calls second.calls;
+}
 
 pub refreshes_joined : (form : Form) (kinds : List BucketKind) (area : List ℕ) (one two three : Device) → Refreshes form kinds area one two → Refreshes form kinds area two three → Refreshes form kinds area one three
 refreshes_joined form kinds area one two three h k =

@@ -10,13 +10,14 @@ use Rattle.bb_flash.proofs.Counting.{counted_both}
 use Rattle.bb_flash.proofs.Moments.{images_joined, images_weaker}
 use Rattle.bb_bucket.specs.Kind.{BucketKind}
 use Rattle.bb_copies.specs.Buckets.{EachCopy}
-use Rattle.bb_copies.specs.Erasing.{ErasesBy, unmarked_kinds}
+use Rattle.bb_copies.specs.Erasing.{ErasesBy, IsBounded, unmarked_kinds}
 use Rattle.bb_copies.specs.Luck.{IsLucky}
 use Rattle.bb_copies.specs.Passing.{passing_of, passings}
 use Rattle.bb_copies.specs.Refreshing.{AllHeld, AllSettled, AllWritten, IsFirstMarked, IsSettledAt, IsWrittenAt, KeepsMarked, LeavesOthers, NeverEmpty, NoOther, Refreshes, area_if, is_marked}
 use Rattle.bb_copies.specs.Saving.{EachWritten, IsAlone, IsHopeless, KeepsUsed, SaveImages, SaveRuns, SparesUsed, StandsLonger}
 use Rattle.bb_copies.specs.StandsFor.{KeepsOrTakes, SomeIsSpared, SomePasses}
 use Rattle.bb_copies.proofs.Below.{kind_inside, leaves_still, passes_still, still_leaves}
+use Rattle.bb_copies.proofs.Bounded.{none_bounded}
 use Rattle.bb_copies.proofs.Erased.{erases_joined, none_marked, one_more, written_erases}
 use Rattle.bb_copies.proofs.Held.{dead_set, few_live, none_live, spares_by}
 use Rattle.bb_copies.proofs.History.{save_during}
@@ -26,8 +27,8 @@ use Rattle.bb_copies.proofs.Runs.{none_refreshes, same_images}
 
 -- ---- where no copy is used
 
-pub hopeless : (form : Form) (kinds : List BucketKind) (area : List ℕ) (marked good : List Bool) (last : ℕ) (from to : Device) → ((copy : ℕ) → is_marked marked copy ≡ false) → length good ≡ length kinds → last + 1 ≡ length kinds → NoOther good (length good) → AllSettled form kinds area marked good from to → IsHopeless form kinds None last from to
-hopeless form kinds area marked good last from to unmarked many is_last none settled =
+pub hopeless : (form : Form) (kinds : List BucketKind) (area : List ℕ) (marked good : List Bool) (last : ℕ) (from to : Device) → ((copy : ℕ) → is_marked marked copy ≡ false) → length good ≡ length kinds → last + 1 ≡ length kinds → NoOther good (length good) → AllSettled form kinds area marked good from to → to.read_faults ≡ from.read_faults → IsHopeless form kinds None last from to
+hopeless form kinds area marked good last from to unmarked many is_last none settled calm =
     let each_dead : (copy : ℕ) → copy < length good → is_marked good copy ≡ false = λ copy low. none copy low (λ e. absurd (omega arith)) in
     let all = none_live good each_dead in
     let dead = settled.dead in
@@ -36,6 +37,7 @@ hopeless form kinds area marked good last from to unmarked many is_last none set
       last = is_last;
       none = λ copy kind e. subst (λ (b : Bool). ForSome (content to) (λ image. passing_of form from.geometry.page kind image ≡ area_if area b)) (each_dead copy (omega (arith, slice_get_within kinds copy kind e, many))) (settled.each copy kind e (unmarked copy));
       cause = omega (arith, all, dead, many);
+      read_faults = calm;
     }
 
 -- ---- where one is
@@ -49,7 +51,7 @@ over_spares form kinds good used from to inside within kept = record {
   each = λ first f last h image cut keeps some.
       let page : ℕ = from.geometry.page in
       let there = kind_inside kinds used inside in
-      let region = (kept used there.0 there.1 (get_or-set_same good used true false within)).each first f last h image cut in
+      let region = (kept used there.0 there.1 (get_or-set_same good used true false within)).images.each first f last h image cut in
       let old = some_passed (passing_of form page there.0 first.image) (ap is_some (sym (passes_kind form page kinds used there.0 first.image there.1)) ∙ keeps) in
       some_passes (λ kind. passing_of form page kind image) kinds used there.0 old.0 there.1 (same_passing form page there.0 first.image image region ∙ old.1);
 }
@@ -58,8 +60,8 @@ over_spares form kinds good used from to inside within kept = record {
 over_each : (form : Form) (kinds : List BucketKind) (area : List ℕ) (marked good : List Bool) (used : ℕ) (from to : Device) → ((copy : ℕ) → is_marked marked copy ≡ false) → AllSettled form kinds area (set marked used true) good from to → EachCopy kinds (λ copy kind. copy ≢ used → ForSome (content to) (λ image. passing_of form from.geometry.page kind image ≡ area_if area (is_marked good copy)))
 over_each form kinds area marked good used from to unmarked settled = λ copy kind e other. settled.each copy kind e (get_or-set_other marked used copy true false other ∙ unmarked copy)
 
-pub alone : (form : Form) (kinds : List BucketKind) (area : List ℕ) (marked good : List Bool) (used : ℕ) (from to : Device) → ((copy : ℕ) → is_marked marked copy ≡ false) → length good ≡ length kinds → used < length marked → NoOther good used → KeepsMarked kinds (set marked used true) from to → AllSettled form kinds area (set marked used true) good from to → IsAlone form kinds (Some used) used from to
-alone form kinds area marked good used from to unmarked many within none kept settled =
+pub alone : (form : Form) (kinds : List BucketKind) (area : List ℕ) (marked good : List Bool) (used : ℕ) (from to : Device) → ((copy : ℕ) → is_marked marked copy ≡ false) → length good ≡ length kinds → used < length marked → NoOther good used → KeepsMarked kinds (set marked used true) from to → AllSettled form kinds area (set marked used true) good from to → to.read_faults ≡ from.read_faults → IsAlone form kinds (Some used) used from to
+alone form kinds area marked good used from to unmarked many within none kept settled calm =
     let few = few_live good used none in
     let dead = settled.dead in
     record {
@@ -67,6 +69,7 @@ alone form kinds area marked good used from to unmarked many within none kept se
       untouched = λ copy kind e same. kept copy kind e (ap (is_marked (set marked used true)) same ∙ get_or-set_same marked used true false within);
       others = λ copy kind e other. subst (λ (b : Bool). ForSome (content to) (λ image. passing_of form from.geometry.page kind image ≡ area_if area b)) (none copy (omega (arith, slice_get_within kinds copy kind e, many)) other) (over_each form kinds area marked good used from to unmarked settled copy kind e other);
       cause = omega (arith, few, dead, many);
+      read_faults = calm;
     }
 
 pub over_other : (form : Form) (kinds : List BucketKind) (area : List ℕ) (marked good : List Bool) (used copy : ℕ) (from mid to : Device) → ((copy : ℕ) → is_marked marked copy ≡ false) → IsLater from mid → length good ≡ length kinds → IsFirstMarked good used copy → AllSettled form kinds area (set marked used true) good from mid → LeavesOthers kinds used mid to → NeverEmpty form kinds mid to
@@ -117,7 +120,7 @@ over_erases kinds rec marked used from mid to none within there h k kept written
     let kind = kind_inside kinds used there in
     erases_joined (unmarked_kinds (set marked used true) kinds) kinds kind.0 rec from mid to h k
     (kept used kind.0 kind.1 (get_or-set_same marked used true false within)) written.erases
-    (written_erases kind.0 rec mid to (last used kind.0 kind.1 refl).erases)
+    (written_erases kind.0 rec mid to (last used kind.0 kind.1 refl))
     (λ p. ap (count_by p) (sym (none_marked marked kinds none)) ∙ one_more marked kinds used kind.0 kind.1 within (none used) p)
 
 -- where no copy is used all are written at once
@@ -134,8 +137,9 @@ save_images form kinds used area from to run spares =
     (λ before image takes spared keeps first h a marks stands. save_during first (passing before) h a marks area stands (passing image) takes (spared keeps))
     run.counted spares
 
-pub save_runs : (form : Form) (kinds : List BucketKind) (used : Option ℕ) (area : List ℕ) (from to : Device) → Refreshes form kinds area from to → SparesUsed form kinds used from to → SaveRuns form kinds used area from to
-save_runs form kinds used area from to run spares = record {
+pub save_runs : (form : Form) (kinds : List BucketKind) (used : Option ℕ) (area : List ℕ) (from to : Device) → Refreshes form kinds area from to → SparesUsed form kinds used from to → IsBounded kinds (form.text area) from to → SaveRuns form kinds used area from to
+save_runs form kinds used area from to run spares bounded = record {
+  bounded = bounded;
   images = save_images form kinds used area from to run spares;
   outside = run.outside;
   later = run.later;
@@ -150,3 +154,4 @@ none_saved form kinds used area device whole =
     save_runs form kinds used area device device (none_refreshes form kinds area device whole)
     (images_weaker (λ before image. image ≡ before) (λ before image. KeepsUsed used (passing before) → SomeIsSpared (passing before) (passing image)) device device
     (λ before image same keeps some. subst (λ (i : Image). SomePasses (passing i)) (sym same) some) (same_images device))
+    (none_bounded kinds (form.text area) device)

@@ -1,5 +1,5 @@
 -- What settling the copy of a number answers.
-use Rattle.std.proofs.Common.{◌≡◌, ◌⊎◌, ◌∙◌, ℕ, true, false, List, Some, ap, sym, subst, IfOk, IfErr}
+use Rattle.std.proofs.Common.{◌≡◌, ◌⊎◌, ◌∙◌, ℕ, true, false, List, Some, ap, sym, subst, inl, inr, IfOk, IfErr, OnOk}
 use Rattle.std.specs.Prelude.{slice_get}
 use Rattle.std.specs.Option.{ForSome}
 use Rattle.std.proofs.lemmas.Option.{slice_get_within}
@@ -11,7 +11,7 @@ use Rattle.bb_copies.specs.declared.settle.Settled.TheVariants.{Good, Dead, Stuc
 use Rattle.bb_copies.specs.Buckets.{EachCopy}
 use Rattle.bb_copies.specs.Passing.{passing_of}
 use Rattle.bb_copies.specs.Refreshing.{IsSettledAt, IsStuckAt, answer_of, area_if}
-use Rattle.bb_copies.specs.Settling.{EndsAs, IsStale, IsUnread}
+use Rattle.bb_copies.specs.Settling.{CountsAs, EndsAs, IsStale, IsUnread}
 
 -- what holds of the copy of a number
 pub at_copy : (P : BucketKind → Type 0) (kinds : List BucketKind) (copy : ℕ) (kind : BucketKind) → slice_get kinds copy ≡ Some kind → P kind → EachCopy kinds (λ place other. place ≡ copy → P other)
@@ -31,10 +31,19 @@ settled_at form kinds area copy kind from to Dead e ends = record {
 }
 settled_at form kinds area copy kind from to Stuck e ends = tt
 
-pub stuck_at : (form : Form) (kinds : List BucketKind) (area : List ℕ) (copy : ℕ) (kind : BucketKind) (from to : Device) (settled : Settled) → slice_get kinds copy ≡ Some kind → EndsAs form kind area from to settled → IfErr (answer_of copy settled) (λ at. IsStuckAt form kinds area at from to)
-stuck_at form kinds area copy kind from to Good e ends = tt
-stuck_at form kinds area copy kind from to Dead e ends = tt
-stuck_at form kinds area copy kind from to Stuck e ends = record {
+pub stuck_at : (form : Form) (kinds : List BucketKind) (area rec : List ℕ) (copy : ℕ) (kind : BucketKind) (from to : Device) (settled : Settled) → slice_get kinds copy ≡ Some kind → EndsAs form kind area from to settled → CountsAs kind rec from to settled → IfErr (answer_of copy settled) (λ at. IsStuckAt form kinds area at from to)
+stuck_at form kinds area rec copy kind from to Good e ends counts = tt
+stuck_at form kinds area rec copy kind from to Dead e ends counts = tt
+stuck_at form kinds area rec copy kind from to Stuck e ends counts = record {
   inside = slice_get_within kinds copy kind e;
+  read_faults = elim counts [ inl by ↦ inl by.read_faults | inr all ↦ inr all.read_faults ];
   cause = at_copy (λ k. IsStale form k area from to ⊎ IsUnread from to) kinds copy kind e ends;
 }
+
+-- no read failed where it isn't stuck
+pub settled_calm : (copy : ℕ) (kind : BucketKind) (rec : List ℕ) (from to : Device) (settled : Settled) → CountsAs kind rec from to settled → OnOk (answer_of copy settled) (to.read_faults ≡ from.read_faults)
+settled_calm copy kind rec from to Good (inl written) = written.read_faults
+settled_calm copy kind rec from to Good (inr by) = by.read_faults
+settled_calm copy kind rec from to Dead (inl by) = by.read_faults
+settled_calm copy kind rec from to Dead (inr by) = by.read_faults
+settled_calm copy kind rec from to Stuck counts = tt

@@ -1,9 +1,9 @@
 -- Worked contents of three copies, by computation. The area of an empty device is zeros, and three
 -- areas are saved over it.
-use Rattle.std.proofs.Common.{◌≡◌, ℕ, zero, suc, ◌+◌, List, [], ◌∷◌, ◌++◌, take, Option, Some, None, refl, inl, inr, arith}
+use Rattle.std.proofs.Common.{◌≡◌, ℕ, zero, suc, ◌+◌, List, [], ◌∷◌, ◌++◌, map, take, Option, Some, None, refl, inl, inr, arith}
 use Rattle.bb_copies.specs.StandsFor.{Decay, IsAt, KeepsOrTakes, StandsFor, first_passed, marks_left, picked}
 use Rattle.bb_copies.specs.Chronicle.{Chronicle, Content, CutOff, Decayed, Entry, Finished, Loaded, Step}
-use Rattle.bb_copies.specs.Trail.{Milestone, Stage, load_trail, save_trail, session_stages, stages_in}
+use Rattle.bb_copies.specs.Trail.{Milestone, Stage, session_stages, session_trail, stages_in, trail_of}
 
 abbrev zeros : List ℕ
 zeros = 0 ∷ 0 ∷ []
@@ -250,7 +250,22 @@ two_saves = refl
 
 -- a load and a save leave the milestones of their stages
 abbrev one_trail : List Milestone
-one_trail = load_trail areas 1 2 7 9 ++ save_trail areas 2 newer 9 12
+one_trail = session_trail areas 1 7 2 9 (newer ∷ []) (12 ∷ [])
 
 one_save : stages_in one_trail ≡ session_stages areas 1 2 (newer ∷ [])
+unfolding trail_of
 one_save = refl
+
+-- the moments at which each of its stages began
+abbrev moments_in : List Milestone → List ℕ
+moments_in trail = map (λ milestone. milestone.since) trail
+
+its_moments : moments_in one_trail ≡ 7 ∷ 9 ∷ 9 ∷ 12 ∷ []
+unfolding trail_of
+its_moments = refl
+
+-- a second save that was refused began when the first one answered, and is the last stage
+refused_moments :
+    moments_in (session_trail areas 1 7 2 9 (newer ∷ new ∷ []) (12 ∷ [])) ≡ 7 ∷ 9 ∷ 9 ∷ 12 ∷ 12 ∷ []
+unfolding trail_of
+refused_moments = refl

@@ -1,9 +1,10 @@
--- How often writes of a record to copies erase the blocks of a device.
-use Rattle.std.specs.Prelude.{◌≡◌, ◌==◌, ◌&&◌, ℕ, ◌+◌, ◌/◌, Bool, List, [], ◌∷◌, count_by}
-use Rattle.std.specs.Prelude.{slice_get, Some, if◌then◌else◌}
+-- How many flash calls writes of a record to copies make, and how often they erase the blocks of a
+-- device.
+use Rattle.std.specs.Prelude.{◌≡◌, ◌==◌, ◌&&◌, ℕ, ◌+◌, ◌*◌, ◌/◌, ◌≤◌, Bool, List, [], ◌∷◌, count_by}
+use Rattle.std.specs.Prelude.{length, slice_get, Some, if◌then◌else◌}
 use Rattle.std.specs.Option.{ForSome}
 use Rattle.bb_flash.specs.declared.geometry.Geometry.{Geometry}
-use Rattle.bb_flash.specs.Device.{Device, content, erases}
+use Rattle.bb_flash.specs.Device.{Device, content, erases, moment}
 use Rattle.bb_flash.specs.Image.{Image}
 use Rattle.bb_bucket.specs.Kind.{BucketKind, part_of}
 
@@ -20,8 +21,24 @@ erases_block geometry image rec block kind =
     kind.write_erases rec (part_of geometry.page kind.region image)
     && (kind.region.at / geometry.block == block)
 
--- the number of each block is higher by the writes of the record to these copies that erase it
+-- whether a write of the record to a copy erases
+abbrev pub erases_first : ℕ → Image → List ℕ → BucketKind → Bool
+erases_first page image rec kind = kind.write_erases rec (part_of page kind.region image)
+
+-- how many flash calls that change the device the writes of the record to these copies make: one
+-- programs, and one before it erases where the copy's kind says so
+abbrev pub calls_of_writes : ℕ → Image → List ℕ → List BucketKind → ℕ
+calls_of_writes page image rec kinds = length kinds + count_by (erases_first page image rec) kinds
+
+-- The record was written once to each of these copies, and no other call changed the device: so
+-- many changes came, and the number of each block is higher by the writes that erase it.
 pub record ErasesBy (kinds : List BucketKind) (rec : List ℕ) (from to : Device) : Type 0 where
+  pub made :
+      ForSome from.told
+      (λ first.
+      ForSome to.told
+      (λ last.
+      moment last ≡ moment first + calls_of_writes from.geometry.page first.image rec kinds))
   pub counted :
       ForSome (content from)
       (λ image.
@@ -33,3 +50,15 @@ pub record ErasesBy (kinds : List BucketKind) (rec : List ℕ) (from to : Device
       slice_get old block ≡ Some n →
       slice_get new block
       ≡ Some (n + count_by (erases_block from.geometry image rec block) kinds))))
+
+-- Each of these copies was written with the record at most once, voided at most once, and read back
+-- at most once: at most so many changes came, and at most so many calls failed.
+pub record IsBounded (kinds : List BucketKind) (rec : List ℕ) (from to : Device) : Type 0 where
+  pub calls :
+      ForSome from.told
+      (λ first.
+      ForSome to.told
+      (λ last.
+      moment last
+      ≤ moment first + (calls_of_writes from.geometry.page first.image rec kinds + length kinds)))
+  pub faults : to.faults ≤ from.faults + 3 * length kinds

@@ -9,6 +9,7 @@ pub use Rattle.bb_flash.specs.Image
 pub use Rattle.bb_bucket.specs.Kind
 pub mod Buckets
 pub mod Chronicle
+pub mod Cutting
 pub mod Erasing
 pub mod Loading
 pub mod Luck

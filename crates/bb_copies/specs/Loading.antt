@@ -3,12 +3,12 @@ use Rattle.std.specs.Prelude.{◌≡◌, ℕ, ◌-◌, ◌<◌, ◌≤◌, Bool,
 use Rattle.std.specs.Prelude.{is_some, count_by, true, false}
 use Rattle.std.specs.Bool.{Decides}
 use Rattle.std.specs.Option.{ForSome}
-use Rattle.bb_base.specs.Faults.{Rose}
+use Rattle.bb_base.specs.Faults.{Rose, one_more}
 use Rattle.bb_base.specs.Form.{Form}
 use Rattle.bb_flash.specs.declared.region.Region.{Region}
 use Rattle.bb_flash.specs.Counted.{EachCounted}
 use Rattle.bb_flash.specs.Cuts.{EachImage, IsLater, IsSameRegion}
-use Rattle.bb_flash.specs.Device.{Device, IsDevice, LeavesStarts, content, erases}
+use Rattle.bb_flash.specs.Device.{Device, IsDevice, LeavesStarts, changes, content, erases}
 use Rattle.bb_flash.specs.Image.{Image}
 use Rattle.bb_bucket.specs.Kind.{BucketKind, part_of}
 use Rattle.bb_copies.specs.declared.answers.CopyFault.{CopyFault}
@@ -16,11 +16,11 @@ use Rattle.bb_copies.specs.declared.answers.CopyFault.TheVariants.{ReadFault, Wr
 use Rattle.bb_copies.specs.declared.answers.Loaded.{Loaded}
 use Rattle.bb_copies.specs.declared.answers.Loaded.TheVariants.{Copy, NoCopy}
 use Rattle.bb_copies.specs.Buckets.{EachCopy, IsOutside}
-use Rattle.bb_copies.specs.Erasing.{ErasesBy, unmarked_kinds}
+use Rattle.bb_copies.specs.Erasing.{ErasesBy, IsBounded, unmarked_kinds}
 use Rattle.bb_copies.specs.Looking.{IsFresh}
 use Rattle.bb_copies.specs.Luck.{IsLucky}
 use Rattle.bb_copies.specs.Passing.{passes_at, passings}
-use Rattle.bb_copies.specs.Refreshing.{IsStuckAt, is_marked}
+use Rattle.bb_copies.specs.Refreshing.{IsStuckAt, KeepsMarked, is_marked}
 use Rattle.bb_copies.specs.Settling.{IsUndisturbed, RoseBy}
 use Rattle.bb_copies.specs.StandsFor.{EachPassesOrNothing, SomePasses, Stands, StandsFor}
 use Rattle.bb_copies.specs.StandsFor.{first_passed}
@@ -57,7 +57,8 @@ pub record IsKept (area : List ℕ) (used live : ℕ) (passing : List (Option (L
   pub first : (copy : ℕ) → copy < used → passes_at passing copy ≡ None
   pub counted : live ≡ count_by is_some passing
 
--- after a load or a save that answered Ok: a call failed for each copy that passes nothing
+-- after a load or a save that answered Ok: a call failed for each copy that passes nothing, and no
+-- read
 pub record IsAllKept (form : Form) (kinds : List BucketKind) (area : List ℕ) (used live : ℕ)
     (from to : Device) : Type 0 where
   pub kept :
@@ -66,6 +67,7 @@ pub record IsAllKept (form : Form) (kinds : List BucketKind) (area : List ℕ) (
   pub inside : used < length kinds
   pub some : 1 ≤ live
   pub dead : RoseBy (length kinds - live) from.faults to.faults
+  pub read_faults : to.read_faults ≡ from.read_faults
 
 -- the first copy that passed at entry was taken
 pub record IsTaken (form : Form) (kinds : List BucketKind) (area : List ℕ) (used live : ℕ)
@@ -74,24 +76,31 @@ pub record IsTaken (form : Form) (kinds : List BucketKind) (area : List ℕ) (us
       ForSome (content from)
       (λ image. IsFirstArea area (passings form from.geometry.page kinds image))
   pub exit : IsAllKept form kinds area used live from to
+  pub bounded : IsBounded kinds (form.text area) from to
 
--- no copy passed, and nothing changed
+-- no copy passed, no call changed the device, and none failed
 pub record IsEmpty (form : Form) (kinds : List BucketKind) (from to : Device) : Type 0 where
   pub none :
       ForSome (content from)
       (λ image. SomePasses (passings form from.geometry.page kinds image) → ⊥)
   pub content : content to ≡ content from
+  pub changes : changes to ≡ changes from
+  pub faults : to.faults ≡ from.faults
+  pub read_faults : to.read_faults ≡ from.read_faults
 
 -- what a load answers
 abbrev pub LoadGives : Form → List BucketKind → List ℕ → Device → Device → Loaded → Type 0
 LoadGives form kinds area from to (Copy used live) = IsTaken form kinds area used live from to
 LoadGives form kinds area from to NoCopy = IsEmpty form kinds from to
 
--- a copy couldn't be read, and nothing changed
+-- a copy couldn't be read: one read failed, and no call changed the device
 pub record IsReadFault (from to : Device) : Type 0 where
   pub cause : Rose from.faults to.faults
   pub read : Rose from.read_faults to.read_faults
   pub content : content to ≡ content from
+  pub changes : changes to ≡ changes from
+  pub faults : to.faults ≡ one_more from.faults
+  pub read_faults : to.read_faults ≡ one_more from.read_faults
 
 -- the copy of this number couldn't be settled with the area of the first that passed
 pub record IsLoadStuck (form : Form) (kinds : List BucketKind) (area : List ℕ) (copy : ℕ)
@@ -100,6 +109,7 @@ pub record IsLoadStuck (form : Form) (kinds : List BucketKind) (area : List ℕ)
       ForSome (content from)
       (λ image. IsFirstArea area (passings form from.geometry.page kinds image))
   pub stuck : IsStuckAt form kinds area copy from to
+  pub bounded : IsBounded kinds (form.text area) from to
 
 -- how a load is refused
 abbrev pub LoadFails : Form → List BucketKind → List ℕ → Device → Device → CopyFault → Type 0
@@ -140,6 +150,8 @@ pub record LoadErases (form : Form) (kinds : List BucketKind) (area : List ℕ)
       (λ copy kind.
       Decides (is_marked fresh copy) (IsFresh form from.geometry.page kind area image)))
   pub erases : ErasesBy (unmarked_kinds fresh kinds) (form.text area) from to
+  -- no call touched a fresh one
+  pub kept : KeepsMarked kinds fresh from to
 
 -- without a fault a load erased as those writes do, and nothing where no copy passes
 abbrev pub LoadsErasing : Form → List BucketKind → List ℕ → Device → Device → Loaded → Type 0

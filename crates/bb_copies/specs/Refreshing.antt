@@ -1,19 +1,19 @@
 -- What it makes of a device to settle the copies one after another.
-use Rattle.std.specs.Prelude.{◌≡◌, ◌≢◌, ◌⊎◌, ℕ, ◌<◌, Bool, true, false, not, List, length, count_by}
+use Rattle.std.specs.Prelude.{◌≡◌, ◌≢◌, ◌⊎◌, ℕ, ◌<◌, Bool, true, false, not, List, [], ◌∷◌, length, count_by}
 use Rattle.std.specs.Prelude.{slice_index_or, Option, Some, None, Result, Ok, Err, if◌then◌else◌}
 use Rattle.std.specs.Option.{ForSome}
-use Rattle.bb_base.specs.Faults.{Rose}
+use Rattle.bb_base.specs.Faults.{Rose, one_more}
 use Rattle.bb_base.specs.Form.{Form}
 use Rattle.bb_flash.specs.declared.region.Region.{Region}
 use Rattle.bb_flash.specs.Counted.{EachCounted}
 use Rattle.bb_flash.specs.Cuts.{EachImage, IsLater, IsSameRegion}
 use Rattle.bb_flash.specs.Device.{Device, IsDevice, LeavesStarts, content}
-use Rattle.bb_bucket.specs.Calls.{Leaves}
+use Rattle.bb_bucket.specs.Calls.{EachCall, Leaves, range_of}
 use Rattle.bb_bucket.specs.Kind.{BucketKind}
 use Rattle.bb_copies.specs.declared.settle.Settled.{Settled}
 use Rattle.bb_copies.specs.declared.settle.Settled.TheVariants.{Good, Dead, Stuck}
-use Rattle.bb_copies.specs.Buckets.{EachCopy, IsOutside}
-use Rattle.bb_copies.specs.Erasing.{ErasesBy, unmarked_kinds}
+use Rattle.bb_copies.specs.Buckets.{EachCopy, IsApart, IsOutside}
+use Rattle.bb_copies.specs.Erasing.{ErasesBy, IsBounded, unmarked_kinds}
 use Rattle.bb_copies.specs.Luck.{IsLucky}
 use Rattle.bb_copies.specs.Passing.{passing_of, passings}
 use Rattle.bb_copies.specs.Settling.{IsStale, IsWritten, IsUnread, RoseBy}
@@ -42,10 +42,10 @@ pub record Refreshes (form : Form) (kinds : List BucketKind) (area : List ℕ)
 abbrev pub is_marked : List Bool → ℕ → Bool
 is_marked marked copy = slice_index_or marked copy false
 
--- a copy's region is the same in every image
-abbrev pub IsUntouched : BucketKind → Device → Device → Type 0
-IsUntouched kind from to =
-    EachImage (IsSameRegion from.geometry.page kind.region.at kind.region.size) from to
+-- a copy's region is the same in every image, and no call touched it
+pub record IsUntouched (kind : BucketKind) (from to : Device) : Type 0 where
+  pub images : EachImage (IsSameRegion from.geometry.page kind.region.at kind.region.size) from to
+  pub calls : EachCall (λ before change. IsApart kind.region (range_of change)) from to
 
 -- the marked copies weren't touched
 abbrev pub KeepsMarked : List BucketKind → List Bool → Device → Device → Type 0
@@ -70,10 +70,12 @@ pub record AllSettled (form : Form) (kinds : List BucketKind) (area : List ℕ)
   pub stays : (copy : ℕ) → is_marked marked copy ≡ true → is_marked good copy ≡ true
   pub dead : RoseBy (count_by not good) from.faults to.faults
 
--- the copy of this number couldn't be settled
+-- the copy of this number couldn't be settled, and no read failed but its reading back
 pub record IsStuckAt (form : Form) (kinds : List BucketKind) (area : List ℕ) (copy : ℕ)
     (from to : Device) : Type 0 where
   pub inside : copy < length kinds
+  pub read_faults :
+      (to.read_faults ≡ from.read_faults) ⊎ (to.read_faults ≡ one_more from.read_faults)
   pub cause :
       EachCopy kinds
       (λ place kind. place ≡ copy → IsStale form kind area from to ⊎ IsUnread from to)
@@ -102,6 +104,11 @@ pub record IsSettledAt (form : Form) (kinds : List BucketKind) (area : List ℕ)
       place ≡ copy → ForSome (content to)
       (λ image. passing_of form from.geometry.page kind image ≡ area_if area good))
   pub cause : good ≡ false → Rose from.faults to.faults
+
+-- the copy of this number was written, voided and read back at most once each
+abbrev pub IsBoundedAt : List BucketKind → ℕ → List ℕ → Device → Device → Type 0
+IsBoundedAt kinds copy rec from to =
+    EachCopy kinds (λ place kind. place ≡ copy → IsBounded (kind ∷ []) rec from to)
 
 -- the record was written to the copy of this number, and nothing else was done
 abbrev pub IsWrittenAt : List BucketKind → ℕ → List ℕ → Device → Device → Type 0

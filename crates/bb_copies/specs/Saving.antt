@@ -11,6 +11,7 @@ use Rattle.bb_bucket.specs.Kind.{BucketKind}
 use Rattle.bb_copies.specs.declared.answers.CopyFault.{CopyFault}
 use Rattle.bb_copies.specs.declared.answers.CopyFault.TheVariants.{ReadFault, WriteFault, Unsure}
 use Rattle.bb_copies.specs.Buckets.{EachCopy}
+use Rattle.bb_copies.specs.Erasing.{IsBounded}
 use Rattle.bb_copies.specs.Loading.{IsAllKept, KeepsOutside}
 use Rattle.bb_copies.specs.Luck.{IsLucky}
 use Rattle.bb_copies.specs.Passing.{passes_at, passing_of, passings}
@@ -58,6 +59,7 @@ pub record IsAlone (form : Form) (kinds : List BucketKind) (used : Option ℕ) (
       (λ place kind. place ≢ copy → ForSome (content to)
       (λ image. passing_of form from.geometry.page kind image ≡ None))
   pub cause : RoseBy (length kinds - 1) from.faults to.faults
+  pub read_faults : to.read_faults ≡ from.read_faults
 
 -- no copy was used, and none took the area: the answer names the last
 pub record IsHopeless (form : Form) (kinds : List BucketKind) (used : Option ℕ) (copy : ℕ)
@@ -69,6 +71,7 @@ pub record IsHopeless (form : Form) (kinds : List BucketKind) (used : Option ℕ
       (λ place kind. ForSome (content to)
       (λ image. passing_of form from.geometry.page kind image ≡ None))
   pub cause : RoseBy (length kinds) from.faults to.faults
+  pub read_faults : to.read_faults ≡ from.read_faults
 
 -- why a save names a copy that it couldn't write
 abbrev pub IsWriteFault : Form → List BucketKind → Option ℕ → List ℕ → Device → Device → ℕ → Type 0
@@ -85,6 +88,7 @@ EachWritten kinds rec from to =
 pub record SaveRuns (form : Form) (kinds : List BucketKind) (used : Option ℕ) (area : List ℕ)
     (from to : Device) : Type 0 where
   pub images : SaveImages form kinds used area from to
+  pub bounded : IsBounded kinds (form.text area) from to
   pub outside : KeepsOutside kinds from to
   pub later : IsLater from to
   pub starts : LeavesStarts from to

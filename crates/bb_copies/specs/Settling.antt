@@ -2,13 +2,13 @@
 use Rattle.std.specs.Prelude.{◌≡◌, ◌≢◌, ◌⊎◌, ℕ, ◌+◌, ◌-◌, ◌^◌, ◌≤◌, min, List, [], ◌∷◌, Option}
 use Rattle.std.specs.Prelude.{Some, None}
 use Rattle.std.specs.Option.{ForSome}
-use Rattle.bb_base.specs.Faults.{Rose}
+use Rattle.bb_base.specs.Faults.{Rose, one_more}
 use Rattle.bb_base.specs.Form.{Form}
 use Rattle.bb_flash.specs.Counted.{EachCounted}
 use Rattle.bb_flash.specs.Cuts.{EachTorn, IsLater}
-use Rattle.bb_flash.specs.Device.{Device, IsDevice, LeavesStarts, content}
-use Rattle.bb_bucket.specs.Calls.{ErasesWhere, Leaves}
-use Rattle.bb_bucket.specs.Kind.{BucketKind}
+use Rattle.bb_flash.specs.Device.{Device, IsDevice, LeavesStarts, content, moment}
+use Rattle.bb_bucket.specs.Calls.{EachCall, ErasesWhere, IsWithin, Leaves, calls_of_write}
+use Rattle.bb_bucket.specs.Kind.{BucketKind, part_of}
 use Rattle.bb_copies.specs.declared.settle.Settled.{Settled}
 use Rattle.bb_copies.specs.declared.settle.Settled.TheVariants.{Good, Dead, Stuck}
 use Rattle.bb_copies.specs.Luck.{IsLucky}
@@ -24,7 +24,7 @@ abbrev pub IsUndisturbed : Device → Device → Type 0
 IsUndisturbed from to = Rose from.faults to.faults → ⊥
 
 -- In each image that counts the copy passes what it passed before, nothing, or the area. Its region
--- alone changed, in every image.
+-- alone changed, in every image, and each call touched it alone.
 pub record SettlesCopy (form : Form) (kind : BucketKind) (area : List ℕ)
     (from to : Device) : Type 0 where
   pub counted :
@@ -36,6 +36,7 @@ pub record SettlesCopy (form : Form) (kind : BucketKind) (area : List ℕ)
       from
       to
   pub torn : EachTorn kind.region.at kind.region.size from to
+  pub calls : EachCall (λ before change. IsWithin kind.region change) from to
   pub later : IsLater from to
   pub starts : LeavesStarts from to
   pub whole : IsDevice to
@@ -76,10 +77,52 @@ EndsAs form kind area from to Good = IsGood form kind area from to
 EndsAs form kind area from to Dead = IsDead form kind from to
 EndsAs form kind area from to Stuck = IsStale form kind area from to ⊎ IsUnread from to
 
--- the record was written to the copy, and nothing else was done
+-- the record was written to the copy by one write in which no call failed, and nothing else was
+-- done
 pub record IsWritten (kind : BucketKind) (rec : List ℕ) (from to : Device) : Type 0 where
   pub leaves : Leaves kind.region (kind.after_write rec) from to
   pub erases : ErasesWhere kind.region (kind.write_erases rec) from to
+  pub made :
+      ForSome from.told
+      (λ first.
+      ForSome to.told
+      (λ last.
+      let part = part_of from.geometry.page kind.region first.image in
+      moment last ≡ moment first + calls_of_write kind rec part))
+  pub faults : to.faults ≡ from.faults
+  pub read_faults : to.read_faults ≡ from.read_faults
+
+-- a count after that many calls more that failed
+abbrev pub twice_more : ℕ → ℕ
+twice_more before = one_more (one_more before)
+
+abbrev pub thrice_more : ℕ → ℕ
+thrice_more before = one_more (twice_more before)
+
+-- these calls failed, and no read among them
+pub record FailsBy (more : ℕ → ℕ) (from to : Device) : Type 0 where
+  pub faults : to.faults ≡ more from.faults
+  pub read_faults : to.read_faults ≡ from.read_faults
+
+-- the write, the void and the reading back failed
+pub record FailsAll (from to : Device) : Type 0 where
+  pub faults : to.faults ≡ thrice_more from.faults
+  pub read_faults : to.read_faults ≡ one_more from.read_faults
+
+-- which calls failed, by how the copy ended: none, and it was written and nothing else was done; or
+-- the write, or the write and the void, or these and the reading back
+abbrev pub CountsAs : BucketKind → List ℕ → Device → Device → Settled → Type 0
+CountsAs kind rec from to Good = IsWritten kind rec from to ⊎ FailsBy twice_more from to
+CountsAs kind rec from to Dead = FailsBy one_more from to ⊎ FailsBy twice_more from to
+CountsAs kind rec from to Stuck = FailsBy twice_more from to ⊎ FailsAll from to
+
+-- whether a copy could be read back, and whether the calls that read it failed
+abbrev pub ReadsOnce : Device → Device → Settled → Type 0
+ReadsOnce from to Good = (to.faults ≡ from.faults) × (to.read_faults ≡ from.read_faults)
+ReadsOnce from to Dead = (to.faults ≡ from.faults) × (to.read_faults ≡ from.read_faults)
+ReadsOnce from to Stuck =
+    ((to.faults ≡ from.faults) × (to.read_faults ≡ from.read_faults))
+    ⊎ ((to.faults ≡ one_more from.faults) × (to.read_faults ≡ one_more from.read_faults))
 
 -- what a copy passes as that is read back: the area, nothing, or another area; or it can't be read
 abbrev pub ReadsAs : Form → BucketKind → List ℕ → Device → Device → Settled → Type 0

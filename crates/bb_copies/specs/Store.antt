@@ -13,13 +13,14 @@ pub record Store (B M : Type 0) : Type 0 where
   pub format : M
   -- the first copy that passed the area that was last loaded or saved, if any did
   pub used : Option ℕ
-  -- the last load or save answered Ok
+  -- the last load or save answered Ok, and no look failed since
   pub sure : Bool
 
 -- what always holds of copies that are mounted: `marks` of them may be marked, `found`, `rec` and
--- `area` bytes are at hand to read a copy, for its record and for its area
+-- `area` bytes are at hand to read a copy, for its record and for its area; `placed` says that
+-- where they are sure, their buckets know where a record goes
 pub record IsMounted (form : Form) (kinds : List BucketKind) (used : Option ℕ)
-    (marks found rec area : ℕ) : Type 0 where
+    (marks found rec area : ℕ) (placed : Type 0) : Type 0 where
   pub room : HaveRoom form kinds
   pub many : 2 ≤ length kinds
   pub few : length kinds ≤ 3
@@ -28,6 +29,7 @@ pub record IsMounted (form : Form) (kinds : List BucketKind) (used : Option ℕ)
   pub fits : AllFit kinds found
   pub record_fits : rec ≡ form.length
   pub area_fits : area ≡ form.area_len
+  pub places : placed
 
 -- the copy that is used after a load
 abbrev pub used_after : Loaded → Option ℕ

@@ -1,7 +1,6 @@
 -- How far a session came with the copies, and since when: what an image stands for that a cut of
 -- power leaves.
-use Rattle.std.specs.Prelude.{◌⊎◌, ℕ, ◌+◌, ◌≤◌, ⊤, List, [], ◌∷◌, ◌++◌, take, map, Option, Some}
-use Rattle.std.specs.Option.{ForSome}
+use Rattle.std.specs.Prelude.{◌⊎◌, ℕ, ◌+◌, ◌≤◌, ⊤, List, [], ◌∷◌, ◌++◌, take, map, Option}
 use Rattle.bb_copies.specs.Chronicle.{Content, Step, Turn}
 use Rattle.bb_copies.specs.StandsFor.{Stands}
 
@@ -50,11 +49,10 @@ StandsAtOne first passed (stage ∷ later) =
 
 -- ---- trails
 
--- a stage that a session reached, and a moment since when it or a later one holds, where one is
--- known
+-- a stage that a session reached, and the moment since when it or a later one holds
 pub record Milestone : Type 0 where
   pub stage : Stage
-  pub since : Option ℕ
+  pub since : ℕ
 
 -- the stages of a trail
 abbrev pub stages_in : List Milestone → List Stage
@@ -62,31 +60,45 @@ stages_in trail = map (λ milestone. milestone.stage) trail
 
 -- a stage that holds since a moment
 abbrev pub milestone_of : List (List ℕ) → ℕ → ℕ → Milestone
-milestone_of h a moment = record { stage = record { areas = h; acked = a }; since = Some moment }
+milestone_of h a moment = record { stage = record { areas = h; acked = a }; since = moment }
 
--- the trail of a load: since it began the list is as before, and since it answered Ok the area at
--- this place is acknowledged
-abbrev pub load_trail : List (List ℕ) → ℕ → ℕ → ℕ → ℕ → List Milestone
-load_trail h a place began answered =
-    milestone_of h a began ∷ milestone_of (take (place + 1) h) place answered ∷ []
+-- The trail of saves, from a moment on since when the area at `a` is acknowledged. Each save began
+-- then, or when the one before it answered: since it began its area is the last of the list. Since
+-- it answered Ok, at the next of the moments, that area is acknowledged. A save without such a
+-- moment was refused, and is the last.
+unfoldable pub trail_of : List (List ℕ) → ℕ → ℕ → List (List ℕ) → List ℕ → List Milestone
+trail_of h a since [] answered = milestone_of h a since ∷ []
+trail_of h a since (area ∷ saves) [] =
+    milestone_of h a since ∷ milestone_of (h ++ area ∷ []) a since ∷ []
+trail_of h a since (area ∷ saves) (when ∷ answered) =
+    milestone_of h a since
+    ∷ milestone_of (h ++ area ∷ []) a since
+    ∷ trail_of (h ++ area ∷ []) (a + 1) when saves answered
 
--- the trail of a save: since it began the new area is the last of the list, and since it answered
--- Ok it is acknowledged
-abbrev pub save_trail : List (List ℕ) → ℕ → List ℕ → ℕ → ℕ → List Milestone
-save_trail h a area began answered =
-    milestone_of (h ++ area ∷ []) a began ∷ milestone_of (h ++ area ∷ []) (a + 1) answered ∷ []
+-- the trail of a session whose load answered Ok: before it did the list is as it was, and since
+-- then the area at this place is acknowledged
+abbrev pub session_trail :
+    List (List ℕ) → ℕ → ℕ → ℕ → ℕ → List (List ℕ) → List ℕ → List Milestone
+session_trail h a began place loaded saves answered =
+    milestone_of h a began ∷ trail_of (take (place + 1) h) place loaded saves answered
+
+-- the moment of the first milestone; where there is none it is now
+abbrev pub next_moment : ℕ → List Milestone → ℕ
+next_moment now [] = now
+next_moment now (milestone ∷ later) = milestone.since
 
 -- Each image since a moment stands for one of the stages. `Since` says which images those are, as
--- what their copies pass. The moment is not in the future.
-pub record IsSince (Since : ℕ → List (Option (List ℕ)) → Type 0) (now : ℕ) (first : List ℕ)
+-- what their copies pass. The moment is not after the next one.
+pub record IsSince (Since : ℕ → List (Option (List ℕ)) → Type 0) (next : ℕ) (first : List ℕ)
     (stages : List Stage) (moment : ℕ) : Type 0 where
-  pub past : moment ≤ now
+  pub order : moment ≤ next
   pub images :
       (passed : List (Option (List ℕ))) → Since moment passed → StandsAtOne first passed stages
 
 -- A trail: each image since a milestone's moment stands for its stage, or for that of a later one.
+-- The moments never fall, and none is in the future.
 abbrev pub IsTrail : (ℕ → List (Option (List ℕ)) → Type 0) → ℕ → List ℕ → List Milestone → Type 0
 IsTrail Since now first [] = ⊤
 IsTrail Since now first (milestone ∷ later) =
-    ForSome milestone.since (IsSince Since now first (stages_in (milestone ∷ later)))
+    IsSince Since (next_moment now later) first (stages_in (milestone ∷ later)) milestone.since
     × IsTrail Since now first later

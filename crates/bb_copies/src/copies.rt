@@ -1,12 +1,12 @@
-ghost use Rattle.std.specs.Prelude.{◌≡◌, ◌≢◌, ◌≤◌, ◌↔◌, IfErr, IfOk, IsErr, IsErrOf, IsTrue};
-ghost use Rattle.std.specs.Prelude.{None, OnOk, false, is_ok, length};
+ghost use Rattle.std.specs.Prelude.{◌≡◌, ◌≢◌, ◌≤◌, ◌&&◌, ◌↔◌, IfErr, IfOk, IsErrOf, IsTrue};
+ghost use Rattle.std.specs.Prelude.{None, OnOk, false, is_err, is_ok, length};
 ghost use Rattle.bb_flash.specs.Cuts.{IsLater};
-ghost use Rattle.bb_base.specs.Faults.{HasCause};
+ghost use Rattle.bb_base.specs.Faults.{counted};
 ghost use Rattle.bb_flash.specs.Device.{IsDevice, LeavesStarts};
 ghost use Rattle.bb_bucket.specs.Calls.{IsQuiet};
 ghost use Rattle.bb_copies.specs.declared.answers.Loaded.TheVariants.{NoCopy};
 ghost use Rattle.bb_copies.specs.Buckets.{AllAgree, AllServe, HaveRoom, kinds_of};
-ghost use Rattle.bb_copies.specs.Erasing.{ErasesBy};
+ghost use Rattle.bb_copies.specs.Erasing.{ErasesBy, IsBounded};
 ghost use Rattle.bb_copies.specs.Loading.{KeepsOutside, LoadFails, LoadGives, LoadImages};
 ghost use Rattle.bb_copies.specs.Loading.{LoadsErasing, LoadsExactly, LookGives};
 ghost use Rattle.bb_copies.specs.Placing.{AllPlaced, ReadsNothing};
@@ -27,7 +27,7 @@ use std::alloc::Global;
 use std::marker::Model;
 
 /// An area that is kept in two or three copies. Clauses see a `Store`: the buckets, the format, the
-/// copy that is used, and whether the last load or save answered Ok.
+/// copy that is used, and whether the last load or save answered Ok and no look failed since.
 #[derive(Drop)]
 pub struct Copies<B: Bucket + Drop, M: Format + Drop> {
     buckets: Vec<B>,
@@ -40,8 +40,9 @@ pub struct Copies<B: Bucket + Drop, M: Format + Drop> {
 }
 
 impl<B: Bucket + Drop, M: Format + Drop> Model for Copies<B, M> {
-    ghost use Rattle.std.specs.Prelude.{length};
+    ghost use Rattle.std.specs.Prelude.{◌≡◌, length, true};
     ghost use Rattle.bb_copies.specs.Buckets.{kinds_of};
+    ghost use Rattle.bb_copies.specs.Placing.{AllPlaced};
     ghost use Rattle.bb_copies.specs.Store.{IsMounted, Store};
 
     ghost Value = { Store B M };
@@ -57,7 +58,8 @@ impl<B: Bucket + Drop, M: Format + Drop> Model for Copies<B, M> {
         IsMounted (M.form copies.format) (kinds_of B.holding copies.buckets.items) copies.used
         (length copies.good.items) (length copies.room.found.items)
         (length copies.room.record.items)
-        (length copies.room.area.items) };
+        (length copies.room.area.items)
+        (copies.sure ≡ true → AllPlaced B.holding copies.buckets.items) };
 }
 
 impl<B: Bucket + Drop, M: Format + Drop> Copies<B, M> {
@@ -145,8 +147,8 @@ impl<B: Bucket + Drop, M: Format + Drop> Copies<B, M> {
     /// Writes an area, which fits the format, to every copy, to the used one last. A copy that
     /// can't be written is voided. Where no other copy took the area the used one isn't touched,
     /// and the answer is a WriteFault with its number. Unsure, with no call and nothing changed,
-    /// where no load answered Ok yet, or the last load or save was refused. Once a load or a save
-    /// answered Ok, a save in which no call fails reads nothing.
+    /// where no load answered Ok yet, or the last load, save or look was refused. A save in which
+    /// no call fails reads nothing.
     pub fn save<F: Flash>(&mut self, flash: &mut F, area: &[u8]) -> Result<Saved, CopyFault>
         requires serves { AllServe (kinds_of B.holding self.old.buckets)
             (F.device flash.old).geometry }
@@ -159,6 +161,8 @@ impl<B: Bucket + Drop, M: Format + Drop> Copies<B, M> {
             → F.device flash.new ≡ F.device flash.old }
         ensures images { SaveImages (M.form self.old.format) (kinds_of B.holding self.old.buckets)
             self.old.used area.now (F.device flash.old) (F.device flash.new) }
+        ensures bounds { IsBounded (kinds_of B.holding self.old.buckets)
+            ((M.form self.old.format).text area.now) (F.device flash.old) (F.device flash.new) }
         ensures outside { KeepsOutside (kinds_of B.holding self.old.buckets) (F.device flash.old)
             (F.device flash.new) }
         ensures later { IsLater (F.device flash.old) (F.device flash.new) }
@@ -182,8 +186,7 @@ impl<B: Bucket + Drop, M: Format + Drop> Copies<B, M> {
         ensures format { self.new.format ≡ self.old.format }
         ensures agrees { AllAgree B.holding (F.device flash.new) self.new.buckets }
         ensures placed { OnOk result (AllPlaced B.holding self.new.buckets) }
-        ensures reads { AllPlaced B.holding self.old.buckets
-            → ReadsNothing (F.device flash.old) (F.device flash.new) }
+        ensures reads { ReadsNothing (F.device flash.old) (F.device flash.new) }
         ensures sure { self.new.sure ≡ is_ok result }
     {
         if !self.sure {
@@ -204,16 +207,16 @@ impl<B: Bucket + Drop, M: Format + Drop> Copies<B, M> {
         Ok(Saved { live: taken.live })
     }
 
-    /// Whether the last load or save answered Ok.
+    /// Whether the last load or save answered Ok, and no look failed since.
     pub fn is_sure(&self) -> bool
         ensures { result ≡ self.now.sure }
     {
         self.sure
     }
 
-    /// Whether a copy passes, and then the area of the first in `area`. The copies behind it aren't
-    /// read. Nothing changes on the device, nor what is known of the copies. ReadFault where a copy
-    /// that was read couldn't be; a later save may then have to read.
+    /// Whether a copy passes, and then the area of the first in `area`. The copies after it aren't
+    /// read. Nothing changes on the device. ReadFault where a copy that was read couldn't be; the
+    /// copies are then unsure.
     pub fn look<F: Flash>(&mut self, flash: &mut F, area: &mut [u8]) -> Result<bool, CopyFault>
         requires serves { AllServe (kinds_of B.holding self.old.buckets)
             (F.device flash.old).geometry }
@@ -224,20 +227,21 @@ impl<B: Bucket + Drop, M: Format + Drop> Copies<B, M> {
             (kinds_of B.holding self.old.buckets) area.new (F.device flash.old)) }
         ensures fails { IfErr result (λ fault. fault ≡ ReadFault) }
         ensures quiet { IsQuiet (F.device flash.old) (F.device flash.new) }
-        ensures faults { HasCause (F.device flash.old).faults (F.device flash.new).faults
-            (IsErr result) }
-        ensures read_faults { HasCause (F.device flash.old).read_faults
-            (F.device flash.new).read_faults (IsErr result) }
+        ensures faults { (F.device flash.new).faults
+            ≡ counted (is_err result) (F.device flash.old).faults }
+        ensures read_faults { (F.device flash.new).read_faults
+            ≡ counted (is_err result) (F.device flash.old).read_faults }
         ensures kinds { kinds_of B.holding self.new.buckets ≡ kinds_of B.holding self.old.buckets }
         ensures format { self.new.format ≡ self.old.format }
         ensures agrees { AllAgree B.holding (F.device flash.new) self.new.buckets }
         ensures placed { OnOk result
             (AllPlaced B.holding self.old.buckets → AllPlaced B.holding self.new.buckets) }
         ensures used { self.new.used ≡ self.old.used }
-        ensures sure { self.new.sure ≡ self.old.sure }
+        ensures sure { self.new.sure ≡ (self.old.sure && is_ok result) }
     {
         let looked = find_first(&mut self.buckets, &self.format, flash, area, &mut self.room);
         let Ok(passes) = looked else {
+            self.sure = false;
             return Err(CopyFault::ReadFault);
         };
         Ok(passes)

@@ -2,6 +2,7 @@ ghost use Rattle.std.specs.Prelude.{◌≡◌, ◌<◌, ◌≤◌, IfErr, IsTrue
 ghost use Rattle.std.specs.Option.{ForSome};
 ghost use Rattle.bb_flash.specs.Device.{IsDevice, content};
 ghost use Rattle.bb_copies.specs.Buckets.{AllAgree, AllFit, AllServe, HaveRoom, kinds_of};
+ghost use Rattle.bb_copies.specs.Erasing.{IsBounded};
 ghost use Rattle.bb_copies.specs.Looking.{IsFirst};
 ghost use Rattle.bb_copies.specs.Placing.{AllPlaced};
 ghost use Rattle.bb_copies.specs.Refreshing.{AllHeld, AllWritten, IsStuckAt, KeepsMarked};
@@ -33,6 +34,7 @@ pub(crate) fn freshen<B: Bucket, M: Format, F: Flash>(
     requires found { AllFit (kinds_of B.holding buckets.old.items) (length room.old.found.items) }
     requires agreed { AllAgree B.holding (F.device flash.old) buckets.old.items }
     requires whole { IsDevice (F.device flash.old) }
+    requires placed { AllPlaced B.holding buckets.old.items }
     requires marks { length good.old.items ≡ length buckets.old.items }
     requires fits { IsTrue ((M.form format.now).fits area.now) }
     requires packed { room.old.record.items ≡ (M.form format.now).text area.now }
@@ -61,10 +63,13 @@ pub(crate) fn freshen<B: Bucket, M: Format, F: Flash>(
     ensures exact { IsUndisturbed (F.device flash.old) (F.device flash.new)
         → AllWritten (kinds_of B.holding buckets.old.items) room.old.record.items good.old.items
         (F.device flash.old) (F.device flash.new) }
+    ensures bounds { IsBounded (kinds_of B.holding buckets.old.items) room.old.record.items
+        (F.device flash.old) (F.device flash.new) }
+    ensures read_faults { OnOk result
+        ((F.device flash.new).read_faults ≡ (F.device flash.old).read_faults) }
     ensures kinds { kinds_of B.holding buckets.new.items ≡ kinds_of B.holding buckets.old.items }
     ensures agrees { AllAgree B.holding (F.device flash.new) buckets.new.items }
-    ensures placed { OnOk result
-        (AllPlaced B.holding buckets.old.items → AllPlaced B.holding buckets.new.items) }
+    ensures placed { OnOk result (AllPlaced B.holding buckets.new.items) }
     ensures marks { length good.new.items ≡ length good.old.items }
     ensures found { length room.new.found.items ≡ length room.old.found.items }
     ensures scratch { length room.new.area.items ≡ length room.old.area.items }

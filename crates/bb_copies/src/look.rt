@@ -1,6 +1,6 @@
-ghost use Rattle.std.specs.Prelude.{◌≡◌, ◌<◌, IfOk, IfSome, IsErr, IsTrue, OnOk, length};
+ghost use Rattle.std.specs.Prelude.{◌≡◌, ◌<◌, IfOk, IfSome, IsTrue, OnOk, is_err, length};
 ghost use Rattle.std.specs.Option.{ForSome};
-ghost use Rattle.bb_base.specs.Faults.{HasCause};
+ghost use Rattle.bb_base.specs.Faults.{counted};
 ghost use Rattle.bb_flash.specs.Device.{IsDevice, content};
 ghost use Rattle.bb_bucket.specs.Calls.{IsQuiet};
 ghost use Rattle.bb_copies.specs.Buckets.{AllAgree, AllFit, AllServe, kinds_of};
@@ -42,10 +42,10 @@ pub(crate) fn look_over<B: Bucket, M: Format, F: Flash>(
     ensures fits { IfOk result (λ used. IfSome used (λ _. IsTrue
         ((M.form format.now).fits area.new))) }
     ensures quiet { IsQuiet (F.device flash.old) (F.device flash.new) }
-    ensures faults { HasCause (F.device flash.old).faults (F.device flash.new).faults
-        (IsErr result) }
-    ensures read_faults { HasCause (F.device flash.old).read_faults (F.device flash.new).read_faults
-        (IsErr result) }
+    ensures faults { (F.device flash.new).faults
+        ≡ counted (is_err result) (F.device flash.old).faults }
+    ensures read_faults { (F.device flash.new).read_faults
+        ≡ counted (is_err result) (F.device flash.old).read_faults }
     ensures kinds { kinds_of B.holding buckets.new.items ≡ kinds_of B.holding buckets.old.items }
     ensures agrees { AllAgree B.holding (F.device flash.new) buckets.new.items }
     ensures placed { OnOk result (AllPlaced B.holding buckets.new.items) }
@@ -90,10 +90,10 @@ pub(crate) fn find_first<B: Bucket, M: Format, F: Flash>(
     ensures gives { IfOk result (LookGives (M.form format.now)
         (kinds_of B.holding buckets.old.items) area.new (F.device flash.old)) }
     ensures quiet { IsQuiet (F.device flash.old) (F.device flash.new) }
-    ensures faults { HasCause (F.device flash.old).faults (F.device flash.new).faults
-        (IsErr result) }
-    ensures read_faults { HasCause (F.device flash.old).read_faults (F.device flash.new).read_faults
-        (IsErr result) }
+    ensures faults { (F.device flash.new).faults
+        ≡ counted (is_err result) (F.device flash.old).faults }
+    ensures read_faults { (F.device flash.new).read_faults
+        ≡ counted (is_err result) (F.device flash.old).read_faults }
     ensures kinds { kinds_of B.holding buckets.new.items ≡ kinds_of B.holding buckets.old.items }
     ensures agrees { AllAgree B.holding (F.device flash.new) buckets.new.items }
     ensures placed { OnOk result
@@ -133,10 +133,10 @@ fn read_at<B: Bucket, M: Format, F: Flash>(
     ensures fits { IfOk result (λ passed.
         IfSome passed (λ _. IsTrue ((M.form format.now).fits area.new))) }
     ensures quiet { IsQuiet (F.device flash.old) (F.device flash.new) }
-    ensures faults { HasCause (F.device flash.old).faults (F.device flash.new).faults
-        (IsErr result) }
-    ensures read_faults { HasCause (F.device flash.old).read_faults (F.device flash.new).read_faults
-        (IsErr result) }
+    ensures faults { (F.device flash.new).faults
+        ≡ counted (is_err result) (F.device flash.old).faults }
+    ensures read_faults { (F.device flash.new).read_faults
+        ≡ counted (is_err result) (F.device flash.old).read_faults }
     ensures kinds { kinds_of B.holding buckets.new.items ≡ kinds_of B.holding buckets.old.items }
     ensures agrees { AllAgree B.holding (F.device flash.new) buckets.new.items }
     ensures placed { OnOk result

@@ -2,7 +2,7 @@ ghost use Rattle.std.specs.Prelude.{◌≡◌, ◌<◌, ◌≤◌, ℕ, IfErr, I
 ghost use Rattle.std.specs.Prelude.{false, length};
 ghost use Rattle.bb_flash.specs.Device.{IsDevice};
 ghost use Rattle.bb_copies.specs.Buckets.{AllAgree, AllFit, AllServe, HaveRoom, kinds_of};
-ghost use Rattle.bb_copies.specs.Erasing.{ErasesBy};
+ghost use Rattle.bb_copies.specs.Erasing.{ErasesBy, IsBounded};
 ghost use Rattle.bb_copies.specs.Placing.{AllPlaced, ReadsNothing};
 ghost use Rattle.bb_copies.specs.Refreshing.{AllHeld, Refreshes, SomeMarked, is_marked};
 ghost use Rattle.bb_copies.specs.Saving.{EachWritten, IsWriteFault, SparesUsed};
@@ -31,6 +31,7 @@ pub(crate) fn save_first<B: Bucket, M: Format, F: Flash>(
     requires found { AllFit (kinds_of B.holding buckets.old.items) (length room.old.found.items) }
     requires agreed { AllAgree B.holding (F.device flash.old) buckets.old.items }
     requires whole { IsDevice (F.device flash.old) }
+    requires placed { AllPlaced B.holding buckets.old.items }
     requires marks { length good.old.items ≡ length buckets.old.items }
     requires unmarked { (copy : ℕ) → is_marked good.old.items copy ≡ false }
     requires fits { IsTrue ((M.form format.now).fits area.now) }
@@ -56,11 +57,14 @@ pub(crate) fn save_first<B: Bucket, M: Format, F: Flash>(
     ensures erases { IsUndisturbed (F.device flash.old) (F.device flash.new)
         → OnOk result (ErasesBy (kinds_of B.holding buckets.old.items) room.old.record.items
         (F.device flash.old) (F.device flash.new)) }
+    ensures bounds { IsBounded (kinds_of B.holding buckets.old.items) room.old.record.items
+        (F.device flash.old) (F.device flash.new) }
+    ensures read_faults { OnOk result
+        ((F.device flash.new).read_faults ≡ (F.device flash.old).read_faults) }
     ensures kinds { kinds_of B.holding buckets.new.items ≡ kinds_of B.holding buckets.old.items }
     ensures agrees { AllAgree B.holding (F.device flash.new) buckets.new.items }
     ensures placed { OnOk result (AllPlaced B.holding buckets.new.items) }
-    ensures reads { AllPlaced B.holding buckets.old.items
-        → ReadsNothing (F.device flash.old) (F.device flash.new) }
+    ensures reads { ReadsNothing (F.device flash.old) (F.device flash.new) }
     ensures marks { length good.new.items ≡ length good.old.items }
     ensures found { length room.new.found.items ≡ length room.old.found.items }
     ensures scratch { length room.new.area.items ≡ length room.old.area.items }
@@ -91,6 +95,7 @@ pub(crate) fn save_over<B: Bucket, M: Format, F: Flash>(
     requires found { AllFit (kinds_of B.holding buckets.old.items) (length room.old.found.items) }
     requires agreed { AllAgree B.holding (F.device flash.old) buckets.old.items }
     requires whole { IsDevice (F.device flash.old) }
+    requires placed { AllPlaced B.holding buckets.old.items }
     requires marks { length good.old.items ≡ length buckets.old.items }
     requires unmarked { (copy : ℕ) → is_marked good.old.items copy ≡ false }
     requires fits { IsTrue ((M.form format.now).fits area.now) }
@@ -118,11 +123,14 @@ pub(crate) fn save_over<B: Bucket, M: Format, F: Flash>(
     ensures erases { IsUndisturbed (F.device flash.old) (F.device flash.new)
         → OnOk result (ErasesBy (kinds_of B.holding buckets.old.items) room.old.record.items
         (F.device flash.old) (F.device flash.new)) }
+    ensures bounds { IsBounded (kinds_of B.holding buckets.old.items) room.old.record.items
+        (F.device flash.old) (F.device flash.new) }
+    ensures read_faults { OnOk result
+        ((F.device flash.new).read_faults ≡ (F.device flash.old).read_faults) }
     ensures kinds { kinds_of B.holding buckets.new.items ≡ kinds_of B.holding buckets.old.items }
     ensures agrees { AllAgree B.holding (F.device flash.new) buckets.new.items }
     ensures placed { OnOk result (AllPlaced B.holding buckets.new.items) }
-    ensures reads { AllPlaced B.holding buckets.old.items
-        → ReadsNothing (F.device flash.old) (F.device flash.new) }
+    ensures reads { ReadsNothing (F.device flash.old) (F.device flash.new) }
     ensures marks { length good.new.items ≡ length good.old.items }
     ensures found { length room.new.found.items ≡ length room.old.found.items }
     ensures scratch { length room.new.area.items ≡ length room.old.area.items }
@@ -153,6 +161,7 @@ pub(crate) fn save_all<B: Bucket, M: Format, F: Flash>(
     requires found { AllFit (kinds_of B.holding buckets.old.items) (length room.old.found.items) }
     requires agreed { AllAgree B.holding (F.device flash.old) buckets.old.items }
     requires whole { IsDevice (F.device flash.old) }
+    requires placed { AllPlaced B.holding buckets.old.items }
     requires marks { length good.old.items ≡ length buckets.old.items }
     requires unmarked { (copy : ℕ) → is_marked good.old.items copy ≡ false }
     requires fits { IsTrue ((M.form format.now).fits area.now) }
@@ -179,11 +188,14 @@ pub(crate) fn save_all<B: Bucket, M: Format, F: Flash>(
     ensures erases { IsUndisturbed (F.device flash.old) (F.device flash.new)
         → OnOk result (ErasesBy (kinds_of B.holding buckets.old.items) room.old.record.items
         (F.device flash.old) (F.device flash.new)) }
+    ensures bounds { IsBounded (kinds_of B.holding buckets.old.items) room.old.record.items
+        (F.device flash.old) (F.device flash.new) }
+    ensures read_faults { OnOk result
+        ((F.device flash.new).read_faults ≡ (F.device flash.old).read_faults) }
     ensures kinds { kinds_of B.holding buckets.new.items ≡ kinds_of B.holding buckets.old.items }
     ensures agrees { AllAgree B.holding (F.device flash.new) buckets.new.items }
     ensures placed { OnOk result (AllPlaced B.holding buckets.new.items) }
-    ensures reads { AllPlaced B.holding buckets.old.items
-        → ReadsNothing (F.device flash.old) (F.device flash.new) }
+    ensures reads { ReadsNothing (F.device flash.old) (F.device flash.new) }
     ensures marks { length good.new.items ≡ length good.old.items }
     ensures found { length room.new.found.items ≡ length room.old.found.items }
     ensures scratch { length room.new.area.items ≡ length room.old.area.items }

@@ -1,6 +1,6 @@
-ghost use Rattle.std.specs.Prelude.{◌≡◌, ◌≤◌, IfOk, IfSome, IsErr, IsTrue, OnOk, length};
+ghost use Rattle.std.specs.Prelude.{◌≡◌, ◌≤◌, IfOk, IfSome, IsTrue, OnOk, is_err, length};
 ghost use Rattle.std.specs.Option.{ForSome};
-ghost use Rattle.bb_base.specs.Faults.{HasCause};
+ghost use Rattle.bb_base.specs.Faults.{counted};
 ghost use Rattle.bb_flash.specs.Device.{content};
 ghost use Rattle.bb_bucket.specs.Calls.{Agrees, IsQuiet};
 ghost use Rattle.bb_copies.specs.Passing.{IsReading};
@@ -35,10 +35,10 @@ pub(crate) fn read_copy<B: Bucket, M: Format, F: Flash>(
     ensures fits { IfOk result (λ passed. IfSome passed (λ _. IsTrue
         ((M.form format.now).fits area.new))) }
     ensures quiet { IsQuiet (F.device flash.old) (F.device flash.new) }
-    ensures faults { HasCause (F.device flash.old).faults (F.device flash.new).faults
-        (IsErr result) }
-    ensures read_faults { HasCause (F.device flash.old).read_faults (F.device flash.new).read_faults
-        (IsErr result) }
+    ensures faults { (F.device flash.new).faults
+        ≡ counted (is_err result) (F.device flash.old).faults }
+    ensures read_faults { (F.device flash.new).read_faults
+        ≡ counted (is_err result) (F.device flash.old).read_faults }
     ensures kind { (B.holding bucket.new).kind ≡ (B.holding bucket.old).kind }
     ensures agrees { Agrees (B.holding bucket.new) (F.device flash.new) }
     ensures placed { OnOk result (IsTrue (B.holding bucket.new).knows_place) }

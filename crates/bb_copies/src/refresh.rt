@@ -1,11 +1,12 @@
 ghost use Rattle.std.specs.Prelude.{◌≡◌, ◌<◌, IfErr, IfOk, IsTrue, OnOk, length};
 ghost use Rattle.bb_flash.specs.Device.{IsDevice};
 ghost use Rattle.bb_copies.specs.Buckets.{AllAgree, AllFit, AllServe, HaveRoom, kinds_of};
+ghost use Rattle.bb_copies.specs.Erasing.{IsBounded, unmarked_kinds};
 ghost use Rattle.bb_copies.specs.Placing.{AllPlaced, IsPlacedAt, PlacesCopy};
 ghost use Rattle.bb_copies.specs.Placing.{PlacesUnmarked, ReadsNothing};
-ghost use Rattle.bb_copies.specs.Refreshing.{AllSettled, AllWritten, IsSettledAt, IsStuckAt};
-ghost use Rattle.bb_copies.specs.Refreshing.{IsWrittenAt, KeepsMarked, LeavesOthers, Refreshes};
-ghost use Rattle.bb_copies.specs.Refreshing.{answer_of};
+ghost use Rattle.bb_copies.specs.Refreshing.{AllSettled, AllWritten, IsBoundedAt, IsSettledAt};
+ghost use Rattle.bb_copies.specs.Refreshing.{IsStuckAt, IsWrittenAt, KeepsMarked, LeavesOthers};
+ghost use Rattle.bb_copies.specs.Refreshing.{Refreshes, answer_of};
 ghost use Rattle.bb_copies.specs.Settling.{IsUndisturbed};
 
 use crate::room::Room;
@@ -31,6 +32,7 @@ pub(crate) fn settle_copy<B: Bucket, M: Format, F: Flash>(
     requires found { AllFit (kinds_of B.holding buckets.old.items) (length room.old.found.items) }
     requires agreed { AllAgree B.holding (F.device flash.old) buckets.old.items }
     requires whole { IsDevice (F.device flash.old) }
+    requires placed { IsPlacedAt B.holding buckets.old.items copy }
     requires fits { IsTrue ((M.form format.now).fits area.now) }
     requires packed { room.old.record.items ≡ (M.form format.now).text area.now }
     requires area { length room.old.area.items ≡ (M.form format.now).area_len }
@@ -48,12 +50,15 @@ pub(crate) fn settle_copy<B: Bucket, M: Format, F: Flash>(
     ensures exact { IsUndisturbed (F.device flash.old) (F.device flash.new)
         → IsWrittenAt (kinds_of B.holding buckets.old.items) copy room.old.record.items
         (F.device flash.old) (F.device flash.new) }
+    ensures bounds { IsBoundedAt (kinds_of B.holding buckets.old.items) copy
+        room.old.record.items (F.device flash.old) (F.device flash.new) }
+    ensures read_faults { OnOk result
+        ((F.device flash.new).read_faults ≡ (F.device flash.old).read_faults) }
     ensures kinds { kinds_of B.holding buckets.new.items ≡ kinds_of B.holding buckets.old.items }
     ensures agrees { AllAgree B.holding (F.device flash.new) buckets.new.items }
     ensures placed { OnOk result
         (PlacesCopy B.holding copy buckets.old.items buckets.new.items) }
-    ensures reads { IsPlacedAt B.holding buckets.old.items copy
-        → ReadsNothing (F.device flash.old) (F.device flash.new) }
+    ensures reads { ReadsNothing (F.device flash.old) (F.device flash.new) }
     ensures found { length room.new.found.items ≡ length room.old.found.items }
     ensures scratch { length room.new.area.items ≡ length room.old.area.items }
     ensures record { room.new.record.items ≡ room.old.record.items }
@@ -89,6 +94,7 @@ pub(crate) fn refresh<B: Bucket, M: Format, F: Flash>(
     requires found { AllFit (kinds_of B.holding buckets.old.items) (length room.old.found.items) }
     requires agreed { AllAgree B.holding (F.device flash.old) buckets.old.items }
     requires whole { IsDevice (F.device flash.old) }
+    requires placed { AllPlaced B.holding buckets.old.items }
     requires marks { length good.old.items ≡ length buckets.old.items }
     requires fits { IsTrue ((M.form format.now).fits area.now) }
     requires packed { room.old.record.items ≡ (M.form format.now).text area.now }
@@ -107,12 +113,16 @@ pub(crate) fn refresh<B: Bucket, M: Format, F: Flash>(
     ensures exact { IsUndisturbed (F.device flash.old) (F.device flash.new)
         → AllWritten (kinds_of B.holding buckets.old.items) room.old.record.items good.old.items
         (F.device flash.old) (F.device flash.new) }
+    ensures bounds { IsBounded
+        (unmarked_kinds good.old.items (kinds_of B.holding buckets.old.items))
+        room.old.record.items (F.device flash.old) (F.device flash.new) }
+    ensures read_faults { OnOk result
+        ((F.device flash.new).read_faults ≡ (F.device flash.old).read_faults) }
     ensures kinds { kinds_of B.holding buckets.new.items ≡ kinds_of B.holding buckets.old.items }
     ensures agrees { AllAgree B.holding (F.device flash.new) buckets.new.items }
     ensures placed { OnOk result
         (PlacesUnmarked B.holding good.old.items buckets.old.items buckets.new.items) }
-    ensures reads { AllPlaced B.holding buckets.old.items
-        → ReadsNothing (F.device flash.old) (F.device flash.new) }
+    ensures reads { ReadsNothing (F.device flash.old) (F.device flash.new) }
     ensures marks { length good.new.items ≡ length good.old.items }
     ensures found { length room.new.found.items ≡ length room.old.found.items }
     ensures scratch { length room.new.area.items ≡ length room.old.area.items }

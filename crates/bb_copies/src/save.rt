@@ -34,6 +34,7 @@ pub(crate) fn save_copies<B: Bucket, M: Format, F: Flash>(
     requires found { AllFit (kinds_of B.holding buckets.old.items) (length room.old.found.items) }
     requires agreed { AllAgree B.holding (F.device flash.old) buckets.old.items }
     requires whole { IsDevice (F.device flash.old) }
+    requires placed { AllPlaced B.holding buckets.old.items }
     requires marks { length good.old.items ≡ length buckets.old.items }
     requires fits { IsTrue ((M.form format.now).fits area.now) }
     requires record { length room.old.record.items ≡ (M.form format.now).length }
@@ -61,8 +62,7 @@ pub(crate) fn save_copies<B: Bucket, M: Format, F: Flash>(
     ensures kinds { kinds_of B.holding buckets.new.items ≡ kinds_of B.holding buckets.old.items }
     ensures agrees { AllAgree B.holding (F.device flash.new) buckets.new.items }
     ensures placed { OnOk result (AllPlaced B.holding buckets.new.items) }
-    ensures reads { AllPlaced B.holding buckets.old.items
-        → ReadsNothing (F.device flash.old) (F.device flash.new) }
+    ensures reads { ReadsNothing (F.device flash.old) (F.device flash.new) }
     ensures marks { length good.new.items ≡ length good.old.items }
     ensures found { length room.new.found.items ≡ length room.old.found.items }
     ensures scratch { length room.new.area.items ≡ length room.old.area.items }

@@ -1,9 +1,10 @@
-ghost use Rattle.std.specs.Prelude.{◌≡◌, ◌≢◌, ◌≤◌, IsTrue, length};
+ghost use Rattle.std.specs.Prelude.{◌≡◌, ◌≢◌, ◌≤◌, ◌∷◌, [], IsTrue, length};
 ghost use Rattle.bb_flash.specs.Device.{IsDevice};
-ghost use Rattle.bb_bucket.specs.Calls.{Agrees};
+ghost use Rattle.bb_bucket.specs.Calls.{Agrees, told_but_reads};
+ghost use Rattle.bb_copies.specs.Erasing.{IsBounded};
 ghost use Rattle.bb_copies.specs.Placing.{ReadsNothing};
-ghost use Rattle.bb_copies.specs.Settling.{EndsAs, IsCompared, IsUndisturbed, IsWritten};
-ghost use Rattle.bb_copies.specs.Settling.{ReadsAs, SettlesCopy};
+ghost use Rattle.bb_copies.specs.Settling.{CountsAs, EndsAs, IsCompared, IsUndisturbed};
+ghost use Rattle.bb_copies.specs.Settling.{IsWritten, ReadsAs, ReadsOnce, SettlesCopy};
 ghost use Rattle.bb_copies.specs.declared.settle.Settled.TheVariants.{Stuck};
 
 use crate::read::read_copy;
@@ -24,7 +25,7 @@ pub(crate) enum Settled {
 }
 
 /// Writes the record of an area, which `room` holds, to a copy; voids it where that fails; reads it
-/// back where that fails too.
+/// back where that fails too. Each is tried once. The bucket knows where the record goes.
 pub(crate) fn settle<B: Bucket, M: Format, F: Flash>(
     bucket: &mut B,
     format: &M,
@@ -35,6 +36,7 @@ pub(crate) fn settle<B: Bucket, M: Format, F: Flash>(
     requires serves { IsTrue ((B.holding bucket.old).kind.serves (F.device flash.old).geometry) }
     requires agreed { Agrees (B.holding bucket.old) (F.device flash.old) }
     requires whole { IsDevice (F.device flash.old) }
+    requires placed { IsTrue (B.holding bucket.old).knows_place }
     requires fits { IsTrue ((M.form format.now).fits area.now) }
     requires packed { room.old.record.items ≡ (M.form format.now).text area.now }
     requires room { (M.form format.now).length ≤ (B.holding bucket.old).kind.room }
@@ -47,11 +49,14 @@ pub(crate) fn settle<B: Bucket, M: Format, F: Flash>(
     ensures exact { IsUndisturbed (F.device flash.old) (F.device flash.new)
         → IsWritten (B.holding bucket.old).kind room.old.record.items (F.device flash.old)
         (F.device flash.new) }
+    ensures counts { CountsAs (B.holding bucket.old).kind room.old.record.items
+        (F.device flash.old) (F.device flash.new) result }
+    ensures bounds { IsBounded ((B.holding bucket.old).kind ∷ []) room.old.record.items
+        (F.device flash.old) (F.device flash.new) }
     ensures kind { (B.holding bucket.new).kind ≡ (B.holding bucket.old).kind }
     ensures agrees { Agrees (B.holding bucket.new) (F.device flash.new) }
     ensures placed { result ≢ Stuck → IsTrue (B.holding bucket.new).knows_place }
-    ensures reads { IsTrue (B.holding bucket.old).knows_place
-        → ReadsNothing (F.device flash.old) (F.device flash.new) }
+    ensures reads { ReadsNothing (F.device flash.old) (F.device flash.new) }
     ensures record { room.new.record.items ≡ room.old.record.items }
     ensures found { length room.new.found.items ≡ length room.old.found.items }
     ensures scratch { length room.new.area.items ≡ length room.old.area.items }
@@ -79,6 +84,8 @@ fn read_back<B: Bucket, M: Format, F: Flash>(
     requires area { length room.old.area.items ≡ (M.form format.now).area_len }
     ensures ends { ReadsAs (M.form format.now) (B.holding bucket.old).kind area.now
         (F.device flash.old) (F.device flash.new) result }
+    ensures counts { ReadsOnce (F.device flash.old) (F.device flash.new) result }
+    ensures quiet { told_but_reads (F.device flash.new) ≡ told_but_reads (F.device flash.old) }
     ensures settles { SettlesCopy (M.form format.now) (B.holding bucket.old).kind area.now
         (F.device flash.old) (F.device flash.new) }
     ensures kind { (B.holding bucket.new).kind ≡ (B.holding bucket.old).kind }

@@ -3,6 +3,7 @@ pub mod Answering
 pub mod Attempts
 pub mod Booted
 pub mod Counting
+pub mod Cutting
 pub mod Ends
 mod Examples
 pub mod Falling

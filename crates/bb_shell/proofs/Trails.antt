@@ -1,28 +1,34 @@
 -- The trail of a boot's saves, and what the copies stand for at its end.
 use Rattle.std.proofs.Common.{◌≡◌, ℕ, zero, suc, ◌+◌, ◌-◌, ◌≤◌, Bool, true, false, List, [], ◌∷◌, ◌++◌, length, map, Option, Some, None, ap, append_assoc, arith, inl, inr, refl, sym, subst, ◌∙◌}
 use Rattle.std.proofs.lemmas.List.{append-nil, length-take}
-use Rattle.std.proofs.lemmas.Option.{same_Some}
-use Rattle.std.specs.Option.{option_map_or}
+use Rattle.std.specs.Option.{ForSome, IfNone, option_map, option_map_or}
 use Rattle.std.specs.Prelude.{count_by, is_some, slice_get}
 use Rattle.std.specs.Str.{bytes_eq}
-use Rattle.bb_copies.specs.Trail.{IsSince, IsTrail, Milestone, Stage, StandsAtOne, milestone_of, stages_in}
+use Rattle.bb_copies.specs.Trail.{IsSince, IsTrail, Milestone, Stage, StandsAtOne, milestone_of, next_moment, stages_in, trail_of}
 use Rattle.bb_copies.proofs.History.{longer}
+use Rattle.bb_copies.proofs.Runs.{later_refl}
+use Rattle.bb_copies.proofs.Trails.{begins_at}
 use Rattle.bb_flash.specs.declared.plan.Plan.{Plan}
 use Rattle.bb_flash.specs.Counted.{Counts, EachCounted, IsFair}
 use Rattle.bb_flash.specs.Cuts.{IsContinued, IsLater}
-use Rattle.bb_flash.specs.Device.{Change, Device, Told, content, moment}
+use Rattle.bb_flash.proofs.Moments.{later_joined}
+use Rattle.bb_flash.specs.Device.{Change, Device, Told, changes, content, moment}
 use Rattle.bb_flash.specs.Image.{Image}
 use Rattle.bb_state.specs.Keyed.{Keyed}
+use Rattle.bb_state.specs.State.{IsStored}
 use Rattle.bb_shell.proofs.Reached.{Luck, Passed, Reaches, StopsRefused, begun_counted, begun_saving, idle_content, idle_saving, idle_settled, is_made, longer_stands, made_cons, made_holds, made_stages, none_alone, reached_by, refused_stages, rounds_later, rounds_reached, settled_more, stage, told_image}
 use Rattle.bb_shell.proofs.Joins.{some_is}
-use Rattle.bb_shell.proofs.Starts.{round_later}
-use Rattle.bb_shell.specs.Boot.{Round, table_after}
+use Rattle.bb_shell.proofs.Starts.{round_later, start_changes, start_later, unrefused}
+use Rattle.bb_shell.specs.Boot.{Round, plan_at, table_after}
 use Rattle.bb_shell.specs.Running.{AreRun, IsRoundRun, is_refused}
-use Rattle.bb_shell.specs.Stages.{EachSettled, HasTrail, IsCounted, IsFairRun, IsSettled, KeepsATrail, KeepsAtExit, LeadsTo, StandsIn, first_area, saving_rounds}
+use Rattle.bb_shell.specs.Stages.{AreAnswered, EachSettled, HasTrail, IsCounted, IsFairRun, IsSettled, KeepsATrail, KeepsAtExit, LeadsTo, StandsIn, first_area, saving_rounds}
 
 some_of : {T : Type 0} → (o : Option T) → is_some o ≡ true → (x : T) × (o ≡ Some x)
 some_of None e = absurd cc
 some_of (Some x) e = (x, refl)
+
+told_changes : (device : Device) (told : Told) → device.told ≡ Some told → changes device ≡ Some told.changes
+told_changes device told e = ap (option_map (λ (t : Told). t.changes)) e
 
 in_order : (first last : Told) → IsContinued first last → moment first ≤ moment last
 in_order first last continued =
@@ -70,16 +76,17 @@ module _ (keyed : Keyed) where
     StandSince when stages =
         (image : Image) → Counts (Luck keyed) Page last when image → StandsAtOne First (Passed keyed image) stages
 
-    in_front : (h : List (List ℕ)) (a when : ℕ) (later : List Milestone) → when ≤ moment last →
+    in_front : (h : List (List ℕ)) (a when : ℕ) (later : List Milestone) →
+        when ≤ next_moment (moment last) later →
         StandSince when (stages_in (milestone_of h a when ∷ later)) → IsTrail Since (moment last) First later →
         IsTrail Since (moment last) First (milestone_of h a when ∷ later)
-    in_front h a when later past stand trail =
+    in_front h a when later order stand trail =
         let stages = stages_in (milestone_of h a when ∷ later) in
-        let here : IsSince Since (moment last) First stages when = record {
-          past = past;
+        let here : IsSince Since (next_moment (moment last) later) First stages when = record {
+          order = order;
           images = λ passed counted. subst (λ p. StandsAtOne First p stages) (sym counted.passes) (stand counted.image counted.counts);
         } in
-        (λ moment' same. subst (IsSince Since (moment last) First stages) (same_Some when moment' same) here, trail)
+        (here, trail)
 
     -- what stands for a list stands for it with a table behind it too
     longer_one : (h : List (List ℕ)) (a : ℕ) (table : List ℕ) (rest : List Stage) (image : Image) →
@@ -89,58 +96,95 @@ module _ (keyed : Keyed) where
         inl (record { marks = here.marks; stands = longer First (Passed keyed image) h (table ∷ []) a here.marks here.stands })
     longer_one h a table rest image (inr later) = later
 
-    abbrev pub TrailBy : Told → List (List ℕ) → ℕ → List Round → Type 0
-    TrailBy first h a saving =
-        HasTrail keyed first last h a (map (λ (round : Round). round.table) saving) (count_by is_made saving)
+    abbrev pub TrailBy : Device → Device → Told → List (List ℕ) → ℕ → List Round → Type 0
+    TrailBy from to first h a saving =
+        HasTrail keyed from to first last h a (map (λ (round : Round). round.table) saving) (count_by is_made saving)
 
-    none_trail : (first : Told) (h : List (List ℕ)) (a : ℕ) → moment first ≤ moment last →
-        StandSince (moment first) (reached_by h a []) → TrailBy first h a []
-    none_trail first h a past stand = record {
-      later = [];
+    none_trail : (from to : Device) (first : Told) (h : List (List ℕ)) (a : ℕ) → IsLater from to → moment first ≤ moment last →
+        StandSince (moment first) (reached_by h a []) → TrailBy from to first h a []
+    unfolding AreAnswered trail_of
+    none_trail from to first h a later past stand = record {
+      answered = [];
+      known = later;
       stages = refl;
       trail = in_front h a (moment first) [] past stand tt;
     }
 
-    refused_trail : (first : Told) (h : List (List ℕ)) (a : ℕ) (round : Round) → is_refused round.outcome ≡ true →
-        moment first ≤ moment last → StandSince (moment first) (reached_by h a (round ∷ [])) → TrailBy first h a (round ∷ [])
-    refused_trail first h a round refused past stand =
+    refused_trail : (from to : Device) (first : Told) (h : List (List ℕ)) (a : ℕ) (round : Round) → IsLater from to →
+        is_refused round.outcome ≡ true → moment first ≤ moment last →
+        StandSince (moment first) (reached_by h a (round ∷ [])) → TrailBy from to first h a (round ∷ [])
+    unfolding AreAnswered trail_of
+    refused_trail from to first h a round later refused past stand =
         let longer_list = h ++ round.table ∷ [] in
         let stages = refused_stages h a round refused in
         let stands : StandSince (moment first) (stage h a ∷ stage longer_list a ∷ []) =
         λ image counts. subst (StandsAtOne First (Passed keyed image)) stages (stand image counts) in
         record {
-          later = milestone_of longer_list a (moment first) ∷ [];
+          answered = [];
+          known = later;
           stages = sym stages;
           trail =
-              in_front h a (moment first) (milestone_of longer_list a (moment first) ∷ []) past stands
+              in_front h a (moment first) (milestone_of longer_list a (moment first) ∷ []) (omega arith) stands
               (in_front longer_list a (moment first) [] past (λ image counts. longer_one h a round.table [] image (stands image counts)) tt);
         }
 
-    made_trail : (first mid : Told) (h : List (List ℕ)) (a : ℕ) (round : Round) (saving : List Round) → is_refused round.outcome ≡ false →
-        moment first ≤ moment last → StandSince (moment first) (reached_by h a (round ∷ saving)) →
-        TrailBy mid (h ++ round.table ∷ []) (a + 1) saving → TrailBy first h a (round ∷ saving)
-    made_trail first mid h a round saving done past stand rest =
+    -- a save that answered Ok, and a trail behind it
+    made_trail : (from done to : Device) (used : Option ℕ) (first mid : Told) (h : List (List ℕ)) (a : ℕ) (round : Round) (saving : List Round) →
+        IsStored keyed round.table used from done → ForSome done.told (λ told. moment told ≡ moment mid) →
+        is_refused round.outcome ≡ false → moment first ≤ moment mid →
+        StandSince (moment first) (reached_by h a (round ∷ saving)) →
+        TrailBy done to mid (h ++ round.table ∷ []) (a + 1) saving → TrailBy from to first h a (round ∷ saving)
+    unfolding AreAnswered trail_of
+    made_trail from done to used first mid h a round saving stored at made order stand rest =
         let longer_list = h ++ round.table ∷ [] in
-        let behind : List Milestone = milestone_of longer_list (a + 1) (moment mid) ∷ rest.later in
-        let stages = made_stages h a round saving done in
+        let behind : List Milestone = trail_of longer_list (a + 1) (moment mid) (map (λ (r : Round). r.table) saving) rest.answered in
+        let stages = made_stages h a round saving made in
         let whole : stages_in (milestone_of h a (moment first) ∷ milestone_of longer_list a (moment first) ∷ behind) ≡ reached_by h a (round ∷ saving) =
         ap (λ l. stage h a ∷ stage longer_list a ∷ l) rest.stages ∙ sym stages in
         let stands : StandSince (moment first) (stages_in (milestone_of h a (moment first) ∷ milestone_of longer_list a (moment first) ∷ behind)) =
         λ image counts. subst (StandsAtOne First (Passed keyed image)) (sym whole) (stand image counts) in
+        let next : moment first ≤ next_moment (moment last) behind =
+        subst (λ n. moment first ≤ n)
+        (sym (begins_at (moment last) longer_list (a + 1) (moment mid) (map (λ (r : Round). r.table) saving) rest.answered)) order in
         record {
-          later = milestone_of longer_list a (moment first) ∷ behind;
+          answered = moment mid ∷ rest.answered;
+          known = record {
+            begun = from;
+            done = done;
+            used = used;
+            later = later_refl from;
+            stored = stored;
+            at = at;
+            then = rest.known;
+          };
           stages = whole;
           trail =
-              in_front h a (moment first) (milestone_of longer_list a (moment first) ∷ behind) past stands
-              (in_front longer_list a (moment first) behind past
+              in_front h a (moment first) (milestone_of longer_list a (moment first) ∷ behind) (omega arith) stands
+              (in_front longer_list a (moment first) behind next
               (λ image counts. longer_one h a round.table (stages_in behind) image (stands image counts)) rest.trail);
         }
+
+  -- what was answered from a device on was so from an earlier one on
+  answered_from : (one two end : Device) (areas : List (List ℕ)) (answered : List ℕ) → IsLater one two →
+      AreAnswered keyed two end areas answered → AreAnswered keyed one end areas answered
+  unfolding AreAnswered
+  answered_from one two end areas [] early known = later_joined one two end early known
+  answered_from one two end [] (when ∷ answered) early known = absurd known
+  answered_from one two end (area ∷ areas) (when ∷ answered) early known = record {
+    begun = known.begun;
+    done = known.done;
+    used = known.used;
+    later = later_joined one two known.begun early known.later;
+    stored = known.stored;
+    at = known.at;
+    then = known.then;
+  }
 
   -- ---- the rounds
 
   abbrev pub Trails : List ℕ → Option ℕ → List Round → Device → Device → Type 0
   Trails kept used saving from to =
-      EachSettled keyed kept used from to (λ first last h a. TrailBy last first h a saving)
+      EachSettled keyed kept used from to (λ first last h a. TrailBy last from to first h a saving)
 
   stand_since : (kept : List ℕ) (used : Option ℕ) (saving : List Round) (from to : Device) → to.geometry ≡ keyed.layout.geometry →
       EachCounted (Luck keyed) (Reaches keyed kept used saving) from to →
@@ -178,41 +222,76 @@ module _ (keyed : Keyed) where
       stand_here : StandSince last (moment first) (reached_by h a (saving_rounds kept (round ∷ later)))
       stand_here = stand first here last there h a settled
 
-      idle_trail : bytes_eq round.table kept ≡ true → TrailBy last first h a (saving_rounds kept (round ∷ later))
+      -- the round's start, if it made one, is no change
+      same_moment : (done : Device) (told : Told) → done.told ≡ Some told → changes device ≡ changes done → moment told ≡ moment next.0
+      same_moment done told is same =
+          ap length
+          (some_is told.changes next.0.changes (sym (told_changes done told is) ∙ sym same ∙ told_changes device next.0 next.1))
+
+      tried_changes : changes device ≡ changes run.middle
+      tried_changes = start_changes (plan_at plans round.target) round.outcome run.middle device run.tried
+
+      idle_trail : bytes_eq round.table kept ≡ true → TrailBy last from to first h a (saving_rounds kept (round ∷ later))
       idle_trail e =
-          let same = idle_saving kept round later e in
           let behind = rest next.0 next.1 last there h a
           (idle_settled keyed plans kept used copy round from device geometry run e first.image next.0.image h a (same_image e) settled) in
-          let stages = behind.stages ∙ ap (reached_by h a) (sym same) in
-          record {
-            later = behind.later;
-            stages = stages;
-            trail =
-                in_front last h a (moment first) behind.later past
-                (λ image counts. subst (StandsAtOne First (Passed keyed image)) (sym stages) (stand_here image counts)) behind.trail.1;
-          }
+          let still : changes device ≡ changes from = tried_changes ∙ ap (λ d. changes d) (run.saved.idle e).device in
+          subst (TrailBy last from to first h a) (sym (idle_saving kept round later e))
+          (record {
+            answered = behind.answered;
+            known = answered_from from device to (map (λ (r : Round). r.table) (saving_rounds round.table later)) behind.answered early behind.known;
+            stages = by_moment behind (sym (same_moment from first here still));
+            trail = trail_at behind (sym (same_moment from first here still));
+          })
+        where
+          abbrev tables : List (List ℕ)
+          tables = map (λ (r : Round). r.table) (saving_rounds round.table later)
+
+          by_moment : (behind : TrailBy last device to next.0 h a (saving_rounds round.table later)) → moment next.0 ≡ moment first →
+              stages_in (trail_of h a (moment first) tables behind.answered) ≡ reached_by h a (saving_rounds round.table later)
+          by_moment behind same =
+              subst (λ n. stages_in (trail_of h a n tables behind.answered) ≡ reached_by h a (saving_rounds round.table later)) same
+              behind.stages
+
+          trail_at : (behind : TrailBy last device to next.0 h a (saving_rounds round.table later)) → moment next.0 ≡ moment first →
+              IsTrail (IsCounted keyed last) (moment last) First (trail_of h a (moment first) tables behind.answered)
+          trail_at behind same =
+              subst (λ n. IsTrail (IsCounted keyed last) (moment last) First (trail_of h a n tables behind.answered)) same behind.trail
 
       refused_one : bytes_eq round.table kept ≡ false → is_refused round.outcome ≡ true →
-          TrailBy last first h a (saving_rounds kept (round ∷ later))
+          TrailBy last from to first h a (saving_rounds kept (round ∷ later))
       refused_one e refused =
           let alone : saving_rounds kept (round ∷ later) ≡ round ∷ [] =
           begun_saving kept round later e ∙ ap (λ l. round ∷ saving_rounds round.table l) (stops.0 refused) in
-          subst (TrailBy last first h a) (sym alone)
-          (refused_trail last first h a round refused past (subst (λ rs. StandSince last (moment first) (reached_by h a rs)) alone stand_here))
+          subst (TrailBy last from to first h a) (sym alone)
+          (refused_trail last from to first h a round whole refused past
+          (subst (λ rs. StandSince last (moment first) (reached_by h a rs)) alone stand_here))
 
       made_one : bytes_eq round.table kept ≡ false → is_refused round.outcome ≡ false →
-          TrailBy last first h a (saving_rounds kept (round ∷ later))
+          TrailBy last from to first h a (saving_rounds kept (round ∷ later))
       made_one e done =
           let begun = begun_saving kept round later e in
           let holds = made_holds keyed plans kept used copy round from device geometry run e done next.0.image (told_image device next.0 next.1) in
-          subst (TrailBy last first h a) (sym begun)
-          (made_trail last first next.0 h a round (saving_rounds round.table later) done past
-          (subst (λ rs. StandSince last (moment first) (reached_by h a rs)) begun stand_here)
-          (rest next.0 next.1 last there (h ++ round.table ∷ []) (a + 1)
-          (settled_more keyed kept used round.table copy first.image next.0.image h a settled holds)))
+          let stored : IsStored keyed round.table copy from run.middle =
+          subst (λ refusal. IfNone refusal (IsStored keyed round.table copy from run.middle)) (unrefused round.outcome done) (run.saved.begun e).stored in
+          let behind = rest next.0 next.1 last there (h ++ round.table ∷ []) (a + 1)
+          (settled_more keyed kept used round.table copy first.image next.0.image h a settled holds) in
+          let started = start_later (plan_at plans round.target) round.outcome run.middle device run.tried in
+          let tables = map (λ (r : Round). r.table) (saving_rounds round.table later) in
+          let here_on : TrailBy last run.middle to next.0 (h ++ round.table ∷ []) (a + 1) (saving_rounds round.table later) = record {
+            answered = behind.answered;
+            known = answered_from run.middle device to tables behind.answered started behind.known;
+            stages = behind.stages;
+            trail = behind.trail;
+          } in
+          subst (TrailBy last from to first h a) (sym begun)
+          (made_trail last from run.middle to copy first next.0 h a round (saving_rounds round.table later) stored
+          (λ told is. same_moment run.middle told is tried_changes) done
+          (told_order from device first next.0 early here next.1)
+          (subst (λ rs. StandSince last (moment first) (reached_by h a rs)) begun stand_here) here_on)
 
       one_trail : (same : Bool) → bytes_eq round.table kept ≡ same → (refused : Bool) → is_refused round.outcome ≡ refused →
-          TrailBy last first h a (saving_rounds kept (round ∷ later))
+          TrailBy last from to first h a (saving_rounds kept (round ∷ later))
       one_trail true e refused done = idle_trail e
       one_trail false e true refused = refused_one e refused
       one_trail false e false done = made_one e done
@@ -227,7 +306,7 @@ module _ (keyed : Keyed) where
   unfolding AreRun
   rounds_trails plans [] kept used now from to geometry stops run = λ first here last there h a settled.
       let whole = rounds_later keyed plans [] kept used now from to run in
-      none_trail last first h a (told_order from to first last whole here there)
+      none_trail last from to first h a whole (told_order from to first last whole here there)
       (stand_since kept used [] from to (whole.geometry ∙ geometry)
       (rounds_reached keyed plans [] kept used now from to geometry stops run) first here last there h a settled)
   rounds_trails plans (round ∷ later) kept used now from to geometry stops run =

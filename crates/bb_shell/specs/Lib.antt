@@ -8,6 +8,7 @@ pub use Rattle.bb_chooser.specs.Choosing
 pub use Rattle.bb_state.specs.State
 pub mod Boot
 pub mod Counting
+pub mod Cutting
 pub mod Ends
 pub mod Plans
 pub mod Rounds

@@ -1,20 +1,22 @@
 -- How far the saves of a boot came, and since when: what the copies stand for at its end, and in
 -- each image that a cut of power leaves on the way. It goes on after a load or a save that answered
 -- Ok, and another call's stages go on behind it.
-use Rattle.std.specs.Prelude.{◌≡◌, ℕ, ◌+◌, List, [], ◌∷◌, ◌++◌, length, take, map, count_by, slice_get, not, Option, Some, if◌then◌else◌}
+use Rattle.std.specs.Prelude.{◌≡◌, ℕ, ◌+◌, ⊥, List, [], ◌∷◌, ◌++◌, length, take, map, count_by, slice_get, not, Option, Some, if◌then◌else◌}
 use Rattle.std.specs.Option.{ForSome}
 use Rattle.std.specs.Str.{bytes_eq}
 use Rattle.bb_copies.specs.Luck.{IsLucky}
 use Rattle.bb_copies.specs.Saving.{KeepsUsed}
 use Rattle.bb_copies.specs.StandsFor.{Stands}
-use Rattle.bb_copies.specs.Trail.{IsTrail, Milestone, Stage, milestone_of, stages_in, stages_of}
+use Rattle.bb_copies.specs.Trail.{IsTrail, Stage, stages_in, stages_of, trail_of}
 use Rattle.bb_flash.specs.Counted.{Counts, IsFair}
+use Rattle.bb_flash.specs.Cuts.{IsLater}
 use Rattle.bb_flash.specs.Device.{Device, Told, moment}
 use Rattle.bb_flash.specs.Image.{Image}
 use Rattle.bb_layout.specs.Defaults.{defaults_of}
 use Rattle.bb_layout.specs.Layout.{Laid}
 use Rattle.bb_state.specs.Keyed.{Keyed}
 use Rattle.bb_state.specs.Kinds.{laid_passings}
+use Rattle.bb_state.specs.State.{IsStored}
 use Rattle.bb_shell.specs.Boot.{Round, table_after}
 use Rattle.bb_shell.specs.Running.{is_refused}
 
@@ -75,6 +77,26 @@ EachSettled keyed kept used from to P =
 
 -- ---- trails
 
+-- A save of this area answered Ok at this moment, after calls that may have come from a device on,
+-- as `IsStored` knows it, and `Then` holds of the device that it left.
+pub record IsAnswered (keyed : Keyed) (area : List ℕ) (from : Device) (when : ℕ)
+    (Then : Device → Type 0) : Type 0 where
+  pub begun : Device
+  pub done : Device
+  pub used : Option ℕ
+  pub later : IsLater from begun
+  pub stored : IsStored keyed area used begun done
+  pub at : ForSome done.told (λ told. moment told ≡ when)
+  pub then : Then done
+
+-- From a device on saves of these areas answered Ok at these moments, one after another, or the
+-- first of them did, and this is the device at the end.
+unfoldable pub AreAnswered : Keyed → Device → Device → List (List ℕ) → List ℕ → Type 0
+AreAnswered keyed from end areas [] = IsLater from end
+AreAnswered keyed from end [] (when ∷ answered) = ⊥
+AreAnswered keyed from end (area ∷ areas) (when ∷ answered) =
+    IsAnswered keyed area from when (λ done. AreAnswered keyed done end areas answered)
+
 -- of an image that the copies have at the end, or that a cut left since a moment: what they pass
 pub record IsCounted (keyed : Keyed) (told : Told) (since : ℕ) (passed : List (Option (List ℕ)))
     : Type 0 where
@@ -85,14 +107,16 @@ pub record IsCounted (keyed : Keyed) (told : Told) (since : ℕ) (passed : List 
 -- The trail of the stages that saves reached, from the moment of entry on: each image that counts
 -- since a milestone's moment stands for its stage, or for a later one. So another call's trail goes
 -- before it, whose last moment is that of entry.
-pub record HasTrail (keyed : Keyed) (first last : Told) (h : List (List ℕ)) (a : ℕ)
-    (saves : List (List ℕ)) (ok : ℕ) : Type 0 where
-  pub later : List Milestone
+pub record HasTrail (keyed : Keyed) (from to : Device) (first last : Told) (h : List (List ℕ))
+    (a : ℕ) (saves : List (List ℕ)) (ok : ℕ) : Type 0 where
+  -- the moments at which saves answered Ok
+  pub answered : List ℕ
+  pub known : AreAnswered keyed from to saves answered
   pub stages :
-      stages_in (milestone_of h a (moment first) ∷ later) ≡ stages_reached h a saves ok
+      stages_in (trail_of h a (moment first) saves answered) ≡ stages_reached h a saves ok
   pub trail :
       IsTrail (IsCounted keyed last) (moment last) (first_area keyed.layout)
-      (milestone_of h a (moment first) ∷ later)
+      (trail_of h a (moment first) saves answered)
 
 -- ---- at exit
 
@@ -116,7 +140,8 @@ pub record LeadsTo (keyed : Keyed) (kept : List ℕ) (used : Option ℕ) (first 
 abbrev pub KeepsATrail : Keyed → List ℕ → Option ℕ → List Round → Device → Device → Type 0
 KeepsATrail keyed kept used rounds from to =
     EachSettled keyed kept used from to
-    (λ first last h a. HasTrail keyed first last h a (saves_of kept rounds) (made_of kept rounds))
+    (λ first last h a. HasTrail keyed from to first last h a (saves_of kept rounds)
+    (made_of kept rounds))
 
 -- at exit the copies stand for the list with the tables of its rounds behind it; `now` is the copy
 -- that is used then

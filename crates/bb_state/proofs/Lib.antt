@@ -1,4 +1,5 @@
 -- Lemmas.
+pub mod Blank
 pub mod Examples
 pub mod Fitting
 pub mod Handed

@@ -1,5 +1,5 @@
 -- The turn of a boot and its trail: the load's, and behind it what the saves of its rounds reached.
-use Rattle.std.proofs.Common.{◌≡◌, ◌⊎◌, ℕ, suc, ◌+◌, ◌≤◌, Bool, true, false, List, [], ◌∷◌, ◌++◌, length, take, Option, Some, None, IsSome, is_some, cond, refl, sym, ap, subst, ◌∙◌, inl, inr, arith}
+use Rattle.std.proofs.Common.{◌≡◌, ◌⊎◌, ℕ, suc, ◌+◌, ◌≤◌, Bool, true, false, List, [], ◌∷◌, ◌++◌, length, take, Option, Some, None, Ok, IsSome, is_some, cond, refl, sym, ap, subst, ◌∙◌, inl, inr, arith}
 use Rattle.std.specs.Option.{option_and_then}
 use Rattle.std.specs.Prelude.{count_by, unwrap_or}
 use Rattle.std.specs.Str.{bytes_eq}
@@ -10,9 +10,10 @@ use Rattle.bb_copies.specs.Luck.{IsLucky}
 use Rattle.bb_copies.specs.Passing.{passings}
 use Rattle.bb_copies.specs.Saving.{KeepsUsed}
 use Rattle.bb_copies.specs.StandsFor.{Stands, StandsFor, first_passed, picked}
-use Rattle.bb_copies.specs.Trail.{IsTrail, Milestone, StandsAtOne, milestone_of, stages_in, stages_of}
+use Rattle.bb_copies.specs.Trail.{IsTrail, Milestone, StandsAtOne, milestone_of, next_moment, stages_in, stages_of, trail_of}
 use Rattle.bb_copies.proofs.History.{load_last, picked_is_first}
 use Rattle.bb_copies.proofs.Places.{get_take}
+use Rattle.bb_copies.proofs.Trails.{begins_at, first_stands}
 use Rattle.bb_flash.specs.Counted.{Counts, EachCounted}
 use Rattle.bb_flash.specs.Cuts.{IsLater}
 use Rattle.bb_flash.specs.Device.{Change, Device, Told, content, moment}
@@ -31,11 +32,11 @@ use Rattle.bb_shell.specs.Counting.{target_started}
 use Rattle.bb_tool.specs.Looking.{passed_in}
 use Rattle.bb_tool.specs.Session.{loaded_area}
 use Rattle.bb_tool.specs.Turns.{HasTrail, IsCounted, IsFairRun, LeadsTo, first_area}
-use Rattle.bb_tool.specs.Work.{IsLoadedAs}
+use Rattle.bb_tool.specs.Work.{IsLoaded, IsLoadedAs}
 use Rattle.bb_tool.proofs.Booted.{last_behind}
 use Rattle.bb_tool.proofs.Copies.{loaded_to, loads_in_order}
 use Rattle.bb_tool.proofs.Kept.{found_or, load_found}
-use Rattle.bb_tool.proofs.Turns.{before_trail, fair_from, in_order, leads, standing_at, told_content}
+use Rattle.bb_tool.proofs.Turns.{before_trail, fair_from, leads, moment_is, standing_at, told_content, trailed}
 
 -- ---- how many saves were made
 
@@ -100,7 +101,7 @@ weaker_trail : (S T : ℕ → List (Option (List ℕ)) → Type 0) (now : ℕ) (
     IsTrail S now first trail → IsTrail T now first trail
 weaker_trail S T now first [] same h = tt
 weaker_trail S T now first (milestone ∷ later) same h = (
-  λ when is. record { past = (h.0 when is).past; images = λ passed counted. (h.0 when is).images passed (same when passed counted) },
+  record { order = h.0.order; images = λ passed counted. h.0.images passed (same milestone.since passed counted) },
   weaker_trail S T now first later same h.1,
 )
 
@@ -231,9 +232,9 @@ module _ (keyed : Keyed) (from mid to : Device) (first middle last : Told) (e : 
   reached = record {
     each = λ one at_one two at_two image counts h a here.
         let trail = trail_behind one at_one two at_two h a here in
-        let since = trail.trail.0 (moment one) refl in
+        let Since = IsCountedHere keyed two in
         subst (λ stages. StandsAtOne First (laid_passings keyed image) stages) trail.stages
-        (since.images (laid_passings keyed image)
+        (first_stands Since (moment two) First h a (moment one) Saves trail.answered trail.trail (laid_passings keyed image)
         (record {
           image = image;
           counts = subst (λ p. Counts Luck p two (moment one) image) (ap (λ g. g.page) (late_geometry)) counts;
@@ -274,29 +275,31 @@ module _ (keyed : Keyed) (from mid to : Device) (first middle last : Told) (e : 
       (λ one at_one two at_two. settled_at one.image two.image (told_content from one at_one) (told_content mid two at_two))
       still_here reached
 
-  pub boot_trail : HasTrail keyed from.geometry.page first last before (Loaded Place Saves Count (target_started rounds))
-  boot_trail =
+  pub boot_trail : IsLoaded keyed used from mid (Ok found) →
+      HasTrail keyed from.geometry.page from to first last before (Loaded Place Saves Count (target_started rounds))
+  boot_trail load =
       let behind = trail_behind middle g last f Given Place settled in
       let Since = IsCounted keyed from.geometry.page last in
-      let later = milestone_of Given Place (moment middle) ∷ behind.later in
+      let later = trail_of Given Place (moment middle) Saves behind.answered in
       let count : 2 + length Saves + Count ≡ suc (1 + length Saves + Count) = omega arith in
-      record {
-        entry = record { areas = before.areas; acked = before.acked };
-        later = later;
-        stages =
-            ap (λ l. record { areas = before.areas; acked = before.acked } ∷ l) behind.stages
-            ∙ sym (ap (λ n. take n (record { areas = before.areas; acked = before.acked }
-            ∷ record { areas = Given; acked = Place } ∷ stages_of Given Place Saves)) count);
-        trail =
-            before_trail Since (moment last) First before.areas before.acked (moment first) later whole_order
-            (λ passed counted. since_entry passed counted behind.later behind.stages)
-            (weaker_trail (IsCountedHere keyed last) Since (moment last) First later same_counted behind.trail);
-      }
+      trailed keyed from.geometry.page from to first last before (Loaded Place Saves Count (target_started rounds)) Place
+      (moment middle) Saves behind.answered
+      (record {
+        middle = mid;
+        used = used;
+        found = found;
+        loaded = load;
+        at = moment_is mid middle g;
+        stored = behind.known;
+      })
+      (ap (λ l. record { areas = before.areas; acked = before.acked } ∷ l) behind.stages
+      ∙ sym (ap (λ n. take n (record { areas = before.areas; acked = before.acked }
+      ∷ record { areas = Given; acked = Place } ∷ stages_of Given Place Saves)) count))
+      (before_trail Since (moment last) First before.areas before.acked (moment first) later
+      (subst (λ n. moment first ≤ n) (sym (begins_at (moment last) Given Place (moment middle) Saves behind.answered)) order)
+      (λ passed counted. since_entry passed counted later behind.stages)
+      (weaker_trail (IsCountedHere keyed last) Since (moment last) First later same_counted behind.trail))
     where
-      whole_order : moment first ≤ moment last
-      whole_order =
-          let behind = in_order middle last (late.continued middle g last f) in
-          let start = order in omega (arith, behind, start)
 
       same_counted : (when : ℕ) (passed : List (Option (List ℕ))) → IsCounted keyed from.geometry.page last when passed →
           IsCountedHere keyed last when passed
@@ -307,10 +310,8 @@ module _ (keyed : Keyed) (from mid to : Device) (first middle last : Told) (e : 
           (λ counts passes. record { image = counted.image; counts = counts; passes = passes }) counted.counts counted.passes
 
       since_entry : (passed : List (Option (List ℕ))) → IsCounted keyed from.geometry.page last (moment first) passed →
-          (later : List Milestone) →
-          stages_in (milestone_of Given Place (moment middle) ∷ later) ≡ stages_reached Given Place Saves Count →
-          StandsAtOne First passed
-          (stages_in (milestone_of before.areas before.acked (moment first) ∷ milestone_of Given Place (moment middle) ∷ later))
+          (later : List Milestone) → stages_in later ≡ stages_reached Given Place Saves Count →
+          StandsAtOne First passed (stages_in (milestone_of before.areas before.acked (moment first) ∷ later))
       since_entry passed counted later stages =
           let here = same_counted (moment first) passed counted in
           let at = from_entry.each first e last f here.image
@@ -318,8 +319,7 @@ module _ (keyed : Keyed) (from mid to : Device) (first middle last : Told) (e : 
           (sym (ap (λ g. g.page) (late.geometry ∙ early.geometry ∙ geometry))) here.counts)
           before.areas before.acked before.marks start in
           subst
-          (λ p. StandsAtOne First p
-          (stages_in (milestone_of before.areas before.acked (moment first) ∷ milestone_of Given Place (moment middle) ∷ later)))
+          (λ p. StandsAtOne First p (stages_in (milestone_of before.areas before.acked (moment first) ∷ later)))
           (sym here.passes)
           (elim at [
             | inl same ↦ inl same

@@ -1,22 +1,25 @@
 -- What the turn of a session leaves, and its trail.
-use Rattle.std.proofs.Common.{◌≡◌, ◌⊎◌, ℕ, ◌+◌, ◌≤◌, true, List, [], ◌∷◌, ◌++◌, length, take, Option, Some, None, is_some, refl, sym, ap, subst, ◌∙◌, inl, inr, arith}
-use Rattle.std.specs.Option.{option_map}
+use Rattle.std.proofs.Common.{◌≡◌, ◌⊎◌, ℕ, ◌+◌, ◌≤◌, true, List, [], ◌∷◌, ◌++◌, length, take, Option, Some, None, Ok, is_some, refl, sym, ap, subst, ◌∙◌, inl, inr, arith}
+use Rattle.std.specs.Option.{ForSome, option_map}
 use Rattle.std.proofs.lemmas.List.{append-nil, length-take}
 use Rattle.std.proofs.lemmas.Option.{same_Some, slice_get_within}
 use Rattle.bb_copies.specs.Chronicle.{Content, IsStanding, Loaded, Step, Turn}
+use Rattle.bb_copies.specs.Cutting.{turn_stages}
 use Rattle.bb_copies.specs.Loading.{StandsStill}
 use Rattle.bb_copies.specs.Luck.{IsLucky}
 use Rattle.bb_copies.specs.Saving.{KeepsUsed, StandsLonger}
 use Rattle.bb_copies.specs.StandsFor.{Stands, StandsFor, picked}
-use Rattle.bb_copies.specs.Trail.{IsSince, IsTrail, Milestone, StandsAtOne, milestone_of, stages_in}
+use Rattle.bb_copies.specs.Trail.{IsSince, IsTrail, Milestone, StandsAtOne, milestone_of, next_moment, session_trail, stages_in, trail_of}
 use Rattle.bb_copies.proofs.History.{load_done}
 use Rattle.bb_flash.specs.Counted.{Counts, IsFair}
 use Rattle.bb_flash.specs.Cuts.{IsContinued}
 use Rattle.bb_flash.specs.Device.{Change, Device, Told, content, moment}
 use Rattle.bb_flash.specs.Image.{Image}
 use Rattle.bb_state.specs.Keyed.{Keyed}
+use Rattle.bb_shell.specs.Stages.{AreAnswered}
 use Rattle.bb_tool.specs.Looking.{passed_in}
-use Rattle.bb_tool.specs.Turns.{HasTrail, IsCounted, LeadsTo, first_area, turn_stages}
+use Rattle.bb_tool.specs.Turns.{HasEntryTrail, HasLoadTrail, HasTrail, IsCounted, IsTrailOf, LeadsTo, first_area}
+use Rattle.bb_tool.specs.Work.{IsLoaded}
 use Rattle.bb_tool.proofs.Kept.{IsLeft}
 
 pub some_of : {T : Type 0} → (o : Option T) → is_some o ≡ true → (x : T) × (o ≡ Some x)
@@ -29,14 +32,32 @@ in_order first last continued =
 
 -- a milestone in front of a trail
 pub before_trail : (Since : ℕ → List (Option (List ℕ)) → Type 0) (now : ℕ) (first : List ℕ)
-    (h : List (List ℕ)) (a when : ℕ) (later : List Milestone) → when ≤ now →
+    (h : List (List ℕ)) (a when : ℕ) (later : List Milestone) → when ≤ next_moment now later →
     ((passed : List (Option (List ℕ))) → Since when passed →
     StandsAtOne first passed (stages_in (milestone_of h a when ∷ later))) →
     IsTrail Since now first later → IsTrail Since now first (milestone_of h a when ∷ later)
-before_trail Since now first h a when later past stands trail =
+before_trail Since now first h a when later order stands trail =
     let stages = stages_in (milestone_of h a when ∷ later) in
-    let here : IsSince Since now first stages when = record { past = past; images = stands } in
-    (λ moment same. subst (IsSince Since now first stages) (same_Some when moment same) here, trail)
+    let here : IsSince Since (next_moment now later) first stages when = record {
+      order = order;
+      images = stands;
+    } in
+    (here, trail)
+
+-- what is known of a load that answered Ok, and of the saves after it
+pub record Known (keyed : Keyed) (from to : Device) (when : ℕ) (saves : List (List ℕ))
+    (answered : List ℕ) : Type 0 where
+  pub middle : Device
+  pub used : Option ℕ
+  pub found : Option (List ℕ)
+  pub loaded : IsLoaded keyed used from middle (Ok found)
+  pub at : ForSome middle.told (λ told. moment told ≡ when)
+  pub stored : AreAnswered keyed middle to saves answered
+
+-- a device has one moment
+pub moment_is : (device : Device) (told : Told) → device.told ≡ Some told →
+    ForSome device.told (λ other. moment other ≡ moment told)
+moment_is device told e = λ other is. ap moment (same_Some other told (sym is ∙ e))
 
 -- of the images that count since now there is one
 pub counts_now : (L : Change → Image → Type 0) (page : ℕ) (told : Told) (image : Image) →
@@ -121,18 +142,33 @@ module _ (keyed : Keyed) (page : ℕ) where
       (image : Image) → Counts Luck page last (moment first) image →
       Stands First (Passed image) before.areas before.acked
 
-  pub stays_trail : (first last : Told) (before : Content) (turn : Turn) → moment first ≤ moment last →
-      turn_stages before turn ≡ record { areas = before.areas; acked = before.acked } ∷ [] →
-      Stays before first last → HasTrail keyed page first last before turn
-  stays_trail first last before turn past stages stays = record {
-    entry = record { areas = before.areas; acked = before.acked };
-    later = [];
-    stages = sym stages;
-    trail =
-        before_trail (IsCounted keyed page last) (moment last) First before.areas before.acked
-        (moment first) [] past
-        (λ passed counted. inl (subst (λ p. Stands First p before.areas before.acked)
-        (sym counted.passes) (stays counted.image counted.counts))) tt;
+  pub stays_trail : (first last : Told) (before : Content) → moment first ≤ moment last →
+      Stays before first last → HasEntryTrail keyed page first last before
+  stays_trail first last before past stays =
+      before_trail (IsCounted keyed page last) (moment last) First before.areas before.acked
+      (moment first) [] past
+      (λ passed counted. inl (subst (λ p. Stands First p before.areas before.acked)
+      (sym counted.passes) (stays counted.image counted.counts))) tt
+
+  -- with what is known of its calls a trail is that of a turn
+  pub trailed : (from to : Device) (first last : Told) (before : Content) (turn : Turn) (place when : ℕ)
+      (saves : List (List ℕ)) (answered : List ℕ) → Known keyed from to when saves answered →
+      stages_in (session_trail before.areas before.acked (moment first) place when saves answered)
+      ≡ turn_stages before turn →
+      IsTrailOf keyed page last
+      (session_trail before.areas before.acked (moment first) place when saves answered) →
+      HasLoadTrail keyed page from to first last before turn place saves
+  trailed from to first last before turn place when saves answered known stages trail = record {
+    middle = known.middle;
+    used = known.used;
+    found = known.found;
+    loaded = known.loaded;
+    when = when;
+    at = known.at;
+    answered = answered;
+    stored = known.stored;
+    stages = stages;
+    trail = trail;
   }
 
   -- ---- a load that answered Ok, and no save
@@ -142,25 +178,23 @@ module _ (keyed : Keyed) (page : ℕ) where
     abbrev Loaded0 : List (List ℕ)
     Loaded0 = take (picked before.marks + 1) before.areas
 
-    pub loaded_trail : Stands First (Passed last.image) Loaded0 (picked before.marks) →
-        HasTrail keyed page first last before (Loaded (picked before.marks) [] 0 None)
-    loaded_trail stands =
+    pub loaded_trail : (from to : Device) → Known keyed from to (moment last) [] [] →
+        Stands First (Passed last.image) Loaded0 (picked before.marks) →
+        HasTrail keyed page from to first last before (Loaded (picked before.marks) [] 0 None)
+    unfolding trail_of
+    loaded_trail from to known stands =
         let Since = IsCounted keyed page last in
         let now = moment last in
         let end = before_trail Since now First Loaded0 (picked before.marks) now [] (omega arith)
         (λ passed counted. inl (subst (λ p. Stands First p Loaded0 (picked before.marks))
         (sym (counted.passes ∙ ap Passed (counts_now Luck page last counted.image counted.counts)))
         stands)) tt in
-        record {
-          entry = record { areas = before.areas; acked = before.acked };
-          later = milestone_of Loaded0 (picked before.marks) now ∷ [];
-          stages = refl;
-          trail =
-              before_trail Since now First before.areas before.acked (moment first)
-              (milestone_of Loaded0 (picked before.marks) now ∷ []) past
-              (λ passed counted. inl (subst (λ p. Stands First p before.areas before.acked)
-              (sym counted.passes) (stays counted.image counted.counts))) end;
-        }
+        trailed from to first last before (Loaded (picked before.marks) [] 0 None)
+        (picked before.marks) now [] [] known refl
+        (before_trail Since now First before.areas before.acked (moment first)
+        (milestone_of Loaded0 (picked before.marks) now ∷ []) past
+        (λ passed counted. inl (subst (λ p. Stands First p before.areas before.acked)
+        (sym counted.passes) (stays counted.image counted.counts))) end)
 
     pub loaded_leads : Stands First (Passed last.image) Loaded0 (picked before.marks) →
         LeadsTo First before (Loaded (picked before.marks) [] 0 None) (Passed last.image)
@@ -224,48 +258,48 @@ module _ (keyed : Keyed) (page : ℕ) where
           ⊎ Stands First p Longer (picked before.marks)) (sym counted.passes)
           (entry counted.image counted.counts)
 
-      begun_trail : (later : List Milestone) → IsTrail Since (moment last) First later →
+      begun_trail : (later : List Milestone) → moment mid ≤ next_moment (moment last) later →
+          IsTrail Since (moment last) First later →
           IsTrail Since (moment last) First
           (milestone_of before.areas before.acked (moment first) ∷ from_load later)
-      begun_trail later trail =
+      begun_trail later order trail =
           let now = moment last in
           let begun = before_trail Since now First Longer (picked before.marks) (moment mid) later
-          late (λ passed counted. inl (since_load passed counted)) trail in
+          order (λ passed counted. inl (since_load passed counted)) trail in
           let loaded = before_trail Since now First Given (picked before.marks) (moment mid)
-          (milestone_of Longer (picked before.marks) (moment mid) ∷ later) late
+          (milestone_of Longer (picked before.marks) (moment mid) ∷ later) (omega arith)
           (λ passed counted. inr (inl (since_load passed counted))) begun in
           before_trail Since now First before.areas before.acked (moment first) (from_load later)
-          (omega arith)
+          early
           (λ passed counted. elim (since_entry passed counted) [
             | inl same ↦ inl same
             | inr new ↦ inr (inr (inl new))
           ]) loaded
 
-      pub refused_trail : HasTrail keyed page first last before
+      pub refused_trail : (from to : Device) → Known keyed from to (moment mid) (area ∷ []) [] →
+          HasTrail keyed page from to first last before
           (Loaded (picked before.marks) (area ∷ []) 0 None)
-      refused_trail = record {
-        entry = record { areas = before.areas; acked = before.acked };
-        later = from_load [];
-        stages = refl;
-        trail = begun_trail [] tt;
-      }
+      unfolding trail_of
+      refused_trail from to known =
+          trailed from to first last before (Loaded (picked before.marks) (area ∷ []) 0 None)
+          (picked before.marks) (moment mid) (area ∷ []) [] known refl (begun_trail [] late tt)
 
-      pub made_trail : Stands First (Passed last.image) Longer (picked before.marks + 1) →
-          HasTrail keyed page first last before
+      pub made_trail : (from to : Device) →
+          Known keyed from to (moment mid) (area ∷ []) (moment last ∷ []) →
+          Stands First (Passed last.image) Longer (picked before.marks + 1) →
+          HasTrail keyed page from to first last before
           (Loaded (picked before.marks) (area ∷ []) 1 None)
-      made_trail stands =
+      unfolding trail_of
+      made_trail from to known stands =
           let now = moment last in
           let acked = picked before.marks + 1 in
           let end = before_trail Since now First Longer acked now [] (omega arith)
           (λ passed counted. inl (subst (λ p. Stands First p Longer acked)
           (sym (counted.passes
           ∙ ap Passed (counts_now Luck page last counted.image counted.counts))) stands)) tt in
-          record {
-            entry = record { areas = before.areas; acked = before.acked };
-            later = from_load (milestone_of Longer acked now ∷ []);
-            stages = refl;
-            trail = begun_trail (milestone_of Longer acked now ∷ []) end;
-          }
+          trailed from to first last before (Loaded (picked before.marks) (area ∷ []) 1 None)
+          (picked before.marks) (moment mid) (area ∷ []) (now ∷ []) known refl
+          (begun_trail (milestone_of Longer acked now ∷ []) late end)
 
     pub refused_leads : Stands First (Passed last.image) Longer (picked before.marks) →
         LeadsTo First before (Loaded (picked before.marks) (area ∷ []) 0 None) (Passed last.image)

@@ -17,7 +17,9 @@ use Rattle.bb_chooser.specs.Binding.{Binding}
 use Rattle.bb_chooser.specs.declared.cause.Cause.{Cause}
 use Rattle.bb_flash.specs.declared.plan.Plan.{Plan as StartPlan}
 use Rattle.bb_state.specs.Keyed.{Keyed}
+use Rattle.bb_copies.proofs.Runs.{later_refl}
 use Rattle.bb_shell.proofs.Reached.{stops_refused}
+use Rattle.bb_shell.specs.Stages.{AreAnswered}
 use Rattle.bb_state.specs.Kinds.{laid_kinds}
 use Rattle.bb_tool.specs.Looking.{passed_in}
 use Rattle.bb_tool.specs.Booting.{SaveAnswer, boots}
@@ -30,18 +32,18 @@ use Rattle.bb_tool.proofs.Copies.{given, load_stays, loads_in_order, saves_in_or
 use Rattle.bb_tool.proofs.Barred.{worked_saves}
 use Rattle.bb_tool.proofs.BootTurns.{boot_leads, boot_trail}
 use Rattle.bb_tool.proofs.Booted.{boot_is}
-use Rattle.bb_tool.proofs.Turns.{counts_now, fair_from, leads, loaded_leads, loaded_trail, made_leads, made_trail, refused_leads, refused_trail, some_of, standing_at, stays_trail}
+use Rattle.bb_tool.proofs.Turns.{counts_now, fair_from, leads, loaded_leads, loaded_trail, made_leads, made_trail, moment_is, refused_leads, refused_trail, some_of, standing_at, stays_trail}
 
 -- the turn leads on, in a fair run, and has a trail
-record IsTurned (keyed : Keyed) (page : ℕ) (turn : List (Option ℕ) → Turn) (first last : Told)
-    (before : Content) : Type 0 where
+record IsTurned (keyed : Keyed) (page : ℕ) (from to : Device) (turn : List (Option ℕ) → Turn)
+    (first last : Told) (before : Content) : Type 0 where
   leads : IsFairRun keyed page first last →
       LeadsTo (first_area keyed.layout) before (turn before.marks) (passed_in keyed page last.image)
-  trail : HasTrail keyed page first last before (turn before.marks)
+  trail : HasTrail keyed page from to first last before (turn before.marks)
 
 abbrev Turned : Keyed → Device → Device → (List (Option ℕ) → Turn) → Type 0
 Turned keyed from to turn =
-    EachStanding keyed from to (IsTurned keyed from.geometry.page turn)
+    EachStanding keyed from to (IsTurned keyed from.geometry.page from to turn)
 
 -- ---- a load that was refused
 
@@ -57,7 +59,7 @@ unloaded keyed used from mid fault load = λ first e last f before is stands.
           leads keyed page before Unloaded before.areas before.acked
           (passed_in keyed page last.image) (record { areas = refl; acked = refl })
           (stays last.image (inl (record { held = refl; fair = fair })));
-      trail = stays_trail keyed page first last before Unloaded order refl stays;
+      trail = stays_trail keyed page first last before order stays;
     }
 
 -- ---- a load that answered Ok
@@ -69,6 +71,7 @@ behind text areas saves marks =
 unsaved : (keyed : Keyed) (used : Option ℕ) (from mid : Device) (found : Option (List ℕ)) →
     IsLoaded keyed used from mid (Ok found) →
     Turned keyed from mid (λ marks. Loaded (picked marks) [] 0 None)
+unfolding AreAnswered
 unsaved keyed used from mid found load = λ first e last f before is stands.
     let page = from.geometry.page in
     let stays = load_stays keyed from mid first last e f before is stands load.images load.later in
@@ -78,7 +81,17 @@ unsaved keyed used from mid found load = λ first e last f before is stands.
     found load.gives in
     record {
       leads = λ fair. loaded_leads keyed page first last before order stays here;
-      trail = loaded_trail keyed page first last before order stays here;
+      trail =
+          loaded_trail keyed page first last before order stays from mid
+          (record {
+            middle = mid;
+            used = used;
+            found = found;
+            loaded = load;
+            at = moment_is mid last f;
+            stored = later_refl mid;
+          })
+          here;
     }
 
 once_saved : (keyed : Keyed) (used : Option ℕ) (from mid to : Device) (found : Option (List ℕ))
@@ -86,6 +99,7 @@ once_saved : (keyed : Keyed) (used : Option ℕ) (from mid to : Device) (found :
     IsSaved keyed used area mid to answer →
     Turned keyed from to
     (λ marks. Loaded (picked marks) (area ∷ []) (made_of (answer ∷ [])) None)
+unfolding AreAnswered
 once_saved keyed used from mid to found area load (Ok made) save = λ first e last f before is stands.
     let page = from.geometry.page in
     let there = some_of mid.told (load.later.told ∙ ap is_some e) in
@@ -104,7 +118,25 @@ once_saved keyed used from mid to found area load (Ok made) save = λ first e la
     save.stored in
     record {
       leads = λ fair. made_leads keyed page first middle last before area early late here;
-      trail = made_trail keyed page first middle last before area early late entry loaded here;
+      trail =
+          made_trail keyed page first middle last before area early late entry loaded from to
+          (record {
+            middle = mid;
+            used = used;
+            found = found;
+            loaded = load;
+            at = moment_is mid middle g;
+            stored = record {
+              begun = mid;
+              done = to;
+              used = save.now;
+              later = later_refl mid;
+              stored = save.stored;
+              at = moment_is to last f;
+              then = later_refl to;
+            };
+          })
+          here;
     }
 once_saved keyed used from mid to found area load (Err fault) save = λ first e last f before is stands.
     let page = from.geometry.page in
@@ -127,7 +159,16 @@ once_saved keyed used from mid to found area load (Err fault) save = λ first e 
             fair = fair_from (IsLucky (passed_in keyed page)) last (moment first) (moment middle)
                 early fair;
           })));
-      trail = refused_trail keyed page first middle last before area early late entry loaded;
+      trail =
+          refused_trail keyed page first middle last before area early late entry loaded from to
+          (record {
+            middle = mid;
+            used = used;
+            found = found;
+            loaded = load;
+            at = moment_is mid middle g;
+            stored = save.runs.later;
+          });
     }
 
 saves_turned : (keyed : Keyed) (used : Option ℕ) (from mid to : Device) (found : Option (List ℕ))
@@ -201,7 +242,7 @@ look_turned keyed from to quiet = λ first e last f before is stands.
       leads = λ fair.
           leads keyed page before Looked before.areas before.acked
           (passed_in keyed page last.image) (record { areas = refl; acked = refl }) here;
-      trail = stays_trail keyed page first last before Looked (omega (arith, same)) refl stays;
+      trail = stays_trail keyed page first last before (omega (arith, same)) stays;
     }
 
 boot_turned : (plan : SessionPlan) (targets : Binding) (cause : Cause) (plans : List (Option StartPlan)) (from to : Device)
@@ -227,7 +268,7 @@ boot_turned plan targets cause plans from to (Ok found) saves is work =
           load.later run.later work.used found load.gives run.rounds run.now stops run.trail run.exit;
       trail =
           boot_trail plan.keyed from work.middle to first there.0 last e there.1 f before work.geometry here stands load.images
-          load.later run.later work.used found load.gives run.rounds run.now stops run.trail run.exit;
+          load.later run.later work.used found load.gives run.rounds run.now stops run.trail run.exit load;
     })
 
 work_turned : (work : Work) (plan : SessionPlan) (from to : Device) (load : LoadAnswer)

@@ -1,10 +1,11 @@
 -- What a session did with the copies, as a turn of a chronicle, and what its images stand for.
-use Rattle.std.specs.Prelude.{◌≡◌, ℕ, ◌+◌, List, [], ◌∷◌, length, take, Option, Some, None, Ok, Err, is_ok, count_by}
+use Rattle.std.specs.Prelude.{◌≡◌, ℕ, List, [], ◌∷◌, Option, None, Ok, Err, is_ok, count_by}
 use Rattle.std.specs.Option.{ForSome}
 use Rattle.bb_copies.specs.Chronicle.{Content, Finished, Follows, IsStanding, Loaded, Looked, Turn, Unloaded, Untouched}
+use Rattle.bb_copies.specs.Cutting.{turn_stages}
 use Rattle.bb_copies.specs.Luck.{IsLucky}
 use Rattle.bb_copies.specs.StandsFor.{picked}
-use Rattle.bb_copies.specs.Trail.{IsTrail, Milestone, Stage, session_stages, stages_in}
+use Rattle.bb_copies.specs.Trail.{IsTrail, Milestone, Stage, milestone_of, session_trail, stages_in}
 use Rattle.bb_flash.specs.Counted.{Counts, IsFair}
 use Rattle.bb_flash.specs.Device.{Device, Told, moment}
 use Rattle.bb_flash.specs.Image.{Image}
@@ -13,9 +14,11 @@ use Rattle.bb_layout.specs.Layout.{Laid}
 use Rattle.bb_state.specs.Keyed.{Keyed}
 use Rattle.bb_tool.specs.Looking.{passed_in}
 use Rattle.bb_shell.specs.Counting.{turn_of_rounds}
+use Rattle.bb_shell.specs.Stages.{AreAnswered}
 use Rattle.bb_tool.specs.Booting.{SaveAnswer}
 use Rattle.bb_tool.specs.Plan.{Act, Boot, Good, SessionPlan, Show, Work, Write}
 use Rattle.bb_tool.specs.Session.{LoadAnswer, loaded_area, work_session}
+use Rattle.bb_tool.specs.Work.{IsLoaded}
 
 -- the area that an empty device stands for
 abbrev pub first_area : Laid → List ℕ
@@ -49,14 +52,6 @@ work_turn (Boot targets cause plans) plan load saves marks = boot_turn plan load
 abbrev pub turn_of : SessionPlan → LoadAnswer → List SaveAnswer → List (Option ℕ) → Turn
 turn_of plan load saves marks = work_turn plan.work plan load saves marks
 
--- the stages that a turn reached: a save that wasn't acknowledged is the last
-abbrev pub turn_stages : Content → Turn → List Stage
-turn_stages before Untouched = record { areas = before.areas; acked = before.acked } ∷ []
-turn_stages before Looked = record { areas = before.areas; acked = before.acked } ∷ []
-turn_stages before Unloaded = record { areas = before.areas; acked = before.acked } ∷ []
-turn_stages before (Loaded place saves ok started) =
-    take (2 + length saves + ok) (session_stages before.areas before.acked place saves)
-
 -- ---- what it leaves
 
 -- of an image that the copies have at the end, or that a cut left since a moment: what they pass as
@@ -73,18 +68,46 @@ pub record LeadsTo (first : List ℕ) (before : Content) (turn : Turn)
   pub passed_is : after.passed ≡ passed
   pub follows : Follows first before (Finished turn) after
 
--- The trail of the turn's stages, from the moment of entry on: each image that counts since a
--- milestone's moment stands for its stage, or for a later one.
-pub record HasTrail (keyed : Keyed) (page : ℕ) (first last : Told) (before : Content) (turn : Turn)
-    : Type 0 where
-  pub entry : Stage
-  pub later : List Milestone
+-- each image that counts since a milestone's moment stands for its stage, or for a later one
+abbrev pub IsTrailOf : Keyed → ℕ → Told → List Milestone → Type 0
+IsTrailOf keyed page last milestones =
+    IsTrail (IsCounted keyed page last) (moment last) (first_area keyed.layout) milestones
+
+-- where no load answered Ok, each image since entry stands for the list at entry
+abbrev pub HasEntryTrail : Keyed → ℕ → Told → Told → Content → Type 0
+HasEntryTrail keyed page first last before =
+    IsTrailOf keyed page last (milestone_of before.areas before.acked (moment first) ∷ [])
+
+-- The trail of a turn whose load answered Ok, from the moment of entry on. The load and the saves
+-- that answered Ok did so at these moments, as `IsLoaded` and `IsStored` know them.
+pub record HasLoadTrail (keyed : Keyed) (page : ℕ) (from to : Device) (first last : Told)
+    (before : Content) (turn : Turn) (place : ℕ) (saves : List (List ℕ)) : Type 0 where
+  -- what the load left, when it answered
+  pub middle : Device
+  pub used : Option ℕ
+  pub found : Option (List ℕ)
+  pub loaded : IsLoaded keyed used from middle (Ok found)
+  pub when : ℕ
+  pub at : ForSome middle.told (λ told. moment told ≡ when)
+  -- when saves answered
+  pub answered : List ℕ
+  pub stored : AreAnswered keyed middle to saves answered
   pub stages :
-      stages_in (record { stage = entry; since = Some (moment first) } ∷ later)
+      stages_in (session_trail before.areas before.acked (moment first) place when saves answered)
       ≡ turn_stages before turn
   pub trail :
-      IsTrail (IsCounted keyed page last) (moment last) (first_area keyed.layout)
-      (record { stage = entry; since = Some (moment first) } ∷ later)
+      IsTrailOf keyed page last
+      (session_trail before.areas before.acked (moment first) place when saves answered)
+
+abbrev pub HasTrail : Keyed → ℕ → Device → Device → Told → Told → Content → Turn → Type 0
+HasTrail keyed page from to first last before Untouched =
+    HasEntryTrail keyed page first last before
+HasTrail keyed page from to first last before Looked =
+    HasEntryTrail keyed page first last before
+HasTrail keyed page from to first last before Unloaded =
+    HasEntryTrail keyed page first last before
+HasTrail keyed page from to first last before (Loaded place saves ok started) =
+    HasLoadTrail keyed page from to first last before (Loaded place saves ok started) place saves
 
 -- P holds of what a device told and tells, and of each content of its copies at entry that stands
 -- for a list of areas
@@ -118,5 +141,5 @@ abbrev pub HasTrails : SessionPlan → Device → Device → LoadAnswer → List
 HasTrails plan from to load saves =
     EachStanding plan.keyed from to
     (λ first last before.
-    HasTrail plan.keyed from.geometry.page first last before
+    HasTrail plan.keyed from.geometry.page from to first last before
     (turn_of plan load saves before.marks))

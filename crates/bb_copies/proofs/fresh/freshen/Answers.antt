@@ -6,10 +6,12 @@ use Rattle.bb_base.specs.Form.{Form}
 use Rattle.bb_flash.specs.Device.{Device}
 use Rattle.bb_bucket.specs.Kind.{BucketKind}
 use Rattle.bb_copies.specs.Buckets.{AllFit, kinds_of}
-use Rattle.bb_copies.specs.Refreshing.{AllHeld, IsFirstMarked, IsSettledAt, IsStuckAt, IsWrittenAt, LeavesOthers, NoOther, Refreshes}
+use Rattle.bb_copies.specs.Erasing.{unmarked_kinds}
+use Rattle.bb_copies.specs.Refreshing.{AllHeld, IsBoundedAt, IsFirstMarked, IsSettledAt, IsStuckAt, IsWrittenAt, LeavesOthers, NoOther, Refreshes, is_marked}
 use Rattle.bb_copies.proofs.Below.{stuck_earlier, stuck_rose}
-use Rattle.bb_copies.proofs.Held.{first_marked, held_all, held_more, kept_marked, kept_others, never_joined, none_of_match, quiet_other, some_of_match, spares_other, used_spares, written_fresh, written_others}
+use Rattle.bb_copies.proofs.Held.{bounded_used, first_marked, held_all, held_more, kept_marked, kept_others, never_joined, none_of_match, quiet_other, some_of_match, spares_other, used_spares, written_fresh, written_others}
 use Rattle.bb_copies.proofs.Runs.{refreshes_joined, undisturbed_first, undisturbed_second}
+use Rattle.bb_copies.proofs.Bounded.{bounded_wider, unmarked_fewer}
 use Rattle.bb_copies.proofs.fresh.freshen.Goals as goal
 
 pub returns-in_err-refresh-clause-spares : goal.returns-in_err-refresh-clause-spares
@@ -243,7 +245,7 @@ returns-in_err-good-clause-stuck g c =
     let s = c.settle_copy.ensures in
     let others : LeavesOthers kinds used mid to = subst (λ (ks : List BucketKind). LeavesOthers ks used mid to) r.kinds s.others in
     let stuck : IsStuckAt form kinds area c.in_err-good.field-0.0 mid to = subst (λ (ks : List BucketKind). IsStuckAt form ks area c.in_err-good.field-0.0 mid to) r.kinds c.in_err-good.ensures.stuck in
-    let whole = stuck_earlier form kinds area c.in_err-good.field-0.0 from mid to r.refreshes.later s.refreshes.later stuck in
+    let whole = stuck_earlier form kinds area c.in_err-good.field-0.0 from mid to r.refreshes.later s.refreshes.later c.in_ok-refresh.ensures.read_faults stuck in
     let p = err_from_is_err_and c.from_residual-in_err-good.result c.from_residual-in_err-good.ensures.1 in
     subst (λ r. IfErr r (λ copy. IsStuckAt form kinds area copy from to)) (sym (p.1 ∙ ap (λ e. Err e) p.2)) whole
 
@@ -264,7 +266,7 @@ returns-in_err-good-clause-kept g c =
     let s = c.settle_copy.ensures in
     let others : LeavesOthers kinds used mid to = subst (λ (ks : List BucketKind). LeavesOthers ks used mid to) r.kinds s.others in
     let stuck : IsStuckAt form kinds area c.in_err-good.field-0.0 mid to = subst (λ (ks : List BucketKind). IsStuckAt form ks area c.in_err-good.field-0.0 mid to) r.kinds c.in_err-good.ensures.stuck in
-    let whole = stuck_earlier form kinds area c.in_err-good.field-0.0 from mid to r.refreshes.later s.refreshes.later stuck in
+    let whole = stuck_earlier form kinds area c.in_err-good.field-0.0 from mid to r.refreshes.later s.refreshes.later c.in_ok-refresh.ensures.read_faults stuck in
     λ quiet. absurd (quiet (stuck_rose form kinds area c.in_err-good.field-0.0 from to whole))
 
 pub returns-in_err-good-clause-exact : goal.returns-in_err-good-clause-exact
@@ -284,7 +286,7 @@ returns-in_err-good-clause-exact g c =
     let s = c.settle_copy.ensures in
     let others : LeavesOthers kinds used mid to = subst (λ (ks : List BucketKind). LeavesOthers ks used mid to) r.kinds s.others in
     let stuck : IsStuckAt form kinds area c.in_err-good.field-0.0 mid to = subst (λ (ks : List BucketKind). IsStuckAt form ks area c.in_err-good.field-0.0 mid to) r.kinds c.in_err-good.ensures.stuck in
-    let whole = stuck_earlier form kinds area c.in_err-good.field-0.0 from mid to r.refreshes.later s.refreshes.later stuck in
+    let whole = stuck_earlier form kinds area c.in_err-good.field-0.0 from mid to r.refreshes.later s.refreshes.later c.in_ok-refresh.ensures.read_faults stuck in
     λ quiet. absurd (quiet (stuck_rose form kinds area c.in_err-good.field-0.0 from to whole))
 
 pub returns-clause-refreshes : goal.returns-clause-refreshes
@@ -452,13 +454,13 @@ returns-clause-some g c =
     }
 
 pub returns-then-fresh-clause-placed : goal.returns-then-fresh-clause-placed
-returns-then-fresh-clause-placed g c = λ all copy. c.in_ok-refresh.ensures.placed copy (λ mark. all copy)
+returns-then-fresh-clause-placed g c = λ copy. c.in_ok-refresh.ensures.placed copy (λ mark. c.requires.placed copy)
 
 pub returns-then-is_none-clause-placed : goal.returns-then-is_none-clause-placed
-returns-then-is_none-clause-placed g c = λ all copy. c.in_ok-refresh.ensures.placed copy (λ mark. all copy)
+returns-then-is_none-clause-placed g c = λ copy. c.in_ok-refresh.ensures.placed copy (λ mark. c.requires.placed copy)
 
 pub returns-clause-placed : goal.returns-clause-placed
-returns-clause-placed g c = λ all place. c.in_ok-good.ensures.placed place (λ other. c.in_ok-refresh.ensures.placed place (λ mark. all place))
+returns-clause-placed g c = λ place. c.in_ok-good.ensures.placed place (λ other. c.in_ok-refresh.ensures.placed place (λ mark. c.requires.placed place))
 
 pub settle_copy-requires-clause-found : goal.settle_copy-requires-clause-found
 settle_copy-requires-clause-found g c =
@@ -468,3 +470,61 @@ settle_copy-requires-clause-found g c =
 
 pub settle_copy-requires-clause-inside : goal.settle_copy-requires-clause-inside
 settle_copy-requires-clause-inside g c = grind (arith, common_steps)
+
+pub returns-in_err-refresh-clause-bounds : goal.returns-in_err-refresh-clause-bounds
+returns-in_err-refresh-clause-bounds g c =
+    let kinds : List BucketKind = kinds_of g.B.Bucket.holding c.args.buckets.now.items in
+    let settled : List Bool = set c.args.good.now.items c.args.used true in
+    bounded_wider (unmarked_kinds settled kinds) kinds c.args.room.now.record.items (g.F.Flash.device c.args.flash.now) (g.F.Flash.device c.refresh.new.flash) (unmarked_fewer settled kinds) c.refresh.ensures.bounds
+
+pub returns-then-fresh-clause-bounds : goal.returns-then-fresh-clause-bounds
+returns-then-fresh-clause-bounds g c =
+    let kinds : List BucketKind = kinds_of g.B.Bucket.holding c.args.buckets.now.items in
+    let settled : List Bool = set c.args.good.now.items c.args.used true in
+    bounded_wider (unmarked_kinds settled kinds) kinds c.args.room.now.record.items (g.F.Flash.device c.args.flash.now) (g.F.Flash.device c.refresh.new.flash) (unmarked_fewer settled kinds) c.refresh.ensures.bounds
+
+pub returns-then-is_none-clause-bounds : goal.returns-then-is_none-clause-bounds
+returns-then-is_none-clause-bounds g c =
+    let kinds : List BucketKind = kinds_of g.B.Bucket.holding c.args.buckets.now.items in
+    let settled : List Bool = set c.args.good.now.items c.args.used true in
+    bounded_wider (unmarked_kinds settled kinds) kinds c.args.room.now.record.items (g.F.Flash.device c.args.flash.now) (g.F.Flash.device c.refresh.new.flash) (unmarked_fewer settled kinds) c.refresh.ensures.bounds
+
+pub returns-in_err-good-clause-bounds : goal.returns-in_err-good-clause-bounds
+returns-in_err-good-clause-bounds g c =
+    let kinds : List BucketKind = kinds_of g.B.Bucket.holding c.args.buckets.now.items in
+    let rec : List ℕ = c.args.room.now.record.items in
+    let good : List Bool = c.args.good.now.items in
+    let used : ℕ = c.args.used in
+    let from : Device = g.F.Flash.device c.args.flash.now in
+    let mid : Device = g.F.Flash.device c.refresh.new.flash in
+    let to : Device = g.F.Flash.device c.settle_copy.new.flash in
+    let r = c.refresh.ensures in
+    let many : length kinds ≡ length c.args.buckets.now.items = length-map c.args.buckets.now.items _ in
+    let inside : used < length good = omega (arith, c.requires.inside, c.requires.marks) in
+    let stale : is_marked good used ≡ false = sym (get_or_read good used _ inside c.index-fresh.ensures false) ∙ c.if-fresh.false in
+    bounded_used kinds rec good used from mid to inside (omega (arith, c.requires.inside, many)) stale r.refreshes.later r.kept r.bounds
+    (subst (λ (ks : List BucketKind). IsBoundedAt ks used rec mid to) r.kinds
+    (subst (λ (xs : List ℕ). IsBoundedAt (kinds_of g.B.Bucket.holding c.refresh.new.buckets.items) used xs mid to) r.«record» c.settle_copy.ensures.bounds))
+
+pub returns-clause-bounds : goal.returns-clause-bounds
+returns-clause-bounds g c =
+    let kinds : List BucketKind = kinds_of g.B.Bucket.holding c.args.buckets.now.items in
+    let rec : List ℕ = c.args.room.now.record.items in
+    let good : List Bool = c.args.good.now.items in
+    let used : ℕ = c.args.used in
+    let from : Device = g.F.Flash.device c.args.flash.now in
+    let mid : Device = g.F.Flash.device c.refresh.new.flash in
+    let to : Device = g.F.Flash.device c.settle_copy.new.flash in
+    let r = c.refresh.ensures in
+    let many : length kinds ≡ length c.args.buckets.now.items = length-map c.args.buckets.now.items _ in
+    let inside : used < length good = omega (arith, c.requires.inside, c.requires.marks) in
+    let stale : is_marked good used ≡ false = sym (get_or_read good used _ inside c.index-fresh.ensures false) ∙ c.if-fresh.false in
+    bounded_used kinds rec good used from mid to inside (omega (arith, c.requires.inside, many)) stale r.refreshes.later r.kept r.bounds
+    (subst (λ (ks : List BucketKind). IsBoundedAt ks used rec mid to) r.kinds
+    (subst (λ (xs : List ℕ). IsBoundedAt (kinds_of g.B.Bucket.holding c.refresh.new.buckets.items) used xs mid to) r.«record» c.settle_copy.ensures.bounds))
+
+pub returns-clause-read_faults : goal.returns-clause-read_faults
+returns-clause-read_faults g c = c.in_ok-good.ensures.read_faults ∙ c.in_ok-refresh.ensures.read_faults
+
+pub settle_copy-requires-clause-placed : goal.settle_copy-requires-clause-placed
+settle_copy-requires-clause-placed g c = c.in_ok-refresh.ensures.placed c.args.used (λ mark. c.requires.placed c.args.used)

@@ -8,10 +8,12 @@ use Rattle.bb_bucket.specs.Kind.{BucketKind}
 use Rattle.bb_bucket.proofs.Quiet.{keeps_of_quiet}
 use Rattle.bb_copies.specs.Buckets.{kinds_of}
 use Rattle.bb_copies.specs.declared.answers.Loaded.TheVariants.{Copy}
+use Rattle.bb_copies.specs.Erasing.{IsBounded}
 use Rattle.bb_copies.specs.Looking.{FindsBelow, IsFirst}
 use Rattle.bb_copies.specs.Refreshing.{AllHeld, AllWritten, IsFirstMarked, IsStuckAt, KeepsMarked, NeverEmpty, Refreshes}
+use Rattle.bb_copies.proofs.Bounded.{bounded_behind}
 use Rattle.bb_copies.proofs.Erased.{read_erases}
-use Rattle.bb_copies.proofs.Loads.{first_again, first_area, fresh_runs, load_gives, load_stuck, loads_erasing, loads_exactly, none_found, unchanged_runs}
+use Rattle.bb_copies.proofs.Loads.{first_again, first_area, fresh_runs, load_gives, load_stuck, loads_erasing, loads_exactly, none_found, read_fault, unchanged_runs}
 use Rattle.bb_copies.proofs.load.load_copies.Goals as goal
 
 pub returns-in_default-clause-runs : goal.returns-in_default-clause-runs
@@ -54,7 +56,7 @@ returns-in_default-found-clause-gives g c =
     let bound : ℕ = length c.args.buckets.now.items in
     let many : bound ≡ length kinds = sym (length-map c.args.buckets.now.items _) in
     let k = c.look_over.ensures in
-    none_found form kinds bound good from mid many (keeps_of_quiet _ _ k.quiet).content
+    none_found form kinds bound good from mid many (keeps_of_quiet _ _ k.quiet).content k.quiet.told c.in-Ok.ensures.faults c.in-Ok.ensures.read_faults
     (λ image e. subst (λ (o : Option ℕ). FindsBelow form from.geometry.page kinds bound area good image o) c.in_default-found.is (c.in-Ok.ensures.done image e))
 
 pub freshen-requires-clause-first : goal.freshen-requires-clause-first
@@ -148,6 +150,9 @@ returns-in-Ok-freshen-clause-gives g c =
     load_gives form kinds area now c.tell-taken.result.used c.tell-taken.result.live from mid to (f.marks ∙ k.marks ∙ c.requires.marks ∙ many) k.quiet.later entry all
     (subst (λ (xs : List Bool). IsFirstMarked xs (length xs) c.tell-taken.result.used) c.deref.ensures.value c.tell-taken.ensures.used)
     (c.tell-taken.ensures.live ∙ ap (count_by (λ marked. marked)) c.deref.ensures.value)
+    (c.in-Ok-freshen.ensures.read_faults ∙ c.in-Ok.ensures.read_faults)
+    (bounded_behind kinds (form.text area) from mid to k.quiet.told k.quiet.later.geometry c.in-Ok.ensures.faults
+    (subst (λ (rec : List ℕ). IsBounded kinds rec mid to) c.pack.ensures.packed (subst (λ (ks : List BucketKind). IsBounded ks c.pack.new.room.record.items mid to) k.kinds f.bounds)))
 
 pub returns-in-Ok-freshen-clause-exact : goal.returns-in-Ok-freshen-clause-exact
 returns-in-Ok-freshen-clause-exact g c =
@@ -194,13 +199,14 @@ returns-in-Ok-freshen-clause-erases g c =
     let entry = first_area form kinds area good bound used from many inside first in
     let run : Refreshes form kinds area mid to = subst (λ (ks : List BucketKind). Refreshes form ks area mid to) k.kinds f.refreshes in
     loads_erasing form kinds area c.pack.new.room.record.items good bound used from mid to many c.pack.ensures.packed k.quiet.told k.quiet.later (keeps_of_quiet _ _ k.quiet) first
-    (λ quiet. subst (λ (ks : List BucketKind). AllWritten ks c.pack.new.room.record.items good mid to) k.kinds (f.exact quiet))
+    (λ quiet. subst (λ (ks : List BucketKind). KeepsMarked ks good mid to) k.kinds (f.kept quiet))
+    (λ quiet. subst (λ (ks : List BucketKind). AllWritten ks c.pack.new.room.record.items good mid to) k.kinds (f.exact quiet)) run.later
 
 pub returns-in_default-found-clause-erases : goal.returns-in_default-found-clause-erases
 returns-in_default-found-clause-erases g c = read_erases (g.F.Flash.device c.args.flash.now) (g.F.Flash.device c.look_over.new.flash) c.look_over.ensures.quiet.told
 
 pub returns-in-Ok-freshen-clause-placed : goal.returns-in-Ok-freshen-clause-placed
-returns-in-Ok-freshen-clause-placed g c = c.in-Ok-freshen.ensures.placed c.in-Ok.ensures.placed
+returns-in-Ok-freshen-clause-placed g c = c.in-Ok-freshen.ensures.placed
 
 pub returns-in-Err-clause-fails : goal.returns-in-Err-clause-fails
 returns-in-Err-clause-fails g c =
@@ -222,8 +228,10 @@ returns-in-Err-clause-fails g c =
     let f = c.freshen.ensures in
     let entry = first_area form kinds area good bound used from many inside first in
     let run : Refreshes form kinds area mid to = subst (λ (ks : List BucketKind). Refreshes form ks area mid to) k.kinds f.refreshes in
-    load_stuck form kinds area c.in-Err.copy from mid to k.quiet.later run.later entry
+    load_stuck form kinds area c.in-Err.copy from mid to k.quiet.later run.later entry c.in-Ok.ensures.read_faults
     (subst (λ (ks : List BucketKind). IsStuckAt form ks area c.in-Err.copy mid to) k.kinds c.in-Err.ensures.stuck)
+    (bounded_behind kinds (form.text area) from mid to k.quiet.told k.quiet.later.geometry c.in-Ok.ensures.faults
+    (subst (λ (rec : List ℕ). IsBounded kinds rec mid to) c.pack.ensures.packed (subst (λ (ks : List BucketKind). IsBounded ks c.pack.new.room.record.items mid to) k.kinds f.bounds)))
 
 pub returns-in-Ok-freshen-clause-fits : goal.returns-in-Ok-freshen-clause-fits
 returns-in-Ok-freshen-clause-fits g c = λ taken.
@@ -240,3 +248,8 @@ freshen-requires-clause-inside g c = grind (arith, common_steps)
 
 pub overflow_cast-result : goal.overflow_cast-result
 overflow_cast-result g c = grind (arith, common_steps)
+
+pub returns-in_default-clause-fails : goal.returns-in_default-clause-fails
+returns-in_default-clause-fails g c =
+    let k = c.look_over.ensures in
+    read_fault (g.F.Flash.device c.args.flash.now) (g.F.Flash.device c.look_over.new.flash) (keeps_of_quiet _ _ k.quiet).content k.quiet.told c.in_default.ensures.faults c.in_default.ensures.read_faults

@@ -26,6 +26,8 @@ loop-copy-preserved g c =
           none_more form from.geometry.page kinds out copy c.in_ok-passed.passed image (sym c.is_some.ensures ∙ c.if-is_some.false) (i.none image e)
           (reading_from form kinds (kinds_of g.B.Bucket.holding c.loop-copy.buckets.items) copy image out c.in_ok-passed.passed from mid (keeps_of_quiet _ _ i.quiet) i.kinds (r.done image ((keeps_of_quiet _ _ i.quiet).content ∙ e)));
       quiet = quiet_joined from mid _ i.quiet r.quiet;
+      faults = r.faults ∙ i.faults;
+      read_faults = r.read_faults ∙ i.read_faults;
       kinds = r.kinds ∙ i.kinds;
       agrees = r.agrees;
       placed = λ all place. r.placed place (λ other. i.placed all place);

@@ -17,6 +17,8 @@ invariant-loop-copy g l =
           ForSome (content from)
           (λ image. EachCopy (kinds_of g.B.Bucket.holding l.fn.buckets.items) (λ place kind. place < l.copy → passing_of form from.geometry.page kind image ≡ None));
       quiet : IsQuiet from now;
+      faults : now.faults ≡ from.faults;
+      read_faults : now.read_faults ≡ from.read_faults;
       kinds : kinds_of g.B.Bucket.holding l.buckets.items ≡ kinds_of g.B.Bucket.holding l.fn.buckets.items;
       agrees : AllAgree g.B.Bucket.holding now l.buckets.items;
       placed : AllPlaced g.B.Bucket.holding l.fn.buckets.items → AllPlaced g.B.Bucket.holding l.buckets.items;

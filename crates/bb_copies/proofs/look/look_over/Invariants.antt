@@ -18,6 +18,8 @@ invariant-loop-copy g l =
       inside : IfSome l.used (λ copy. copy < l.copy);
       fits : IfSome l.used (λ _. IsTrue (form.fits l.area));
       quiet : IsQuiet from now;
+      faults : now.faults ≡ from.faults;
+      read_faults : now.read_faults ≡ from.read_faults;
       kinds : kinds_of g.B.Bucket.holding l.buckets.items ≡ kinds_of g.B.Bucket.holding l.fn.buckets.items;
       agrees : AllAgree g.B.Bucket.holding now l.buckets.items;
       placed : (copy : ℕ) → copy < l.copy → IsPlacedAt g.B.Bucket.holding l.buckets.items copy;

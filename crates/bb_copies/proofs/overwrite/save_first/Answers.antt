@@ -8,6 +8,8 @@ use Rattle.bb_copies.specs.Buckets.{kinds_of}
 use Rattle.bb_copies.specs.Refreshing.{IsFirstMarked, NoOther}
 use Rattle.bb_copies.proofs.Held.{none_of_match}
 use Rattle.bb_copies.proofs.Saves.{first_erases, hopeless}
+use Rattle.bb_copies.specs.Erasing.{unmarked_kinds}
+use Rattle.bb_copies.proofs.Bounded.{bounded_wider, unmarked_fewer}
 use Rattle.bb_copies.proofs.overwrite.save_first.Goals as goal
 
 pub returns-then-is_none-clause-fails : goal.returns-then-is_none-clause-fails
@@ -28,7 +30,7 @@ returns-then-is_none-clause-fails g c =
     let at : List Bool → ℕ → Type 0 = λ xs n. MatchOption c.first_good.result (NoOther xs n) (IsFirstMarked xs n) in
     let found = subst (λ (n : ℕ). at good n) len (subst (λ (xs : List Bool). at xs c.len.result) c.deref.ensures.value c.first_good.ensures) in
     let none : NoOther good (length good) = none_of_match c.first_good.result (NoOther good (length good)) (IsFirstMarked good (length good)) found (c.is_none.ensures ∙ ap not c.if-is_none.true) in
-    inr (inr (hopeless form kinds area marked good (c.len-then-is_none.result - 1) from mid c.requires.unmarked all last none c.in_ok-refresh.ensures.settled))
+    inr (inr (hopeless form kinds area marked good (c.len-then-is_none.result - 1) from mid c.requires.unmarked all last none c.in_ok-refresh.ensures.settled c.in_ok-refresh.ensures.read_faults))
 
 pub returns-clause-exact : goal.returns-clause-exact
 returns-clause-exact g c =
@@ -61,3 +63,18 @@ returns-clause-placed g c = λ copy. c.in_ok-refresh.ensures.placed copy (λ mar
 
 pub returns-in_err-refresh-clause-inside : goal.returns-in_err-refresh-clause-inside
 returns-in_err-refresh-clause-inside g c = grind (arith, common_steps)
+
+pub returns-in_err-refresh-clause-bounds : goal.returns-in_err-refresh-clause-bounds
+returns-in_err-refresh-clause-bounds g c =
+    let kinds : List BucketKind = kinds_of g.B.Bucket.holding c.args.buckets.now.items in
+    bounded_wider (unmarked_kinds c.args.good.now.items kinds) kinds c.args.room.now.record.items (g.F.Flash.device c.args.flash.now) (g.F.Flash.device c.refresh.new.flash) (unmarked_fewer c.args.good.now.items kinds) c.refresh.ensures.bounds
+
+pub returns-then-is_none-clause-bounds : goal.returns-then-is_none-clause-bounds
+returns-then-is_none-clause-bounds g c =
+    let kinds : List BucketKind = kinds_of g.B.Bucket.holding c.args.buckets.now.items in
+    bounded_wider (unmarked_kinds c.args.good.now.items kinds) kinds c.args.room.now.record.items (g.F.Flash.device c.args.flash.now) (g.F.Flash.device c.refresh.new.flash) (unmarked_fewer c.args.good.now.items kinds) c.refresh.ensures.bounds
+
+pub returns-clause-bounds : goal.returns-clause-bounds
+returns-clause-bounds g c =
+    let kinds : List BucketKind = kinds_of g.B.Bucket.holding c.args.buckets.now.items in
+    bounded_wider (unmarked_kinds c.args.good.now.items kinds) kinds c.args.room.now.record.items (g.F.Flash.device c.args.flash.now) (g.F.Flash.device c.refresh.new.flash) (unmarked_fewer c.args.good.now.items kinds) c.refresh.ensures.bounds

@@ -1,4 +1,4 @@
-use Rattle.std.proofs.Common.{◌≡◌, ◌∙◌, ℕ, ◌<◌, Bool, true, false, not, List, Err, Some, IfErr, MatchOption, length, length-set, get_or-set_same, get_or-set_other, ap, sym, subst, arith, inl, inr}
+use Rattle.std.proofs.Common.{◌≡◌, ◌∙◌, ℕ, ◌<◌, Bool, true, false, not, List, Err, Some, IfErr, MatchOption, length, set, length-set, get_or-set_same, get_or-set_other, ap, sym, subst, arith, inl, inr}
 use Rattle.std.proofs.lemmas.List.{length-map}
 use Rattle.std.proofs.lemmas.Result.{err_from_is_err_and}
 use Rattle.std.proofs.lemmas.Grind.{common_steps}
@@ -6,12 +6,14 @@ use Rattle.bb_base.specs.Form.{Form}
 use Rattle.bb_flash.specs.Device.{Device}
 use Rattle.bb_bucket.specs.Kind.{BucketKind}
 use Rattle.bb_copies.specs.Buckets.{AllFit, kinds_of}
-use Rattle.bb_copies.specs.Refreshing.{IsFirstMarked, IsSettledAt, IsStuckAt, IsWrittenAt, LeavesOthers, NoOther, Refreshes}
+use Rattle.bb_copies.specs.Erasing.{unmarked_kinds}
+use Rattle.bb_copies.specs.Refreshing.{IsBoundedAt, IsFirstMarked, IsSettledAt, IsStuckAt, IsWrittenAt, LeavesOthers, NoOther, Refreshes}
 use Rattle.bb_copies.specs.Saving.{IsWriteFault}
 use Rattle.bb_copies.proofs.Below.{stuck_earlier}
-use Rattle.bb_copies.proofs.Held.{none_of_match, some_of_match}
+use Rattle.bb_copies.proofs.Held.{bounded_used, none_of_match, some_of_match}
 use Rattle.bb_copies.proofs.Runs.{refreshes_joined, undisturbed_first, undisturbed_second}
 use Rattle.bb_copies.proofs.Saves.{alone, over_erases, over_held, over_other, over_spares, over_written, spares_joined}
+use Rattle.bb_copies.proofs.Bounded.{bounded_wider, unmarked_fewer}
 use Rattle.bb_copies.proofs.overwrite.save_over.Goals as goal
 
 pub returns-in_err-refresh-clause-spares : goal.returns-in_err-refresh-clause-spares
@@ -65,7 +67,7 @@ returns-then-is_none-clause-fails g c =
     let all : length good ≡ length kinds = omega (arith, r.marks, size, c.requires.marks, many) in
     let found = subst (λ (xs : List Bool). MatchOption c.first_good.result (NoOther xs used) (IsFirstMarked xs used)) c.deref.ensures.value c.first_good.ensures in
     let none : NoOther good used = none_of_match c.first_good.result (NoOther good used) (IsFirstMarked good used) found (c.is_none.ensures ∙ ap not c.if-is_none.true) in
-    inr (inl (alone form kinds area marked good used from mid c.requires.unmarked all within none r.kept c.in_ok-refresh.ensures.settled))
+    inr (inl (alone form kinds area marked good used from mid c.requires.unmarked all within none r.kept c.in_ok-refresh.ensures.settled c.in_ok-refresh.ensures.read_faults))
 
 pub returns-in_err-good-clause-refreshes : goal.returns-in_err-good-clause-refreshes
 returns-in_err-good-clause-refreshes g c =
@@ -140,7 +142,7 @@ returns-in_err-good-clause-fails g c =
     let others : LeavesOthers kinds used mid to = subst (λ (ks : List BucketKind). LeavesOthers ks used mid to) r.kinds s.others in
     let other = some_of_match c.first_good.result (NoOther good used) (IsFirstMarked good used) found (c.is_none.ensures ∙ ap not c.if-is_none.false) in
     let stuck : IsStuckAt form kinds area c.in_err-good.field-0.0 mid to = subst (λ (ks : List BucketKind). IsStuckAt form ks area c.in_err-good.field-0.0 mid to) r.kinds c.in_err-good.ensures.stuck in
-    let whole = stuck_earlier form kinds area c.in_err-good.field-0.0 from mid to r.refreshes.later s.refreshes.later stuck in
+    let whole = stuck_earlier form kinds area c.in_err-good.field-0.0 from mid to r.refreshes.later s.refreshes.later c.in_ok-refresh.ensures.read_faults stuck in
     let p = err_from_is_err_and c.from_residual-in_err-good.result c.from_residual-in_err-good.ensures.1 in
     subst (λ r. IfErr r (IsWriteFault form kinds (Some used) area from to)) (sym (p.1 ∙ ap (λ e. Err e) p.2)) (inl whole)
 
@@ -337,8 +339,8 @@ returns-in_err-good-clause-reads g c =
     let to : Device = g.F.Flash.device c.settle_copy.new.flash in
     let r = c.refresh.ensures in
     let s = c.settle_copy.ensures in
-    λ all quiet.
-    s.reads (c.in_ok-refresh.ensures.placed c.args.used (λ mark. all c.args.used)) (undisturbed_second from mid to r.refreshes.later quiet) ∙ r.reads all (undisturbed_first from mid to s.refreshes.later quiet)
+    λ quiet.
+    s.reads (undisturbed_second from mid to r.refreshes.later quiet) ∙ r.reads (undisturbed_first from mid to s.refreshes.later quiet)
 
 pub returns-clause-reads : goal.returns-clause-reads
 returns-clause-reads g c =
@@ -347,8 +349,8 @@ returns-clause-reads g c =
     let to : Device = g.F.Flash.device c.settle_copy.new.flash in
     let r = c.refresh.ensures in
     let s = c.settle_copy.ensures in
-    λ all quiet.
-    s.reads (c.in_ok-refresh.ensures.placed c.args.used (λ mark. all c.args.used)) (undisturbed_second from mid to r.refreshes.later quiet) ∙ r.reads all (undisturbed_first from mid to s.refreshes.later quiet)
+    λ quiet.
+    s.reads (undisturbed_second from mid to r.refreshes.later quiet) ∙ r.reads (undisturbed_first from mid to s.refreshes.later quiet)
 
 pub returns-clause-placed : goal.returns-clause-placed
 returns-clause-placed g c = λ place.
@@ -367,3 +369,49 @@ returns-in_err-refresh-clause-inside g c = grind (arith, common_steps)
 
 pub settle_copy-requires-clause-inside : goal.settle_copy-requires-clause-inside
 settle_copy-requires-clause-inside g c = grind (arith, common_steps)
+
+pub returns-in_err-refresh-clause-bounds : goal.returns-in_err-refresh-clause-bounds
+returns-in_err-refresh-clause-bounds g c =
+    let kinds : List BucketKind = kinds_of g.B.Bucket.holding c.args.buckets.now.items in
+    let settled : List Bool = set c.args.good.now.items c.args.used true in
+    bounded_wider (unmarked_kinds settled kinds) kinds c.args.room.now.record.items (g.F.Flash.device c.args.flash.now) (g.F.Flash.device c.refresh.new.flash) (unmarked_fewer settled kinds) c.refresh.ensures.bounds
+
+pub returns-then-is_none-clause-bounds : goal.returns-then-is_none-clause-bounds
+returns-then-is_none-clause-bounds g c =
+    let kinds : List BucketKind = kinds_of g.B.Bucket.holding c.args.buckets.now.items in
+    let settled : List Bool = set c.args.good.now.items c.args.used true in
+    bounded_wider (unmarked_kinds settled kinds) kinds c.args.room.now.record.items (g.F.Flash.device c.args.flash.now) (g.F.Flash.device c.refresh.new.flash) (unmarked_fewer settled kinds) c.refresh.ensures.bounds
+
+pub returns-in_err-good-clause-bounds : goal.returns-in_err-good-clause-bounds
+returns-in_err-good-clause-bounds g c =
+    let kinds : List BucketKind = kinds_of g.B.Bucket.holding c.args.buckets.now.items in
+    let rec : List ℕ = c.args.room.now.record.items in
+    let used : ℕ = c.args.used in
+    let from : Device = g.F.Flash.device c.args.flash.now in
+    let mid : Device = g.F.Flash.device c.refresh.new.flash in
+    let to : Device = g.F.Flash.device c.settle_copy.new.flash in
+    let r = c.refresh.ensures in
+    let many : length kinds ≡ length c.args.buckets.now.items = length-map c.args.buckets.now.items _ in
+    bounded_used kinds rec c.args.good.now.items used from mid to (omega (arith, c.requires.inside, c.requires.marks)) (omega (arith, c.requires.inside, many)) (c.requires.unmarked used) r.refreshes.later r.kept r.bounds
+    (subst (λ (ks : List BucketKind). IsBoundedAt ks used rec mid to) r.kinds
+    (subst (λ (xs : List ℕ). IsBoundedAt (kinds_of g.B.Bucket.holding c.refresh.new.buckets.items) used xs mid to) r.«record» c.settle_copy.ensures.bounds))
+
+pub returns-clause-bounds : goal.returns-clause-bounds
+returns-clause-bounds g c =
+    let kinds : List BucketKind = kinds_of g.B.Bucket.holding c.args.buckets.now.items in
+    let rec : List ℕ = c.args.room.now.record.items in
+    let used : ℕ = c.args.used in
+    let from : Device = g.F.Flash.device c.args.flash.now in
+    let mid : Device = g.F.Flash.device c.refresh.new.flash in
+    let to : Device = g.F.Flash.device c.settle_copy.new.flash in
+    let r = c.refresh.ensures in
+    let many : length kinds ≡ length c.args.buckets.now.items = length-map c.args.buckets.now.items _ in
+    bounded_used kinds rec c.args.good.now.items used from mid to (omega (arith, c.requires.inside, c.requires.marks)) (omega (arith, c.requires.inside, many)) (c.requires.unmarked used) r.refreshes.later r.kept r.bounds
+    (subst (λ (ks : List BucketKind). IsBoundedAt ks used rec mid to) r.kinds
+    (subst (λ (xs : List ℕ). IsBoundedAt (kinds_of g.B.Bucket.holding c.refresh.new.buckets.items) used xs mid to) r.«record» c.settle_copy.ensures.bounds))
+
+pub returns-clause-read_faults : goal.returns-clause-read_faults
+returns-clause-read_faults g c = c.in_ok-good.ensures.read_faults ∙ c.in_ok-refresh.ensures.read_faults
+
+pub settle_copy-requires-clause-placed : goal.settle_copy-requires-clause-placed
+settle_copy-requires-clause-placed g c = c.in_ok-refresh.ensures.placed c.args.used (λ mark. c.requires.placed c.args.used)

@@ -6,8 +6,8 @@ use Rattle.bb_base.specs.Form.{Form}
 use Rattle.bb_flash.specs.Device.{Device}
 use Rattle.bb_bucket.specs.Kind.{BucketKind}
 use Rattle.bb_copies.specs.Buckets.{kinds_of}
-use Rattle.bb_copies.specs.Refreshing.{IsSettledAt, IsStuckAt, IsWrittenAt, LeavesOthers, Refreshes}
-use Rattle.bb_copies.proofs.Below.{RefreshedBelow, all_settled, all_written, keeps_marked, none_refreshed, settled_more, skipped, stuck_earlier, stuck_keeps, stuck_rose}
+use Rattle.bb_copies.specs.Refreshing.{IsBoundedAt, IsSettledAt, IsStuckAt, IsWrittenAt, LeavesOthers, Refreshes}
+use Rattle.bb_copies.proofs.Below.{RefreshedBelow, all_bounded, all_settled, all_written, keeps_marked, none_refreshed, settled_more, skipped, stuck_bounded, stuck_earlier, stuck_keeps, stuck_rose}
 use Rattle.bb_copies.proofs.Placed.{none_placed, settled_placed, skipped_placed, unmarked_placed}
 use Rattle.bb_copies.proofs.Runs.{refreshes_joined, undisturbed_first, undisturbed_second}
 use Rattle.bb_copies.proofs.refresh.refresh.Goals as goal
@@ -17,7 +17,7 @@ loop-copy-init g c = record {
   below = none_refreshed (g.M.Format.form c.args.format.now) (kinds_of g.B.Bucket.holding c.args.buckets.now.items) c.args.area.now c.args.room.now.record.items c.args.good.now.items (g.F.Flash.device c.args.flash.now) c.requires.whole;
   kinds = refl;
   placed = none_placed g.B.Bucket.holding c.args.good.now.items c.args.buckets.now.items;
-  reads = λ all quiet. refl;
+  reads = λ quiet. refl;
   agrees = c.requires.agreed;
   marks = refl;
   found = refl;
@@ -72,7 +72,7 @@ returns-in_err-good-clause-stuck g c =
     let to : Device = g.F.Flash.device c.settle_copy.new.flash in
     let stuck : IsStuckAt form kinds c.args.area.now c.in_err-good.field-0.0 mid to = subst (λ (ks : List BucketKind). IsStuckAt form ks c.args.area.now c.in_err-good.field-0.0 mid to) i.kinds c.in_err-good.ensures.stuck in
     let p = err_from_is_err_and c.from_residual.result c.from_residual.ensures.1 in
-    let whole = stuck_earlier form kinds c.args.area.now c.in_err-good.field-0.0 from mid to i.below.refreshes.later c.settle_copy.ensures.refreshes.later stuck in
+    let whole = stuck_earlier form kinds c.args.area.now c.in_err-good.field-0.0 from mid to i.below.refreshes.later c.settle_copy.ensures.refreshes.later i.below.read_faults stuck in
     subst (λ r. IfErr r (λ copy. IsStuckAt form kinds c.args.area.now copy from to)) (sym (p.1 ∙ ap (λ e. Err e) p.2)) whole
 
 pub returns-in_err-good-clause-exact : goal.returns-in_err-good-clause-exact
@@ -84,10 +84,10 @@ returns-in_err-good-clause-exact g c = λ quiet.
     let to : Device = g.F.Flash.device c.settle_copy.new.flash in
     let from : Device = g.F.Flash.device c.args.flash.now in
     let stuck : IsStuckAt form kinds c.args.area.now c.in_err-good.field-0.0 mid to = subst (λ (ks : List BucketKind). IsStuckAt form ks c.args.area.now c.in_err-good.field-0.0 mid to) i.kinds c.in_err-good.ensures.stuck in
-    absurd (quiet (stuck_rose form kinds c.args.area.now c.in_err-good.field-0.0 from to (stuck_earlier form kinds c.args.area.now c.in_err-good.field-0.0 from mid to i.below.refreshes.later c.settle_copy.ensures.refreshes.later stuck)))
+    absurd (quiet (stuck_rose form kinds c.args.area.now c.in_err-good.field-0.0 from to (stuck_earlier form kinds c.args.area.now c.in_err-good.field-0.0 from mid to i.below.refreshes.later c.settle_copy.ensures.refreshes.later i.below.read_faults stuck)))
 
 pub returns-in_err-good-clause-reads : goal.returns-in_err-good-clause-reads
-returns-in_err-good-clause-reads g c = λ all quiet.
+returns-in_err-good-clause-reads g c = λ quiet.
     let i = c.loop-copy.invariant in
     let form : Form = g.M.Format.form c.args.format.now in
     let kinds : List BucketKind = kinds_of g.B.Bucket.holding c.args.buckets.now.items in
@@ -95,7 +95,7 @@ returns-in_err-good-clause-reads g c = λ all quiet.
     let to : Device = g.F.Flash.device c.settle_copy.new.flash in
     let from : Device = g.F.Flash.device c.args.flash.now in
     let stuck : IsStuckAt form kinds c.args.area.now c.in_err-good.field-0.0 mid to = subst (λ (ks : List BucketKind). IsStuckAt form ks c.args.area.now c.in_err-good.field-0.0 mid to) i.kinds c.in_err-good.ensures.stuck in
-    absurd (quiet (stuck_rose form kinds c.args.area.now c.in_err-good.field-0.0 from to (stuck_earlier form kinds c.args.area.now c.in_err-good.field-0.0 from mid to i.below.refreshes.later c.settle_copy.ensures.refreshes.later stuck)))
+    absurd (quiet (stuck_rose form kinds c.args.area.now c.in_err-good.field-0.0 from to (stuck_earlier form kinds c.args.area.now c.in_err-good.field-0.0 from mid to i.below.refreshes.later c.settle_copy.ensures.refreshes.later i.below.read_faults stuck)))
 
 pub loop-copy-preserved : goal.loop-copy-preserved
 loop-copy-preserved g c =
@@ -120,10 +120,12 @@ loop-copy-preserved g c =
           (subst (λ (ks : List BucketKind). Refreshes form ks area mid to) i.kinds s.refreshes)
           (subst (λ (ks : List BucketKind). LeavesOthers ks copy mid to) i.kinds s.others)
           (subst (λ (ks : List BucketKind). IsSettledAt form ks area copy mid to c.in_ok-good.field-0) i.kinds c.in_ok-good.ensures.settled)
-          (λ quiet. subst (λ (ks : List BucketKind). IsWrittenAt ks copy rec mid to) i.kinds (subst (λ (r : List ℕ). IsWrittenAt (kinds_of g.B.Bucket.holding c.loop-copy.buckets.items) copy r mid to) i.packed (s.exact quiet)));
+          (λ quiet. subst (λ (ks : List BucketKind). IsWrittenAt ks copy rec mid to) i.kinds (subst (λ (r : List ℕ). IsWrittenAt (kinds_of g.B.Bucket.holding c.loop-copy.buckets.items) copy r mid to) i.packed (s.exact quiet)))
+          (subst (λ (ks : List BucketKind). IsBoundedAt ks copy rec mid to) i.kinds (subst (λ (r : List ℕ). IsBoundedAt (kinds_of g.B.Bucket.holding c.loop-copy.buckets.items) copy r mid to) i.packed s.bounds))
+          c.in_ok-good.ensures.read_faults;
       kinds = s.kinds ∙ i.kinds;
       placed = settled_placed g.B.Bucket.holding c.args.good.now.items copy c.args.buckets.now.items c.loop-copy.buckets.items c.settle_copy.new.buckets.items i.placed c.in_ok-good.ensures.placed;
-      reads = λ all quiet. s.reads (i.placed copy (λ left. all copy)) (undisturbed_second from mid to i.below.refreshes.later quiet) ∙ i.reads all (undisturbed_first from mid to s.refreshes.later quiet);
+      reads = λ quiet. s.reads (undisturbed_second from mid to i.below.refreshes.later quiet) ∙ i.reads (undisturbed_first from mid to s.refreshes.later quiet);
       agrees = s.agrees;
       marks = size ∙ i.marks;
       found = s.found ∙ i.found;
@@ -167,3 +169,30 @@ returns-clause-placed g c =
 
 pub settle_copy-requires-clause-inside : goal.settle_copy-requires-clause-inside
 settle_copy-requires-clause-inside g c = grind (arith, common_steps)
+
+pub settle_copy-requires-clause-placed : goal.settle_copy-requires-clause-placed
+settle_copy-requires-clause-placed g c = c.loop-copy.invariant.placed c.loop-copy.copy (λ left. c.requires.placed c.loop-copy.copy)
+
+pub returns-in_err-good-clause-bounds : goal.returns-in_err-good-clause-bounds
+returns-in_err-good-clause-bounds g c =
+    let i = c.loop-copy.invariant in
+    let s = c.settle_copy.ensures in
+    let kinds : List BucketKind = kinds_of g.B.Bucket.holding c.args.buckets.now.items in
+    let rec : List ℕ = c.args.room.now.record.items in
+    let copy : ℕ = c.loop-copy.copy in
+    let good : List Bool = c.loop-copy.good.items in
+    let mid : Device = g.F.Flash.device c.loop-copy.flash in
+    let to : Device = g.F.Flash.device c.settle_copy.new.flash in
+    let inside : copy < length good = omega (arith, i.marks, c.requires.marks, c.len-copy-end.ensures, c.args.buckets.now.ok) in
+    let unmarked = sym (get_or_read good copy _ inside c.index.ensures false) ∙ c.if-index.false in
+    let many : length kinds ≡ length c.args.buckets.now.items = length-map c.args.buckets.now.items _ in
+    stuck_bounded (g.M.Format.form c.args.format.now) kinds c.args.area.now rec c.args.good.now.items good copy (g.F.Flash.device c.args.flash.now) mid to
+    (omega (arith, inside, i.marks)) (omega (arith, inside, i.marks, c.requires.marks, many)) unmarked i.below
+    (subst (λ (ks : List BucketKind). IsBoundedAt ks copy rec mid to) i.kinds (subst (λ (r : List ℕ). IsBoundedAt (kinds_of g.B.Bucket.holding c.loop-copy.buckets.items) copy r mid to) i.packed s.bounds))
+
+pub returns-clause-bounds : goal.returns-clause-bounds
+returns-clause-bounds g c =
+    all_bounded (g.M.Format.form c.args.format.now) (kinds_of g.B.Bucket.holding c.args.buckets.now.items) c.args.area.now c.args.room.now.record.items c.args.good.now.items c.loop-copy.good.items c.loop-copy.copy (g.F.Flash.device c.args.flash.now) (g.F.Flash.device c.loop-copy.flash) c.loop-copy.invariant.below
+
+pub returns-clause-read_faults : goal.returns-clause-read_faults
+returns-clause-read_faults g c = c.loop-copy.invariant.below.read_faults

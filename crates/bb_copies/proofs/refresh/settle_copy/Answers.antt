@@ -1,15 +1,16 @@
-use Rattle.std.proofs.Common.{List, length, set, IfErr, IfOk, OnOk, sym, subst, refl}
+use Rattle.std.proofs.Common.{◌≡◌, List, [], ◌∷◌, length, set, IfErr, IfOk, OnOk, sym, subst, refl}
 use Rattle.std.proofs.lemmas.Option.{slice_get_read}
 use Rattle.bb_base.specs.Form.{Form}
 use Rattle.bb_flash.specs.Device.{Device}
 use Rattle.bb_bucket.specs.Kind.{BucketKind}
 use Rattle.bb_copies.specs.Buckets.{kinds_of}
+use Rattle.bb_copies.specs.Erasing.{IsBounded}
 use Rattle.bb_copies.specs.Placing.{PlacesCopy}
 use Rattle.bb_copies.specs.Refreshing.{IsSettledAt, IsStuckAt}
 use Rattle.bb_copies.specs.Settling.{IsWritten}
 use Rattle.bb_copies.proofs.Many.{all_kinds, kind_at, set_agrees, set_kinds, settled_others, settled_refreshes}
 use Rattle.bb_copies.proofs.Placed.{answer_ok, set_places}
-use Rattle.bb_copies.proofs.Settled.{at_copy, settled_at, stuck_at}
+use Rattle.bb_copies.proofs.Settled.{at_copy, settled_at, settled_calm, stuck_at}
 use Rattle.bb_copies.proofs.refresh.settle_copy.Goals as goal
 
 pub settle-settled-requires-clause-serves : goal.settle-settled-requires-clause-serves
@@ -44,7 +45,7 @@ returns-clause-others g c =
     let there = slice_get_read c.args.buckets.now.items (length c.args.buckets.now.items) c.args.copy _ refl c.requires.inside c.index_mut.ensures.value in
     let here = kind_at g.B.Bucket.holding c.args.buckets.now.items c.args.copy _ there in
     settled_others (kinds_of g.B.Bucket.holding c.args.buckets.now.items) c.args.copy (g.B.Bucket.holding c.index_mut.result.now).kind (g.F.Flash.device c.args.flash.now) (g.F.Flash.device c.settle-settled.new.flash)
-    (all_kinds g.B.Bucket.holding c.args.buckets.now.items g.met.B.Bucket.laws) c.requires.room.apart c.requires.serves c.requires.whole here c.settle-settled.ensures.settles.torn
+    (all_kinds g.B.Bucket.holding c.args.buckets.now.items g.met.B.Bucket.laws) c.requires.room.apart c.requires.serves c.requires.whole here c.settle-settled.ensures.settles.torn c.settle-settled.ensures.settles.calls
 
 pub returns-clause-settled : goal.returns-clause-settled
 returns-clause-settled g c =
@@ -66,7 +67,7 @@ returns-clause-stuck g c =
     let there = slice_get_read c.args.buckets.now.items (length c.args.buckets.now.items) c.args.copy _ refl c.requires.inside c.index_mut.ensures.value in
     let here = kind_at g.B.Bucket.holding c.args.buckets.now.items c.args.copy _ there in
     subst (λ r. IfErr r (λ at. IsStuckAt form kinds c.args.area.now at from to)) (sym c.answer.ensures)
-    (stuck_at form kinds c.args.area.now c.args.copy _ from to c.settle-settled.result here c.settle-settled.ensures.ends)
+    (stuck_at form kinds c.args.area.now c.args.room.now.record.items c.args.copy _ from to c.settle-settled.result here c.settle-settled.ensures.ends c.settle-settled.ensures.counts)
 
 pub returns-clause-exact : goal.returns-clause-exact
 returns-clause-exact g c = λ quiet.
@@ -87,7 +88,7 @@ returns-clause-agrees g c =
     let there = slice_get_read c.args.buckets.now.items (length c.args.buckets.now.items) c.args.copy _ refl c.requires.inside c.index_mut.ensures.value in
     let here = kind_at g.B.Bucket.holding c.args.buckets.now.items c.args.copy _ there in
     let settles = c.settle-settled.ensures.settles in
-    let others = settled_others kinds c.args.copy (g.B.Bucket.holding c.index_mut.result.now).kind from to (all_kinds g.B.Bucket.holding c.args.buckets.now.items g.met.B.Bucket.laws) c.requires.room.apart c.requires.serves c.requires.whole here settles.torn in
+    let others = settled_others kinds c.args.copy (g.B.Bucket.holding c.index_mut.result.now).kind from to (all_kinds g.B.Bucket.holding c.args.buckets.now.items g.met.B.Bucket.laws) c.requires.room.apart c.requires.serves c.requires.whole here settles.torn settles.calls in
     set_agrees g.B.Bucket.holding c.args.buckets.now.items c.args.copy _ from to settles.later others c.requires.agreed c.settle-settled.ensures.agrees
 
 pub returns-clause-placed : goal.returns-clause-placed
@@ -97,7 +98,20 @@ returns-clause-placed g c =
     subst (λ r. OnOk r places) (sym c.answer.ensures)
     (answer_ok c.args.copy c.settle-settled.result places (λ other. set_places g.B.Bucket.holding c.args.buckets.now.items c.args.copy new (c.settle-settled.ensures.placed other)))
 
-pub returns-clause-reads : goal.returns-clause-reads
-returns-clause-reads g c = λ placed.
+pub settle-settled-requires-clause-placed : goal.settle-settled-requires-clause-placed
+settle-settled-requires-clause-placed g c =
     let there = slice_get_read c.args.buckets.now.items (length c.args.buckets.now.items) c.args.copy _ refl c.requires.inside c.index_mut.ensures.value in
-    c.settle-settled.ensures.reads (placed _ there)
+    c.requires.placed _ there
+
+pub returns-clause-bounds : goal.returns-clause-bounds
+returns-clause-bounds g c =
+    let there = slice_get_read c.args.buckets.now.items (length c.args.buckets.now.items) c.args.copy _ refl c.requires.inside c.index_mut.ensures.value in
+    let here = kind_at g.B.Bucket.holding c.args.buckets.now.items c.args.copy _ there in
+    at_copy (λ kind. IsBounded (kind ∷ []) c.args.room.now.record.items (g.F.Flash.device c.args.flash.now) (g.F.Flash.device c.settle-settled.new.flash)) (kinds_of g.B.Bucket.holding c.args.buckets.now.items) c.args.copy _ here c.settle-settled.ensures.bounds
+
+pub returns-clause-read_faults : goal.returns-clause-read_faults
+returns-clause-read_faults g c =
+    let from : Device = g.F.Flash.device c.args.flash.now in
+    let to : Device = g.F.Flash.device c.settle-settled.new.flash in
+    subst (λ r. OnOk r (to.read_faults ≡ from.read_faults)) (sym c.answer.ensures)
+    (settled_calm c.args.copy _ c.args.room.now.record.items from to c.settle-settled.result c.settle-settled.ensures.counts)

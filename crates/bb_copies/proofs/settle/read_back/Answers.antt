@@ -4,6 +4,7 @@ use Rattle.bb_bucket.proofs.Quiet.{keeps_of_quiet}
 use Rattle.bb_copies.specs.Settling.{IsCompared}
 use Rattle.bb_copies.proofs.Ends.{read_as, whole_slice}
 use Rattle.bb_copies.proofs.OneCopy.{read_copy_settles}
+use Rattle.bb_copies.proofs.Ends.{counts_compared}
 use Rattle.bb_copies.proofs.settle.read_back.Goals as goal
 
 pub returns-in-Ok-Some-clause-ends : goal.returns-in-Ok-Some-clause-ends
@@ -18,6 +19,11 @@ returns-in-Ok-Some-clause-ends g c =
 pub returns-in-Ok-Some-clause-settles : goal.returns-in-Ok-Some-clause-settles
 returns-in-Ok-Some-clause-settles g c =
     let known = c.in-Ok-Some.ensures in
+    read_copy_settles (g.M.Format.form c.args.format.now) (g.B.Bucket.holding c.args.bucket.now).kind c.args.area.now (g.F.Flash.device c.args.flash.now) (g.F.Flash.device c.read_copy.new.flash) known.quiet.told (keeps_of_quiet _ _ known.quiet) known.quiet.later known.quiet.whole
+
+pub returns-in-Ok-None-clause-settles : goal.returns-in-Ok-None-clause-settles
+returns-in-Ok-None-clause-settles g c =
+    let known = c.in-Ok-None.ensures in
     read_copy_settles (g.M.Format.form c.args.format.now) (g.B.Bucket.holding c.args.bucket.now).kind c.args.area.now (g.F.Flash.device c.args.flash.now) (g.F.Flash.device c.read_copy.new.flash) known.quiet.told (keeps_of_quiet _ _ known.quiet) known.quiet.later known.quiet.whole
 
 pub returns-in-Err-clause-settles : goal.returns-in-Err-clause-settles
@@ -42,3 +48,7 @@ returns-in-Err-clause-found g c = grind (arith, common_steps)
 
 pub returns-in-Err-clause-scratch : goal.returns-in-Err-clause-scratch
 returns-in-Err-clause-scratch g c = grind (arith, common_steps)
+
+pub returns-in-Ok-Some-clause-counts : goal.returns-in-Ok-Some-clause-counts
+returns-in-Ok-Some-clause-counts g c =
+    counts_compared (g.F.Flash.device c.args.flash.now) (g.F.Flash.device c.read_copy.new.flash) c.compare_areas.result c.in-Ok-Some.ensures.faults c.in-Ok-Some.ensures.read_faults

@@ -1,9 +1,14 @@
-use Rattle.std.proofs.Common.{◌∙◌, sym, arith}
+use Rattle.std.proofs.Common.{◌≡◌, ◌∙◌, ℕ, List, [], ◌∷◌, ap, sym, subst, arith, inl}
+use Rattle.bb_base.specs.Faults.{one_more}
 use Rattle.bb_base.specs.Form.{Form}
+use Rattle.bb_base.proofs.Counts.{one_more_rose}
 use Rattle.bb_flash.specs.Device.{Device}
 use Rattle.bb_bucket.specs.Kind.{BucketKind}
 use Rattle.bb_flash.proofs.Moments.{later_joined}
-use Rattle.bb_copies.proofs.Ends.{ends_read_as, not_ok, ok_gives, voided_dead, written_good_as}
+use Rattle.bb_copies.specs.Erasing.{IsBounded}
+use Rattle.bb_copies.specs.Settling.{IsWritten, twice_more}
+use Rattle.bb_copies.proofs.Bounded.{bounded_then, bounded_voided, bounded_written}
+use Rattle.bb_copies.proofs.Ends.{counts_read, ends_read_as, failed_once, no_look, not_failed, ok_gives, one_more_most, read_most, twice_most, twice_rose, voided_dead, written_good_as, written_once}
 use Rattle.bb_copies.proofs.OneCopy.{settles_joined_as, voided_copy, written_copy_as}
 use Rattle.bb_copies.proofs.settle.settle.Goals as goal
 
@@ -31,9 +36,10 @@ returns-then-is_ok-2-clause-ends g c =
     let mid : Device = g.F.Flash.device c.write.new.flash in
     let to : Device = g.F.Flash.device c.void.new.flash in
     let done = ok_gives c.void.result _ c.void.ensures.done (sym c.is_ok-2.ensures.value ∙ c.if-is_ok-2.true) in
-    let rose = c.write.ensures.faults.rose (not_ok c.write.result (sym c.is_ok.ensures.value ∙ c.if-is_ok.false)) in
-    let later = c.void.ensures.faults.later in
-    voided_dead form (g.B.Bucket.holding c.args.bucket.now).kind (g.B.Bucket.holding c.write.new.self).kind from mid to c.write.ensures.kind (g.met.B.Bucket.laws c.write.new.self) c.write.ensures.within.later c.void.ensures.within.later done (omega (arith, rose, later))
+    let once = failed_once c.write.result from.faults mid.faults (sym c.is_ok.ensures.value ∙ c.if-is_ok.false) c.write.ensures.faults in
+    let rose = one_more_rose from.faults in
+    let later = c.void.ensures.within.later.faults in
+    voided_dead form (g.B.Bucket.holding c.args.bucket.now).kind (g.B.Bucket.holding c.write.new.self).kind from mid to c.write.ensures.kind (g.met.B.Bucket.laws c.write.new.self) c.write.ensures.within.later c.void.ensures.within.later done (omega (arith, once, rose, later))
 
 pub returns-then-is_ok-2-clause-settles : goal.returns-then-is_ok-2-clause-settles
 returns-then-is_ok-2-clause-settles g c =
@@ -55,9 +61,11 @@ returns-clause-ends g c =
     let mid : Device = g.F.Flash.device c.write.new.flash in
     let void : Device = g.F.Flash.device c.void.new.flash in
     let to : Device = g.F.Flash.device c.read_back.new.flash in
-    let one = c.write.ensures.faults.rose (not_ok c.write.result (sym c.is_ok.ensures.value ∙ c.if-is_ok.false)) in
-    let two = c.void.ensures.faults.rose (not_ok c.void.result (sym c.is_ok-2.ensures.value ∙ c.if-is_ok-2.false)) in
-    ends_read_as form (g.B.Bucket.holding c.args.bucket.now).kind (g.B.Bucket.holding c.void.new.self).kind c.args.area.now from void to c.read_back.result (c.void.ensures.kind ∙ c.write.ensures.kind) (later_joined from mid void c.write.ensures.within.later c.void.ensures.within.later) (omega (arith, one, two)) c.read_back.ensures.settles.later c.read_back.ensures.ends
+    let once = failed_once c.write.result from.faults mid.faults (sym c.is_ok.ensures.value ∙ c.if-is_ok.false) c.write.ensures.faults in
+    let again = failed_once c.void.result mid.faults void.faults (sym c.is_ok-2.ensures.value ∙ c.if-is_ok-2.false) c.void.ensures.faults in
+    let twice : void.faults ≡ twice_more from.faults = again ∙ ap one_more once in
+    let rose = twice_rose from.faults in
+    ends_read_as form (g.B.Bucket.holding c.args.bucket.now).kind (g.B.Bucket.holding c.void.new.self).kind c.args.area.now from void to c.read_back.result (c.void.ensures.kind ∙ c.write.ensures.kind) (later_joined from mid void c.write.ensures.within.later c.void.ensures.within.later) (omega (arith, twice, rose)) c.read_back.ensures.settles.later c.read_back.ensures.ends
 
 pub returns-clause-settles : goal.returns-clause-settles
 returns-clause-settles g c =
@@ -82,17 +90,131 @@ pub returns-then-is_ok-2-clause-placed : goal.returns-then-is_ok-2-clause-placed
 returns-then-is_ok-2-clause-placed g c = λ other. ok_gives c.void.result _ c.void.ensures.placed (sym c.is_ok-2.ensures.value ∙ c.if-is_ok-2.true)
 
 pub returns-then-is_ok-clause-reads : goal.returns-then-is_ok-clause-reads
-returns-then-is_ok-clause-reads g c = λ placed quiet. c.write.ensures.reads placed
+returns-then-is_ok-clause-reads g c = λ quiet. c.write.ensures.reads c.requires.placed
 
 pub returns-then-is_ok-2-clause-reads : goal.returns-then-is_ok-2-clause-reads
-returns-then-is_ok-2-clause-reads g c = λ placed quiet.
-    let rose = c.write.ensures.faults.rose (not_ok c.write.result (sym c.is_ok.ensures.value ∙ c.if-is_ok.false)) in
-    let later = c.void.ensures.faults.later in
-    absurd (quiet (omega (arith, rose, later)))
+returns-then-is_ok-2-clause-reads g c = λ quiet.
+    let from : Device = g.F.Flash.device c.args.flash.now in
+    let mid : Device = g.F.Flash.device c.write.new.flash in
+    let once = failed_once c.write.result from.faults mid.faults (sym c.is_ok.ensures.value ∙ c.if-is_ok.false) c.write.ensures.faults in
+    let rose = one_more_rose from.faults in
+    let later = c.void.ensures.within.later.faults in
+    absurd (quiet (omega (arith, once, rose, later)))
 
 pub returns-clause-reads : goal.returns-clause-reads
-returns-clause-reads g c = λ placed quiet.
-    let rose = c.write.ensures.faults.rose (not_ok c.write.result (sym c.is_ok.ensures.value ∙ c.if-is_ok.false)) in
-    let void = c.void.ensures.faults.later in
+returns-clause-reads g c = λ quiet.
+    let from : Device = g.F.Flash.device c.args.flash.now in
+    let mid : Device = g.F.Flash.device c.write.new.flash in
+    let once = failed_once c.write.result from.faults mid.faults (sym c.is_ok.ensures.value ∙ c.if-is_ok.false) c.write.ensures.faults in
+    let rose = one_more_rose from.faults in
+    let void = c.void.ensures.within.later.faults in
     let last = c.read_back.ensures.settles.later.faults in
-    absurd (quiet (omega (arith, rose, void, last)))
+    absurd (quiet (omega (arith, once, rose, void, last)))
+
+pub returns-then-is_ok-clause-exact : goal.returns-then-is_ok-clause-exact
+returns-then-is_ok-clause-exact g c = λ quiet.
+    let from : Device = g.F.Flash.device c.args.flash.now in
+    let mid : Device = g.F.Flash.device c.write.new.flash in
+    let w = c.write.ensures in
+    let ok = sym c.is_ok.ensures.value ∙ c.if-is_ok.true in
+    let kind : BucketKind = (g.B.Bucket.holding c.args.bucket.now).kind in
+    subst (λ (r : List ℕ). IsWritten kind r from mid) c.deref.ensures.value
+    (written_once kind _ c.write.result from mid ok w.done w.erases w.made (not_failed c.write.result from.faults mid.faults ok w.faults) (no_look _ c.write.result from mid c.requires.placed w.read_faults))
+
+pub returns-then-is_ok-2-clause-exact : goal.returns-then-is_ok-2-clause-exact
+returns-then-is_ok-2-clause-exact g c = λ quiet.
+    let from : Device = g.F.Flash.device c.args.flash.now in
+    let mid : Device = g.F.Flash.device c.write.new.flash in
+    let once = failed_once c.write.result from.faults mid.faults (sym c.is_ok.ensures.value ∙ c.if-is_ok.false) c.write.ensures.faults in
+    let rose = one_more_rose from.faults in
+    let later = c.void.ensures.within.later.faults in
+    absurd (quiet (omega (arith, once, rose, later)))
+
+pub returns-clause-exact : goal.returns-clause-exact
+returns-clause-exact g c = λ quiet.
+    let from : Device = g.F.Flash.device c.args.flash.now in
+    let mid : Device = g.F.Flash.device c.write.new.flash in
+    let once = failed_once c.write.result from.faults mid.faults (sym c.is_ok.ensures.value ∙ c.if-is_ok.false) c.write.ensures.faults in
+    let rose = one_more_rose from.faults in
+    let void = c.void.ensures.within.later.faults in
+    let last = c.read_back.ensures.settles.later.faults in
+    absurd (quiet (omega (arith, once, rose, void, last)))
+
+pub returns-then-is_ok-clause-counts : goal.returns-then-is_ok-clause-counts
+returns-then-is_ok-clause-counts g c =
+    let from : Device = g.F.Flash.device c.args.flash.now in
+    let mid : Device = g.F.Flash.device c.write.new.flash in
+    let w = c.write.ensures in
+    let ok = sym c.is_ok.ensures.value ∙ c.if-is_ok.true in
+    let kind : BucketKind = (g.B.Bucket.holding c.args.bucket.now).kind in
+    inl (subst (λ (r : List ℕ). IsWritten kind r from mid) c.deref.ensures.value
+    (written_once kind _ c.write.result from mid ok w.done w.erases w.made (not_failed c.write.result from.faults mid.faults ok w.faults) (no_look _ c.write.result from mid c.requires.placed w.read_faults)))
+
+pub returns-then-is_ok-2-clause-counts : goal.returns-then-is_ok-2-clause-counts
+returns-then-is_ok-2-clause-counts g c =
+    let from : Device = g.F.Flash.device c.args.flash.now in
+    let mid : Device = g.F.Flash.device c.write.new.flash in
+    let void : Device = g.F.Flash.device c.void.new.flash in
+    let once = failed_once c.write.result from.faults mid.faults (sym c.is_ok.ensures.value ∙ c.if-is_ok.false) c.write.ensures.faults in
+    let ok = not_failed c.void.result mid.faults void.faults (sym c.is_ok-2.ensures.value ∙ c.if-is_ok-2.true) c.void.ensures.faults in
+    inl (record {
+      faults = ok ∙ once;
+      read_faults = c.void.ensures.read_faults ∙ no_look _ c.write.result from mid c.requires.placed c.write.ensures.read_faults;
+    })
+
+pub returns-clause-counts : goal.returns-clause-counts
+returns-clause-counts g c =
+    let from : Device = g.F.Flash.device c.args.flash.now in
+    let mid : Device = g.F.Flash.device c.write.new.flash in
+    let void : Device = g.F.Flash.device c.void.new.flash in
+    let to : Device = g.F.Flash.device c.read_back.new.flash in
+    let once = failed_once c.write.result from.faults mid.faults (sym c.is_ok.ensures.value ∙ c.if-is_ok.false) c.write.ensures.faults in
+    let again = failed_once c.void.result mid.faults void.faults (sym c.is_ok-2.ensures.value ∙ c.if-is_ok-2.false) c.void.ensures.faults in
+    counts_read (g.B.Bucket.holding c.args.bucket.now).kind c.args.room.now.record.items from void to c.read_back.result
+    (record {
+      faults = again ∙ ap one_more once;
+      read_faults = c.void.ensures.read_faults ∙ no_look _ c.write.result from mid c.requires.placed c.write.ensures.read_faults;
+    })
+    c.read_back.ensures.counts
+
+pub returns-then-is_ok-clause-bounds : goal.returns-then-is_ok-clause-bounds
+returns-then-is_ok-clause-bounds g c =
+    let from : Device = g.F.Flash.device c.args.flash.now in
+    let mid : Device = g.F.Flash.device c.write.new.flash in
+    let w = c.write.ensures in
+    let kind : BucketKind = (g.B.Bucket.holding c.args.bucket.now).kind in
+    let calm = not_failed c.write.result from.faults mid.faults (sym c.is_ok.ensures.value ∙ c.if-is_ok.true) w.faults in
+    subst (λ (r : List ℕ). IsBounded (kind ∷ []) r from mid) c.deref.ensures.value
+    (bounded_written kind _ c.write.result from mid w.made (omega (arith, calm)))
+
+pub returns-then-is_ok-2-clause-bounds : goal.returns-then-is_ok-2-clause-bounds
+returns-then-is_ok-2-clause-bounds g c =
+    let from : Device = g.F.Flash.device c.args.flash.now in
+    let mid : Device = g.F.Flash.device c.write.new.flash in
+    let void : Device = g.F.Flash.device c.void.new.flash in
+    let w = c.write.ensures in
+    let v = c.void.ensures in
+    let kind : BucketKind = (g.B.Bucket.holding c.args.bucket.now).kind in
+    let once = failed_once c.write.result from.faults mid.faults (sym c.is_ok.ensures.value ∙ c.if-is_ok.false) w.faults in
+    let ok = not_failed c.void.result mid.faults void.faults (sym c.is_ok-2.ensures.value ∙ c.if-is_ok-2.true) v.faults in
+    let most = one_more_most from.faults in
+    subst (λ (r : List ℕ). IsBounded (kind ∷ []) r from void) c.deref.ensures.value
+    (bounded_voided kind _ _ c.write.result c.void.result from mid void w.within.later w.made v.made (omega (arith, once, ok, most)))
+
+pub returns-clause-bounds : goal.returns-clause-bounds
+returns-clause-bounds g c =
+    let from : Device = g.F.Flash.device c.args.flash.now in
+    let mid : Device = g.F.Flash.device c.write.new.flash in
+    let void : Device = g.F.Flash.device c.void.new.flash in
+    let to : Device = g.F.Flash.device c.read_back.new.flash in
+    let w = c.write.ensures in
+    let v = c.void.ensures in
+    let kind : BucketKind = (g.B.Bucket.holding c.args.bucket.now).kind in
+    let once = failed_once c.write.result from.faults mid.faults (sym c.is_ok.ensures.value ∙ c.if-is_ok.false) w.faults in
+    let again = failed_once c.void.result mid.faults void.faults (sym c.is_ok-2.ensures.value ∙ c.if-is_ok-2.false) v.faults in
+    let twice : void.faults ≡ twice_more from.faults = again ∙ ap one_more once in
+    let most = twice_most from.faults in
+    let last = read_most void to c.read_back.result c.read_back.ensures.counts in
+    bounded_then (kind ∷ []) c.args.room.now.record.items from void to (later_joined from mid void w.within.later v.within.later) c.read_back.ensures.quiet (omega (arith, twice, most, last))
+    (subst (λ (r : List ℕ). IsBounded (kind ∷ []) r from void) c.deref.ensures.value
+    (bounded_voided kind _ _ c.write.result c.void.result from mid void w.within.later w.made v.made (omega (arith, twice, most))))

@@ -1,9 +1,11 @@
-use Rattle.std.proofs.Common.{◌≡◌, ◌∙◌, ℕ, List, length, ap, sym, subst, arith}
+use Rattle.std.proofs.Common.{◌≡◌, ◌∙◌, ℕ, List, length, ap, sym, subst, arith, rules}
 use Rattle.bb_base.specs.Form.{Form}
+use Rattle.bb_flash.specs.Device.{Device}
 use Rattle.bb_bucket.specs.Kind.{BucketKind}
 use Rattle.bb_copies.specs.Buckets.{AllFit, HaveRoom, kinds_of}
+use Rattle.bb_copies.specs.Erasing.{IsBounded}
 use Rattle.bb_copies.specs.Loading.{KeepsOutside}
-use Rattle.bb_copies.specs.Placing.{AllPlaced}
+use Rattle.bb_copies.proofs.Bounded.{none_bounded}
 use Rattle.bb_copies.proofs.Saves.{none_saved}
 use Rattle.bb_copies.proofs.copies.Copies.save.Goals as goal
 
@@ -33,16 +35,6 @@ pub returns-clause-outside : goal.returns-clause-outside
 returns-clause-outside g c =
     subst (λ (ks : List BucketKind). KeepsOutside ks (g.F.Flash.device c.args.flash.now) (g.F.Flash.device c.save_copies.new.flash)) (ap (λ store. kinds_of g.B.Bucket.holding store.buckets) c.self.view_is) c.save_copies.ensures.runs.outside
 
-pub returns-in_err-taken-clause-reads : goal.returns-in_err-taken-clause-reads
-returns-in_err-taken-clause-reads g c = λ all.
-    let same = ap (λ store. store.buckets) c.self.view_is in
-    c.save_copies.ensures.reads (subst (λ (bs : List g.row.B.Denot). AllPlaced g.B.Bucket.holding bs) (sym same) all)
-
-pub returns-clause-reads : goal.returns-clause-reads
-returns-clause-reads g c = λ all.
-    let same = ap (λ store. store.buckets) c.self.view_is in
-    c.save_copies.ensures.reads (subst (λ (bs : List g.row.B.Denot). AllPlaced g.B.Bucket.holding bs) (sym same) all)
-
 pub invariant_of-self-2 : goal.invariant_of-self-2
 invariant_of-self-2 g c =
     let k = c.save_copies.ensures in
@@ -60,4 +52,29 @@ invariant_of-self-2 g c =
       fits = subst (λ (n : ℕ). AllFit new n) (sym k.found) (subst (λ (ks : List BucketKind). AllFit ks (length c.self.inside.room.found.items)) (sym k.kinds) i.fits);
       record_fits = k.«record» ∙ i.record_fits;
       area_fits = k.scratch ∙ i.area_fits;
+      places = λ sure. c.in_ok-taken.ensures.placed;
     }
+
+pub returns-then-not-self-clause-bounds : goal.returns-then-not-self-clause-bounds
+returns-then-not-self-clause-bounds g c = none_bounded _ _ (g.F.Flash.device c.args.flash.now)
+
+pub returns-in_err-taken-clause-bounds : goal.returns-in_err-taken-clause-bounds
+returns-in_err-taken-clause-bounds g c =
+    let form : Form = g.M.Format.form c.self.inside.format in
+    let kinds : List BucketKind = kinds_of g.B.Bucket.holding c.args.self.now.buckets in
+    let from : Device = g.F.Flash.device c.args.flash.now in
+    let to : Device = g.F.Flash.device c.save_copies.new.flash in
+    subst (λ (f : Form). IsBounded kinds (f.text c.args.area.now) from to) (ap (λ store. g.M.Format.form store.format) c.self.view_is)
+    (subst (λ (ks : List BucketKind). IsBounded ks (form.text c.args.area.now) from to) (ap (λ store. kinds_of g.B.Bucket.holding store.buckets) c.self.view_is) c.save_copies.ensures.runs.bounded)
+
+pub returns-clause-bounds : goal.returns-clause-bounds
+returns-clause-bounds g c =
+    let form : Form = g.M.Format.form c.self.inside.format in
+    let kinds : List BucketKind = kinds_of g.B.Bucket.holding c.args.self.now.buckets in
+    let from : Device = g.F.Flash.device c.args.flash.now in
+    let to : Device = g.F.Flash.device c.save_copies.new.flash in
+    subst (λ (f : Form). IsBounded kinds (f.text c.args.area.now) from to) (ap (λ store. g.M.Format.form store.format) c.self.view_is)
+    (subst (λ (ks : List BucketKind). IsBounded ks (form.text c.args.area.now) from to) (ap (λ store. kinds_of g.B.Bucket.holding store.buckets) c.self.view_is) c.save_copies.ensures.runs.bounded)
+
+pub save_copies-requires-clause-placed : goal.save_copies-requires-clause-placed
+save_copies-requires-clause-placed g c = c.self.invariant.places (search rules)
