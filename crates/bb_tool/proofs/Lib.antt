@@ -1,6 +1,7 @@
 pub mod Barred
 pub mod BootTurns
 pub mod Booted
+pub mod Clauses
 pub mod Copies
 pub mod Early
 pub mod Endings

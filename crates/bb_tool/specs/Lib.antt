@@ -21,6 +21,7 @@ pub use Rattle.bb_state.specs.State
 pub use Rattle.bb_words.specs.Words
 pub mod Booting
 pub mod Calls
+pub mod Clauses
 pub mod Copying
 pub mod Ending
 pub mod Exactly

@@ -1,0 +1,85 @@
+-- The clauses of `run`: one lemma for each record, built of the lemmas on its facts.
+use Rattle.std.proofs.Common.{refl}
+use Rattle.std.specs.Prelude.{◌≤◌}
+use Rattle.bb_tool.specs.Calls.{IsSession, KeepsFiles, KeepsHistory, LeavesUnnamedFiles}
+use Rattle.bb_tool.specs.Clauses.{EndsEarly, KeepsTheCopies, KnowsItsCauses, LeavesTheRest, SendsTheSession, StartsTheBest, WorksUndisturbed}
+use Rattle.bb_tool.specs.Ran.{Ran}
+use Rattle.bb_tool.specs.declared.status.Status.TheVariants as statuses
+use Rattle.bb_tool.proofs.Endings.{at_exit, bad_words_of, beside, comes_alone, comes_planned, copy_of_fault, file_fault_of, front_of, no_memory_of, on_a_trail, read_fault_of, sink_fault_of, unasked_of, write_fault_of}
+use Rattle.bb_tool.proofs.Early.{early_memory_of, early_of}
+use Rattle.bb_tool.proofs.Exact.{alike_of, written_of}
+use Rattle.bb_tool.proofs.Faults.{unread_of, write_faults_of}
+use Rattle.bb_tool.proofs.InTurn.{boots_of}
+use Rattle.bb_tool.proofs.Starting.{rounds_of, start_causes_of, start_failed_of, start_faults_of, starts_of, starts_once_of, starts_saved_of}
+use Rattle.bb_tool.proofs.Tables.{no_good_of, no_target_of}
+use Rattle.bb_tool.proofs.Wholes.{undisturbed_alone_of, undisturbed_of}
+
+pub sends : (ran : Ran) → IsSession ran → SendsTheSession ran
+sends ran session = record {
+  session = session;
+  sink_fault_front = front_of ran session;
+}
+
+pub leaves : (ran : Ran) → IsSession ran → KeepsFiles ran → LeavesUnnamedFiles ran → KeepsHistory ran → LeavesTheRest ran
+leaves ran session files unread later = record {
+  files = files;
+  unread = unread;
+  later = later;
+  unasked = unasked_of ran session;
+}
+
+pub keeps : (ran : Ran) → IsSession ran → KeepsTheCopies ran
+keeps ran session = record {
+  exit = at_exit ran session;
+  trail = on_a_trail ran session;
+  outside = beside ran session;
+}
+
+pub undisturbed : (ran : Ran) → IsSession ran → WorksUndisturbed ran
+undisturbed ran session = record {
+  undisturbed = undisturbed_of ran session;
+  undisturbed_alone = undisturbed_alone_of ran session;
+  written = written_of ran session;
+  passes = alike_of ran session;
+}
+
+pub ends_early : (ran : Ran) → IsSession ran → LeavesUnnamedFiles ran → EndsEarly ran
+ends_early ran session unread = record {
+  early = early_of ran session unread;
+  early_memory = early_memory_of ran session;
+}
+
+pub starts : (ran : Ran) → IsSession ran → StartsTheBest ran
+starts ran session = record {
+  rounds = rounds_of ran session;
+  boots = boots_of ran session;
+  starts = starts_of ran session;
+  starts_once = starts_once_of ran session;
+  starts_saved = starts_saved_of ran session;
+  start_faults = start_faults_of ran session;
+}
+
+pub causes : (ran : Ran) → IsSession ran → KeepsFiles ran → KeepsHistory ran → ran.before.outlet.faults ≤ ran.after.outlet.faults → KnowsItsCauses ran
+causes ran session files later outlet = record {
+  bad_words = bad_words_of ran session;
+  file_missing = comes_planned ran session statuses.FileMissing refl (λ h. cc) (λ h. cc) (λ h. cc);
+  file_too_long = comes_planned ran session statuses.FileTooLong refl (λ h. cc) (λ h. cc) (λ h. cc);
+  file_fault = file_fault_of ran session files.faults;
+  bad_tree = comes_planned ran session statuses.BadTree refl (λ h. cc) (λ h. cc) (λ h. cc);
+  bad_layout = comes_planned ran session statuses.BadLayout refl (λ h. cc) (λ h. cc) (λ h. cc);
+  bad_layout_alone = comes_alone ran session statuses.BadLayout refl (λ h. cc) (λ h. cc);
+  bad_key = comes_planned ran session statuses.BadKey refl (λ h. cc) (λ h. cc) (λ h. cc);
+  bad_variable = comes_planned ran session statuses.BadVariable refl (λ h. cc) (λ h. cc) (λ h. cc);
+  bad_settings = comes_planned ran session statuses.BadSettings refl (λ h. cc) (λ h. cc) (λ h. cc);
+  read_fault = read_fault_of ran session later.read_faults;
+  read_fault_content = unread_of ran session;
+  write_fault = write_fault_of ran session later.faults;
+  write_fault_copy = copy_of_fault ran session;
+  write_fault_cause = write_faults_of ran session;
+  no_good = no_good_of ran session;
+  no_target = no_target_of ran session;
+  start_failed = start_failed_of ran session;
+  start_failed_cause = start_causes_of ran session;
+  sink_fault = sink_fault_of ran session outlet;
+  no_memory = no_memory_of ran session;
+}

@@ -1,0 +1,113 @@
+-- The clauses of `run`, in the order of its contract: each is a record of named facts about one
+-- call, and none of them names a command.
+use Rattle.bb_tool.specs.Calls.{AsksNothing, ComesByDevice, ComesByFiles, ComesByOutlet, ComesByPlan, ComesByPlanAlone, ComesByReads, ComesByTable, ComesByWords, CutsTheText, IsSession, IsUndisturbed, IsUndisturbedAlone, KeepsFiles, KeepsHistory, LeavesUnnamedFiles, NamesTheCopy, WantsMemory}
+use Rattle.bb_tool.specs.Copying.{KeepsATrail, KeepsAtExit, KeepsOthers, KnowsWriteFaults, LeavesUnread, MakesAlike, StopsAtFileFault, StopsBetweenSaves, WritesExactly}
+use Rattle.bb_tool.specs.Ran.{Ran}
+use Rattle.bb_tool.specs.Starting.{BootsInTurn, CountsFailedStarts, KnowsStartFaults, NamesTheTarget, RunsRounds, StartsAtMostOne, StartsBehindSave, StartsTheLast}
+use Rattle.bb_tool.specs.declared.status.Status.TheVariants as statuses
+
+-- what is sent, and the status
+pub record SendsTheSession (ran : Ran) : Type 0 where
+  -- those of the session, for what the files and the device answered; or memory was refused
+  pub session : IsSession ran
+  -- where the output failed, some front of the session's text was sent
+  pub sink_fault_front : CutsTheText ran
+
+-- what stays
+pub record LeavesTheRest (ran : Ran) : Type 0 where
+  -- no file is changed, and the files' count of faults never falls
+  pub files : KeepsFiles ran
+  -- words that name no file read none
+  pub unread : LeavesUnnamedFiles ran
+  -- what came before on the device stands in front of what this session did
+  pub later : KeepsHistory ran
+  -- a refusal that comes before the work on the device comes without any call of it
+  pub unasked : AsksNothing ran
+
+-- what became of the copies, whatever failed
+pub record KeepsTheCopies (ran : Ran) : Type 0 where
+  -- at exit they stand for what the session's turn makes of the list
+  pub exit : KeepsAtExit ran
+  -- each image on the way stands for a stage that was reached, or for a later one
+  pub trail : KeepsATrail ran
+  -- outside of them nothing changes, in any image
+  pub outside : KeepsOthers ran
+
+-- where nothing failed
+pub record WorksUndisturbed (ran : Ran) : Type 0 where
+  -- text and status are those of the session over what the files and the device hold
+  pub undisturbed : IsUndisturbed ran
+  -- so they are over any files, where the words name none
+  pub undisturbed_alone : IsUndisturbedAlone ran
+  -- each copy holds, to the byte, what the load and the saves make of it
+  pub written : WritesExactly ran
+  -- every copy passes the area that was loaded or saved last
+  pub passes : MakesAlike ran
+
+-- sessions that end early
+pub record EndsEarly (ran : Ran) : Type 0 where
+  -- where a file met a fault, no call of the device was made
+  pub early : StopsAtFileFault ran
+  -- where memory was refused, none was made, or each save that was begun answered Ok
+  pub early_memory : StopsBetweenSaves ran
+
+-- what is started
+pub record StartsTheBest (ran : Ran) : Type 0 where
+  -- each round of a boot is of the best target, and spends one of its attempts
+  pub rounds : RunsRounds ran
+  -- a boot is one of those whose starts `law_attempts` bounds
+  pub boots : BootsInTurn ran
+  -- a start is made exactly where the last round made one, by the plan of its target
+  pub starts : StartsTheLast ran
+  -- whatever was answered, at most one is made
+  pub starts_once : StartsAtMostOne ran
+  -- where one was made, every copy passes the table of its round, or nothing
+  pub starts_saved : StartsBehindSave ran
+  -- the count of failed starts rose by the rounds that failed although their target has a plan
+  pub start_faults : CountsFailedStarts ran
+
+-- Each answer but `Done` and its cause, in the order of a session. A failing output and refused
+-- memory come before each of the others. A fault of the files comes before what a plan brings.
+pub record KnowsItsCauses (ran : Ran) : Type 0 where
+  -- BadWords comes exactly where the words are no command
+  pub bad_words : ComesByWords statuses.BadWords ran
+  -- FileMissing comes exactly where the plan over files that are told brings it
+  pub file_missing : ComesByPlan statuses.FileMissing ran
+  -- so does FileTooLong
+  pub file_too_long : ComesByPlan statuses.FileTooLong ran
+  -- FileFault comes only where the files' count of faults rose
+  pub file_fault : ComesByFiles statuses.FileFault ran
+  -- BadTree comes exactly where the plan over files that are told brings it
+  pub bad_tree : ComesByPlan statuses.BadTree ran
+  -- so does BadLayout
+  pub bad_layout : ComesByPlan statuses.BadLayout ran
+  -- where the words name no file, BadLayout comes exactly where the plan brings it, over any files
+  pub bad_layout_alone : ComesByPlanAlone statuses.BadLayout ran
+  -- BadKey comes exactly where the plan over files that are told brings it
+  pub bad_key : ComesByPlan statuses.BadKey ran
+  -- so does BadVariable
+  pub bad_variable : ComesByPlan statuses.BadVariable ran
+  -- so does BadSettings
+  pub bad_settings : ComesByPlan statuses.BadSettings ran
+  -- ReadFault comes only where the device's count of failed reads rose
+  pub read_fault : ComesByReads statuses.ReadFault ran
+  -- and then the device holds what it held at entry
+  pub read_fault_content : LeavesUnread ran
+  -- WriteFault comes only where the device's count of faults rose
+  pub write_fault : ComesByDevice statuses.WriteFault ran
+  -- and names one of the layout's copies
+  pub write_fault_copy : NamesTheCopy ran
+  -- which it names for one of four causes
+  pub write_fault_cause : KnowsWriteFaults ran
+  -- NoGood comes, but for faults, exactly where the table at entry has no target to be marked good
+  pub no_good : ComesByTable statuses.NoGood ran
+  -- NoTarget comes, but for faults, exactly where no target qualifies in the table at entry
+  pub no_target : ComesByTable statuses.NoTarget ran
+  -- StartFailed names a target
+  pub start_failed : NamesTheTarget ran
+  -- which has no plan, or a start failed
+  pub start_failed_cause : KnowsStartFaults ran
+  -- SinkFault comes only where the output's count of faults rose
+  pub sink_fault : ComesByOutlet statuses.SinkFault ran
+  -- with NoMemory nothing else is told, and no call of the device was made or all work was done
+  pub no_memory : WantsMemory ran
