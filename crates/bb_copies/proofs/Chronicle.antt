@@ -6,8 +6,8 @@ use Rattle.std.proofs.lemmas.List.Elements.{All-from_recursion}
 use Rattle.std.proofs.lemmas.List.Kept.{AllPairs-cons}
 use Rattle.std.proofs.lemmas.Option.{none-some, same_Some}
 use Rattle.bb_copies.specs.StandsFor.{picked}
-use Rattle.bb_copies.specs.Chronicle.{BlankLaw, Chronicle, ChronicleLaw, Content, EachLoad, Entry, Event, Finished, CutOff, Decayed, Follows, IsAfterDecay, IsGiven, IsSaved, IsStanding, Outlives, Step, Turn, Untouched, Looked, Unloaded, Loaded, contents_of, loaded_in, place_of}
-use Rattle.bb_copies.proofs.History.{blank_stands, decayed, picked_holds, picked_inside, picked_is_first}
+use Rattle.bb_copies.specs.Chronicle.{Chronicle, ChronicleLaw, Content, EachLoad, Entry, Event, Finished, CutOff, Decayed, Follows, IsAfterDecay, IsGiven, IsSaved, IsStanding, Outlives, Step, Turn, Untouched, Looked, Unloaded, Loaded, contents_of, loaded_in, place_of}
+use Rattle.bb_copies.proofs.History.{decayed, picked_holds, picked_inside, picked_is_first}
 
 take_within : {X : Type 0} (n m : ℕ) (xs : List X) → n ≤ m → take n (take m xs) ≡ take n xs
 take_within zero m xs low = refl
@@ -173,6 +173,3 @@ nothing_lost first before entries stands chronicle =
       outlives = all_outlive first before entries stands chronicle;
       loads = each_given first before entries stands chronicle;
     }
-
-pub blank_alone : BlankLaw
-blank_alone first passed none = blank_stands first passed none

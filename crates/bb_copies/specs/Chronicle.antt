@@ -2,7 +2,7 @@
 -- nothing acknowledged is lost. Areas are listed from the oldest on.
 use Rattle.std.specs.Prelude.{◌≡◌, ℕ, ◌+◌, ◌≤◌, ⊤, List, [], ◌∷◌, ◌++◌, length, take, map, All}
 use Rattle.std.specs.Prelude.{AllPairs, slice_get, Option, Some, None, IsSome}
-use Rattle.bb_copies.specs.StandsFor.{Decay, SomePasses, Stands, StandsFor, first_passed}
+use Rattle.bb_copies.specs.StandsFor.{Decay, StandsFor, first_passed}
 use Rattle.bb_copies.specs.StandsFor.{marks_left, picked}
 
 -- a content of the copies: what each passes, and what it stands for, which are the areas, the place
@@ -150,10 +150,3 @@ ChronicleLaw =
     IsStanding first before →
     Chronicle first before entries →
     KeepsAcknowledged first before entries
-
--- a device where no copy passes stands for the first area alone
-abbrev pub BlankLaw : Type 0
-BlankLaw =
-    (first : List ℕ) (passed : List (Option (List ℕ))) →
-    (SomePasses passed → ⊥) →
-    Stands first passed (first ∷ []) 0

@@ -4,13 +4,14 @@ use Rattle.std.specs.Option.{ForSome}
 use Rattle.bb_copies.specs.Chronicle.{Content, Finished, Follows, IsStanding, Loaded, Looked, Turn, Unloaded, Untouched}
 use Rattle.bb_copies.specs.Cutting.{turn_stages}
 use Rattle.bb_copies.specs.Luck.{IsLucky}
-use Rattle.bb_copies.specs.StandsFor.{picked}
+use Rattle.bb_copies.specs.StandsFor.{Stands, picked}
 use Rattle.bb_copies.specs.Trail.{IsTrail, Milestone, Stage, milestone_of, session_trail, stages_in}
 use Rattle.bb_flash.specs.Counted.{Counts, IsFair}
 use Rattle.bb_flash.specs.Device.{Device, Told, moment}
 use Rattle.bb_flash.specs.Image.{Image}
 use Rattle.bb_layout.specs.Defaults.{defaults_of}
 use Rattle.bb_layout.specs.Layout.{Laid}
+use Rattle.bb_state.specs.Blank.{IsErased}
 use Rattle.bb_state.specs.Keyed.{Keyed}
 use Rattle.bb_tool.specs.Looking.{passed_in}
 use Rattle.bb_shell.specs.Counting.{turn_of_rounds}
@@ -23,6 +24,14 @@ use Rattle.bb_tool.specs.Work.{IsLoaded}
 -- the area that an empty device stands for
 abbrev pub first_area : Laid → List ℕ
 first_area layout = defaults_of layout.area_len layout.vars
+
+-- a device that holds 0xFF alone, in pages of any health, stands for that area alone, for every
+-- layout, key and format
+abbrev pub BlankLaw : Type 0
+BlankLaw =
+    (keyed : Keyed) (page : ℕ) (image : Image) → IsErased image →
+    Stands (first_area keyed.layout) (passed_in keyed page image)
+    (first_area keyed.layout ∷ []) 0
 
 -- ---- the turn of a session
 

@@ -1,8 +1,18 @@
-use Rattle.bb_copies.proofs.Chronicle.{blank_alone, nothing_lost}
+use Rattle.bb_copies.proofs.Chronicle.{nothing_lost}
+use Rattle.bb_copies.proofs.Cutting.{cut_law}
+use Rattle.bb_copies.proofs.History.{blank_stands}
+use Rattle.bb_state.proofs.Blank.{erased_passes_nothing}
+use Rattle.bb_tool.specs.Looking.{passed_in}
+use Rattle.bb_tool.specs.Turns.{first_area}
 use Rattle.bb_tool.proofs.law.law_chronicle.Goals as goal
 
 pub returns-clause-kept : goal.returns-clause-kept
 returns-clause-kept c = nothing_lost
 
 pub returns-clause-blank : goal.returns-clause-blank
-returns-clause-blank c = blank_alone
+returns-clause-blank c = λ keyed page image erased.
+    blank_stands (first_area keyed.layout) (passed_in keyed page image)
+    (erased_passes_nothing keyed page image erased)
+
+pub returns-clause-cut : goal.returns-clause-cut
+returns-clause-cut c = cut_law
