@@ -6,7 +6,7 @@ use Rattle.bb_base.specs.Form.{Form}
 use Rattle.bb_flash.specs.Cuts.{IsLater}
 use Rattle.bb_flash.specs.Device.{Device, IsDevice, LeavesStarts}
 use Rattle.bb_bucket.specs.Kind.{BucketKind}
-use Rattle.bb_copies.specs.Erasing.{ErasesBy}
+use Rattle.bb_copies.specs.Erasing.{ErasesBy, IsBounded}
 use Rattle.bb_copies.specs.Loading.{KeepsOutside, LoadFails, LoadGives, LoadImages, LoadsErasing, LoadsExactly, LookGives}
 use Rattle.bb_copies.specs.Saving.{EachWritten, IsSaved, SaveFails, SaveImages, SaveRuns}
 use Rattle.bb_copies.specs.declared.answers.CopyFault.{CopyFault}
@@ -105,13 +105,16 @@ erased_of form kinds keyed table from to ef ek h =
 
 pub runs_of : (form : Form) (kinds : List BucketKind) (used : Option ℕ) (seen : Backed) (table : List ℕ) (from to : Device) →
     form ≡ form_in seen → kinds ≡ kinds_in seen → used ≡ seen.used →
-    SaveImages form kinds used table from to → KeepsOutside kinds from to → IsLater from to → LeavesStarts from to → IsDevice to →
+    SaveImages form kinds used table from to → IsBounded kinds (form.text table) from to → KeepsOutside kinds from to → IsLater from to → LeavesStarts from to → IsDevice to →
     SaveRuns (form_in seen) (kinds_in seen) seen.used table from to
-runs_of form kinds used seen table from to ef ek eu images outside later starts whole = record {
+runs_of form kinds used seen table from to ef ek eu images bounded outside later starts whole = record {
   images =
       subst (λ form. SaveImages form (kinds_in seen) seen.used table from to) ef
       (subst (λ kinds. SaveImages form kinds seen.used table from to) ek
       (subst (λ used. SaveImages form kinds used table from to) eu images));
+  bounded =
+      subst (λ (form : Form). IsBounded (kinds_in seen) (form.text table) from to) ef
+      (subst (λ kinds. IsBounded kinds (form.text table) from to) ek bounded);
   outside = subst (λ kinds. KeepsOutside kinds from to) ek outside;
   later = later;
   starts = starts;

@@ -14,7 +14,7 @@ pub record Backed : Type 0 where
   pub buckets : List AnyBucket
   -- the first copy that passed the table that was last loaded or saved, if any did
   pub used : Option ℕ
-  -- whether the last load or save answered Ok
+  -- whether the last load or save answered Ok, and no look failed since
   pub sure : Bool
   -- the table that it loaded or saved
   pub kept : List ℕ

@@ -39,7 +39,7 @@ kept_of state = state.backing.kept
 abbrev pub used_of : State → Option ℕ
 used_of state = state.backing.used
 
--- whether the last load or save answered Ok
+-- whether the last load or save answered Ok, and no look failed since
 abbrev pub is_sure : State → Bool
 is_sure state = state.backing.sure
 

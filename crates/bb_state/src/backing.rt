@@ -1,7 +1,7 @@
-ghost use Rattle.std.specs.Prelude.{◌≡◌, ◌<◌, ◌&&◌, ◌↔◌, IfErr, IfOk, IsErr, IsErrOf, IsTrue, OnOk};
-ghost use Rattle.std.specs.Prelude.{false, is_ok, length};
+ghost use Rattle.std.specs.Prelude.{◌≡◌, ◌<◌, ◌&&◌, ◌↔◌, IfErr, IfOk, IsErrOf, IsTrue, OnOk};
+ghost use Rattle.std.specs.Prelude.{false, is_err, is_ok, length};
 ghost use Rattle.std.specs.Str.{bytes_eq};
-ghost use Rattle.bb_base.specs.Faults.{HasCause};
+ghost use Rattle.bb_base.specs.Faults.{counted};
 ghost use Rattle.bb_flash.specs.Cuts.{IsLater};
 ghost use Rattle.bb_flash.specs.Device.{Device, IsDevice, LeavesStarts};
 ghost use Rattle.bb_bucket.specs.Calls.{IsQuiet};
@@ -163,8 +163,7 @@ impl Backing {
         ensures keyed { self.new.keyed ≡ self.old.keyed }
         ensures agrees { AllAgree any_holding (F.device flash.new) self.new.buckets }
         ensures placed { OnOk result (AllPlaced any_holding self.new.buckets) }
-        ensures reads { AllPlaced any_holding self.old.buckets
-            → ReadsNothing (F.device flash.old) (F.device flash.new) }
+        ensures reads { ReadsNothing (F.device flash.old) (F.device flash.new) }
         ensures kept { OnOk result (self.new.kept ≡ table.now) }
         ensures sure { self.new.sure ≡ is_ok result }
     {
@@ -173,7 +172,8 @@ impl Backing {
         Ok(())
     }
 
-    /// Whether a copy passes, and then the area of the first. Nothing changes.
+    /// Whether a copy passes, and then the area of the first. Nothing changes on the device. Where
+    /// a copy couldn't be read the copies are unsure.
     pub(crate) fn look<F: Flash>(
         &mut self,
         flash: &mut F,
@@ -187,16 +187,16 @@ impl Backing {
             (F.device flash.old)) }
         ensures fails { IfErr result (λ fault. fault ≡ ReadFault) }
         ensures quiet { IsQuiet (F.device flash.old) (F.device flash.new) }
-        ensures faults { HasCause (F.device flash.old).faults (F.device flash.new).faults
-            (IsErr result) }
-        ensures read_faults { HasCause (F.device flash.old).read_faults
-            (F.device flash.new).read_faults (IsErr result) }
+        ensures faults { (F.device flash.new).faults
+            ≡ counted (is_err result) (F.device flash.old).faults }
+        ensures read_faults { (F.device flash.new).read_faults
+            ≡ counted (is_err result) (F.device flash.old).read_faults }
         ensures keyed { self.new.keyed ≡ self.old.keyed }
         ensures agrees { AllAgree any_holding (F.device flash.new) self.new.buckets }
         ensures placed { OnOk result
             (AllPlaced any_holding self.old.buckets → AllPlaced any_holding self.new.buckets) }
         ensures used { self.new.used ≡ self.old.used }
-        ensures sure { self.new.sure ≡ self.old.sure }
+        ensures sure { self.new.sure ≡ (self.old.sure && is_ok result) }
         ensures kept { self.new.kept ≡ self.old.kept }
     {
         self.copies.look(flash, area)

@@ -27,10 +27,10 @@ pub struct State {
 }
 
 impl State {
-    ghost use Rattle.std.specs.Prelude.{◌≡◌, ◌↔◌, ◌++◌, IfErr, IfOk, IsErr, IsErrOf, IsOk};
-    ghost use Rattle.std.specs.Prelude.{None, Ok, OnErr, OnOk, Some, false, is_ok, length, true};
+    ghost use Rattle.std.specs.Prelude.{◌≡◌, ◌&&◌, ◌↔◌, ◌++◌, IfErr, IfOk, IsErrOf, IsOk, None};
+    ghost use Rattle.std.specs.Prelude.{Ok, OnErr, OnOk, Some, false, is_err, is_ok, length, true};
     ghost use Rattle.std.specs.Result.{result_map_both};
-    ghost use Rattle.bb_base.specs.Faults.{HasCause};
+    ghost use Rattle.bb_base.specs.Faults.{counted};
     ghost use Rattle.bb_flash.specs.Cuts.{IsLater};
     ghost use Rattle.bb_flash.specs.Device.{LeavesStarts};
     ghost use Rattle.bb_bucket.specs.Calls.{IsQuiet};
@@ -109,9 +109,8 @@ impl State {
 
     /// Saves the table to all copies, where it differs from the one last loaded or saved; after a
     /// load that found no copy that is the defaults. Otherwise it makes no call of the device.
-    /// Unsure, with no call and nothing changed, where no load answered Ok yet or the last load or
-    /// save was refused. Once a load or a save answered Ok, a save in which no call fails reads
-    /// nothing.
+    /// Unsure, with no call and nothing changed, where no load answered Ok yet or the last load,
+    /// save or look was refused. A save in which no call fails reads nothing.
     pub fn save<F: Flash>(&mut self, flash: &mut F) -> Result<(), CopyFault>
         requires { IsOn self.old (F.device flash.old) }
         ensures unsure { IsErrOf result Unsure ↔ (is_sure self.old ≡ false) }
@@ -141,8 +140,7 @@ impl State {
         ensures sure { is_sure self.new ≡ is_ok result }
         ensures on { IsOn self.new (F.device flash.new) }
         ensures placed { OnOk result (has_changed self.old ≡ true → IsPlaced self.new) }
-        ensures reads { IsPlaced self.old
-            → ReadsNothing (F.device flash.old) (F.device flash.new) }
+        ensures reads { ReadsNothing (F.device flash.old) (F.device flash.new) }
     {
         if self.backing.holds(self.table.bytes()) {
             return Ok(());
@@ -175,14 +173,14 @@ impl State {
         ensures sure { is_sure self.new ≡ is_ok result }
         ensures on { IsOn self.new (F.device flash.new) }
         ensures placed { OnOk result (IsPlaced self.new) }
-        ensures reads { IsPlaced self.old
-            → ReadsNothing (F.device flash.old) (F.device flash.new) }
+        ensures reads { ReadsNothing (F.device flash.old) (F.device flash.new) }
     {
         self.backing.save(flash, self.table.bytes())
     }
 
     /// Whether a copy passes, and then the area of the first in `area`, which has the layout's
-    /// length. It changes nothing on the device, nor the table, nor what is known of the copies.
+    /// length. It changes nothing on the device, nor the table. Where a copy couldn't be read what
+    /// the copies pass isn't known any more, and a save is refused as unsure.
     pub fn look<F: Flash>(&mut self, flash: &mut F, area: &mut [u8]) -> Result<bool, CopyFault>
         requires sized { length area.old ≡ (laid_of self.old).area_len }
         requires on { IsOn self.old (F.device flash.old) }
@@ -190,15 +188,15 @@ impl State {
             (F.device flash.old)) }
         ensures fails { IfErr result (λ fault. fault ≡ ReadFault) }
         ensures quiet { IsQuiet (F.device flash.old) (F.device flash.new) }
-        ensures faults { HasCause (F.device flash.old).faults (F.device flash.new).faults
-            (IsErr result) }
-        ensures read_faults { HasCause (F.device flash.old).read_faults
-            (F.device flash.new).read_faults (IsErr result) }
+        ensures faults { (F.device flash.new).faults
+            ≡ counted (is_err result) (F.device flash.old).faults }
+        ensures read_faults { (F.device flash.new).read_faults
+            ≡ counted (is_err result) (F.device flash.old).read_faults }
         ensures table { self.new.table ≡ self.old.table }
         ensures keyed { keyed_of self.new ≡ keyed_of self.old }
         ensures kept { kept_of self.new ≡ kept_of self.old }
         ensures used { used_of self.new ≡ used_of self.old }
-        ensures sure { is_sure self.new ≡ is_sure self.old }
+        ensures sure { is_sure self.new ≡ (is_sure self.old && is_ok result) }
         ensures on { IsOn self.new (F.device flash.new) }
         ensures placed { OnOk result (IsPlaced self.old → IsPlaced self.new) }
     {

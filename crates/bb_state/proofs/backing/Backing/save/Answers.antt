@@ -1,6 +1,5 @@
 use Rattle.std.proofs.Common.{◌≡◌, ◌∙◌, List, ap, subst, sym}
 use Rattle.bb_copies.specs.Buckets.{AllAgree, kinds_of}
-use Rattle.bb_copies.specs.Placing.{AllPlaced}
 use Rattle.bb_state.specs.Backed.{Backed}
 use Rattle.bb_state.specs.Kinds.{any_form, any_holding, laid_form, laid_kinds}
 use Rattle.bb_state.specs.declared.any_bucket.AnyBucket.{AnyBucket}
@@ -19,7 +18,7 @@ returns-in_err-save-clause-runs g c =
     let form : any_form c.self.inside.copies.format ≡ laid_form c.args.self.now.keyed = ap any_form c.self.invariant.format_is ∙ ap (λ (b : Backed). laid_form b.keyed) c.self.view_is in
     let used = ap (λ (b : Backed). b.used) c.self.view_is in
     let k = c.save.ensures in
-    runs_of _ _ _ c.args.self.now c.args.table.now _ _ form kinds used k.images k.outside k.later k.starts k.whole
+    runs_of _ _ _ c.args.self.now c.args.table.now _ _ form kinds used k.images k.bounds k.outside k.later k.starts k.whole
 
 pub returns-clause-runs : goal.returns-clause-runs
 returns-clause-runs g c =
@@ -27,7 +26,7 @@ returns-clause-runs g c =
     let form : any_form c.self.inside.copies.format ≡ laid_form c.args.self.now.keyed = ap any_form c.self.invariant.format_is ∙ ap (λ (b : Backed). laid_form b.keyed) c.self.view_is in
     let used = ap (λ (b : Backed). b.used) c.self.view_is in
     let k = c.save.ensures in
-    runs_of _ _ _ c.args.self.now c.args.table.now _ _ form kinds used k.images k.outside k.later k.starts k.whole
+    runs_of _ _ _ c.args.self.now c.args.table.now _ _ form kinds used k.images k.bounds k.outside k.later k.starts k.whole
 
 pub save-requires-clause-agreed : goal.save-requires-clause-agreed
 save-requires-clause-agreed g c =
@@ -41,16 +40,6 @@ returns-in_err-save-clause-fails g c =
     let used = ap (λ (b : Backed). b.used) c.self.view_is in
     raised _ c.from_residual.result c.in_err-save.field-0.0 c.from_residual.ensures.1
     (fails_of _ _ _ c.args.self.now c.args.table.now (g.F.Flash.device c.args.flash.now) (g.F.Flash.device c.save.new.flash) c.in_err-save.field-0.0 form kinds used c.in_err-save.ensures.fails)
-
-pub returns-in_err-save-clause-reads : goal.returns-in_err-save-clause-reads
-returns-in_err-save-clause-reads g c = λ placed.
-    let buckets : c.self.inside.copies.buckets ≡ c.args.self.now.buckets = ap (λ (b : Backed). b.buckets) c.self.view_is in
-    c.save.ensures.reads (subst (λ (buckets : List AnyBucket). AllPlaced any_holding buckets) (sym buckets) placed)
-
-pub returns-clause-reads : goal.returns-clause-reads
-returns-clause-reads g c = λ placed.
-    let buckets : c.self.inside.copies.buckets ≡ c.args.self.now.buckets = ap (λ (b : Backed). b.buckets) c.self.view_is in
-    c.save.ensures.reads (subst (λ (buckets : List AnyBucket). AllPlaced any_holding buckets) (sym buckets) placed)
 
 pub returns-clause-exact : goal.returns-clause-exact
 returns-clause-exact g c = λ quiet.
