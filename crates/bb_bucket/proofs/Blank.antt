@@ -14,7 +14,7 @@ taken : (m n : ℕ) → (n < m) ⊎ (m ≤ n) → IsErased (take m (replicate n 
 taken m n (inl past) = (
   n,
   take_all m (replicate n 255)
-  (let byte : ℕ = 255 in let len = length-replicate n byte in omega (arith, len)),
+      (let byte : ℕ = 255 in let len = length-replicate n byte in omega (arith, len)),
 )
 taken m n (inr fits) = (m, take-replicate m n 255 fits)
 

@@ -397,45 +397,45 @@ module _ (b : Binding) (cause : Cause) (plans : List (Option Plan)) (first : Lis
         unstarted = ap is_some by.unstarted;
       }
 
-  loaded : (place ok : ℕ) (saves : List (List ℕ)) (started : Option ℕ) → place ≡ picked before.marks →
-      IsBootBehind b cause plans before place saves ok started →
-      StandsAtOne first passed
-      (take (2 + length saves + ok)
-      (Entry ∷ stage (take (place + 1) before.areas) place ∷ stages_of (take (place + 1) before.areas) place saves)) → Cut
-  loaded place ok saves started given behind stands = at
-      (subst (StandsAtOne first passed)
-      (let count : 2 + length saves + ok ≡ suc (1 + length saves + ok) = omega arith in
-      ap (λ n. take n (Entry ∷ stage Given place ∷ stages_of Given place saves)) count) stands)
-    where
-      abbrev Given : List (List ℕ)
-      Given = take (place + 1) before.areas
+  module _ (place ok : ℕ) (saves : List (List ℕ)) (started : Option ℕ) (given : place ≡ picked before.marks)
+      (behind : IsBootBehind b cause plans before place saves ok started) where
+    abbrev Given : List (List ℕ)
+    Given = take (place + 1) before.areas
 
-      abbrev rounds : List Round
-      rounds = rounds_by b plans (first_table b cause true behind.table) behind.answers
+    abbrev rounds : List Round
+    rounds = rounds_by b plans (first_table b cause true behind.table) behind.answers
 
-      saves_is : saves ≡ saves_of behind.table rounds
-      saves_is = let e = behind.turn in cc
+    saves_is : saves ≡ saves_of behind.table rounds
+    saves_is = let e = behind.turn in cc
 
-      ok_is : ok ≡ made_of behind.table rounds
-      ok_is = let e = behind.turn in cc
+    ok_is : ok ≡ made_of behind.table rounds
+    ok_is = let e = behind.turn in cc
 
-      stages_are : take (1 + length saves + ok) (stage Given place ∷ stages_of Given place saves)
-          ≡ reached_by Given place (saving_rounds behind.table rounds)
-      stages_are =
-          ap (λ l. take (1 + length l + ok) (stage Given place ∷ stages_of Given place l)) saves_is
-          ∙ ap (λ n. take (1 + length (saves_of behind.table rounds) + n)
-          (stage Given place ∷ stages_of Given place (saves_of behind.table rounds))) ok_is
+    stages_are : take (1 + length saves + ok) (stage Given place ∷ stages_of Given place saves)
+        ≡ reached_by Given place (saving_rounds behind.table rounds)
+    stages_are =
+        ap (λ l. take (1 + length l + ok) (stage Given place ∷ stages_of Given place l)) saves_is
+        ∙ ap (λ n. take (1 + length (saves_of behind.table rounds) + n)
+        (stage Given place ∷ stages_of Given place (saves_of behind.table rounds))) ok_is
 
-      at : StandsAtOne first passed
-          (Entry ∷ take (1 + length saves + ok) (stage Given place ∷ stages_of Given place saves)) → Cut
-      at (inl here) = at_entry here
-      at (inr later) =
-          one_of first passed
-          (ReachedBy b plans (first_table b cause true behind.table) behind.table Given place) Cut
-          (reached_by Given place (saving_rounds behind.table rounds))
-          (all_reached b plans behind.answers (first_table b cause true behind.table) behind.table Given place)
-          (at_stage place behind.table given behind.table_is behind.sized)
-          (subst (StandsAtOne first passed) stages_are later)
+    at_one : StandsAtOne first passed
+        (Entry ∷ take (1 + length saves + ok) (stage Given place ∷ stages_of Given place saves)) → Cut
+    at_one (inl here) = at_entry here
+    at_one (inr later) =
+        one_of first passed
+        (ReachedBy b plans (first_table b cause true behind.table) behind.table Given place) Cut
+        (reached_by Given place (saving_rounds behind.table rounds))
+        (all_reached b plans behind.answers (first_table b cause true behind.table) behind.table Given place)
+        (at_stage place behind.table given behind.table_is behind.sized)
+        (subst (StandsAtOne first passed) stages_are later)
+
+    loaded : StandsAtOne first passed
+        (take (2 + length saves + ok) (Entry ∷ stage Given place ∷ stages_of Given place saves)) → Cut
+    loaded stands =
+        at_one
+        (subst (StandsAtOne first passed)
+        (let count : 2 + length saves + ok ≡ suc (1 + length saves + ok) = omega arith in
+        ap (λ n. take n (Entry ∷ stage Given place ∷ stages_of Given place saves)) count) stands)
 
 pub boot_cut_law : BootCutLaw
 boot_cut_law b cause plans first before Untouched passed given boots stands = unloaded b cause plans first before passed stands

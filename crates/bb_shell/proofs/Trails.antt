@@ -244,19 +244,16 @@ module _ (keyed : Keyed) where
             trail = trail_at behind (sym (same_moment from first here still));
           })
         where
-          abbrev tables : List (List ℕ)
-          tables = map (λ (r : Round). r.table) (saving_rounds round.table later)
-
           by_moment : (behind : TrailBy last device to next.0 h a (saving_rounds round.table later)) → moment next.0 ≡ moment first →
-              stages_in (trail_of h a (moment first) tables behind.answered) ≡ reached_by h a (saving_rounds round.table later)
+              stages_in (trail_of h a (moment first) (map (λ (r : Round). r.table) (saving_rounds round.table later)) behind.answered) ≡ reached_by h a (saving_rounds round.table later)
           by_moment behind same =
-              subst (λ n. stages_in (trail_of h a n tables behind.answered) ≡ reached_by h a (saving_rounds round.table later)) same
+              subst (λ n. stages_in (trail_of h a n (map (λ (r : Round). r.table) (saving_rounds round.table later)) behind.answered) ≡ reached_by h a (saving_rounds round.table later)) same
               behind.stages
 
           trail_at : (behind : TrailBy last device to next.0 h a (saving_rounds round.table later)) → moment next.0 ≡ moment first →
-              IsTrail (IsCounted keyed last) (moment last) First (trail_of h a (moment first) tables behind.answered)
+              IsTrail (IsCounted keyed last) (moment last) First (trail_of h a (moment first) (map (λ (r : Round). r.table) (saving_rounds round.table later)) behind.answered)
           trail_at behind same =
-              subst (λ n. IsTrail (IsCounted keyed last) (moment last) First (trail_of h a n tables behind.answered)) same behind.trail
+              subst (λ n. IsTrail (IsCounted keyed last) (moment last) First (trail_of h a n (map (λ (r : Round). r.table) (saving_rounds round.table later)) behind.answered)) same behind.trail
 
       refused_one : bytes_eq round.table kept ≡ false → is_refused round.outcome ≡ true →
           TrailBy last from to first h a (saving_rounds kept (round ∷ later))

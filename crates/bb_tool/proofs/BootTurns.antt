@@ -300,7 +300,6 @@ module _ (keyed : Keyed) (from mid to : Device) (first middle last : Told) (e : 
       (λ passed counted. since_entry passed counted later behind.stages)
       (weaker_trail (IsCountedHere keyed last) Since (moment last) First later same_counted behind.trail))
     where
-
       same_counted : (when : ℕ) (passed : List (Option (List ℕ))) → IsCounted keyed from.geometry.page last when passed →
           IsCountedHere keyed last when passed
       same_counted when passed counted =
