@@ -149,15 +149,14 @@ module _ (b : Binding) (plans : List (Option Plan)) where
       (λ (t : ℕ). followed_by b (round_by b plans table answer t)
       (rounds_by b plans (round_by b plans table answer t).table answers)) o []) e
 
+  none_behind : (round : Round) → followed_by b round (rounds_by b plans round.table []) ≡ round ∷ []
+  unfolding rounds_by
+  none_behind round = alone b round
+
   only_round : (table : List ℕ) (answer : RoundAnswer) (target : ℕ) → best_of b table ≡ Some target →
       rounds_by b plans table (answer ∷ []) ≡ round_by b plans table answer target ∷ []
-  only_round table answer target e = first_round table answer [] target e ∙ at
-    where
-      at : followed_by b (round_by b plans table answer target)
-          (rounds_by b plans (round_by b plans table answer target).table [])
-          ≡ round_by b plans table answer target ∷ []
-      unfolding rounds_by
-      at = alone b (round_by b plans table answer target)
+  only_round table answer target e =
+      first_round table answer [] target e ∙ none_behind (round_by b plans table answer target)
 
   abbrev refusing : RoundAnswer
   refusing = record { save = Some (WriteFault 0); starts = false }
@@ -288,9 +287,10 @@ module _ (b : Binding) (plans : List (Option Plan)) where
             (reached_here table kept h a, (reached_begun table kept h a target best e, tt)))
         at false e false f =
             subst (λ l. AllByRecursion (ReachedBy table kept h a) (reached_by h a l)) (sym (begun_saving kept Round0 [] e))
-            (subst (AllByRecursion (ReachedBy table kept h a)) (sym (made_stages h a Round0 [] f))
-            (reached_here table kept h a,
-            (reached_begun table kept h a target best e, (reached_made table kept h a target best e, tt))))
+            (subst (AllByRecursion (ReachedBy table kept h a)) (sym (made_stages h a Round0 [] f)) (
+              reached_here table kept h a,
+              (reached_begun table kept h a target best e, (reached_made table kept h a target best e, tt)),
+            ))
 
     -- one behind which others come
     more_reached : is_retried b Round0.outcome ≡ true → (rest : List Round) →
@@ -308,20 +308,23 @@ module _ (b : Binding) (plans : List (Option Plan)) where
             let saving = saving_rounds Round0.table rest in
             subst (λ l. AllByRecursion (ReachedBy table kept h a) (reached_by h a l)) (sym (begun_saving kept Round0 rest e))
             (subst (AllByRecursion (ReachedBy table kept h a))
-            (sym (made_stages h a Round0 saving (retried_saved b Round0.outcome retried)))
-            (reached_here table kept h a,
-            (reached_begun table kept h a target best e,
-            all_weaker (ReachedBy Round0.table Round0.table (h ++ Round0.table ∷ []) (a + 1)) (ReachedBy table kept h a)
-            (behind_made table kept answer target best retried e h a)
-            (reached_by (h ++ Round0.table ∷ []) (a + 1) saving) (later (h ++ Round0.table ∷ []) (a + 1)))))
+            (sym (made_stages h a Round0 saving (retried_saved b Round0.outcome retried))) (
+              reached_here table kept h a,
+              (
+                reached_begun table kept h a target best e,
+                all_weaker (ReachedBy Round0.table Round0.table (h ++ Round0.table ∷ []) (a + 1)) (ReachedBy table kept h a)
+                    (behind_made table kept answer target best retried e h a)
+                    (reached_by (h ++ Round0.table ∷ []) (a + 1) saving) (later (h ++ Round0.table ∷ []) (a + 1)),
+              ),
+            ))
+
+  unanswered : (table kept : List ℕ) (h : List (List ℕ)) (a : ℕ) → Reaches table kept h a (rounds_by b plans table [])
+  unfolding rounds_by
+  unanswered table kept h a = none_reached table kept h a
 
   all_reached : (answers : List RoundAnswer) (table kept : List ℕ) (h : List (List ℕ)) (a : ℕ) →
       Reaches table kept h a (rounds_by b plans table answers)
-  all_reached [] table kept h a = start
-    where
-      start : Reaches table kept h a (rounds_by b plans table [])
-      unfolding rounds_by
-      start = none_reached table kept h a
+  all_reached [] table kept h a = unanswered table kept h a
   all_reached (answer ∷ answers) table kept h a = at (best_of b table) refl
     where
       follow : (target : ℕ) → best_of b table ≡ Some target → (more : Bool) →
