@@ -1,5 +1,6 @@
 -- A device that holds 0xFF alone passes nothing, for every layout, key and format.
-use Rattle.std.proofs.Common.{◌≡◌, ℕ, Bool, false, List, [], ◌∷◌, Option, None, IsTrue, map, ap, refl, sym, subst, ◌∙◌}
+use Rattle.std.proofs.Common.{◌≡◌, ℕ, Bool, false, List, [], ◌∷◌, Option, None, map, ap, refl, sym, subst, ◌∙◌}
+use Rattle.std.proofs.lemmas.Bool.{false≢true}
 use Rattle.std.specs.Option.{is_some, option_and_then}
 use Rattle.std.specs.List.{list_any}
 use Rattle.bb_base.specs.Form.{Form}
@@ -50,6 +51,5 @@ none_passes form page (bucket ∷ buckets) image erased =
 pub erased_passes_nothing : (keyed : Keyed) (page : ℕ) (image : Image) → IsErased image →
     SomePasses (passings (laid_form keyed) page (laid_kinds keyed.layout) image) → ⊥
 erased_passes_nothing keyed page image erased some =
-    absurd
-    (subst IsTrue (none_passes (laid_form keyed) page (laid_buckets keyed.layout) image erased)
-    some)
+    let none = none_passes (laid_form keyed) page (laid_buckets keyed.layout) image erased in
+    absurd (false≢true (sym none ∙ some))
