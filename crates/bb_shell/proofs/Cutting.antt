@@ -1,5 +1,6 @@
 -- A boot that is cut at one of its stages has run rounds that lead there, and started nothing.
-use Rattle.std.proofs.Common.{◌≡◌, ℕ, zero, suc, ◌+◌, ◌-◌, ◌≤◌, Bool, true, false, IsSome, List, [], ◌∷◌, ◌++◌, Option, Some, None, ap, append_assoc, arith, cond, inl, inr, is_some, length, map, refl, sym, subst, ◌∙◌}
+use Rattle.std.proofs.Common.{◌≡◌, ℕ, zero, suc, ◌+◌, ◌-◌, ◌≤◌, Bool, true, false, IsSome, List, [], ◌∷◌, ◌++◌, ◌&&◌, Option, Some, None, ap, append_assoc, arith, cond, inl, inr, is_some, length, map, refl, sym, subst, ◌∙◌}
+use Rattle.std.proofs.lemmas.Bool.{false≢true}
 use Rattle.std.proofs.lemmas.List.{append-nil}
 use Rattle.std.specs.List.{AllByRecursion}
 use Rattle.std.specs.Option.{option_and_then, option_map_or}
@@ -60,11 +61,11 @@ retried_unstarted : (b : Binding) (outcome : Outcome) → is_retried b outcome �
 retried_unstarted b (Refused fault) e = refl
 retried_unstarted b Unplanned e = refl
 retried_unstarted b Failed e = refl
-retried_unstarted b Started e = absurd (none b.rules.retry e)
+retried_unstarted b Started e = absurd (false≢true (sym (none_and b.rules.retry) ∙ e))
   where
-    none : (retry : Bool) → cond retry false false ≡ true → ⊥
-    none true h = cc
-    none false h = cc
+    none_and : (retry : Bool) → (retry && false) ≡ false
+    none_and true = refl
+    none_and false = refl
 
 one_started : (round : Round) → is_started round.outcome ≡ false → target_started (round ∷ []) ≡ None
 one_started round e = ap (λ started. cond started (Some round.target) None) e
@@ -325,28 +326,31 @@ module _ (b : Binding) (plans : List (Option Plan)) where
   all_reached : (answers : List RoundAnswer) (table kept : List ℕ) (h : List (List ℕ)) (a : ℕ) →
       Reaches table kept h a (rounds_by b plans table answers)
   all_reached [] table kept h a = unanswered table kept h a
-  all_reached (answer ∷ answers) table kept h a = at (best_of b table) refl
+  all_reached (answer ∷ answers) table kept h a =
+      at (λ t h' a'. all_reached answers t t h' a') (best_of b table) refl
     where
-      follow : (target : ℕ) → best_of b table ≡ Some target → (more : Bool) →
+      follow : ((t : List ℕ) (h' : List (List ℕ)) (a' : ℕ) → Reaches t t h' a' (rounds_by b plans t answers)) →
+          (target : ℕ) → best_of b table ≡ Some target → (more : Bool) →
           is_retried b (round_by b plans table answer target).outcome ≡ more →
           Reaches table kept h a
           (followed_by b (round_by b plans table answer target)
           (rounds_by b plans (round_by b plans table answer target).table answers))
-      follow target best true e =
+      follow again target best true e =
           let round = round_by b plans table answer target in
           let rest = rounds_by b plans round.table answers in
           subst (Reaches table kept h a) (sym (goes_on b round rest e))
-          (more_reached table kept answer target best h a e rest (all_reached answers round.table round.table))
-      follow target best false e =
+          (more_reached table kept answer target best h a e rest (again round.table))
+      follow again target best false e =
           let round = round_by b plans table answer target in
           let rest = rounds_by b plans round.table answers in
           subst (Reaches table kept h a) (sym (ends_here b round rest e)) (last_reached table kept answer target best h a)
 
-      at : (o : Option ℕ) → best_of b table ≡ o → Reaches table kept h a (rounds_by b plans table (answer ∷ answers))
-      at None e = subst (Reaches table kept h a) (sym (no_round table answer answers e)) (none_reached table kept h a)
-      at (Some target) e =
+      at : ((t : List ℕ) (h' : List (List ℕ)) (a' : ℕ) → Reaches t t h' a' (rounds_by b plans t answers)) →
+          (o : Option ℕ) → best_of b table ≡ o → Reaches table kept h a (rounds_by b plans table (answer ∷ answers))
+      at again None e = subst (Reaches table kept h a) (sym (no_round table answer answers e)) (none_reached table kept h a)
+      at again (Some target) e =
           subst (Reaches table kept h a) (sym (first_round table answer answers target e))
-          (follow target e (is_retried b (round_by b plans table answer target).outcome) refl)
+          (follow again target e (is_retried b (round_by b plans table answer target).outcome) refl)
 
 -- ---- the law
 

@@ -155,7 +155,7 @@ module _ (keyed : Keyed) where
             later = later_refl from;
             stored = stored;
             at = at;
-            then = rest.known;
+            rest = rest.known;
           };
           stages = whole;
           trail =
@@ -177,7 +177,7 @@ module _ (keyed : Keyed) where
     later = later_joined one two known.begun early known.later;
     stored = known.stored;
     at = known.at;
-    then = known.then;
+    rest = known.rest;
   }
 
   -- ---- the rounds

@@ -1,7 +1,7 @@
 -- How far the saves of a boot came, and since when: what the copies stand for at its end, and in
 -- each image that a cut of power leaves on the way. It goes on after a load or a save that answered
 -- Ok, and another call's stages go on behind it.
-use Rattle.std.specs.Prelude.{◌≡◌, ℕ, ◌+◌, ⊥, List, [], ◌∷◌, ◌++◌, length, take, map, count_by, slice_get, not, Option, Some, if◌then◌else◌}
+use Rattle.std.specs.Prelude.{◌≡◌, ℕ, ◌+◌, List, [], ◌∷◌, ◌++◌, length, take, map, count_by, slice_get, not, Option, Some, if◌then◌else◌}
 use Rattle.std.specs.Option.{ForSome}
 use Rattle.std.specs.Str.{bytes_eq}
 use Rattle.bb_copies.specs.Luck.{IsLucky}
@@ -78,16 +78,16 @@ EachSettled keyed kept used from to P =
 -- ---- trails
 
 -- A save of this area answered Ok at this moment, after calls that may have come from a device on,
--- as `IsStored` knows it, and `Then` holds of the device that it left.
+-- as `IsStored` knows it, and `Next` holds of the device that it left.
 pub record IsAnswered (keyed : Keyed) (area : List ℕ) (from : Device) (when : ℕ)
-    (Then : Device → Type 0) : Type 0 where
+    (Next : Device → Type 0) : Type 0 where
   pub begun : Device
   pub done : Device
   pub used : Option ℕ
   pub later : IsLater from begun
   pub stored : IsStored keyed area used begun done
   pub at : ForSome done.told (λ told. moment told ≡ when)
-  pub then : Then done
+  pub rest : Next done
 
 -- From a device on saves of these areas answered Ok at these moments, one after another, or the
 -- first of them did, and this is the device at the end.
