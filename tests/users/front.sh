@@ -20,13 +20,13 @@ tool() {
 }
 
 # A conf file of these lines, the program's words in `said`, a line for each run, in place of a
-# program, and no other file. With the option `STUB_REFUSES` it ends with `STUB_STATUS`.
+# program, and no other file. Where its second word is `STUB_REFUSES` it ends with `STUB_STATUS`.
 furnish() {
   printf '%s\n' "$@" >conf
   cat >stub <<'END'
 #!/bin/sh
 { printf '<%s>' "$@"; echo; } >>said
-[ "$1" != "${STUB_REFUSES:-}" ] || { echo "fault of $1"; exit "$STUB_STATUS"; }
+[ "$2" != "${STUB_REFUSES:-}" ] || { echo why >&2; echo "fault of $2"; exit "$STUB_STATUS"; }
 END
   chmod 755 stub
 }
@@ -75,14 +75,18 @@ put_beside() {
   chmod 755 bbx
 }
 
-# asks STATUS TEXT ERROR WORD ..: runs the front over the program.
+# asks STATUS TEXT ERROR WORD ..: runs the front over the program. Beside the line of a fault the
+# program says a sentence.
 asks() {
   local status=$1 text=$2 error=$3
   shift 3
   "${shell[@]}" ./barebox-state "$@" >text 2>errors
   [ $? = "$status" ] || echo "  $*: another status than $status"
   printf '%s' "$text" | cmp - text || cat text
-  printf '%s' "$error" | cmp - errors || cat errors
+  case $error in
+    fault*) printf '%s' "$error" | cmp - <(grep -v '^bbx: ' errors) && [ "$(grep -c '^bbx: ' errors)" = 1 ] ;;
+    *) printf '%s' "$error" | cmp - errors ;;
+  esac || { echo "  $*: it says"; cat errors; }
 }
 
 # under_each_shell FUNCTION: calls it with `shell` for each POSIX shell that this machine has.
