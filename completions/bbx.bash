@@ -83,15 +83,34 @@ _bbx_files() {
   mapfile -t COMPREPLY < <(compgen -f -- "$word")
 }
 
+# Drops the options in front of the device from `words`, but for one that is still typed, and sets
+# `in_front` to the words with `-` that may stand there.
+_bbx_in_front() {
+  in_front=$'--explain\n--help\n--plan=\n--read-only\n--version'
+  while [ ${#words[@]} -gt 2 ]; do
+    case ${words[1]} in
+      --plan=?* | --explain | --read-only) ;;
+      *) return ;;
+    esac
+    in_front=$(grep -vxF -e "${words[1]%%=*}" -e "${words[1]%%=*}=" -e --help -e --version <<<"$in_front")
+    words=("${words[0]}" "${words[@]:2}")
+  done
+}
+
 _bbx() {
-  local words word=$2 before options=''
+  local words word=$2 before options='' in_front
   COMPREPLY=()
   _bbx_words
+  _bbx_in_front
   # What the current word is a value of: its own front up to a `=` or `:`, or the word before it.
   before=${words[-1]%"$word"}
   [ -n "$before" ] || before=${words[-2]}
   case ${#words[@]} in
-    2) _bbx_files; [[ $word != -* ]] || _bbx_answer '' <<<$'--help\n--version'; return ;;
+    2)
+      [[ $word != --p* ]] || compopt -o nospace
+      if [[ $word == -* ]]; then _bbx_answer '' <<<"$in_front"; else _bbx_files; fi
+      return
+      ;;
     3) compopt -o nospace; [[ ${words[2]} == *:* ]] || _bbx_answer '' <<<$'ov:\ner:'; return ;;
     4) _bbx_answer '' <<<$'raw\nstate\nmark-good\nboot'; return ;;
   esac

@@ -1,15 +1,18 @@
 # shellcheck shell=bash
-# What devices, faults, starts and pairs share: the program, a folder to work in, and checks that are counted.
+# What devices, faults, starts and pairs share: the program, a folder to work in, and checks that
+# are counted.
 #
-# A check is a function that says what is wrong and is silent where nothing is. Each has one line of output, and what
-# cannot be tried on this machine has one that says so. The last line is `N passed, N failed`.
+# A check is a function that says what is wrong and is silent where nothing is. Each has one line of
+# output, and what cannot be tried on this machine has one that says so. The last line is `N passed,
+# N failed`.
 set -u
 # shellcheck source=program.sh
 . "$(dirname "${BASH_SOURCE[0]}")/program.sh"
 work=$(cd "$(mktemp -d)" && pwd -P) || exit 1
 trap 'clear_up' EXIT
 
-# The record of the area `123456789` with the magic 0x12345678, behind its stride's front, as docs/FORMATS.md has it.
+# The record of the area `123456789` with the magic 0x12345678, behind its stride's front, as
+# docs/FORMATS.md has it.
 record='\xf3\xfd\x54\x23\x19\0\0\0\x78\x56\x34\x12\0\0\x09\0\x26\x39\xf4\xcb\x03\x2e\x3c\xdf123456789'
 # shellcheck disable=SC2034
 save=(raw 0x12345678 9 -s 313233343536373839)
@@ -40,9 +43,10 @@ finish() {
   [ "$failed" -eq 0 ]
 }
 
-# expect STATUS TEXT WORD ..: runs the program with these words, and says where status or text are others. It has 20
-# seconds. What stands in the array `under` runs it.
-under=()
+# expect STATUS TEXT WORD ..: runs the program with these words, and says where status or text are
+# others. It has 20 seconds. What stands in the array `under` runs it, and `sentence` is the line
+# that standard error has, if any.
+under=() sentence=''
 expect() {
   local wanted=$1 text=$2 status
   shift 2
@@ -50,7 +54,15 @@ expect() {
   status=$?
   [ "$status" = "$wanted" ] || echo "  status $status, not $wanted"
   printf '%s' "$text" | cmp -s - text || { echo "  printed:"; sed 's/^/    /' text; }
-  [ ! -s errors ] || { echo "  on standard error:"; sed 's/^/    /' errors; }
+  printf '%s' "${sentence:+$sentence$'\n'}" | cmp -s - errors || { echo "  on standard error:"; sed 's/^/    /' errors; }
+}
+
+# explains SENTENCE STATUS TEXT WORD ..: as expect, with --explain in front of the words, and this
+# line.
+explains() {
+  sentence="bbx: $1"
+  expect "$2" "$3" --explain "${@:4}"
+  sentence=''
 }
 
 # blank FILE SIZE: a file of that many bytes 0xFF.
@@ -73,7 +85,8 @@ same() {
   cmp "$1" "$2" 2>&1 | sed 's/^/  /'
 }
 
-# have COMMAND PACKAGE: whether there is such a command. Root installs it where a package manager is there for it.
+# have COMMAND PACKAGE: whether there is such a command. Root installs it where a package manager is
+# there for it.
 have() {
   command -v "$1" >/dev/null && return
   [ "$(id -u)" = 0 ] && command -v apt-get >/dev/null || return
@@ -82,7 +95,8 @@ have() {
   command -v "$1" >/dev/null
 }
 
-# attach FILE [OPTION ..]: makes the file a loop device, and prints its node, which is made where it is missing.
+# attach FILE [OPTION ..]: makes the file a loop device, and prints its node, which is made where it
+# is missing.
 attach() {
   local file=$1 node
   shift

@@ -2,10 +2,13 @@ ghost use Rattle.std.specs.Prelude.{◌≡◌, IsErrAnd, IsOk};
 ghost use Rattle.std.specs.IoError.{error_kind};
 ghost use Rattle.std.specs.declared.io.ErrorKind.TheVariants.{InvalidInput};
 
+use crate::filling::{fill, last_piece};
+use crate::place::folder_of;
 use std::alloc::Global;
-use std::fs::File;
-use std::io::{ErrorKind, Seek, SeekFrom, Write};
+use std::fs::{File, OpenOptions};
+use std::io::{ErrorKind, Write};
 use std::os::unix::fs::FileExt;
+use std::path::Path;
 use std::rt::Files;
 use std::{fs, io};
 
@@ -15,42 +18,106 @@ pub fn write_through(file: &File, at: u64, bytes: &[u8]) -> io::Result<()> {
     unless_uncached(file.sync_data())
 }
 
-/// Fills a range with 0xFF, and waits until it is on the disk.
-pub fn blank_through(file: &mut File, at: u64, len: u64) -> io::Result<()> {
-    file.seek(SeekFrom::Start(at))?;
-    fill(file, len)?;
+/// Fills a block, from the byte `start` up to `end`, with 0xFF, and waits until it is on the disk.
+/// The piece that holds its last byte other than 0xFF goes last, once all else is on the disk:
+/// writes that aren't waited for come to the disk in any order, and no cut between two of them may
+/// blank a log's newest entry and leave an older one.
+pub fn blank_through(file: &File, start: u64, end: u64) -> io::Result<()> {
+    let Some((first, past)) = last_piece(file, start, end) else {
+        return fill_through(file, start, end);
+    };
+    if start < first || past < end {
+        fill(file, start, first)?;
+        fill_through(file, past, end)?;
+    }
+    fill_through(file, first, past)
+}
+
+fn fill_through(file: &File, start: u64, end: u64) -> io::Result<()> {
+    fill(file, start, end)?;
     unless_uncached(file.sync_data())
 }
 
-/// Adds `len` bytes of 0xFF at the end, and waits until the whole file is on the disk.
-pub fn lengthen(file: &mut File, len: u64) -> io::Result<()> {
-    file.seek(SeekFrom::End(0))?;
-    fill(file, len)?;
+/// Fills a file of `len` bytes up to `size` with 0xFF, and waits until the whole file is on the
+/// disk.
+pub fn lengthen(file: &File, len: u64, size: u64) -> io::Result<()> {
+    fill(file, len, size)?;
     unless_uncached(file.sync_all())
 }
 
-/// Puts a file of these bytes in the place of the one at `path`, where there is one, and waits until it is on the disk.
-/// It is made at `new_path`, in the same folder. After a power cut the old file or the new one is at `path`, whole.
+/// Puts a file of these bytes in the place of the one at `path`, where there is one, and waits
+/// until it is on the disk. It is made at `new_path`, in the same folder. After a power cut the old
+/// file or the new one is at `path`, whole. Where this fails the new one is at neither path, unless
+/// the system doesn't remove it.
 pub fn replace<R: Files<File = File> + AllocGlobal>(
     rt: &R,
     path: &str,
     new_path: &str,
     bytes: &[u8],
 ) -> io::Result<()> {
-    let mut file = File::create(rt, new_path)?;
-    file.write_all(bytes)?;
-    unless_uncached(file.sync_all())?;
-    fs::rename(rt, new_path, path)?;
-    keep_name(rt, path)
+    make_new(rt, new_path, bytes)?;
+    let renamed = fs::rename(rt, new_path, path);
+    or_without(rt, new_path, renamed)?;
+    let kept = keep_folder(rt, path);
+    or_without(rt, path, kept)
 }
 
-/// Waits until the name of the file behind a path is on the disk, in the folder in which it stands
-/// behind all links.
+/// Makes a file of these bytes, and waits until they are on the disk. What stood at the path is
+/// removed before, and neither opened nor followed. Where this fails nothing stands there, unless
+/// the system doesn't remove it.
+pub fn make_new<R: Files<File = File>>(rt: &R, path: &str, bytes: &[u8]) -> io::Result<()> {
+    unless_missing(fs::remove_file(rt, path))?;
+    let mut file = OpenOptions::new()
+        .write(true)
+        .create_new(true)
+        .open(rt, path)?;
+    let written = write_whole(&mut file, bytes);
+    or_without(rt, path, written)
+}
+
+/// Removes the file at a path, and waits until its folder is on the disk.
+pub fn remove<R: Files<File = File> + AllocGlobal>(rt: &R, path: &str) -> io::Result<()> {
+    fs::remove_file(rt, path)?;
+    keep_folder(rt, path)
+}
+
+/// Waits until the name of the file at a path is on the disk, in the folder in which it stands once
+/// all links are followed.
 pub fn keep_name<R: Files<File = File> + AllocGlobal>(rt: &R, path: &str) -> io::Result<()> {
     let path = fs::canonicalize(rt, path)?;
     match path.parent() {
-        Some(folder) => unless_uncached(File::open(rt, folder)?.sync_all()),
+        Some(folder) => keep(rt, folder),
         None => Ok(()),
+    }
+}
+
+// Waits until the folder in which the name at a path's end stands is on the disk.
+fn keep_folder<R: Files<File = File> + AllocGlobal>(rt: &R, path: &str) -> io::Result<()> {
+    keep(rt, folder_of(rt, path)?.as_path())
+}
+
+fn keep<R: Files<File = File>>(rt: &R, folder: Path<'_>) -> io::Result<()> {
+    unless_uncached(File::open(rt, folder)?.sync_all())
+}
+
+fn write_whole(file: &mut File, bytes: &[u8]) -> io::Result<()> {
+    file.write_all(bytes)?;
+    unless_uncached(file.sync_all())
+}
+
+// The answer. Where it is an error, what stands at the path is removed.
+fn or_without<R: Files>(rt: &R, path: &str, answer: io::Result<()>) -> io::Result<()> {
+    if answer.is_err() {
+        let _ = fs::remove_file(rt, path);
+    }
+    answer
+}
+
+// The answer, but that a file that isn't there is no error.
+fn unless_missing(answer: io::Result<()>) -> io::Result<()> {
+    match answer {
+        Err(error) if error.kind() == ErrorKind::NotFound => Ok(()),
+        answer => answer,
     }
 }
 
@@ -64,16 +131,4 @@ fn unless_uncached(waited: io::Result<()>) -> io::Result<()>
         Err(error) if error.kind() == ErrorKind::InvalidInput => Ok(()),
         answer => answer,
     }
-}
-
-const FILLING_LEN: u64 = 4096;
-
-const FILLING: [u8; FILLING_LEN as usize] = [0xff; FILLING_LEN as usize];
-
-// Writes `len` bytes of 0xFF where the file stands.
-fn fill(file: &mut File, len: u64) -> io::Result<()> {
-    for _ in 0..len / FILLING_LEN {
-        file.write_all(&FILLING)?;
-    }
-    file.write_all(&FILLING[..(len % FILLING_LEN) as usize])
 }

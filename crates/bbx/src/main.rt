@@ -1,68 +1,130 @@
-//! The program: the real device file, the real files and standard output, handed to one session. Nothing stands
-//! on it.
+//! The program: the real device file, the real files and standard output, handed to one session.
+//! Nothing stands on it.
 #![tactic(auto)]
 
+mod act;
 mod command_line;
 mod device_file;
 mod disk;
+mod early;
+mod explain;
 mod file_board;
+mod filling;
+mod open_error;
 mod output;
+mod place;
 mod plan_file;
 mod read_ahead;
 mod real_files;
 mod usage;
 
-use bb_base::{NoMemory, Sink};
+use act::{act, exit_code, tell_early};
+use bb_base::{NoMemory, TextList};
 use bb_flash::geometry_of;
-use bb_tool::{Status, run, tell_fault, tell_text};
-use command_line::{CommandLine, LineError};
-use device_file::OpenError;
+use bb_tool::Status;
+use command_line::{Call, CommandLine, Device, Options};
+use device_file::Access;
+use early::{Early, EarlyTexts};
+use explain::{explain_early, explain_session};
 use file_board::FileBoard;
 use output::Out;
 use real_files::RealFiles;
 use std::io;
+use std::io::Write;
 use std::process::ExitCode;
 
 fn main(rt: HostRuntime) -> ExitCode {
-    let mut out = Out::new(io::writer(&rt));
+    let mut out = Out::new(rt.alloc(), io::writer(&rt));
     let status = match CommandLine::read(&rt) {
-        Ok(line) => start(&rt, &line, &mut out),
-        Err(LineError::NotText) => bad_words(&mut out),
-        Err(LineError::NoMemory) => no_memory(&mut out),
+        Ok(line) => answer(&rt, &line, &mut out),
+        Err(NoMemory) => tell_early(Early::NoMemory, texts(), &mut out),
     };
-    ExitCode::from(status.code())
+    exit_code(status)
 }
 
-fn start<K: Sink>(rt: &HostRuntime, line: &CommandLine, out: &mut K) -> Status {
-    match line {
-        CommandLine::Help => tell_text(usage::USAGE.as_bytes(), Status::Done, out),
-        CommandLine::Version => tell_text(usage::VERSION.as_bytes(), Status::Done, out),
-        CommandLine::Words => bad_words(out),
-        CommandLine::Session {
-            device,
-            geometry,
-            words,
-        } => {
-            let Some(geometry) = geometry_of(geometry.as_str()) else {
-                return bad_words(out);
-            };
-            match FileBoard::open(rt, device.as_str(), geometry) {
-                Ok(mut board) => run(rt.alloc(), words, &mut RealFiles::new(rt), &mut board, out),
-                Err(OpenError::NoDevice) => no_device(out),
-                Err(OpenError::NoMemory) => no_memory(out),
-            }
-        }
+fn texts() -> EarlyTexts<'static> {
+    EarlyTexts {
+        usage: usage::USAGE,
+        version: usage::VERSION,
     }
 }
 
-fn bad_words<K: Sink>(out: &mut K) -> Status {
-    tell_fault(Status::BadWords, "BadWords 0", out)
+// What the words ask for, and the sentence of `--explain`.
+fn answer<W: Write>(rt: &HostRuntime, line: &CommandLine, out: &mut Out<W>) -> Status {
+    let mut begun = begin(rt, line);
+    let mut files = RealFiles::new(rt);
+    let status = act(
+        rt.alloc(),
+        &line.words,
+        texts(),
+        &mut begun,
+        &mut files,
+        out,
+    );
+    if line.options.explain {
+        match &begun {
+            Ok(board) => {
+                let error = error_of(status, &files, board, out);
+                explain_session(rt, status, out.fault_words(), error);
+            }
+            Err(early) => explain_early(rt, line, *early),
+        }
+    }
+    status
 }
 
-fn no_device<K: Sink>(out: &mut K) -> Status {
-    tell_fault(Status::ReadFault, "ReadFault", out)
+// The system's error at the call that a status comes from.
+fn error_of<W: Write>(
+    status: Status,
+    files: &RealFiles<'_>,
+    board: &FileBoard<'_>,
+    out: &Out<W>,
+) -> Option<io::Error> {
+    match status {
+        Status::FileMissing | Status::FileFault => files.error(),
+        Status::ReadFault | Status::WriteFault => board.error(),
+        Status::StartFailed => board.start_error(),
+        Status::SinkFault => out.error(),
+        _ => None,
+    }
 }
 
-fn no_memory<K: Sink>(out: &mut K) -> Status {
-    tell_fault(Status::NoMemory, "NoMemory", out)
+// The device of a session, opened; or what comes in its place.
+fn begin<'r>(rt: &'r HostRuntime, line: &CommandLine) -> Result<FileBoard<'r>, Early> {
+    match &line.call {
+        Call::Help => Err(Early::Help),
+        Call::Version => Err(Early::Version),
+        Call::NoSession => Err(Early::NoSession),
+        Call::Session(device) => open(rt, device, &line.options, &line.words),
+    }
+}
+
+// Opens the device, and makes way for the plan of a boot.
+fn open<'r>(
+    rt: &'r HostRuntime,
+    device: &Device,
+    options: &Options,
+    words: &TextList,
+) -> Result<FileBoard<'r>, Early> {
+    let Some(geometry) = geometry_of(device.geometry.as_str()) else {
+        return Err(Early::NoSession);
+    };
+    let access = match options.read_only {
+        true => Access::ReadOnly,
+        false => Access::Full,
+    };
+    let path = device.path.as_str();
+    let plan = options.plan.as_ref().map(|plan| plan.as_str());
+    let board = FileBoard::open(rt, path, geometry, access, plan)?;
+    if starts_a_system(words) {
+        board.make_way(path)?;
+    }
+    Ok(board)
+}
+
+fn starts_a_system(words: &TextList) -> bool {
+    match words.get(0) {
+        Some(command) => command.as_str() == "boot",
+        None => false,
+    }
 }

@@ -1,6 +1,8 @@
 ghost use Rattle.std.specs.Prelude.{None};
 
-use bb_base::{Failed, Sink};
+use bb_base::{Bytes, Failed, Sink};
+use std::alloc::Global;
+use std::io;
 use std::io::Write;
 
 /// An output of the system. It doesn't tell what was sent, and counts the writes that failed.
@@ -8,11 +10,32 @@ use std::io::Write;
 pub struct Out<W: Write> {
     writer: W,
     faults: u64,
+    error: Option<io::Error>,
+    // The last line that was sent, as far as memory was found for it.
+    line: Bytes,
 }
 
 impl<W: Write> Out<W> {
-    pub fn new(writer: W) -> Out<W> {
-        Out { writer, faults: 0 }
+    pub fn new(alloc: Global, writer: W) -> Out<W> {
+        Out {
+            writer,
+            faults: 0,
+            error: None,
+            line: Bytes::none(alloc),
+        }
+    }
+
+    /// The system's error at the write that failed last.
+    pub fn error(&self) -> Option<io::Error> {
+        self.error
+    }
+}
+
+impl<W: Write> Out<W> {
+    /// What stands after the third word of the fault line that was sent, if one was.
+    pub fn fault_words(&self) -> &str {
+        let line = str::from_utf8(self.line.as_slice()).unwrap_or("");
+        line.splitn(4, ' ').nth(3).unwrap_or("")
     }
 }
 
@@ -20,10 +43,25 @@ impl<W: Write> Sink for Out<W> {
     ghost outlet = { λ o. record { sent = None; faults = o.faults } };
 
     fn write(&mut self, piece: &[u8]) -> Result<(), Failed> {
-        if self.writer.write_all(piece).is_err() {
+        if let Err(error) = self.writer.write_all(piece) {
+            self.error = Some(error);
             self.faults = self.faults.saturating_add(1);
             return Err(Failed);
         }
+        keep_fault(&mut self.line, last_line(piece));
         Ok(())
+    }
+}
+
+// The last line of a text that ends in LF, without it.
+fn last_line(text: &[u8]) -> &[u8] {
+    let lines = text.strip_suffix(b"\n").unwrap_or(text);
+    lines.rsplit(|byte| *byte == b'\n').next().unwrap_or(lines)
+}
+
+// Keeps a line that is a fault's. Where memory is refused it isn't kept.
+fn keep_fault(kept: &mut Bytes, line: &[u8]) {
+    if line.starts_with(b"fault ") {
+        let _ = kept.add(line);
     }
 }

@@ -10,8 +10,8 @@ use std::os::unix::fs::FileExt;
 // The most bytes that are read from the system at once.
 const PIECE_LEN: u32 = 65_536;
 
-/// A piece of a device's file, kept for a look that goes over it page by page, backwards too. Who writes the file
-/// has to say `forget` first.
+/// A piece of a device's file, kept for a look that goes over it page by page, backwards too. Who
+/// writes the file has to say `forget` first.
 #[derive(Drop)]
 pub struct ReadAhead {
     // Room for a piece of whole pages, or for none where nothing is read ahead.
@@ -23,7 +23,8 @@ pub struct ReadAhead {
 }
 
 impl ReadAhead {
-    /// Reads ahead on a device that is erased in blocks, where a look goes over blank pages, and on no other.
+    /// Reads ahead on a device that is erased in blocks, where a look goes over blank pages, and on
+    /// no other.
     pub fn of(alloc: Global, geometry: Geometry) -> io::Result<ReadAhead>
         requires { IsGeometry geometry }
     {
@@ -38,7 +39,8 @@ impl ReadAhead {
         })
     }
 
-    /// Reads as `read_exact_at` of the file does. Where a whole piece can't be read, only these bytes are.
+    /// Reads as `read_exact_at` of the file does. Where a whole piece can't be read, only these
+    /// bytes are.
     pub fn read_exact_at(&mut self, file: &File, out: &mut [u8], at: u64) -> io::Result<()> {
         let Some(offset) = at.checked_rem(self.piece.len() as u64) else {
             return file.read_exact_at(out, at);

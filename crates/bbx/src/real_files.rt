@@ -1,8 +1,8 @@
-ghost use Rattle.std.specs.Prelude.{◌≡◌, false, IfOk, IsErrOf, IsTrue, None};
-ghost use Rattle.std.specs.Bool.{OnFalse};
-ghost use Rattle.bb_base.specs.Faults.{HasCause};
-ghost use Rattle.bb_base.specs.Folder.{is_fault};
-ghost use Rattle.bb_base.specs.declared.files.FileFail.TheVariants.{TooLong};
+ghost use Rattle.std.specs.Prelude.{◌≡◌, ◌<◌, ◌++◌, ◌↔◌, false, true, length};
+ghost use Rattle.std.specs.Prelude.{IfOk, IsErrOf, None, OnErr, OnOk};
+ghost use Rattle.bb_base.specs.Faults.{counted};
+ghost use Rattle.bb_base.specs.Folder.{file_limit, is_fault};
+ghost use Rattle.bb_base.specs.declared.files.FileFail.TheVariants.{Fault, TooLong};
 
 use bb_base::{Bytes, FILE_LIMIT, FileFail, Files, NoMemory, Text, TextList};
 use std::alloc::Global;
@@ -10,26 +10,37 @@ use std::fs::{DirEntry, File};
 use std::io::{ErrorKind, Read};
 use std::{fs, io};
 
-/// Files of the system, by paths from the folder that the program runs in. They don't tell what they hold, and count
-/// the calls that met a fault. What the system doesn't find isn't there; every other error of it is a fault.
+/// Files of the system, by paths from the folder that the program runs in. They don't tell what
+/// they hold, and count the calls that met a fault. What the system doesn't find isn't there; every
+/// other error of it is a fault.
 #[derive(Drop)]
 pub struct RealFiles<'r> {
     rt: &'r HostRuntime,
     faults: u64,
+    error: Option<io::Error>,
 }
 
 impl<'r> RealFiles<'r> {
     pub fn new(rt: &'r HostRuntime) -> RealFiles<'r> {
-        RealFiles { rt, faults: 0 }
+        RealFiles {
+            rt,
+            faults: 0,
+            error: None,
+        }
+    }
+
+    /// The system's error at the call that met one last.
+    pub fn error(&self) -> Option<io::Error> {
+        self.error
     }
 
     // What a call answers at an error of the system. A fault is counted.
     fn answer_to(&mut self, error: &io::Error) -> Result<bool, FileFail>
         ensures missing { IfOk result (λ there. there ≡ false) }
         ensures never_long { ¬ IsErrOf result TooLong }
-        ensures cause { HasCause self.old.faults self.new.faults (IsTrue (is_fault result)) }
-        ensures calm { OnFalse (is_fault result) (self.new.faults ≡ self.old.faults) }
+        ensures counts { self.new.faults ≡ counted (is_fault result) self.old.faults }
     {
+        self.error = Some(*error);
         match error.kind() {
             ErrorKind::NotFound => Ok(false),
             ErrorKind::OutOfMemory => Err(FileFail::NoMemory),
@@ -49,11 +60,7 @@ impl<'r> Files for RealFiles<'r> {
             Ok(bytes) => bytes,
             Err(error) => return self.answer_to(&error),
         };
-        if bytes.len() > FILE_LIMIT {
-            return Err(FileFail::TooLong);
-        }
-        out.add(bytes.as_slice())?;
-        Ok(true)
+        take_file(bytes.as_slice(), out)
     }
 
     fn names(&mut self, dir: &str, out: &mut TextList) -> Result<bool, FileFail> {
@@ -64,6 +71,21 @@ impl<'r> Files for RealFiles<'r> {
         out.append(texts_of(self.rt.alloc(), &names)?)?;
         Ok(true)
     }
+}
+
+// Appends a file's bytes, of which the system gave one more than it may have at most.
+fn take_file(bytes: &[u8], out: &mut Bytes) -> Result<bool, FileFail>
+    ensures too_long { IsErrOf result TooLong ↔ file_limit < length bytes.now }
+    ensures never_fault { ¬ IsErrOf result Fault }
+    ensures there { IfOk result (λ there. there ≡ true) }
+    ensures appended { OnOk result (out.new ≡ out.old ++ bytes.now) }
+    ensures err { OnErr result (out.new ≡ out.old) }
+{
+    if bytes.len() > FILE_LIMIT {
+        return Err(FileFail::TooLong);
+    }
+    out.add(bytes)?;
+    Ok(true)
 }
 
 // A file's bytes, up to one more than it may have.

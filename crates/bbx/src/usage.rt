@@ -7,9 +7,14 @@ bbx DEVICE GEOMETRY COMMAND ..   works on the device DEVICE
 bbx --help                       prints this
 bbx --version                    prints the version
 
+OPTIONS
+  --plan=FILE          in front of DEVICE: a boot's plan goes to FILE, which is tried out before
+  --read-only          in front of DEVICE: it is only read, and neither made nor filled up
+  --explain            in front of DEVICE: a sentence on standard error for each fault line
+
 DEVICE
-  a regular file, which is first filled up with 0xff where it is absent or short, or
-  a block device of at least SIZE bytes; it is locked to the session's end
+  a regular file, which outside /dev is first filled up with 0xff where it is absent or
+  short, or a block device of at least SIZE bytes; it is locked to the session's end
 
 GEOMETRY
   ov:SIZE              overwritten in place, of SIZE bytes, up to 268435456
@@ -41,16 +46,17 @@ COMMAND
   boot -i FILE -c FILE [-n NAME] [-k FILE] [--cause WORD]
                        reads both as `mark-good` does, and the entry of each target; loads the
                        state, resets what the settings say, takes the best target, spends one
-                       of its attempts, saves that, and starts the target: DEVICE.plan has its
-                       plan then; prints `start`, its name, and the attempts left and tried
+                       of its attempts, saves that, and starts the target: DEVICE.plan, which
+                       is removed first, has its plan then; prints `start`, its name, and the
+                       attempts left and tried
      --cause WORD      why the machine starts: power-on, reset or other, which it is without
 
-Numbers are decimal, or hexadecimal behind 0x.
+Numbers are decimal, or hexadecimal after 0x.
 
 STATUS
    0 Done        the session was done
    1 BadWords    a word doesn't fit or is missing; the line has its number, COMMAND being
-                 word 1, or 0 where DEVICE or GEOMETRY is wrong or a word is no text
+                 word 1, or 0 where what stands in front of it is wrong or a word is no text
    2 BadTree     FILE is no devicetree source, or it begins as a blob and is none; the line has
                  the cause, and its place in bytes or a part that the blob's header names
    3 BadLayout   the copies can't stand on such a device, or FILE gives no layout for it
@@ -59,7 +65,8 @@ STATUS
    5 FileMissing a file isn't there; the line has its name, as for 6 and 7
    6 FileFault   a file can't be read
    7 FileTooLong a file is longer than 1048576 bytes
-   8 ReadFault   the device can't be opened or read, or is no device
+   8 ReadFault   the device can't be opened or read, or is no device, or a boot's plan has no
+                 place
    9 WriteFault  a copy can't be written; the line has its number, from 0
   10 NoTarget    no target has a priority and attempts left; nothing is saved
   11 StartFailed no target could be started; the line has the last one, the line before it
