@@ -5,6 +5,30 @@
 # the device that the words name, since a load may write. Nothing that was typed or printed is
 # expanded or run by the shell.
 
+# The commands, how many words stand before their options where these can't come anywhere, the
+# options, and what completes the value of each: written by tests/style/commands.
+# begin words
+_bbx_first="--plan= --read-only --explain"
+_bbx_commands="raw state mark-good boot"
+declare -gA _bbx_before=() _bbx_options=() _bbx_values=()
+_bbx_before[raw]=2
+_bbx_options[raw]="-g -s"
+_bbx_options[state]="-i --input -n --name -k -s --set -g --get -d --dump --dump-shell"
+_bbx_options[mark-good]="-i --input -c -n --name -k"
+_bbx_options[boot]="-i --input -c -n --name -k --cause"
+_bbx_values[-i]="files"
+_bbx_values[--input]="files"
+_bbx_values[-n]=""
+_bbx_values[--name]=""
+_bbx_values[-k]="files"
+_bbx_values[-s]="assignments"
+_bbx_values[--set]="assignments"
+_bbx_values[-g]="variables"
+_bbx_values[--get]="variables"
+_bbx_values[-c]="files"
+_bbx_values[--cause]="power-on reset other"
+# end words
+
 # Sets `words` to the words up to the cursor, without quotes. Readline's pieces are joined where no
 # blank stands between them: `:` and `=` part pieces, and not words.
 _bbx_words() {
@@ -86,19 +110,20 @@ _bbx_files() {
 # Drops the options in front of the device from `words`, but for one that is still typed, and sets
 # `in_front` to the words with `-` that may stand there.
 _bbx_in_front() {
-  in_front=$'--explain\n--help\n--plan=\n--read-only\n--version'
+  local option
+  in_front="$_bbx_first --help --version"
   while [ ${#words[@]} -gt 2 ]; do
-    case ${words[1]} in
-      --plan=?* | --explain | --read-only) ;;
-      *) return ;;
-    esac
-    in_front=$(grep -vxF -e "${words[1]%%=*}" -e "${words[1]%%=*}=" -e --help -e --version <<<"$in_front")
+    option=${words[1]/=*/=}
+    [[ " $in_front " == *" $option "* && ${words[1]} != *= && $option != --help && $option != --version ]] || return
+    in_front=" $in_front "
+    in_front=${in_front/ --help / } in_front=${in_front/ --version / }
+    in_front=${in_front/ $option / }
     words=("${words[0]}" "${words[@]:2}")
   done
 }
 
 _bbx() {
-  local words word=$2 before options='' in_front
+  local words word=$2 before command options in_front
   COMPREPLY=()
   _bbx_words
   _bbx_in_front
@@ -108,23 +133,28 @@ _bbx() {
   case ${#words[@]} in
     2)
       [[ $word != --p* ]] || compopt -o nospace
-      if [[ $word == -* ]]; then _bbx_answer '' <<<"$in_front"; else _bbx_files; fi
+      if [[ $word == -* ]]; then _bbx_answer '' <<<"${in_front// /$'\n'}"; else _bbx_files; fi
       return
       ;;
     3) compopt -o nospace; [[ ${words[2]} == *:* ]] || _bbx_answer '' <<<$'ov:\ner:'; return ;;
-    4) _bbx_answer '' <<<$'raw\nstate\nmark-good\nboot'; return ;;
+    4) _bbx_answer '' <<<"${_bbx_commands// /$'\n'}"; return ;;
   esac
-  case ${words[3]}:$before in
-    raw:*) [ ${#words[@]} != 7 ] || options='-g -s' ;;
-    state:-[ik] | mark-good:-[ick] | boot:-[ick] | *:--input | *:--input=) _bbx_files ;;
-    boot:--cause) options='power-on reset other' ;;
-    state:-g | state:--get | state:--get=) _bbx_answer '' < <(_bbx_variables) ;;
-    state:-s | state:--set | state:--set=) compopt -o nospace; _bbx_answer '=' < <(_bbx_variables) ;;
-    *:-n | *:--name | *:*=) ;;
-    state:*) options='-i --input -n --name -k -g --get -s --set -d --dump --dump-shell' ;;
-    mark-good:*) options='-i --input -n --name -c -k' ;;
-    boot:*) options='-i --input -n --name -c -k --cause' ;;
-  esac
+  command=${words[3]}
+  [ -n "$command" ] || return
+  options=${_bbx_options[$command]:-}
+  if [ -n "${_bbx_before[$command]:-}" ]; then
+    # These options come in one place alone, and have no values to complete.
+    [ ${#words[@]} = $((5 + _bbx_before[$command])) ] || return
+  elif [[ " $options " == *" ${before%=} "* && -n ${_bbx_values[${before%=}]+yes} ]]; then
+    case ${_bbx_values[${before%=}]} in
+      files) _bbx_files; return ;;
+      variables) _bbx_answer '' < <(_bbx_variables); return ;;
+      assignments) compopt -o nospace; _bbx_answer '=' < <(_bbx_variables); return ;;
+      *) options=${_bbx_values[${before%=}]} ;;
+    esac
+  elif [[ $before == *= ]]; then
+    return
+  fi
   [ -z "$options" ] || _bbx_answer '' <<<"${options// /$'\n'}"
 }
 complete -F _bbx bbx

@@ -13,69 +13,73 @@ OPTIONS
   --explain            in front of DEVICE: a sentence on standard error for each fault line
 
 DEVICE
-  a regular file, which outside /dev is first filled up with 0xff where it is absent or
-  short, or a block device of at least SIZE bytes; it is locked to the session's end
+  a regular file: outside /dev it is filled up with 0xff where it is absent or short
+  a block device of at least SIZE bytes
+  It is locked to the session's end.
 
 GEOMETRY
   ov:SIZE              overwritten in place, of SIZE bytes, up to 268435456
   er:PAGE:BLOCK:SIZE   written in pages and erased in blocks; raw works on none
 
 COMMAND
-  raw MAGIC LEN -g     prints the first area that passes, in hexadecimal, or `none`;
-                       MAGIC is the record's magic, LEN the area's bytes, up to 65535
-  raw MAGIC LEN -s HEX saves an area into all three copies, and prints nothing;
-                       HEX is two hexadecimal digits a byte
+  raw MAGIC LEN -g     prints the first area that passes, in hexadecimal, or `none`. MAGIC is
+                       the record's magic, LEN the area's bytes, up to 65535.
+  raw MAGIC LEN -s HEX saves an area into all three copies, and prints nothing. HEX is two
+                       hexadecimal digits a byte.
   state -i FILE [-n NAME] [-k FILE] [-s VAR=VALUE] [-g VAR] [-d] [--dump-shell]
-                       reads the devicetree FILE, a source or a blob, loads the state of the
-                       name NAME or else the board's, gives all variables of -s their values,
-                       saves once where that changed one, and prints; options come in any
-                       order, all but -i, -n and -k as often as wanted, and print in their order
-     -i, --input FILE  the file, up to 1048576 bytes
+                       reads the devicetree FILE, a source or a blob, and loads the state of the
+                       name NAME, or else the board's. Gives all variables of -s their values,
+                       and saves once where that changed one. Then prints what is asked for, in
+                       the order of the options. All but -i, -n and -k may come as often as
+                       wanted.
+     -i, --input FILE  the devicetree, up to 1048576 bytes
      -n, --name NAME   an alias of a state's node, or a state's node
-     -k FILE           the key, two hexadecimal digits a byte; it is read where the state's
-                       records stand under one, and only then
-     -s, --set VAR=VALUE  the variable gets this value
-     -g, --get VAR     the variable's value
-     -d, --dump        VAR=VALUE for each variable
-     --dump-shell      each variable as a shell's assignment to NAME_VAR, with _ for each dot
+     -k FILE           the key, two hexadecimal digits a byte. It is read only where the state's
+                       records stand under one.
+     -s, --set VAR=VALUE  gives the variable this value
+     -g, --get VAR     prints the variable's value
+     -d, --dump        prints VAR=VALUE for each variable
+     --dump-shell      prints each variable as a shell's assignment to NAME_VAR, with _ for each
+                       dot
   mark-good -i FILE -c FILE [-n NAME] [-k FILE]
-                       reads FILE of -i as `state` does, and bootchooser's settings, gives
-                       the target that was chosen last its default attempts, saves where
-                       that changed them, and prints `good` with its name and attempts
+                       reads the devicetree as `state` does, and bootchooser's settings. Gives
+                       the target that was chosen last its default attempts, and saves where
+                       that changed them. Prints `good` with its name and attempts.
      -c FILE           the settings, up to 1048576 bytes
   boot -i FILE -c FILE [-n NAME] [-k FILE] [--cause WORD]
-                       reads both as `mark-good` does, and the entry of each target; loads the
-                       state, resets what the settings say, takes the best target, spends one
-                       of its attempts, saves that, and starts the target: DEVICE.plan, which
-                       is removed first, has its plan then; prints `start`, its name, and the
-                       attempts left and tried
-     --cause WORD      why the machine starts: power-on, reset or other, which it is without
+                       reads both as `mark-good` does, and the entry of each target. Loads the
+                       state, and resets what the settings say. Takes the best target, spends
+                       one of its attempts, saves that, and starts the target: DEVICE.plan,
+                       which is removed first, then has its plan. Prints `start`, its name, the
+                       attempts left, and the rounds tried.
+     --cause WORD      why the machine starts: power-on, reset or other, which it is without the
+                       option
 
 Numbers are decimal, or hexadecimal after 0x.
 
 STATUS
    0 Done        the session was done
-   1 BadWords    a word doesn't fit or is missing; the line has its number, COMMAND being
-                 word 1, or 0 where what stands in front of it is wrong or a word is no text
-   2 BadTree     FILE is no devicetree source, or it begins as a blob and is none; the line has
-                 the cause, and its place in bytes or a part that the blob's header names
+   1 BadWords    a word doesn't fit or is missing. The line has its number, COMMAND being word
+                 1. It has 0 where what stands before COMMAND is wrong, or a word is no text.
+   2 BadTree     FILE is no devicetree source, or begins as a blob and is none. The line has the
+                 cause, and its place in bytes or a part that the blob's header names.
    3 BadLayout   the copies can't stand on such a device, or FILE gives no layout for it
-   4 BadVariable a variable isn't in the layout, or VALUE isn't one that it can have; the
-                 line has its name and the cause
-   5 FileMissing a file isn't there; the line has its name, as for 6 and 7
+   4 BadVariable a variable isn't in the layout, or VALUE isn't one that it can have. The line
+                 has its name and the cause.
+   5 FileMissing a file isn't there. The line has its name, as for 6 and 7.
    6 FileFault   a file can't be read
    7 FileTooLong a file is longer than 1048576 bytes
    8 ReadFault   the device can't be opened or read, or is no device, or a boot's plan has no
                  place
-   9 WriteFault  a copy can't be written; the line has its number, from 0
-  10 NoTarget    no target has a priority and attempts left; nothing is saved
-  11 StartFailed no target could be started; the line has the last one, the line before it
-                 how many were tried
-  13 BadSettings the settings aren't settings, or a variable of theirs isn't in the layout or
-                 is no uint32; the line has the cause, and its line or the variable
+   9 WriteFault  a copy can't be written. The line has its number, from 0.
+  10 NoTarget    no target has a priority and attempts left. Nothing is saved.
+  11 StartFailed no target could be started. The line has the last one, and the line before it
+                 how many rounds were tried.
+  13 BadSettings the settings aren't settings, or a variable of theirs isn't in the layout or is
+                 no uint32. The line has the cause, and its line or the variable.
   14 SinkFault   the output can't be written
   17 BadKey      the state's records stand under a key, and -k is missing or its FILE holds
-                 none; the line has the cause
-  18 NoGood      no target was chosen last; the line has last_chosen
+                 none. The line has the cause.
+  18 NoGood      no target was chosen last. The line has last_chosen.
   20 NoMemory    memory was refused
 ";
