@@ -1,7 +1,8 @@
 -- What reading a file gives, and what the steps behind it make of that.
-use Rattle.std.proofs.Common.{◌≡◌, ◌≢◌, ◌⊎◌, ℕ, List, Option, None, Result, Ok, Err, ok_or, refl, sym, ap, subst, ◌∙◌, inl, inr}
+use Rattle.std.proofs.Common.{◌≡◌, ◌≢◌, ◌⊎◌, ◌≤◌, ℕ, Bool, true, false, List, Option, None, Result, Ok, Err, ok_or, refl, sym, ap, subst, ◌∙◌, inl, inr, arith}
 use Rattle.std.specs.Option.{ForSome}
-use Rattle.bb_base.specs.Faults.{Rose}
+use Rattle.bb_base.proofs.Counts.{one_more_later}
+use Rattle.bb_base.specs.Faults.{Rose, counted}
 use Rattle.bb_base.specs.Folder.{Folder, file_of}
 use Rattle.bb_base.specs.declared.files.FileFail.TheVariants as file_fails
 use Rattle.bb_chooser.specs.Binding.{Binding}
@@ -25,11 +26,19 @@ use Rattle.bb_layout.specs.Storage.{storage_in}
 use Rattle.bb_layout.specs.Variables.{variables_of}
 use Rattle.bb_layout.specs.declared.layout_error.LayoutError.{LayoutError}
 use Rattle.bb_layout.specs.declared.layout_error.LayoutError.TheVariants as layout_errors
-use Rattle.bb_tool.specs.Filing.{Follows, IsReadFor}
+use Rattle.bb_tool.specs.Filing.{Follows, IsFolderLater, IsReadFor}
 use Rattle.bb_tool.specs.Plan.{FileAnswer, bytes_in, layout_in, refused_as}
 use Rattle.bb_tool.specs.Refusal.{blob_refusal, layout_refusal, settings_refusal, tree_refusal}
 use Rattle.bb_tool.specs.declared.refusal.Refusal.{Refusal}
 use Rattle.bb_tool.specs.declared.refusal.Refusal.TheVariants as refusals
+
+-- the files are as before, and their count is one more where the call met a fault
+pub folder_later : (before after : Folder) (fails : Bool) → after.told ≡ before.told → after.faults ≡ counted fails before.faults → IsFolderLater before after
+folder_later before after false told counts = record { told = told; faults = omega (arith, counts) }
+folder_later before after true told counts = record {
+  told = told;
+  faults = subst (λ n. before.faults ≤ n) (sym counts) (one_more_later before.faults);
+}
 
 -- there is no such file
 pub bytes_missing : (name : List ℕ) (before after : Folder) (copied : List ℕ) → copied ≡ name → ForSome before.told (λ files. file_of files name ≡ Ok None) → after.faults ≡ before.faults → IsReadFor name before after (bytes_in name) (λ (bytes : List ℕ). bytes) (Err (refusals.FileMissing copied))

@@ -133,7 +133,7 @@ once_saved keyed used from mid to found area load (Ok made) save = λ first e la
               later = later_refl mid;
               stored = save.stored;
               at = moment_is to last f;
-              then = later_refl to;
+              rest = later_refl to;
             };
           })
           here;
