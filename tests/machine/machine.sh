@@ -67,6 +67,7 @@ lose_power() {
   kill -9 "$qemu" 2>/dev/null
   listen 5000
   wait "$qemu" 2>/dev/null
+  qemu=''
   exec {console}<&-
   echo "$millis -- power is lost" >>"$log"
   power_is_lost
@@ -123,6 +124,7 @@ begin_at_init() {
   [ -n "$ended" ] && mv "$folder/begun.new" "$folder/begun"
   kill -9 "$qemu" 2>/dev/null
   wait "$qemu" 2>/dev/null
+  qemu=''
   exec {console}<&- {monitor}<&-
   [ -e "$folder/begun" ] || echo "  the machine's beginning can't be kept"
 }
