@@ -3,7 +3,7 @@ use Rattle.std.specs.Prelude.{ℕ, List, [], Option, Some, None, fold, if◌then
 use Rattle.std.specs.List.{filter_map, flat_map}
 use Rattle.std.specs.Option.{option_map}
 use Rattle.bb_layout.specs.Layout.{Laid}
-use Rattle.bb_layout.specs.VarNames.{place_of}
+use Rattle.bb_layout.specs.VarNames.{place_of_var}
 use Rattle.bb_layout.specs.declared.var.Var.{Var}
 use Rattle.bb_state.specs.Lines.{dump_line, shell_line, value_line}
 use Rattle.bb_state.specs.Named.{after_set, refusal_for, var_of}
@@ -18,7 +18,7 @@ use Rattle.bb_words.specs.declared.command.Action.TheVariants.{Set, Get, Dump, D
 -- with the cause
 abbrev pub misfit : List Var → Action → Option (List ℕ × StateError)
 misfit vars (Set name value) = option_map (λ cause. (name, cause)) (refusal_for vars name value)
-misfit vars (Get name) = if is_none (place_of vars name) then Some (name, NoSuchVariable) else None
+misfit vars (Get name) = if is_none (place_of_var vars name) then Some (name, NoSuchVariable) else None
 misfit vars Dump = None
 misfit vars DumpShell = None
 

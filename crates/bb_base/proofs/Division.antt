@@ -1,5 +1,5 @@
--- Division by the polynomial of CRC-32 can go a byte at a time: it is linear, and a byte that stands above the
--- lowest eight bits only moves down.
+-- Division by the polynomial of CRC-32 can go a byte at a time: it is linear, and a byte that
+-- stands above the lowest eight bits only moves down.
 use Rattle.std.proofs.Common.{◌≡◌, ℕ, ◌+◌, ◌*◌, ◌/◌, ◌%◌, ◌^◌, ◌<◌, ◌≤◌, ◌⊎◌, refl, sym, ap, ◌∙◌, arith, inl, inr, slice_index_or, get_or, map}
 use Rattle.std.specs.Int.Bits.{bit_xor, xor_assoc, xor_self, xor_zero_l, xor_zero_r}
 use Rattle.std.specs.List.{range_with_len}

@@ -1,4 +1,5 @@
--- The names in a folder are those that begin with the folder's name and a `/`, cut behind it, and they rise.
+-- The names in a folder are those that begin with the folder's name and a `/`, cut after it, and
+-- they rise.
 use Rattle.std.proofs.Common.{◌≡◌, ℕ, zero, suc, ◌+◌, ◌<◌, Bool, true, false, ◌&&◌, ◌==◌, T, List, [], ◌∷◌, ◌++◌, length, get_or, take, drop, map, filter_map, Option, Some, None, IfSome, is_some, unwrap_or, Ordering, Less, Equal, Greater, refl, sym, ap, ap₂, subst, ◌∙◌, arith, eqb-true, take-append-drop, if◌then◌else◌}
 use Rattle.std.specs.Cmp.{nat_cmp_total, tied_itself}
 use Rattle.std.specs.Cmp.Lexicographic.{slice_cmp}
@@ -86,6 +87,6 @@ unfolding IsStrictlySortedBy
 keys_rise [] h = tt
 keys_rise (e ∷ es) h = let p = parts _ _ h in (keys_above e.0 es p.0, keys_rise es p.1)
 
--- each name in a folder is below those behind it
+-- each name in a folder is below those after it
 pub names_rise : (files : FileMap) (dir : List ℕ) → IsStrictlySortedBy (slice_cmp nat_cmp) (names_in files dir)
 names_rise files dir = filtered_rise dir _ (keys_rise (entries files) (entries_sorted files))

@@ -31,7 +31,7 @@ file_of files name =
     then Err TooLong
     else Ok (get files name)
 
--- what a name is in a folder: what stands behind its last `/`, where the folder's name stands
+-- what a name is in a folder: what stands after its last `/`, where the folder's name stands
 -- before it
 abbrev pub name_in : List ℕ → List ℕ → Option (List ℕ)
 name_in dir name =
@@ -50,7 +50,7 @@ is_under dir name = starts_with nat_eq name (dir ++ slash ∷ [])
 abbrev pub has_folder : FileMap → List ℕ → Bool
 has_folder files dir = list_any (is_under dir) (keys files)
 
--- the file that a call read which answered so: the bytes that came behind the old ones, if there is
+-- the file that a call read which answered so: the bytes that came after the old ones, if there is
 -- such a file
 abbrev pub file_read : Bool → List ℕ → List ℕ → Option (List ℕ)
 file_read there old new = if there then Some (drop (length old) new) else None

@@ -4,7 +4,7 @@ pub mod Faults
 pub mod Folder
 pub mod Form
 pub mod Number
-pub mod Outlet
+pub mod SinkRecord
 pub mod Refusals
 -- Inside: files and an output in memory, on which tests stand.
 pub mod MemFiles

@@ -21,22 +21,22 @@ numeral_value radix digits =
     else Err NotNumber
 
 -- it begins with the prefix of hexadecimal digits
-abbrev pub is_hexadecimal : List ℕ → Bool
-is_hexadecimal text = starts_with nat_eq text (codes "0x") || starts_with nat_eq text (codes "0X")
+abbrev pub has_hex_prefix : List ℕ → Bool
+has_hex_prefix text = starts_with nat_eq text (codes "0x") || starts_with nat_eq text (codes "0X")
 
 -- the number that a text spells, or why it spells none
 abbrev pub number_of : List ℕ → Result ℕ NumberError
 number_of text =
-    if is_hexadecimal text then numeral_value 16 (drop 2 text) else numeral_value 10 text
+    if has_hex_prefix text then numeral_value 16 (drop 2 text) else numeral_value 10 text
 
 -- a text is spelt as a number, of whatever size
 abbrev pub is_spelt : List ℕ → Bool
-is_spelt text = if is_hexadecimal text then is_numeral 16 (drop 2 text) else is_numeral 10 text
+is_spelt text = if has_hex_prefix text then is_numeral 16 (drop 2 text) else is_numeral 10 text
 
 -- the number that it then spells
 abbrev pub spelt_number : List ℕ → ℕ
 spelt_number text =
-    if is_hexadecimal text then digits_value 16 (drop 2 text) else digits_value 10 text
+    if has_hex_prefix text then digits_value 16 (drop 2 text) else digits_value 10 text
 
 -- it is spelt as a number that has more than 32 bits
 abbrev pub IsTooLarge : List ℕ → Type 0

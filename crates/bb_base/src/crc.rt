@@ -4,8 +4,9 @@ ghost use Rattle.bb_base.specs.Crc.{crc_of, HasFed};
 use crate::remainders::register_after;
 use std::marker::Model;
 
-/// CRC-32 of bytes that come in pieces: the reflected one with the polynomial 0xEDB88320, which begins with and is
-/// inverted by 0xFFFFFFFF (RFC 1952, section 8). Clauses see the register, the remainder so far.
+/// CRC-32 of bytes that come in pieces: the reflected one with the polynomial 0xEDB88320, which
+/// begins with and is inverted by 0xFFFFFFFF (RFC 1952, section 8). Clauses see the register, the
+/// remainder so far.
 #[derive(Clone, Copy, Debug)]
 pub struct Crc {
     register: u32,

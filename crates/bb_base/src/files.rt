@@ -32,7 +32,8 @@ impl From<NoMemory> for FileFail {
     }
 }
 
-/// Files by name. Which bytes a name gives is known where the files are told; answers and counts always are.
+/// Files by name. Which bytes a name gives is known where the files are told; answers and counts
+/// always are.
 pub trait Files {
     /// The files, where they are told, and their count of faults.
     ghost folder: { Self → Folder };
@@ -55,11 +56,13 @@ pub trait Files {
         ensures told { (folder self.new).told ≡ (folder self.old).told }
         ensures counts { CountsFaults result (folder self.old) (folder self.new) };
 
-    /// Appends the names in a folder in rising order of their bytes, each without the folder's name and the `/` behind
-    /// it, or answers false where the folder isn't there: where no name begins with the folder's name and a `/`. A
-    /// folder that holds folders alone is there and gives no names. It never answers `TooLong`.
+    /// Appends the names in a folder in rising order of their bytes, each without the folder's name
+    /// and the `/` after it, or answers false where the folder isn't there: where no name begins
+    /// with the folder's name and a `/`. A folder that holds folders alone is there and gives no
+    /// names. It never answers `TooLong`.
     fn names(&mut self, dir: &str, out: &mut TextList) -> Result<bool, FileFail>
-        // Where the files are told, a folder is there exactly where some name begins with it and a `/`.
+        // Where the files are told, a folder is there exactly where some name begins with it and a
+        // `/`.
         ensures there { IfOk result (λ there. ForSome (folder self.old).told (λ files.
             there ≡ has_folder files dir.now)) }
         ensures names { OnOk result (ForSome (folder self.old).told (λ files.

@@ -23,7 +23,8 @@ pub trait Format {
         requires whole { length out.old ≡ (form self.now).length }
         ensures { out.new ≡ (form self.now).text area.now };
 
-    /// Whether the bytes pass as an area, which is then left in `area`. Where they don't, `area` holds any bytes.
+    /// Whether the bytes pass as an area, which is then left in `area`. Where they don't, `area`
+    /// holds any bytes.
     fn check(&self, bytes: &[u8], area: &mut [u8]) -> bool
         requires { length area.old ≡ (form self.now).area_len }
         ensures passes { result ≡ is_some ((form self.now).passes bytes.now) }

@@ -1,6 +1,6 @@
-//! What every other crate of the repository stands on: texts and bytes that own their memory, CRC-32,
-//! spelt numbers, and the traits of what lies outside (files, an output) and of a record's format.
-//! Any crate may know it; it knows none of them.
+//! What every other crate of the repository stands on: texts and bytes that own their memory,
+//! CRC-32, spelt numbers, and the traits of what lies outside (files, an output) and of a record's
+//! format. Any crate may know it; it knows none of them.
 #![tactic(auto)]
 
 mod bytes;

@@ -132,7 +132,7 @@ fn is_under(dir: &str, name: &str) -> bool
     behind.is_some_and(|rest| rest.starts_with(b"/"))
 }
 
-// What stands behind the last `/`, where the folder's name stands before it.
+// What stands after the last `/`, where the folder's name stands before it.
 fn part_in<'n>(dir: &str, name: &'n str) -> Option<&'n str>
     ensures { option_map (λ n. n.now) result ≡ name_in dir.now name.now }
 {

@@ -1,7 +1,7 @@
 ghost use Rattle.std.specs.Prelude.{◌≡◌, ◌++◌, ◌∷◌, [], IfOk, OnErr, OnOk, is_err};
 ghost use Rattle.bb_base.specs.Faults.{counted};
-ghost use Rattle.bb_base.specs.MemSink.{after_write, outlet_of, refuses_next};
-ghost use Rattle.bb_base.specs.Outlet.{Sends, SendsFront};
+ghost use Rattle.bb_base.specs.MemSink.{after_write, sink_of, refuses_next};
+ghost use Rattle.bb_base.specs.SinkRecord.{Sends, SendsFront};
 
 use crate::planned::is_planned;
 use crate::{Failed, NoMemory, Sink};
@@ -20,9 +20,9 @@ pub struct MemSink {
 
 impl Model for MemSink {
     ghost use Rattle.std.specs.Prelude.{◌≤◌, length, vec_capacity};
-    ghost use Rattle.bb_base.specs.MemSink.{Kept};
+    ghost use Rattle.bb_base.specs.MemSink.{SinkKept};
 
-    ghost Value = { Kept };
+    ghost Value = { SinkKept };
 
     ghost view = { λ s. record {
       sent = s.sent.items;
@@ -76,12 +76,12 @@ impl MemSink {
 }
 
 impl Sink for MemSink {
-    ghost outlet = { outlet_of };
+    ghost sink = { sink_of };
 
     fn write(&mut self, piece: &[u8]) -> Result<(), Failed>
-        ensures sent { OnOk result (Sends piece.now (outlet_of self.old) (outlet_of self.new)) }
+        ensures sent { OnOk result (Sends piece.now (sink_of self.old) (sink_of self.new)) }
         ensures front { OnErr result
-            (SendsFront piece.now (outlet_of self.old) (outlet_of self.new)) }
+            (SendsFront piece.now (sink_of self.old) (sink_of self.new)) }
         ensures counts { self.new.faults ≡ counted (is_err result) self.old.faults }
 
         // It fails exactly where it is planned to or the piece doesn't fit, and then sends nothing.

@@ -1,4 +1,4 @@
--- Worked entries, by computation alone, behind the checks of length and of UTF-8.
+-- Worked entries, by computation alone, after the checks of length and of UTF-8.
 use Rattle.std.proofs.Common.{◌≡◌, ℕ, List, [], ◌∷◌, ◌++◌, refl, codes, Ok, Err, Some, None}
 use Rattle.bb_bls.specs.Entry.{entry_in, pair_of, pairs_of}
 use Rattle.bb_bls.specs.declared.error.EntryError.TheVariants.{NoLinux}

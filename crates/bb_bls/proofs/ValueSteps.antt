@@ -81,7 +81,7 @@ join_pushed x (y ∷ more) v =
     let shift : ((x ++ (32 ∷ rest)) ++ 32 ∷ []) ++ v ≡ x ++ (32 ∷ ((rest ++ 32 ∷ []) ++ v)) = simp append_assoc in
     step ∙ sym shift
 
--- behind the first
+-- after the first
 join_more : (values : List (List ℕ)) (v : List ℕ) → 0 < length values
     → join_with_byte 32 (values ++ v ∷ []) ≡ (join_with_byte 32 values ++ 32 ∷ []) ++ v
 join_more [] v some = absurd (omega arith)

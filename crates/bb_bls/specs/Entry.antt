@@ -1,5 +1,5 @@
 -- Boot entries: the keys of Type #1 entries of the Boot Loader Specification (UAPI.1), each of
--- which stands at the front of a line, with its value behind blanks. What is done with blanks, with
+-- which stands at the front of a line, with its value after blanks. What is done with blanks, with
 -- repeated keys and with lines that have no value is this project's profile.
 use Rattle.std.specs.Prelude.{◌≡◌, ◌≢◌, ℕ, ◌-◌, ◌≤◌, ◌==◌, Bool, true, false, ◌||◌, not, List, [], codes, drop, filter_map, length, nat_lt, slice_get, take, take_while, unwrap_or, Option, Some, None, Result, Ok, Err, if◌then◌else◌}
 use Rattle.std.specs.List.{join_with_byte, prefix_len, suffix_len}
@@ -24,19 +24,19 @@ abbrev pub text_before_blanks : List ℕ → List ℕ
 text_before_blanks text = take (length text - suffix_len is_blank text) text
 
 -- what stands before the first blank
-abbrev pub key_in : List ℕ → List ℕ
-key_in text = take_while (λ c. not (is_blank c)) text
+abbrev pub entry_key_in : List ℕ → List ℕ
+entry_key_in text = take_while (λ c. not (is_blank c)) text
 
--- what follows the key and the blanks behind it
-abbrev pub value_in : List ℕ → List ℕ
-value_in text = text_behind_blanks (drop (length (key_in text)) text)
+-- what follows the key and the blanks after it
+abbrev pub entry_value_in : List ℕ → List ℕ
+entry_value_in text = text_behind_blanks (drop (length (entry_key_in text)) text)
 
 -- The key and the value of a line, where it has a value. An empty line has none, and where `#`
 -- begins a line it belongs to the key, which is then none of those below.
 abbrev pub pair_of : List ℕ → Option (List ℕ × List ℕ)
 pair_of line =
     let text = text_before_blanks (text_behind_blanks line) in
-    if length (value_in text) == 0 then None else Some (key_in text, value_in text)
+    if length (entry_value_in text) == 0 then None else Some (entry_key_in text, entry_value_in text)
 
 -- ---- a text
 

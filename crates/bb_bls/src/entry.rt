@@ -35,7 +35,7 @@ pub struct Entry {
     pub initrds: TextList,
 }
 
-/// Reads a boot entry: a key at the front of each line, and its value behind spaces and tabs. Of a
+/// Reads a boot entry: a key at the front of each line, and its value after spaces and tabs. Of a
 /// repeated key the last value counts, but for `initrd` and `options`. Other keys and lines without
 /// a value are passed over.
 pub fn read_entry(alloc: Global, text: &[u8]) -> Result<Entry, EntryError>

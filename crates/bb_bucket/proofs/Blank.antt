@@ -4,7 +4,7 @@ use Rattle.std.proofs.lemmas.Bool.{cases_lt}
 use Rattle.std.proofs.lemmas.List.{drop-replicate, length-replicate, take-replicate}
 use Rattle.byteorder.specs.Endian.{little_number}
 use Rattle.bb_flash.specs.Image.{Image, health_of}
-use Rattle.bb_bucket.specs.Front.{front_candidate, front_len, has_front, is_lost, len_of, record_health}
+use Rattle.bb_bucket.specs.Front.{front_candidate, stride_header_len, has_front, is_lost, header_len_of, record_health}
 
 -- bytes that are all 0xFF
 abbrev pub IsErased : List ℕ → Type 0
@@ -35,7 +35,7 @@ no_front_word (suc (suc (suc (suc n)))) = refl
 no_front : (size : ℕ) (front : List ℕ) → IsErased front → has_front size front ≡ false
 no_front size front (n, e) =
     subst (λ l. has_front size l ≡ false) (sym e)
-    (ap (λ b. b && nat_le (front_len + little_number 4 (drop 4 (replicate n 255))) size)
+    (ap (λ b. b && nat_le (stride_header_len + little_number 4 (drop 4 (replicate n 255))) size)
     (no_front_word n))
 
 none_between : {X : Type 0} (x y z : Bool) (o : Option X) → y ≡ false →
@@ -47,9 +47,9 @@ pub front_of_erased : (page : ℕ) (region : Image) → IsErased region.bytes �
     front_candidate page region ≡ None
 front_of_erased page region erased =
     none_between
-    (not (is_lost (health_of page region 0 front_len)))
-    (has_front (length region.bytes) (take front_len region.bytes))
+    (not (is_lost (health_of page region 0 stride_header_len)))
+    (has_front (length region.bytes) (take stride_header_len region.bytes))
     (not (is_lost (record_health page region)))
-    (Some (take (len_of (take front_len region.bytes)) (drop front_len region.bytes)))
-    (no_front (length region.bytes) (take front_len region.bytes)
-    (take_erased front_len region.bytes erased))
+    (Some (take (header_len_of (take stride_header_len region.bytes)) (drop stride_header_len region.bytes)))
+    (no_front (length region.bytes) (take stride_header_len region.bytes)
+    (take_erased stride_header_len region.bytes erased))

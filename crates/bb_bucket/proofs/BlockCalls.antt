@@ -1,5 +1,6 @@
--- The flash calls that a bucket over a block makes: an erase of the block, and a program of its first
--- bytes behind one. They are shown for each kind over a block in whose blank block nothing stands.
+-- The flash calls that a bucket over a block makes: an erase of the block, and a program of its
+-- first bytes after one. They are shown for each kind over a block in whose blank block nothing
+-- stands.
 use Rattle.std.proofs.Common.{◌≡◌, ℕ, ◌+◌, ◌≤◌, List, length, replicate, Option, Some, None, option_map, refl, sym, ap, ◌∙◌, arith, subst, inl, inr, Contains}
 use Rattle.std.specs.Option.{ForSome}
 use Rattle.std.proofs.lemmas.List.{length-replicate}
@@ -10,11 +11,11 @@ use Rattle.bb_flash.specs.Cuts.{IsLater}
 use Rattle.bb_flash.specs.Device.{Change, Device, IsDevice, Told, change_of, content}
 use Rattle.bb_flash.specs.Image.{Image, IsImageOf, with_bytes}
 use Rattle.bb_bucket.specs.declared.block.Block.{Block}
-use Rattle.bb_bucket.specs.Blocks.{blank_block}
+use Rattle.bb_bucket.specs.Blocks.{erased_block}
 use Rattle.bb_bucket.specs.BlockLaws.{HasBlock, block_lies_on}
 use Rattle.bb_bucket.specs.Calls.{EachCall, IsVoidCall, IsWriteCall, Leaves}
 use Rattle.bb_bucket.specs.Front.{first_bytes, put_at}
-use Rattle.bb_bucket.specs.Kind.{BucketKind, IsBegun, part_of}
+use Rattle.bb_bucket.specs.Kind.{BucketKind, BeginsWithRecord, part_of}
 use Rattle.bb_bucket.proofs.Erases.{part_erased}
 use Rattle.bb_bucket.proofs.OneCall.{one_call}
 use Rattle.bb_bucket.proofs.Programs.{part_programmed}
@@ -42,9 +43,9 @@ calls_given S P from to given calls = record {
       calls.each first e last f call change late made (given first.image (content_of from.told first e));
 }
 
-module _ (kind : BucketKind) (page : ℕ) (none : kind.candidate_of (blank_block page kind.region.size) ≡ None) where
-  blank_none : (geometry : Geometry) → HasBlock (kind_block kind page) geometry → kind.candidate_of (blank_block geometry.page kind.region.size) ≡ None
-  blank_none geometry held = ap (λ p. kind.candidate_of (blank_block p kind.region.size)) held.page ∙ none
+module _ (kind : BucketKind) (page : ℕ) (none : kind.candidate_of (erased_block page kind.region.size) ≡ None) where
+  blank_none : (geometry : Geometry) → HasBlock (kind_block kind page) geometry → kind.candidate_of (erased_block geometry.page kind.region.size) ≡ None
+  blank_none geometry held = ap (λ p. kind.candidate_of (erased_block p kind.region.size)) held.page ∙ none
 
   -- nothing stands in the region once it was erased
   erased_none :
@@ -92,9 +93,9 @@ module _ (kind : BucketKind) (page : ℕ) (none : kind.candidate_of (blank_block
       (geometry : Geometry) (rec bytes : List ℕ) (first image : Image) →
       HasBlock (kind_block kind page) geometry → IsImageOf geometry image →
       length bytes ≤ kind.region.size →
-      IsBegun rec (kind.candidate_of (put_at page 0 bytes (blank_block page kind.region.size))) →
+      BeginsWithRecord rec (kind.candidate_of (put_at page 0 bytes (erased_block page kind.region.size))) →
       NamesBoth kind geometry.page rec (length bytes) first →
-      part_of geometry.page kind.region image ≡ blank_block geometry.page kind.region.size →
+      part_of geometry.page kind.region image ≡ erased_block geometry.page kind.region.size →
       IsWriteCall kind geometry.page rec first (change_of geometry.page kind.region.at bytes image)
   program_in_write geometry rec bytes first image held whole fits begun names blank =
       let start : kind.region.at ≡ kind.region.at + 0 = omega arith in
@@ -102,12 +103,12 @@ module _ (kind : BucketKind) (page : ℕ) (none : kind.candidate_of (blank_block
       ap (λ at. part_of geometry.page kind.region (with_bytes geometry.page at bytes Fine image)) start
       ∙ part_programmed kind.region geometry 0 bytes image (omega (arith, held.page, held.page_least)) (block_lies_on (kind_block kind page) geometry held) (omega (arith, fits)) whole
       ∙ ap (put_at geometry.page 0 bytes) blank
-      ∙ ap (λ p. put_at p 0 bytes (blank_block p kind.region.size)) held.page in
+      ∙ ap (λ p. put_at p 0 bytes (erased_block p kind.region.size)) held.page in
       record {
         within = record { low = omega arith; high = omega (arith, fits) };
         range = names.first;
         begins = inl (inr (ap kind.candidate_of blank ∙ blank_none geometry held));
-        leaves = inr (subst (λ (part : Image). IsBegun rec (kind.candidate_of part)) (sym after) begun);
+        leaves = inr (subst (λ (part : Image). BeginsWithRecord rec (kind.candidate_of part)) (sym after) begun);
       }
 
   -- a void that erases
@@ -135,21 +136,21 @@ module _ (kind : BucketKind) (page : ℕ) (none : kind.candidate_of (blank_block
       (one_call (λ image change. given image → IsWriteCall kind from.geometry.page rec image change) kind.region.at (replicate kind.region.size 255) from to
       (λ image fits names. erase_in_write from.geometry rec image held fits names.whole) later whole changes)
 
-  -- an erase that answered Ok, and the program behind it
+  -- an erase that answered Ok, and the program after it
   pub erase_then_program :
       (one two three : Device) (rec bytes : List ℕ) →
       HasBlock (kind_block kind page) one.geometry → length bytes ≤ kind.region.size →
-      IsBegun rec (kind.candidate_of (put_at page 0 bytes (blank_block page kind.region.size))) →
+      BeginsWithRecord rec (kind.candidate_of (put_at page 0 bytes (erased_block page kind.region.size))) →
       ForSome (content one) (NamesBoth kind one.geometry.page rec (length bytes)) →
       IsLater one two → IsLater two three → IsDevice two → IsDevice three →
       ChangesOnly kind.region.at (replicate kind.region.size 255) one two →
-      Leaves kind.region (λ part. blank_block one.geometry.page kind.region.size) one two →
+      Leaves kind.region (λ part. erased_block one.geometry.page kind.region.size) one two →
       ChangesOnly kind.region.at bytes two three →
       EachCall (IsWriteCall kind one.geometry.page rec) one three
   erase_then_program one two three rec bytes held fits begun named early late mid_whole last_whole erased blank programmed =
       let p : ℕ = one.geometry.page in
       let given : Image → Type 0 = NamesBoth kind p rec (length bytes) in
-      let is_blank : Image → Type 0 = λ image. part_of p kind.region image ≡ blank_block p kind.region.size in
+      let is_blank : Image → Type 0 = λ image. part_of p kind.region image ≡ erased_block p kind.region.size in
       let write : Image → Change → Type 0 = IsWriteCall kind p rec in
       let second : Image → Change → Type 0 = λ image change. (first : Image) → given first → is_blank image → write first change in
       let both : Image → Change → Type 0 = λ image change. given image → write image change in
@@ -165,4 +166,4 @@ module _ (kind : BucketKind) (page : ℕ) (none : kind.candidate_of (blank_block
       (calls_joined write second both (λ first image. is_blank image) one two three
       (λ image change made names. made)
       (λ first image change blank made names. made first names blank)
-      early late (leaves_of kind.region (λ part. blank_block p kind.region.size) one two blank) first_run second_run)
+      early late (leaves_of kind.region (λ part. erased_block p kind.region.size) one two blank) first_run second_run)

@@ -7,7 +7,7 @@ use Rattle.bb_flash.specs.declared.health.Health.TheVariants.{Fine, Worn, Lost}
 use Rattle.bb_flash.specs.Image.{Image, health_of}
 use Rattle.bb_bucket.specs.declared.bucket.Found.{Found}
 use Rattle.bb_bucket.specs.Calls.{IsFoundAs}
-use Rattle.bb_bucket.specs.Front.{IsPart, found_of, front_candidate, front_is_worn, has_front, is_lost, is_worn, len_of, record_health}
+use Rattle.bb_bucket.specs.Front.{IsPart, found_of, front_candidate, front_is_worn, has_front, is_lost, is_worn, header_len_of, record_health}
 use Rattle.bb_bucket.specs.FrontLaws.{first_fails, second_fails}
 
 third_decides : {X : Type 0} (a b c : Bool) (x y : X) → a ≡ true → b ≡ true → cond (a && b && c) x y ≡ cond c x y
@@ -69,12 +69,12 @@ module _ (page : ℕ) (region : Image) (size : ℕ) where
         worn = sym (ap (λ found. is_some found && is_worn (record_health page region)) here ∙ ap is_worn h);
       }
 
-  pub found_record : (len : ℕ) (front rec others : List ℕ) (first health : Health) → length front ≡ 8 → IsPart page region size 0 front first → is_lost first ≡ false → has_front size front ≡ true → len ≡ len_of front → length rec ≡ len → IsPart page region size 8 rec health → IsFoundIn page region (rec ++ others) (found_of len health)
+  pub found_record : (len : ℕ) (front rec others : List ℕ) (first health : Health) → length front ≡ 8 → IsPart page region size 0 front first → is_lost first ≡ false → has_front size front ≡ true → len ≡ header_len_of front → length rec ≡ len → IsPart page region size 8 rec health → IsFoundIn page region (rec ++ others) (found_of len health)
   found_record len front rec others first health whole part kept fronted is long read =
-      let given : len_of (take 8 region.bytes) ≡ length rec = ap len_of (sym (front_is front first whole part kept)) ∙ sym is ∙ sym long in
+      let given : header_len_of (take 8 region.bytes) ≡ length rec = ap header_len_of (sym (front_is front first whole part kept)) ∙ sym is ∙ sym long in
       let same : record_health page region ≡ health = ap (health_of page region 8) given ∙ sym read.health_is in
       let candidate =
-      third_decides (not (is_lost (health_of page region 0 8))) (has_front (length region.bytes) (take 8 region.bytes)) (not (is_lost (record_health page region))) (Some (take (len_of (take 8 region.bytes)) (drop 8 region.bytes))) None (ap not (front_health front first whole part ∙ kept)) (same_front front first whole part kept ∙ fronted)
+      third_decides (not (is_lost (health_of page region 0 8))) (has_front (length region.bytes) (take 8 region.bytes)) (not (is_lost (record_health page region))) (Some (take (header_len_of (take 8 region.bytes)) (drop 8 region.bytes))) None (ap not (front_health front first whole part ∙ kept)) (same_front front first whole part kept ∙ fronted)
       ∙ ap (λ n. cond (not (is_lost (record_health page region))) (Some (take n (drop 8 region.bytes))) None) given
       ∙ ap (λ h. cond (not (is_lost h)) (Some (take (length rec) (drop 8 region.bytes))) None) same in
       let found = found_with rec others health same (λ lives. read.exact (alive health lives)) candidate in
@@ -85,7 +85,7 @@ second_of_both true b e = e
 second_of_both false b e = absurd cc
 
 -- the length that the front gives is one that the stride holds
-pub front_fits : (size : ℕ) (front : List ℕ) → has_front size front ≡ true → 8 + len_of front ≤ size
+pub front_fits : (size : ℕ) (front : List ℕ) → has_front size front ≡ true → 8 + header_len_of front ≤ size
 front_fits size front e = leb-true _ _ (second_of_both _ _ e)
 
 -- a length was found in the front

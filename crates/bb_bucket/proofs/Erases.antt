@@ -13,7 +13,7 @@ use Rattle.bb_flash.specs.Device.{Device, IsDevice}
 use Rattle.bb_flash.specs.Image.{Image, IsBlank, IsImageOf, with_items_at, page_count, touched_pages, with_bytes, worst_of}
 use Rattle.bb_flash.proofs.Geometries.{whole_times}
 use Rattle.bb_bucket.specs.declared.block.Block.{Block}
-use Rattle.bb_bucket.specs.Blocks.{blank_block}
+use Rattle.bb_bucket.specs.Blocks.{erased_block}
 use Rattle.bb_bucket.specs.BlockLaws.{HasBlock, block_lies_on}
 use Rattle.bb_bucket.specs.Calls.{Leaves}
 use Rattle.bb_bucket.specs.Front.{put_at}
@@ -32,7 +32,7 @@ overwritten_whole new old all =
 blanked :
     (page size : ℕ) (part : Image) →
     0 < page → size % page ≡ 0 → length part.bytes ≡ size → length part.health ≤ size / page →
-    put_at page 0 (replicate size 255) part ≡ blank_block page size
+    put_at page 0 (replicate size 255) part ≡ erased_block page size
 blanked page size part some whole long pages =
     let blank : List ℕ = replicate size 255 in
     let len : length blank ≡ size = length-replicate {A = ℕ} size 255 in
@@ -56,7 +56,7 @@ health_size page at size pages some aligned whole =
 -- each part of a blank block is blank
 pub blank_is_blank :
     (page size at len : ℕ) → 0 < page → size % page ≡ 0 → at + len ≤ size →
-    IsBlank page (blank_block page size) at len
+    IsBlank page (erased_block page size) at len
 blank_is_blank page size at len some whole fits =
     let fine : List Health = replicate (size / page) Fine in
     let times = whole_times size page whole in
@@ -84,7 +84,7 @@ pub part_erased :
     (region : Region) (geometry : Geometry) (image : Image) →
     0 < geometry.page → LiesOn geometry region → IsImageOf geometry image →
     part_of geometry.page region (with_bytes geometry.page region.at (replicate region.size 255) Fine image)
-    ≡ blank_block geometry.page region.size
+    ≡ erased_block geometry.page region.size
 part_erased region geometry image some lies whole =
     let page : ℕ = geometry.page in
     let blank : List ℕ = replicate region.size 255 in
@@ -106,7 +106,7 @@ module _ (block : Block) where
       HasBlock block from.geometry → IsDevice to → to.geometry ≡ from.geometry →
       ChangesOnly block.region.at (replicate block.region.size 255) from to →
       to.told ≡ option_map (told_after_erase from.geometry (block.region.at / block.region.size)) from.told →
-      Leaves block.region (λ part. blank_block from.geometry.page block.region.size) from to
+      Leaves block.region (λ part. erased_block from.geometry.page block.region.size) from to
   leaves_blank from to held whole same changes told = record {
     there = λ before e after f.
         let page : ℕ = from.geometry.page in

@@ -5,7 +5,7 @@ use Rattle.bb_flash.specs.declared.health.Health.TheVariants.{Fine, Worn, Lost}
 use Rattle.bb_flash.specs.Image.{Image}
 use Rattle.bb_bucket.specs.declared.block.Block.{Block}
 use Rattle.bb_bucket.specs.Blocks.{blank_of}
-use Rattle.bb_bucket.specs.Front.{entry_of, front_candidate, front_is_worn}
+use Rattle.bb_bucket.specs.Front.{with_header, front_candidate, front_is_worn}
 use Rattle.bb_bucket.specs.OneBlock.{block_entry, one_block_kind}
 use Rattle.bb_bucket.specs.Stride.{begun_with, stride_candidate, stride_is_worn}
 
@@ -28,7 +28,7 @@ raw =
 -- the same bytes, with one page in another health after they were written
 aged : ℕ → Health → Image
 aged before health = record {
-  bytes = (begun_with (entry_of raw) blank).bytes;
+  bytes = (begun_with (with_header raw) blank).bytes;
   health = (with_page before health).health;
 }
 
@@ -36,11 +36,11 @@ nothing_in_a_blank_stride : stride_candidate blank ≡ None
 unfolding blank
 nothing_in_a_blank_stride = refl
 
-written_stride : (begun_with (entry_of raw) blank).bytes ≡ (0xf3 ∷ 0xfd ∷ 0x54 ∷ 0x23 ∷ 0x19 ∷ 0 ∷ 0 ∷ 0 ∷ []) ++ raw ++ replicate 31 255
+written_stride : (begun_with (with_header raw) blank).bytes ≡ (0xf3 ∷ 0xfd ∷ 0x54 ∷ 0x23 ∷ 0x19 ∷ 0 ∷ 0 ∷ 0 ∷ []) ++ raw ++ replicate 31 255
 unfolding blank raw
 written_stride = refl
 
-record_in_a_written_stride : stride_candidate (begun_with (entry_of raw) blank) ≡ Some raw
+record_in_a_written_stride : stride_candidate (begun_with (with_header raw) blank) ≡ Some raw
 unfolding blank raw
 record_in_a_written_stride = refl
 
@@ -64,7 +64,7 @@ not_worn_with_the_front_worn : stride_is_worn (aged 7 Worn) ≡ false
 unfolding aged blank raw with_page
 not_worn_with_the_front_worn = refl
 
--- a length of 57 bytes doesn't fit behind the front, one of 56 does
+-- a length of 57 bytes doesn't fit after the front, one of 56 does
 none_with_too_great_a_length : stride_candidate (begun_with (0xf3 ∷ 0xfd ∷ 0x54 ∷ 0x23 ∷ 57 ∷ 0 ∷ 0 ∷ 0 ∷ []) blank) ≡ None
 unfolding blank
 none_with_too_great_a_length = refl

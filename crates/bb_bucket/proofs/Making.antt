@@ -3,7 +3,7 @@ use Rattle.std.proofs.Common.{◌≡◌, ℕ, ◌+◌, ◌*◌, ◌≤◌, ◌++
 use Rattle.std.specs.Option.{ForSome, is_some}
 use Rattle.bb_flash.specs.declared.geometry.Geometry.{Geometry}
 use Rattle.bb_flash.specs.declared.region.Region.{Region}
-use Rattle.bb_flash.specs.Calls.{ChangesOnly, IsTornBy, IsUntouched, blank_block, told_after_erase, told_after_program}
+use Rattle.bb_flash.specs.Calls.{ChangesOnly, IsTornBy, HasNoChange, erased_bytes, told_after_erase, told_after_program}
 use Rattle.bb_flash.specs.Cuts.{IsLater}
 use Rattle.bb_flash.specs.Device.{Change, Device, Told, change_of, content, moment}
 use Rattle.bb_flash.specs.Image.{Image}
@@ -17,7 +17,7 @@ one_more_change before after change e = ap length e ∙ length-append before (ch
 
 one_at_most :
     (page at : ℕ) (bytes : List ℕ) (first last : Told) →
-    IsUntouched first last ⊎ IsTornBy page at bytes first last → moment last ≤ moment first + 1
+    HasNoChange first last ⊎ IsTornBy page at bytes first last → moment last ≤ moment first + 1
 one_at_most page at bytes first last (inl same) = omega (arith, ap (length {A = Change}) same.changes)
 one_at_most page at bytes first last (inr torn) = omega (arith, one_more_change first.changes last.changes _ torn.change)
 
@@ -82,7 +82,7 @@ refused_most one two region f g from to fewer fails made = record {
   done = refused _ two fails;
 }
 
--- a call behind one that made one
+-- a call after one that made one
 pub made_behind_one :
     {T U E : Type 0} (one : T) (result : Result U E) (region : Region) (from mid to : Device) →
     IsLater from mid →
@@ -107,7 +107,7 @@ program_adds page at bytes told = length-append told.changes (change_of page at 
 
 pub erase_adds : (geometry : Geometry) (block : ℕ) (told : Told) → moment (told_after_erase geometry block told) ≡ moment told + 1
 erase_adds geometry block told =
-    length-append told.changes (change_of geometry.page (block * geometry.block) (blank_block geometry) told.image ∷ [])
+    length-append told.changes (change_of geometry.page (block * geometry.block) (erased_bytes geometry) told.image ∷ [])
 
 -- a look that failed, or that came first, made none
 pub made_none :

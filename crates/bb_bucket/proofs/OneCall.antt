@@ -3,7 +3,7 @@ use Rattle.std.proofs.Common.{◌≡◌, ℕ, zero, suc, ◌*◌, ◌<◌, ◌�
 use Rattle.std.specs.Prelude.{slice_get}
 use Rattle.std.proofs.lemmas.Option.{slice_get_within}
 use Rattle.bb_flash.specs.declared.geometry.Geometry.{Geometry}
-use Rattle.bb_flash.specs.Calls.{ChangesOnly, IsTornBy, IsUntouched}
+use Rattle.bb_flash.specs.Calls.{ChangesOnly, IsTornBy, HasNoChange}
 use Rattle.bb_flash.specs.Cuts.{IsLater}
 use Rattle.bb_flash.specs.Device.{Change, Device, IsDevice, Told, change_of, moment}
 use Rattle.bb_flash.specs.Image.{Image, IsImageOf, Torn}
@@ -32,7 +32,7 @@ one_change :
     (change : Change) →
     ((image : Image) → IsImageOf geometry image → P image (change_of geometry.page at bytes image)) →
     IsImageOf geometry last.image →
-    IsUntouched first last ⊎ IsTornBy geometry.page at bytes first last →
+    HasNoChange first last ⊎ IsTornBy geometry.page at bytes first last →
     moment first ≤ call →
     slice_get last.changes call ≡ Some change →
     P first.image change
@@ -63,8 +63,8 @@ one_call P at bytes from to holds later whole changes = record {
 
 ends_so :
     (page at : ℕ) (bytes : List ℕ) (first last : Told) →
-    IsUntouched first last ⊎ IsTornBy page at bytes first last →
-    IsUntouched first last ⊎ IsTornLast page first last
+    HasNoChange first last ⊎ IsTornBy page at bytes first last →
+    HasNoChange first last ⊎ IsTornLast page first last
 ends_so page at bytes first last (inl same) = inl same
 ends_so page at bytes first last (inr torn) =
     inr (record { earlier = []; change = change_of page at bytes first.image; made = torn.change; torn = torn.torn })

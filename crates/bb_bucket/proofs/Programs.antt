@@ -6,7 +6,7 @@ use Rattle.bb_flash.specs.declared.geometry.Geometry.{Geometry}
 use Rattle.bb_flash.specs.declared.health.Health.{Health}
 use Rattle.bb_flash.specs.declared.health.Health.TheVariants.{Fine}
 use Rattle.bb_flash.specs.declared.region.Region.{Region}
-use Rattle.bb_flash.specs.Calls.{ChangesOnly, IsTornBy, IsUntouched, told_after_program}
+use Rattle.bb_flash.specs.Calls.{ChangesOnly, IsTornBy, HasNoChange, told_after_program}
 use Rattle.bb_flash.specs.Cuts.{EachTorn}
 use Rattle.bb_flash.specs.Device.{Device, IsDevice, Told}
 use Rattle.bb_flash.specs.Image.{Image, IsImageOf, Torn, with_items_at, page_count, touched_pages, with_bytes}
@@ -105,7 +105,7 @@ told_of (Some t) image e = (t, refl, cc)
 image_kept :
     (geometry : Geometry) (at : ℕ) (bytes : List ℕ) (first last : Told) →
     IsImageOf geometry last.image →
-    IsUntouched first last ⊎ IsTornBy geometry.page at bytes first last →
+    HasNoChange first last ⊎ IsTornBy geometry.page at bytes first last →
     IsImageOf geometry first.image
 image_kept geometry at bytes first last whole (inl same) = subst (λ (i : Image). IsImageOf geometry i) same.image whole
 image_kept geometry at bytes first last whole (inr torn) = untorn geometry geometry.page at (length bytes) first.image last.image torn.torn whole

@@ -7,7 +7,7 @@ use Rattle.std.proofs.lemmas.List.{append-nil}
 use Rattle.std.proofs.lemmas.Option.{slice_get_within}
 use Rattle.bb_flash.specs.declared.geometry.Geometry.{Geometry}
 use Rattle.bb_flash.specs.declared.region.Region.{Region}
-use Rattle.bb_flash.specs.Calls.{IsUntouched}
+use Rattle.bb_flash.specs.Calls.{HasNoChange}
 use Rattle.bb_flash.specs.Cuts.{EachTorn, IsLater}
 use Rattle.bb_flash.specs.Device.{Change, Device, Told, content, erases, moment}
 use Rattle.bb_flash.specs.Image.{Image, Torn}
@@ -63,7 +63,7 @@ calls_joined P Q R M one two three of_first of_second h k between first_run seco
 -- the last change of two runs is that of the second, or of the first where the second made none
 torn_with :
     (page : ℕ) (first mid last : Told) →
-    IsTornLast page first mid → IsUntouched mid last → IsTornLast page first last
+    IsTornLast page first mid → HasNoChange mid last → IsTornLast page first last
 torn_with page first mid last torn same = record {
   earlier = torn.earlier;
   change = torn.change;
@@ -86,9 +86,9 @@ torn_after page first mid last before made torn = record {
 
 ends_twice :
     (page : ℕ) (first mid last : Told) →
-    IsUntouched first mid ⊎ IsTornLast page first mid →
-    IsUntouched mid last ⊎ IsTornLast page mid last →
-    IsUntouched first last ⊎ IsTornLast page first last
+    HasNoChange first mid ⊎ IsTornLast page first mid →
+    HasNoChange mid last ⊎ IsTornLast page mid last →
+    HasNoChange first last ⊎ IsTornLast page first last
 ends_twice page first mid last (inl h) (inl k) = inl (record { image = k.image ∙ h.image; changes = k.changes ∙ h.changes })
 ends_twice page first mid last (inr h) (inl k) = inr (torn_with page first mid last h k)
 ends_twice page first mid last (inl h) (inr k) = inr (torn_after page first mid last [] (h.changes ∙ sym (append-nil first.changes)) k)
@@ -103,14 +103,14 @@ ends_joined one two three h first_run second_run = record {
       let mid = there.0 in
       let page = ap (λ geometry. geometry.page) h.geometry in
       ends_twice one.geometry.page first mid last (first_run.ends first e mid there.1)
-      (subst (λ page. IsUntouched mid last ⊎ IsTornLast page mid last) page (second_run.ends mid there.1 last f));
+      (subst (λ page. HasNoChange mid last ⊎ IsTornLast page mid last) page (second_run.ends mid there.1 last f));
 }
 
 -- a run that changed nothing but the number of reads
 pub quiet_told :
     (from to : Option Told) (first last : Told) →
     option_map but_reads to ≡ option_map but_reads from → from ≡ Some first → to ≡ Some last →
-    IsUntouched first last
+    HasNoChange first last
 quiet_told from to first last same e f =
     let some : Some (but_reads last) ≡ Some (but_reads first) = ap (option_map but_reads) (sym f) ∙ same ∙ ap (option_map but_reads) e in
     let is : but_reads last ≡ but_reads first = cc in
@@ -190,7 +190,7 @@ pub leaves_of :
 leaves_of region f one two leaves first e mid k =
     leaves.there first.image (ap (option_map (λ (t : Told). t.image)) e) mid.image (ap (option_map (λ (t : Told). t.image)) k)
 
--- a run that erased nothing behind one that did
+-- a run that erased nothing after one that did
 pub erases_then_none :
     (region : Region) (f : Image → Bool) (one two three : Device) →
     erases three ≡ erases two → ErasesWhere region f one two → ErasesWhere region f one three
@@ -231,7 +231,7 @@ quiet_torn at size from to same = record {
   };
 }
 
--- the calls of a run behind it are its calls too
+-- the calls of a run after it are its calls too
 pub calls_after_quiet :
     (P : Image → Change → Type 0) (one two three : Device) →
     IsLater one two → IsLater two three → told_but_reads two ≡ told_but_reads one →

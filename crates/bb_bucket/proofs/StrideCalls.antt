@@ -9,9 +9,9 @@ use Rattle.bb_flash.specs.Cuts.{IsLater}
 use Rattle.bb_flash.specs.Device.{Device, IsDevice, change_of}
 use Rattle.bb_flash.specs.Image.{Image, IsImageOf, with_bytes}
 use Rattle.bb_bucket.specs.Calls.{EachCall, IsVoidCall, IsWriteCall}
-use Rattle.bb_bucket.specs.Front.{entry_of, first_bytes, put_at}
+use Rattle.bb_bucket.specs.Front.{with_header, first_bytes, put_at}
 use Rattle.bb_bucket.specs.FrontLaws.{written_begins}
-use Rattle.bb_bucket.specs.Kind.{IsBegun, part_of}
+use Rattle.bb_bucket.specs.Kind.{BeginsWithRecord, part_of}
 use Rattle.bb_bucket.specs.Stride.{begun_with, stride_candidate, stride_kind}
 use Rattle.bb_bucket.specs.StrideLaws.{IsHeld, stride_lies_on}
 use Rattle.bb_bucket.proofs.OneCall.{one_call}
@@ -35,18 +35,18 @@ stride_programmed stride geometry bytes image held fits whole =
 pub write_call :
     (stride : Region) (geometry : Geometry) (rec : List ℕ) (image : Image) →
     IsHeld stride geometry → 8 + length rec ≤ stride.size → IsImageOf geometry image →
-    IsWriteCall (stride_kind stride) geometry.page rec image (change_of geometry.page stride.at (entry_of rec) image)
+    IsWriteCall (stride_kind stride) geometry.page rec image (change_of geometry.page stride.at (with_header rec) image)
 write_call stride geometry rec image held fits whole =
-    let long : 8 + length rec ≡ length (entry_of rec) = omega arith in
-    let after = stride_programmed stride geometry (entry_of rec) image held (omega (arith, fits)) whole in
+    let long : 8 + length rec ≡ length (with_header rec) = omega arith in
+    let after = stride_programmed stride geometry (with_header rec) image held (omega (arith, fits)) whole in
     let begins =
-    written_begins 1 rec [] (entry_of rec) (part_of geometry.page stride image) (omega arith)
-    (omega (arith, fits, held.small, held.inside)) (sym (append-nil (entry_of rec))) in
+    written_begins 1 rec [] (with_header rec) (part_of geometry.page stride image) (omega arith)
+    (omega (arith, fits, held.small, held.inside)) (sym (append-nil (with_header rec))) in
     record {
       within = record { low = omega arith; high = omega (arith, fits) };
       range = only_one _ _ (ap (first_bytes stride) long);
       begins = inl (inl refl);
-      leaves = inr (subst (λ (part : Image). IsBegun rec (stride_candidate part)) (sym after) begins);
+      leaves = inr (subst (λ (part : Image). BeginsWithRecord rec (stride_candidate part)) (sym after) begins);
     }
 
 pub void_call :
@@ -65,10 +65,10 @@ void_call stride geometry image held fits whole =
 pub write_calls :
     (stride : Region) (rec : List ℕ) (from to : Device) →
     IsHeld stride from.geometry → 8 + length rec ≤ stride.size → IsLater from to → IsDevice to →
-    ChangesOnly stride.at (entry_of rec) from to →
+    ChangesOnly stride.at (with_header rec) from to →
     EachCall (IsWriteCall (stride_kind stride) from.geometry.page rec) from to
 write_calls stride rec from to held fits later whole changes =
-    one_call _ stride.at (entry_of rec) from to (λ image of_device. write_call stride from.geometry rec image held fits of_device) later whole changes
+    one_call _ stride.at (with_header rec) from to (λ image of_device. write_call stride from.geometry rec image held fits of_device) later whole changes
 
 -- and of a void, where it was to write zeros over the front
 pub void_calls :

@@ -31,15 +31,15 @@ pub record IsBlockBucket (block : Block) (bytes : List ℕ) : Type 0 where
   pub memory : length bytes ≡ block.region.size
 
 -- a block after an erase: each byte is 0xFF, and each page Fine
-abbrev pub blank_block : ℕ → ℕ → Image
-blank_block page size = record {
+abbrev pub erased_block : ℕ → ℕ → Image
+erased_block page size = record {
   bytes = replicate size 255;
   health = replicate (size / page) Fine;
 }
 
 -- the same of a block
 abbrev pub blank_of : Block → Image
-blank_of block = blank_block block.page block.region.size
+blank_of block = erased_block block.page block.region.size
 
 -- the least number of bytes that holds `len` ones in whole pages
 abbrev pub filled_len : ℕ → ℕ → ℕ

@@ -4,12 +4,12 @@ use Rattle.std.specs.Option.{ForSome}
 use Rattle.bb_base.specs.Faults.{one_more}
 use Rattle.bb_flash.specs.declared.geometry.Geometry.{Geometry}
 use Rattle.bb_flash.specs.declared.region.Region.{Region}
-use Rattle.bb_flash.specs.Calls.{IsUntouched}
+use Rattle.bb_flash.specs.Calls.{HasNoChange}
 use Rattle.bb_flash.specs.Image.{Image, Torn}
 use Rattle.bb_flash.specs.Cuts.{EachTorn, IsLater}
 use Rattle.bb_flash.specs.Device.{Change, Device, IsDevice, LeavesStarts, Told, content, erases, moment}
 use Rattle.bb_bucket.specs.declared.bucket.Found.{Found}
-use Rattle.bb_bucket.specs.Kind.{BucketKind, Holding, IsBegun, part_of}
+use Rattle.bb_bucket.specs.Kind.{BucketKind, Holding, BeginsWithRecord, part_of}
 
 -- the bucket keeps of its region what stands there, where the device tells it
 pub record Agrees (holding : Holding) (device : Device) : Type 0 where
@@ -81,7 +81,7 @@ pub record EndsTorn (from to : Device) : Type 0 where
       ForSome from.told
       (λ first.
       ForSome to.told
-      (λ last. IsUntouched first last ⊎ IsTornLast from.geometry.page first last))
+      (λ last. HasNoChange first last ⊎ IsTornLast from.geometry.page first last))
 
 -- calls that change a region alone, whatever they answered: the device holds at their end what it
 -- held, or what is torn from the last of them, no cut leaves more than the region torn, and no
@@ -115,7 +115,7 @@ IsOldOrNone kind page before image =
 -- it is that of the image before, none, or one that begins with the record
 abbrev pub IsOldOrBegun : BucketKind → ℕ → List ℕ → Image → Image → Type 0
 IsOldOrBegun kind page rec before image =
-    IsOldOrNone kind page before image ⊎ IsBegun rec (candidate_in kind page image)
+    IsOldOrNone kind page before image ⊎ BeginsWithRecord rec (candidate_in kind page image)
 
 -- A flash call of a write: it touches one of the ranges that its kind names, inside the region.
 -- What it began from, and what it leaves where it answers Ok, have the old candidate, none, or one

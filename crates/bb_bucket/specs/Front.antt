@@ -11,8 +11,8 @@ use Rattle.bb_flash.specs.Image.{Image, health_of, with_bytes}
 use Rattle.bb_bucket.specs.declared.bucket.Found.{Found}
 
 -- how many bytes a front has
-abbrev pub front_len : ℕ
-front_len = 8
+abbrev pub stride_header_len : ℕ
+stride_header_len = 8
 
 -- a page is Lost, or Worn
 abbrev pub is_lost : Health → Bool
@@ -35,24 +35,24 @@ pub record IsPart (page : ℕ) (region : Image) (size at : ℕ) (out : List ℕ)
 abbrev pub has_front : ℕ → List ℕ → Bool
 has_front size front =
     little_number 4 front == 0x2354fdf3
-    && nat_le (front_len + little_number 4 (drop 4 front)) size
+    && nat_le (stride_header_len + little_number 4 (drop 4 front)) size
 
 -- the record's length, as the front says
-abbrev pub len_of : List ℕ → ℕ
-len_of front = little_number 4 (drop 4 front)
+abbrev pub header_len_of : List ℕ → ℕ
+header_len_of front = little_number 4 (drop 4 front)
 
 -- how the pages are in which the bytes stand that the front says are the record
 abbrev pub record_health : ℕ → Image → Health
 record_health page region =
-    health_of page region front_len (len_of (take front_len region.bytes))
+    health_of page region stride_header_len (header_len_of (take stride_header_len region.bytes))
 
--- The bytes that stand behind a front as its record, if any do. Bytes in a Lost page don't.
+-- The bytes that stand after a front as its record, if any do. Bytes in a Lost page don't.
 abbrev pub front_candidate : ℕ → Image → Option (List ℕ)
 front_candidate page region =
-    if not (is_lost (health_of page region 0 front_len))
-    && has_front (length region.bytes) (take front_len region.bytes)
+    if not (is_lost (health_of page region 0 stride_header_len))
+    && has_front (length region.bytes) (take stride_header_len region.bytes)
     && not (is_lost (record_health page region))
-    then Some (take (len_of (take front_len region.bytes)) (drop front_len region.bytes))
+    then Some (take (header_len_of (take stride_header_len region.bytes)) (drop stride_header_len region.bytes))
     else None
 
 -- whether one of their pages is Worn
@@ -60,15 +60,15 @@ abbrev pub front_is_worn : ℕ → Image → Bool
 front_is_worn page region =
     is_some (front_candidate page region) && is_worn (record_health page region)
 
--- what a read finds, once the front gave a length, and the bytes behind it were read in this health
+-- what a read finds, once the front gave a length, and the bytes after it were read in this health
 abbrev pub found_of : ℕ → Health → Found
 found_of len Fine = record { len = Some len; worn = false }
 found_of len Worn = record { len = Some len; worn = true }
 found_of len Lost = record { len = None; worn = false }
 
 -- a record with its front
-abbrev pub entry_of : List ℕ → List ℕ
-entry_of rec = little_bytes 4 0x2354fdf3 ++ little_bytes 4 (length rec) ++ rec
+abbrev pub with_header : List ℕ → List ℕ
+with_header rec = little_bytes 4 0x2354fdf3 ++ little_bytes 4 (length rec) ++ rec
 
 -- the first bytes of a region
 abbrev pub first_bytes : Region → ℕ → Region

@@ -10,9 +10,9 @@ use Rattle.bb_flash.specs.declared.health.Health.{Health}
 use Rattle.bb_flash.specs.declared.health.Health.TheVariants.{Fine}
 use Rattle.bb_flash.specs.Image.{Image, health_of, with_items_at, page_count, touched_pages, worst_of}
 use Rattle.bb_flash.proofs.Tearing.{pages_inside, touched_pages-some}
-use Rattle.bb_bucket.specs.Blocks.{blank_block}
-use Rattle.bb_bucket.specs.Front.{entry_of, front_candidate, has_front, is_lost, len_of, put_at, record_health}
-use Rattle.bb_bucket.specs.Kind.{IsBegun}
+use Rattle.bb_bucket.specs.Blocks.{erased_block}
+use Rattle.bb_bucket.specs.Front.{with_header, front_candidate, has_front, is_lost, header_len_of, put_at, record_health}
+use Rattle.bb_bucket.specs.Kind.{BeginsWithRecord}
 
 pub fine_within :
     (at n k : ℕ) (others : List Health) →
@@ -69,18 +69,18 @@ taken_back rec filling others = grind (arith, common_steps)
 written_front :
     (rec filling others : List ℕ) →
     length rec < 2 ^ 32 →
-    has_front (length (entry_of rec ++ filling ++ others))
-    (take 8 (entry_of rec ++ filling ++ others))
+    has_front (length (with_header rec ++ filling ++ others))
+    (take 8 (with_header rec ++ filling ++ others))
     ≡ true
 written_front rec filling others small =
-    let bytes : List ℕ = entry_of rec ++ filling ++ others in
-    let len : len_of (take 8 bytes) ≡ length rec =
+    let bytes : List ℕ = with_header rec ++ filling ++ others in
+    let len : header_len_of (take 8 bytes) ≡ length rec =
     little_number-reads_back 4 (length rec) [] small in
-    le-leb (8 + len_of (take 8 bytes)) (length bytes)
+    le-leb (8 + header_len_of (take 8 bytes)) (length bytes)
     (omega (
       arith,
-      length-append (entry_of rec ++ filling) others,
-      length-append (entry_of rec) filling,
+      length-append (with_header rec ++ filling) others,
+      length-append (with_header rec) filling,
     ))
 
 -- a region that was written with a record and perhaps filled has it as its candidate, whatever
@@ -88,16 +88,16 @@ written_front rec filling others small =
 filled_candidate :
     (page : ℕ) (rec filling : List ℕ) (region : Image) →
     0 < page → length rec < 2 ^ 32 →
-    front_candidate page (put_at page 0 (entry_of rec ++ filling) region) ≡ Some rec
+    front_candidate page (put_at page 0 (with_header rec ++ filling) region) ≡ Some rec
 filled_candidate page rec filling region some small =
-    let bytes : List ℕ = entry_of rec ++ filling in
+    let bytes : List ℕ = with_header rec ++ filling in
     let after : Image = put_at page 0 bytes region in
     let others : List ℕ = drop (0 + length bytes) region.bytes in
-    let room = length-append (entry_of rec) filling in
-    let len : len_of (take 8 after.bytes) ≡ length rec =
+    let room = length-append (with_header rec) filling in
+    let len : header_len_of (take 8 after.bytes) ≡ length rec =
     little_number-reads_back 4 (length rec) [] small in
     let front = written_fine page bytes region 0 8 some (omega arith) in
-    let behind = written_fine page bytes region 8 (len_of (take 8 after.bytes)) some
+    let behind = written_fine page bytes region 8 (header_len_of (take 8 after.bytes)) some
     (omega arith) in
     three_hold (not (is_lost (health_of page after 0 8)))
     (has_front (length after.bytes) (take 8 after.bytes))
@@ -108,7 +108,7 @@ filled_candidate page rec filling region some small =
 
 pub written_candidate :
     (page : ℕ) (rec filling bytes : List ℕ) (region : Image) →
-    0 < page → length rec < 2 ^ 32 → bytes ≡ entry_of rec ++ filling →
+    0 < page → length rec < 2 ^ 32 → bytes ≡ with_header rec ++ filling →
     front_candidate page (put_at page 0 bytes region) ≡ Some rec
 written_candidate page rec filling bytes region some small is =
     ap (λ bytes. front_candidate page (put_at page 0 bytes region)) is
@@ -117,8 +117,8 @@ written_candidate page rec filling bytes region some small is =
 -- so it begins with the record
 pub written_begins :
     (page : ℕ) (rec filling bytes : List ℕ) (region : Image) →
-    0 < page → length rec < 2 ^ 32 → bytes ≡ entry_of rec ++ filling →
-    IsBegun rec (front_candidate page (put_at page 0 bytes region))
+    0 < page → length rec < 2 ^ 32 → bytes ≡ with_header rec ++ filling →
+    BeginsWithRecord rec (front_candidate page (put_at page 0 bytes region))
 written_begins page rec filling bytes region some small is = record {
   rest = [];
   begins =
@@ -136,9 +136,9 @@ blank_has_none (suc (suc (suc (suc size)))) = refl
 
 -- a blank block holds no record
 pub blank_holds_none : (page blank_page size : ℕ) →
-    front_candidate page (blank_block blank_page size) ≡ None
+    front_candidate page (erased_block blank_page size) ≡ None
 blank_holds_none page blank_page size =
-    let block : Image = blank_block blank_page size in
+    let block : Image = erased_block blank_page size in
     second_fails (not (is_lost (health_of page block 0 8)))
     (has_front (length block.bytes) (take 8 block.bytes))
     (not (is_lost (record_health page block))) _ None (blank_has_none size)

@@ -40,7 +40,7 @@ pub record Holding : Type 0 where
   pub knows_place : Bool
 
 -- a record begins what stands in a region
-pub record IsBegun (rec : List ℕ) (candidate : Option (List ℕ)) : Type 0 where
+pub record BeginsWithRecord (rec : List ℕ) (candidate : Option (List ℕ)) : Type 0 where
   pub rest : List ℕ
   pub begins : candidate ≡ Some (rec ++ rest)
 
@@ -57,7 +57,7 @@ KeepsRecords kind geometry =
     (rec : List ℕ) (image : Image) →
     length rec ≤ kind.room →
     IsImageOf geometry image →
-    IsBegun rec (kind.candidate_of (kind.after_write rec (part_of geometry.page kind.region image)))
+    BeginsWithRecord rec (kind.candidate_of (kind.after_write rec (part_of geometry.page kind.region image)))
 
 -- what holds of every kind
 pub record IsKind (kind : BucketKind) : Type 0 where

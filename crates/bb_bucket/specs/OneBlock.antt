@@ -3,22 +3,22 @@
 use Rattle.std.specs.Prelude.{ℕ, ◌+◌, ◌-◌, true, List, [], ◌∷◌, length}
 use Rattle.bb_bucket.specs.declared.block.Block.{Block}
 use Rattle.bb_bucket.specs.Blocks.{blank_of, filled_len, filled_to, is_block_of}
-use Rattle.bb_bucket.specs.Front.{entry_of, first_bytes, front_candidate, front_is_worn, front_len, put_at}
+use Rattle.bb_bucket.specs.Front.{with_header, first_bytes, front_candidate, front_is_worn, stride_header_len, put_at}
 use Rattle.bb_bucket.specs.Kind.{BucketKind, Holding}
 
 -- how many bytes are programmed for a record of `len` bytes
 abbrev pub block_entry_len : ℕ → ℕ → ℕ
-block_entry_len page len = filled_len page (front_len + len)
+block_entry_len page len = filled_len page (stride_header_len + len)
 
 -- what is programmed: front and record, filled with 0xFF to a whole page
 abbrev pub block_entry : ℕ → List ℕ → List ℕ
-block_entry page rec = filled_to (block_entry_len page (length rec)) (entry_of rec)
+block_entry page rec = filled_to (block_entry_len page (length rec)) (with_header rec)
 
 -- what such a block means
 abbrev pub one_block_kind : Block → BucketKind
 one_block_kind block = record {
   region = block.region;
-  room = block.region.size - front_len;
+  room = block.region.size - stride_header_len;
   serves = is_block_of block;
   candidate_of = front_candidate block.page;
   is_worn = front_is_worn block.page;

@@ -3,7 +3,7 @@ use Rattle.std.proofs.Common.{ℕ, ◌-◌, List, length, replicate, refl, arith
 use Rattle.bb_bucket.specs.declared.block.Block.{Block}
 use Rattle.bb_bucket.specs.Blocks.{blank_of}
 use Rattle.bb_bucket.specs.BlockLaws.{block_lies_on, block_of}
-use Rattle.bb_bucket.specs.Front.{entry_of}
+use Rattle.bb_bucket.specs.Front.{with_header}
 use Rattle.bb_bucket.specs.FrontLaws.{blank_holds_none, written_begins}
 use Rattle.bb_bucket.specs.Kind.{IsKind}
 use Rattle.bb_bucket.specs.OneBlock.{block_entry, block_entry_len, one_block_kind}
@@ -14,7 +14,7 @@ one_block_laws block = record {
   written = λ geometry serves rec image fits whole.
       let held = block_of block geometry serves in
       let filling : List ℕ =
-      replicate (block_entry_len block.page (length rec) - length (entry_of rec)) 255 in
+      replicate (block_entry_len block.page (length rec) - length (with_header rec)) 255 in
       written_begins block.page rec filling (block_entry block.page rec) (blank_of block)
       (omega (arith, held.page_least))
       (omega (arith, fits, held.small, held.inside, held.page_least, held.page_most)) refl;

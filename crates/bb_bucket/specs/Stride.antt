@@ -5,7 +5,7 @@ use Rattle.bb_flash.specs.declared.geometry.Geometry.{Geometry}
 use Rattle.bb_flash.specs.Geometry.{size_limit}
 use Rattle.bb_flash.specs.declared.region.Region.{Region}
 use Rattle.bb_flash.specs.Image.{Image}
-use Rattle.bb_bucket.specs.Front.{entry_of, first_bytes, front_candidate, front_is_worn, front_len, put_at}
+use Rattle.bb_bucket.specs.Front.{with_header, first_bytes, front_candidate, front_is_worn, stride_header_len, put_at}
 use Rattle.bb_bucket.specs.Kind.{BucketKind, Holding}
 
 -- a device that is overwritten in place, byte by byte
@@ -18,7 +18,7 @@ lies_on region geometry = is_in_place geometry && nat_le (region.at + region.siz
 
 -- what every stride keeps: a region with room for a front and a byte, and as many bytes of memory
 pub record IsStride (region : Region) (entry : List ℕ) : Type 0 where
-  pub least : front_len + 1 ≤ region.size
+  pub least : stride_header_len + 1 ≤ region.size
   pub memory : length entry ≡ region.size
 
 -- its pages are its bytes
@@ -37,14 +37,14 @@ begun_with bytes stride = put_at 1 0 bytes stride
 abbrev pub stride_kind : Region → BucketKind
 stride_kind region = record {
   region = region;
-  room = region.size - front_len;
+  room = region.size - stride_header_len;
   serves = lies_on region;
   candidate_of = stride_candidate;
   is_worn = stride_is_worn;
-  after_write = λ rec stride. begun_with (entry_of rec) stride;
-  after_void = begun_with (replicate front_len 0);
-  write_ranges = λ rec stride. first_bytes region (front_len + length rec) ∷ [];
-  void_ranges = first_bytes region front_len ∷ [];
+  after_write = λ rec stride. begun_with (with_header rec) stride;
+  after_void = begun_with (replicate stride_header_len 0);
+  write_ranges = λ rec stride. first_bytes region (stride_header_len + length rec) ∷ [];
+  void_ranges = first_bytes region stride_header_len ∷ [];
   write_erases = λ rec stride. false;
   void_erases = false;
 }

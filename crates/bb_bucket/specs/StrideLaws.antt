@@ -6,7 +6,7 @@ use Rattle.std.proofs.lemmas.List.{append-nil}
 use Rattle.bb_flash.specs.declared.geometry.Geometry.{Geometry}
 use Rattle.bb_flash.specs.Geometry.{size_limit}
 use Rattle.bb_flash.specs.declared.region.Region.{Region}
-use Rattle.bb_bucket.specs.Front.{entry_of}
+use Rattle.bb_bucket.specs.Front.{with_header}
 use Rattle.bb_bucket.specs.FrontLaws.{written_begins}
 use Rattle.bb_bucket.specs.Kind.{IsKind, LiesOn, part_of}
 use Rattle.bb_bucket.specs.Stride.{lies_on, stride_kind}
@@ -41,7 +41,7 @@ stride_laws region = record {
   lies = λ geometry serves. stride_lies_on region geometry (held_by region geometry serves);
   written = λ geometry serves rec image fits whole.
       let held = held_by region geometry serves in
-      written_begins 1 rec [] (entry_of rec) (part_of geometry.page region image) (omega arith)
-      (omega (arith, fits, held.small, held.inside)) (sym (append-nil (entry_of rec)));
+      written_begins 1 rec [] (with_header rec) (part_of geometry.page region image) (omega arith)
+      (omega (arith, fits, held.small, held.inside)) (sym (append-nil (with_header rec)));
   voided = λ stride. refl;
 }

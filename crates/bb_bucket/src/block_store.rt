@@ -4,7 +4,7 @@ ghost use Rattle.bb_flash.specs.Device.{reads};
 ghost use Rattle.bb_bucket.specs.Blocks.{is_block_of};
 ghost use Rattle.bb_bucket.specs.Calls.{ChangesWithin, EachCall, ErasesWhere, IsVoidCall};
 ghost use Rattle.bb_bucket.specs.Calls.{IsWriteCall, Leaves, MakesCalls, calls_of_write};
-ghost use Rattle.bb_bucket.specs.Front.{front_len};
+ghost use Rattle.bb_bucket.specs.Front.{stride_header_len};
 ghost use Rattle.bb_bucket.specs.OneBlock.{one_block_kind};
 
 use crate::Block;
@@ -13,8 +13,8 @@ use crate::parts::{erase_block, program_part};
 use bb_base::Failed;
 use bb_flash::Flash;
 
-/// Erases a block, and then writes a record and its front to its start, by one program. They are put
-/// together in `memory`, which has the block's size.
+/// Erases a block, and then writes a record and its front to its start, by one program. They are
+/// put together in `memory`, which has the block's size.
 pub(crate) fn write_block<F: Flash>(
     flash: &mut F,
     block: Block,
@@ -22,7 +22,7 @@ pub(crate) fn write_block<F: Flash>(
     rec: &[u8],
 ) -> Result<(), Failed>
     requires held { IsTrue (is_block_of block (F.device flash.old).geometry) }
-    requires room { front_len + length rec.now ≤ block.region.size }
+    requires room { stride_header_len + length rec.now ≤ block.region.size }
     requires memory { length memory.old ≡ block.region.size }
     ensures done { OnOk result (Leaves block.region ((one_block_kind block).after_write rec.now)
         (F.device flash.old) (F.device flash.new)) }

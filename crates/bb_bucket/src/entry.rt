@@ -1,7 +1,7 @@
 ghost use Rattle.std.specs.Prelude.{◌≡◌, ◌≤◌, ◌<◌, ◌+◌, ◌%◌, ◌^◌, Some, None, length};
 ghost use Rattle.std.specs.Prelude.{if◌then◌else◌};
 ghost use Rattle.bb_bucket.specs.Blocks.{filled_len, filled_to};
-ghost use Rattle.bb_bucket.specs.Front.{entry_of, front_len, has_front, len_of};
+ghost use Rattle.bb_bucket.specs.Front.{with_header, stride_header_len, has_front, header_len_of};
 
 use byteorder::{ByteOrder, LittleEndian};
 
@@ -13,10 +13,10 @@ const FRONT_MAGIC: u32 = 0x2354_fdf3;
 
 /// The length that the front gives, where it is a front and a region of `size` bytes holds so much.
 pub(crate) fn record_len(size: u32, front: &[u8]) -> Option<u32>
-    requires some { front_len ≤ size }
-    requires whole { length front.now ≡ front_len }
+    requires some { stride_header_len ≤ size }
+    requires whole { length front.now ≡ stride_header_len }
     ensures { result
-        ≡ (if has_front size front.now then Some (len_of front.now) else None) }
+        ≡ (if has_front size front.now then Some (header_len_of front.now) else None) }
 {
     let len = LittleEndian::read_u32(&front[4..]);
     let is_front = LittleEndian::read_u32(front) == FRONT_MAGIC && len <= size - FRONT_LEN;
@@ -26,8 +26,8 @@ pub(crate) fn record_len(size: u32, front: &[u8]) -> Option<u32>
 /// Writes a record with its front into `out`, which has room for exactly these.
 pub(crate) fn write_entry(rec: &[u8], out: &mut [u8])
     requires small { length rec.now < 2 ^ 32 }
-    requires room { length out.old ≡ front_len + length rec.now }
-    ensures { out.new ≡ entry_of rec.now }
+    requires room { length out.old ≡ stride_header_len + length rec.now }
+    ensures { out.new ≡ with_header rec.now }
 {
     LittleEndian::write_u32(out, FRONT_MAGIC);
     LittleEndian::write_u32(&mut out[4..], rec.len() as u32);
@@ -37,8 +37,8 @@ pub(crate) fn write_entry(rec: &[u8], out: &mut [u8])
 /// Writes a record with its front into `out`, and fills it with 0xFF.
 pub(crate) fn write_filled_entry(rec: &[u8], out: &mut [u8])
     requires small { length rec.now < 2 ^ 32 }
-    requires room { front_len + length rec.now ≤ length out.old }
-    ensures { out.new ≡ filled_to (length out.old) (entry_of rec.now) }
+    requires room { stride_header_len + length rec.now ≤ length out.old }
+    ensures { out.new ≡ filled_to (length out.old) (with_header rec.now) }
 {
     let (entry, filling) = out.split_at_mut(FRONT_LEN as usize + rec.len());
     write_entry(rec, entry);

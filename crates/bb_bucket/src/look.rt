@@ -3,7 +3,8 @@ ghost use Rattle.std.specs.Option.{ForSome};
 ghost use Rattle.bb_base.specs.Faults.{counted};
 ghost use Rattle.bb_flash.specs.Device.{content};
 ghost use Rattle.bb_bucket.specs.Calls.{IsFoundAs, IsQuiet};
-ghost use Rattle.bb_bucket.specs.Front.{found_of, front_candidate, front_is_worn, front_len};
+ghost use Rattle.bb_bucket.specs.Front.{found_of, front_candidate, front_is_worn};
+ghost use Rattle.bb_bucket.specs.Front.{stride_header_len};
 ghost use Rattle.bb_bucket.specs.Front.{is_lost};
 ghost use Rattle.bb_bucket.specs.Kind.{LiesOn, part_of};
 
@@ -28,13 +29,14 @@ pub(crate) fn read_record<F: Flash>(
 ) -> Result<Found, Failed>
     requires lies { LiesOn (F.device flash.old).geometry region }
     requires small { region.at + region.size < 2 ^ 32 }
-    requires least { front_len ≤ region.size }
-    requires room { length out.old ≡ region.size - front_len }
+    requires least { stride_header_len ≤ region.size }
+    requires room { length out.old ≡ region.size - stride_header_len }
     ensures done { IfOk result (λ found. ForSome (content (F.device flash.old)) (λ image.
         let page = (F.device flash.old).geometry.page in
         let part = part_of page region image in
         IsFoundAs (front_candidate page part) (front_is_worn page part) out.new found)) }
-    ensures fits { IfOk result (λ found. IfSome found.len (λ len. len ≤ region.size - front_len)) }
+    ensures fits { IfOk result (λ found.
+        IfSome found.len (λ len. len ≤ region.size - stride_header_len)) }
     ensures quiet { IsQuiet (F.device flash.old) (F.device flash.new) }
     ensures faults { (F.device flash.new).faults
         ≡ counted (is_err result) (F.device flash.old).faults }

@@ -5,7 +5,7 @@ ghost use Rattle.bb_base.specs.Faults.{counted};
 ghost use Rattle.bb_flash.specs.Calls.{ChangesOnly};
 ghost use Rattle.bb_flash.specs.Device.{content, erases, reads};
 ghost use Rattle.bb_flash.specs.Image.{IsBlank};
-ghost use Rattle.bb_bucket.specs.Blocks.{blank_block, is_block_of};
+ghost use Rattle.bb_bucket.specs.Blocks.{erased_block, is_block_of};
 ghost use Rattle.bb_bucket.specs.Calls.{ChangesWithin, ErasesWhere, IsQuiet, Leaves, MakesCalls};
 ghost use Rattle.bb_bucket.specs.Front.{IsPart, put_at};
 ghost use Rattle.bb_bucket.specs.Kind.{LiesOn, part_of};
@@ -76,7 +76,7 @@ pub fn program_part<F: Flash>(
 pub fn erase_block<F: Flash>(flash: &mut F, block: Block) -> Result<(), Failed>
     requires held { IsTrue (is_block_of block (F.device flash.old).geometry) }
     ensures done { OnOk result (Leaves block.region
-        (λ part. blank_block (F.device flash.old).geometry.page block.region.size)
+        (λ part. erased_block (F.device flash.old).geometry.page block.region.size)
         (F.device flash.old) (F.device flash.new)) }
     ensures changes { ChangesOnly block.region.at (replicate block.region.size 255)
         (F.device flash.old) (F.device flash.new) }

@@ -3,7 +3,7 @@ ghost use Rattle.bb_base.specs.Faults.{counted};
 ghost use Rattle.bb_flash.specs.Device.{reads};
 ghost use Rattle.bb_bucket.specs.Calls.{ChangesWithin, EachCall, ErasesWhere, IsVoidCall};
 ghost use Rattle.bb_bucket.specs.Calls.{IsWriteCall, Leaves, MakesCalls, calls_of_write};
-ghost use Rattle.bb_bucket.specs.Front.{front_len};
+ghost use Rattle.bb_bucket.specs.Front.{stride_header_len};
 ghost use Rattle.bb_bucket.specs.Stride.{lies_on, stride_kind};
 
 use crate::entry::{FRONT_LEN, write_entry};
@@ -20,7 +20,7 @@ pub(crate) fn write_record<F: Flash>(
     rec: &[u8],
 ) -> Result<(), Failed>
     requires held { IsTrue (lies_on stride (F.device flash.old).geometry) }
-    requires room { front_len + length rec.now ≤ stride.size }
+    requires room { stride_header_len + length rec.now ≤ stride.size }
     requires small { stride.size < 2 ^ 32 }
     requires memory { length memory.old ≡ stride.size }
     ensures done { OnOk result (Leaves stride ((stride_kind stride).after_write rec.now)
@@ -46,7 +46,7 @@ pub(crate) fn write_record<F: Flash>(
 /// Writes zeros over the front of a stride, by one program.
 pub(crate) fn void_record<F: Flash>(flash: &mut F, stride: Region) -> Result<(), Failed>
     requires held { IsTrue (lies_on stride (F.device flash.old).geometry) }
-    requires least { front_len ≤ stride.size }
+    requires least { stride_header_len ≤ stride.size }
     ensures done { OnOk result (Leaves stride (stride_kind stride).after_void
         (F.device flash.old) (F.device flash.new)) }
     ensures calls { EachCall (IsVoidCall (stride_kind stride) (F.device flash.old).geometry.page)

@@ -1,5 +1,5 @@
 ghost use Rattle.std.specs.Prelude.{◌≡◌, ◌+◌, ◌≤◌, IfOk};
-ghost use Rattle.bb_bucket.specs.Front.{front_len};
+ghost use Rattle.bb_bucket.specs.Front.{stride_header_len};
 ghost use Rattle.bb_bucket.specs.Stride.{stride_holding};
 ghost use Rattle.bb_bucket.specs.StrideLaws.{stride_laws};
 
@@ -39,7 +39,7 @@ impl Stride {
     /// A stride in this region, which has a byte more than a front at least. It takes memory for as
     /// many bytes.
     pub fn of(alloc: Global, region: Region) -> Result<Stride, NoMemory>
-        requires { front_len + 1 ≤ region.size }
+        requires { stride_header_len + 1 ≤ region.size }
         ensures { IfOk result (λ stride. stride ≡ region) }
     {
         let entry = vec![in alloc; 0; region.size as usize]?;

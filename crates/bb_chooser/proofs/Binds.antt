@@ -7,7 +7,7 @@ use Rattle.bb_chooser.specs.declared.bound_target.BoundTarget.{BoundTarget}
 use Rattle.bb_chooser.specs.declared.settings_error.SettingsError.{SettingsError}
 use Rattle.bb_chooser.specs.declared.target.Target.{Target}
 
--- targets that are bound, and behind them the rest
+-- targets that are bound, and after them the rest
 abbrev pub onto_bound : List BoundTarget → Result (List BoundTarget) SettingsError → Result (List BoundTarget) SettingsError
 onto_bound bound more = result_and_then (λ rest. Ok (bound ++ rest)) more
 

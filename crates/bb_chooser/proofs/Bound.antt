@@ -1,4 +1,5 @@
--- What is true of targets that were bound: their variables are in the area, and no two share a byte.
+-- What is true of targets that were bound: their variables are in the area, and no two share a
+-- byte.
 use Rattle.std.proofs.Common.{◌≡◌, ◌≢◌, ℕ, zero, suc, ◌+◌, ◌<◌, ◌≤◌, ◌==◌, ◌||◌, Bool, true, false, List, [], ◌∷◌, ◌++◌, Option, Some, None, Result, Ok, Err, if◌then◌else◌, arith, codes, get_or, length, map, not, refl, slice_get, subst, sym, ap, ◌∙◌, inl, inr}
 use Rattle.std.proofs.lemmas.Bool.{cases_lt, cases_order, eqb-true, false≢true}
 use Rattle.std.proofs.lemmas.List.{append_cancel_left, append_cancel_right}
@@ -13,7 +14,7 @@ use Rattle.std.specs.Str.{bytes_eq}
 use Rattle.bb_layout.specs.Facts.{AreVars, ShareNoByte}
 use Rattle.bb_layout.specs.Ranges.{end_of, some_pair}
 use Rattle.bb_layout.specs.Results.{all_ok, result_and_then}
-use Rattle.bb_layout.specs.VarNames.{place_of}
+use Rattle.bb_layout.specs.VarNames.{place_of_var}
 use Rattle.bb_layout.specs.Variables.{IsWellFormed}
 use Rattle.bb_layout.specs.declared.var.Var.{Var}
 use Rattle.bb_vars.specs.Kind.{size_of}
@@ -70,7 +71,7 @@ pub record IsFound (layout : List ℕ) (vars : List Var) (full : List ℕ) (at :
 var_found : (layout : List ℕ) (vars : List Var) (full : List ℕ) (v : Var) → variable_called layout vars full ≡ Some v → (k : ℕ) × (slice_get vars k ≡ Some v) × (full ≡ layout ++ 46 ∷ v.name)
 var_found layout vars full v h = by_parts (sides_at 46 full) refl
   where
-    by_place : (p : List ℕ × List ℕ) (o : Option ℕ) → full ≡ layout ++ 46 ∷ p.1 → place_of vars p.1 ≡ o → option_and_then (slice_get vars) o ≡ Some v → (k : ℕ) × (slice_get vars k ≡ Some v) × (full ≡ layout ++ 46 ∷ v.name)
+    by_place : (p : List ℕ × List ℕ) (o : Option ℕ) → full ≡ layout ++ 46 ∷ p.1 → place_of_var vars p.1 ≡ o → option_and_then (slice_get vars) o ≡ Some v → (k : ℕ) × (slice_get vars k ≡ Some v) × (full ≡ layout ++ 46 ∷ v.name)
     by_place p None whole e g = cc
     by_place p (Some k) whole e g =
         let hit = (position-Some (λ (w : Var). bytes_eq p.1 w.name) vars k v e).1 in
@@ -78,16 +79,16 @@ var_found layout vars full v h = by_parts (sides_at 46 full) refl
         let name : p.1 ≡ v.name = (bytes_eq-Decides p.1 v.name).0 (ap (λ (w : Var). bytes_eq p.1 w.name) (sym is) ∙ hit) in
         (k, g, whole ∙ ap (λ (n : List ℕ). layout ++ 46 ∷ n) name)
 
-    by_layout : (p : List ℕ × List ℕ) (b : Bool) → sides_at 46 full ≡ Some p → bytes_eq p.0 layout ≡ b → (if b then option_and_then (slice_get vars) (place_of vars p.1) else None) ≡ Some v → (k : ℕ) × (slice_get vars k ≡ Some v) × (full ≡ layout ++ 46 ∷ v.name)
+    by_layout : (p : List ℕ × List ℕ) (b : Bool) → sides_at 46 full ≡ Some p → bytes_eq p.0 layout ≡ b → (if b then option_and_then (slice_get vars) (place_of_var vars p.1) else None) ≡ Some v → (k : ℕ) × (slice_get vars k ≡ Some v) × (full ≡ layout ++ 46 ∷ v.name)
     by_layout p false parts e g = cc
     by_layout p true parts e g =
         let same : p.0 ≡ layout = (bytes_eq-Decides p.0 layout).0 e in
-        by_place p (place_of vars p.1) (sides_whole 46 full p parts ∙ ap (λ (n : List ℕ). n ++ 46 ∷ p.1) same) refl g
+        by_place p (place_of_var vars p.1) (sides_whole 46 full p parts ∙ ap (λ (n : List ℕ). n ++ 46 ∷ p.1) same) refl g
 
     by_parts : (o : Option (List ℕ × List ℕ)) → sides_at 46 full ≡ o → (k : ℕ) × (slice_get vars k ≡ Some v) × (full ≡ layout ++ 46 ∷ v.name)
     by_parts None e = let g : variable_called layout vars full ≡ None = rw e refl in let f : None ≡ Some v = sym g ∙ h in cc
     by_parts (Some p) e =
-        let g : variable_called layout vars full ≡ (if bytes_eq p.0 layout then option_and_then (slice_get vars) (place_of vars p.1) else None) = rw e refl in
+        let g : variable_called layout vars full ≡ (if bytes_eq p.0 layout then option_and_then (slice_get vars) (place_of_var vars p.1) else None) = rw e refl in
         by_layout p (bytes_eq p.0 layout) e refl (sym g ∙ h)
 
 uint32_kind : (full : List ℕ) (v : Var) (at : ℕ) (k : Kind) → v.kind ≡ k → uint32_in full (Some v) ≡ Ok at → (v.kind ≡ Uint32) × (v.at ≡ at)

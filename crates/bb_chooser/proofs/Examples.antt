@@ -7,7 +7,7 @@ use Rattle.bb_chooser.specs.Counting.{chosen_target, mark_good_of, spend_of}
 use Rattle.bb_chooser.specs.Keys.{is_target_name}
 use Rattle.bb_chooser.specs.Resets.{reset_of}
 use Rattle.bb_chooser.specs.Settings.{Configuration}
-use Rattle.bb_chooser.specs.Values.{events_in, flag_in, names_in, number_in, prefix_in, without_quotes}
+use Rattle.bb_chooser.specs.Values.{events_in, flag_in, names_value, number_in, prefix_value, without_quotes}
 use Rattle.bb_chooser.specs.declared.cause.Cause.TheVariants.{PowerOn, Reset, Other}
 use Rattle.bb_chooser.specs.declared.fault.Fault.TheVariants.{BadLine, TargetTwice, BadNumber, BadEvent}
 use Rattle.bb_chooser.specs.declared.rules.Rules.{Rules}
@@ -16,16 +16,16 @@ use Rattle.bb_chooser.specs.declared.target.Target.{Target}
 
 -- ---- values
 
-two_names : names_in (codes " system0  system1") ≡ Ok (codes "system0" ∷ codes "system1" ∷ [])
+two_names : names_value (codes " system0  system1") ≡ Ok (codes "system0" ∷ codes "system1" ∷ [])
 two_names = refl
 
-no_names : names_in [] ≡ Ok []
+no_names : names_value [] ≡ Ok []
 no_names = refl
 
-name_twice : names_in (codes "a b a") ≡ Err TargetTwice
+name_twice : names_value (codes "a b a") ≡ Err TargetTwice
 name_twice = refl
 
-bad_before_twice : names_in (codes "a a b.c") ≡ Err BadLine
+bad_before_twice : names_value (codes "a a b.c") ≡ Err BadLine
 bad_before_twice = refl
 
 key_as_name : is_target_name (codes "retry") ≡ false
@@ -58,7 +58,7 @@ two_events = refl
 other_event : events_in (codes "noon") ≡ Err BadEvent
 other_event = refl
 
-empty_part : prefix_in (codes "state..b") ≡ Err BadLine
+empty_part : prefix_value (codes "state..b") ≡ Err BadLine
 empty_part = refl
 
 -- ---- binding

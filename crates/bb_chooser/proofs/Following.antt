@@ -7,13 +7,13 @@ use Rattle.std.specs.Option.{option_to_list}
 use Rattle.bb_layout.proofs.Texts.{ascii_is_text}
 use Rattle.bb_layout.specs.Results.{result_and_then}
 use Rattle.bb_chooser.proofs.Reading.{line_quiet}
-use Rattle.bb_chooser.specs.Lines.{line_of}
+use Rattle.bb_chooser.specs.Lines.{setting_in_line}
 use Rattle.bb_chooser.specs.Reading.{IsGivenBy, line_in, settings_in_parts}
 use Rattle.bb_chooser.specs.Settings.{Configuration, Given, at_line, configuration_of, given_by, settings_from, settings_of}
 use Rattle.bb_chooser.specs.declared.setting.Setting.{Setting}
 use Rattle.bb_chooser.specs.declared.settings_error.SettingsError.{SettingsError}
 
--- settings, and behind them what more lines set
+-- settings, and after them what more lines set
 abbrev pub after : List Setting → Result (List Setting) SettingsError → Result (List Setting) SettingsError
 after settings more = result_and_then (λ rest. Ok (settings ++ rest)) more
 
@@ -32,9 +32,9 @@ pub said_none : (n : ℕ) → settings_in_parts n [] ≡ Ok []
 unfolding settings_from
 said_none n = refl
 
--- the line at a place, and those behind it
+-- the line at a place, and those after it
 pub said_next : (parts : List (List ℕ)) (n i : ℕ) → i < length parts
-    → settings_in_parts n (drop i parts) ≡ onto_line (at_line n (line_of (line_in parts i))) (settings_in_parts (n + 1) (drop (suc i) parts))
+    → settings_in_parts n (drop i parts) ≡ onto_line (at_line n (setting_in_line (line_in parts i))) (settings_in_parts (n + 1) (drop (suc i) parts))
 unfolding settings_from
 said_next [] n i inside = absurd (omega arith)
 said_next ([] ∷ []) n zero inside = sym (ap (λ r. onto_line (at_line n r) (settings_in_parts (n + 1) [])) (line_quiet [] (ascii_is_text [] refl) refl))

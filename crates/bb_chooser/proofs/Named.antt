@@ -1,4 +1,5 @@
--- What settings bind to the variables of a layout: these are in the area, and no two of them share a byte.
+-- What settings bind to the variables of a layout: these are in the area, and no two of them share
+-- a byte.
 use Rattle.std.proofs.Common.{◌≡◌, ℕ, ◌+◌, ◌==◌, ◌≤◌, Bool, true, false, List, [], ◌∷◌, ◌++◌, length, map, not, Option, Some, None, Result, Ok, Err, IfOk, cond, refl, ap, ◌∙◌}
 use Rattle.std.specs.Prelude.{⊤, drop, nat_eq, unwrap_or}
 use Rattle.std.specs.List.{list_all, starts_with}
@@ -6,10 +7,10 @@ use Rattle.std.specs.Option.{option_map_or, option_or, option_to_list}
 use Rattle.std.specs.Str.{bytes_eq, is_utf8}
 use Rattle.std.specs.Str.Lines.{lines}
 use Rattle.bb_chooser.specs.Binding.{IsBinding, bind_from, binding, bound_of, last_chosen_name, uint32_at}
-use Rattle.bb_chooser.specs.Keys.{is_target_name, key_of, target_key_of}
-use Rattle.bb_chooser.specs.Lines.{assignment_of, front, general_setting_of, line_of, named_setting_of, own_setting_of, pair_setting_of, sides_at, setting_of, sets_nothing, target_setting_of}
-use Rattle.bb_chooser.specs.Settings.{Configuration, Given, at_line, configuration_of, given_by, last_given, prefix_of, rules_of, settings_from, settings_of, target_of, targets_in, targets_of}
-use Rattle.bb_chooser.specs.Values.{all_zero_in, differing_names, events_in, file_in, flag_in, names_in, number_in, prefix_in, without_quotes, words_of}
+use Rattle.bb_chooser.specs.Keys.{is_target_name, setting_key_of, target_key_of}
+use Rattle.bb_chooser.specs.Lines.{assignment_of, front, general_setting_of, setting_in_line, named_setting_of, own_setting_of, pair_setting_of, sides_at, setting_of, sets_nothing, target_setting_of}
+use Rattle.bb_chooser.specs.Settings.{Configuration, Given, at_line, configuration_of, given_by, last_given, prefix_of, rules_of, settings_from, settings_of, target_of, targets_in, targets_given}
+use Rattle.bb_chooser.specs.Values.{all_zero_in, differing_names, events_in, file_value, flag_in, names_value, number_in, prefix_value, without_quotes, split_at_spaces}
 use Rattle.bb_chooser.specs.declared.fault.Fault.{Fault}
 use Rattle.bb_chooser.specs.declared.fault.Fault.TheVariants as fault
 use Rattle.bb_chooser.specs.declared.key.Key.{Key}
@@ -46,19 +47,19 @@ differing_fine words = by (some_pair bytes_eq words) refl
     by true e = tt
     by false e = e
 
-names_fine : (value : List ℕ) → IfOk (names_in value) Differ
+names_fine : (value : List ℕ) → IfOk (names_value value) Differ
 names_fine value =
-    either_ok Differ (list_all is_target_name (words_of value)) (differing_names (words_of value)) (Err fault.BadLine)
-    (differing_fine (words_of value)) tt
+    either_ok Differ (list_all is_target_name (split_at_spaces value)) (differing_names (split_at_spaces value)) (Err fault.BadLine)
+    (differing_fine (split_at_spaces value)) tt
 
 -- ---- in each setting
 
 general_fine : (key : Key) (value : List ℕ) → IfOk (general_setting_of key value) IsFine
 general_fine general.Targets value =
-    then_ok IsFine (λ names. Ok (sets.Targets names)) (names_in value) (λ names is.
-    if_ok Differ (names_in value) names is (names_fine value))
+    then_ok IsFine (λ names. Ok (sets.Targets names)) (names_value value) (λ names is.
+    if_ok Differ (names_value value) names is (names_fine value))
 general_fine general.StatePrefix value =
-    then_ok IsFine (λ prefix. Ok (sets.StatePrefix prefix)) (prefix_in value) (λ prefix is. tt)
+    then_ok IsFine (λ prefix. Ok (sets.StatePrefix prefix)) (prefix_value value) (λ prefix is. tt)
 general_fine general.DefaultAttempts value =
     then_ok IsFine (λ n. Ok (sets.DefaultAttempts n)) (number_in value) (λ n is. tt)
 general_fine general.DefaultPriority value =
@@ -72,7 +73,7 @@ general_fine general.DisableOnZeroAttempts value =
     then_ok IsFine (λ b. Ok (sets.DisableOnZeroAttempts b)) (flag_in value) (λ b is. tt)
 
 own_fine : (key : TargetKey) (name value : List ℕ) → IfOk (own_setting_of key name value) IsFine
-own_fine own.Boot name value = then_ok IsFine (λ file. Ok (sets.BootOf name file)) (file_in value) (λ file is. tt)
+own_fine own.Boot name value = then_ok IsFine (λ file. Ok (sets.BootOf name file)) (file_value value) (λ file is. tt)
 own_fine own.DefaultAttempts name value =
     then_ok IsFine (λ n. Ok (sets.AttemptsOf name n)) (number_in value) (λ n is. tt)
 own_fine own.DefaultPriority name value =
@@ -85,7 +86,7 @@ named_fine (name, rest) value =
     (made_ok IsFine (λ k. own_setting_of k name value) (target_key_of rest) fault.BadLine (λ k. own_fine k name value)) tt
 
 setting_fine : (key value : List ℕ) → IfOk (setting_of key value) IsFine
-setting_fine key value = by (key_of key)
+setting_fine key value = by (setting_key_of key)
   where
     by : (o : Option Key) → IfOk (option_map_or (λ k. general_setting_of k value) o (target_setting_of key value)) IsFine
     by None =
@@ -106,7 +107,7 @@ abbrev IsFineIf : Option Setting → Type 0
 IsFineIf None = ⊤
 IsFineIf (Some setting) = IsFine setting
 
-line_fine : (line : List ℕ) → IfOk (line_of line) IsFineIf
+line_fine : (line : List ℕ) → IfOk (setting_in_line line) IsFineIf
 line_fine line =
     let set = result_and_then (λ setting. Ok (Some setting)) (assignment_of line) in
     let said : Result (Option Setting) Fault = cond (sets_nothing line) (Ok None) set in
@@ -134,10 +135,10 @@ lines_fine number [] = tt
 lines_fine number (line ∷ more) =
     then_ok AreFine
     (λ setting. result_and_then (λ rest. Ok (option_to_list setting ++ rest)) (settings_from (number + 1) more))
-    (at_line number (line_of line)) (λ setting is.
+    (at_line number (setting_in_line line)) (λ setting is.
     then_ok AreFine (λ rest. Ok (option_to_list setting ++ rest)) (settings_from (number + 1) more) (λ rest others.
     fine_behind setting rest
-    (if_ok IsFineIf (at_line number (line_of line)) setting is (at_line_fine IsFineIf number (line_of line) (line_fine line)))
+    (if_ok IsFineIf (at_line number (setting_in_line line)) setting is (at_line_fine IsFineIf number (setting_in_line line) (line_fine line)))
     (if_ok AreFine (settings_from (number + 1) more) rest others (lines_fine (number + 1) more))))
 
 -- ---- in all settings
@@ -160,8 +161,8 @@ HasNames settings = Differ (map (λ t. t.name) settings.targets)
 configured_fine : (given : Given) → DifferIn given.targets → IfOk (configuration_of given) HasNames
 configured_fine given h =
     let names = unwrap_or given.targets [] in
-    let settings : Configuration = record { targets = targets_of given; prefix = prefix_of given; rules = rules_of given } in
-    either_ok HasNames (length (targets_of given) == 0) (Err NoTargets) (Ok settings) tt
+    let settings : Configuration = record { targets = targets_given given; prefix = prefix_of given; rules = rules_of given } in
+    either_ok HasNames (length (targets_given given) == 0) (Err NoTargets) (Ok settings) tt
     (ap (some_pair bytes_eq) (names_back given names) ∙ by given.targets h)
   where
     by : (o : Option (List (List ℕ))) → DifferIn o → Differ (unwrap_or o [])

@@ -8,7 +8,7 @@ use Rattle.std.specs.Prelude.{nat_eq}
 use Rattle.std.specs.Result.{IsErrAnd}
 use Rattle.std.specs.Str.{is_utf8}
 use Rattle.bb_layout.specs.Results.{result_and_then}
-use Rattle.bb_chooser.specs.Lines.{assignment_of, front, line_of, pair_setting_of, sides_at, sets_nothing}
+use Rattle.bb_chooser.specs.Lines.{assignment_of, front, setting_in_line, pair_setting_of, sides_at, sets_nothing}
 use Rattle.bb_chooser.specs.declared.fault.Fault.TheVariants.{BadLine}
 
 pub no_front : (text : List ℕ) → ((rest : List ℕ) → text ≢ front ++ rest) → assignment_of text ≡ Err BadLine
@@ -22,13 +22,13 @@ no_front text h =
 pub behind_front : (text rest : List ℕ) → text ≡ front ++ rest → assignment_of text ≡ pair_setting_of rest
 behind_front text rest h = rw h refl
 
-pub line_no_text : (line : List ℕ) → is_utf8 line ≡ false → line_of line ≡ Err BadLine
+pub line_no_text : (line : List ℕ) → is_utf8 line ≡ false → setting_in_line line ≡ Err BadLine
 line_no_text line h = rw h refl
 
-pub line_quiet : (line : List ℕ) → is_utf8 line ≡ true → sets_nothing line ≡ true → line_of line ≡ Ok None
+pub line_quiet : (line : List ℕ) → is_utf8 line ≡ true → sets_nothing line ≡ true → setting_in_line line ≡ Ok None
 line_quiet line h q = rw h (rw q refl)
 
-pub line_sets : (line : List ℕ) → is_utf8 line ≡ true → sets_nothing line ≡ false → line_of line ≡ result_and_then (λ setting. Ok (Some setting)) (assignment_of line)
+pub line_sets : (line : List ℕ) → is_utf8 line ≡ true → sets_nothing line ≡ false → setting_in_line line ≡ result_and_then (λ setting. Ok (Some setting)) (assignment_of line)
 line_sets line h q = rw h (rw q refl)
 
 -- a refusal that is handed on says what it said, but where memory was refused

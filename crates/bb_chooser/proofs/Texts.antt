@@ -12,7 +12,7 @@ use Rattle.std.proofs.lemmas.List.{map-append}
 use Rattle.indexmap.specs.IndexSet.{insert_key}
 use Rattle.bb_layout.specs.Ranges.{some_pair}
 use Rattle.bb_chooser.specs.Keys.{is_target_name}
-use Rattle.bb_chooser.specs.Values.{differing_names, events_of, is_event, names_of, quote, without_quotes}
+use Rattle.bb_chooser.specs.Values.{differing_names, events_of, is_event, names_by_texts, quote, without_quotes}
 use Rattle.bb_chooser.specs.declared.fault.Fault.TheVariants.{BadLine, BadEvent, TargetTwice}
 
 bytes_eq-swap : (a b : List ℕ) → bytes_eq a b ≡ false → bytes_eq b a ≡ false
@@ -31,7 +31,7 @@ without_quotes_plain (x ∷ xs) h =
       | inr e ↦ rw e refl
     ]
 
--- and without one at the end behind that
+-- and without one at the end after that
 pub without_quotes_open : (bs rest : List ℕ) → bs ≡ 34 ∷ rest → ((front : List ℕ) → rest ≢ front ++ 34 ∷ []) → without_quotes bs ≡ bs
 without_quotes_open bs rest is h =
     elim (cases_Bool (ends_with nat_eq rest quote)) [
@@ -64,10 +64,10 @@ events_kept words h =
 pub events_bad : (words : List (Bor (List ℕ))) → list_all (λ w. is_event w.now) words ≡ false → events_of (map now words) ≡ Err BadEvent
 events_bad words h = let bad : list_all is_event (map now words) ≡ false = list_all-map is_event now words ∙ h in rw bad refl
 
-pub names_bad : (words : List (Bor (List ℕ))) → list_all (λ w. is_target_name w.now) words ≡ false → names_of (map now words) ≡ Err BadLine
+pub names_bad : (words : List (Bor (List ℕ))) → list_all (λ w. is_target_name w.now) words ≡ false → names_by_texts (map now words) ≡ Err BadLine
 names_bad words h = let bad : list_all is_target_name (map now words) ≡ false = list_all-map is_target_name now words ∙ h in rw bad refl
 
-pub names_kept : (words : List (Bor (List ℕ))) → list_all (λ w. is_target_name w.now) words ≡ true → names_of (map now words) ≡ differing_names (map now words)
+pub names_kept : (words : List (Bor (List ℕ))) → list_all (λ w. is_target_name w.now) words ≡ true → names_by_texts (map now words) ≡ differing_names (map now words)
 names_kept words h = let good : list_all is_target_name (map now words) ≡ true = list_all-map is_target_name now words ∙ h in rw good refl
 
 or_none : (a b : Bool) → a ≡ false → b ≡ false → (a || b) ≡ false

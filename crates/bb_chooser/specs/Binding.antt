@@ -3,7 +3,7 @@ use Rattle.std.specs.Prelude.{◌≡◌, ℕ, ◌+◌, ◌<◌, ◌≤◌, Bool,
 use Rattle.std.specs.Str.{bytes_eq}
 use Rattle.bb_base.specs.Form.{area_limit}
 use Rattle.bb_layout.specs.Results.{all_ok, result_and_then}
-use Rattle.bb_layout.specs.VarNames.{place_of}
+use Rattle.bb_layout.specs.VarNames.{place_of_var}
 use Rattle.bb_layout.specs.declared.layout.Layout.{Layout}
 use Rattle.bb_layout.specs.declared.var.Var.{Var}
 use Rattle.bb_vars.specs.declared.kind.Kind.{Kind}
@@ -36,7 +36,7 @@ priority_name prefix name = full_name prefix (name ++ codes ".priority")
 
 -- the variable of its own name
 abbrev pub variable_named : List Var → List ℕ → Option Var
-variable_named vars name = option_and_then (slice_get vars) (place_of vars name)
+variable_named vars name = option_and_then (slice_get vars) (place_of_var vars name)
 
 -- and the one that is called so
 abbrev pub variable_called : List ℕ → List Var → List ℕ → Option Var

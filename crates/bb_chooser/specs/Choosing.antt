@@ -13,8 +13,8 @@ use Rattle.bb_chooser.specs.declared.count.Count.{Count}
 abbrev pub name_of : Binding → ℕ → Option (List ℕ)
 name_of b target = option_map (λ t. t.target.name) (slice_get b.targets target)
 
-abbrev pub entry_of : Binding → ℕ → Option (List ℕ)
-entry_of b target = option_map (λ t. t.target.entry) (slice_get b.targets target)
+abbrev pub entry_file : Binding → ℕ → Option (List ℕ)
+entry_file b target = option_map (λ t. t.target.entry) (slice_get b.targets target)
 
 -- ---- what a table holds
 

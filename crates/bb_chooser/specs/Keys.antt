@@ -9,8 +9,8 @@ use Rattle.bb_chooser.specs.declared.key.TargetKey.{TargetKey}
 use Rattle.bb_chooser.specs.declared.key.TargetKey.TheVariants as own
 
 -- what is set for all targets
-abbrev pub key_of : List ℕ → Option Key
-key_of word =
+abbrev pub setting_key_of : List ℕ → Option Key
+setting_key_of word =
     if bytes_eq word (codes "targets") then Some general.Targets
     else if bytes_eq word (codes "state_prefix") then Some general.StatePrefix
     else if bytes_eq word (codes "default_attempts") then Some general.DefaultAttempts
@@ -38,4 +38,4 @@ has_name_letters word = list_all is_name_letter word
 
 -- a target is called by one or more of these, and by no key that is set for all targets
 abbrev pub is_target_name : List ℕ → Bool
-is_target_name word = not (length word == 0) && has_name_letters word && is_none (key_of word)
+is_target_name word = not (length word == 0) && has_name_letters word && is_none (setting_key_of word)

@@ -4,8 +4,8 @@ use Rattle.std.specs.List.{after_first, before_first, list_any, starts_with}
 use Rattle.std.specs.Option.{option_map_or}
 use Rattle.std.specs.Str.{is_utf8}
 use Rattle.bb_layout.specs.Results.{result_and_then}
-use Rattle.bb_chooser.specs.Keys.{is_target_name, key_of, target_key_of}
-use Rattle.bb_chooser.specs.Values.{all_zero_in, events_in, file_in, flag_in, names_in, number_in, prefix_in, without_quotes}
+use Rattle.bb_chooser.specs.Keys.{is_target_name, setting_key_of, target_key_of}
+use Rattle.bb_chooser.specs.Values.{all_zero_in, events_in, file_value, flag_in, names_value, number_in, prefix_value, without_quotes}
 use Rattle.bb_chooser.specs.declared.fault.Fault.{Fault}
 use Rattle.bb_chooser.specs.declared.fault.Fault.TheVariants as fault
 use Rattle.bb_chooser.specs.declared.key.Key.{Key}
@@ -22,9 +22,9 @@ use Rattle.bb_chooser.specs.declared.settings_error.SettingsError.TheVariants.{B
 -- one that is set for all targets, and one that is set for a target of this name
 abbrev pub general_setting_of : Key → List ℕ → Result Setting Fault
 general_setting_of general.Targets value =
-    result_and_then (λ names. Ok (Targets names)) (names_in value)
+    result_and_then (λ names. Ok (Targets names)) (names_value value)
 general_setting_of general.StatePrefix value =
-    result_and_then (λ prefix. Ok (StatePrefix prefix)) (prefix_in value)
+    result_and_then (λ prefix. Ok (StatePrefix prefix)) (prefix_value value)
 general_setting_of general.DefaultAttempts value =
     result_and_then (λ n. Ok (DefaultAttempts n)) (number_in value)
 general_setting_of general.DefaultPriority value =
@@ -40,13 +40,13 @@ general_setting_of general.DisableOnZeroAttempts value =
 
 abbrev pub own_setting_of : TargetKey → List ℕ → List ℕ → Result Setting Fault
 own_setting_of own.Boot name value =
-    result_and_then (λ file. Ok (BootOf name file)) (file_in value)
+    result_and_then (λ file. Ok (BootOf name file)) (file_value value)
 own_setting_of own.DefaultAttempts name value =
     result_and_then (λ n. Ok (AttemptsOf name n)) (number_in value)
 own_setting_of own.DefaultPriority name value =
     result_and_then (λ n. Ok (PriorityOf name n)) (number_in value)
 
--- what stands before and behind the first such byte, if there is one
+-- what stands before and after the first such byte, if there is one
 abbrev pub sides_at : ℕ → List ℕ → Option (List ℕ × List ℕ)
 sides_at c text =
     if list_any (λ b. b == c) text
@@ -68,14 +68,14 @@ target_setting_of key value =
 -- any key and its value
 abbrev pub setting_of : List ℕ → List ℕ → Result Setting Fault
 setting_of key value =
-    option_map_or (λ k. general_setting_of k value) (key_of key) (target_setting_of key value)
+    option_map_or (λ k. general_setting_of k value) (setting_key_of key) (target_setting_of key value)
 
 -- ---- a line
 
 abbrev pub is_blank : ℕ → Bool
 is_blank c = c == 32 || c == 9
 
--- nothing but blanks, or a `#` behind them
+-- nothing but blanks, or a `#` after them
 abbrev pub sets_nothing : List ℕ → Bool
 sets_nothing line = option_map_or (λ c. c == 35) (find (λ c. not (is_blank c)) line) true
 
@@ -98,8 +98,8 @@ assignment_of line =
     else Err fault.BadLine
 
 -- what a line sets, if anything
-abbrev pub line_of : List ℕ → Result (Option Setting) Fault
-line_of line =
+abbrev pub setting_in_line : List ℕ → Result (Option Setting) Fault
+setting_in_line line =
     if not (is_utf8 line) then Err fault.BadLine
     else if sets_nothing line then Ok None
     else result_and_then (λ setting. Ok (Some setting)) (assignment_of line)

@@ -27,6 +27,6 @@ with_setting None given = given
 with_setting (Some setting) given = given_with setting given
 
 -- what a line sets is taken
-abbrev pub Takes : Result (Option Setting) SettingsError → Given → Given → Type 0
-Takes line old new =
+abbrev pub TakesSetting : Result (Option Setting) SettingsError → Given → Given → Type 0
+TakesSetting line old new =
     (setting : Option Setting) × (line ≡ Ok setting) × (new ≡ with_setting setting old)

@@ -5,7 +5,7 @@ use Rattle.std.specs.Str.{bytes_eq}
 use Rattle.std.specs.Str.Lines.{lines}
 use Rattle.bb_layout.specs.Results.{result_and_then}
 use Rattle.bb_chooser.specs.Values.{NamesDiffer}
-use Rattle.bb_chooser.specs.Lines.{fault_at, line_of}
+use Rattle.bb_chooser.specs.Lines.{fault_at, setting_in_line}
 use Rattle.bb_chooser.specs.declared.events.Events.{Events}
 use Rattle.bb_chooser.specs.declared.fault.Fault.{Fault}
 use Rattle.bb_chooser.specs.declared.rules.Rules.{Rules}
@@ -24,7 +24,7 @@ at_line number (Err fault) = Err (fault_at number fault)
 
 -- what the line of this number sets, if anything
 abbrev pub setting_at : ℕ → List ℕ → Result (Option Setting) SettingsError
-setting_at number line = at_line number (line_of line)
+setting_at number line = at_line number (setting_in_line line)
 
 -- what the lines set, of which the first has this number; or the first that is bad
 unfoldable pub settings_from : ℕ → List (List ℕ) → Result (List Setting) SettingsError
@@ -141,8 +141,8 @@ target_of given name = record {
   default_priority = unwrap_or (given.priority_of name) (unwrap_or given.priority 1);
 }
 
-abbrev pub targets_of : Given → List Target
-targets_of given = map (target_of given) (unwrap_or given.targets [])
+abbrev pub targets_given : Given → List Target
+targets_given given = map (target_of given) (unwrap_or given.targets [])
 
 abbrev pub no_events : Events
 no_events = record { power_on = false; reset = false; all_zero = false }
@@ -161,9 +161,9 @@ prefix_of given = unwrap_or given.prefix (codes "state.bootstate")
 -- all of it, or that no target is named
 abbrev pub configuration_of : Given → Result Configuration SettingsError
 configuration_of given =
-    if length (targets_of given) == 0 then Err NoTargets
+    if length (targets_given given) == 0 then Err NoTargets
     else Ok (record {
-      targets = targets_of given;
+      targets = targets_given given;
       prefix = prefix_of given;
       rules = rules_of given;
     })

@@ -33,8 +33,8 @@ abbrev pub flag_in : List ℕ → Result Bool Fault
 flag_in value = result_and_then yes_or_no (number_in value)
 
 -- what stands between spaces
-abbrev pub words_of : List ℕ → List (List ℕ)
-words_of value = filter (λ w. not (length w == 0)) (slice_split (λ c. c == 32) value)
+abbrev pub split_at_spaces : List ℕ → List (List ℕ)
+split_at_spaces value = filter (λ w. not (length w == 0)) (slice_split (λ c. c == 32) value)
 
 -- no name is there twice
 abbrev pub NamesDiffer : List (List ℕ) → Type 0
@@ -44,11 +44,11 @@ NamesDiffer names = some_pair bytes_eq names ≡ false
 abbrev pub differing_names : List (List ℕ) → Result (List (List ℕ)) Fault
 differing_names words = if some_pair bytes_eq words then Err TargetTwice else Ok words
 
-abbrev pub names_of : List (List ℕ) → Result (List (List ℕ)) Fault
-names_of words = if list_all is_target_name words then differing_names words else Err BadLine
+abbrev pub names_by_texts : List (List ℕ) → Result (List (List ℕ)) Fault
+names_by_texts words = if list_all is_target_name words then differing_names words else Err BadLine
 
-abbrev pub names_in : List ℕ → Result (List (List ℕ)) Fault
-names_in value = names_of (words_of value)
+abbrev pub names_value : List ℕ → Result (List (List ℕ)) Fault
+names_value value = names_by_texts (split_at_spaces value)
 
 -- the events that reset attempts
 abbrev pub is_event : List ℕ → Bool
@@ -71,7 +71,7 @@ events_of words =
     else Err BadEvent
 
 abbrev pub events_in : List ℕ → Result Events Fault
-events_in value = events_of (words_of value)
+events_in value = events_of (split_at_spaces value)
 
 -- the one event that resets priorities, or none
 abbrev pub all_zero_in : List ℕ → Result Bool Fault
@@ -84,8 +84,8 @@ all_zero_in value =
 abbrev pub has_parts : List ℕ → Bool
 has_parts value = list_all (λ part. not (length part == 0)) (slice_split (λ c. c == 46) value)
 
-abbrev pub prefix_in : List ℕ → Result (List ℕ) Fault
-prefix_in value = if has_parts value then Ok value else Err BadLine
+abbrev pub prefix_value : List ℕ → Result (List ℕ) Fault
+prefix_value value = if has_parts value then Ok value else Err BadLine
 
-abbrev pub file_in : List ℕ → Result (List ℕ) Fault
-file_in value = if length value == 0 then Err BadLine else Ok value
+abbrev pub file_value : List ℕ → Result (List ℕ) Fault
+file_value value = if length value == 0 then Err BadLine else Ok value

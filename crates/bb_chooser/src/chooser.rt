@@ -48,7 +48,7 @@ impl Chooser {
     ghost use Rattle.bb_base.specs.Form.{area_limit};
     ghost use Rattle.bb_chooser.specs.Binding.{IsBinding, IsBoundTo, bind_of};
     ghost use Rattle.bb_chooser.specs.Choosing as choosing;
-    ghost use Rattle.bb_chooser.specs.Choosing.{IsBest, NoneQualifies, entry_of, name_of};
+    ghost use Rattle.bb_chooser.specs.Choosing.{IsBest, NoneQualifies, entry_file, name_of};
     ghost use Rattle.bb_chooser.specs.Counting.{chosen_target, mark_good_of, spend_of};
     ghost use Rattle.bb_chooser.specs.Others.{KeepsOthers};
     ghost use Rattle.bb_chooser.specs.Refusals.{ComesFrom, Refuses};
@@ -97,7 +97,7 @@ impl Chooser {
 
     /// The name of a target's entry file, `None` exactly from the count on.
     pub fn entry(&self, target: usize) -> Option<&Text>
-        ensures { option_copied result ≡ entry_of self.now target }
+        ensures { option_copied result ≡ entry_file self.now target }
     {
         let bound = self.targets.get(target)?;
         Some(&bound.target.entry)

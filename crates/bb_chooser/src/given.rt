@@ -77,7 +77,8 @@ impl GivenSoFar {
 
     /// The targets of the last line that names them.
     pub(crate) fn targets(&self, alloc: Global) -> Result<Vec<Target>, NoMemory>
-        ensures ok { IfOk result (λ targets. targets.items ≡ spec.targets_of (given_in self.now)) }
+        ensures ok { IfOk result (λ targets.
+            targets.items ≡ spec.targets_given (given_in self.now)) }
         ensures differ { IfOk result (λ targets. spec.TargetsDiffer targets.items) }
     {
         let mut targets = Vec::new(alloc);

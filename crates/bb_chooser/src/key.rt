@@ -1,5 +1,6 @@
 ghost use Rattle.std.specs.Prelude.{◌≡◌};
-ghost use Rattle.bb_chooser.specs.Keys.{has_name_letters, is_name_letter, is_target_name, key_of};
+ghost use Rattle.bb_chooser.specs.Keys.{has_name_letters, is_name_letter, is_target_name};
+ghost use Rattle.bb_chooser.specs.Keys.{setting_key_of};
 ghost use Rattle.bb_chooser.specs.Keys.{target_key_of};
 
 /// What a line of settings may set for all targets.
@@ -24,7 +25,7 @@ pub(crate) enum TargetKey {
 }
 
 pub(crate) fn key_of(word: &str) -> Option<Key>
-    ensures { result ≡ key_of word.now }
+    ensures { result ≡ setting_key_of word.now }
 {
     match word {
         "targets" => Some(Key::Targets),

@@ -12,8 +12,8 @@ use std::str;
 
 /// What a line sets. A line of blanks, and a comment, set nothing.
 pub(crate) fn read_line(alloc: Global, line: &[u8]) -> Result<Option<Setting>, Fault>
-    ensures ok { IfOk result (λ setting. spec.line_of line.now ≡ Ok setting) }
-    ensures refused { IfErr result (RefusesLine (spec.line_of line.now)) }
+    ensures ok { IfOk result (λ setting. spec.setting_in_line line.now ≡ Ok setting) }
+    ensures refused { IfErr result (RefusesLine (spec.setting_in_line line.now)) }
 {
     let Ok(text) = str::from_utf8(line) else {
         return Err(Fault::BadLine);

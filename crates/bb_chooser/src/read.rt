@@ -2,7 +2,7 @@ ghost use Rattle.std.specs.Prelude.{◌≡◌, ◌==◌, ◌<◌, IfOk, IfErr, O
 ghost use Rattle.std.specs.List.{slice_split};
 ghost use Rattle.std.specs.Str.Lines.{strip_carriage_return};
 ghost use Rattle.bb_chooser.specs.GivenSoFar.{given_in};
-ghost use Rattle.bb_chooser.specs.Reading.{IsGivenBy, Takes, line_in, settings_in_parts};
+ghost use Rattle.bb_chooser.specs.Reading.{IsGivenBy, TakesSetting, line_in, settings_in_parts};
 ghost use Rattle.bb_chooser.specs.Refusals.{Refuses};
 ghost use Rattle.bb_chooser.specs.References.{texts_of};
 ghost use Rattle.bb_chooser.specs.Settings.{setting_at};
@@ -34,7 +34,7 @@ pub(crate) fn read_parts(alloc: Global, parts: &[&[u8]]) -> Result<GivenSoFar, S
     Ok(given)
 }
 
-// A part is a line, and loses the CR at its end where a line feed comes behind it.
+// A part is a line, and loses the CR at its end where a line feed comes after it.
 fn line_at<'a>(parts: &[&'a [u8]], i: usize) -> &'a [u8]
     requires { i < length parts.now }
     ensures { result.now ≡ line_in (texts_of parts.now) i }
@@ -62,7 +62,7 @@ fn take_line(
     given: &mut GivenSoFar,
 ) -> Result<(), SettingsError>
     ensures ok { OnOk result
-        (Takes (setting_at number line.now) (given_in given.old) (given_in given.new)) }
+        (TakesSetting (setting_at number line.now) (given_in given.old) (given_in given.new)) }
     ensures refused { IfErr result (Refuses (setting_at number line.now)) }
 {
     let setting = read_line(alloc, line).map_err(|fault| fault.at(number))?;

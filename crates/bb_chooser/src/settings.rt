@@ -33,7 +33,7 @@ impl Model for Settings {
 
 impl Settings {
     /// Reads settings: lines `global.bootchooser.KEY=VALUE`, of which the last for a key counts,
-    /// lines of blanks, and comments behind `#`. A line ends in LF or CR LF, and the last may end
+    /// lines of blanks, and comments after `#`. A line ends in LF or CR LF, and the last may end
     /// without (barebox User Manual, Bootchooser). The first line that is bad decides, with its
     /// number from 1; that there is no target is looked at last.
     pub fn read(alloc: Global, text: &[u8]) -> Result<Settings, SettingsError>

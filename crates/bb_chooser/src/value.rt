@@ -45,8 +45,8 @@ pub(crate) fn flag(value: &str) -> Result<bool, Fault>
 
 /// Names of targets with one or more spaces between.
 pub(crate) fn names(alloc: Global, value: &str) -> Result<Names, Fault>
-    ensures ok { IfOk result (λ names. value_spec.names_in value.now ≡ Ok names) }
-    ensures refused { IfErr result (RefusesLine (value_spec.names_in value.now)) }
+    ensures ok { IfOk result (λ names. value_spec.names_value value.now ≡ Ok names) }
+    ensures refused { IfErr result (RefusesLine (value_spec.names_value value.now)) }
 {
     let words = words(alloc, value)?;
     let words = words.as_slice();
@@ -124,8 +124,8 @@ pub(crate) fn all_zero(value: &str) -> Result<bool, Fault>
 
 /// Names joined by `.`, none of which is empty.
 pub(crate) fn prefix(alloc: Global, value: &str) -> Result<Text, Fault>
-    ensures ok { IfOk result (λ prefix. value_spec.prefix_in value.now ≡ Ok prefix) }
-    ensures refused { IfErr result (RefusesLine (value_spec.prefix_in value.now)) }
+    ensures ok { IfOk result (λ prefix. value_spec.prefix_value value.now ≡ Ok prefix) }
+    ensures refused { IfErr result (RefusesLine (value_spec.prefix_value value.now)) }
 {
     if !has_parts(value) {
         return Err(Fault::BadLine);
@@ -141,8 +141,8 @@ fn has_parts(value: &str) -> bool
 
 /// The name of a file.
 pub(crate) fn file(alloc: Global, value: &str) -> Result<Text, Fault>
-    ensures ok { IfOk result (λ file. value_spec.file_in value.now ≡ Ok file) }
-    ensures refused { IfErr result (RefusesLine (value_spec.file_in value.now)) }
+    ensures ok { IfOk result (λ file. value_spec.file_value value.now ≡ Ok file) }
+    ensures refused { IfErr result (RefusesLine (value_spec.file_value value.now)) }
 {
     if value.is_empty() {
         return Err(Fault::BadLine);
@@ -152,7 +152,7 @@ pub(crate) fn file(alloc: Global, value: &str) -> Result<Text, Fault>
 
 // What stands between spaces.
 fn words(alloc: Global, value: &str) -> Result<Vec<&str>, NoMemory>
-    ensures { IfOk result (λ words. texts_of words.items ≡ value_spec.words_of value.now) }
+    ensures { IfOk result (λ words. texts_of words.items ≡ value_spec.split_at_spaces value.now) }
 {
     let words = value
         .split(' ')

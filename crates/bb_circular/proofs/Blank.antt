@@ -7,7 +7,7 @@ use Rattle.bb_bucket.proofs.Blank.{IsErased, drop_erased, take_erased}
 use Rattle.bb_bucket.specs.Front.{is_lost}
 use Rattle.bb_circular.specs.declared.kept.Entry.{Entry}
 use Rattle.bb_circular.specs.Circular.{circular_candidate, newest_of, readable, record_of}
-use Rattle.bb_circular.specs.Entries.{closed_entry, closing_len, closes, last_words, len_of}
+use Rattle.bb_circular.specs.Entries.{closed_entry, closing_len, closes, last_words, closing_len_of}
 use Rattle.bb_circular.specs.Pages.{Page, page_at, written_pages}
 
 -- a word of such bytes is no magic word
@@ -22,8 +22,8 @@ none_closes : (page end : ℕ) (words : List ℕ) → IsErased words → closes 
 none_closes page end words (n, e) =
     subst (λ l. closes page end l ≡ false) (sym e)
     (ap
-    (λ b. b && (len_of (replicate n 255) % page == 0
-    && (nat_le 1 (len_of (replicate n 255)) && nat_le (len_of (replicate n 255)) end)))
+    (λ b. b && (closing_len_of (replicate n 255) % page == 0
+    && (nat_le 1 (closing_len_of (replicate n 255)) && nat_le (closing_len_of (replicate n 255)) end)))
     (no_closing_word n))
 
 none_after : {X : Type 0} (x y z : Bool) (o : Option X) → z ≡ false →
@@ -37,8 +37,8 @@ no_entry page pages last erased =
     none_after (nat_le 1 pages) (not (is_lost last.health))
     (closes page (pages * page) (last_words page last))
     (Some (record {
-      at = pages * page - len_of (last_words page last);
-      len = len_of (last_words page last);
+      at = pages * page - closing_len_of (last_words page last);
+      len = closing_len_of (last_words page last);
     }))
     (none_closes page (pages * page) (last_words page last)
     (drop_erased (page - closing_len) last.bytes erased))

@@ -5,7 +5,7 @@ use Rattle.bb_flash.specs.declared.health.Health.TheVariants.{Fine, Worn, Lost}
 use Rattle.bb_flash.specs.Image.{Image}
 use Rattle.bb_bucket.specs.declared.block.Block.{Block}
 use Rattle.bb_bucket.specs.Blocks.{blank_of}
-use Rattle.bb_circular.specs.Circular.{after_write, circular_candidate, circular_is_worn, fits_behind, kept_of}
+use Rattle.bb_circular.specs.Circular.{after_write, circular_candidate, circular_is_worn, fits_after, kept_of}
 use Rattle.bb_circular.specs.Entries.{closing_words, log_entry}
 use Rattle.bb_circular.specs.Pages.{written_pages}
 
@@ -75,7 +75,7 @@ third_entry_takes_two_pages : kept_of 16 four ≡ record { next = 64; newest = S
 unfolding four two one blank block written_pages
 third_entry_takes_two_pages = refl
 
-fourth_entry_does_not_fit : fits_behind block (codes "5") four ≡ false
+fourth_entry_does_not_fit : fits_after block (codes "5") four ≡ false
 unfolding four two one blank block written_pages
 fourth_entry_does_not_fit = refl
 

@@ -1,5 +1,5 @@
--- The flash calls of a write to a log, and what they leave: a program behind the last page that isn't
--- blank, or an erase and a program of the first bytes.
+-- The flash calls of a write to a log, and what they leave: a program after the last page that
+-- isn't blank, or an erase and a program of the first bytes.
 use Rattle.std.proofs.Common.{◌≡◌, ℕ, ◌+◌, ◌*◌, ◌/◌, ◌%◌, ◌<◌, ◌≤◌, true, false, not, List, [], ◌∷◌, length, replicate, Some, refl, sym, ap, ◌∙◌, subst, arith, inl, inr, cond, Contains, leb}
 use Rattle.std.specs.Option.{ForSome}
 use Rattle.std.proofs.Math.Nat.{zero-mod}
@@ -13,23 +13,23 @@ use Rattle.bb_flash.specs.Device.{Change, Device, IsDevice, change_of, content, 
 use Rattle.bb_flash.specs.Image.{Image, IsImageOf, with_bytes}
 use Rattle.bb_flash.proofs.Moments.{later_joined}
 use Rattle.bb_bucket.specs.declared.block.Block.{Block}
-use Rattle.bb_bucket.specs.Blocks.{blank_block, blank_of}
+use Rattle.bb_bucket.specs.Blocks.{erased_block, blank_of}
 use Rattle.bb_bucket.specs.BlockLaws.{HasBlock, block_lies_on}
 use Rattle.bb_bucket.specs.Calls.{EachCall, ErasesWhere, IsWriteCall, Leaves}
 use Rattle.bb_bucket.specs.Front.{first_bytes, put_at}
-use Rattle.bb_bucket.specs.Kind.{IsBegun, part_of}
+use Rattle.bb_bucket.specs.Kind.{BeginsWithRecord, part_of}
 use Rattle.bb_bucket.proofs.BlockCalls.{NamesBoth, calls_given, erase_calls, erase_then_program}
 use Rattle.bb_bucket.proofs.OneCall.{one_call}
 use Rattle.bb_bucket.proofs.Programs.{image_before, part_programmed}
 use Rattle.bb_bucket.proofs.Runs.{leaves_joined, part_after}
 use Rattle.bb_bucket.proofs.StrideCalls.{only_one}
-use Rattle.bb_circular.specs.Circular.{after_write, behind, circular_candidate, circular_kind, fits_behind, kept_of, next_place}
+use Rattle.bb_circular.specs.Circular.{after_write, range_after_last, circular_candidate, circular_kind, fits_after, kept_of, next_place}
 use Rattle.bb_circular.specs.CircularLaws.{begun_put, behind_next, entry_fits, kept_put}
 use Rattle.bb_circular.specs.PutLaws.{blank_candidate, blank_paged, blank_pages}
 use Rattle.bb_circular.specs.Entries.{entry_len, log_entry}
 use Rattle.bb_circular.specs.EntryLaws.{entry_size}
 use Rattle.bb_circular.specs.Looking.{kept_at}
-use Rattle.bb_circular.specs.Pages.{is_blank, page_at}
+use Rattle.bb_circular.specs.Pages.{is_erased, page_at}
 use Rattle.bb_circular.specs.PagesLaws.{IsPaged}
 use Rattle.bb_circular.proofs.LogDevices.{erases_none, erases_once, part_paged}
 
@@ -44,7 +44,7 @@ module _ (block : Block) (rec : List ℕ) where
   pub fits_there :
       (next : ℕ) (image : Image) → IsPlaced next image →
       next + entry_len block.page (length rec) ≤ block.region.size →
-      fits_behind block rec (part_of block.page block.region image) ≡ true
+      fits_after block rec (part_of block.page block.region image) ≡ true
   fits_there next image placed inside =
       ap (λ place. leb (place + entry_len block.page (length rec)) block.region.size) (sym placed)
       ∙ le-leb (next + entry_len block.page (length rec)) block.region.size inside
@@ -52,12 +52,12 @@ module _ (block : Block) (rec : List ℕ) where
   blank_from :
       (next : ℕ) (image : Image) → IsPaged block.page block.region.size (part_of block.page block.region image) →
       IsPlaced next image → (k : ℕ) → next ≤ k * block.page → k < block.region.size / block.page →
-      is_blank (page_at block.page (part_of block.page block.region image) k) ≡ true
+      is_erased (page_at block.page (part_of block.page block.region image) k) ≡ true
   blank_from next image paged placed k from below =
       behind_next block.page block.region.size (part_of block.page block.region image) paged k
       (subst (λ place. place ≤ k * block.page) placed from) below
 
-  -- ---- behind the last page that isn't blank
+  -- ---- after the last page that isn't blank
 
   append_call :
       (next : ℕ) (geometry : Geometry) (image : Image) →
@@ -79,12 +79,12 @@ module _ (block : Block) (rec : List ℕ) where
       record {
         within = record { low = omega arith; high = omega (arith, len, inside) };
         range =
-            subst (λ b. Contains (cond b (behind block rec old ∷ []) (block.region ∷ first_bytes block.region (entry_len page (length rec)) ∷ [])) (record { at = block.region.at + next; size = length entry }))
-            (sym (fits_there next image placed inside)) (only_one (behind block rec old) _ there);
+            subst (λ b. Contains (cond b (range_after_last block rec old ∷ []) (block.region ∷ first_bytes block.region (entry_len page (length rec)) ∷ [])) (record { at = block.region.at + next; size = length entry }))
+            (sym (fits_there next image placed inside)) (only_one (range_after_last block rec old) _ there);
         begins = inl (inl refl);
         leaves =
             inr
-            (subst (λ (part : Image). IsBegun rec (circular_candidate page part)) (sym after)
+            (subst (λ (part : Image). BeginsWithRecord rec (circular_candidate page part)) (sym after)
             (begun_put page size next rec old paged aligned inside (blank_from next image paged placed)));
       }
 
@@ -165,19 +165,19 @@ module _ (block : Block) (rec : List ℕ) where
       (next : ℕ) (from to : Device) →
       HasBlock block from.geometry → next + entry_len block.page (length rec) ≤ block.region.size →
       ForSome (content from) (IsPlaced next) → erases to ≡ erases from →
-      ErasesWhere block.region (λ old. not (fits_behind block rec old)) from to
+      ErasesWhere block.region (λ old. not (fits_after block rec old)) from to
   append_erases next from to held inside placed same =
-      erases_none block.region (λ old. not (fits_behind block rec old)) from to
+      erases_none block.region (λ old. not (fits_after block rec old)) from to
       (λ before e.
-      subst (λ p. not (fits_behind block rec (part_of p block.region before)) ≡ false) (sym held.page)
+      subst (λ p. not (fits_after block rec (part_of p block.region before)) ≡ false) (sym held.page)
       (ap not (fits_there next before (placed before e) inside)))
       same
 
   -- ---- from the start of the erased block
 
-  -- the entry doesn't fit behind what stands there
+  -- the entry doesn't fit after what stands there
   abbrev pub IsFull : Image → Type 0
-  IsFull image = fits_behind block rec (part_of block.page block.region image) ≡ false
+  IsFull image = fits_after block rec (part_of block.page block.region image) ≡ false
 
   names_both : (geometry : Geometry) (image : Image) (len : ℕ) → HasBlock block geometry → len ≡ entry_len block.page (length rec) → IsFull image → NamesBoth (circular_kind block) geometry.page rec len image
   names_both geometry image len held is full =
@@ -186,9 +186,9 @@ module _ (block : Block) (rec : List ℕ) where
       let two : List Region = block.region ∷ first_bytes block.region (entry_len page (length rec)) ∷ [] in
       subst (λ p. NamesBoth (circular_kind block) p rec len image) (sym held.page)
       (record {
-        whole = subst (λ b. Contains (cond b (behind block rec old ∷ []) two) block.region) (sym full) (0, omega arith, refl);
+        whole = subst (λ b. Contains (cond b (range_after_last block rec old ∷ []) two) block.region) (sym full) (0, omega arith, refl);
         first =
-            subst (λ b. Contains (cond b (behind block rec old ∷ []) two) (first_bytes block.region len)) (sym full)
+            subst (λ b. Contains (cond b (range_after_last block rec old ∷ []) two) (first_bytes block.region len)) (sym full)
             (1, omega arith, ap (first_bytes block.region) (sym is));
       })
 
@@ -209,7 +209,7 @@ module _ (block : Block) (rec : List ℕ) where
     anew_inside : 0 + entry_len block.page (length rec) ≤ block.region.size
     anew_inside = omega (arith, entry_fits block.page block.region.size (length rec) held.page_least held.pages room)
 
-    anew_begun : IsBegun rec (circular_candidate block.page (put_at block.page 0 (log_entry block.page rec) (blank_of block)))
+    anew_begun : BeginsWithRecord rec (circular_candidate block.page (put_at block.page 0 (log_entry block.page rec) (blank_of block)))
     anew_begun =
         begun_put block.page block.region.size 0 rec (blank_of block) blank_is_paged (zero-mod block.page) anew_inside
         (λ k from below. blank_pages block.page block.region.size k held.page_least held.pages below)
@@ -225,7 +225,7 @@ module _ (block : Block) (rec : List ℕ) where
       bytes ≡ log_entry block.page rec → ForSome (content one) IsFull →
       IsLater one two → IsLater two three → IsDevice two → IsDevice three →
       ChangesOnly block.region.at (replicate block.region.size 255) one two →
-      Leaves block.region (λ part. blank_block one.geometry.page block.region.size) one two →
+      Leaves block.region (λ part. erased_block one.geometry.page block.region.size) one two →
       ChangesOnly (block.region.at + 0) bytes two three →
       EachCall (IsWriteCall (circular_kind block) one.geometry.page rec) one three
   anew_calls bytes one two three held room is full early late mid_whole last_whole erased blank programmed =
@@ -242,21 +242,21 @@ module _ (block : Block) (rec : List ℕ) where
   anew_left :
       (bytes : List ℕ) (one two three : Device) →
       HasBlock block one.geometry → bytes ≡ log_entry block.page rec → IsLater one two →
-      Leaves block.region (λ part. blank_block one.geometry.page block.region.size) one two →
+      Leaves block.region (λ part. erased_block one.geometry.page block.region.size) one two →
       Leaves block.region (put_at two.geometry.page 0 bytes) two three →
       Leaves block.region (λ part. put_at block.page 0 (log_entry block.page rec) (blank_of block)) one three
   anew_left bytes one two three held is early blank programmed =
       let page : two.geometry.page ≡ block.page = ap (λ (geometry : Geometry). geometry.page) early.geometry ∙ held.page in
-      let joined = leaves_joined block.region (λ part. blank_block one.geometry.page block.region.size) (put_at two.geometry.page 0 bytes) one two three early blank programmed in
+      let joined = leaves_joined block.region (λ part. erased_block one.geometry.page block.region.size) (put_at two.geometry.page 0 bytes) one two three early blank programmed in
       subst (λ (entry : List ℕ). Leaves block.region (λ part. put_at block.page 0 entry (blank_of block)) one three) is
       (subst (λ p. Leaves block.region (λ part. put_at p 0 bytes (blank_of block)) one three) page
-      (subst (λ p. Leaves block.region (λ part. put_at two.geometry.page 0 bytes (blank_block p block.region.size)) one three) held.page joined))
+      (subst (λ p. Leaves block.region (λ part. put_at two.geometry.page 0 bytes (erased_block p block.region.size)) one three) held.page joined))
 
   pub anew_leaves :
       (bytes : List ℕ) (one two three : Device) →
       HasBlock block one.geometry → bytes ≡ log_entry block.page rec →
       ForSome (content one) IsFull → IsLater one two →
-      Leaves block.region (λ part. blank_block one.geometry.page block.region.size) one two →
+      Leaves block.region (λ part. erased_block one.geometry.page block.region.size) one two →
       Leaves block.region (put_at two.geometry.page 0 bytes) two three →
       Leaves block.region (after_write block rec) one three
   anew_leaves bytes one two three held is full early blank programmed =
@@ -265,7 +265,7 @@ module _ (block : Block) (rec : List ℕ) where
       record {
         there = λ before e after f.
             let old : Image = part_of one.geometry.page block.region before in
-            let none : fits_behind block rec old ≡ false = subst (λ p. fits_behind block rec (part_of p block.region before) ≡ false) (sym held.page) (full before e) in
+            let none : fits_after block rec old ≡ false = subst (λ p. fits_after block rec (part_of p block.region before) ≡ false) (sym held.page) (full before e) in
             left.there before e after f
             ∙ ap (λ b. cond b (put_at block.page (next_place block.page old) entry old) (put_at block.page 0 entry (blank_of block))) (sym none);
       }
@@ -274,7 +274,7 @@ module _ (block : Block) (rec : List ℕ) where
       (bytes : List ℕ) (one two three : Device) (image : Image) →
       HasBlock block one.geometry → length rec + 8 ≤ block.region.size → bytes ≡ log_entry block.page rec →
       IsLater one two → IsLater two three →
-      Leaves block.region (λ part. blank_block one.geometry.page block.region.size) one two →
+      Leaves block.region (λ part. erased_block one.geometry.page block.region.size) one two →
       Leaves block.region (put_at two.geometry.page 0 bytes) two three → content three ≡ Some image →
       kept_at 0 (entry_len block.page (length rec)) ≡ kept_of block.page (part_of block.page block.region image)
   anew_keeps bytes one two three image held room is early late blank programmed told =
@@ -289,9 +289,9 @@ module _ (block : Block) (rec : List ℕ) where
       (one two three : Device) →
       HasBlock block one.geometry → ForSome (content one) IsFull →
       ErasesWhere block.region (λ part. true) one two → erases three ≡ erases two →
-      ErasesWhere block.region (λ old. not (fits_behind block rec old)) one three
+      ErasesWhere block.region (λ old. not (fits_after block rec old)) one three
   anew_erases one two three held full run same =
-      erases_once block.region (λ old. not (fits_behind block rec old)) one two three
+      erases_once block.region (λ old. not (fits_after block rec old)) one two three
       (λ before e.
-      subst (λ p. not (fits_behind block rec (part_of p block.region before)) ≡ true) (sym held.page) (ap not (full before e)))
+      subst (λ p. not (fits_after block rec (part_of p block.region before)) ≡ true) (sym held.page) (ap not (full before e)))
       run same

@@ -7,7 +7,7 @@ use Rattle.bb_flash.specs.Cuts.{IsLater}
 use Rattle.bb_flash.specs.Device.{Device, Told, content, erases}
 use Rattle.bb_flash.specs.Image.{Image, IsImageOf}
 use Rattle.bb_bucket.specs.declared.block.Block.{Block}
-use Rattle.bb_bucket.specs.Blocks.{blank_block, blank_of}
+use Rattle.bb_bucket.specs.Blocks.{erased_block, blank_of}
 use Rattle.bb_bucket.specs.BlockLaws.{HasBlock}
 use Rattle.bb_bucket.specs.Calls.{ErasesWhere, Leaves, erases_after}
 use Rattle.bb_bucket.specs.Kind.{part_of}
@@ -47,11 +47,11 @@ module _ (block : Block) where
   pub blank_after :
       (from to : Device) (image : Image) →
       HasBlock block from.geometry → IsLater from to →
-      Leaves block.region (λ part. blank_block from.geometry.page block.region.size) from to →
+      Leaves block.region (λ part. erased_block from.geometry.page block.region.size) from to →
       content to ≡ Some image → part_of block.page block.region image ≡ blank_of block
   blank_after from to image held later leaves told =
-      let after = part_after block.region (λ part. blank_block from.geometry.page block.region.size) from to image later leaves told in
-      subst (λ page. part_of page block.region image ≡ blank_block page block.region.size) held.page after.2
+      let after = part_after block.region (λ part. erased_block from.geometry.page block.region.size) from to image later leaves told in
+      subst (λ page. part_of page block.region image ≡ erased_block page block.region.size) held.page after.2
 
   -- the block of a device that is whole
   pub part_paged :

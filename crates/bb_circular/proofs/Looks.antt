@@ -22,9 +22,9 @@ use Rattle.bb_circular.specs.declared.last_page.LastPage.{LastPage}
 use Rattle.bb_circular.specs.Circular.{IsEntryIn, IsKeptIn, readable}
 use Rattle.bb_circular.specs.PutLaws.{same_page}
 use Rattle.bb_circular.specs.EntryLaws.{one_at_least}
-use Rattle.bb_circular.specs.Entries.{closed_entry, closes, last_words, len_of}
+use Rattle.bb_circular.specs.Entries.{closed_entry, closes, last_words, closing_len_of}
 use Rattle.bb_circular.specs.Looking.{IsKnown, IsLastPage, kept_at}
-use Rattle.bb_circular.specs.Pages.{Page, is_blank, page_at, pages_of, written_pages}
+use Rattle.bb_circular.specs.Pages.{Page, is_erased, page_at, pages_of, written_pages}
 use Rattle.bb_circular.specs.PagesLaws.{IsLookedAt, IsPaged, page_of, pages_counted, written_from}
 
 -- ---- reads of a region
@@ -61,7 +61,7 @@ page_read_health page old size k out health part long = part.health_is ∙ ap (h
 pub blank_read :
     (page : ℕ) (old : Image) (size k : ℕ) (out : List ℕ) (health : Health) →
     IsPart page old size (k * page) out health → length out ≡ page →
-    is_blank (record { bytes = out; health = health }) ≡ is_blank (page_at page old k)
+    is_erased (record { bytes = out; health = health }) ≡ is_erased (page_at page old k)
 blank_read page old size k out health part long =
     let same = page_read_health page old size k out health part long in
     elim (cases_Bool (is_lost health)) [
@@ -77,27 +77,27 @@ module _ (page size : ℕ) (old : Image) (paged : IsPaged page size old) where
   pub looked_all : IsLookedAt page old (size / page)
   looked_all =
       let count = pages_counted page size old paged in
-      let all = ap (suffix_len is_blank) (take_all (size / page) (pages_of page old) (omega arith)) in
+      let all = ap (suffix_len is_erased) (take_all (size / page) (pages_of page old) (omega arith)) in
       omega arith
 
   pub looked_more :
       (n : ℕ) → 0 < n → n ≤ size / page → IsLookedAt page old n →
-      is_blank (page_at page old (n - 1)) ≡ true → IsLookedAt page old (n - 1)
+      is_erased (page_at page old (n - 1)) ≡ true → IsLookedAt page old (n - 1)
   looked_more n some inside looked blank =
       let d : Page = page_at page old 0 in
       let count = pages_counted page size old paged in
-      let last = ap is_blank (page_of page size old paged (n - 1) d (omega arith)) ∙ blank in
-      let more = suffix_len-take_yes is_blank (pages_of page old) n d some (omega arith) last in
+      let last = ap is_erased (page_of page size old paged (n - 1) d (omega arith)) ∙ blank in
+      let more = suffix_len-take_yes is_erased (pages_of page old) n d some (omega arith) last in
       omega arith
 
   pub looked_none :
       (n : ℕ) → 0 < n → n ≤ size / page → IsLookedAt page old n →
-      is_blank (page_at page old (n - 1)) ≡ false → n ≡ written_pages page old
+      is_erased (page_at page old (n - 1)) ≡ false → n ≡ written_pages page old
   looked_none n some inside looked written =
       let d : Page = page_at page old 0 in
       let count = pages_counted page size old paged in
-      let last = ap is_blank (page_of page size old paged (n - 1) d (omega arith)) ∙ written in
-      let none = suffix_len-take_no is_blank (pages_of page old) n d some (omega arith) last in
+      let last = ap is_erased (page_of page size old paged (n - 1) d (omega arith)) ∙ written in
+      let none = suffix_len-take_no is_erased (pages_of page old) n d some (omega arith) last in
       written_from page old n (omega arith)
 
   pub looked_through : IsLookedAt page old 0 → 0 ≡ written_pages page old
@@ -108,7 +108,7 @@ module _ (page size : ℕ) (old : Image) (paged : IsPaged page size old) where
       (n : ℕ) (out : List ℕ) (health : Health) →
       0 < n → n ≤ size / page → IsLookedAt page old n → length out ≡ page →
       IsPart page old size ((n - 1) * page) out health →
-      is_blank (record { bytes = out; health = health }) ≡ false →
+      is_erased (record { bytes = out; health = health }) ≡ false →
       IsLastPage page old out (record { pages = n; health = health })
   last_page_is n out health some inside looked long part written = record {
     pages = looked_none n some inside looked (sym (blank_read page old size (n - 1) out health part long) ∙ written);
@@ -128,13 +128,13 @@ module _ (page size : ℕ) (old : Image) (paged : IsPaged page size old) where
 
 closed_lost : (page pages : ℕ) (last : Page) → is_lost last.health ≡ true → closed_entry page pages last ≡ None
 closed_lost page pages last lost =
-    ap (λ b. cond b (Some (record { at = pages * page - len_of (last_words page last); len = len_of (last_words page last) })) None)
+    ap (λ b. cond b (Some (record { at = pages * page - closing_len_of (last_words page last); len = closing_len_of (last_words page last) })) None)
     (and_right (leb 1 pages) _ (and_left (not (is_lost last.health)) _ (ap not lost)))
 
 closed_first : (page : ℕ) (one two : Page) (pages : ℕ) → pages ≡ 0 → closed_entry page pages one ≡ closed_entry page pages two
 closed_first page one two pages none =
     let no : (last : Page) → closed_entry page pages last ≡ None = λ last.
-    ap (λ n. cond (leb 1 n && (not (is_lost last.health) && closes page (n * page) (last_words page last))) (Some (record { at = n * page - len_of (last_words page last); len = len_of (last_words page last) })) None) none in
+    ap (λ n. cond (leb 1 n && (not (is_lost last.health) && closes page (n * page) (last_words page last))) (Some (record { at = n * page - closing_len_of (last_words page last); len = closing_len_of (last_words page last) })) None) none in
     no one ∙ sym (no two)
 
 closed_read :
@@ -168,10 +168,10 @@ pub entry_in :
     (block : Block) (pages : ℕ) (words : List ℕ) →
     16 ≤ block.page → block.region.size % block.page ≡ 0 → pages ≤ block.region.size / block.page →
     closes block.page (pages * block.page) words ≡ true →
-    IsEntryIn block (record { at = pages * block.page - len_of words; len = len_of words })
+    IsEntryIn block (record { at = pages * block.page - closing_len_of words; len = closing_len_of words })
 entry_in block pages words least whole inside closing =
     let page : ℕ = block.page in
-    let len : ℕ = len_of words in
+    let len : ℕ = closing_len_of words in
     let end : ℕ = pages * page in
     let magic = and_parts (eqb (little_number 4 words) 0x14fa2d02) (eqb (len % page) 0 && (leb 1 len && leb len end)) closing in
     let multiple = and_parts (eqb (len % page) 0) (leb 1 len && leb len end) magic.1 in

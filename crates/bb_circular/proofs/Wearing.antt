@@ -19,19 +19,19 @@ use Rattle.bb_bucket.specs.BlockLaws.{block_of}
 use Rattle.bb_bucket.specs.Front.{put_at}
 use Rattle.bb_bucket.specs.Kind.{BucketKind, part_of}
 use Rattle.bb_circular.specs.declared.kept.Kept.{Kept}
-use Rattle.bb_circular.specs.Circular.{after_write, circular_kind, fits_behind, next_place}
+use Rattle.bb_circular.specs.Circular.{after_write, circular_kind, fits_after, next_place}
 use Rattle.bb_circular.specs.CircularLaws.{behind_next, block_paged, entry_fits, kept_put}
 use Rattle.bb_circular.specs.PutLaws.{blank_paged, blank_pages, put_paged}
 use Rattle.bb_circular.specs.Entries.{entry_len, log_entry}
 use Rattle.bb_circular.specs.EntryLaws.{entry_len_is, entry_size}
 use Rattle.bb_circular.specs.PagesLaws.{IsPaged}
 use Rattle.bb_circular.proofs.LogDevices.{numbers_told, told_image, told_of_numbers}
-use Rattle.bb_circular.specs.Wear.{Deed, Event, Follows, History, Idle, IsIdle, IsWritten, WearLaw, Write, entries_in, last_device, records_in, written_by}
+use Rattle.bb_circular.specs.Wear.{Deed, BlockEvent, FollowsOnBlock, History, Idle, IsIdle, IsWritten, WearLaw, Write, entries_in, last_device, records_in, written_by}
 
 -- how often the writes of these records erase a block that held this before
 wear : Block → List (List ℕ) → Image → ℕ
 wear block [] old = 0
-wear block (rec ∷ recs) old = cond (fits_behind block rec old) 0 1 + wear block recs (after_write block rec old)
+wear block (rec ∷ recs) old = cond (fits_after block rec old) 0 1 + wear block recs (after_write block rec old)
 
 -- ---- counting the places that are left
 
@@ -53,7 +53,7 @@ module _ (block : Block) (len : ℕ) (least : 16 ≤ block.page) (whole : block.
   -- what a write leaves, and where the next entry then goes
   written_behind :
       (rec : List ℕ) (old : Image) → IsPaged block.page block.region.size old → length rec ≡ len →
-      fits_behind block rec old ≡ true →
+      fits_after block rec old ≡ true →
       IsPaged block.page block.region.size (after_write block rec old)
       × (next_place block.page (after_write block rec old) ≡ next_place block.page old + entry_len block.page len)
   written_behind rec old paged same fits =
@@ -74,7 +74,7 @@ module _ (block : Block) (len : ℕ) (least : 16 ≤ block.page) (whole : block.
       )
 
   written_anew :
-      (rec : List ℕ) (old : Image) → length rec ≡ len → fits_behind block rec old ≡ false →
+      (rec : List ℕ) (old : Image) → length rec ≡ len → fits_after block rec old ≡ false →
       IsPaged block.page block.region.size (after_write block rec old)
       × (next_place block.page (after_write block rec old) ≡ entry_len block.page len)
   written_anew rec old same full =
@@ -112,7 +112,7 @@ module _ (block : Block) (len : ℕ) (least : 16 ≤ block.page) (whole : block.
       let some = entry_least in
       let next : ℕ = next_place block.page old in
       let after : Image = after_write block rec old in
-      elim (cases_Bool (fits_behind block rec old)) [
+      elim (cases_Bool (fits_after block rec old)) [
         | inl fits ↦
             let left = written_behind rec old paged same fits in
             let inside : next + entry_len block.page (length rec) ≤ block.region.size = leb-true (next + entry_len block.page (length rec)) block.region.size fits in
@@ -120,11 +120,11 @@ module _ (block : Block) (len : ℕ) (least : 16 ≤ block.page) (whole : block.
             let less = one_less (block.region.size - next) entry some (omega (arith, inside, long)) in
             let there : block.region.size - next_place block.page after ≡ block.region.size - next - entry = omega (arith, left.1) in
             let room_after = ap (λ n. n / entry) there in
-            let count : ◌≡◌ {A = ℕ} (cond (fits_behind block rec old) 0 1) 0 = ap (λ b. cond b 0 1) fits in
+            let count : ◌≡◌ {A = ℕ} (cond (fits_after block rec old) 0 1) 0 = ap (λ b. cond b 0 1) fits in
             elim (bounded recs after left.0 others) [
               | inl none ↦ inl (omega (arith, none, count))
               | inr few ↦
-                  let total : cond (fits_behind block rec old) 0 1 + wear block recs after ≡ wear block recs after = omega (arith, count) in
+                  let total : cond (fits_after block rec old) 0 1 + wear block recs after ≡ wear block recs after = omega (arith, count) in
                   let product = ap (λ n. n * e) total in
                   inr (omega (arith, few, product, less, room_after))
             ]
@@ -137,8 +137,8 @@ module _ (block : Block) (len : ℕ) (least : 16 ≤ block.page) (whole : block.
             let less = one_less block.region.size entry some all_fit in
             let there : block.region.size - next_place block.page after ≡ block.region.size - entry = omega (arith, left.1) in
             let room_after = ap (λ n. n / entry) there in
-            let count : ◌≡◌ {A = ℕ} (cond (fits_behind block rec old) 0 1) 1 = ap (λ b. cond b 0 1) full in
-            let total : cond (fits_behind block rec old) 0 1 + wear block recs after ≡ wear block recs after + 1 = omega (arith, count) in
+            let count : ◌≡◌ {A = ℕ} (cond (fits_after block rec old) 0 1) 1 = ap (λ b. cond b 0 1) full in
+            let total : cond (fits_after block rec old) 0 1 + wear block recs after ≡ wear block recs after + 1 = omega (arith, count) in
             let product = ap (λ n. n * e) total ∙ add-mul (wear block recs after) 1 e in
             elim (bounded recs after left.0 others) [
               | inl none ↦
@@ -180,13 +180,13 @@ counted_at false numbers k = omega arith
 
 deed_written :
     (deed : Deed) (recs : List (List ℕ)) (block : Block) (len : ℕ) (from to : Device) →
-    Follows block len from deed to → AllByRecursion (λ rec. length rec ≡ len) recs →
+    FollowsOnBlock block len from deed to → AllByRecursion (λ rec. length rec ≡ len) recs →
     AllByRecursion (λ rec. length rec ≡ len) (written_by deed recs)
 deed_written Idle recs block len from to follows all = all
 deed_written (Write rec) recs block len from to follows all = (follows.sized, all)
 
 all_sized :
-    (block : Block) (len : ℕ) (from : Device) (events : List Event) → History block len from events →
+    (block : Block) (len : ℕ) (from : Device) (events : List BlockEvent) → History block len from events →
     AllByRecursion (λ rec. length rec ≡ len) (records_in events)
 all_sized block len from [] history = tt
 all_sized block len from (event ∷ later) history =
@@ -234,9 +234,9 @@ after_written block geometry len rec from to image before same holds counts writ
     let there = numbers_told to.told (written.later.told ∙ told_image from.told image holds) in
     let old : Image = part_of geometry.page block.region image in
     let place : ℕ = block.region.at / geometry.block in
-    let fits : Bool = fits_behind block rec old in
+    let fits : Bool = fits_after block rec old in
     let left = subst (λ (g : Geometry). part_of g.page block.region there.0 ≡ after_write block rec (part_of g.page block.region image)) same (written.done.there image holds there.0 there.2) in
-    let erased = subst (λ (g : Geometry). erases to ≡ option_map (erases_after g block.region (not (fits_behind block rec (part_of g.page block.region image)))) (erases from)) same (written.erases.counted image holds) in
+    let erased = subst (λ (g : Geometry). erases to ≡ option_map (erases_after g block.region (not (fits_after block rec (part_of g.page block.region image)))) (erases from)) same (written.erases.counted image holds) in
     let is : Some there.1 ≡ Some (erases_after geometry block.region (not fits) before) = sym there.3 ∙ erased ∙ ap (option_map (erases_after geometry block.region (not fits))) counts in
     let numbers : there.1 ≡ erases_after geometry block.region (not fits) before = same_Some _ _ is in
     let number = ap (λ (ns : List ℕ). slice_index ns place) numbers in
@@ -254,12 +254,12 @@ after_written block geometry len rec from to image before same holds counts writ
 after_deed :
     (deed : Deed) (block : Block) (geometry : Geometry) (len : ℕ) (from to : Device) (image : Image) (before : List ℕ) →
     from.geometry ≡ geometry → content from ≡ Some image → erases from ≡ Some before →
-    Follows block len from deed to → IsAfter block geometry deed image before to
+    FollowsOnBlock block len from deed to → IsAfter block geometry deed image before to
 after_deed Idle block geometry len from to image before same holds counts follows = after_idle block geometry from to image before same holds counts follows
 after_deed (Write rec) block geometry len from to image before same holds counts follows = after_written block geometry len rec from to image before same holds counts follows
 
 rises :
-    (block : Block) (geometry : Geometry) (len : ℕ) (events : List Event) (from : Device) (image : Image) (before after : List ℕ) →
+    (block : Block) (geometry : Geometry) (len : ℕ) (events : List BlockEvent) (from : Device) (image : Image) (before after : List ℕ) →
     from.geometry ≡ geometry → content from ≡ Some image → erases from ≡ Some before →
     erases (last_device from events) ≡ Some after → History block len from events →
     slice_index after (block.region.at / geometry.block)

@@ -1,4 +1,4 @@
--- A block that is written as a log: each record goes behind the last page that isn't blank, and
+-- A block that is written as a log: each record goes after the last page that isn't blank, and
 -- only where it doesn't fit there the block is erased first. What stands there is the entry that
 -- ends in that last page, or none: whatever older entries stand before it, they don't count.
 use Rattle.std.specs.Prelude.{◌≡◌, ℕ, ◌+◌, ◌-◌, ◌*◌, ◌≤◌, ◌%◌, ◌==◌, Bool, true, false, ◌&&◌, not, nat_le, List, [], ◌∷◌, length, take, drop, Option, Some, None, IfSome, option_map, option_and_then, is_some, unwrap_or, if◌then◌else◌}
@@ -30,7 +30,7 @@ newest_of page old =
     option_and_then (readable page old)
     (closed_entry page (written_pages page old) (page_at page old (written_pages page old - 1)))
 
--- an entry without its closing words: its filling counts as bytes behind the record
+-- an entry without its closing words: its filling counts as bytes after the record
 abbrev pub record_of : Image → Entry → List ℕ
 record_of old entry = take (entry.len - closing_len) (drop entry.at old.bytes)
 
@@ -47,21 +47,21 @@ circular_is_worn page old =
 
 -- ---- what a write makes of it
 
--- the record's entry fits behind the last page that isn't blank
-abbrev pub fits_behind : Block → List ℕ → Image → Bool
-fits_behind block rec old =
+-- the record's entry fits after the last page that isn't blank
+abbrev pub fits_after : Block → List ℕ → Image → Bool
+fits_after block rec old =
     nat_le (next_place block.page old + entry_len block.page (length rec)) block.region.size
 
 -- a block after a record was written
 abbrev pub after_write : Block → List ℕ → Image → Image
 after_write block rec old =
-    if fits_behind block rec old
+    if fits_after block rec old
     then put_at block.page (next_place block.page old) (log_entry block.page rec) old
     else put_at block.page 0 (log_entry block.page rec) (blank_of block)
 
--- the bytes that the entry takes behind the last page that isn't blank
-abbrev pub behind : Block → List ℕ → Image → Region
-behind block rec old = record {
+-- the bytes that the entry takes after the last page that isn't blank
+abbrev pub range_after_last : Block → List ℕ → Image → Region
+range_after_last block rec old = record {
   at = block.region.at + next_place block.page old;
   size = entry_len block.page (length rec);
 }
@@ -69,8 +69,8 @@ behind block rec old = record {
 -- the ranges that the flash calls of a write may touch
 abbrev pub ranges_of : Block → List ℕ → Image → List Region
 ranges_of block rec old =
-    if fits_behind block rec old
-    then behind block rec old ∷ []
+    if fits_after block rec old
+    then range_after_last block rec old ∷ []
     else block.region ∷ first_bytes block.region (entry_len block.page (length rec)) ∷ []
 
 -- what such a block means
@@ -85,7 +85,7 @@ circular_kind block = record {
   after_void = λ old. blank_of block;
   write_ranges = ranges_of block;
   void_ranges = block.region ∷ [];
-  write_erases = λ rec old. not (fits_behind block rec old);
+  write_erases = λ rec old. not (fits_after block rec old);
   void_erases = true;
 }
 

@@ -14,19 +14,19 @@ use Rattle.bb_bucket.specs.declared.block.Block.{Block}
 use Rattle.bb_bucket.specs.Blocks.{blank_of}
 use Rattle.bb_bucket.specs.BlockLaws.{HasBlock, block_lies_on, block_of}
 use Rattle.bb_bucket.specs.Front.{is_lost, put_at}
-use Rattle.bb_bucket.specs.Kind.{IsBegun, IsKind, part_of}
+use Rattle.bb_bucket.specs.Kind.{BeginsWithRecord, IsKind, part_of}
 use Rattle.bb_bucket.proofs.Pages.{filled_fits, sum_aligned}
 use Rattle.bb_bucket.proofs.Within.{part_pages, part_size}
 use Rattle.bb_circular.specs.declared.kept.Entry.{Entry}
 use Rattle.bb_circular.specs.declared.kept.Kept.{Kept}
-use Rattle.bb_circular.specs.Circular.{Circle, after_write, circular_candidate, circular_holding, circular_kind, fits_behind, kept_of, newest_of, next_place, readable}
-use Rattle.bb_circular.specs.Entries.{closed_entry, closes, closing_words, entry_len, last_words, len_of, log_entry}
+use Rattle.bb_circular.specs.Circular.{Circle, after_write, circular_candidate, circular_holding, circular_kind, fits_after, kept_of, newest_of, next_place, readable}
+use Rattle.bb_circular.specs.Entries.{closed_entry, closes, closing_words, entry_len, last_words, closing_len_of, log_entry}
 use Rattle.bb_circular.specs.EntryLaws.{entry_front, entry_len_is, entry_size, entry_words, last_page_written, words_close, words_length}
-use Rattle.bb_circular.specs.Pages.{Page, is_blank, page_at, written_pages}
+use Rattle.bb_circular.specs.Pages.{Page, is_erased, page_at, written_pages}
 use Rattle.bb_circular.specs.PagesLaws.{IsPaged, blank_behind, written_is}
 use Rattle.bb_circular.specs.PutLaws.{blank_candidate, blank_paged, blank_pages, put_behind, put_fine, put_paged, put_part}
 
--- ---- an entry that was put behind the last page that isn't blank
+-- ---- an entry that was put after the last page that isn't blank
 
 closed_by :
     (page pages : ℕ) (last : Page) (len : ℕ) →
@@ -37,13 +37,13 @@ closed_by page pages last len some kept words small whole least inside =
     let entry = λ (n : ℕ). (let e : Entry = record { at = pages * page - n; len = n } in e) in
     ap (λ ws. cond (leb 1 pages
     && (not (is_lost last.health) && closes page (pages * page) ws))
-    (Some (entry (len_of ws))) None) words
+    (Some (entry (closing_len_of ws))) None) words
     ∙ ap (λ b. cond (b && (not (is_lost last.health)
     && closes page (pages * page) (closing_words len)))
-    (Some (entry (len_of (closing_words len)))) None) (le-leb 1 pages some)
+    (Some (entry (closing_len_of (closing_words len)))) None) (le-leb 1 pages some)
     ∙ ap (λ b. cond (not b && closes page (pages * page) (closing_words len))
-    (Some (entry (len_of (closing_words len)))) None) kept
-    ∙ ap (λ b. cond b (Some (entry (len_of (closing_words len)))) None)
+    (Some (entry (closing_len_of (closing_words len)))) None) kept
+    ∙ ap (λ b. cond b (Some (entry (closing_len_of (closing_words len)))) None)
     (words_close page len (pages * page) small whole least inside)
     ∙ ap (λ n. Some (entry n)) (words_length len small)
 
@@ -56,7 +56,7 @@ module _ (page size at : ℕ) (rec : List ℕ) (block : Image)
     (paged : IsPaged page size block) (first : at % page ≡ 0)
     (inside : at + entry_len page (length rec) ≤ size)
     (behind : (k : ℕ) → at ≤ k * page → k < size / page →
-    is_blank (page_at page block k) ≡ true) where
+    is_erased (page_at page block k) ≡ true) where
   entry_put : Image
   entry_put = put_at page at (log_entry page rec) block
 
@@ -148,7 +148,7 @@ module _ (page size at : ℕ) (rec : List ℕ) (block : Image)
       (λ k from below.
       let product : end_pages * page ≤ k * page = mul-le-mul_right page from in
       let is = entry_len_is page (length rec) (omega (arith, paged.page_least)) in
-      ap is_blank (put_behind page size at
+      ap is_erased (put_behind page size at
       (log_entry page rec) block paged first written_whole written_fits k
       (omega (arith, end_is, written_len)))
       ∙ behind k (omega (arith, end_is)) below)
@@ -197,7 +197,7 @@ module _ (page size at : ℕ) (rec : List ℕ) (block : Image)
       ∙ ap (kept (at + entry_len page (length rec))) newest_put
 
   -- and its candidate begins with the record
-  pub begun_put : IsBegun rec (circular_candidate page (put_at page at (log_entry page rec) block))
+  pub begun_put : BeginsWithRecord rec (circular_candidate page (put_at page at (log_entry page rec) block))
   unfolding entry_put
   begun_put =
       let is = entry_len_is page (length rec) (omega (arith, paged.page_least)) in
@@ -239,10 +239,10 @@ block_paged block geometry image held whole =
       small = omega (arith, held.inside, held.small);
     }
 
--- the pages behind the last one that isn't blank are blank
+-- the pages after the last one that isn't blank are blank
 pub behind_next :
     (page size : ℕ) (old : Image) → IsPaged page size old → (k : ℕ) →
-    next_place page old ≤ k * page → k < size / page → is_blank (page_at page old k) ≡ true
+    next_place page old ≤ k * page → k < size / page → is_erased (page_at page old k) ≡ true
 behind_next page size old paged k from below =
     blank_behind page size old paged k
     (le_of_mul-le-mul_right {m = written_pages page old} {n = k} {k = page} from
@@ -258,20 +258,20 @@ entry_fits page size len least whole room =
 pub write_begins :
     (block : Block) (rec : List ℕ) (old : Image) →
     IsPaged block.page block.region.size old → length rec + 8 ≤ block.region.size →
-    IsBegun rec (circular_candidate block.page (after_write block rec old))
+    BeginsWithRecord rec (circular_candidate block.page (after_write block rec old))
 write_begins block rec old paged room =
     let page : ℕ = block.page in
     let size : ℕ = block.region.size in
     let appended : Image = put_at page (next_place page old) (log_entry page rec) old in
     let anew : Image = put_at page 0 (log_entry page rec) (blank_of block) in
-    elim (cases_Bool (fits_behind block rec old)) [
+    elim (cases_Bool (fits_after block rec old)) [
       | inl fits ↦
-          subst (λ b. IsBegun rec (circular_candidate page (cond b appended anew))) (sym fits)
+          subst (λ b. BeginsWithRecord rec (circular_candidate page (cond b appended anew))) (sym fits)
           (begun_put page size (next_place page old) rec old paged
           (mul-mod_left (written_pages page old) page) (leb-true _ _ fits)
           (behind_next page size old paged))
       | inr full ↦
-          subst (λ b. IsBegun rec (circular_candidate page (cond b appended anew))) (sym full)
+          subst (λ b. BeginsWithRecord rec (circular_candidate page (cond b appended anew))) (sym full)
           (begun_put page size 0 rec (blank_of block)
           (blank_paged page size paged.page_least paged.whole paged.small) (zero-mod page)
           (omega (arith, entry_fits page size (length rec) paged.page_least paged.whole room))

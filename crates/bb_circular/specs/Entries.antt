@@ -28,15 +28,15 @@ log_entry page rec =
     ++ closing_words (entry_len page (length rec))
 
 -- the entry's length, as its closing words say
-abbrev pub len_of : List ℕ → ℕ
-len_of words = little_number 4 (drop 4 words)
+abbrev pub closing_len_of : List ℕ → ℕ
+closing_len_of words = little_number 4 (drop 4 words)
 
 -- the closing words of an entry that ends at a place of its block: they begin with the magic one,
 -- and give a positive multiple of the page that doesn't reach before the block's start
 abbrev pub closes : ℕ → ℕ → List ℕ → Bool
 closes page end words =
     little_number 4 words == 0x14fa2d02
-    && (len_of words % page == 0 && (nat_le 1 (len_of words) && nat_le (len_of words) end))
+    && (closing_len_of words % page == 0 && (nat_le 1 (closing_len_of words) && nat_le (closing_len_of words) end))
 
 -- the last bytes of a page, where closing words stand
 abbrev pub last_words : ℕ → Page → List ℕ
@@ -48,7 +48,7 @@ closed_entry page pages last =
     if nat_le 1 pages
     && (not (is_lost last.health) && closes page (pages * page) (last_words page last))
     then Some (record {
-      at = pages * page - len_of (last_words page last);
-      len = len_of (last_words page last);
+      at = pages * page - closing_len_of (last_words page last);
+      len = closing_len_of (last_words page last);
     })
     else None

@@ -1,4 +1,4 @@
--- What an entry holds: its length, its record in front, and its closing words behind.
+-- What an entry holds: its length, its record in front, and its closing words after.
 use Rattle.std.proofs.Common.{◌≡◌, ℕ, zero, suc, ◌+◌, ◌-◌, ◌*◌, ◌%◌, ◌^◌, ◌<◌, ◌≤◌, Bool, true, false, ◌&&◌, List, [], eqb, leb, length, take, drop, replicate, refl, sym, ap, ◌∙◌, arith, length-append}
 use Rattle.std.specs.List.{list_all}
 use Rattle.std.proofs.Math.Nat.{add-mul, mul-mod_left}
@@ -10,7 +10,7 @@ use Rattle.std.proofs.lemmas.List.Folds.{list_all-append}
 use Rattle.std.specs.Int.{div_ceil}
 use Rattle.byteorder.specs.Numbers.{little_number-reads_back}
 use Rattle.bb_bucket.specs.Blocks.{filled_to}
-use Rattle.bb_circular.specs.Entries.{closes, closing_words, entry_len, len_of, log_entry}
+use Rattle.bb_circular.specs.Entries.{closes, closing_words, entry_len, closing_len_of, log_entry}
 
 -- an entry has whole pages, one at least, and room for its record and the closing words
 pub record IsEntryLen (page len entry : ℕ) : Type 0 where
@@ -57,7 +57,7 @@ module _ (page : ℕ) (rec : List ℕ) (some : 0 < page) where
       ap (λ n. take n (log_entry page rec)) (sym filled_size)
       ∙ take-append_seam front (closing_words (entry_len page (length rec)))
 
-  -- the closing words stand behind
+  -- the closing words stand after
   pub entry_words : drop (entry_len page (length rec) - 8) (log_entry page rec)
       ≡ closing_words (entry_len page (length rec))
   entry_words =
@@ -82,7 +82,7 @@ module _ (page : ℕ) (rec : List ℕ) (some : 0 < page) where
       ∙ and_right _ _ refl
 
 -- the length reads back from the words
-pub words_length : (len : ℕ) → len < 2 ^ 32 → len_of (closing_words len) ≡ len
+pub words_length : (len : ℕ) → len < 2 ^ 32 → closing_len_of (closing_words len) ≡ len
 words_length len small = little_number-reads_back 4 len [] small
 
 all_hold : (a b c : Bool) → a ≡ true → b ≡ true → c ≡ true → (a && (b && c)) ≡ true

@@ -22,9 +22,9 @@ abbrev pub pages_of : ℕ → Image → List Page
 pages_of page block = map (page_at page block) (range_with_len 0 (length block.bytes / page))
 
 -- as after an erase: each byte is 0xFF, and the page isn't Lost
-abbrev pub is_blank : Page → Bool
-is_blank page = not (is_lost page.health) && list_all (λ byte. byte == 255) page.bytes
+abbrev pub is_erased : Page → Bool
+is_erased page = not (is_lost page.health) && list_all (λ byte. byte == 255) page.bytes
 
 -- how many pages there are up to the last one that isn't blank: all but the blank ones at the end
 unfoldable pub written_pages : ℕ → Image → ℕ
-written_pages page block = length (pages_of page block) - suffix_len is_blank (pages_of page block)
+written_pages page block = length (pages_of page block) - suffix_len is_erased (pages_of page block)

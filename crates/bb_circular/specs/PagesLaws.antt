@@ -1,4 +1,4 @@
--- What follows for the pages of a block: which is the last that isn't blank, and what stands behind
+-- What follows for the pages of a block: which is the last that isn't blank, and what stands after
 -- it.
 use Rattle.std.proofs.Common.{◌≡◌, ◌≢◌, ℕ, zero, suc, ◌+◌, ◌-◌, ◌*◌, ◌/◌, ◌%◌, ◌<◌, ◌≤◌, Bool, true, false, not, List, [], ◌∷◌, ◌++◌, eqb, length, take, drop, replicate, get_or, refl, sym, ap, ◌∙◌, subst, arith, inl, inr, take-add, take_all}
 use Rattle.std.specs.List.{fold, list_all, suffix_len}
@@ -14,7 +14,7 @@ use Rattle.bb_flash.proofs.Geometries.{whole_times}
 use Rattle.bb_flash.specs.Geometry.{size_limit}
 use Rattle.bb_bucket.specs.Front.{is_lost}
 use Rattle.bb_bucket.proofs.Pages.{div_moved, sum_aligned, touched_region}
-use Rattle.bb_circular.specs.Pages.{Page, is_blank, page_at, pages_of, written_pages}
+use Rattle.bb_circular.specs.Pages.{Page, is_erased, page_at, pages_of, written_pages}
 
 -- a block of whole pages
 pub record IsPaged (page size : ℕ) (block : Image) : Type 0 where
@@ -86,7 +86,7 @@ not_lost Lost kept = absurd cc
 -- bytes of a page that are blank make a blank page, and the other way
 pub blank_page :
     (page : ℕ) (block : Image) (k : ℕ) →
-    IsBlank page block (k * page) page → is_blank (page_at page block k) ≡ true
+    IsBlank page block (k * page) page → is_erased (page_at page block k) ≡ true
 blank_page page block k blank =
     let kept = kept_health (health_of page block (k * page) page) blank.alive in
     let all : list_all (λ (byte : ℕ). eqb byte 255) (take page (drop (k * page) block.bytes))
@@ -126,7 +126,7 @@ rest_kept Fine pages h = h
 rest_kept Worn pages h = worn_kept pages h
 rest_kept Lost pages h = absurd (false≢true (sym h ∙ ap is_lost (lost_stays pages)))
 
--- pages of which none is Lost, behind others
+-- pages of which none is Lost, after others
 worse_worst : (health : Health) (pages : List Health) → is_lost health ≡ false →
     is_lost (worst_of pages) ≡ false → is_lost (fold worse_of health pages) ≡ false
 worse_worst health [] kept others = kept
@@ -134,7 +134,7 @@ worse_worst health (one ∷ pages) kept others =
     worse_worst (worse_of health one) pages
     (both_kept health one kept (first_kept one pages others)) (rest_kept one pages others)
 
--- two ranges of whole pages one behind the other
+-- two ranges of whole pages one after the other
 health_joined :
     (page at a b : ℕ) (pages : List Health) →
     0 < page → at % page ≡ 0 → a % page ≡ 0 → b % page ≡ 0 →
@@ -180,12 +180,12 @@ blank_joined page block at a b some first whole_a whole_b one two = record {
 -- all are as many as all pages and the blank ones at the end of these
 abbrev pub IsLookedAt : ℕ → Image → ℕ → Type 0
 IsLookedAt page block n =
-    n + suffix_len is_blank (pages_of page block)
-    ≡ length (pages_of page block) + suffix_len is_blank (take n (pages_of page block))
+    n + suffix_len is_erased (pages_of page block)
+    ≡ length (pages_of page block) + suffix_len is_erased (take n (pages_of page block))
 
 pub written_from :
     (page : ℕ) (block : Image) (n : ℕ) →
-    n + suffix_len is_blank (pages_of page block) ≡ length (pages_of page block) →
+    n + suffix_len is_erased (pages_of page block) ≡ length (pages_of page block) →
     n ≡ written_pages page block
 unfolding written_pages
 written_from page block n sum = omega arith
@@ -206,36 +206,36 @@ module _ (page size : ℕ) (block : Image) (paged : IsPaged page size block) whe
   -- the number of pages up to the last that isn't blank is fixed by what blank pages there are
   pub written_is :
       (n : ℕ) → n ≤ size / page →
-      ((k : ℕ) → n ≤ k → k < size / page → is_blank (page_at page block k) ≡ true) →
-      (0 < n → is_blank (page_at page block (n - 1)) ≡ false) →
+      ((k : ℕ) → n ≤ k → k < size / page → is_erased (page_at page block k) ≡ true) →
+      (0 < n → is_erased (page_at page block (n - 1)) ≡ false) →
       written_pages page block ≡ n
   unfolding written_pages
   written_is n inside blank last =
       let d : Page = page_at page block 0 in
       let count = pages_counted in
       let is =
-      suffix_len_is is_blank (pages_of page block) n d (omega arith)
-      (λ k from below. ap is_blank (page_of k d (omega arith)) ∙ blank k from (omega arith))
-      (λ some. ap is_blank (page_of (n - 1) d (omega arith)) ∙ last some) in
+      suffix_len_is is_erased (pages_of page block) n d (omega arith)
+      (λ k from below. ap is_erased (page_of k d (omega arith)) ∙ blank k from (omega arith))
+      (λ some. ap is_erased (page_of (n - 1) d (omega arith)) ∙ last some) in
       omega arith
 
   pub written_inside : written_pages page block ≤ size / page
   unfolding written_pages
   written_inside = omega (arith, pages_counted)
 
-  -- all pages behind it are blank
+  -- all pages after it are blank
   pub blank_behind :
       (k : ℕ) → written_pages page block ≤ k → k < size / page →
-      is_blank (page_at page block k) ≡ true
+      is_erased (page_at page block k) ≡ true
   unfolding written_pages
   blank_behind k from below =
       let d : Page = page_at page block 0 in
       let count = pages_counted in
-      ap is_blank (sym (page_of k d below))
-      ∙ passes_behind is_blank (pages_of page block) k d from (omega arith)
+      ap is_erased (sym (page_of k d below))
+      ∙ passes_behind is_erased (pages_of page block) k d from (omega arith)
 
   -- a blank page holds 0xFF alone, and isn't Lost
-  page_blank : (k : ℕ) → k < size / page → is_blank (page_at page block k) ≡ true →
+  page_blank : (k : ℕ) → k < size / page → is_erased (page_at page block k) ≡ true →
       IsBlank page block (k * page) page
   page_blank k inside blank =
       let parts = and_parts (not (is_lost (page_at page block k).health))
@@ -256,7 +256,7 @@ module _ (page size : ℕ) (block : Image) (paged : IsPaged page size block) whe
   -- pages that are blank one by one are blank together
   pub pages_blank :
       (n m : ℕ) → n + m ≤ size / page →
-      ((k : ℕ) → n ≤ k → k < n + m → is_blank (page_at page block k) ≡ true) →
+      ((k : ℕ) → n ≤ k → k < n + m → is_erased (page_at page block k) ≡ true) →
       IsBlank page block (n * page) (m * page)
   pages_blank n zero inside blank =
       let none : 0 ≡ 0 * page = omega arith in

@@ -14,7 +14,7 @@ use Rattle.bb_flash.specs.Image.{Image, IsImageOf, Torn, health_of, with_bytes, 
 use Rattle.bb_flash.proofs.Geometries.{whole_times}
 use Rattle.bb_flash.proofs.Regions.{Torn-region}
 use Rattle.bb_flash.proofs.Tearing.{Torn-left_by}
-use Rattle.bb_bucket.specs.Blocks.{blank_block}
+use Rattle.bb_bucket.specs.Blocks.{erased_block}
 use Rattle.bb_bucket.specs.Front.{is_lost, put_at}
 use Rattle.bb_bucket.specs.FrontLaws.{written_fine}
 use Rattle.bb_bucket.specs.Kind.{LiesOn, part_of}
@@ -25,8 +25,8 @@ use Rattle.bb_bucket.proofs.Within.{health_of-part}
 use Rattle.bb_circular.specs.declared.kept.Entry.{Entry}
 use Rattle.bb_circular.specs.declared.kept.Kept.{Kept}
 use Rattle.bb_circular.specs.Circular.{circular_candidate, kept_of, newest_of, readable}
-use Rattle.bb_circular.specs.Entries.{closed_entry, closes, last_words, len_of}
-use Rattle.bb_circular.specs.Pages.{Page, is_blank, page_at, written_pages}
+use Rattle.bb_circular.specs.Entries.{closed_entry, closes, last_words, closing_len_of}
+use Rattle.bb_circular.specs.Pages.{Page, is_erased, page_at, written_pages}
 use Rattle.bb_circular.specs.PagesLaws.{IsPaged, blank_page, written_is}
 
 -- bytes that were put into a list
@@ -73,7 +73,7 @@ module _ (page size at : ℕ) (bytes : List ℕ) (block : Image)
     small = paged.small;
   }
 
-  -- the pages behind them stay
+  -- the pages after them stay
   pub put_behind : (k : ℕ) → at + length bytes ≤ k * page →
       page_at page (put_at page at bytes block) k ≡ page_at page block k
   put_behind k behind =
@@ -108,7 +108,7 @@ module _ (page size at : ℕ) (bytes : List ℕ) (block : Image)
 
 -- a blank block has no page that isn't blank
 pub blank_paged : (page size : ℕ) → 16 ≤ page → size % page ≡ 0 → size ≤ size_limit →
-    IsPaged page size (blank_block page size)
+    IsPaged page size (erased_block page size)
 blank_paged page size least whole small = record {
   page_least = least;
   whole = whole;
@@ -119,18 +119,18 @@ blank_paged page size least whole small = record {
 }
 
 pub blank_pages : (page size k : ℕ) → 16 ≤ page → size % page ≡ 0 → k < size / page →
-    is_blank (page_at page (blank_block page size) k) ≡ true
+    is_erased (page_at page (erased_block page size) k) ≡ true
 blank_pages page size k least whole inside =
     let times = whole_times size page whole in
     let product : (k + 1) * page ≤ size / page * page = mul-le-mul_right page (omega arith) in
     let next = add-mul k 1 page in
-    blank_page page (blank_block page size) k
+    blank_page page (erased_block page size) k
     (blank_is_blank page size (k * page) page (omega arith) whole (omega arith))
 
 pub none_written : (page size : ℕ) → 16 ≤ page → size % page ≡ 0 → size ≤ size_limit →
-    written_pages page (blank_block page size) ≡ 0
+    written_pages page (erased_block page size) ≡ 0
 none_written page size least whole small =
-    written_is page size (blank_block page size) (blank_paged page size least whole small) 0
+    written_is page size (erased_block page size) (blank_paged page size least whole small) 0
     (omega arith)
     (λ k from below. blank_pages page size k least whole below) (λ some. absurd (omega arith))
 
@@ -163,15 +163,15 @@ open_page :
     closed_entry page pages last ≡ None
 open_page page pages last none =
     ap (λ b. cond b (Some (record {
-      at = pages * page - len_of (last_words page last);
-      len = len_of (last_words page last);
+      at = pages * page - closing_len_of (last_words page last);
+      len = closing_len_of (last_words page last);
     })) None)
     (and_right (leb 1 pages) _ (and_right (not (is_lost last.health)) _ none))
 
 -- so nothing stands in it
-pub blank_newest : (page blank_page size : ℕ) → newest_of page (blank_block blank_page size) ≡ None
+pub blank_newest : (page blank_page size : ℕ) → newest_of page (erased_block blank_page size) ≡ None
 blank_newest page blank_page size =
-    let block : Image = blank_block blank_page size in
+    let block : Image = erased_block blank_page size in
     let pages : ℕ = written_pages page block in
     let words = blank_words page size ((pages - 1) * page) in
     ap (option_and_then (readable page block))
@@ -179,20 +179,20 @@ blank_newest page blank_page size =
     (ap (closes page (pages * page)) words.1 ∙ blank_closes_none page (pages * page) words.0))
 
 pub blank_candidate : (page blank_page size : ℕ) →
-    circular_candidate page (blank_block blank_page size) ≡ None
+    circular_candidate page (erased_block blank_page size) ≡ None
 blank_candidate page blank_page size =
     ap (option_map (λ (entry : Entry).
-    take (entry.len - 8) (drop entry.at (blank_block blank_page size).bytes)))
+    take (entry.len - 8) (drop entry.at (erased_block blank_page size).bytes)))
     (blank_newest page blank_page size)
 
 -- and the next entry goes to its start
 pub blank_kept : (page size : ℕ) → 16 ≤ page → size % page ≡ 0 → size ≤ size_limit →
-    kept_of page (blank_block page size) ≡ record { next = 0; newest = None }
+    kept_of page (erased_block page size) ≡ record { next = 0; newest = None }
 blank_kept page size least whole small =
     let kept = λ (next : ℕ) (newest : Option Entry).
     (let k : Kept = record { next = next; newest = newest } in k) in
     let start : 0 * page ≡ 0 = omega arith in
-    ap (λ n. kept (n * page) (newest_of page (blank_block page size)))
+    ap (λ n. kept (n * page) (newest_of page (erased_block page size)))
     (none_written page size least whole small)
-    ∙ ap (λ n. kept n (newest_of page (blank_block page size))) start
+    ∙ ap (λ n. kept n (newest_of page (erased_block page size))) start
     ∙ ap (kept 0) (blank_newest page page size)

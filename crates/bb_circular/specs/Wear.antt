@@ -15,8 +15,8 @@ abbrev pub entries_in : Block → ℕ → ℕ
 entries_in block len = block.region.size / entry_len block.page len
 
 -- how often the block was erased, of the numbers of all blocks
-abbrev pub number_of : Block → Device → List ℕ → ℕ
-number_of block device numbers = slice_index numbers (block.region.at / device.geometry.block)
+abbrev pub erases_of_block : Block → Device → List ℕ → ℕ
+erases_of_block block device numbers = slice_index numbers (block.region.at / device.geometry.block)
 
 -- a record of this length was written and the write answered Ok: what its clauses say of the block
 pub record IsWritten (block : Block) (len : ℕ) (rec : List ℕ) (from to : Device) : Type 0 where
@@ -33,7 +33,7 @@ pub record IsIdle (block : Block) (from to : Device) : Type 0 where
   pub erased :
       ForSome (erases from)
       (λ before.
-      ForSome (erases to) (λ after. number_of block from after ≡ number_of block from before))
+      ForSome (erases to) (λ after. erases_of_block block from after ≡ erases_of_block block from before))
 
 -- what may be done to a block
 pub data Deed : Type 0 where
@@ -41,21 +41,21 @@ pub data Deed : Type 0 where
   Write : List ℕ → Deed
 
 -- what was done, and the device that it left
-pub record Event : Type 0 where
+pub record BlockEvent : Type 0 where
   pub deed : Deed
   pub device : Device
 
 -- a deed brings one device from another
-abbrev pub Follows : Block → ℕ → Device → Deed → Device → Type 0
-Follows block len from Idle to = IsIdle block from to
-Follows block len from (Write rec) to = IsWritten block len rec from to
+abbrev pub FollowsOnBlock : Block → ℕ → Device → Deed → Device → Type 0
+FollowsOnBlock block len from Idle to = IsIdle block from to
+FollowsOnBlock block len from (Write rec) to = IsWritten block len rec from to
 
 -- what was done to a block, one after the other: records of this length were written, all calls
 -- answered Ok, and there was no cut, no decay and no voiding
-abbrev pub History : Block → ℕ → Device → List Event → Type 0
+abbrev pub History : Block → ℕ → Device → List BlockEvent → Type 0
 History block len from [] = ⊤
 History block len from (event ∷ later) =
-    Follows block len from event.deed event.device × History block len event.device later
+    FollowsOnBlock block len from event.deed event.device × History block len event.device later
 
 -- the records that were written
 abbrev pub written_by : Deed → List (List ℕ) → List (List ℕ)
@@ -63,12 +63,12 @@ written_by Idle later = later
 written_by (Write rec) later = rec ∷ later
 
 -- the same of a list of events
-abbrev pub records_in : List Event → List (List ℕ)
+abbrev pub records_in : List BlockEvent → List (List ℕ)
 records_in [] = []
 records_in (event ∷ later) = written_by event.deed (records_in later)
 
 -- the device at the end
-abbrev pub last_device : Device → List Event → Device
+abbrev pub last_device : Device → List BlockEvent → Device
 last_device from [] = from
 last_device from (event ∷ later) = last_device event.device later
 
@@ -76,7 +76,7 @@ last_device from (event ∷ later) = last_device event.device later
 -- where it holds e of their entries.
 abbrev pub WearLaw : Type 0
 WearLaw =
-    (block : Block) (len : ℕ) (from : Device) (events : List Event) →
+    (block : Block) (len : ℕ) (from : Device) (events : List BlockEvent) →
     IsTrue (is_block_of block from.geometry) → IsDevice from →
     len + closing_len ≤ block.region.size →
     History block len from events →
@@ -84,6 +84,6 @@ WearLaw =
     (λ before.
     ForSome (erases (last_device from events))
     (λ after.
-    number_of block from after
-    ≤ number_of block from before
+    erases_of_block block from after
+    ≤ erases_of_block block from before
     + div_ceil (length (records_in events)) (entries_in block len)))

@@ -15,7 +15,7 @@ use std::marker::Model;
 /// A bucket on a device that is erased in blocks, over one block that is written as a log: an entry
 /// is the record, 0xFF, and 8 bytes that close it, the magic word 0x14FA2D02 and the entry's whole
 /// length, both little endian (barebox User Manual, State Framework, the backend storage type
-/// `circular`). It goes behind the last page that isn't blank, and the block is erased only where it
+/// `circular`). It goes after the last page that isn't blank, and the block is erased only where it
 /// doesn't fit there. From its last finished call on the bucket keeps where the next entry goes and
 /// where the newest one stands, so that a write that follows makes no read; a write or void that
 /// failed drops that. Clauses see the block and what is kept.

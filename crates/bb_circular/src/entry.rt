@@ -11,7 +11,7 @@ use crate::last_page::{LastPage, is_lost};
 use bb_bucket::{Block, whole_pages};
 use byteorder::{ByteOrder, LittleEndian};
 
-/// In bytes: the words behind a record, the magic one and the entry's whole length (this project's
+/// In bytes: the words after a record, the magic one and the entry's whole length (this project's
 /// profile).
 pub(crate) const CLOSING_LEN: u32 = 8;
 

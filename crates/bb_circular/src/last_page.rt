@@ -8,7 +8,7 @@ ghost use Rattle.bb_bucket.specs.Calls.{IsQuiet};
 ghost use Rattle.bb_bucket.specs.Front.{is_lost};
 ghost use Rattle.bb_bucket.specs.Kind.{part_of};
 ghost use Rattle.bb_circular.specs.Looking.{IsLastPage};
-ghost use Rattle.bb_circular.specs.Pages.{is_blank};
+ghost use Rattle.bb_circular.specs.Pages.{is_erased};
 
 use bb_base::Failed;
 use bb_bucket::{Block, read_part};
@@ -58,7 +58,7 @@ pub(crate) fn find_last_page<F: Flash>(
 
 // Whether these bytes of a page are as after an erase.
 fn is_blank(bytes: &[u8], health: Health) -> bool
-    ensures { result ≡ is_blank (record { bytes = bytes.now; health = health }) }
+    ensures { result ≡ is_erased (record { bytes = bytes.now; health = health }) }
 {
     !is_lost(health) && holds_no_zero_bit(bytes)
 }

@@ -25,8 +25,8 @@ const NOTHING: Found = Found {
 };
 
 #[tactic(auto, using(bb_bucket::proofs::Quiet::quiet_joined))]
-/// Looks for the record of a block, by what is kept of it or else from its end backwards. The answer
-/// is what was found, and what there is to keep.
+/// Looks for the record of a block, by what is kept of it or else from its end backwards. The
+/// answer is what was found, and what there is to keep.
 pub(crate) fn read_log<F: Flash>(
     flash: &mut F,
     block: Block,
@@ -60,8 +60,8 @@ pub(crate) fn read_log<F: Flash>(
     Ok((found, confirm(kept, found)))
 }
 
-/// Where the next entry goes, and which is the newest as the block's last page says: what is kept, or
-/// else what a look from the block's end backwards finds.
+/// Where the next entry goes, and which is the newest as the block's last page says: what is kept,
+/// or else what a look from the block's end backwards finds.
 pub(crate) fn look_up<F: Flash>(
     flash: &mut F,
     block: Block,

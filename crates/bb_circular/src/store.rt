@@ -8,7 +8,7 @@ ghost use Rattle.bb_bucket.specs.Calls.{ChangesWithin, EachCall, ErasesWhere, Fa
 ghost use Rattle.bb_bucket.specs.Calls.{IsVoidCall, IsWriteCall, Leaves, MakesCalls};
 ghost use Rattle.bb_bucket.specs.Calls.{calls_of_write};
 ghost use Rattle.bb_bucket.specs.Kind.{part_of};
-ghost use Rattle.bb_circular.specs.Circular.{IsKeptIn, agrees_with, circular_kind, fits_behind};
+ghost use Rattle.bb_circular.specs.Circular.{IsKeptIn, agrees_with, circular_kind, fits_after};
 ghost use Rattle.bb_circular.specs.Circular.{kept_of, next_place};
 ghost use Rattle.bb_circular.specs.Entries.{closing_len, entry_len};
 ghost use Rattle.bb_circular.specs.Looking.{kept_at};
@@ -20,7 +20,7 @@ use bb_base::Failed;
 use bb_bucket::{Block, erase_block, program_part, whole_pages};
 use bb_flash::Flash;
 
-/// Writes a record behind the last page of a block that isn't blank, or into the erased block where
+/// Writes a record after the last page of a block that isn't blank, or into the erased block where
 /// its entry doesn't fit there. The entry is put together in `memory`, which has the block's size.
 /// The answer is what there is to keep.
 pub(crate) fn write_log<F: Flash>(
@@ -117,7 +117,7 @@ fn kept_at(at: u32, len: u32) -> Kept
     }
 }
 
-// Writes a record behind the last page that isn't blank, where its entry fits there.
+// Writes a record after the last page that isn't blank, where its entry fits there.
 fn append<F: Flash>(
     flash: &mut F,
     block: Block,
@@ -156,7 +156,7 @@ fn append<F: Flash>(
     program_part(flash, block.region, next, &memory[..len as usize])
 }
 
-// Erases a block, where a record's entry doesn't fit behind its last page that isn't blank, and
+// Erases a block, where a record's entry doesn't fit after its last page that isn't blank, and
 // writes the record to its start.
 fn start_anew<F: Flash>(
     flash: &mut F,
@@ -166,7 +166,7 @@ fn start_anew<F: Flash>(
 ) -> Result<(), Failed>
     requires held { IsTrue (is_block_of block (F.device flash.old).geometry) }
     requires full { ForSome (content (F.device flash.old)) (λ image.
-        fits_behind block rec.now (part_of block.page block.region image) ≡ false) }
+        fits_after block rec.now (part_of block.page block.region image) ≡ false) }
     requires room { length rec.now + closing_len ≤ block.region.size }
     requires memory { length memory.old ≡ block.region.size }
     ensures done { OnOk result (Leaves block.region ((circular_kind block).after_write rec.now)

@@ -17,7 +17,7 @@ use Rattle.bb_copies.specs.Buckets.{EachCopy}
 use Rattle.bb_copies.specs.Erasing.{ErasesBy, IsBounded, unmarked_kinds}
 use Rattle.bb_copies.specs.Passing.{passing_of}
 use Rattle.bb_copies.specs.Refreshing.{AllSettled, AllWritten, IsBoundedAt, IsSettledAt, IsStuckAt, IsUntouched, IsWrittenAt, KeepsMarked, LeavesOthers, Refreshes, area_if, is_marked}
-use Rattle.bb_copies.specs.Settling.{IsStale, IsUndisturbed, IsUnread, PassesAnother, RoseBy}
+use Rattle.bb_copies.specs.Settling.{IsStale, NothingFails, IsUnread, PassesAnother, RoseBy}
 use Rattle.bb_copies.proofs.Bounded.{bounded_joined, bounded_wider, none_bounded, unmarked_below}
 use Rattle.bb_copies.proofs.Ends.{content_before}
 use Rattle.bb_copies.proofs.Erased.{count_append, erases_joined, none_erased, unmarked_enough, unmarked_more, unmarked_skip, written_erases}
@@ -38,8 +38,8 @@ pub record RefreshedBelow (form : Form) (kinds : List BucketKind) (area rec : Li
       (λ copy kind.
       copy < bound → is_marked marked copy ≡ false → ForSome (content to) (λ image. passing_of form from.geometry.page kind image ≡ area_if area (is_marked good copy)))
   pub dead : RoseBy (count_by not (take bound good)) from.faults to.faults
-  pub exact : IsUndisturbed from to → EachCopy kinds (λ copy kind. copy < bound → is_marked marked copy ≡ false → Leaves kind.region (kind.after_write rec) from to)
-  pub erased : IsUndisturbed from to → ErasesBy (unmarked_kinds (take bound marked) (take bound kinds)) rec from to
+  pub exact : NothingFails from to → EachCopy kinds (λ copy kind. copy < bound → is_marked marked copy ≡ false → Leaves kind.region (kind.after_write rec) from to)
+  pub erased : NothingFails from to → ErasesBy (unmarked_kinds (take bound marked) (take bound kinds)) rec from to
   pub bounded : IsBounded (unmarked_kinds (take bound marked) (take bound kinds)) rec from to
   pub read_faults : to.read_faults ≡ from.read_faults
 
@@ -165,7 +165,7 @@ bounded_more form kinds area rec marked good bound from mid to among there fresh
     (bounded_joined first (first ++ kind.0 ∷ []) kind.0 rec from mid to below.refreshes.later (below.kept bound kind.0 kind.1 (inr (omega arith))) below.bounded (bounds bound kind.0 kind.1 refl)
     (λ p. let sum = count_append p first (kind.0 ∷ []) in omega (arith, sum)))
 
-pub settled_more : (form : Form) (kinds : List BucketKind) (area rec : List ℕ) (marked good : List Bool) (bound : ℕ) (g : Bool) (from mid to : Device) → bound < length good → bound < length (set good bound g) → bound < length marked → bound < length kinds → is_marked good bound ≡ false → RefreshedBelow form kinds area rec marked good bound from mid → Refreshes form kinds area mid to → LeavesOthers kinds bound mid to → IsSettledAt form kinds area bound mid to g → (IsUndisturbed mid to → IsWrittenAt kinds bound rec mid to) → IsBoundedAt kinds bound rec mid to → to.read_faults ≡ mid.read_faults → RefreshedBelow form kinds area rec marked (set good bound g) (bound + 1) from to
+pub settled_more : (form : Form) (kinds : List BucketKind) (area rec : List ℕ) (marked good : List Bool) (bound : ℕ) (g : Bool) (from mid to : Device) → bound < length good → bound < length (set good bound g) → bound < length marked → bound < length kinds → is_marked good bound ≡ false → RefreshedBelow form kinds area rec marked good bound from mid → Refreshes form kinds area mid to → LeavesOthers kinds bound mid to → IsSettledAt form kinds area bound mid to g → (NothingFails mid to → IsWrittenAt kinds bound rec mid to) → IsBoundedAt kinds bound rec mid to → to.read_faults ≡ mid.read_faults → RefreshedBelow form kinds area rec marked (set good bound g) (bound + 1) from to
 settled_more form kinds area rec marked good bound g from mid to inside within among there fresh_here below run others settled exact bounds calm =
     let page : mid.geometry.page ≡ from.geometry.page = ap (λ geo. geo.page) below.refreshes.later.geometry in
     let new : is_marked marked bound ≡ false = sym (below.same bound (inr (omega arith))) ∙ fresh_here in
@@ -219,7 +219,7 @@ all_settled form kinds area rec marked good from to many below = record {
   dead = subst (λ (xs : List Bool). RoseBy (count_by not xs) from.faults to.faults) (take-length good) below.dead;
 }
 
-pub all_written : (form : Form) (kinds : List BucketKind) (area rec : List ℕ) (marked good : List Bool) (from to : Device) → length good ≡ length kinds → RefreshedBelow form kinds area rec marked good (length good) from to → IsUndisturbed from to → AllWritten kinds rec marked from to
+pub all_written : (form : Form) (kinds : List BucketKind) (area rec : List ℕ) (marked good : List Bool) (from to : Device) → length good ≡ length kinds → RefreshedBelow form kinds area rec marked good (length good) from to → NothingFails from to → AllWritten kinds rec marked from to
 all_written form kinds area rec marked good from to many below quiet =
     let some : unmarked_kinds (take (length good) marked) (take (length good) kinds) ≡ unmarked_kinds marked kinds =
     ap (λ n. unmarked_kinds (take (length good) marked) (take n kinds)) many ∙ ap (unmarked_kinds (take (length good) marked)) (take-length kinds)

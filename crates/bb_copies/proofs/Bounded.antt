@@ -26,7 +26,7 @@ bounded_written kind rec result from to made few = record {
   faults = omega (arith, few);
 }
 
--- with a void behind the write
+-- with a void after the write
 pub bounded_voided : {T E : Type 0} (kind : BucketKind) (region : Region) (rec : List ℕ) (one two : Result T E) (from mid to : Device) → IsLater from mid → MakesCalls one kind.region (calls_of_write kind rec) from mid → MakesCalls two region (λ part. 1) mid to → to.faults ≤ from.faults + 3 → IsBounded (kind ∷ []) rec from to
 bounded_voided kind region rec one two from mid to later made voided few = record {
   calls = λ first e last f.
@@ -100,7 +100,7 @@ bounded_behind kinds rec from mid to told geometry calm by =
       faults = omega (arith, few, calm);
     }
 
--- reads behind it
+-- reads after it
 pub bounded_then : (kinds : List BucketKind) (rec : List ℕ) (from mid to : Device) → IsLater from mid → told_but_reads to ≡ told_but_reads mid → to.faults ≤ from.faults + 3 * length kinds → IsBounded kinds rec from mid → IsBounded kinds rec from to
 bounded_then kinds rec from mid to later told few by = record {
   calls = λ first e last f.

@@ -5,7 +5,7 @@ use Rattle.std.specs.Option.{ForSome}
 use Rattle.std.specs.Str.{bytes_eq}
 use Rattle.std.proofs.lemmas.Slice.Eq.{bytes_eq-Decides}
 use Rattle.std.proofs.lemmas.List.{length-append}
-use Rattle.bb_flash.specs.Calls.{IsUntouched}
+use Rattle.bb_flash.specs.Calls.{HasNoChange}
 use Rattle.bb_flash.specs.Counted.{EachCounted}
 use Rattle.bb_flash.specs.Cuts.{IsLater}
 use Rattle.bb_flash.specs.Device.{Change, Device, Told, image_at, moment}
@@ -77,14 +77,14 @@ counted_of_calls L P R from to geometry same torn_so calls ends = record {
   ];
 }
 
-same_told : (o p : Option Told) → option_map but_reads o ≡ option_map but_reads p → (first last : Told) → p ≡ Some first → o ≡ Some last → IsUntouched first last
+same_told : (o p : Option Told) → option_map but_reads o ≡ option_map but_reads p → (first last : Told) → p ≡ Some first → o ≡ Some last → HasNoChange first last
 same_told o p same first last e f =
     let both : Some (but_reads last) ≡ Some (but_reads first) = ap (option_map but_reads) (sym f) ∙ same ∙ ap (option_map but_reads) e in
     let told : but_reads last ≡ but_reads first = cc in
     record { image = ap (λ (t : Told). t.image) told; changes = ap (λ (t : Told). t.changes) told }
 
 -- a run of reads changes nothing
-pub reads_untouched : (from to : Device) → told_but_reads to ≡ told_but_reads from → ForSome from.told (λ first. ForSome to.told (IsUntouched first))
+pub reads_untouched : (from to : Device) → told_but_reads to ≡ told_but_reads from → ForSome from.told (λ first. ForSome to.told (HasNoChange first))
 reads_untouched from to same = λ first e last f. same_told to.told from.told same first last e f
 
 -- what holds of the calls of two runs

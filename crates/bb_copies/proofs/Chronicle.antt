@@ -6,7 +6,7 @@ use Rattle.std.proofs.lemmas.List.Elements.{All-from_recursion}
 use Rattle.std.proofs.lemmas.List.Kept.{AllPairs-cons}
 use Rattle.std.proofs.lemmas.Option.{none-some, same_Some}
 use Rattle.bb_copies.specs.StandsFor.{picked}
-use Rattle.bb_copies.specs.Chronicle.{Chronicle, ChronicleLaw, Content, EachLoad, Entry, Event, Finished, CutOff, Decayed, Follows, IsAfterDecay, IsGiven, IsSaved, IsStanding, Outlives, Step, Turn, Untouched, Looked, Unloaded, Loaded, contents_of, loaded_in, place_of}
+use Rattle.bb_copies.specs.Chronicle.{Chronicle, ChronicleLaw, Content, EachLoad, ChronicleEntry, Event, Finished, CutOff, Decayed, Follows, IsAfterDecay, IsGiven, IsAfterSaves, IsStanding, Outlives, TurnMakes, Turn, Untouched, Looked, Unloaded, Loaded, contents_of, loaded_in, place_of}
 use Rattle.bb_copies.proofs.History.{decayed, picked_holds, picked_inside, picked_is_first}
 
 take_within : {X : Type 0} (n m : ℕ) (xs : List X) → n ≤ m → take n (take m xs) ≡ take n xs
@@ -29,7 +29,7 @@ module _ (first : List ℕ) (before : Content) (stands : IsStanding first before
   not_before = picked_holds first before.passed before.areas before.acked before.marks stands
 
   outlives_saved : (after : Content) (place : ℕ) (saves : List (List ℕ)) (ok : ℕ)
-      (started : Option ℕ) → IsSaved before place saves ok started after.areas after.acked →
+      (started : Option ℕ) → IsAfterSaves before place saves ok started after.areas after.acked →
       Outlives before after
   outlives_saved after place saves ok started saved =
       let low = not_before in
@@ -47,7 +47,7 @@ module _ (first : List ℕ) (before : Content) (stands : IsStanding first before
             ∙ take_within (before.acked + 1) (place + 1) before.areas (omega arith);
       }
 
-  outlives_step : (turn : Turn) (after : Content) → Step before turn after.areas after.acked →
+  outlives_step : (turn : Turn) (after : Content) → TurnMakes before turn after.areas after.acked →
       Outlives before after
   outlives_step Untouched after step = outlives_same before after step.areas step.acked
   outlives_step Looked after step = outlives_same before after step.areas step.acked
@@ -56,7 +56,7 @@ module _ (first : List ℕ) (before : Content) (stands : IsStanding first before
       outlives_saved after place saves ok started step
 
   given_step : (turn : Turn) (after : Content) (place : ℕ) →
-      Step before turn after.areas after.acked → place_of turn ≡ Some place →
+      TurnMakes before turn after.areas after.acked → place_of turn ≡ Some place →
       IsGiven first before place
   given_step Untouched after place step loaded = absurd (none-some place loaded)
   given_step Looked after place step loaded = absurd (none-some place loaded)
@@ -114,12 +114,12 @@ outlives_joined one two three early late =
 
 module _ (first : List ℕ) where
   -- the content that an entry leaves stands for its list
-  next : (before : Content) (entry : Entry) (later : List Entry) → IsStanding first before →
+  next : (before : Content) (entry : ChronicleEntry) (later : List ChronicleEntry) → IsStanding first before →
       Chronicle first before (entry ∷ later) → IsStanding first entry.content
   next before entry later stands chronicle =
       stands_after first before stands entry.event entry.content chronicle.0
 
-  each_stands : (before : Content) (entries : List Entry) → IsStanding first before →
+  each_stands : (before : Content) (entries : List ChronicleEntry) → IsStanding first before →
       Chronicle first before entries → AllByRecursion (IsStanding first)
       (contents_of before entries)
   each_stands before [] stands chronicle = (stands, tt)
@@ -129,7 +129,7 @@ module _ (first : List ℕ) where
         chronicle.1,
   )
 
-  each_outlives : (earliest before : Content) (entries : List Entry) → Outlives earliest before →
+  each_outlives : (earliest before : Content) (entries : List ChronicleEntry) → Outlives earliest before →
       IsStanding first before → Chronicle first before entries →
       AllByRecursion (Outlives earliest) (map (λ entry. entry.content) entries)
   each_outlives earliest before [] outlives stands chronicle = tt
@@ -139,7 +139,7 @@ module _ (first : List ℕ) where
       let behind = next before entry later stands chronicle in
       (joined, each_outlives earliest entry.content later joined behind chronicle.1)
 
-  all_outlive : (before : Content) (entries : List Entry) → IsStanding first before →
+  all_outlive : (before : Content) (entries : List ChronicleEntry) → IsStanding first before →
       Chronicle first before entries → AllPairs Outlives (contents_of before entries)
   all_outlive before [] stands chronicle = λ i j d low inside. absurd (omega arith)
   all_outlive before (entry ∷ later) stands chronicle =
@@ -151,7 +151,7 @@ module _ (first : List ℕ) where
       AllPairs-cons Outlives before contents all
       (all_outlive entry.content later behind chronicle.1)
 
-  each_given : (before : Content) (entries : List Entry) → IsStanding first before →
+  each_given : (before : Content) (entries : List ChronicleEntry) → IsStanding first before →
       Chronicle first before entries → EachLoad first before entries
   each_given before [] stands chronicle k content entry place here at loaded =
       absurd (none-some entry at)

@@ -13,7 +13,7 @@ use Rattle.bb_bucket.specs.Kind.{BucketKind, IsKind, part_of}
 use Rattle.bb_copies.specs.declared.settle.Settled.{Settled}
 use Rattle.bb_copies.specs.declared.settle.Settled.TheVariants.{Good, Dead, Stuck}
 use Rattle.bb_copies.specs.Passing.{passing_of}
-use Rattle.bb_copies.specs.Settling.{CountsAs, EndsAs, FailsBy, IsCompared, IsDead, IsGood, IsWritten, PassesAnother, ReadsAs, ReadsOnce, RoseBy, twice_more}
+use Rattle.bb_copies.specs.Settling.{CountsAs, EndsAs, FailsBy, IsCompared, IsDead, IsGood, IsRepairWritten, PassesAnother, ReadsAs, ReadsOnce, RoseBy, twice_more}
 use Rattle.bb_copies.proofs.OneCopy.{begun_passes}
 
 pub some_of : {T : Type 0} → (o : Option T) → is_some o ≡ true → (x : T) × (o ≡ Some x)
@@ -128,7 +128,7 @@ twice_most before =
     omega (arith, one, two)
 
 -- the write was the only call
-pub written_once : {T E : Type 0} (kind : BucketKind) (rec : List ℕ) (r : Result T E) (from to : Device) → is_ok r ≡ true → OnOk r (Leaves kind.region (kind.after_write rec) from to) → OnOk r (ErasesWhere kind.region (kind.write_erases rec) from to) → MakesCalls r kind.region (calls_of_write kind rec) from to → to.faults ≡ from.faults → to.read_faults ≡ from.read_faults → IsWritten kind rec from to
+pub written_once : {T E : Type 0} (kind : BucketKind) (rec : List ℕ) (r : Result T E) (from to : Device) → is_ok r ≡ true → OnOk r (Leaves kind.region (kind.after_write rec) from to) → OnOk r (ErasesWhere kind.region (kind.write_erases rec) from to) → MakesCalls r kind.region (calls_of_write kind rec) from to → to.faults ≡ from.faults → to.read_faults ≡ from.read_faults → IsRepairWritten kind rec from to
 written_once kind rec r from to ok leaves erases made faults reads = record {
   leaves = ok_gives r _ leaves ok;
   erases = ok_gives r _ erases ok;

@@ -14,7 +14,7 @@ use Rattle.bb_bucket.specs.Calls.{but_reads, calls_of_write, erases_after, told_
 use Rattle.bb_bucket.specs.Kind.{BucketKind, part_of}
 use Rattle.bb_copies.specs.Erasing.{ErasesBy, calls_of_writes, erases_block, erases_first, unmarked_kinds}
 use Rattle.bb_copies.specs.Refreshing.{IsUntouched, is_marked}
-use Rattle.bb_copies.specs.Settling.{IsWritten}
+use Rattle.bb_copies.specs.Settling.{IsRepairWritten}
 use Rattle.bb_copies.proofs.Calls.{reads_untouched}
 use Rattle.bb_copies.proofs.Ends.{is_some_map, some_of}
 use Rattle.bb_copies.proofs.Many.{get_set_other, images_now, same_or_not, same_part}
@@ -160,7 +160,7 @@ erased_there geometry region true old block n e = elim (same_or_not block (regio
       get_set_other old here block (slice_index old here + 1) other ∙ e ∙ ap Some (sym (add-zero n)) ∙ ap (λ b. Some (n + cond b 1 0)) (sym test)
 ]
 
-pub written_erases : (kind : BucketKind) (rec : List ℕ) (from to : Device) → IsWritten kind rec from to → ErasesBy (kind ∷ []) rec from to
+pub written_erases : (kind : BucketKind) (rec : List ℕ) (from to : Device) → IsRepairWritten kind rec from to → ErasesBy (kind ∷ []) rec from to
 written_erases kind rec from to written = record {
   made = λ first e last f. written.made first e last f ∙ ap (λ n. moment first + n) (calls_alone from.geometry.page first.image rec kind);
   counted = λ image e old f new g block n h.

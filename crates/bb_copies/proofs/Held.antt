@@ -17,7 +17,7 @@ use Rattle.bb_copies.specs.Erasing.{IsBounded, unmarked_kinds}
 use Rattle.bb_copies.specs.Looking.{IsFirst}
 use Rattle.bb_copies.specs.Passing.{passing_of, passings}
 use Rattle.bb_copies.specs.Refreshing.{AllHeld, AllSettled, AllWritten, IsFirstMarked, IsSettledAt, IsUntouched, IsBoundedAt, IsWrittenAt, KeepsMarked, LeavesOthers, NeverEmpty, NoOther, area_if, is_marked}
-use Rattle.bb_copies.specs.Settling.{IsUndisturbed, RoseBy}
+use Rattle.bb_copies.specs.Settling.{NothingFails, RoseBy}
 use Rattle.bb_copies.specs.StandsFor.{SomePasses}
 use Rattle.bb_copies.proofs.Below.{kind_inside, leaves_still, passes_still, still_leaves}
 use Rattle.bb_copies.proofs.Bounded.{bounded_joined, unmarked_fewer}
@@ -165,7 +165,7 @@ other_of n zero many = (1, omega arith, λ e. absurd (omega arith))
 other_of n (suc used) many = (0, omega arith, λ e. absurd (omega arith))
 
 -- no copy is dead, so that another is good
-pub quiet_other : (form : Form) (kinds : List BucketKind) (area : List ℕ) (good : List Bool) (used : ℕ) (from to : Device) → 2 ≤ length good → NoOther good used → AllHeld form kinds area good from to → IsUndisturbed from to → ⊥
+pub quiet_other : (form : Form) (kinds : List BucketKind) (area : List ℕ) (good : List Bool) (used : ℕ) (from to : Device) → 2 ≤ length good → NoOther good used → AllHeld form kinds area good from to → NothingFails from to → ⊥
 quiet_other form kinds area good used from to many none all quiet =
     let other = other_of (length good) used many in
     let some = unmarked_counts good other.0 other.1 (none other.0 other.1 other.2) in

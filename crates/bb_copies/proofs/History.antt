@@ -118,7 +118,7 @@ module _ (first : List ℕ) (before : List (Option (List ℕ))) (h : List (List 
   some_loaded after spares false none =
       inr (none_picked first before h a marks stands (λ some. grind arith))
 
-  -- a load that answered Ok cuts the list behind the area that is picked, and acknowledges it;
+  -- a load that answered Ok cuts the list after the area that is picked, and acknowledges it;
   -- where no copy passed before this is `first`
   pub load_done : (after : List (Option (List ℕ))) →
       EachPassesOrNothing (first_passed first before) after → SomeIsSpared before after →
@@ -142,7 +142,7 @@ module _ (first : List ℕ) (before : List (Option (List ℕ))) (h : List (List 
 
 module _ (first : List ℕ) (before : List (Option (List ℕ))) (h : List (List ℕ)) (a : ℕ)
     (marks : List (Option ℕ)) (area : List ℕ) (stands : StandsFor first before h a marks) where
-  -- in each image of a save the content stands for the list with the new area behind it, and
+  -- in each image of a save the content stands for the list with the new area after it, and
   -- acknowledges no more than before
   pub save_during : (image : List (Option (List ℕ))) → KeepsOrTakes area before image →
       SomeIsSpared before image → Stands first image (h ++ area ∷ []) a

@@ -23,7 +23,7 @@ use Rattle.bb_copies.specs.Looking.{IsFirst, IsReadAt, PassNothing}
 use Rattle.bb_copies.specs.Luck.{IsLucky}
 use Rattle.bb_copies.specs.Passing.{passing_of, passings}
 use Rattle.bb_copies.specs.Refreshing.{AllHeld, AllWritten, IsFirstMarked, IsStuckAt, KeepsMarked, NeverEmpty, Refreshes, area_if, is_marked}
-use Rattle.bb_copies.specs.Settling.{IsUndisturbed, RoseBy}
+use Rattle.bb_copies.specs.Settling.{NothingFails, RoseBy}
 use Rattle.bb_copies.specs.StandsFor.{IsAreaOrNone, KeepsOrTakes, SomePasses, Stands, first_passed}
 use Rattle.bb_copies.proofs.Below.{kind_inside, stuck_earlier}
 use Rattle.bb_copies.proofs.Erased.{erases_behind, read_changes}
@@ -220,14 +220,14 @@ exact_copies form kinds area good bound used from mid to many keeps first kept w
           subst (λ (p : ℕ). part_of p kind.region after ≡ kind.after_write (form.text area) (part_of p kind.region before)) page left;
     }
 
-pub loads_exactly : (form : Form) (kinds : List BucketKind) (area rec : List ℕ) (good : List Bool) (bound used : ℕ) (from mid to : Device) (loaded : Loaded) → bound ≡ length kinds → rec ≡ form.text area → IsLater from mid → ReadKeeps from mid → ForSome (content from) (λ image. IsFirst form from.geometry.page kinds bound area good image used) → (IsUndisturbed mid to → KeepsMarked kinds good mid to) → (IsUndisturbed mid to → AllWritten kinds rec good mid to) → LoadsExactly form kinds area from to loaded
+pub loads_exactly : (form : Form) (kinds : List BucketKind) (area rec : List ℕ) (good : List Bool) (bound used : ℕ) (from mid to : Device) (loaded : Loaded) → bound ≡ length kinds → rec ≡ form.text area → IsLater from mid → ReadKeeps from mid → ForSome (content from) (λ image. IsFirst form from.geometry.page kinds bound area good image used) → (NothingFails mid to → KeepsMarked kinds good mid to) → (NothingFails mid to → AllWritten kinds rec good mid to) → LoadsExactly form kinds area from to loaded
 loads_exactly form kinds area rec good bound used from mid to NoCopy many packed h keeps first kept written = tt
 loads_exactly form kinds area rec good bound used from mid to (Copy taken live) many packed h keeps first kept written = λ quiet.
     let here = undisturbed_second from mid to h quiet in
     exact_copies form kinds area good bound used from mid to many keeps first (kept here) (subst (λ (r : List ℕ). AllWritten kinds r good mid to) packed (written here))
 
 -- what was erased, from the marks that reading all copies left
-pub loads_erasing : (form : Form) (kinds : List BucketKind) (area rec : List ℕ) (good : List Bool) (bound used : ℕ) (from mid to : Device) → bound ≡ length kinds → rec ≡ form.text area → told_but_reads mid ≡ told_but_reads from → IsLater from mid → ReadKeeps from mid → ForSome (content from) (λ image. IsFirst form from.geometry.page kinds bound area good image used) → (IsUndisturbed mid to → KeepsMarked kinds good mid to) → (IsUndisturbed mid to → AllWritten kinds rec good mid to) → IsLater mid to → IsUndisturbed from to → LoadErases form kinds area from to
+pub loads_erasing : (form : Form) (kinds : List BucketKind) (area rec : List ℕ) (good : List Bool) (bound used : ℕ) (from mid to : Device) → bound ≡ length kinds → rec ≡ form.text area → told_but_reads mid ≡ told_but_reads from → IsLater from mid → ReadKeeps from mid → ForSome (content from) (λ image. IsFirst form from.geometry.page kinds bound area good image used) → (NothingFails mid to → KeepsMarked kinds good mid to) → (NothingFails mid to → AllWritten kinds rec good mid to) → IsLater mid to → NothingFails from to → LoadErases form kinds area from to
 loads_erasing form kinds area rec good bound used from mid to many packed told h keeps first kept written k quiet = record {
   fresh = good;
   marks = λ image e copy kind there. (first image e).fresh copy kind there (omega (arith, slice_get_within kinds copy kind there, many));

@@ -9,7 +9,7 @@ use Rattle.bb_flash.proofs.Counting.{counted_joined, counted_of_images, images_u
 use Rattle.bb_flash.proofs.Moments.{images_weaker, later_joined, torn_joined}
 use Rattle.bb_flash.proofs.Tearing.{Torn-refl}
 use Rattle.bb_bucket.specs.Calls.{EachCall, EndsTorn, IsOldOrBegun, IsOldOrNone, IsVoidCall, IsWithin, IsWriteCall, told_but_reads}
-use Rattle.bb_bucket.specs.Kind.{BucketKind, IsBegun}
+use Rattle.bb_bucket.specs.Kind.{BucketKind, BeginsWithRecord}
 use Rattle.bb_bucket.proofs.Runs.{quiet_calls}
 use Rattle.bb_copies.specs.Luck.{IsLucky}
 use Rattle.bb_copies.specs.Passing.{passing_of, passings}
@@ -31,7 +31,7 @@ kept_by_call area old before after (Some other) begins leaves some = elim (some 
   | inr same ↦ subst (λ (o : Option (List ℕ)). IsKeptOrTaken area old o) same leaves
 ]
 
-pub begun_passes : (form : Form) (area : List ℕ) (candidate : Option (List ℕ)) → IsForm form → IsTrue (form.fits area) → IsBegun (form.text area) candidate → option_and_then form.passes candidate ≡ Some area
+pub begun_passes : (form : Form) (area : List ℕ) (candidate : Option (List ℕ)) → IsForm form → IsTrue (form.fits area) → BeginsWithRecord (form.text area) candidate → option_and_then form.passes candidate ≡ Some area
 begun_passes form area candidate laws fits begun = ap (option_and_then form.passes) begun.begins ∙ laws.text_passes area begun.rest fits
 
 old_kept : (form : Form) (page : ℕ) (kind : BucketKind) (before image : Image) → IsOldOrNone kind page before image → IsKeptOrLost (passing_of form page kind before) (passing_of form page kind image)

@@ -2,7 +2,7 @@
 use Rattle.std.proofs.Common.{◌≡◌, ◌∙◌, ℕ, List, Some, ap, sym, subst, arith, refl, inl}
 use Rattle.std.proofs.Math.Seq.{take-length}
 use Rattle.bb_base.specs.Form.{Form}
-use Rattle.bb_flash.specs.Calls.{IsUntouched as IsUnchanged}
+use Rattle.bb_flash.specs.Calls.{HasNoChange as IsUnchanged}
 use Rattle.bb_flash.specs.Counted.{EachCounted}
 use Rattle.bb_flash.specs.Cuts.{EachImage, IsContinued, IsLater, IsSameRegion}
 use Rattle.bb_flash.specs.Device.{Device, IsDevice, LeavesStarts, Told}
@@ -16,7 +16,7 @@ use Rattle.bb_copies.specs.Buckets.{IsApart}
 use Rattle.bb_copies.specs.Luck.{IsLucky}
 use Rattle.bb_copies.specs.Passing.{passing_of, passings}
 use Rattle.bb_copies.specs.Refreshing.{IsUntouched, Refreshes}
-use Rattle.bb_copies.specs.Settling.{IsUndisturbed}
+use Rattle.bb_copies.specs.Settling.{NothingFails}
 use Rattle.bb_copies.specs.StandsFor.{IsKeptOrTaken, KeepsOrTakes}
 use Rattle.bb_copies.proofs.Calls.{each_joined, reads_untouched}
 use Rattle.bb_copies.proofs.Many.{zip_joined, zip_kinds}
@@ -106,8 +106,8 @@ refreshes_joined form kinds area one two three h k =
       whole = k.whole;
     }
 
-pub undisturbed_first : (one two three : Device) → IsLater two three → IsUndisturbed one three → IsUndisturbed one two
+pub undisturbed_first : (one two three : Device) → IsLater two three → NothingFails one three → NothingFails one two
 undisturbed_first one two three k quiet = λ rose. let later = k.faults in quiet (omega (arith, rose, later))
 
-pub undisturbed_second : (one two three : Device) → IsLater one two → IsUndisturbed one three → IsUndisturbed two three
+pub undisturbed_second : (one two three : Device) → IsLater one two → NothingFails one three → NothingFails two three
 undisturbed_second one two three h quiet = λ rose. let later = h.faults in quiet (omega (arith, rose, later))

@@ -114,7 +114,7 @@ over_written kinds rec marked used from mid to unmarked within h k kept written 
       leaves_still kind (kind.after_write rec) from mid to h k (others copy kind e other) (written.each copy kind e (get_or-set_other marked used copy true false other ∙ unmarked copy))
 ]
 
--- the used copy was written behind the others, and each block was erased by all these writes
+-- the used copy was written after the others, and each block was erased by all these writes
 pub over_erases : (kinds : List BucketKind) (rec : List ℕ) (marked : List Bool) (used : ℕ) (from mid to : Device) → ((copy : ℕ) → is_marked marked copy ≡ false) → used < length marked → used < length kinds → IsLater from mid → IsLater mid to → KeepsMarked kinds (set marked used true) from mid → AllWritten kinds rec (set marked used true) from mid → IsWrittenAt kinds used rec mid to → ErasesBy kinds rec from to
 over_erases kinds rec marked used from mid to none within there h k kept written last =
     let kind = kind_inside kinds used there in

@@ -10,7 +10,7 @@ use Rattle.bb_copies.specs.declared.settle.Settled.{Settled}
 use Rattle.bb_copies.specs.declared.settle.Settled.TheVariants.{Good, Dead, Stuck}
 use Rattle.bb_copies.specs.Buckets.{EachCopy}
 use Rattle.bb_copies.specs.Passing.{passing_of}
-use Rattle.bb_copies.specs.Refreshing.{IsSettledAt, IsStuckAt, answer_of, area_if}
+use Rattle.bb_copies.specs.Refreshing.{IsSettledAt, IsStuckAt, repair_answer, area_if}
 use Rattle.bb_copies.specs.Settling.{CountsAs, EndsAs, IsStale, IsUnread}
 
 -- what holds of the copy of a number
@@ -20,7 +20,7 @@ at_copy P kinds copy kind e holds = λ place other f same.
     let is : kind ≡ other = cc in
     subst P is holds
 
-pub settled_at : (form : Form) (kinds : List BucketKind) (area : List ℕ) (copy : ℕ) (kind : BucketKind) (from to : Device) (settled : Settled) → slice_get kinds copy ≡ Some kind → EndsAs form kind area from to settled → IfOk (answer_of copy settled) (IsSettledAt form kinds area copy from to)
+pub settled_at : (form : Form) (kinds : List BucketKind) (area : List ℕ) (copy : ℕ) (kind : BucketKind) (from to : Device) (settled : Settled) → slice_get kinds copy ≡ Some kind → EndsAs form kind area from to settled → IfOk (repair_answer copy settled) (IsSettledAt form kinds area copy from to)
 settled_at form kinds area copy kind from to Good e ends = record {
   passes = at_copy (λ k. ForSome (content to) (λ image. passing_of form from.geometry.page k image ≡ area_if area true)) kinds copy kind e ends.passes;
   cause = λ h. absurd cc;
@@ -31,7 +31,7 @@ settled_at form kinds area copy kind from to Dead e ends = record {
 }
 settled_at form kinds area copy kind from to Stuck e ends = tt
 
-pub stuck_at : (form : Form) (kinds : List BucketKind) (area rec : List ℕ) (copy : ℕ) (kind : BucketKind) (from to : Device) (settled : Settled) → slice_get kinds copy ≡ Some kind → EndsAs form kind area from to settled → CountsAs kind rec from to settled → IfErr (answer_of copy settled) (λ at. IsStuckAt form kinds area at from to)
+pub stuck_at : (form : Form) (kinds : List BucketKind) (area rec : List ℕ) (copy : ℕ) (kind : BucketKind) (from to : Device) (settled : Settled) → slice_get kinds copy ≡ Some kind → EndsAs form kind area from to settled → CountsAs kind rec from to settled → IfErr (repair_answer copy settled) (λ at. IsStuckAt form kinds area at from to)
 stuck_at form kinds area rec copy kind from to Good e ends counts = tt
 stuck_at form kinds area rec copy kind from to Dead e ends counts = tt
 stuck_at form kinds area rec copy kind from to Stuck e ends counts = record {
@@ -41,7 +41,7 @@ stuck_at form kinds area rec copy kind from to Stuck e ends counts = record {
 }
 
 -- no read failed where it isn't stuck
-pub settled_calm : (copy : ℕ) (kind : BucketKind) (rec : List ℕ) (from to : Device) (settled : Settled) → CountsAs kind rec from to settled → OnOk (answer_of copy settled) (to.read_faults ≡ from.read_faults)
+pub settled_calm : (copy : ℕ) (kind : BucketKind) (rec : List ℕ) (from to : Device) (settled : Settled) → CountsAs kind rec from to settled → OnOk (repair_answer copy settled) (to.read_faults ≡ from.read_faults)
 settled_calm copy kind rec from to Good (inl written) = written.read_faults
 settled_calm copy kind rec from to Good (inr by) = by.read_faults
 settled_calm copy kind rec from to Dead (inl by) = by.read_faults

@@ -3,10 +3,10 @@ use Rattle.std.proofs.Common.{◌≡◌, ℕ, ◌+◌, List, [], ◌∷◌, ◌+
 use Rattle.std.specs.List.{AllByRecursion}
 use Rattle.std.proofs.lemmas.List.{append_assoc, append-nil, length-append}
 use Rattle.bb_copies.specs.StandsFor.{picked}
-use Rattle.bb_copies.specs.Chronicle.{Content, CutOff, Follows, IsAfterTurn, Step, Turn, Loaded, Unloaded}
+use Rattle.bb_copies.specs.Chronicle.{Content, CutOff, Follows, IsAfterTurn, TurnMakes, Turn, Loaded, Unloaded}
 use Rattle.bb_copies.specs.Trail.{IsReached, IsTrail, Stage, StandsAt, StandsAtOne, next_moment, session_stages, stages_in, stages_of, trail_of}
 
--- the saves behind the area that a load gave: those in `done` answered Ok
+-- the saves after the area that a load gave: those in `done` answered Ok
 module _ (before : Content) (place : ℕ) (given : place ≡ picked before.marks) where
   abbrev loaded : List (List ℕ)
   loaded = take (place + 1) before.areas
@@ -74,7 +74,7 @@ each_reached before saves =
 
 -- a content that stands for what a turn makes of the list is one that the turn leaves
 pub turn_ends : (first : List ℕ) (before : Content) (turn : Turn) (stage : Stage)
-    (passed : List (Option (List ℕ))) → Step before turn stage.areas stage.acked →
+    (passed : List (Option (List ℕ))) → TurnMakes before turn stage.areas stage.acked →
     StandsAt first passed stage →
     (after : Content) × (after.passed ≡ passed) × IsAfterTurn first before turn after
 turn_ends first before turn stage passed step stands =

@@ -2,7 +2,7 @@
 -- areas are saved over it.
 use Rattle.std.proofs.Common.{◌≡◌, ℕ, zero, suc, ◌+◌, List, [], ◌∷◌, ◌++◌, map, take, Option, Some, None, refl, inl, inr, arith}
 use Rattle.bb_copies.specs.StandsFor.{Decay, IsAt, KeepsOrTakes, StandsFor, first_passed, marks_left, picked}
-use Rattle.bb_copies.specs.Chronicle.{Chronicle, Content, CutOff, Decayed, Entry, Finished, Loaded, Step}
+use Rattle.bb_copies.specs.Chronicle.{Chronicle, Content, CutOff, Decayed, ChronicleEntry, Finished, Loaded, TurnMakes}
 use Rattle.bb_copies.specs.Trail.{Milestone, Stage, session_stages, session_trail, stages_in, trail_of}
 
 abbrev zeros : List ℕ
@@ -21,7 +21,7 @@ newer = 3 ∷ 0 ∷ []
 abbrev areas : List (List ℕ)
 areas = zeros ∷ old ∷ new ∷ []
 
--- ---- new, old, none: a save was cut behind its first copy, of three of which one was lost
+-- ---- new, old, none: a save was cut after its first copy, of three of which one was lost
 
 abbrev cut_save : List (Option (List ℕ))
 cut_save = Some new ∷ Some old ∷ None ∷ []
@@ -177,14 +177,14 @@ worn = record {
   marks = None ∷ Some 1 ∷ None ∷ [];
 }
 
-abbrev entries : List Entry
+abbrev entries : List ChronicleEntry
 entries =
     record { event = Finished (Loaded 0 (old ∷ []) 1 (Some 0)); content = saved }
     ∷ record { event = CutOff (Loaded 1 (new ∷ []) 0 None); content = cut }
     ∷ record { event = Decayed; content = worn }
     ∷ []
 
-first_saved : Step at_first (Loaded 0 (old ∷ []) 1 (Some 0)) (zeros ∷ old ∷ []) 1
+first_saved : TurnMakes at_first (Loaded 0 (old ∷ []) 1 (Some 0)) (zeros ∷ old ∷ []) 1
 first_saved = record {
   given = refl;
   areas = refl;
@@ -194,7 +194,7 @@ first_saved = record {
   start = λ some. refl;
 }
 
-second_cut : Step saved (Loaded 1 (new ∷ []) 0 None) areas 1
+second_cut : TurnMakes saved (Loaded 1 (new ∷ []) 0 None) areas 1
 second_cut = record {
   given = refl;
   areas = refl;
@@ -213,19 +213,19 @@ three_events = (
   ),
 )
 
--- nothing is started behind a save that did not answer Ok
-no_start : Step saved (Loaded 1 (new ∷ []) 0 (Some 0)) areas 1 → ⊥
+-- nothing is started after a save that did not answer Ok
+no_start : TurnMakes saved (Loaded 1 (new ∷ []) 0 (Some 0)) areas 1 → ⊥
 no_start step = grind (arith, step.start refl)
 
--- no save answers Ok that was not begun, and none is begun behind one that did not answer Ok
-no_other_save : Step saved (Loaded 1 [] 1 None) (zeros ∷ old ∷ []) 2 → ⊥
+-- no save answers Ok that was not begun, and none is begun after one that did not answer Ok
+no_other_save : TurnMakes saved (Loaded 1 [] 1 None) (zeros ∷ old ∷ []) 2 → ⊥
 no_other_save step = let most = step.most in omega arith
 
-no_save_behind : Step saved (Loaded 1 (new ∷ newer ∷ []) 0 None) (areas ++ newer ∷ []) 1 → ⊥
+no_save_behind : TurnMakes saved (Loaded 1 (new ∷ newer ∷ []) 0 None) (areas ++ newer ∷ []) 1 → ⊥
 no_save_behind step = let least = step.least in omega arith
 
 -- a load gives what the first copy passes, though a later copy passes an older area
-no_second : Step cut (Loaded 1 [] 0 None) (zeros ∷ old ∷ []) 1 → ⊥
+no_second : TurnMakes cut (Loaded 1 [] 0 None) (zeros ∷ old ∷ []) 1 → ⊥
 no_second step = let given = step.given in omega arith
 
 -- ---- a session of two saves

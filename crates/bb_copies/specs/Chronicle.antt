@@ -36,10 +36,10 @@ pub record IsAsBefore (before : Content) (h2 : List (List ℕ)) (a2 : ℕ) : Typ
   pub areas : h2 ≡ before.areas
   pub acked : a2 ≡ before.acked
 
--- A load cuts the list behind the area that it gave, which is that of the first copy that passes.
--- The saves come behind it. All of them answered Ok, or all but the last; a system is started only
+-- A load cuts the list after the area that it gave, which is that of the first copy that passes.
+-- The saves come after it. All of them answered Ok, or all but the last; a system is started only
 -- where all did.
-pub record IsSaved (before : Content) (place : ℕ) (saves : List (List ℕ)) (ok : ℕ)
+pub record IsAfterSaves (before : Content) (place : ℕ) (saves : List (List ℕ)) (ok : ℕ)
     (started : Option ℕ) (h2 : List (List ℕ)) (a2 : ℕ) : Type 0 where
   pub given : place ≡ picked before.marks
   pub areas : h2 ≡ take (place + 1) before.areas ++ saves
@@ -49,11 +49,11 @@ pub record IsSaved (before : Content) (place : ℕ) (saves : List (List ℕ)) (o
   pub start : IsSome started → ok ≡ length saves
 
 -- the list and the acknowledged area after a turn
-abbrev pub Step : Content → Turn → List (List ℕ) → ℕ → Type 0
-Step before Untouched h2 a2 = IsAsBefore before h2 a2
-Step before Looked h2 a2 = IsAsBefore before h2 a2
-Step before Unloaded h2 a2 = IsAsBefore before h2 a2
-Step before (Loaded place saves ok started) h2 a2 = IsSaved before place saves ok started h2 a2
+abbrev pub TurnMakes : Content → Turn → List (List ℕ) → ℕ → Type 0
+TurnMakes before Untouched h2 a2 = IsAsBefore before h2 a2
+TurnMakes before Looked h2 a2 = IsAsBefore before h2 a2
+TurnMakes before Unloaded h2 a2 = IsAsBefore before h2 a2
+TurnMakes before (Loaded place saves ok started) h2 a2 = IsAfterSaves before place saves ok started h2 a2
 
 -- ---- one after another
 
@@ -69,7 +69,7 @@ pub data Event : Type 0 where
 -- a session leaves a content that stands for what its turn makes of the list
 pub record IsAfterTurn (first : List ℕ) (before : Content) (turn : Turn)
     (after : Content) : Type 0 where
-  pub step : Step before turn after.areas after.acked
+  pub step : TurnMakes before turn after.areas after.acked
   pub stands : IsStanding first after
 
 -- a decay changes neither the list nor the acknowledged area
@@ -86,18 +86,18 @@ Follows first before (CutOff turn) after = IsAfterTurn first before turn after
 Follows first before Decayed after = IsAfterDecay before after
 
 -- what happened, and the content that it left
-pub record Entry : Type 0 where
+pub record ChronicleEntry : Type 0 where
   pub event : Event
   pub content : Content
 
 -- what happened to a content, one after another
-abbrev pub Chronicle : List ℕ → Content → List Entry → Type 0
+abbrev pub Chronicle : List ℕ → Content → List ChronicleEntry → Type 0
 Chronicle first before [] = ⊤
 Chronicle first before (entry ∷ later) =
     Follows first before entry.event entry.content × Chronicle first entry.content later
 
 -- all contents of a chronicle, from the one that it begins with on
-abbrev pub contents_of : Content → List Entry → List Content
+abbrev pub contents_of : Content → List ChronicleEntry → List Content
 contents_of before entries = before ∷ map (λ entry. entry.content) entries
 
 -- ---- the law
@@ -127,9 +127,9 @@ pub record IsGiven (first : List ℕ) (before : Content) (place : ℕ) : Type 0 
   pub area : slice_get before.areas place ≡ Some (first_passed first before.passed)
 
 -- so it is with each load of a chronicle that answered Ok
-abbrev pub EachLoad : List ℕ → Content → List Entry → Type 0
+abbrev pub EachLoad : List ℕ → Content → List ChronicleEntry → Type 0
 EachLoad first before entries =
-    (k : ℕ) (content : Content) (entry : Entry) (place : ℕ) →
+    (k : ℕ) (content : Content) (entry : ChronicleEntry) (place : ℕ) →
     slice_get (contents_of before entries) k ≡ Some content →
     slice_get entries k ≡ Some entry →
     loaded_in entry.event ≡ Some place →
@@ -138,7 +138,7 @@ EachLoad first before entries =
 -- Nothing that was acknowledged is lost: each content stands for its list, has all that was
 -- acknowledged before, and each load gives the last acknowledged area or a later one.
 pub record KeepsAcknowledged (first : List ℕ) (before : Content)
-    (entries : List Entry) : Type 0 where
+    (entries : List ChronicleEntry) : Type 0 where
   pub standing : All (IsStanding first) (contents_of before entries)
   pub outlives : AllPairs Outlives (contents_of before entries)
   pub loads : EachLoad first before entries
@@ -146,7 +146,7 @@ pub record KeepsAcknowledged (first : List ℕ) (before : Content)
 -- it is so in each chronicle that begins with a content that stands for a list
 abbrev pub ChronicleLaw : Type 0
 ChronicleLaw =
-    (first : List ℕ) (before : Content) (entries : List Entry) →
+    (first : List ℕ) (before : Content) (entries : List ChronicleEntry) →
     IsStanding first before →
     Chronicle first before entries →
     KeepsAcknowledged first before entries

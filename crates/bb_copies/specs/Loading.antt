@@ -21,7 +21,7 @@ use Rattle.bb_copies.specs.Looking.{IsFresh}
 use Rattle.bb_copies.specs.Luck.{IsLucky}
 use Rattle.bb_copies.specs.Passing.{passes_at, passings}
 use Rattle.bb_copies.specs.Refreshing.{IsStuckAt, KeepsMarked, is_marked}
-use Rattle.bb_copies.specs.Settling.{IsUndisturbed, RoseBy}
+use Rattle.bb_copies.specs.Settling.{NothingFails, RoseBy}
 use Rattle.bb_copies.specs.StandsFor.{EachPassesOrNothing, SomePasses, Stands, StandsFor}
 use Rattle.bb_copies.specs.StandsFor.{first_passed}
 
@@ -132,7 +132,7 @@ pub record IsExact (form : Form) (page : ℕ) (kind : BucketKind) (area : List �
 -- without a fault a load that took a copy wrote exactly the copies that had to be written
 abbrev pub LoadsExactly : Form → List BucketKind → List ℕ → Device → Device → Loaded → Type 0
 LoadsExactly form kinds area from to (Copy used live) =
-    IsUndisturbed from to →
+    NothingFails from to →
     ForSome (content from)
     (λ before. ForSome (content to)
     (λ after. EachCopy kinds (λ copy kind. IsExact form from.geometry.page kind area before after)))
@@ -156,7 +156,7 @@ pub record LoadErases (form : Form) (kinds : List BucketKind) (area : List ℕ)
 -- without a fault a load erased as those writes do, and nothing where no copy passes
 abbrev pub LoadsErasing : Form → List BucketKind → List ℕ → Device → Device → Loaded → Type 0
 LoadsErasing form kinds area from to (Copy used live) =
-    IsUndisturbed from to → LoadErases form kinds area from to
+    NothingFails from to → LoadErases form kinds area from to
 LoadsErasing form kinds area from to NoCopy = erases to ≡ erases from
 
 -- what holds of every load, whatever it answers

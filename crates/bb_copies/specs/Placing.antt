@@ -4,7 +4,7 @@ use Rattle.std.specs.Prelude.{◌≡◌, ◌≢◌, ℕ, Bool, true, List, slice
 use Rattle.bb_flash.specs.Device.{Device, reads}
 use Rattle.bb_bucket.specs.Kind.{Holding}
 use Rattle.bb_copies.specs.Refreshing.{is_marked}
-use Rattle.bb_copies.specs.Settling.{IsUndisturbed}
+use Rattle.bb_copies.specs.Settling.{NothingFails}
 
 -- the bucket of this number is placed
 abbrev pub IsPlacedAt : {B : Type 0} → (B → Holding) → List B → ℕ → Type 0
@@ -29,4 +29,4 @@ PlacesUnmarked holding marked before after =
 
 -- where no call failed nothing was read
 abbrev pub ReadsNothing : Device → Device → Type 0
-ReadsNothing from to = IsUndisturbed from to → reads to ≡ reads from
+ReadsNothing from to = NothingFails from to → reads to ≡ reads from

@@ -16,7 +16,7 @@ use Rattle.bb_copies.specs.Buckets.{EachCopy, IsApart, IsOutside}
 use Rattle.bb_copies.specs.Erasing.{ErasesBy, IsBounded, unmarked_kinds}
 use Rattle.bb_copies.specs.Luck.{IsLucky}
 use Rattle.bb_copies.specs.Passing.{passing_of, passings}
-use Rattle.bb_copies.specs.Settling.{IsStale, IsWritten, IsUnread, RoseBy}
+use Rattle.bb_copies.specs.Settling.{IsStale, IsRepairWritten, IsUnread, RoseBy}
 use Rattle.bb_copies.specs.StandsFor.{KeepsOrTakes, SomePasses}
 
 -- In every image what lies outside the copies is as before. In each that counts each copy passes
@@ -113,13 +113,13 @@ IsBoundedAt kinds copy rec from to =
 -- the record was written to the copy of this number, and nothing else was done
 abbrev pub IsWrittenAt : List BucketKind → ℕ → List ℕ → Device → Device → Type 0
 IsWrittenAt kinds copy rec from to =
-    EachCopy kinds (λ place kind. place ≡ copy → IsWritten kind rec from to)
+    EachCopy kinds (λ place kind. place ≡ copy → IsRepairWritten kind rec from to)
 
 -- what settling the copy of a number answers
-abbrev pub answer_of : ℕ → Settled → Result Bool ℕ
-answer_of copy Good = Ok true
-answer_of copy Dead = Ok false
-answer_of copy Stuck = Err copy
+abbrev pub repair_answer : ℕ → Settled → Result Bool ℕ
+repair_answer copy Good = Ok true
+repair_answer copy Dead = Ok false
+repair_answer copy Stuck = Err copy
 
 -- every copy is settled: it passes the area where it is marked, else nothing, and a call failed for
 -- each of those

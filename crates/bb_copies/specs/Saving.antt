@@ -24,7 +24,7 @@ abbrev pub KeepsUsed : Option ℕ → List (Option (List ℕ)) → Type 0
 KeepsUsed (Some used) passing = is_some (passes_at passing used) ≡ true
 KeepsUsed None passing = SomePasses passing → ⊥
 
--- whatever list of areas a content stood for, it stands for that list with the new area behind it,
+-- whatever list of areas a content stood for, it stands for that list with the new area after it,
 -- and nothing more is acknowledged
 abbrev pub StandsLonger :
     Option ℕ → List ℕ → List (Option (List ℕ)) → List (Option (List ℕ)) → Type 0

@@ -20,8 +20,8 @@ abbrev pub RoseBy : ℕ → ℕ → ℕ → Type 0
 RoseBy rise before now = min (before + rise) (2 ^ 64 - 1) ≤ now
 
 -- no call failed
-abbrev pub IsUndisturbed : Device → Device → Type 0
-IsUndisturbed from to = Rose from.faults to.faults → ⊥
+abbrev pub NothingFails : Device → Device → Type 0
+NothingFails from to = Rose from.faults to.faults → ⊥
 
 -- In each image that counts the copy passes what it passed before, nothing, or the area. Its region
 -- alone changed, in every image, and each call touched it alone.
@@ -79,7 +79,7 @@ EndsAs form kind area from to Stuck = IsStale form kind area from to ⊎ IsUnrea
 
 -- the record was written to the copy by one write in which no call failed, and nothing else was
 -- done
-pub record IsWritten (kind : BucketKind) (rec : List ℕ) (from to : Device) : Type 0 where
+pub record IsRepairWritten (kind : BucketKind) (rec : List ℕ) (from to : Device) : Type 0 where
   pub leaves : Leaves kind.region (kind.after_write rec) from to
   pub erases : ErasesWhere kind.region (kind.write_erases rec) from to
   pub made :
@@ -112,7 +112,7 @@ pub record FailsAll (from to : Device) : Type 0 where
 -- which calls failed, by how the copy ended: none, and it was written and nothing else was done; or
 -- the write, or the write and the void, or these and the reading back
 abbrev pub CountsAs : BucketKind → List ℕ → Device → Device → Settled → Type 0
-CountsAs kind rec from to Good = IsWritten kind rec from to ⊎ FailsBy twice_more from to
+CountsAs kind rec from to Good = IsRepairWritten kind rec from to ⊎ FailsBy twice_more from to
 CountsAs kind rec from to Dead = FailsBy one_more from to ⊎ FailsBy twice_more from to
 CountsAs kind rec from to Stuck = FailsBy twice_more from to ⊎ FailsAll from to
 

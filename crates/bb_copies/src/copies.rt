@@ -11,7 +11,7 @@ ghost use Rattle.bb_copies.specs.Loading.{KeepsOutside, LoadFails, LoadGives, Lo
 ghost use Rattle.bb_copies.specs.Loading.{LoadsErasing, LoadsExactly, LookGives};
 ghost use Rattle.bb_copies.specs.Placing.{AllPlaced, ReadsNothing};
 ghost use Rattle.bb_copies.specs.Saving.{EachWritten, IsSaved, SaveFails, SaveImages};
-ghost use Rattle.bb_copies.specs.Settling.{IsUndisturbed};
+ghost use Rattle.bb_copies.specs.Settling.{NothingFails};
 ghost use Rattle.bb_copies.specs.declared.answers.CopyFault.TheVariants.{ReadFault, Unsure};
 ghost use Rattle.bb_copies.specs.Store.{used_after};
 
@@ -174,11 +174,11 @@ impl<B: Bucket + Drop, M: Format + Drop> Copies<B, M> {
         ensures fails { IfErr result (SaveFails (M.form self.old.format)
             (kinds_of B.holding self.old.buckets)
             self.old.used area.now (F.device flash.old) (F.device flash.new)) }
-        ensures exact { IsUndisturbed (F.device flash.old) (F.device flash.new)
+        ensures exact { NothingFails (F.device flash.old) (F.device flash.new)
             → OnOk result (EachWritten (kinds_of B.holding self.old.buckets)
             ((M.form self.old.format).text area.now)
             (F.device flash.old) (F.device flash.new)) }
-        ensures erases { IsUndisturbed (F.device flash.old) (F.device flash.new)
+        ensures erases { NothingFails (F.device flash.old) (F.device flash.new)
             → OnOk result (ErasesBy (kinds_of B.holding self.old.buckets)
             ((M.form self.old.format).text area.now)
             (F.device flash.old) (F.device flash.new)) }

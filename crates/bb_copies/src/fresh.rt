@@ -7,7 +7,7 @@ ghost use Rattle.bb_copies.specs.Looking.{IsFirst};
 ghost use Rattle.bb_copies.specs.Placing.{AllPlaced};
 ghost use Rattle.bb_copies.specs.Refreshing.{AllHeld, AllWritten, IsStuckAt, KeepsMarked};
 ghost use Rattle.bb_copies.specs.Refreshing.{NeverEmpty, Refreshes, SomeMarked};
-ghost use Rattle.bb_copies.specs.Settling.{IsUndisturbed};
+ghost use Rattle.bb_copies.specs.Settling.{NothingFails};
 
 use crate::refresh::{refresh, settle_copy};
 use crate::room::Room;
@@ -57,10 +57,10 @@ pub(crate) fn freshen<B: Bucket, M: Format, F: Flash>(
     ensures stuck { IfErr result (λ copy. IsStuckAt (M.form format.now)
         (kinds_of B.holding buckets.old.items) area.now
         copy (F.device flash.old) (F.device flash.new)) }
-    ensures kept { IsUndisturbed (F.device flash.old) (F.device flash.new)
+    ensures kept { NothingFails (F.device flash.old) (F.device flash.new)
         → KeepsMarked (kinds_of B.holding buckets.old.items) good.old.items (F.device flash.old)
         (F.device flash.new) }
-    ensures exact { IsUndisturbed (F.device flash.old) (F.device flash.new)
+    ensures exact { NothingFails (F.device flash.old) (F.device flash.new)
         → AllWritten (kinds_of B.holding buckets.old.items) room.old.record.items good.old.items
         (F.device flash.old) (F.device flash.new) }
     ensures bounds { IsBounded (kinds_of B.holding buckets.old.items) room.old.record.items

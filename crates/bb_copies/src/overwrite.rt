@@ -6,7 +6,7 @@ ghost use Rattle.bb_copies.specs.Erasing.{ErasesBy, IsBounded};
 ghost use Rattle.bb_copies.specs.Placing.{AllPlaced, ReadsNothing};
 ghost use Rattle.bb_copies.specs.Refreshing.{AllHeld, Refreshes, SomeMarked, is_marked};
 ghost use Rattle.bb_copies.specs.Saving.{EachWritten, IsWriteFault, SparesUsed};
-ghost use Rattle.bb_copies.specs.Settling.{IsUndisturbed};
+ghost use Rattle.bb_copies.specs.Settling.{NothingFails};
 
 use crate::refresh::{refresh, settle_copy};
 use crate::room::Room;
@@ -51,10 +51,10 @@ pub(crate) fn save_first<B: Bucket, M: Format, F: Flash>(
         (kinds_of B.holding buckets.old.items) (None)
         area.now (F.device flash.old) (F.device flash.new)) }
     ensures inside { IfErr result (λ copy. copy < length buckets.old.items) }
-    ensures exact { IsUndisturbed (F.device flash.old) (F.device flash.new)
+    ensures exact { NothingFails (F.device flash.old) (F.device flash.new)
         → OnOk result (EachWritten (kinds_of B.holding buckets.old.items) room.old.record.items
         (F.device flash.old) (F.device flash.new)) }
-    ensures erases { IsUndisturbed (F.device flash.old) (F.device flash.new)
+    ensures erases { NothingFails (F.device flash.old) (F.device flash.new)
         → OnOk result (ErasesBy (kinds_of B.holding buckets.old.items) room.old.record.items
         (F.device flash.old) (F.device flash.new)) }
     ensures bounds { IsBounded (kinds_of B.holding buckets.old.items) room.old.record.items
@@ -117,10 +117,10 @@ pub(crate) fn save_over<B: Bucket, M: Format, F: Flash>(
         (kinds_of B.holding buckets.old.items) (Some used)
         area.now (F.device flash.old) (F.device flash.new)) }
     ensures inside { IfErr result (λ copy. copy < length buckets.old.items) }
-    ensures exact { IsUndisturbed (F.device flash.old) (F.device flash.new)
+    ensures exact { NothingFails (F.device flash.old) (F.device flash.new)
         → OnOk result (EachWritten (kinds_of B.holding buckets.old.items) room.old.record.items
         (F.device flash.old) (F.device flash.new)) }
-    ensures erases { IsUndisturbed (F.device flash.old) (F.device flash.new)
+    ensures erases { NothingFails (F.device flash.old) (F.device flash.new)
         → OnOk result (ErasesBy (kinds_of B.holding buckets.old.items) room.old.record.items
         (F.device flash.old) (F.device flash.new)) }
     ensures bounds { IsBounded (kinds_of B.holding buckets.old.items) room.old.record.items
@@ -182,10 +182,10 @@ pub(crate) fn save_all<B: Bucket, M: Format, F: Flash>(
         (kinds_of B.holding buckets.old.items) used
         area.now (F.device flash.old) (F.device flash.new)) }
     ensures inside { IfErr result (λ copy. copy < length buckets.old.items) }
-    ensures exact { IsUndisturbed (F.device flash.old) (F.device flash.new)
+    ensures exact { NothingFails (F.device flash.old) (F.device flash.new)
         → OnOk result (EachWritten (kinds_of B.holding buckets.old.items) room.old.record.items
         (F.device flash.old) (F.device flash.new)) }
-    ensures erases { IsUndisturbed (F.device flash.old) (F.device flash.new)
+    ensures erases { NothingFails (F.device flash.old) (F.device flash.new)
         → OnOk result (ErasesBy (kinds_of B.holding buckets.old.items) room.old.record.items
         (F.device flash.old) (F.device flash.new)) }
     ensures bounds { IsBounded (kinds_of B.holding buckets.old.items) room.old.record.items

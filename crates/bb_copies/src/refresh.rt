@@ -6,8 +6,8 @@ ghost use Rattle.bb_copies.specs.Placing.{AllPlaced, IsPlacedAt, PlacesCopy};
 ghost use Rattle.bb_copies.specs.Placing.{PlacesUnmarked, ReadsNothing};
 ghost use Rattle.bb_copies.specs.Refreshing.{AllSettled, AllWritten, IsBoundedAt, IsSettledAt};
 ghost use Rattle.bb_copies.specs.Refreshing.{IsStuckAt, IsWrittenAt, KeepsMarked, LeavesOthers};
-ghost use Rattle.bb_copies.specs.Refreshing.{Refreshes, answer_of};
-ghost use Rattle.bb_copies.specs.Settling.{IsUndisturbed};
+ghost use Rattle.bb_copies.specs.Refreshing.{Refreshes, repair_answer};
+ghost use Rattle.bb_copies.specs.Settling.{NothingFails};
 
 use crate::room::Room;
 use crate::settle::{Settled, settle};
@@ -47,7 +47,7 @@ pub(crate) fn settle_copy<B: Bucket, M: Format, F: Flash>(
     ensures stuck { IfErr result (λ at. IsStuckAt (M.form format.now)
         (kinds_of B.holding buckets.old.items) area.now
         at (F.device flash.old) (F.device flash.new)) }
-    ensures exact { IsUndisturbed (F.device flash.old) (F.device flash.new)
+    ensures exact { NothingFails (F.device flash.old) (F.device flash.new)
         → IsWrittenAt (kinds_of B.holding buckets.old.items) copy room.old.record.items
         (F.device flash.old) (F.device flash.new) }
     ensures bounds { IsBoundedAt (kinds_of B.holding buckets.old.items) copy
@@ -68,7 +68,7 @@ pub(crate) fn settle_copy<B: Bucket, M: Format, F: Flash>(
 }
 
 fn answer(settled: Settled, copy: usize) -> Result<bool, usize>
-    ensures { result ≡ answer_of copy settled }
+    ensures { result ≡ repair_answer copy settled }
 {
     match settled {
         Settled::Good => Ok(true),
@@ -110,7 +110,7 @@ pub(crate) fn refresh<B: Bucket, M: Format, F: Flash>(
     ensures stuck { IfErr result (λ copy. IsStuckAt (M.form format.now)
         (kinds_of B.holding buckets.old.items) area.now
         copy (F.device flash.old) (F.device flash.new)) }
-    ensures exact { IsUndisturbed (F.device flash.old) (F.device flash.new)
+    ensures exact { NothingFails (F.device flash.old) (F.device flash.new)
         → AllWritten (kinds_of B.holding buckets.old.items) room.old.record.items good.old.items
         (F.device flash.old) (F.device flash.new) }
     ensures bounds { IsBounded

@@ -7,7 +7,7 @@ ghost use Rattle.bb_copies.specs.Erasing.{ErasesBy};
 ghost use Rattle.bb_copies.specs.Loading.{IsAllKept};
 ghost use Rattle.bb_copies.specs.Placing.{AllPlaced, ReadsNothing};
 ghost use Rattle.bb_copies.specs.Saving.{EachWritten, SaveFails, SaveRuns};
-ghost use Rattle.bb_copies.specs.Settling.{IsUndisturbed};
+ghost use Rattle.bb_copies.specs.Settling.{NothingFails};
 
 use crate::CopyFault;
 use crate::load::pack;
@@ -51,11 +51,11 @@ pub(crate) fn save_copies<B: Bucket, M: Format, F: Flash>(
         (kinds_of B.holding buckets.old.items) used area.now
         (F.device flash.old) (F.device flash.new)) }
     ensures sure { IsErrOf result Unsure → ⊥ }
-    ensures exact { IsUndisturbed (F.device flash.old) (F.device flash.new)
+    ensures exact { NothingFails (F.device flash.old) (F.device flash.new)
         → OnOk result (EachWritten (kinds_of B.holding buckets.old.items)
         ((M.form format.now).text area.now)
         (F.device flash.old) (F.device flash.new)) }
-    ensures erases { IsUndisturbed (F.device flash.old) (F.device flash.new)
+    ensures erases { NothingFails (F.device flash.old) (F.device flash.new)
         → OnOk result (ErasesBy (kinds_of B.holding buckets.old.items)
         ((M.form format.now).text area.now)
         (F.device flash.old) (F.device flash.new)) }

@@ -3,8 +3,8 @@ ghost use Rattle.bb_flash.specs.Device.{IsDevice};
 ghost use Rattle.bb_bucket.specs.Calls.{Agrees, told_but_reads};
 ghost use Rattle.bb_copies.specs.Erasing.{IsBounded};
 ghost use Rattle.bb_copies.specs.Placing.{ReadsNothing};
-ghost use Rattle.bb_copies.specs.Settling.{CountsAs, EndsAs, IsCompared, IsUndisturbed};
-ghost use Rattle.bb_copies.specs.Settling.{IsWritten, ReadsAs, ReadsOnce, SettlesCopy};
+ghost use Rattle.bb_copies.specs.Settling.{CountsAs, EndsAs, IsCompared, NothingFails};
+ghost use Rattle.bb_copies.specs.Settling.{IsRepairWritten, ReadsAs, ReadsOnce, SettlesCopy};
 ghost use Rattle.bb_copies.specs.declared.settle.Settled.TheVariants.{Stuck};
 
 use crate::read::read_copy;
@@ -46,8 +46,8 @@ pub(crate) fn settle<B: Bucket, M: Format, F: Flash>(
         (F.device flash.old) (F.device flash.new) result }
     ensures settles { SettlesCopy (M.form format.now) (B.holding bucket.old).kind area.now
         (F.device flash.old) (F.device flash.new) }
-    ensures exact { IsUndisturbed (F.device flash.old) (F.device flash.new)
-        → IsWritten (B.holding bucket.old).kind room.old.record.items (F.device flash.old)
+    ensures exact { NothingFails (F.device flash.old) (F.device flash.new)
+        → IsRepairWritten (B.holding bucket.old).kind room.old.record.items (F.device flash.old)
         (F.device flash.new) }
     ensures counts { CountsAs (B.holding bucket.old).kind room.old.record.items
         (F.device flash.old) (F.device flash.new) result }

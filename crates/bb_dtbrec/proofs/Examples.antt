@@ -1,5 +1,5 @@
--- The worked record, by computation alone: of a state with one variable `a@0` of one byte. Its bytes are those that dtc
--- makes of the same tree, but for the CRC; fdtget reads the value.
+-- The worked record, by computation alone: of a state with one variable `a@0` of one byte. Its
+-- bytes are those that dtc makes of the same tree, but for the CRC; fdtget reads the value.
 use Rattle.std.proofs.Common.{◌≡◌, ℕ, List, [], ◌∷◌, ◌++◌, refl, Some, None, true, false, take}
 use Rattle.bb_base.specs.Crc.{after_bit, after_eight_bits, after_byte}
 use Rattle.bb_dtbrec.specs.declared.piece.Piece.{Piece}

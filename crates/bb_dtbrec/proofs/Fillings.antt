@@ -7,7 +7,7 @@ use Rattle.std.proofs.lemmas.List.{drop_at, ext_get_or, get_or-append_right, get
 use Rattle.bb_dtbrec.specs.declared.piece.Piece.{Piece}
 use Rattle.bb_dtbrec.specs.declared.piece.Piece.TheVariants.{Fixed, Value}
 use Rattle.bb_dtbrec.specs.declared.piece.Place.{Place}
-use Rattle.bb_dtbrec.specs.Dtb.{Pattern, are_pieces, dtb_fits, field_len, field_of, is_pattern, pieces_len, pieces_text, value_at, value_of, with_fields, with_value}
+use Rattle.bb_dtbrec.specs.Dtb.{Pattern, are_pieces, dtb_fits, field_len, field_of, is_pattern, pieces_len, pieces_text, value_at, field_value, with_fields, with_field}
 use Rattle.bb_dtbrec.specs.Laws.{fit, pieces_fit, pieces_whole, same_bytes}
 use Rattle.bb_dtbrec.specs.Pieces.{enough_behind, enough_first, length_piece_text, length_value_at, length_value_of, length_with_value, others_too, pieces_behind, placed, read_back}
 
@@ -23,7 +23,7 @@ IsOutsidePiece k (Value place) = IsBeside k place
 
 pub byte_beside : (place : Place) (value area : List ℕ) (k : ℕ) →
     place.at + place.size ≤ length area → length value ≡ place.size → IsBeside k place →
-    get_or (with_value place value area) k 0 ≡ get_or area k 0
+    get_or (with_field place value area) k 0 ≡ get_or area k 0
 byte_beside place value area k inside e (inl before) =
     let rest : List ℕ = value ++ drop (place.at + place.size) area in
     let whole : length (take place.at area) ≡ place.at =
@@ -43,7 +43,7 @@ byte_beside place value area k inside e (inr behind) =
 byte_of_value : (place : Place) (area start : List ℕ) (k : ℕ) →
     place.at + place.size ≤ length area → length start ≡ length area → place.at ≤ k →
     k < place.at + place.size →
-    get_or (with_value place (value_at place area) start) k 0 ≡ get_or area k 0
+    get_or (with_field place (value_at place area) start) k 0 ≡ get_or area k 0
 byte_of_value place area start k inside e from to =
     let value : List ℕ = value_at place area in
     let rest : List ℕ = drop (place.at + place.size) start in
@@ -61,7 +61,7 @@ byte_of_value place area start k inside e from to =
 byte_put : (place : Place) (area start : List ℕ) (k : ℕ) →
     place.at + place.size ≤ length area → length start ≡ length area →
     (IsBeside k place → get_or start k 0 ≡ get_or area k 0) →
-    get_or (with_value place (value_at place area) start) k 0 ≡ get_or area k 0
+    get_or (with_field place (value_at place area) start) k 0 ≡ get_or area k 0
 byte_put place area start k inside e same =
     let value : List ℕ = value_at place area in
     let size : length value ≡ place.size = length_value_at place area inside in
@@ -91,9 +91,9 @@ bytes_kept (Fixed bytes ∷ pieces) text area k h enough outside =
     (enough_behind (Fixed bytes) pieces text enough) outside.1
 bytes_kept (Value place ∷ pieces) text area k h enough outside =
     let len : ℕ = field_len place.spelling place.size in
-    let value : List ℕ = value_of place.spelling (take len text) in
+    let value : List ℕ = field_value place.spelling (take len text) in
     let first : len ≤ length text = enough_first (Value place) pieces text enough in
-    bytes_kept pieces (drop len text) (with_value place value area) k
+    bytes_kept pieces (drop len text) (with_field place value area) k
     (pieces_behind (Value place) pieces text area h first)
     (enough_behind (Value place) pieces text enough) outside.1
     ∙ byte_beside place value area k (placed place pieces (length area) h).inside
@@ -124,13 +124,13 @@ filled (Value place ∷ pieces) area start h e same =
     let in_start : place.at + place.size ≤ length start = omega (arith, known.inside) in
     ap
     (λ t. with_fields pieces t
-    (with_value place (value_of place.spelling (take len (field ++ rest))) start))
+    (with_field place (field_value place.spelling (take len (field ++ rest))) start))
     (drop_at field rest len whole)
-    ∙ ap (λ t. with_fields pieces rest (with_value place (value_of place.spelling t) start))
+    ∙ ap (λ t. with_fields pieces rest (with_field place (field_value place.spelling t) start))
     (take_at field rest len whole)
-    ∙ ap (λ v. with_fields pieces rest (with_value place v start))
+    ∙ ap (λ v. with_fields pieces rest (with_field place v start))
     (read_back place.spelling value)
-    ∙ filled pieces area (with_value place value start) known.others
+    ∙ filled pieces area (with_field place value start) known.others
     (length_with_value place value start in_start size ∙ e)
     (λ k l outside. byte_put place area start k known.inside e
     (λ beside. same k l (beside, outside)))

@@ -10,7 +10,7 @@ use Rattle.bb_layout.specs.declared.var.Var.{Var}
 use Rattle.bb_dtbrec.specs.declared.piece.Piece.{Piece}
 use Rattle.bb_dtbrec.specs.declared.piece.Piece.TheVariants.{Value}
 use Rattle.bb_dtbrec.specs.declared.piece.Place.{Place}
-use Rattle.bb_dtbrec.specs.Layouts.{field_for, place_of, template_of}
+use Rattle.bb_dtbrec.specs.Layouts.{field_for, place_in_area, template_of}
 use Rattle.bb_dtbrec.specs.Trees.{tree_values, values_among}
 use Rattle.bb_dtbrec.proofs.Insertions.{AreInserted, IsInserted, before_others, behind, same_lists}
 use Rattle.bb_dtbrec.proofs.TreeShapes.{put_on}
@@ -89,7 +89,7 @@ module _ {A : Type 0} where
   gathered own (node name props nodes rest) =
       own props ++ (gathered own nodes ++ gathered own rest)
 
-  -- of the property of a variable this item is gathered, behind those of the properties before it
+  -- of the property of a variable this item is gathered, after those of the properties before it
   pub record Gathers (own : List (List ℕ × Piece) → List A) (item : Place → A) : Type 0 where
     pub none : own [] ≡ []
     pub more : (props : List (List ℕ × Piece)) (place : Place) →
@@ -204,7 +204,7 @@ module _ {A : Type 0} where
   vars_put : (own : List (List ℕ × Piece) → List A) (item : Place → A) → Gathers own item →
       (vars : List Var) (grown : Grown Piece) → AllByRecursion IsLed vars →
       HasDepth (length grown.path) grown.nodes →
-      AreInserted (items_of own grown.nodes) (map (λ v. item (place_of v)) vars)
+      AreInserted (items_of own grown.nodes) (map (λ v. item (place_in_area v)) vars)
       (items_of own (fold (with_var field_for) grown vars).nodes)
   vars_put own item g [] grown led h = refl
   vars_put own item g (v ∷ vs) grown led h =
@@ -213,7 +213,7 @@ module _ {A : Type 0} where
       less_deep (length grown.path) shared grown.nodes
       (common_prefix_len-le bytes_eq grown.path v.path).0 h in (
         items_of own (with_var field_for grown v).nodes,
-        led_put own item g shared v.path (place_of v) grown.nodes led.0 enough,
+        led_put own item g shared v.path (place_in_area v) grown.nodes led.0 enough,
         vars_put own item g vs (with_var field_for grown v) led.1
             (depth_after shared v.path (prop_with field_for v) grown.nodes enough),
       )
@@ -221,7 +221,7 @@ module _ {A : Type 0} where
   -- what is gathered from the nodes of variables is an item of each, wherever it stands
   pub items_of_vars : (own : List (List ℕ × Piece) → List A) (item : Place → A) →
       Gathers own item → (vars : List Var) → AllByRecursion IsLed vars →
-      AreInserted [] (map (λ v. item (place_of v)) vars)
+      AreInserted [] (map (λ v. item (place_in_area v)) vars)
       (items_of own (grown_by field_for vars).nodes)
   items_of_vars own item g vars led =
       vars_put own item g vars (record { path = []; nodes = [] }) led tt

@@ -134,7 +134,7 @@ pieces_with place (Value first ∷ front) back n sized apart h =
     others.0)
     (pieces_with place front back n sized aparts.1 others.1))
 
--- each of these variables shares no byte with those behind it
+-- each of these variables shares no byte with those after it
 abbrev pub AreApart : {X : Type 0} → (X → Place) → List X → Type 0
 AreApart place [] = Unit {0}
 AreApart place (x ∷ xs) =

@@ -15,13 +15,13 @@ use Rattle.bb_dtbrec.specs.Dtb.{Pattern, dtb_length, pieces_len}
 use Rattle.bb_dtbrec.specs.LayoutPieces.{front_with, structure_at, structure_behind}
 use Rattle.bb_dtbrec.specs.Layouts.{field_for, layout_pattern, template_of}
 use Rattle.bb_dtbrec.specs.Names.{record_names}
-use Rattle.bb_dtbrec.specs.Trees.{crc_prop, front_of, nodes_pieces, pieces_behind_crc, prop_token, structure_pieces, template_names, template_offset}
+use Rattle.bb_dtbrec.specs.Trees.{crc_prop, front_of, nodes_pieces, pieces_behind_crc, prop_token_bytes, structure_pieces, template_names, template_offset}
 use Rattle.bb_dtbrec.proofs.GrownValues.{IsLed}
 use Rattle.bb_dtbrec.proofs.LayoutRecords.{laid_len_most, layout_length}
 use Rattle.bb_dtbrec.proofs.Offsets.{compatible_offset, crc_offset, magic_offset, names_of_template, vars_written}
 use Rattle.bb_dtbrec.proofs.VarPlaces.{vars_led}
 
--- ---- the structure block behind the CRC
+-- ---- the structure block after the CRC
 
 -- by the names of all properties
 abbrev structure_by : List (List ℕ) → Recorded → List Piece
@@ -62,7 +62,7 @@ pieces_written recorded led =
 
 whole_structure : (recorded : Recorded) →
     structure_pieces (template_of recorded)
-    ≡ Fixed (begin_text []) ∷ Fixed (prop_token (template_offset (template_of recorded)) crc_prop)
+    ≡ Fixed (begin_text []) ∷ Fixed (prop_token_bytes (template_offset (template_of recorded)) crc_prop)
     ∷ Fixed (0 ∷ 0 ∷ 0 ∷ 0 ∷ [])
     ∷ structure_by (template_names (template_of recorded)) recorded
 whole_structure recorded = refl

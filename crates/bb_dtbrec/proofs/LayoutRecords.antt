@@ -23,7 +23,7 @@ use Rattle.bb_layout.specs.declared.storage.Storage.TheVariants.{Stride, OneBloc
 use Rattle.bb_dtbrec.specs.declared.piece.Piece.{Piece}
 use Rattle.bb_dtbrec.specs.declared.piece.Piece.TheVariants.{Fixed}
 use Rattle.bb_dtbrec.specs.Dtb.{are_pieces, dtb_length, dtb_text, field_of, is_pattern, piece_text}
-use Rattle.bb_dtbrec.specs.Layouts.{field_for, layout_pattern, place_of, spelling_of, template_of}
+use Rattle.bb_dtbrec.specs.Layouts.{field_for, layout_pattern, place_in_area, spelling_of, template_of}
 use Rattle.bb_dtbrec.specs.Trees.{blob_with_crc, pattern_of, pieces_behind_crc, tree_at, tree_values}
 use Rattle.bb_dtbrec.proofs.GrownValues.{values_of_template}
 use Rattle.bb_dtbrec.proofs.Insertions.{pieces_inserted}
@@ -68,7 +68,7 @@ template_pieces recorded area_len vars =
     let inside : AllByRecursion (λ v. end_of v ≤ area_len) recorded.vars =
     recursion_from_All (λ v. end_of v ≤ area_len) recorded.vars vars.inside in
     tree_decides [] (nodes_below recorded) area_len
-    ∙ pieces_inserted place_of area_len [] (tree_values (grow (template_of recorded) empty))
+    ∙ pieces_inserted place_in_area area_len [] (tree_values (grow (template_of recorded) empty))
     recorded.vars (values_of_template recorded (vars_led recorded.vars formed))
     (vars_sized area_len recorded.vars formed inside)
     (vars_apart recorded.vars formed vars.apart) (apart_from_none recorded.vars)

@@ -10,7 +10,7 @@ use Rattle.bb_layout.specs.Record.{Grown, nodes_with_prop, with_last, with_var}
 use Rattle.bb_layout.specs.declared.var.Var.{Var}
 use Rattle.bb_dtbrec.specs.declared.piece.Piece.{Piece}
 use Rattle.bb_dtbrec.specs.Layouts.{field_for}
-use Rattle.bb_dtbrec.specs.Spine.{IsOpened, Open, Spells, begin_piece, end_piece, ends_in, field_written, marks, nodes_in, nodes_written, pieces_in, pieces_left, prop_written, put_in_last}
+use Rattle.bb_dtbrec.specs.Spine.{IsOpened, Open, SpellsNodes, begin_piece, end_piece, ends_in, field_written, marks, nodes_in, nodes_written, pieces_in, pieces_left, prop_written, put_in_last}
 use Rattle.bb_dtbrec.proofs.Spines.{before_inner, end_at, ends_begun, ends_ended, ends_put, inner_after, inner_at, length_ends, length_opens, length_put, nodes_ended, nodes_put, opens_for, pieces_before, pieces_begun, pieces_ended, pieces_put}
 
 -- ---- the path is opened
@@ -20,7 +20,7 @@ length_ended os n le = length-take-le n os le
 
 pub opened : (grown : Grown Piece) (path : List (List ℕ)) (written : List Piece) (ends : List ℕ)
     (shared : ℕ) → path ≢ [] → shared ≡ common_prefix_len bytes_eq grown.path path →
-    Spells grown written ends →
+    SpellsNodes grown written ends →
     IsOpened grown path (pieces_left shared written ends ++ map begin_piece (drop shared path))
     (take shared ends ++ marks (length (pieces_left shared written ends)) (drop shared path))
 opened grown path written ends shared led is h =
@@ -105,7 +105,7 @@ moved_last (n ∷ m ∷ firsts) at = ap (λ l. n ∷ l) (moved_last (m ∷ first
 
 pub var_spelt : (grown : Grown Piece) (v : Var) (written : List Piece) (ends firsts : List ℕ)
     (at : ℕ) → IsOpened grown v.path written ends → v.path ≢ [] → ends ≡ firsts ++ at ∷ [] →
-    Spells (with_var field_for grown v)
+    SpellsNodes (with_var field_for grown v)
     (take at written ++ (field_written v ++ drop at written)) (firsts ++ (at + 3) ∷ [])
 var_spelt grown v written ends firsts at h led e =
     let prop : List ℕ × Piece = (codes "value", field_for v) in
@@ -140,7 +140,7 @@ var_spelt grown v written ends firsts at h led e =
 -- ---- the first and the last
 
 -- before the first variable nothing is written
-pub none_spelt : Spells (record { path = []; nodes = [] }) [] []
+pub none_spelt : SpellsNodes (record { path = []; nodes = [] }) [] []
 none_spelt = record {
   opens = [];
   inner = [];
@@ -150,9 +150,9 @@ none_spelt = record {
   ends_are = refl;
 }
 
--- behind the last one all nodes end
+-- after the last one all nodes end
 pub all_spelt : (grown : Grown Piece) (written : List Piece) (ends : List ℕ) →
-    Spells grown written ends →
+    SpellsNodes grown written ends →
     written ++ replicate (length ends) end_piece ≡ nodes_written grown.nodes
 all_spelt grown written ends h =
     let open_len : length ends ≡ length h.opens = ap length h.ends_are ∙ length_ends 0 h.opens in

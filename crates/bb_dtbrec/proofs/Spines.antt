@@ -90,7 +90,7 @@ length_ends before (o ∷ os) = ap suc (length_ends (before + length (own_pieces
 
 -- ---- nodes that are begun
 
--- nodes of these names, each in the one before, the first behind others
+-- nodes of these names, each in the one before, the first after others
 abbrev pub opens_for : List (Branch Piece) → List (List ℕ) → List Open
 opens_for inner [] = []
 opens_for inner (name ∷ names) =
@@ -188,7 +188,7 @@ pieces_put prop (o ∷ p ∷ os) inner some =
     (prop_written prop ++ nodes_written inner)
     ∙ ap (λ l. own_pieces o ++ l) (pieces_put prop (p ∷ os) inner (omega arith))
 
--- the last end moves behind it
+-- the last end moves after it
 pub ends_put : (prop : List ℕ × Piece) (before : ℕ) (os : List Open) →
     with_last (λ n. n + 3) (ends_in before os) ≡ ends_in before (put_in_last prop os)
 ends_put prop before [] = refl

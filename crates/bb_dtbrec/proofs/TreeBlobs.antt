@@ -4,12 +4,12 @@ use Rattle.std.specs.Int.{w32, to_be_bytes}
 use Rattle.std.proofs.lemmas.List.{drop_at, take_at}
 use Rattle.bb_base.specs.Crc.{crc_of}
 use Rattle.bb_tree.specs.Node.{Branch, Forest}
-use Rattle.bb_tree.specs.Blob.{begin_text, blob_text, double_word, header_text, names_of, offset_of, reservation_list, strings_block, structure_block, word}
+use Rattle.bb_tree.specs.Blob.{begin_text, blob_text, double_word, header_text, names_used, offset_of, reservation_list, strings_block, structure_block, word}
 use Rattle.bb_dtbrec.specs.declared.piece.Piece.{Piece}
 use Rattle.bb_dtbrec.specs.Dtb.{are_pieces, dtb_length, dtb_text, is_pattern, pieces_len, pieces_text}
 use Rattle.bb_dtbrec.specs.Pieces.{length_pieces_text}
 use Rattle.bb_dtbrec.specs.Laws.{sound}
-use Rattle.bb_dtbrec.specs.Trees.{AreInside, blob_with_crc, crc_prop, devicetree_at, front_of, pattern_of, pieces_behind_crc, pieces_of, prop_token, root_with_crc, structure_pieces, template_names, template_offset, tree_at}
+use Rattle.bb_dtbrec.specs.Trees.{AreInside, blob_with_crc, crc_prop, devicetree_at, front_of, pattern_of, pieces_behind_crc, pieces_of, prop_token_bytes, root_with_crc, structure_pieces, template_names, template_offset, tree_at}
 use Rattle.bb_dtbrec.proofs.TreeTexts.{all_inside, length_all_inside, names_at, pieces_of_text, structure_inside, structure_pieces_text}
 
 -- the header, no reservations, and the text of all pieces
@@ -22,8 +22,8 @@ unfolding blob_text
 blob_pieces root area h =
     let pairs : List ℕ = reservation_list [] in
     let tree : Branch (List ℕ) = tree_at area root in
-    let structure : List ℕ = structure_block (offset_of (names_of tree)) tree in
-    let strings : List ℕ = strings_block (names_of tree) in
+    let structure : List ℕ = structure_block (offset_of (names_used tree)) tree in
+    let strings : List ℕ = strings_block (names_used tree) in
     let in_structure : AreInside (structure_pieces root) (length area) =
     structure_inside root (length area) h in
     let same : length structure ≡ pieces_len (structure_pieces root) =
@@ -48,7 +48,7 @@ blob_pieces root area h =
 first_pieces : (props : List (List ℕ × Piece)) (nodes : Forest Piece) (area : List ℕ) →
     pieces_text (pieces_of (root_with_crc props nodes)) area
     ≡ begin_text []
-    ++ (prop_token (template_offset (root_with_crc props nodes)) crc_prop
+    ++ (prop_token_bytes (template_offset (root_with_crc props nodes)) crc_prop
     ++ ((0 ∷ 0 ∷ 0 ∷ 0 ∷ []) ++ pieces_text (pieces_behind_crc (root_with_crc props nodes)) area))
 unfolding pieces_text
 first_pieces props nodes area = refl
@@ -60,14 +60,14 @@ four_parts a b c d rest =
     ∙ ap (λ l. a ++ l) (sym (append_assoc b (c ++ d) rest))
     ∙ sym (append_assoc a (b ++ (c ++ d)) rest)
 
--- what counts as pieces behind the CRC does so before it too
+-- what counts as pieces after the CRC does so before it too
 pub inside_before : (props : List (List ℕ × Piece)) (nodes : Forest Piece) (n : ℕ) →
     are_pieces (pieces_behind_crc (root_with_crc props nodes)) n ≡ true →
     AreInside (pieces_of (root_with_crc props nodes)) n
 unfolding are_pieces
 inside_before props nodes n h = all_inside (pieces_of (root_with_crc props nodes)) n h
 
--- the blob is the front, 4 zero bytes and the text of the pieces behind them
+-- the blob is the front, 4 zero bytes and the text of the pieces after them
 pub blob_at : (props : List (List ℕ × Piece)) (nodes : Forest Piece) (area : List ℕ) →
     are_pieces (pieces_behind_crc (root_with_crc props nodes)) (length area) ≡ true →
     blob_text (devicetree_at area (root_with_crc props nodes))
@@ -78,7 +78,7 @@ blob_at props nodes area h =
     let header : List ℕ =
     header_text (length (reservation_list [])) (pieces_len (structure_pieces root))
     (length (strings_block (template_names root))) in
-    let token : List ℕ = prop_token (template_offset root) crc_prop in
+    let token : List ℕ = prop_token_bytes (template_offset root) crc_prop in
     blob_pieces root area (inside_before props nodes (length area) h)
     ∙ ap (λ l. header ++ (reservation_list [] ++ l)) (first_pieces props nodes area)
     ∙ four_parts header (reservation_list []) (begin_text []) token

@@ -3,7 +3,7 @@ use Rattle.std.proofs.Common.{◌≡◌, ℕ, true, List, [], ◌∷◌, ◌++�
 use Rattle.std.specs.List.{flat_map}
 use Rattle.std.proofs.lemmas.Bool.{and_parts, leb-true}
 use Rattle.bb_tree.specs.Node.{Branch, Forest, empty, grow, node, with_values_of}
-use Rattle.bb_tree.specs.Blob.{begin_text, filling, names_of, nodes_text, offset_of, prop_names, prop_text, strings_block, structure_block, with_name, word}
+use Rattle.bb_tree.specs.Blob.{begin_text, filling, names_used, nodes_text, offset_of, prop_names, prop_text, strings_block, structure_block, with_name, word}
 use Rattle.bb_dtbrec.specs.declared.piece.Piece.{Piece}
 use Rattle.bb_dtbrec.specs.declared.piece.Piece.TheVariants.{Fixed, Value}
 use Rattle.bb_dtbrec.specs.Dtb.{IsInside, are_pieces, field_len, piece_len, piece_text, pieces_len, pieces_text}
@@ -103,7 +103,7 @@ same_names f g (node name props nodes rest) =
 
 -- the names over each area are those of the template
 pub names_at : (area : List ℕ) (root : Branch Piece) →
-    names_of (tree_at area root) ≡ template_names root
+    names_used (tree_at area root) ≡ template_names root
 names_at area root =
     ap (fold with_name [])
     (same_names (λ p. piece_text p area) (λ p. piece_text p []) (grow root empty))
@@ -176,7 +176,7 @@ nodes_pieces_text offset (node name props nodes rest) area h =
 pub structure_pieces_text : (root : Branch Piece) (area : List ℕ) →
     AreInside (structure_pieces root) (length area) →
     pieces_text (structure_pieces root) area
-    ≡ structure_block (offset_of (names_of (tree_at area root))) (tree_at area root)
+    ≡ structure_block (offset_of (names_used (tree_at area root))) (tree_at area root)
 structure_pieces_text root area h =
     let offset : List ℕ → ℕ = template_offset root in
     let nodes : List Piece = nodes_pieces offset (grow root empty) in
@@ -192,13 +192,13 @@ structure_pieces_text root area h =
 pub pieces_of_text : (root : Branch Piece) (area : List ℕ) →
     AreInside (pieces_of root) (length area) →
     pieces_text (pieces_of root) area
-    ≡ structure_block (offset_of (names_of (tree_at area root))) (tree_at area root)
-    ++ strings_block (names_of (tree_at area root))
+    ≡ structure_block (offset_of (names_used (tree_at area root))) (tree_at area root)
+    ++ strings_block (names_used (tree_at area root))
 pieces_of_text root area h =
     let structure : List Piece = structure_pieces root in
     let strings : List Piece = Fixed (strings_block (template_names root)) ∷ [] in
     let before : List ℕ =
-    structure_block (offset_of (names_of (tree_at area root))) (tree_at area root) in
+    structure_block (offset_of (names_used (tree_at area root))) (tree_at area root) in
     pieces_text-append structure strings area
     ∙ ap (λ l. l ++ pieces_text strings area)
     (structure_pieces_text root area (front_inside structure strings (length area) h))

@@ -82,7 +82,7 @@ all_pieces : (props : List (List ℕ × Piece)) (nodes : Forest Piece) (n : ℕ)
 unfolding are_pieces
 all_pieces props nodes n = refl
 
--- with the CRC first, the pieces behind it are pieces if the tree's values are
+-- with the CRC first, the pieces after it are pieces if the tree's values are
 pub tree_decides : (props : List (List ℕ × Piece)) (nodes : Forest Piece) (n : ℕ) →
     are_pieces (pieces_behind_crc (root_with_crc props nodes)) n
     ≡ are_pieces (tree_values (grow (root_with_crc props nodes) empty)) n

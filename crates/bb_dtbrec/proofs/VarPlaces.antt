@@ -12,7 +12,7 @@ use Rattle.bb_layout.specs.Ranges.{end_of}
 use Rattle.bb_layout.specs.Variables.{IsWellFormed}
 use Rattle.bb_layout.specs.declared.var.Var.{Var}
 use Rattle.bb_dtbrec.specs.Dtb.{is_apart, is_size}
-use Rattle.bb_dtbrec.specs.Layouts.{place_of, spelling_of}
+use Rattle.bb_dtbrec.specs.Layouts.{place_in_area, spelling_of}
 use Rattle.bb_dtbrec.proofs.GrownValues.{IsLed}
 use Rattle.bb_dtbrec.proofs.Insertions.{AreApart, IsSized, are_apart}
 
@@ -29,7 +29,7 @@ kind_sized (Chars most) size e = refl
 
 pub vars_sized : (area_len : ℕ) (vars : List Var) → AllByRecursion IsWellFormed vars →
     AllByRecursion (λ v. end_of v ≤ area_len) vars →
-    AllByRecursion (λ v. IsSized area_len (place_of v)) vars
+    AllByRecursion (λ v. IsSized area_len (place_in_area v)) vars
 vars_sized area_len [] formed inside = tt
 vars_sized area_len (v ∷ vs) formed inside = (
   record {
@@ -45,7 +45,7 @@ vars_led (v ∷ vs) formed = (formed.0.led, vars_led vs formed.1)
 
 -- no variable shares a byte with none
 pub apart_from_none : (vars : List Var) →
-    AllByRecursion (λ v. is_apart (place_of v) [] ≡ true) vars
+    AllByRecursion (λ v. is_apart (place_in_area v) [] ≡ true) vars
 unfolding is_apart
 apart_from_none [] = tt
 apart_from_none (v ∷ vs) = (refl, apart_from_none vs)
@@ -61,7 +61,7 @@ or_right true b h = refl
 or_right false b h = h
 
 both_apart : (v w : Var) → 1 ≤ v.size → 1 ≤ w.size → ShareNoByte v w →
-    are_apart (place_of v) (place_of w) ≡ true
+    are_apart (place_in_area v) (place_in_area w) ≡ true
 both_apart v w some other none = elim (cases_lt w.at (end_of v)) [
   | inr before ↦
       or_left (nat_le (end_of v) w.at) (nat_le (end_of w) v.at) (le-leb (end_of v) w.at before)
@@ -80,13 +80,13 @@ both_apart v w some other none = elim (cases_lt w.at (end_of v)) [
 
 one_apart : (v : Var) (vars : List Var) → 1 ≤ v.size → AllByRecursion IsWellFormed vars →
     AllByRecursion (ShareNoByte v) vars →
-    AllByRecursion (λ w. are_apart (place_of v) (place_of w) ≡ true) vars
+    AllByRecursion (λ w. are_apart (place_in_area v) (place_in_area w) ≡ true) vars
 one_apart v [] some formed none = tt
 one_apart v (w ∷ ws) some formed none =
     (both_apart v w some formed.0.some none.0, one_apart v ws some formed.1 none.1)
 
 pub vars_apart : (vars : List Var) → AllByRecursion IsWellFormed vars →
-    AllPairs ShareNoByte vars → AreApart place_of vars
+    AllPairs ShareNoByte vars → AreApart place_in_area vars
 vars_apart [] formed none = tt
 vars_apart (v ∷ vs) formed none = (
   one_apart v vs formed.0.some formed.1

@@ -10,7 +10,7 @@ use Rattle.bb_layout.specs.Record.{Grown, grown_by, with_var}
 use Rattle.bb_layout.specs.declared.var.Var.{Var}
 use Rattle.bb_dtbrec.specs.declared.piece.Piece.{Piece}
 use Rattle.bb_dtbrec.specs.Layouts.{field_for}
-use Rattle.bb_dtbrec.specs.Spine.{IsOpened, Spells, begin_piece, end_piece, field_written, marks, nodes_written, pieces_left}
+use Rattle.bb_dtbrec.specs.Spine.{IsOpened, SpellsNodes, begin_piece, end_piece, field_written, marks, nodes_written, pieces_left}
 use Rattle.bb_dtbrec.proofs.SpineSteps.{all_spelt, none_spelt, opened, var_spelt}
 use Rattle.bb_dtbrec.proofs.Spines.{length_ends}
 
@@ -66,14 +66,14 @@ path_before vars i v h = ap (λ (g : Grown Piece). g.path) (grown_next vars i v 
 
 -- before the first
 pub spelt_first : (vars : List Var) (written : List Piece) (ends : List ℕ) → written ≡ [] →
-    ends ≡ [] → Spells (grown_by field_for (take 0 vars)) written ends
+    ends ≡ [] → SpellsNodes (grown_by field_for (take 0 vars)) written ends
 spelt_first vars written ends e k =
-    subst (λ (l : List Piece). Spells (grown_by field_for (take 0 vars)) l ends) (sym e)
-    (subst (λ (l : List ℕ). Spells (grown_by field_for (take 0 vars)) [] l) (sym k) none_spelt)
+    subst (λ (l : List Piece). SpellsNodes (grown_by field_for (take 0 vars)) l ends) (sym e)
+    (subst (λ (l : List ℕ). SpellsNodes (grown_by field_for (take 0 vars)) [] l) (sym k) none_spelt)
 
--- behind the last
+-- after the last
 pub spelt_last : (vars : List Var) (i : ℕ) (written : List Piece) (ends : List ℕ) →
-    length vars ≤ i → Spells (grown_by field_for (take i vars)) written ends →
+    length vars ≤ i → SpellsNodes (grown_by field_for (take i vars)) written ends →
     written ++ replicate (length ends) end_piece ≡ nodes_written (grown_by field_for vars).nodes
 spelt_last vars i written ends past h =
     all_spelt (grown_by field_for (take i vars)) written ends h
@@ -82,7 +82,7 @@ spelt_last vars i written ends past h =
 -- ---- one variable
 
 pub shared_within : (grown : Grown Piece) (path : List (List ℕ)) (written : List Piece)
-    (ends : List ℕ) (shared : ℕ) → Spells grown written ends →
+    (ends : List ℕ) (shared : ℕ) → SpellsNodes grown written ends →
     shared ≡ common_prefix_len bytes_eq grown.path path → shared ≤ length ends
 shared_within grown path written ends shared h is =
     omega (
@@ -97,7 +97,7 @@ shared_within grown path written ends shared h is =
 -- its path is opened
 pub path_opened : (grown : Grown Piece) (path : List (List ℕ)) (written left begun : List Piece)
     (ends kept marked : List ℕ) (shared count : ℕ) → path ≢ [] →
-    shared ≡ common_prefix_len bytes_eq grown.path path → Spells grown written ends →
+    shared ≡ common_prefix_len bytes_eq grown.path path → SpellsNodes grown written ends →
     count ≡ length ends - shared → left ≡ written ++ replicate count end_piece →
     kept ≡ take shared ends → begun ≡ left ++ map begin_piece (drop shared path) →
     marked ≡ kept ++ marks (length left) (drop shared path) → IsOpened grown path begun marked
@@ -120,14 +120,14 @@ pub property_put : (vars : List Var) (i : ℕ) (v : Var) (written field after : 
     IsOpened (grown_by field_for (take i vars)) v.path written ends →
     ends ≡ firsts ++ at ∷ [] → field ≡ field_written v →
     after ≡ take at written ++ (field ++ drop at written) → marked ≡ firsts ++ (at + 3) ∷ [] →
-    Spells (grown_by field_for (take (i + 1) vars)) after marked
+    SpellsNodes (grown_by field_for (take (i + 1) vars)) after marked
 property_put vars i v written field after ends firsts marked at got led h e1 e2 e3 e4 =
-    subst (λ (g : Grown Piece). Spells g after marked) (sym (grown_next vars i v got))
+    subst (λ (g : Grown Piece). SpellsNodes g after marked) (sym (grown_next vars i v got))
     (subst
-    (λ (l : List Piece). Spells (with_var field_for (grown_by field_for (take i vars)) v) l marked)
+    (λ (l : List Piece). SpellsNodes (with_var field_for (grown_by field_for (take i vars)) v) l marked)
     (sym (e3 ∙ ap (λ l. take at written ++ (l ++ drop at written)) e2))
     (subst
-    (λ (l : List ℕ). Spells (with_var field_for (grown_by field_for (take i vars)) v)
+    (λ (l : List ℕ). SpellsNodes (with_var field_for (grown_by field_for (take i vars)) v)
     (take at written ++ (field_written v ++ drop at written)) l)
     (sym e4)
     (var_spelt (grown_by field_for (take i vars)) v written ends firsts at h led e1)))

@@ -11,7 +11,7 @@ use Rattle.bb_dtbrec.specs.declared.piece.Piece.{Piece}
 use Rattle.bb_dtbrec.specs.declared.piece.Piece.TheVariants.{Fixed, Value}
 use Rattle.bb_dtbrec.specs.declared.piece.Spelling.{Spelling}
 use Rattle.bb_dtbrec.specs.declared.piece.Spelling.TheVariants.{ByteAsCell, NumberAsCell, AsIs}
-use Rattle.bb_dtbrec.specs.Dtb.{Pattern, are_pieces, area_in, dtb_length, dtb_passes, dtb_text, field_len, field_of, is_pattern, piece_len, piece_text, pieces_len, pieces_text, record_crc, value_of, with_fields, with_piece}
+use Rattle.bb_dtbrec.specs.Dtb.{Pattern, are_pieces, area_in, dtb_length, dtb_passes, dtb_text, field_len, field_of, is_pattern, piece_len, piece_text, pieces_len, pieces_text, record_crc, field_value, with_fields, with_piece}
 use Rattle.bb_dtbrec.specs.Pieces.{enough_behind, enough_first, length_piece_text, length_with_fields, pieces_behind, value_read}
 use Rattle.bb_dtbrec.specs.Laws.{enough_fields, fewer_fail, pieces_fit, pieces_whole, read_fits, read_whole, same_bytes, sound}
 
@@ -57,7 +57,7 @@ begins_both (x ∷ a) b (y ∷ text) =
     (starts_with nat_eq (drop (length a) text) b))
 
 spelt_again : (spelling : Spelling) (field : List ℕ) →
-    bytes_eq (field_of spelling (value_of spelling field)) field ≡ field_agrees spelling field
+    bytes_eq (field_of spelling (field_value spelling field)) field ≡ field_agrees spelling field
 spelt_again ByteAsCell [] = refl
 spelt_again ByteAsCell (a ∷ []) = refl
 spelt_again ByteAsCell (a ∷ b ∷ []) = refl

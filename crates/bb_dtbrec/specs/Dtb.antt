@@ -5,7 +5,7 @@
 --   bytes     field
 --   0 to 75   the front: header, reservations, and the tokens up to the value of `bb,crc32`
 --   76 to 79  CRC-32 of the whole record in which these 4 bytes are zero, big endian
---   80 on     the pieces, one behind another: bytes that are always the same, and values
+--   80 on     the pieces, one after another: bytes that are always the same, and values
 use Rattle.std.specs.Prelude.{ℕ, ◌+◌, ◌≤◌, ◌==◌, Bool, true, ◌&&◌, ◌||◌, List, [], ◌∷◌, ◌++◌, length, take, drop, reverse, replicate, nat_le, nat_eq, Option, Some, None, IsTrue, if◌then◌else◌}
 use Rattle.std.specs.Int.{w32, to_be_bytes}
 use Rattle.std.specs.List.{starts_with}
@@ -40,10 +40,10 @@ field_of NumberAsCell value = reverse value
 field_of AsIs value = value
 
 -- the value that a field spells
-abbrev pub value_of : Spelling → List ℕ → List ℕ
-value_of ByteAsCell field = drop 3 field
-value_of NumberAsCell field = reverse field
-value_of AsIs field = field
+abbrev pub field_value : Spelling → List ℕ → List ℕ
+field_value ByteAsCell field = drop 3 field
+field_value NumberAsCell field = reverse field
+field_value AsIs field = field
 
 -- how many bytes the field of a value has that has so many
 abbrev pub field_len : Spelling → ℕ → ℕ
@@ -61,8 +61,8 @@ is_size AsIs size = true
 abbrev pub value_at : Place → List ℕ → List ℕ
 value_at place area = take place.size (drop place.at area)
 
-abbrev pub with_value : Place → List ℕ → List ℕ → List ℕ
-with_value place value area = take place.at area ++ (value ++ drop (place.at + place.size) area)
+abbrev pub with_field : Place → List ℕ → List ℕ → List ℕ
+with_field place value area = take place.at area ++ (value ++ drop (place.at + place.size) area)
 
 -- ---- what is written
 
@@ -74,7 +74,7 @@ abbrev pub piece_len : Piece → ℕ
 piece_len (Fixed bytes) = length bytes
 piece_len (Value place) = field_len place.spelling place.size
 
--- the pieces, one behind another
+-- the pieces, one after another
 unfoldable pub pieces_text : List Piece → List ℕ → List ℕ
 pieces_text [] area = []
 pieces_text (piece ∷ pieces) area = piece_text piece area ++ pieces_text pieces area
@@ -136,7 +136,7 @@ IsPattern pattern = IsTrue (is_pattern pattern)
 -- an area with the value that this piece of a record has, if it is a field
 abbrev pub with_piece : Piece → List ℕ → List ℕ → List ℕ
 with_piece (Fixed bytes) text area = area
-with_piece (Value place) text area = with_value place (value_of place.spelling text) area
+with_piece (Value place) text area = with_field place (field_value place.spelling text) area
 
 -- an area with the values of the pieces that a text begins with
 unfoldable pub with_fields : List Piece → List ℕ → List ℕ → List ℕ

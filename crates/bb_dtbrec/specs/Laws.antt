@@ -13,12 +13,12 @@ use Rattle.bb_dtbrec.specs.Pieces.{fields_again, fields_first, length_pieces_tex
 
 -- ---- patterns
 
-pub record IsSound (pattern : Pattern) : Type 0 where
+pub record IsSoundPattern (pattern : Pattern) : Type 0 where
   pub front : length pattern.front ≡ 76
   pub small : dtb_length pattern ≤ 0xffffffff
   pub pieces : are_pieces pattern.pieces pattern.area_len ≡ true
 
-pub sound : (pattern : Pattern) → is_pattern pattern ≡ true → IsSound pattern
+pub sound : (pattern : Pattern) → is_pattern pattern ≡ true → IsSoundPattern pattern
 sound pattern h =
     let parts = and_parts _ _ h in
     record {

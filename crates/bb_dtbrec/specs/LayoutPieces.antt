@@ -14,14 +14,14 @@ fixed_prop offset value =
     Fixed (word 3 ++ (word (length value) ++ word offset)) ∷ Fixed value
     ∷ Fixed (filling (length value)) ∷ []
 
--- behind the CRC, of the state node what stands before the nodes in it, by the places of two names
+-- after the CRC, of the state node what stands before the nodes in it, by the places of two names
 abbrev pub begun_at : ℕ → ℕ → Recorded → List Piece
 begun_at compatible magic recorded =
     Fixed (filling 4) ∷ begin_piece recorded.node
     ∷ (fixed_prop compatible (codes "barebox,state" ++ 0 ∷ [])
     ++ fixed_prop magic (cell recorded.magic))
 
--- and the structure block behind these, with nodes in the state node
+-- and the structure block after these, with nodes in the state node
 abbrev pub structure_at : ℕ → ℕ → Recorded → List Piece → List Piece
 structure_at compatible magic recorded nodes =
     (((begun_at compatible magic recorded ++ nodes) ++ end_piece ∷ []) ++ end_piece ∷ [])

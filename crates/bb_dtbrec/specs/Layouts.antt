@@ -26,12 +26,12 @@ spelling_of Mac = AsIs
 spelling_of (Chars size) = AsIs
 
 -- where a variable stands in the area, and how its value is spelt
-abbrev pub place_of : Var → Place
-place_of v = record { at = v.at; size = v.size; spelling = spelling_of v.kind }
+abbrev pub place_in_area : Var → Place
+place_in_area v = record { at = v.at; size = v.size; spelling = spelling_of v.kind }
 
 -- the field of a variable
 abbrev pub field_for : Var → Piece
-field_for v = Value (place_of v)
+field_for v = Value (place_in_area v)
 
 -- the tree of a record, with the fields of variables for their values
 abbrev pub template_of : Recorded → Branch Piece

@@ -8,18 +8,18 @@ use Rattle.bb_dtbrec.specs.declared.piece.Piece.TheVariants.{Fixed, Value}
 use Rattle.bb_dtbrec.specs.declared.piece.Place.{Place}
 use Rattle.bb_dtbrec.specs.declared.piece.Spelling.{Spelling}
 use Rattle.bb_dtbrec.specs.declared.piece.Spelling.TheVariants.{ByteAsCell, NumberAsCell, AsIs}
-use Rattle.bb_dtbrec.specs.Dtb.{are_pieces, field_len, field_of, is_apart, piece_len, piece_text, pieces_len, pieces_text, value_at, value_of, with_fields, with_piece, with_value}
+use Rattle.bb_dtbrec.specs.Dtb.{are_pieces, field_len, field_of, is_apart, piece_len, piece_text, pieces_len, pieces_text, value_at, field_value, with_fields, with_piece, with_field}
 
 -- ---- what is known of pieces
 
 -- a value among pieces
-pub record IsPlaced (place : Place) (pieces : List Piece) (n : ℕ) : Type 0 where
+pub record StandsAmong (place : Place) (pieces : List Piece) (n : ℕ) : Type 0 where
   pub inside : place.at + place.size ≤ n
   pub apart : is_apart place pieces ≡ true
   pub others : are_pieces pieces n ≡ true
 
 pub placed : (place : Place) (pieces : List Piece) (n : ℕ) →
-    are_pieces (Value place ∷ pieces) n ≡ true → IsPlaced place pieces n
+    are_pieces (Value place ∷ pieces) n ≡ true → StandsAmong place pieces n
 unfolding are_pieces
 placed place pieces n h =
     let parts = and_parts _ _ h in
@@ -62,7 +62,7 @@ length_field_of NumberAsCell value = length-reverse value
 length_field_of AsIs value = refl
 
 pub length_value_of : (spelling : Spelling) (size : ℕ) (field : List ℕ) →
-    length field ≡ field_len spelling size → length (value_of spelling field) ≡ size
+    length field ≡ field_len spelling size → length (field_value spelling field) ≡ size
 length_value_of ByteAsCell size field e = omega (arith, length-drop 3 field)
 length_value_of NumberAsCell size field e = length-reverse field ∙ e
 length_value_of AsIs size field e = e
@@ -87,7 +87,7 @@ length_pieces_text (piece ∷ pieces) area h =
     (length_pieces_text pieces area (others_too piece pieces (length area) h))
 
 pub length_with_value : (place : Place) (value area : List ℕ) → place.at + place.size ≤ length area →
-    length value ≡ place.size → length (with_value place value area) ≡ length area
+    length value ≡ place.size → length (with_field place value area) ≡ length area
 length_with_value place value area inside e =
     let behind : List ℕ = drop (place.at + place.size) area in
     let front : length (take place.at area) ≡ place.at =
@@ -105,11 +105,11 @@ length_with_piece : (piece : Piece) (pieces : List Piece) (text area : List ℕ)
 length_with_piece (Fixed bytes) pieces text area h enough = refl
 length_with_piece (Value place) pieces text area h enough =
     let len : ℕ = field_len place.spelling place.size in
-    length_with_value place (value_of place.spelling (take len text)) area
+    length_with_value place (field_value place.spelling (take len text)) area
     (placed place pieces (length area) h).inside
     (length_value_of place.spelling place.size (take len text) (length-take-le len text enough))
 
--- the pieces behind one, over the text behind it, and the area with it
+-- the pieces after one, over the text after it, and the area with it
 pub pieces_behind : (piece : Piece) (pieces : List Piece) (text area : List ℕ) →
     are_pieces (piece ∷ pieces) (length area) ≡ true → piece_len piece ≤ length text →
     are_pieces pieces (length (with_piece piece (take (piece_len piece) text) area)) ≡ true
@@ -144,7 +144,7 @@ length_with_fields (piece ∷ pieces) text area h enough =
 
 -- a value is found again
 value_put : (place : Place) (value area : List ℕ) → place.at + place.size ≤ length area →
-    length value ≡ place.size → value_at place (with_value place value area) ≡ value
+    length value ≡ place.size → value_at place (with_field place value area) ≡ value
 value_put place value area inside e =
     let behind : List ℕ = drop (place.at + place.size) area in
     ap (take place.size)
@@ -168,7 +168,7 @@ part_behind xs ys n m e = ap (λ k. drop k (xs ++ ys)) (sym e) ∙ drop-append-a
 value_kept : (place other : Place) (value area : List ℕ) →
     (place.at + place.size ≤ other.at) ⊎ (other.at + other.size ≤ place.at) →
     other.at + other.size ≤ length area → length value ≡ other.size →
-    value_at place (with_value other value area) ≡ value_at place area
+    value_at place (with_field other value area) ≡ value_at place area
 value_kept place other value area (inl before) inside e =
     let front : List ℕ = take other.at area in
     let rest : List ℕ = value ++ drop (other.at + other.size) area in
@@ -201,9 +201,9 @@ value_stays place (Fixed bytes ∷ pieces) text area apart h enough =
     (enough_behind (Fixed bytes) pieces text enough)
 value_stays place (Value other ∷ pieces) text area apart h enough =
     let len : ℕ = field_len other.spelling other.size in
-    let value : List ℕ = value_of other.spelling (take len text) in
+    let value : List ℕ = field_value other.spelling (take len text) in
     let first : len ≤ length text = enough_first (Value other) pieces text enough in
-    value_stays place pieces (drop len text) (with_value other value area)
+    value_stays place pieces (drop len text) (with_field other value area)
     (apart_too place (Value other) pieces apart)
     (pieces_behind (Value other) pieces text area h first)
     (enough_behind (Value other) pieces text enough)
@@ -216,14 +216,14 @@ pub value_read : (place : Place) (pieces : List Piece) (text area : List ℕ) �
     are_pieces (Value place ∷ pieces) (length area) ≡ true →
     pieces_len (Value place ∷ pieces) ≤ length text →
     value_at place (with_fields (Value place ∷ pieces) text area)
-    ≡ value_of place.spelling (take (field_len place.spelling place.size) text)
+    ≡ field_value place.spelling (take (field_len place.spelling place.size) text)
 unfolding with_fields
 value_read place pieces text area h enough =
     let len : ℕ = field_len place.spelling place.size in
-    let value : List ℕ = value_of place.spelling (take len text) in
+    let value : List ℕ = field_value place.spelling (take len text) in
     let first : len ≤ length text = enough_first (Value place) pieces text enough in
     let known = placed place pieces (length area) h in
-    value_stays place pieces (drop len text) (with_value place value area) known.apart
+    value_stays place pieces (drop len text) (with_field place value area) known.apart
     (pieces_behind (Value place) pieces text area h first)
     (enough_behind (Value place) pieces text enough)
     ∙ value_put place value area known.inside
@@ -232,7 +232,7 @@ value_read place pieces text area h enough =
 -- ---- fields are read back
 
 pub read_back : (spelling : Spelling) (value : List ℕ) →
-    value_of spelling (field_of spelling value) ≡ value
+    field_value spelling (field_of spelling value) ≡ value
 read_back ByteAsCell value = refl
 read_back NumberAsCell value = reverse-reverse value
 read_back AsIs value = refl
@@ -244,7 +244,7 @@ piece_again : (piece : Piece) (pieces : List Piece) (text area : List ℕ) →
     ≡ with_piece piece (take (piece_len piece) text) area
 piece_again (Fixed bytes) pieces text area h enough = refl
 piece_again (Value place) pieces text area h enough =
-    ap (λ value. with_value place value area)
+    ap (λ value. with_field place value area)
     (read_back place.spelling (value_at place (with_fields (Value place ∷ pieces) text area))
     ∙ value_read place pieces text area h enough)
 

@@ -35,7 +35,7 @@ nodes_written nodes = nodes_pieces (λ name. value_offset) (forest nodes)
 
 -- ---- open nodes
 
--- an open node, behind the nodes before it
+-- an open node, after the nodes before it
 pub record Open : Type 0 where
   pub front : List (Branch Piece)
   pub name : List ℕ
@@ -70,7 +70,7 @@ put_in_last prop (o ∷ []) =
 put_in_last prop (o ∷ p ∷ os) = o ∷ put_in_last prop (p ∷ os)
 
 -- these pieces and ends are those of the nodes of variables, where the last path is open
-pub record Spells (grown : Grown Piece) (written : List Piece) (ends : List ℕ) : Type 0 where
+pub record SpellsNodes (grown : Grown Piece) (written : List Piece) (ends : List ℕ) : Type 0 where
   pub opens : List Open
   pub inner : List (Branch Piece)
   pub depth : length opens ≡ length grown.path
@@ -92,7 +92,7 @@ pub record IsOpened (grown : Grown Piece) (path : List (List ℕ)) (written : Li
 
 -- ---- nodes that are opened
 
--- after how many pieces each of these nodes is begun, behind so many
+-- after how many pieces each of these nodes is begun, after so many
 abbrev pub marks : ℕ → List (List ℕ) → List ℕ
 marks before [] = []
 marks before (name ∷ names) = (before + 1) ∷ marks (before + 1) names

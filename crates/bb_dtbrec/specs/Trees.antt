@@ -6,7 +6,7 @@ use Rattle.std.specs.Int.{w32, to_be_bytes}
 use Rattle.std.specs.List.{flat_map}
 use Rattle.bb_base.specs.Crc.{crc_of}
 use Rattle.bb_tree.specs.Node.{Branch, Forest, empty, grow, node, with_values}
-use Rattle.bb_tree.specs.Blob.{Devicetree, begin_text, filling, header_text, names_of, offset_of, reservation_list, strings_block, word}
+use Rattle.bb_tree.specs.Blob.{Devicetree, begin_text, filling, header_text, names_used, offset_of, reservation_list, strings_block, word}
 use Rattle.bb_dtbrec.specs.declared.piece.Piece.{Piece}
 use Rattle.bb_dtbrec.specs.declared.piece.Piece.TheVariants.{Fixed, Value}
 use Rattle.bb_dtbrec.specs.Dtb.{IsInside, Pattern, front_len, head_len, piece_len, piece_text, pieces_len}
@@ -23,7 +23,7 @@ devicetree_at area root = record { root = tree_at area root; reserved = [] }
 
 -- the names of its properties, which are the same over all areas
 abbrev pub template_names : Branch Piece → List (List ℕ)
-template_names root = names_of (tree_at [] root)
+template_names root = names_used (tree_at [] root)
 
 -- where they begin in the strings block
 abbrev pub template_offset : Branch Piece → List ℕ → ℕ
@@ -32,13 +32,13 @@ template_offset root = offset_of (template_names root)
 -- ---- their pieces
 
 -- the token FDT_PROP before a value: its length, and where its name begins
-abbrev pub prop_token : (List ℕ → ℕ) → List ℕ × Piece → List ℕ
-prop_token offset p = word 3 ++ (word (piece_len p.1) ++ word (offset p.0))
+abbrev pub prop_token_bytes : (List ℕ → ℕ) → List ℕ × Piece → List ℕ
+prop_token_bytes offset p = word 3 ++ (word (piece_len p.1) ++ word (offset p.0))
 
--- a property: its token, its value, and the zero bytes behind it
+-- a property: its token, its value, and the zero bytes after it
 abbrev pub prop_pieces : (List ℕ → ℕ) → List ℕ × Piece → List Piece
 prop_pieces offset p =
-    Fixed (prop_token offset p) ∷ p.1 ∷ Fixed (filling (piece_len p.1)) ∷ []
+    Fixed (prop_token_bytes offset p) ∷ p.1 ∷ Fixed (filling (piece_len p.1)) ∷ []
 
 -- each node from FDT_BEGIN_NODE to FDT_END_NODE: its properties, then its nodes
 abbrev pub nodes_pieces : (List ℕ → ℕ) → Forest Piece → List Piece
@@ -78,9 +78,9 @@ front_of root =
     header_text (length (reservation_list [])) (pieces_len (structure_pieces root))
     (length (strings_block (template_names root)))
     ++ (reservation_list []
-    ++ (begin_text [] ++ prop_token (template_offset root) crc_prop))
+    ++ (begin_text [] ++ prop_token_bytes (template_offset root) crc_prop))
 
--- the pieces behind the CRC
+-- the pieces after the CRC
 abbrev pub pieces_behind_crc : Branch Piece → List Piece
 pieces_behind_crc root = drop 3 (pieces_of root)
 
@@ -92,7 +92,7 @@ pattern_of root area_len = record {
   area_len = area_len;
 }
 
--- a blob with its CRC in the place of the 4 bytes behind the front
+-- a blob with its CRC in the place of the 4 bytes after the front
 abbrev pub blob_with_crc : List ℕ → List ℕ
 blob_with_crc blob =
     take front_len blob ++ (to_be_bytes w32 (crc_of blob) ++ drop head_len blob)

@@ -1,6 +1,6 @@
 ghost use Rattle.std.specs.Prelude.{◌≡◌, ◌+◌, ◌≤◌, IsTrue, drop, length, replicate};
 ghost use Rattle.std.specs.Bool.{OnTrue};
-ghost use Rattle.bb_dtbrec.specs.Dtb.{IsInside, are_pieces, field_len, head_len, value_of};
+ghost use Rattle.bb_dtbrec.specs.Dtb.{IsInside, are_pieces, field_len, head_len, field_value};
 ghost use Rattle.bb_dtbrec.specs.Dtb.{with_fields};
 ghost use Rattle.bb_dtbrec.specs.Dtb.{piece_len, pieces_len, with_piece};
 ghost use Rattle.bb_dtbrec.specs.Checking.{field_agrees, fields_agree, head_agrees, piece_agrees};
@@ -80,7 +80,7 @@ fn read_piece(piece: &Piece, field: &[u8], area: &mut [u8]) -> bool
 fn read_value(spelling: Spelling, field: &[u8], value: &mut [u8]) -> bool
     requires { length field.now ≡ field_len spelling (length value.old) }
     ensures agree { result ≡ field_agrees spelling field.now }
-    ensures value { value.new ≡ value_of spelling field.now }
+    ensures value { value.new ≡ field_value spelling field.now }
 {
     match spelling {
         Spelling::ByteAsCell => {

@@ -1,6 +1,7 @@
-//! The record that is a blob of its own: a small devicetree with the values of the variables, and a CRC of the whole.
-//! It is kept as a pattern, which is the same for all areas of one layout, so that records are written and checked
-//! field by field. Only the crates that choose a record's format may know it; what keeps records knows `Format` alone.
+//! The record that is a blob of its own: a small devicetree with the values of the variables, and a
+//! CRC of the whole. It is kept as a pattern, which is the same for all areas of one layout, so
+//! that records are written and checked field by field. Only the crates that choose a record's
+//! format may know it; what keeps records knows `Format` alone.
 #![tactic(auto)]
 
 mod check;

@@ -12,7 +12,7 @@ use bb_base::{Bytes, NoMemory};
 use bb_layout::{Layout, VarList};
 use std::alloc::Global;
 
-/// The pieces of a layout's records behind their CRC, up to the strings block.
+/// The pieces of a layout's records after their CRC, up to the strings block.
 pub(crate) fn structure(alloc: Global, layout: &Layout) -> Result<Vec<Piece>, NoMemory>
     ensures { IfOk result (λ pieces. pieces.items
         ≡ structure_behind (recorded_of (fields_of layout.now))) }

@@ -21,7 +21,7 @@ pub(crate) fn write_record(front: &[u8], pieces: &[Piece], area: &[u8], out: &mu
 }
 
 #[tactic(auto, using(crate::proofs::Steps::len_more))]
-// Writes the pieces of an area's record, one behind another.
+// Writes the pieces of an area's record, one after another.
 fn write_pieces(pieces: &[Piece], area: &[u8], out: &mut [u8])
     requires pieces { IsTrue (are_pieces pieces.now (length area.now)) }
     requires small { pieces_len pieces.now ≤ 0xffffffff }

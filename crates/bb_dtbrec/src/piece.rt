@@ -25,7 +25,7 @@ pub struct Place {
     pub spelling: Spelling,
 }
 
-/// A piece of a record behind its CRC.
+/// A piece of a record after its CRC.
 #[derive(Drop)]
 pub enum Piece {
     /// These bytes in every record.
@@ -62,7 +62,7 @@ impl Piece {
 
 /// Where a variable stands in the area, and how its value is spelt.
 pub(crate) fn place_of(var: &Var) -> Place
-    ensures { result ≡ layouts.place_of var.now }
+    ensures { result ≡ layouts.place_in_area var.now }
 {
     let spelling = match var.kind {
         Kind::Uint8 => Spelling::ByteAsCell,

@@ -77,7 +77,7 @@ pub(crate) fn one_word(alloc: Global, n: usize) -> Result<Piece, NoMemory>
     Ok(Piece::Fixed(bytes))
 }
 
-/// The zero bytes behind a value of that length.
+/// The zero bytes after a value of that length.
 pub(crate) fn filling(alloc: Global, len: usize) -> Result<Piece, NoMemory>
     requires { len ≤ 9223372036854775808 }
     ensures { IfOk result (λ piece. piece ≡ Fixed (blob.filling len)) }

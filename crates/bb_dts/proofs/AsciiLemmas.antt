@@ -6,7 +6,7 @@ use Rattle.std.proofs.lemmas.Bool.Decides.{nat_tests}
 use Rattle.std.proofs.lemmas.Grind.{common_steps}
 use Rattle.std.proofs.lemmas.Str.Ascii.{IsAscii-nil, IsAscii-cons}
 use Rattle.bb_dts.specs.declared.token_kind.TokenKind.TheVariants.{Reference, Label, Name}
-use Rattle.bb_dts.specs.Characters.{is_word, is_name, begins_label}
+use Rattle.bb_dts.specs.Characters.{is_word, is_name_character, begins_label}
 use Rattle.bb_dts.specs.Tokens.{word_of, label_len}
 
 prefix-step : (p : ℕ → Bool) → ((c : ℕ) → p c ≡ true → c < 128) → (c : ℕ) (cs : List ℕ)
@@ -26,10 +26,10 @@ IsAscii-prefix p small (c ∷ cs) = prefix-step p small c cs (IsAscii-prefix p s
 pub small_word : (c : ℕ) → is_word c ≡ true → c < 128
 small_word c is = grind (arith, nat_tests)
 
-pub small_name : (c : ℕ) → is_name c ≡ true → c < 128
+pub small_name : (c : ℕ) → is_name_character c ≡ true → c < 128
 small_name c is = grind (arith, nat_tests)
 
-pub small_name_in_value : (c : ℕ) → (is_name c && not (c == 44)) ≡ true → c < 128
+pub small_name_in_value : (c : ℕ) → (is_name_character c && not (c == 44)) ≡ true → c < 128
 small_name_in_value c is = grind (arith, nat_tests)
 
 pub word_of-name : (bytes : List ℕ) → word_of Name bytes ≡ bytes

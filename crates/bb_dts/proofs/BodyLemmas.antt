@@ -19,9 +19,9 @@ use Rattle.bb_dts.specs.declared.token_kind.Mode.TheVariants.{Names}
 use Rattle.bb_dts.specs.declared.label.Level.{Level}
 use Rattle.bb_dts.specs.declared.label.Level.TheVariants.{AtHead, AtTop, AtProps, AtNodes}
 use Rattle.bb_dts.specs.declared.label.Waiting.{Waiting}
-use Rattle.bb_dts.specs.Tokens.{Found, first_token}
+use Rattle.bb_dts.specs.Tokens.{FoundToken, first_token}
 use Rattle.bb_dts.specs.Places.{Props, PropName, Close, NodeName, mode_of}
-use Rattle.bb_dts.specs.Walk.{State, Refuses, Around, Body, behind, state_at, node_of, open_body, Enters, body_at, label_all}
+use Rattle.bb_dts.specs.Walk.{WalkState, Refuses, Around, Body, walk_after, state_at, node_of, open_body, Enters, body_at, label_all}
 use Rattle.bb_dts.specs.Descent.{Onward, walk_from, refusal_walk, walk_at_token, walk_by_token, walk_inside, walk_after_body, walk_into_body, OnwardLabels, labels_walk_from, labels_walk_at, labels_refusal_walk, labels_walk_behind, labels_walk_by_token, waiting_at, place_at, items_at, item_walk_at_token, name_walk_from, name_walk_at_token, name_walk_by_token, value_walk_from, close_walk_at_token, close_walk_by_token, walk_after_prop, unless_memory, OnwardValue, value_refusal_walk, body_of}
 use Rattle.bb_dts.proofs.WalkLemmas.{walk_from_step}
 
@@ -51,7 +51,7 @@ label_found total level waiting Label word at rest labels body =
     label_follows total level waiting word at rest labels body
 label_found total level waiting _ word at rest labels body = refl
 
-label_token : (total : ℕ) (level : Level) (waiting : List Waiting) (found : Result Found DtsError)
+label_token : (total : ℕ) (level : Level) (waiting : List Waiting) (found : Result FoundToken DtsError)
     (labels : Labels) (body : Body)
     → walk_by_token total (waiting_at level waiting labels body) found
     ≡ labels_walk_by_token total level waiting found labels body
@@ -93,8 +93,8 @@ item_found total true (w ∷ ws) Name word at rest labels body = refl
 item_found total true (w ∷ ws) Label word at rest labels body = refl
 item_found total true (w ∷ ws) _ word at rest labels body = refl
 
--- the walk in a body behind labels goes on by the token that is found
-pub item_step : (total : ℕ) (has_nodes : Bool) (waiting : List Waiting) (found : Found)
+-- the walk in a body after labels goes on by the token that is found
+pub item_step : (total : ℕ) (has_nodes : Bool) (waiting : List Waiting) (found : FoundToken)
     (labels : Labels) (body : Body)
     → labels_walk_at total (items_at has_nodes) waiting found labels body
     ≡ item_walk_at_token total has_nodes waiting labels body found found.kind
@@ -103,14 +103,14 @@ item_step total has_nodes waiting found labels body =
 
 enters : (total : ℕ) (a : Around) (child : Body) (at : ℕ) (rest : List ℕ)
     (labels : Result Labels DtsError)
-    → behind (open_body child at (Enters a) labels) (λ s'. walk_from total s' rest)
+    → walk_after (open_body child at (Enters a) labels) (λ s'. walk_from total s' rest)
     ≡ walk_into_body total a child at rest labels
 unfolding refusal_walk walk_inside
 enters total a child at rest (Err e) = refl
 enters total a child at rest (Ok labels) = by_level (nat_lt depth_limit child.level)
   where
     by_level : (b : Bool)
-        → behind (cond b (Refuses (refusal.TooDeep at)) (Enters a (state_at Props labels child)))
+        → walk_after (cond b (Refuses (refusal.TooDeep at)) (Enters a (state_at Props labels child)))
         (λ s'. walk_from total s' rest)
         ≡ cond b (refusal_walk (refusal.TooDeep at))
         (walk_inside a (walk_from total (state_at Props labels child) rest))
@@ -141,7 +141,7 @@ named_found total true waiting name OpenBrace word at rest labels body = let chi
 named_found total true waiting name _ word at rest labels body = refl
 
 named_on_found : (total : ℕ) (has_nodes : Bool) (waiting : List Waiting) (name : List ℕ)
-    (found : Result Found DtsError) (labels : Labels) (body : Body)
+    (found : Result FoundToken DtsError) (labels : Labels) (body : Body)
     → walk_by_token total (record (state_at (cond has_nodes NodeName PropName) labels body) {
       waiting = waiting;
       named = record { name = name; parts = []; bytes = [] };
@@ -155,7 +155,7 @@ names_named : (has_nodes : Bool) → mode_of (cond has_nodes NodeName PropName) 
 names_named true = refl
 names_named false = refl
 
--- the walk behind the name of an item goes on by its first token
+-- the walk after the name of an item goes on by its first token
 pub named_step : (total : ℕ) (has_nodes : Bool) (waiting : List Waiting) (name text : List ℕ)
     (labels : Labels) (body : Body)
     → name_walk_from total has_nodes waiting name text labels body
@@ -181,13 +181,13 @@ unfolding walk_at_token labels_walk_from refusal_walk
 close_found total Semicolon word at rest labels body = refl
 close_found total _ word at rest labels body = refl
 
-close_on_found : (total : ℕ) (found : Result Found DtsError) (labels : Labels) (body : Body)
+close_on_found : (total : ℕ) (found : Result FoundToken DtsError) (labels : Labels) (body : Body)
     → walk_by_token total (state_at Close labels body) found
     ≡ close_walk_by_token total labels body found
 close_on_found total (Ok f) labels body = close_found total f.kind f.word f.at f.rest labels body
 close_on_found total (Err e) labels body = refl
 
--- the walk behind a `}` goes on by its first token
+-- the walk after a `}` goes on by its first token
 pub close_step : (total : ℕ) (text : List ℕ) (labels : Labels) (body : Body)
     → walk_from total (state_at Close labels body) text
     ≡ close_walk_by_token total labels body (first_token Names total 0 text)
@@ -236,7 +236,7 @@ unfolding labels_refusal_walk
 labels_refusal e walk labels body same =
     unless_memory_of (λ (w : OnwardLabels). w labels body) e walk (labels_refusal_walk e) same
 
-pub value_refusal : (e : DtsError) (walk : OnwardValue) (s : State)
+pub value_refusal : (e : DtsError) (walk : OnwardValue) (s : WalkState)
     → unless_memory e walk ≡ unless_memory e (value_refusal_walk e)
     → unless_memory e (walk s) ≡ unless_memory e (refusal_walk e)
 unfolding value_refusal_walk
@@ -282,7 +282,7 @@ labels_walk_from_props total text labels body = refl
 
 -- what may not come where an item may begin
 pub item_unexpected : (total : ℕ) (has_nodes : Bool) (waiting : List Waiting) (labels : Labels)
-    (body : Body) (found : Found) (kind : TokenKind) → (kind ≡ Name → ⊥) → (kind ≡ Label → ⊥)
+    (body : Body) (found : FoundToken) (kind : TokenKind) → (kind ≡ Name → ⊥) → (kind ≡ Label → ⊥)
     → (kind ≡ CloseBrace → 0 < length waiting)
     → item_walk_at_token total has_nodes waiting labels body found kind
     ≡ refusal_walk (refusal.Unexpected found.at)
@@ -316,7 +316,7 @@ pub slash_at_seam : (path name : List ℕ) → slice_get (path ++ 47 ∷ name) (
 slash_at_seam [] name = refl
 slash_at_seam (c ∷ path) name = slash_at_seam path name
 
--- a node that was read: from its `{` to behind its `}`
+-- a node that was read: from its `{` to after its `}`
 pub node_read : (total : ℕ) (a : Around) (child : Body) (at : ℕ) (text : List ℕ)
     (known : Result Labels DtsError) (labels labels' : Labels) (body : Body) (rest : List ℕ)
     → known ≡ Ok labels → child.level ≤ depth_limit
@@ -359,7 +359,7 @@ pub body_with_node : (path : List ℕ) (level : ℕ) (content content' : Content
     }
 body_with_node path level content content' node nodes props = rw (nodes, props) refl
 
-pub close_unexpected : (total : ℕ) (labels : Labels) (body : Body) (found : Found)
+pub close_unexpected : (total : ℕ) (labels : Labels) (body : Body) (found : FoundToken)
     (kind : TokenKind) → (kind ≡ Semicolon → ⊥)
     → close_walk_at_token total labels body found kind ≡ refusal_walk (refusal.Unexpected found.at)
 close_unexpected total labels body found Semicolon other = absurd (other refl)

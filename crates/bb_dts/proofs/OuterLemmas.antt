@@ -8,7 +8,7 @@ use Rattle.std.specs.Option.{option_map_or}
 use Rattle.std.specs.Str.{bytes_eq}
 use Rattle.bb_tree.specs.Merge.{merged, merging, reached, in_child}
 use Rattle.bb_tree.specs.Node.{Branch, Forest, empty, node, grow}
-use Rattle.bb_tree.specs.Paths.{names_of, node_at, child_of, found}
+use Rattle.bb_tree.specs.Paths.{path_names, node_at, child_of, found}
 use Rattle.bb_dts.specs.declared.error.DtsError.{DtsError}
 use Rattle.bb_dts.specs.declared.error.DtsError.TheVariants as refusal
 use Rattle.bb_dts.specs.declared.token_kind.TokenKind.{TokenKind}
@@ -19,31 +19,31 @@ use Rattle.bb_dts.specs.declared.label.Level.TheVariants.{AtHead, AtTop, AtProps
 use Rattle.bb_dts.specs.declared.label.Waiting.{Waiting}
 use Rattle.bb_dts.specs.declared.outermost.Next.{Next}
 use Rattle.bb_dts.specs.declared.outermost.Next.TheVariants.{IsHead, IsTop, IsDone}
-use Rattle.bb_dts.specs.Tokens.{Found, first_token}
+use Rattle.bb_dts.specs.Tokens.{FoundToken, first_token}
 use Rattle.bb_dts.specs.Places.{Version, Address, ReserveEnd, Open, Props, TopClose, mode_of}
 use Rattle.bb_tree.specs.Blob.{Devicetree}
-use Rattle.bb_dts.specs.Walk.{State, Refuses, Goes, Reserves, WalkResult, Around, Body, behind, state_at, node_of, open_body, path_text, label_all, number_below, reserve_step, reference_step, root, start, with_body, with_pair}
+use Rattle.bb_dts.specs.Walk.{WalkState, Refuses, Goes, Reserves, WalkResult, Around, Body, walk_after, state_at, node_of, open_body, path_text, label_all, number_below, reserve_step, reference_step, root, start, with_body, with_pair}
 use Rattle.bb_dts.specs.Descent.{walk_from, refusal_walk, walk_at_token, walk_by_token, walk_after_body, labels_walk_from, labels_walk_at, waiting_at, Onward, unless_memory}
 use Rattle.bb_dts.specs.Outermost.{outcome_of, outcome_from, outcome_at_token, outcome_at_body, open_state, length_state, number_and, reserved_token, reserved_of, outcome_after_address, outcome_after_length, semicolon_token, semicolon_of, outcome_after_semicolon, outer_level, outcome_at_label, outcome_by_token, outcome_by_labels, outcome_at_open, outcome_by_open, version_walk_at_token, version_walk_by_token, start_walk_at_token, start_walk_by_token, tree_of_draft, IsShorter}
 use Rattle.bb_dts.proofs.BodyLemmas.{unless_memory_of}
 use Rattle.bb_dts.proofs.WalkLemmas.{walk_from_step}
 
 -- a token at the outermost level, or a refusal
-abbrev pub outer_token : ℕ → Branch (List Part) → List (ℕ × ℕ) → State → Result Found DtsError
+abbrev pub outer_token : ℕ → Branch (List Part) → List (ℕ × ℕ) → WalkState → Result FoundToken DtsError
     → Result Devicetree DtsError
 outer_token total tree reserved s (Ok found) =
     outcome_of total tree reserved (walk_at_token total s found [])
 outer_token total tree reserved s (Err e) = Err e
 
-outcome_found : (total : ℕ) (tree : Branch (List Part)) (reserved : List (ℕ × ℕ)) (s : State)
-    (found : Result Found DtsError)
+outcome_found : (total : ℕ) (tree : Branch (List Part)) (reserved : List (ℕ × ℕ)) (s : WalkState)
+    (found : Result FoundToken DtsError)
     → outcome_of total tree reserved (walk_by_token total s found [])
     ≡ outer_token total tree reserved s found
 unfolding refusal_walk
 outcome_found total tree reserved s (Ok f) = refl
 outcome_found total tree reserved s (Err e) = refl
 
-outcome_step : (total : ℕ) (tree : Branch (List Part)) (reserved : List (ℕ × ℕ)) (s : State)
+outcome_step : (total : ℕ) (tree : Branch (List Part)) (reserved : List (ℕ × ℕ)) (s : WalkState)
     (text : List ℕ)
     → outcome_from total tree reserved s text
     ≡ outer_token total tree reserved s (first_token (mode_of s.place) total 0 text)
@@ -57,7 +57,7 @@ outcome_step total tree reserved s text =
 
 reads_address : (total : ℕ) (draft : DraftValue) (rest : List ℕ) (number : Result ℕ DtsError)
     → outcome_of total draft.tree draft.reserved
-    (behind (reserve_step number (λ n. Goes (length_state n draft.labels)))
+    (walk_after (reserve_step number (λ n. Goes (length_state n draft.labels)))
     (λ s'. walk_from total s' rest) []) ≡ outcome_after_address total draft (number_and rest number)
 unfolding outcome_from
 reads_address total draft rest (Ok n) = refl
@@ -79,7 +79,7 @@ address_found total draft Number word at rest =
     reads_address total draft rest (number_below (2 ^ 64) word at)
 address_found total draft _ word at rest = refl
 
-address_of : (total : ℕ) (draft : DraftValue) (found : Result Found DtsError)
+address_of : (total : ℕ) (draft : DraftValue) (found : Result FoundToken DtsError)
     → outer_token total draft.tree draft.reserved (state_at Address draft.labels root) found
     ≡ outcome_after_address total draft (reserved_of found)
 address_of total draft (Ok f) = address_found total draft f.kind f.word f.at f.rest
@@ -101,7 +101,7 @@ outcome_of_pair total tree reserved address length (Err e) = refl
 
 reads_length : (total address : ℕ) (draft : DraftValue) (rest : List ℕ) (number : Result ℕ DtsError)
     → outcome_of total draft.tree draft.reserved
-    (behind (reserve_step number (λ n. Reserves address n (state_at ReserveEnd draft.labels root)))
+    (walk_after (reserve_step number (λ n. Reserves address n (state_at ReserveEnd draft.labels root)))
     (λ s'. walk_from total s' rest) [])
     ≡ outcome_after_length total address draft (number_and rest number)
 unfolding outcome_from
@@ -122,7 +122,7 @@ length_found total address draft Number word at rest =
     reads_length total address draft rest (number_below (2 ^ 64) word at)
 length_found total address draft _ word at rest = refl
 
-length_of : (total address : ℕ) (draft : DraftValue) (found : Result Found DtsError)
+length_of : (total address : ℕ) (draft : DraftValue) (found : Result FoundToken DtsError)
     → outer_token total draft.tree draft.reserved (length_state address draft.labels) found
     ≡ outcome_after_length total address draft (reserved_of found)
 length_of total address draft (Ok f) = length_found total address draft f.kind f.word f.at f.rest
@@ -146,7 +146,7 @@ unfolding walk_at_token labels_walk_from
 reserve_end_found total draft Semicolon word at rest = refl
 reserve_end_found total draft _ word at rest = refl
 
-reserve_end_of : (total : ℕ) (draft : DraftValue) (found : Result Found DtsError)
+reserve_end_of : (total : ℕ) (draft : DraftValue) (found : Result FoundToken DtsError)
     → outer_token total draft.tree draft.reserved (state_at ReserveEnd draft.labels root) found
     ≡ outcome_after_semicolon total AtHead draft (semicolon_of found)
 reserve_end_of total draft (Ok f) = reserve_end_found total draft f.kind f.word f.at f.rest
@@ -172,7 +172,7 @@ unfolding walk_at_token labels_walk_from
 top_close_found total draft Semicolon word at rest = refl
 top_close_found total draft _ word at rest = refl
 
-top_close_of : (total : ℕ) (draft : DraftValue) (found : Result Found DtsError)
+top_close_of : (total : ℕ) (draft : DraftValue) (found : Result FoundToken DtsError)
     → outer_token total draft.tree draft.reserved (state_at TopClose draft.labels root) found
     ≡ outcome_after_semicolon total AtTop draft (semicolon_of found)
 top_close_of total draft (Ok f) = top_close_found total draft f.kind f.word f.at f.rest
@@ -206,7 +206,7 @@ outcome_after_body total tree reserved labels body rest =
 opens : (total : ℕ) (body : Body) (draft : DraftValue) (at : ℕ) (rest : List ℕ)
     (labels : Result Labels DtsError)
     → outcome_of total draft.tree draft.reserved
-    (behind (open_body body at Goes labels) (λ s'. walk_from total s' rest) [])
+    (walk_after (open_body body at Goes labels) (λ s'. walk_from total s' rest) [])
     ≡ outcome_by_labels total body draft at rest labels
 unfolding labels_walk_from
 opens total body draft at rest (Err e) = refl
@@ -214,7 +214,7 @@ opens total body draft at rest (Ok labels) = by_level (nat_lt depth_limit body.l
   where
     by_level : (b : Bool)
         → outcome_of total draft.tree draft.reserved
-        (behind (cond b (Refuses (refusal.TooDeep at)) (Goes (state_at Props labels body)))
+        (walk_after (cond b (Refuses (refusal.TooDeep at)) (Goes (state_at Props labels body)))
         (λ s'. walk_from total s' rest) [])
         ≡ cond b (Err (refusal.TooDeep at))
         (outcome_of total draft.tree draft.reserved
@@ -235,7 +235,7 @@ open_found total waiting body draft OpenBrace word at rest =
 open_found total waiting body draft _ word at rest = refl
 
 open_of : (total : ℕ) (waiting : List Waiting) (body : Body) (draft : DraftValue)
-    (found : Result Found DtsError)
+    (found : Result FoundToken DtsError)
     → outer_token total draft.tree draft.reserved (open_state waiting draft.labels body) found
     ≡ outcome_by_open total waiting body draft found
 open_of total waiting body draft (Ok f) =
@@ -250,12 +250,12 @@ open_step total waiting body draft text =
     outcome_step total draft.tree draft.reserved (open_state waiting draft.labels body) text
     ∙ open_of total waiting body draft (first_token Directives total 0 text)
 
--- behind labels
+-- after labels
 
 reopens : (total : ℕ) (level : Level) (waiting : List Waiting) (draft : DraftValue) (word : List ℕ)
     (at : ℕ) (rest : List ℕ) (path : Option (List ℕ))
     → outcome_of total draft.tree draft.reserved
-    (behind (reference_step (record (waiting_at level waiting draft.labels root) { place = Open })
+    (walk_after (reference_step (record (waiting_at level waiting draft.labels root) { place = Open })
     at path) (λ s'. walk_from total s' rest) [])
     ≡ outcome_at_label total waiting draft
     (record { kind = Reference; word = word; at = at; rest = rest }) path
@@ -293,7 +293,7 @@ top_found total true (w ∷ ws) draft Reference word at rest =
     reopens total AtTop (w ∷ ws) draft word at rest (path_labelled draft.labels word)
 top_found total true (w ∷ ws) draft _ word at rest = refl
 
-pub top_step : (total : ℕ) (at_top : Bool) (waiting : List Waiting) (found : Found)
+pub top_step : (total : ℕ) (at_top : Bool) (waiting : List Waiting) (found : FoundToken)
     (draft : DraftValue)
     → outcome_at_token total (outer_level at_top) waiting found draft
     ≡ outcome_by_token total at_top waiting draft found found.kind
@@ -310,7 +310,7 @@ unfolding walk_at_token labels_walk_from refusal_walk
 version_found total Semicolon word at rest = refl
 version_found total _ word at rest = refl
 
-version_of : (total : ℕ) (found : Result Found DtsError)
+version_of : (total : ℕ) (found : Result FoundToken DtsError)
     → walk_by_token total (state_at Version [] root) found ≡ version_walk_by_token total found
 version_of total (Ok f) = version_found total f.kind f.word f.at f.rest
 version_of total (Err e) = refl
@@ -328,7 +328,7 @@ unfolding walk_at_token refusal_walk
 start_found total DtsV1 word at rest = refl
 start_found total _ word at rest = refl
 
-start_of : (total : ℕ) (found : Result Found DtsError)
+start_of : (total : ℕ) (found : Result FoundToken DtsError)
     → walk_by_token total start found ≡ start_walk_by_token total found
 start_of total (Ok f) = start_found total f.kind f.word f.at f.rest
 start_of total (Err e) = refl
@@ -362,7 +362,7 @@ outcome_refusal total tree reserved e walk same =
     unless_memory_of (λ (w : Onward). outcome_of total tree reserved (w [])) e walk (refusal_walk e)
     same
 
-pub outcome_at_token_is : (total : ℕ) (level : Level) (waiting : List Waiting) (found : Found)
+pub outcome_at_token_is : (total : ℕ) (level : Level) (waiting : List Waiting) (found : FoundToken)
     (draft : DraftValue)
     → outcome_of total draft.tree draft.reserved
     (labels_walk_at total level waiting found draft.labels root [])
@@ -384,10 +384,10 @@ at_name : (name n : List ℕ) (find : Branch (List Part) → Option (Branch (Lis
     })) (child_of name rest)) ≡ None
     → cond b (grow (change (record { name = n; props = ps; nodes = ks })) rest)
     (node n ps ks (in_child name change rest)) ≡ node n ps ks rest
-at_name name n find change stays ps ks rest behind true gone =
+at_name name n find change stays ps ks rest walk_after true gone =
     ap (λ (b : Branch (List Part)). grow b rest)
     (stays (record { name = n; props = ps; nodes = ks }) gone)
-at_name name n find change stays ps ks rest behind false gone = ap (node n ps ks) (behind gone)
+at_name name n find change stays ps ks rest walk_after false gone = ap (node n ps ks) (walk_after gone)
 
 in_child_missing : (name : List ℕ) (find : Branch (List Part) → Option (Branch (List Part)))
     (change : Branch (List Part) → Branch (List Part))
@@ -414,7 +414,7 @@ names_missing (Some ns) body tree missing = reached_missing ns (merging body) tr
 
 pub merged_missing : (tree : Branch (List Part)) (path : List ℕ) (body : Branch (List Part))
     → found path tree ≡ None → merged tree path body ≡ tree
-merged_missing tree path body missing = names_missing (names_of path) body tree missing
+merged_missing tree path body missing = names_missing (path_names path) body tree missing
 
 pub none_found : {A : Type 0} (o : Option A) → is_some o ≡ false → o ≡ None
 none_found None is = refl

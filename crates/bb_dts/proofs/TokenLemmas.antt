@@ -9,7 +9,7 @@ use Rattle.bb_dts.specs.declared.token_kind.TokenKind.TheVariants.{End}
 use Rattle.bb_dts.specs.declared.token_kind.Mode.{Mode}
 use Rattle.bb_dts.specs.declared.token_kind.Lexed.{Lexed}
 use Rattle.bb_dts.specs.declared.token_kind.Lexed.TheVariants.{Blank, Token, BadToken, LeftOut}
-use Rattle.bb_dts.specs.Tokens.{comment_len, first_token, token_at, word_of, found_at, Found}
+use Rattle.bb_dts.specs.Tokens.{comment_len, first_token, token_at, word_of, found_at, FoundToken}
 
 comment_len-cons : (c : ℕ) (cs : List ℕ)
     → comment_len (c ∷ cs) ≡ cond (starts_with nat_eq (c
@@ -42,8 +42,8 @@ first_token-skip mode total zero (c ∷ tail) = refl
 first_token-skip mode total (suc skip) [] = refl
 first_token-skip mode total (suc skip) (c ∷ tail) = first_token-skip mode total skip tail
 
--- what a text begins with, or what comes behind the blanks that it begins with
-abbrev pub first_here : Mode → ℕ → List ℕ → Lexed → Result Found DtsError
+-- what a text begins with, or what comes after the blanks that it begins with
+abbrev pub first_here : Mode → ℕ → List ℕ → Lexed → Result FoundToken DtsError
 first_here mode total text (Blank n) = first_token mode total 0 (drop (n + 1) text)
 first_here mode total text (Token kind n) =
     Ok (record {

@@ -22,8 +22,8 @@ abbrev pub begins_label : ℕ → Bool
 begins_label c = is_ascii_alphabetic c || c == 95
 
 -- of these are the names of nodes and properties
-abbrev pub is_name : ℕ → Bool
-is_name c = is_word c || has_character (codes ",.+*#?@-") c
+abbrev pub is_name_character : ℕ → Bool
+is_name_character c = is_word c || has_character (codes ",.+*#?@-") c
 
 -- of these are the digits of an octal and of a hexadecimal number
 abbrev pub is_octal : ℕ → Bool

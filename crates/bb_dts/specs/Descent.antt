@@ -10,7 +10,7 @@ use Rattle.bb_dts.specs.declared.error.DtsError.{DtsError}
 use Rattle.bb_dts.specs.declared.error.DtsError.TheVariants as refusal
 use Rattle.bb_dts.specs.declared.token_kind.TokenKind.{TokenKind}
 use Rattle.bb_dts.specs.declared.property.Property.{Property}
-use Rattle.bb_dts.specs.Tokens.{Found}
+use Rattle.bb_dts.specs.Tokens.{FoundToken}
 use Rattle.bb_dts.specs.declared.content.Content.{Content}
 use Rattle.bb_dts.specs.declared.content.Item.{Item}
 use Rattle.bb_dts.specs.declared.content.Item.TheVariants.{IsProp, IsNode, IsEnd}
@@ -19,14 +19,14 @@ use Rattle.bb_dts.specs.declared.label.Level.TheVariants.{AtHead, AtTop, AtProps
 use Rattle.bb_dts.specs.declared.label.Waiting.{Waiting}
 use Rattle.bb_dts.specs.declared.token_kind.TokenKind.TheVariants.{Comma, Semicolon, Label, Name, CloseBrace, OpenBrace, Equals}
 use Rattle.bb_dts.specs.Places.{Place, Head, Top, TopLabel, Props, PropsLabel, PropName, Nodes, NodesLabel, NodeName, Value, follows}
-use Rattle.bb_dts.specs.Walk.{Around, Body, State, WalkResult, walk, step, behind, close_body, value_step, value_of, with_prop, property_of_name, no_name, state_at, label_all, body_at}
+use Rattle.bb_dts.specs.Walk.{Around, Body, WalkState, WalkResult, walk, step, walk_after, close_body, value_step, joined_parts, with_prop, property_of_name, no_name, state_at, label_all, body_at}
 
 -- a walk that is left open to the bodies around
 abbrev pub Onward : Type 0
 Onward = List Around → WalkResult
 
 -- the walk over a text from a state on
-unfoldable pub walk_from : ℕ → State → List ℕ → Onward
+unfoldable pub walk_from : ℕ → WalkState → List ℕ → Onward
 walk_from total s text = walk total 0 text s
 
 -- the walk that gives this refusal
@@ -34,12 +34,12 @@ unfoldable pub refusal_walk : DtsError → Onward
 refusal_walk e around = Err e
 
 -- the walk where a token was found
-unfoldable pub walk_at_token : ℕ → State → Found → Onward
+unfoldable pub walk_at_token : ℕ → WalkState → FoundToken → Onward
 walk_at_token total s found =
-    behind (step s found.kind found.word found.at) (λ s'. walk_from total s' found.rest)
+    walk_after (step s found.kind found.word found.at) (λ s'. walk_from total s' found.rest)
 
 -- the walk where this is the first token, or the refusal in its place
-abbrev pub walk_by_token : ℕ → State → Result Found DtsError → Onward
+abbrev pub walk_by_token : ℕ → WalkState → Result FoundToken DtsError → Onward
 walk_by_token total s (Ok found) = walk_at_token total s found
 walk_by_token total s (Err e) = refusal_walk e
 
@@ -62,7 +62,7 @@ walk_into_body total a body at rest (Ok labels) =
 
 -- a walk in a value is left open to the rest of the state too
 abbrev pub OnwardValue : Type 0
-OnwardValue = State → Onward
+OnwardValue = WalkState → Onward
 
 -- the walk over a text from a place in a value on
 unfoldable pub value_walk_from : ℕ → Place → Property → List ℕ → OnwardValue
@@ -76,7 +76,7 @@ value_refusal_walk e s = refusal_walk e
 -- the walk where a value has ended
 unfoldable pub walk_after_value : ℕ → Property → List ℕ → OnwardValue
 walk_after_value total named rest s =
-    walk_from total (with_prop (record s { place = Props; named = named }) (value_of named)) rest
+    walk_from total (with_prop (record s { place = Props; named = named }) (joined_parts named)) rest
 
 -- the walk where a property was read
 unfoldable pub walk_after_prop : ℕ → List ℕ → List Part → List ℕ → OnwardValue
@@ -90,25 +90,25 @@ value_walk_after_step total place rest (Ok named) = value_walk_from total place 
 value_walk_after_step total place rest (Err e) = value_refusal_walk e
 
 -- the walk in a value by a token that leads to a place, or may not come
-abbrev pub value_walk_to : ℕ → Place → Property → Found → Option Place → OnwardValue
+abbrev pub value_walk_to : ℕ → Place → Property → FoundToken → Option Place → OnwardValue
 value_walk_to total place named found None = value_refusal_walk (refusal.Unexpected found.at)
 value_walk_to total place named found (Some next) =
     value_walk_after_step total next found.rest
     (value_step place found.kind found.word found.at named)
 
 -- the walk in a value where a token was found, at a place before the value's end
-abbrev pub value_walk_by_token : ℕ → Place → Property → Result Found DtsError → OnwardValue
+abbrev pub value_walk_by_token : ℕ → Place → Property → Result FoundToken DtsError → OnwardValue
 value_walk_by_token total place named (Ok found) =
     value_walk_to total place named found (follows place found.kind)
 value_walk_by_token total place named (Err e) = value_refusal_walk e
 
--- the same behind a value
-abbrev pub value_walk_behind : ℕ → Property → Found → TokenKind → OnwardValue
+-- the same after a value
+abbrev pub value_walk_behind : ℕ → Property → FoundToken → TokenKind → OnwardValue
 value_walk_behind total named found Comma = value_walk_from total Value named found.rest
 value_walk_behind total named found Semicolon = walk_after_value total named found.rest
 value_walk_behind total named found _ = value_refusal_walk (refusal.Unexpected found.at)
 
-abbrev pub value_walk_at_end : ℕ → Property → Result Found DtsError → OnwardValue
+abbrev pub value_walk_at_end : ℕ → Property → Result FoundToken DtsError → OnwardValue
 value_walk_at_end total named (Ok found) = value_walk_behind total named found found.kind
 value_walk_at_end total named (Err e) = value_refusal_walk e
 
@@ -117,8 +117,8 @@ abbrev pub node_count : Forest (List Part) → ℕ
 node_count nodes = length (preorder_of nodes)
 
 -- how many nodes were read of a body
-abbrev pub count_of : Content → ℕ
-count_of content = node_count (forest (drafts_of content.nodes))
+abbrev pub nodes_read : Content → ℕ
+nodes_read content = node_count (forest (drafts_of content.nodes))
 
 -- a body from what was read of it
 abbrev pub body_of : List ℕ → ℕ → Content → Body
@@ -147,8 +147,8 @@ place_at AtProps (w ∷ ws) = PropsLabel
 place_at AtNodes [] = Nodes
 place_at AtNodes (w ∷ ws) = NodesLabel
 
--- where labels may begin, behind those that wait already
-abbrev pub waiting_at : Level → List Waiting → Labels → Body → State
+-- where labels may begin, after those that wait already
+abbrev pub waiting_at : Level → List Waiting → Labels → Body → WalkState
 waiting_at level waiting labels body =
     record (state_at (place_at level waiting) labels body) { waiting = waiting }
 
@@ -161,8 +161,8 @@ unfoldable pub labels_walk_from : ℕ → Level → List Waiting → List ℕ �
 labels_walk_from total level waiting text labels body =
     walk_from total (waiting_at level waiting labels body) text
 
--- the walk behind labels, where a token was found
-unfoldable pub labels_walk_at : ℕ → Level → List Waiting → Found → OnwardLabels
+-- the walk after labels, where a token was found
+unfoldable pub labels_walk_at : ℕ → Level → List Waiting → FoundToken → OnwardLabels
 labels_walk_at total level waiting found labels body =
     walk_at_token total (waiting_at level waiting labels body) found
 
@@ -171,38 +171,38 @@ unfoldable pub labels_refusal_walk : DtsError → OnwardLabels
 labels_refusal_walk e labels body = refusal_walk e
 
 -- the walk where a label was found or another token
-abbrev pub labels_walk_behind : ℕ → Level → List Waiting → Found → TokenKind → OnwardLabels
+abbrev pub labels_walk_behind : ℕ → Level → List Waiting → FoundToken → TokenKind → OnwardLabels
 labels_walk_behind total level waiting found Label =
     labels_walk_from total level
     (waiting ++ record { name = found.word; at = found.at } ∷ []) found.rest
 labels_walk_behind total level waiting found _ = labels_walk_at total level waiting found
 
 -- the walk where this is the first token, or the refusal in its place
-abbrev pub labels_walk_by_token : ℕ → Level → List Waiting → Result Found DtsError → OnwardLabels
+abbrev pub labels_walk_by_token : ℕ → Level → List Waiting → Result FoundToken DtsError → OnwardLabels
 labels_walk_by_token total level waiting (Ok found) =
     labels_walk_behind total level waiting found found.kind
 labels_walk_by_token total level waiting (Err e) = labels_refusal_walk e
 
--- the places of a body's items: its properties, and behind the first node its nodes
+-- the places of a body's items: its properties, and after the first node its nodes
 abbrev pub items_at : Bool → Level
 items_at has_nodes = if has_nodes then AtNodes else AtProps
 
--- the walk behind an item of a body
+-- the walk after an item of a body
 abbrev pub walk_after_item : ℕ → Item → Labels → Body → List ℕ → Onward
 walk_after_item total IsProp labels body rest = labels_walk_from total AtProps [] rest labels body
 walk_after_item total IsNode labels body rest = labels_walk_from total AtNodes [] rest labels body
 walk_after_item total IsEnd labels body rest = walk_after_body total labels body rest
 
--- the walk behind the name of an item
+-- the walk after the name of an item
 unfoldable pub name_walk_from : ℕ → Bool → List Waiting → List ℕ → List ℕ → OnwardLabels
 name_walk_from total has_nodes waiting name text labels body =
     let place = if has_nodes then NodeName else PropName in
     walk_from total
     (record (state_at place labels body) { waiting = waiting; named = property_of_name name }) text
 
--- the walk where an item begins with this token, behind labels
+-- the walk where an item begins with this token, after labels
 abbrev pub item_walk_at_token :
-    ℕ → Bool → List Waiting → Labels → Body → Found → TokenKind → Onward
+    ℕ → Bool → List Waiting → Labels → Body → FoundToken → TokenKind → Onward
 item_walk_at_token total has_nodes waiting labels body found Name =
     name_walk_from total has_nodes waiting found.word found.rest labels body
 item_walk_at_token total has_nodes [] labels body found CloseBrace =
@@ -220,9 +220,9 @@ walk_into_node total waiting name labels body at rest =
     walk_into_body total (record { body = body; name = name }) child at rest
     (label_all child.path waiting labels)
 
--- the walk behind what follows the name of an item
+-- the walk after what follows the name of an item
 abbrev pub name_walk_at_token :
-    ℕ → Bool → List Waiting → List ℕ → Labels → Body → Found → TokenKind → Onward
+    ℕ → Bool → List Waiting → List ℕ → Labels → Body → FoundToken → TokenKind → Onward
 name_walk_at_token total has_nodes waiting name labels body found OpenBrace =
     walk_into_node total waiting name labels body found.at found.rest
 name_walk_at_token total false waiting name labels body found Equals =
@@ -234,7 +234,7 @@ name_walk_at_token total has_nodes waiting name labels body found _ =
     refusal_walk (refusal.Unexpected found.at)
 
 abbrev pub name_walk_by_token :
-    ℕ → Bool → List Waiting → List ℕ → Labels → Body → Result Found DtsError → Onward
+    ℕ → Bool → List Waiting → List ℕ → Labels → Body → Result FoundToken DtsError → Onward
 name_walk_by_token total has_nodes waiting name labels body (Ok found) =
     name_walk_at_token total has_nodes waiting name labels body found found.kind
 name_walk_by_token total has_nodes waiting name labels body (Err e) = refusal_walk e
@@ -258,14 +258,14 @@ RefusesLabels walk e = unless_memory e walk ≡ unless_memory e (labels_refusal_
 abbrev pub RefusesResult : {A : Type 0} → Result A DtsError → DtsError → Type 0
 RefusesResult result e = unless_memory e result ≡ unless_memory e (Err e)
 
--- the walk where this token was found behind the `}` of a body inside another one
-abbrev pub close_walk_at_token : ℕ → Labels → Body → Found → TokenKind → Onward
+-- the walk where this token was found after the `}` of a body inside another one
+abbrev pub close_walk_at_token : ℕ → Labels → Body → FoundToken → TokenKind → Onward
 close_walk_at_token total labels body found Semicolon =
     labels_walk_from total AtNodes [] found.rest labels body
 close_walk_at_token total labels body found _ = refusal_walk (refusal.Unexpected found.at)
 
--- the walk behind the `}` of a body inside another one
-abbrev pub close_walk_by_token : ℕ → Labels → Body → Result Found DtsError → Onward
+-- the walk after the `}` of a body inside another one
+abbrev pub close_walk_by_token : ℕ → Labels → Body → Result FoundToken DtsError → Onward
 close_walk_by_token total labels body (Ok found) =
     close_walk_at_token total labels body found found.kind
 close_walk_by_token total labels body (Err e) = refusal_walk e

@@ -1,5 +1,5 @@
 -- How a source spells a number: in decimal, in octal with a leading 0 or in hexadecimal with `0x`,
--- and behind the digits one of C's endings for the type, which changes nothing.
+-- and after the digits one of C's endings for the type, which changes nothing.
 use Rattle.std.specs.Prelude.{ℕ, ◌^◌, ◌∷◌, [], Bool, not, ◌==◌, ◌&&◌, ◌||◌, List, length, drop, codes, nat_eq, nat_lt, ok_or, Option, Some, None, Result, Err, if◌then◌else◌}
 use Rattle.std.specs.Char.{is_digit}
 use Rattle.std.specs.List.{list_all, list_any, prefix_len, starts_with, take_while}
@@ -9,8 +9,8 @@ use Rattle.bb_dts.specs.declared.number.NumberFault.{NumberFault}
 use Rattle.bb_dts.specs.declared.number.NumberFault.TheVariants.{Malformed, TooLarge}
 
 -- there is a digit, and each character is one in this radix
-abbrev pub numeral_value : ℕ → List ℕ → Option ℕ
-numeral_value radix digits =
+abbrev pub value_in_radix : ℕ → List ℕ → Option ℕ
+value_in_radix radix digits =
     if nat_lt 0 (length digits) && list_all (λ c. is_digit c radix) digits
     then Some (digits_value radix digits)
     else None
@@ -19,11 +19,11 @@ numeral_value radix digits =
 abbrev pub radix_value : List ℕ → Option ℕ
 radix_value digits =
     if starts_with nat_eq digits (codes "0x")
-    then numeral_value 16 (drop 2 digits)
+    then value_in_radix 16 (drop 2 digits)
     else (
     if starts_with nat_eq digits (codes "0")
-    then numeral_value 8 digits
-    else numeral_value 10 digits)
+    then value_in_radix 8 digits
+    else value_in_radix 10 digits)
 
 -- no digit is one of these
 abbrev pub is_ending_letter : ℕ → Bool
@@ -37,7 +37,7 @@ endings = [] ∷ codes "U" ∷ codes "L" ∷ codes "UL" ∷ codes "LL" ∷ codes
 abbrev pub digits_of : List ℕ → List ℕ
 digits_of word = take_while (λ c. not (is_ending_letter c)) word
 
--- what stands behind them
+-- what stands after them
 abbrev pub ending_of : List ℕ → List ℕ
 ending_of word = drop (prefix_len (λ c. not (is_ending_letter c)) word) word
 

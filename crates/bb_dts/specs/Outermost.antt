@@ -16,9 +16,9 @@ use Rattle.bb_dts.specs.declared.label.Level.TheVariants.{AtHead, AtTop, AtProps
 use Rattle.bb_dts.specs.declared.label.Waiting.{Waiting}
 use Rattle.bb_dts.specs.declared.outermost.Next.{Next}
 use Rattle.bb_dts.specs.declared.outermost.Next.TheVariants.{IsHead, IsTop, IsDone}
-use Rattle.bb_dts.specs.Tokens.{Found}
+use Rattle.bb_dts.specs.Tokens.{FoundToken}
 use Rattle.bb_dts.specs.Places.{Version, Address, Length, ReserveEnd, Open}
-use Rattle.bb_dts.specs.Walk.{Around, Body, State, Source, WalkResult, number_below, state_at, root, body_at, stem_of, level_of, label_all}
+use Rattle.bb_dts.specs.Walk.{Around, Body, WalkState, Source, WalkResult, number_below, state_at, root, body_at, stem_of, level_of, label_all}
 use Rattle.bb_dts.specs.Source.{tree_or_refusal}
 use Rattle.bb_dts.specs.Descent.{walk_from, labels_walk_from, labels_walk_at, refusal_walk}
 
@@ -42,7 +42,7 @@ outcome_of total tree reserved (Err e) = Err e
 
 -- the end that the walk leads to, from a state at the outermost level on
 unfoldable pub outcome_from :
-    ℕ → Branch (List Part) → List (ℕ × ℕ) → State → List ℕ → Result Devicetree DtsError
+    ℕ → Branch (List Part) → List (ℕ × ℕ) → WalkState → List ℕ → Result Devicetree DtsError
 outcome_from total tree reserved s text = outcome_of total tree reserved (walk_from total s text [])
 
 -- the end from where labels may begin
@@ -51,19 +51,19 @@ outcome_from_labels total level draft text =
     outcome_of total draft.tree draft.reserved
     (labels_walk_from total level [] text draft.labels root [])
 
--- the end behind labels, where a token was found
+-- the end after labels, where a token was found
 unfoldable pub outcome_at_token :
-    ℕ → Level → List Waiting → Found → DraftValue → Result Devicetree DtsError
+    ℕ → Level → List Waiting → FoundToken → DraftValue → Result Devicetree DtsError
 outcome_at_token total level waiting found draft =
     outcome_of total draft.tree draft.reserved
     (labels_walk_at total level waiting found draft.labels root [])
 
 -- before the `{` of a body
-abbrev pub open_state : List Waiting → Labels → Body → State
+abbrev pub open_state : List Waiting → Labels → Body → WalkState
 open_state waiting labels body = record (state_at Open labels body) { waiting = waiting }
 
 -- in a reserve whose address was read
-abbrev pub length_state : ℕ → Labels → State
+abbrev pub length_state : ℕ → Labels → WalkState
 length_state address labels = record (state_at Length labels root) { address = address }
 
 -- the end from the `{` of a body on
@@ -72,39 +72,39 @@ abbrev pub outcome_at_body :
 outcome_at_body total waiting body draft text =
     outcome_from total draft.tree draft.reserved (open_state waiting draft.labels body) text
 
--- a number with the text behind it
+-- a number with the text after it
 abbrev pub number_and : List ℕ → Result ℕ DtsError → Result (ℕ × List ℕ) DtsError
 number_and rest (Ok n) = Ok (n, rest)
 number_and rest (Err e) = Err e
 
 -- a token as a number of a reserve
-abbrev pub reserved_token : Found → TokenKind → Result (ℕ × List ℕ) DtsError
+abbrev pub reserved_token : FoundToken → TokenKind → Result (ℕ × List ℕ) DtsError
 reserved_token found Number = number_and found.rest (number_below (2 ^ 64) found.word found.at)
 reserved_token found _ = Err (refusal.Unexpected found.at)
 
--- a number of a reserve, and the text behind it
-abbrev pub reserved_of : Result Found DtsError → Result (ℕ × List ℕ) DtsError
+-- a number of a reserve, and the text after it
+abbrev pub reserved_of : Result FoundToken DtsError → Result (ℕ × List ℕ) DtsError
 reserved_of (Ok found) = reserved_token found found.kind
 reserved_of (Err e) = Err e
 
--- the text behind a token that is a `;`
-abbrev pub semicolon_token : Found → TokenKind → Result (List ℕ) DtsError
+-- the text after a token that is a `;`
+abbrev pub semicolon_token : FoundToken → TokenKind → Result (List ℕ) DtsError
 semicolon_token found Semicolon = Ok found.rest
 semicolon_token found _ = Err (refusal.Unexpected found.at)
 
--- the text behind a `;`
-abbrev pub semicolon_of : Result Found DtsError → Result (List ℕ) DtsError
+-- the text after a `;`
+abbrev pub semicolon_of : Result FoundToken DtsError → Result (List ℕ) DtsError
 semicolon_of (Ok found) = semicolon_token found found.kind
 semicolon_of (Err e) = Err e
 
--- the end behind a reserve's address
+-- the end after a reserve's address
 abbrev pub outcome_after_address :
     ℕ → DraftValue → Result (ℕ × List ℕ) DtsError → Result Devicetree DtsError
 outcome_after_address total draft (Ok p) =
     outcome_from total draft.tree draft.reserved (length_state p.0 draft.labels) p.1
 outcome_after_address total draft (Err e) = Err e
 
--- the end behind a reserve's length
+-- the end after a reserve's length
 abbrev pub outcome_after_length :
     ℕ → ℕ → DraftValue → Result (ℕ × List ℕ) DtsError → Result Devicetree DtsError
 outcome_after_length total address draft (Ok p) =
@@ -112,7 +112,7 @@ outcome_after_length total address draft (Ok p) =
     (state_at ReserveEnd draft.labels root) p.1
 outcome_after_length total address draft (Err e) = Err e
 
--- the end behind the `;` of a reserve or a body
+-- the end after the `;` of a reserve or a body
 abbrev pub outcome_after_semicolon :
     ℕ → Level → DraftValue → Result (List ℕ) DtsError → Result Devicetree DtsError
 outcome_after_semicolon total level draft (Ok rest) = outcome_from_labels total level draft rest
@@ -151,17 +151,17 @@ IsShorter IsDone len = Unit {0}
 abbrev pub outer_level : Bool → Level
 outer_level at_top = if at_top then AtTop else AtHead
 
--- the end behind a reference whose label stands for a path, or for none
+-- the end after a reference whose label stands for a path, or for none
 abbrev pub outcome_at_label :
-    ℕ → List Waiting → DraftValue → Found → Option (List ℕ) → Result Devicetree DtsError
+    ℕ → List Waiting → DraftValue → FoundToken → Option (List ℕ) → Result Devicetree DtsError
 outcome_at_label total waiting draft found (Some path) =
     let body = body_at (stem_of path) (level_of (stem_of path)) in
     outcome_at_body total waiting body draft found.rest
 outcome_at_label total waiting draft found None = Err (refusal.NoSuchLabel found.at)
 
--- the end behind labels, by the token that follows them
+-- the end after labels, by the token that follows them
 abbrev pub outcome_by_token :
-    ℕ → Bool → List Waiting → DraftValue → Found → TokenKind → Result Devicetree DtsError
+    ℕ → Bool → List Waiting → DraftValue → FoundToken → TokenKind → Result Devicetree DtsError
 outcome_by_token total at_top waiting draft found Slash =
     outcome_at_body total waiting root draft found.rest
 outcome_by_token total at_top waiting draft found Reference =
@@ -173,7 +173,7 @@ outcome_by_token total false waiting draft found Memreserve =
 outcome_by_token total true [] draft found End = tree_of_draft total draft
 outcome_by_token total at_top waiting draft found _ = Err (refusal.Unexpected found.at)
 
--- the end behind the `{` of a body whose labels are given
+-- the end after the `{` of a body whose labels are given
 abbrev pub outcome_in_body : ℕ → Body → DraftValue → ℕ → List ℕ → Result Devicetree DtsError
 outcome_in_body total body draft at rest =
     if nat_lt depth_limit body.level
@@ -191,32 +191,32 @@ outcome_by_labels total body draft at rest (Ok labels) =
 
 -- the end where a token was found in the place of the `{` of a body
 abbrev pub outcome_at_open :
-    ℕ → List Waiting → Body → DraftValue → Found → TokenKind → Result Devicetree DtsError
+    ℕ → List Waiting → Body → DraftValue → FoundToken → TokenKind → Result Devicetree DtsError
 outcome_at_open total waiting body draft found OpenBrace =
     outcome_by_labels total body draft found.at found.rest
     (label_all body.path waiting draft.labels)
 outcome_at_open total waiting body draft found _ = Err (refusal.Unexpected found.at)
 
 abbrev pub outcome_by_open :
-    ℕ → List Waiting → Body → DraftValue → Result Found DtsError → Result Devicetree DtsError
+    ℕ → List Waiting → Body → DraftValue → Result FoundToken DtsError → Result Devicetree DtsError
 outcome_by_open total waiting body draft (Ok found) =
     outcome_at_open total waiting body draft found found.kind
 outcome_by_open total waiting body draft (Err e) = Err e
 
--- the walk where a token was found behind `/dts-v1/`
-abbrev pub version_walk_at_token : ℕ → Found → TokenKind → List Around → WalkResult
+-- the walk where a token was found after `/dts-v1/`
+abbrev pub version_walk_at_token : ℕ → FoundToken → TokenKind → List Around → WalkResult
 version_walk_at_token total found Semicolon = labels_walk_from total AtHead [] found.rest [] root
 version_walk_at_token total found _ = refusal_walk (refusal.Unexpected found.at)
 
-abbrev pub version_walk_by_token : ℕ → Result Found DtsError → List Around → WalkResult
+abbrev pub version_walk_by_token : ℕ → Result FoundToken DtsError → List Around → WalkResult
 version_walk_by_token total (Ok found) = version_walk_at_token total found found.kind
 version_walk_by_token total (Err e) = refusal_walk e
 
 -- the walk where a token was found at the beginning
-abbrev pub start_walk_at_token : ℕ → Found → TokenKind → List Around → WalkResult
+abbrev pub start_walk_at_token : ℕ → FoundToken → TokenKind → List Around → WalkResult
 start_walk_at_token total found DtsV1 = walk_from total (state_at Version [] root) found.rest
 start_walk_at_token total found _ = refusal_walk (refusal.Unexpected found.at)
 
-abbrev pub start_walk_by_token : ℕ → Result Found DtsError → List Around → WalkResult
+abbrev pub start_walk_by_token : ℕ → Result FoundToken DtsError → List Around → WalkResult
 start_walk_by_token total (Ok found) = start_walk_at_token total found found.kind
 start_walk_by_token total (Err e) = refusal_walk e

@@ -11,7 +11,7 @@ pub data Place : Type 0 where
   Props PropsLabel PropName Value Cells Bytes After : Place
   Close TopClose Nodes NodesLabel NodeName : Place
 
--- The table of places: a place, a token that may come there, and the place behind it. The walk
+-- The table of places: a place, a token that may come there, and the place after it. The walk
 -- begins at Start. Any other token is refused, as is the end of the text anywhere but at Top.
 abbrev pub follows : Place → TokenKind → Option Place
 follows Start DtsV1 = Some Version
@@ -50,7 +50,7 @@ follows Bytes Byte = Some Bytes
 follows Bytes CloseBracket = Some After
 follows After Comma = Some Value
 follows After Semicolon = Some Props
--- the body that `}` closes is in another one; where it is in none the place behind is TopClose
+-- the body that `}` closes is in another one; where it is in none the place after is TopClose
 follows Close Semicolon = Some Nodes
 follows TopClose Semicolon = Some Top
 follows Nodes Label = Some NodesLabel

@@ -11,10 +11,10 @@ use Rattle.bb_dts.specs.declared.label.Level.TheVariants.{AtProps}
 use Rattle.bb_dts.specs.declared.label.Waiting.{Waiting}
 use Rattle.bb_dts.specs.declared.outermost.Next.{Next}
 use Rattle.bb_dts.specs.declared.reader.Reader.{Reader}
-use Rattle.bb_dts.specs.Descent.{Onward, body_of, count_of, items_at, labels_walk_from, name_walk_from, node_count, walk_after_body, walk_after_item, walk_into_node}
+use Rattle.bb_dts.specs.Descent.{Onward, body_of, nodes_read, items_at, labels_walk_from, name_walk_from, node_count, walk_after_body, walk_after_item, walk_into_node}
 use Rattle.bb_dts.specs.Outermost.{outcome_after_step, outcome_at_body, outcome_at_token, outcome_from, outcome_from_labels, outcome_in_body, tree_of_draft}
 use Rattle.bb_dts.specs.Places.{Address, TopClose}
-use Rattle.bb_dts.specs.Tokens.{Found}
+use Rattle.bb_dts.specs.Tokens.{FoundToken}
 use Rattle.bb_dts.specs.Walk.{Body, body_at, label_all, path_text, root, state_at}
 
 -- only labels are added
@@ -59,7 +59,7 @@ body_read reader level content = body_of (string_bytes reader.path) level conten
 
 -- no more nodes were added than bytes were read
 abbrev pub AddsFewNodes : Content → Content → ℕ → ℕ → Type 0
-AddsFewNodes old new text_len rest_len = count_of new + rest_len ≤ count_of old + text_len
+AddsFewNodes old new text_len rest_len = nodes_read new + rest_len ≤ nodes_read old + text_len
 
 abbrev pub TreeAddsFewNodes : Reader → Reader → ℕ → ℕ → Type 0
 TreeAddsFewNodes old new text_len rest_len =
@@ -70,7 +70,7 @@ abbrev pub body_walk : Reader → ℕ → List ℕ → Onward
 body_walk reader level text =
     labels_walk_from reader.input.total AtProps [] text reader.draft.labels (new_body reader level)
 
--- the walk behind a body that was read, with the labels that the reader has then
+-- the walk after a body that was read, with the labels that the reader has then
 abbrev pub walk_after_body_read : Reader → Reader → ℕ → Content → List ℕ → Onward
 walk_after_body_read old new level content rest =
     walk_after_body old.input.total new.draft.labels (body_read old level content) rest
@@ -81,18 +81,18 @@ items_walk reader level has_nodes content text =
     labels_walk_from reader.input.total (items_at has_nodes) [] text
     reader.draft.labels (body_read reader level content)
 
--- the walk behind an item that was read, with the labels that the reader has then
+-- the walk after an item that was read, with the labels that the reader has then
 abbrev pub walk_after_item_read : Reader → Reader → ℕ → Content → Item → List ℕ → Onward
 walk_after_item_read old new level content item rest =
     walk_after_item old.input.total item new.draft.labels (body_read old level content) rest
 
--- the walk behind the name of an item
+-- the walk after the name of an item
 abbrev pub name_walk : Reader → ℕ → Bool → Content → List Waiting → List ℕ → List ℕ → Onward
 name_walk reader level has_nodes content waiting name text =
     name_walk_from reader.input.total has_nodes waiting name text
     reader.draft.labels (body_read reader level content)
 
--- the walk behind the `{` of a node in the body
+-- the walk after the `{` of a node in the body
 abbrev pub node_walk : Reader → ℕ → Content → List Waiting → List ℕ → ℕ → List ℕ → Onward
 node_walk reader level content waiting name at text =
     walk_into_node reader.input.total waiting name
@@ -103,9 +103,9 @@ abbrev pub source_end : Reader → Level → List ℕ → Result Devicetree DtsE
 source_end reader level text =
     outcome_from_labels reader.input.total level reader.draft text
 
--- the same from a token behind labels, behind `/memreserve/`, before the `{` of a body and behind
+-- the same from a token after labels, after `/memreserve/`, before the `{` of a body and after
 -- it
-abbrev pub source_end_at_token : Reader → Level → List Waiting → Found → Result Devicetree DtsError
+abbrev pub source_end_at_token : Reader → Level → List Waiting → FoundToken → Result Devicetree DtsError
 source_end_at_token reader level waiting found =
     outcome_at_token reader.input.total level waiting found reader.draft
 
@@ -123,7 +123,7 @@ abbrev pub source_end_in_body : Reader → ℕ → ℕ → List ℕ → Result D
 source_end_in_body reader level at text =
     outcome_in_body reader.input.total (new_body reader level) reader.draft at text
 
--- the same with what the reader has behind that: from where labels may begin, behind the `}` of a
+-- the same with what the reader has after that: from where labels may begin, after the `}` of a
 -- body, from a step on, and at the end of the text
 abbrev pub source_end_read : Reader → Reader → Level → List ℕ → Result Devicetree DtsError
 source_end_read old new level rest = outcome_from_labels old.input.total level new.draft rest

@@ -3,9 +3,9 @@ use Rattle.std.specs.Prelude.{ℕ, ◌+◌, suc, zero, Bool, true, false, ◌==�
 use Rattle.std.specs.Option.{option_map, option_map_or}
 use Rattle.std.specs.List.{prefix_len}
 use Rattle.bb_dts.specs.Characters.{is_octal, is_hexadecimal}
-use Rattle.bb_dts.specs.Numbers.{numeral_value}
+use Rattle.bb_dts.specs.Numbers.{value_in_radix}
 
--- the byte that a letter stands for behind a `\`: `\a \b \t \n \v \f \r`, and any other character
+-- the byte that a letter stands for after a `\`: `\a \b \t \n \v \f \r`, and any other character
 -- itself
 abbrev pub named_escape : ℕ → ℕ
 named_escape c =
@@ -21,31 +21,31 @@ named_escape c =
 abbrev pub byte_of : Option ℕ → Option ℕ
 byte_of value = option_and_then (λ n. if nat_lt n 256 then Some n else None) value
 
--- of the text behind a `\`, as many octal digits as there are, three at most
+-- of the text after a `\`, as many octal digits as there are, three at most
 abbrev pub octal_len : List ℕ → ℕ
 octal_len text = prefix_len is_octal (take 3 text)
 
--- of the text behind a `\x`, as many hexadecimal digits as there are, two at most
+-- of the text after a `\x`, as many hexadecimal digits as there are, two at most
 abbrev pub hexadecimal_len : List ℕ → ℕ
 hexadecimal_len text = prefix_len is_hexadecimal (take 2 text)
 
--- the byte of an escape, and how many characters stand behind its `\`, where there is such a byte
+-- the byte of an escape, and how many characters stand after its `\`, where there is such a byte
 abbrev pub escape_with : ℕ → Option ℕ → Option (ℕ × ℕ)
 escape_with len value = option_map (λ byte. (byte, len)) (byte_of value)
 
--- the byte that an escape gives, and how many characters it has behind its `\`; or no escape stands
+-- the byte that an escape gives, and how many characters it has after its `\`; or no escape stands
 -- there
 unfoldable pub escape_of : List ℕ → Option (ℕ × ℕ)
 escape_of [] = None
 escape_of (c ∷ cs) =
     let octal = octal_len (c ∷ cs) in
     let hexadecimal = hexadecimal_len cs in
-    if nat_lt 0 octal then escape_with octal (numeral_value 8 (take octal (c ∷ cs))) else (
-    if c == 120 then escape_with (hexadecimal + 1) (numeral_value 16 (take hexadecimal cs))
+    if nat_lt 0 octal then escape_with octal (value_in_radix 8 (take octal (c ∷ cs))) else (
+    if c == 120 then escape_with (hexadecimal + 1) (value_in_radix 16 (take hexadecimal cs))
     else Some (named_escape c, 1))
 
--- how many bytes stand before the `"` that ends a string, where an escape stands behind each `\`.
--- The first is behind a `\` where `escaped`
+-- how many bytes stand before the `"` that ends a string, where an escape stands after each `\`.
+-- The first is after a `\` where `escaped`
 unfoldable pub string_len : Bool → List ℕ → Option ℕ
 string_len escaped [] = None
 string_len true (c ∷ cs) =

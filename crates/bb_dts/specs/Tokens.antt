@@ -12,7 +12,7 @@ use Rattle.bb_dts.specs.declared.token_kind.Mode.{Mode}
 use Rattle.bb_dts.specs.declared.token_kind.Mode.TheVariants.{Directives, Names, Values, Numbers, Pairs}
 use Rattle.bb_dts.specs.declared.token_kind.Lexed.{Lexed}
 use Rattle.bb_dts.specs.declared.token_kind.Lexed.TheVariants.{Blank, Token, BadToken, LeftOut}
-use Rattle.bb_dts.specs.Characters.{is_blank, is_word, begins_label, is_name, is_hexadecimal}
+use Rattle.bb_dts.specs.Characters.{is_blank, is_word, begins_label, is_name_character, is_hexadecimal}
 use Rattle.bb_dts.specs.Numbers.{number_value}
 use Rattle.bb_dts.specs.Strings.{string_len}
 
@@ -28,7 +28,7 @@ mark_of c =
     if c == 91 then Some OpenBracket else (
     if c == 93 then Some CloseBracket else None)))))))
 
--- how many bytes a comment has behind its `/*`, with its `*/`
+-- how many bytes a comment has after its `/*`, with its `*/`
 unfoldable pub comment_len : List ℕ → Option ℕ
 comment_len [] = None
 comment_len (c ∷ cs) =
@@ -53,7 +53,7 @@ abbrev pub token_of_length : (ℕ → Lexed) → Option ℕ → Lexed
 token_of_length token None = BadToken
 token_of_length token (Some n) = token n
 
--- behind a `/`
+-- after a `/`
 unfoldable pub slash_at : List ℕ → Lexed
 slash_at tail =
     if starts_with nat_eq tail (codes "/") then Blank (prefix_len (λ c. not (c == 10)) tail) else (
@@ -69,7 +69,7 @@ abbrev pub label_len : List ℕ → ℕ
 label_len [] = 0
 label_len (c ∷ cs) = if begins_label c then prefix_len is_word (c ∷ cs) else 0
 
--- behind a `&`
+-- after a `&`
 unfoldable pub reference_at : List ℕ → Lexed
 reference_at tail =
     if starts_with nat_eq tail (codes "{") then LeftOut else (
@@ -83,14 +83,14 @@ is_label text =
 -- a run of a name's characters
 unfoldable pub name_at : Bool → List ℕ → Lexed
 name_at with_directives text =
-    let n = prefix_len is_name text in
+    let n = prefix_len is_name_character text in
     if is_label text then Token Label (label_len text) else (
     if with_directives && list_any (bytes_eq (take n text)) directives then LeftOut else (
     if nat_lt 0 n then Token Name (n - 1) else BadToken))
 
 -- inside `< >` and in a reserve
-unfoldable pub number_at : List ℕ → Lexed
-number_at text =
+unfoldable pub number_token : List ℕ → Lexed
+number_token text =
     let n = prefix_len is_word text in
     if is_some (number_value (take n text)) then Token Number (n - 1) else BadToken
 
@@ -100,9 +100,9 @@ byte_at text =
     if nat_lt 1 (prefix_len is_hexadecimal (take 2 text)) then Token Byte 1 else BadToken
 
 -- in a property's value, outside of brackets
-unfoldable pub value_at : List ℕ → Lexed
-value_at text =
-    let n = prefix_len (λ c. is_name c && not (c == 44)) text in
+unfoldable pub value_token : List ℕ → Lexed
+value_token text =
+    let n = prefix_len (λ c. is_name_character c && not (c == 44)) text in
     if starts_with nat_eq text (codes ",") then Token Comma 0 else (
     if nat_lt 0 n then Token Name (n - 1) else BadToken)
 
@@ -110,8 +110,8 @@ value_at text =
 abbrev pub word_at : Mode → List ℕ → Lexed
 word_at Directives text = name_at true text
 word_at Names text = name_at false text
-word_at Values text = value_at text
-word_at Numbers text = number_at text
+word_at Values text = value_token text
+word_at Numbers text = number_token text
 word_at Pairs text = byte_at text
 
 -- what begins with this character where no word does
@@ -119,12 +119,12 @@ abbrev pub mark_or_word : Option TokenKind → Lexed → Lexed
 mark_or_word (Some kind) word = Token kind 0
 mark_or_word None word = word
 
--- behind a `"`
+-- after a `"`
 abbrev pub quoted_at : List ℕ → Lexed
 quoted_at tail = token_of_length (λ n. Token Quoted (n + 1)) (string_len false tail)
 
 -- the token, comment or blanks that a text begins with, or why it begins with none. A number is how
--- many bytes they have behind the first
+-- many bytes they have after the first
 unfoldable pub token_at : Mode → List ℕ → Lexed
 token_at mode [] = BadToken
 token_at mode (c ∷ tail) =
@@ -160,20 +160,20 @@ abbrev pub IsPlain : Lexed → List ℕ → Type 0
 IsPlain (Token kind n) text = IsPlainWord kind (word_of kind (take (n + 1) text))
 IsPlain _ text = Unit {0}
 
--- a token: its kind, what it says, the offset at which it begins, and the text behind it
-pub record Found : Type 0 where
+-- a token: its kind, what it says, the offset at which it begins, and the text after it
+pub record FoundToken : Type 0 where
   pub kind : TokenKind
   pub word : List ℕ
   pub at : ℕ
   pub rest : List ℕ
 
 -- a token that was read, as clauses see it
-abbrev pub token_seen : TokenRead → Found
+abbrev pub token_seen : TokenRead → FoundToken
 token_seen t = record { kind = t.kind; word = t.word.now; at = t.at; rest = t.rest.now }
 
--- what stands at an offset: a token, or a refusal, or else what comes behind the blanks
+-- what stands at an offset: a token, or a refusal, or else what comes after the blanks
 abbrev pub found_at :
-    ℕ → ℕ → List ℕ → Lexed → (ℕ → Result Found DtsError) → Result Found DtsError
+    ℕ → ℕ → List ℕ → Lexed → (ℕ → Result FoundToken DtsError) → Result FoundToken DtsError
 found_at at c tail (Blank n) behind = behind n
 found_at at c tail (Token kind n) behind =
     let word = word_of kind (c ∷ take n tail) in
@@ -181,9 +181,9 @@ found_at at c tail (Token kind n) behind =
 found_at at c tail BadToken behind = Err (refusal.BadToken at)
 found_at at c tail LeftOut behind = Err (refusal.LeftOut at)
 
--- the first token of a text, behind blanks and comments, or the refusal. The text is the end of one
+-- the first token of a text, after blanks and comments, or the refusal. The text is the end of one
 -- of `total` bytes, and the first `skip` bytes belong to blanks that are read
-unfoldable pub first_token : Mode → ℕ → ℕ → List ℕ → Result Found DtsError
+unfoldable pub first_token : Mode → ℕ → ℕ → List ℕ → Result FoundToken DtsError
 first_token mode total skip [] = Ok (record { kind = End; word = []; at = total; rest = [] })
 first_token mode total (suc skip) (c ∷ tail) = first_token mode total skip tail
 first_token mode total zero (c ∷ tail) =

@@ -18,7 +18,7 @@ use Rattle.bb_dts.specs.declared.token_kind.Lexed.{Lexed}
 use Rattle.bb_dts.specs.declared.token_kind.Lexed.TheVariants.{Blank, Token, BadToken, LeftOut}
 use Rattle.bb_dts.specs.declared.label.Waiting.{Waiting}
 use Rattle.bb_dts.specs.declared.property.Property.{Property}
-use Rattle.bb_dts.specs.Numbers.{number_value, numeral_value}
+use Rattle.bb_dts.specs.Numbers.{number_value, value_in_radix}
 use Rattle.bb_dts.specs.Strings.{byte_of, quoted_bytes}
 use Rattle.bb_dts.specs.Tokens.{token_at, word_of}
 use Rattle.bb_dts.specs.Places.{Place, Start, Address, Length, Open, Props, PropName, Value, Cells, Bytes, After, Close, TopClose, follows, mode_of}
@@ -38,8 +38,8 @@ pub record Around : Type 0 where
 
 -- the place, the labels so far, those that wait for the `{` of their node, the address of the
 -- reserve that is read, the name read last with its value (the parts up to the last reference, and
--- the bytes behind that), and the innermost body
-pub record State : Type 0 where
+-- the bytes after that), and the innermost body
+pub record WalkState : Type 0 where
   pub place : Place
   pub labels : Labels
   pub waiting : List Waiting
@@ -56,11 +56,11 @@ pub record Source : Type 0 where
 -- what a token does to the walk
 pub data Step : Type 0 where
   Refuses : DtsError → Step
-  Goes : State → Step
+  Goes : WalkState → Step
   -- a pair is reserved
-  Reserves : ℕ → ℕ → State → Step
+  Reserves : ℕ → ℕ → WalkState → Step
   -- a body is opened inside this one
-  Enters : Around → State → Step
+  Enters : Around → WalkState → Step
   -- the innermost body is closed
   Leaves : Labels → Body → Step
   -- the text ends well
@@ -81,7 +81,7 @@ abbrev pub root : Body
 root = body_at [] 1
 
 -- at a place in a body, where no label waits and no name was read
-abbrev pub state_at : Place → Labels → Body → State
+abbrev pub state_at : Place → Labels → Body → WalkState
 state_at place labels body = record {
   place = place;
   labels = labels;
@@ -92,8 +92,8 @@ state_at place labels body = record {
 }
 
 -- the bytes are joined to the value
-abbrev pub with_bytes : Property → List ℕ → Property
-with_bytes named more = record named { bytes = named.bytes ++ more }
+abbrev pub with_joined_bytes : Property → List ℕ → Property
+with_joined_bytes named more = record named { bytes = named.bytes ++ more }
 
 -- a reference is joined to the value
 abbrev pub with_part : Property → Part → Property
@@ -101,8 +101,8 @@ with_part named reference =
     record named { parts = named.parts ++ part.Bytes named.bytes ∷ reference ∷ []; bytes = [] }
 
 -- the whole value
-abbrev pub value_of : Property → List Part
-value_of named = named.parts ++ part.Bytes named.bytes ∷ []
+abbrev pub joined_parts : Property → List Part
+joined_parts named = named.parts ++ part.Bytes named.bytes ∷ []
 
 -- a number below a limit, or the refusal
 abbrev pub number_below : ℕ → List ℕ → ℕ → Result ℕ DtsError
@@ -113,12 +113,12 @@ number_below limit word at =
 -- two hexadecimal digits
 abbrev pub byte_value : List ℕ → ℕ → Result ℕ DtsError
 byte_value word at =
-    option_map_or (λ n. Ok n) (byte_of (numeral_value 16 word)) (Err (refusal.BadToken at))
+    option_map_or (λ n. Ok n) (byte_of (value_in_radix 16 word)) (Err (refusal.BadToken at))
 
 -- the bytes of a number are joined to the value
-abbrev pub with_number : Property → (ℕ → List ℕ) → Result ℕ DtsError → Result Property DtsError
-with_number named bytes (Ok n) = Ok (with_bytes named (bytes n))
-with_number named bytes (Err e) = Err e
+abbrev pub with_joined_number : Property → (ℕ → List ℕ) → Result ℕ DtsError → Result Property DtsError
+with_joined_number named bytes (Ok n) = Ok (with_joined_bytes named (bytes n))
+with_joined_number named bytes (Err e) = Err e
 
 -- a reference in a value. A property named `phandle` has none
 abbrev pub with_reference : Property → Part → ℕ → Result Property DtsError
@@ -129,21 +129,21 @@ with_reference named reference at =
 
 -- what a token does to a value
 abbrev pub value_step : Place → TokenKind → List ℕ → ℕ → Property → Result Property DtsError
-value_step Value Quoted word at named = Ok (with_bytes named (quoted_bytes 0 word ++ 0 ∷ []))
+value_step Value Quoted word at named = Ok (with_joined_bytes named (quoted_bytes 0 word ++ 0 ∷ []))
 value_step Value Reference word at named = with_reference named (part.Path word at) at
 value_step Cells Reference word at named = with_reference named (part.Cell word at) at
 value_step Cells Number word at named =
-    with_number named (λ n. to_be_bytes w32 n) (number_below (2 ^ 32) word at)
-value_step Bytes Byte word at named = with_number named (λ byte. byte ∷ []) (byte_value word at)
+    with_joined_number named (λ n. to_be_bytes w32 n) (number_below (2 ^ 32) word at)
+value_step Bytes Byte word at named = with_joined_number named (λ byte. byte ∷ []) (byte_value word at)
 value_step _ _ word at named = Ok named
 
 -- the walk goes on with the changed value, or is refused
-abbrev pub with_value : State → Result Property DtsError → Step
-with_value s (Ok named) = Goes (record s { named = named })
-with_value s (Err e) = Refuses e
+abbrev pub with_next_value : WalkState → Result Property DtsError → Step
+with_next_value s (Ok named) = Goes (record s { named = named })
+with_next_value s (Err e) = Refuses e
 
 -- the property that was named, with the value, joins the body
-abbrev pub with_prop : State → List Part → State
+abbrev pub with_prop : WalkState → List Part → WalkState
 with_prop s value =
     let body = record (s.body) { props = s.body.props ++ (s.named.name, value) ∷ [] } in
     record s { waiting = []; named = no_name; body = body }
@@ -171,7 +171,7 @@ label_all path (w ∷ ws) labels =
     else label_all path ws (with_label labels w.name (path_text path))
 
 -- a `{` opens a body
-abbrev pub open_body : Body → ℕ → (State → Step) → Result Labels DtsError → Step
+abbrev pub open_body : Body → ℕ → (WalkState → Step) → Result Labels DtsError → Step
 open_body body at go (Err e) = Refuses e
 open_body body at go (Ok labels) =
     if nat_lt depth_limit body.level
@@ -179,11 +179,11 @@ open_body body at go (Ok labels) =
     else go (state_at Props labels body)
 
 -- the body of the node that was named, inside another one
-abbrev pub child_of : State → Body
+abbrev pub child_of : WalkState → Body
 child_of s = body_at (s.body.path ++ 47 ∷ s.named.name) (s.body.level + 1)
 
 -- a reference at the outermost level
-abbrev pub reference_step : State → ℕ → Option (List ℕ) → Step
+abbrev pub reference_step : WalkState → ℕ → Option (List ℕ) → Step
 reference_step s at None = Refuses (refusal.NoSuchLabel at)
 reference_step s at (Some path) =
     Goes (record s { body = body_at (stem_of path) (level_of (stem_of path)) })
@@ -193,17 +193,17 @@ abbrev pub reserve_step : Result ℕ DtsError → (ℕ → Step) → Step
 reserve_step (Ok n) go = go n
 reserve_step (Err e) go = Refuses e
 
--- what a token does at a place that has it; the state has the place behind it already
-abbrev pub does : Place → TokenKind → List ℕ → ℕ → State → Step
+-- what a token does at a place that has it; the state has the place after it already
+abbrev pub does : Place → TokenKind → List ℕ → ℕ → WalkState → Step
 does Address Number word at s =
     reserve_step (number_below (2 ^ 64) word at) (λ n. Goes (record s { address = n }))
 does Length Number word at s =
     reserve_step (number_below (2 ^ 64) word at)
     (λ n. Reserves s.address n (record s { address = 0 }))
-does Value kind word at s = with_value s (value_step Value kind word at s.named)
-does Cells kind word at s = with_value s (value_step Cells kind word at s.named)
-does Bytes kind word at s = with_value s (value_step Bytes kind word at s.named)
-does After Semicolon word at s = Goes (with_prop s (value_of s.named))
+does Value kind word at s = with_next_value s (value_step Value kind word at s.named)
+does Cells kind word at s = with_next_value s (value_step Cells kind word at s.named)
+does Bytes kind word at s = with_next_value s (value_step Bytes kind word at s.named)
+does After Semicolon word at s = Goes (with_prop s (joined_parts s.named))
 does PropName Semicolon word at s = Goes (with_prop s [])
 does PropName Equals word at s = Goes (record s { waiting = [] })
 does Open OpenBrace word at s =
@@ -222,13 +222,13 @@ does _ End word at s = Ends s.labels
 does _ _ word at s = Goes s
 
 -- what a token does that leads to this place, or it may not come
-abbrev pub step_to : Place → TokenKind → List ℕ → ℕ → State → Option Place → Step
+abbrev pub step_to : Place → TokenKind → List ℕ → ℕ → WalkState → Option Place → Step
 step_to place kind word at s None = Refuses (refusal.Unexpected at)
 step_to place kind word at s (Some next) =
     does place kind word at (record s { place = next })
 
 -- what a token does at the state's place
-abbrev pub step : State → TokenKind → List ℕ → ℕ → Step
+abbrev pub step : WalkState → TokenKind → List ℕ → ℕ → Step
 step s kind word at = step_to s.place kind word at s (follows s.place kind)
 
 -- what a walk gives
@@ -255,35 +255,35 @@ with_child a body = record (a.body) { nodes = a.body.nodes ++ node_of a.name bod
 
 -- where a body is closed: the node joins the body around it, or the body is one of the source's
 abbrev pub close_body :
-    Labels → Body → (State → List Around → WalkResult) → List Around → WalkResult
+    Labels → Body → (WalkState → List Around → WalkResult) → List Around → WalkResult
 close_body labels body on [] =
     with_body (path_text body.path) (node_of [] body) (on (state_at TopClose labels root) [])
 close_body labels body on (a ∷ around) = on (state_at Close labels (with_child a body)) around
 
--- the walk behind a step; `around` is the list of the bodies around the innermost one, from inside
-abbrev pub behind : Step → (State → List Around → WalkResult) → List Around → WalkResult
-behind (Refuses e) on around = Err e
-behind (Goes s) on around = on s around
-behind (Reserves address length s) on around = with_pair address length (on s around)
-behind (Enters a s) on around = on s (a ∷ around)
-behind (Leaves labels body) on around = close_body labels body on around
-behind (Ends labels) on around = Ok (record { bodies = []; labels = labels; reserved = [] })
+-- the walk after a step; `around` is the list of the bodies around the innermost one, from inside
+abbrev pub walk_after : Step → (WalkState → List Around → WalkResult) → List Around → WalkResult
+walk_after (Refuses e) on around = Err e
+walk_after (Goes s) on around = on s around
+walk_after (Reserves address length s) on around = with_pair address length (on s around)
+walk_after (Enters a s) on around = on s (a ∷ around)
+walk_after (Leaves labels body) on around = close_body labels body on around
+walk_after (Ends labels) on around = Ok (record { bodies = []; labels = labels; reserved = [] })
 
 -- what begins at an offset, with its first character
 abbrev pub begins :
-    State → ℕ → ℕ → List ℕ → Lexed → (ℕ → State → List Around → WalkResult)
+    WalkState → ℕ → ℕ → List ℕ → Lexed → (ℕ → WalkState → List Around → WalkResult)
     → List Around → WalkResult
 begins s at c tail (Blank n) on around = on n s around
 begins s at c tail (Token kind n) on around =
-    behind (step s kind (word_of kind (c ∷ take n tail)) at) (on n) around
+    walk_after (step s kind (word_of kind (c ∷ take n tail)) at) (on n) around
 begins s at c tail BadToken on around = Err (refusal.BadToken at)
 begins s at c tail LeftOut on around = Err (refusal.LeftOut at)
 
 -- the walk over a text from a state on. The text is the end of one of `total` bytes, and its first
 -- `skip` bytes belong to a token that is read
-unfoldable pub walk : ℕ → ℕ → List ℕ → State → List Around → WalkResult
+unfoldable pub walk : ℕ → ℕ → List ℕ → WalkState → List Around → WalkResult
 walk total skip [] s around =
-    behind (step s End [] total)
+    walk_after (step s End [] total)
     (λ _ _. Ok (record { bodies = []; labels = []; reserved = [] })) around
 walk total (suc skip) (c ∷ tail) s around = walk total skip tail s around
 walk total zero (c ∷ tail) s around =
@@ -291,7 +291,7 @@ walk total zero (c ∷ tail) s around =
     (λ n. walk total n tail) around
 
 -- before the text
-abbrev pub start : State
+abbrev pub start : WalkState
 start = state_at Start [] root
 
 -- what a text has as a source, or the first refusal

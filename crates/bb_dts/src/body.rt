@@ -1,7 +1,7 @@
 ghost use Rattle.std.specs.Prelude.{◌≡◌, ◌≤◌, ◌<◌, ◌+◌, IfOk, IfErr, OnOk, length};
 ghost use Rattle.std.specs.Str.{IsAscii};
 ghost use Rattle.bb_tree.specs.Depth.{depth_limit};
-ghost use Rattle.bb_dts.specs.Descent.{count_of, items_at, RefusesWalk};
+ghost use Rattle.bb_dts.specs.Descent.{nodes_read, items_at, RefusesWalk};
 ghost use Rattle.bb_dts.specs.declared.content.Item.TheVariants.{IsNode};
 
 use crate::DtsError;
@@ -19,7 +19,7 @@ impl Reader {
     ghost use Rattle.bb_dts.specs.Readers.{name_walk, node_walk, walk_after_body_read};
     ghost use Rattle.bb_dts.specs.Readers.{walk_after_item_read};
 
-    /// Reads the body of the node at this level, behind its `{`, with its `}`.
+    /// Reads the body of the node at this level, after its `{`, with its `}`.
     #[cycle(body)]
     pub(crate) fn read_body<'a>(
         &mut self,
@@ -31,7 +31,7 @@ impl Reader {
         ensures ok { IfOk result (λ r. body_walk self.old level text.now
             ≡ walk_after_body_read self.old self.new level r.0 r.1.now) }
         ensures kept { OnOk result (LabelsOnly self.old self.new) }
-        ensures counted { IfOk result (λ r. count_of r.0 + length r.1.now ≤ length text.now) }
+        ensures counted { IfOk result (λ r. nodes_read r.0 + length r.1.now ≤ length text.now) }
         ensures refused { IfErr result (RefusesWalk (body_walk self.old level text.now)) }
         ensures shorter { IfOk result (λ r. length r.1.now < length text.now) }
     {
@@ -123,7 +123,7 @@ impl Reader {
         }
     }
 
-    // Reads the body of a node inside another one, behind its `{`, and its `;`.
+    // Reads the body of a node inside another one, after its `{`, and its `;`.
     #[cycle(body)]
     #[tactic(auto, using(crate::proofs::BodyLemmas::close_step, crate::proofs::BodyLemmas::inside_after_body, crate::proofs::BodyLemmas::inside_refusal_walk, crate::proofs::BodyLemmas::inside_unless_memory))]
     fn read_node<'a>(

@@ -1,5 +1,6 @@
 ghost use Rattle.std.specs.Prelude.{◌≡◌};
-ghost use Rattle.bb_dts.specs.Characters.{is_blank, is_word, begins_label, is_name, is_octal};
+ghost use Rattle.bb_dts.specs.Characters.{is_blank, is_word, begins_label, is_name_character};
+ghost use Rattle.bb_dts.specs.Characters.{is_octal};
 ghost use Rattle.bb_dts.specs.Characters.{is_hexadecimal};
 
 /// Space, tab, LF, form feed or CR.
@@ -25,7 +26,7 @@ pub(crate) fn begins_label(c: u8) -> bool
 
 /// A character of the names of nodes and properties.
 pub(crate) fn is_name(c: u8) -> bool
-    ensures { result ≡ is_name c }
+    ensures { result ≡ is_name_character c }
 {
     is_word(c) || matches!(c, b',' | b'.' | b'+' | b'*' | b'#' | b'?' | b'@' | b'-')
 }

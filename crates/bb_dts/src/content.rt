@@ -12,12 +12,12 @@ pub(crate) struct Content {
 impl Content {
     ghost use Rattle.std.specs.Prelude.{◌≡◌, ◌++◌, ◌∷◌, [], OnOk};
     ghost use Rattle.bb_tree.specs.DraftViews.{drafts_of};
-    ghost use Rattle.bb_dts.specs.Descent.{count_of, node_of_content};
+    ghost use Rattle.bb_dts.specs.Descent.{nodes_read, node_of_content};
 
     pub(crate) fn none(alloc: Global) -> Content
         ensures props { result.props ≡ [] }
         ensures nodes { drafts_of result.nodes ≡ [] }
-        ensures counted { count_of result ≡ 0 }
+        ensures counted { nodes_read result ≡ 0 }
     {
         Content {
             props: DraftPropList::none(alloc),

@@ -2,8 +2,8 @@ use bb_base::NoMemory;
 use std::alloc::AllocError;
 use thiserror::Error;
 
-/// Why a text is no source of a tree. All but `NoMemory` have an offset in the text, in bytes from 0: that at which
-/// the first token that breaks a rule begins.
+/// Why a text is no source of a tree. All but `NoMemory` have an offset in the text, in bytes from
+/// 0: that at which the first token that breaks a rule begins.
 #[derive(Clone, Copy, Debug, PartialEq, Eq, Error)]
 pub enum DtsError {
     /// The text isn't UTF-8. Here the first sequence that is ill-formed begins.
@@ -18,7 +18,8 @@ pub enum DtsError {
     /// A number doesn't fit: a cell has 32 bits, a reserve's address and length have 64 each.
     #[error("number too large at {0}")]
     NumberTooLarge(usize),
-    /// A part of the language that is left out: `/include/`, `/delete-node/`, an expression and the like.
+    /// A part of the language that is left out: `/include/`, `/delete-node/`, an expression and the
+    /// like.
     #[error("left out of the language at {0}")]
     LeftOut(usize),
     /// The `{` of a node at level 33. The root's level is 1.

@@ -25,11 +25,11 @@ pub(crate) struct Waiting {
 pub(crate) enum Level {
     /// At the outermost level, before the first body.
     AtHead,
-    /// At the outermost level, behind a body.
+    /// At the outermost level, after a body.
     AtTop,
     /// In a body without a node so far.
     AtProps,
-    /// In a body, behind a node.
+    /// In a body, after a node.
     AtNodes,
 }
 
@@ -62,7 +62,7 @@ pub(crate) fn read_labels(
     }
 }
 
-// Within a body the lines of C's preprocessor are names behind a label.
+// Within a body the lines of C's preprocessor are names after a label.
 fn mode_at(level: Level, waiting: &Vec<Waiting>) -> Mode
     ensures { result ≡ mode_of (place_at level waiting.now.items) }
 {

@@ -1,5 +1,6 @@
-//! The reader of devicetree source. It accepts exactly the grammar of docs/FORMATS.md, gives the tree, and refuses
-//! everything else by name with an offset. Only the program's session and its tests know it.
+//! The reader of devicetree source. It accepts exactly the grammar of docs/FORMATS.md, gives the
+//! tree, and refuses everything else by name with an offset. Only the program's session and its
+//! tests know it.
 #![tactic(auto)]
 
 mod body;

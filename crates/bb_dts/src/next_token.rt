@@ -14,11 +14,12 @@ pub(crate) struct Token<'a> {
     pub word: &'a [u8],
     /// The offset at which it begins.
     pub at: usize,
-    /// The text behind it.
+    /// The text after it.
     pub rest: &'a [u8],
 }
 
-/// The first token of the text, behind blanks and comments. The text is the end of one of `total` bytes.
+/// The first token of the text, after blanks and comments. The text is the end of one of `total`
+/// bytes.
 pub(crate) fn next_token(mode: Mode, total: usize, text: &[u8]) -> Result<Token<'_>, DtsError>
     requires { length text.now ≤ total }
     ensures found { IfOk result (λ t. first_token mode total 0 text.now ≡ Ok (token_seen t)) }

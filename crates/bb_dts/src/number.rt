@@ -1,7 +1,7 @@
 ghost use Rattle.std.specs.Prelude.{◌≡◌, ◌≤◌, ◌*◌, ◌+◌, not, length, option_and_then};
 ghost use Rattle.std.specs.List.{list_any, prefix_len};
 ghost use Rattle.std.specs.Str.{bytes_eq};
-ghost use Rattle.bb_dts.specs.Numbers.{number_value, numeral_value, radix_value, is_ending_letter};
+ghost use Rattle.bb_dts.specs.Numbers.{number_value, value_in_radix, radix_value, is_ending_letter};
 ghost use Rattle.bb_dts.specs.Numbers.{in_64_bits, fits_64, endings};
 
 /// Why a word gives no number of 64 bits.
@@ -11,8 +11,8 @@ pub(crate) enum NumberFault {
     TooLarge,
 }
 
-/// The number that the word spells: decimal, octal with a leading 0 or hexadecimal with `0x`, and then `U`, `L`, `UL`,
-/// `LL`, `ULL` or nothing.
+/// The number that the word spells: decimal, octal with a leading 0 or hexadecimal with `0x`, and
+/// then `U`, `L`, `UL`, `LL`, `ULL` or nothing.
 pub(crate) fn read_number(word: &[u8]) -> Result<u64, NumberFault>
     ensures { result ≡ in_64_bits (number_value word.now) }
 {
@@ -54,7 +54,7 @@ fn is_ending(word: &[u8]) -> bool
 pub(crate) fn read_digits(radix: u32, digits: &[u8]) -> Result<u64, NumberFault>
     requires few { radix ≤ 36 }
     requires some { 2 ≤ radix }
-    ensures { result ≡ in_64_bits (numeral_value radix digits.now) }
+    ensures { result ≡ in_64_bits (value_in_radix radix digits.now) }
 {
     if digits.is_empty() {
         return Err(NumberFault::Malformed);

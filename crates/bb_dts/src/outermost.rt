@@ -25,12 +25,12 @@ use bb_base::Text;
 use bb_tree::{DEPTH_LIMIT, Draft, DraftNode};
 use std::mem;
 
-/// What comes behind a step at the outermost level.
+/// What comes after a step at the outermost level.
 #[derive(Clone, Copy)]
 pub(crate) enum Next<'a> {
     /// This text, before all bodies.
     IsHead(&'a [u8]),
-    /// This text, behind a body.
+    /// This text, after a body.
     IsTop(&'a [u8]),
     /// Nothing: the text has ended.
     IsDone,
@@ -43,7 +43,7 @@ impl Reader {
     ghost use Rattle.bb_dts.specs.Readers.{source_end_at_token, source_end_in_body};
     ghost use Rattle.bb_dts.specs.Readers.{source_end_read, tree_read};
 
-    /// Reads the reserves and the bodies behind the version, to the text's end.
+    /// Reads the reserves and the bodies after the version, to the text's end.
     pub(crate) fn read_outermost(&mut self, text: &[u8]) -> Result<(), DtsError>
         requires { length text.now ≤ self.old.input.total }
         ensures ok { OnOk result
@@ -123,8 +123,8 @@ impl Reader {
         }
     }
 
-    // Reads a reserve, behind `/memreserve/`, with its `;`.
-    #[tactic(auto, using(crate::proofs::OuterLemmas::address_step, crate::proofs::OuterLemmas::length_step, crate::proofs::OuterLemmas::reserve_end_step))]
+    // Reads a reserve, after `/memreserve/`, with its `;`.
+    #[tactic(auto, using(crate::proofs::OuterLemmas::address_step, # crate::proofs::OuterLemmas::length_step, crate::proofs::OuterLemmas::reserve_end_step))]
     fn read_reserve<'a>(&mut self, text: &'a [u8]) -> Result<&'a [u8], DtsError>
         requires { length text.now ≤ self.old.input.total }
         ensures ok { IfOk result (λ rest. source_end_at_address self.old text.now
@@ -151,8 +151,9 @@ impl Reader {
         }
     }
 
-    // Reads a body at the outermost level, with its braces and its `;`, and merges it into the node at the path.
-    #[tactic(auto, using(crate::proofs::OuterLemmas::open_step, crate::proofs::OuterLemmas::outcome_after_body, crate::proofs::OuterLemmas::top_close_step))]
+    // Reads a body at the outermost level, with its braces and its `;`, and merges it into the node
+    // at the path.
+    #[tactic(auto, using(crate::proofs::OuterLemmas::open_step, # crate::proofs::OuterLemmas::outcome_after_body, crate::proofs::OuterLemmas::top_close_step))]
     fn read_top<'a>(
         &mut self,
         level: usize,
@@ -181,7 +182,7 @@ impl Reader {
         }
     }
 
-    // Reads a body at the outermost level, behind its `{`, and merges it.
+    // Reads a body at the outermost level, after its `{`, and merges it.
     #[tactic(auto, using(crate::proofs::OuterLemmas::outcome_after_body))]
     fn read_top_body<'a>(
         &mut self,
@@ -273,7 +274,8 @@ fn stem_of(path: &str) -> &str
     if path == "/" { "" } else { path }
 }
 
-// The draft with a body merged into the node at the path. Where no node stands there nothing is merged.
+// The draft with a body merged into the node at the path. Where no node stands there nothing is
+// merged.
 fn with_body(draft: Draft, path: &str, node: DraftNode) -> Result<Draft, DtsError>
     ensures ok { IfOk result (λ d. d ≡ draft_with_body draft path.now (draft_of node)) }
     ensures only_memory { IfErr result (λ e. e ≡ DtsError.NoMemory) }

@@ -6,7 +6,7 @@ use bb_tree::{DraftProp, Part, PartList};
 use std::alloc::Global;
 use std::mem;
 
-/// A property that is read: its value's parts up to the last reference, and the bytes behind that.
+/// A property that is read: its value's parts up to the last reference, and the bytes after that.
 #[derive(Debug, Drop)]
 pub(crate) struct Property {
     pub name: Text,
@@ -15,7 +15,8 @@ pub(crate) struct Property {
 }
 
 impl Property {
-    ghost use Rattle.bb_dts.specs.Walk.{property_of_name, with_bytes, with_part, value_of};
+    ghost use Rattle.bb_dts.specs.Walk.{property_of_name, with_joined_bytes, with_part};
+    ghost use Rattle.bb_dts.specs.Walk.{joined_parts};
 
     /// A property without a value so far.
     pub(crate) fn of_name(alloc: Global, name: Text) -> Property
@@ -37,7 +38,7 @@ impl Property {
 
     /// Joins bytes to the value.
     pub(crate) fn add(&mut self, bytes: &[u8]) -> Result<(), NoMemory>
-        ensures { OnOk result (self.new ≡ with_bytes self.old bytes.now) }
+        ensures { OnOk result (self.new ≡ with_joined_bytes self.old bytes.now) }
     {
         self.bytes.add(bytes)
     }
@@ -54,7 +55,7 @@ impl Property {
     /// The property with its whole value.
     pub(crate) fn finish(self) -> Result<DraftProp, NoMemory>
         ensures name { IfOk result (λ prop. prop.name ≡ self.name) }
-        ensures parts { IfOk result (λ prop. prop.parts ≡ value_of self) }
+        ensures parts { IfOk result (λ prop. prop.parts ≡ joined_parts self) }
     {
         let Property {
             name,

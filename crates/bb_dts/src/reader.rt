@@ -11,7 +11,8 @@ use crate::label::Waiting;
 use crate::word::word_str;
 use bb_tree::{Draft, TreeError};
 
-/// A source that is read: its tree so far, and the path of the body that is read, which is empty for the root's.
+/// A source that is read: its tree so far, and the path of the body that is read, which is empty
+/// for the root's.
 #[derive(Drop)]
 pub(crate) struct Reader {
     pub input: Input,
@@ -37,7 +38,7 @@ impl Reader {
         self.label_all(waiting)
     }
 
-    /// Goes back to the path's first `len` bytes, behind which a `/` stands.
+    /// Goes back to the path's first `len` bytes, after which a `/` stands.
     pub(crate) fn leave(&mut self, len: usize)
         requires { slice_get (string_bytes self.old.path) len ≡ Some 47 }
         ensures path { string_bytes self.new.path ≡ take len (string_bytes self.old.path) }

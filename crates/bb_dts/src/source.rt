@@ -19,9 +19,9 @@ use bb_tree::{Draft, Tree, TreeError};
 use std::alloc::Global;
 use std::str;
 
-/// Reads a devicetree source of at most 4,294,967,295 bytes (Devicetree Specification v0.4, section 6; docs/FORMATS.md
-/// has the grammar, and what is left out of the language). The first fault in the text decides, and a text that isn't
-/// UTF-8 is refused before all others.
+/// Reads a devicetree source of at most 4,294,967,295 bytes (Devicetree Specification v0.4, section
+/// 6; docs/FORMATS.md has the grammar, and what is left out of the language). The first fault in
+/// the text decides, and a text that isn't UTF-8 is refused before all others.
 pub fn read_source(alloc: Global, text: &[u8]) -> Result<Tree, DtsError>
     requires { length text.now ≤ 4294967295 }
     ensures ok { IfOk result (λ tree. source_of text.now ≡ Ok (devicetree_of tree)) }
@@ -47,7 +47,7 @@ fn read_text(input: Input, text: &[u8]) -> Result<Tree, DtsError>
 }
 
 // Reads `/dts-v1/;`.
-#[tactic(auto, using(crate::proofs::OuterLemmas::start_step, crate::proofs::OuterLemmas::version_step))]
+#[tactic(auto, using(crate::proofs::OuterLemmas::start_step, # crate::proofs::OuterLemmas::version_step))]
 fn read_version(input: Input, text: &[u8]) -> Result<&[u8], DtsError>
     requires { length text.now ≤ input.total }
     ensures ok { IfOk result (λ rest. walk_from input.total start text.now

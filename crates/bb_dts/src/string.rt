@@ -2,7 +2,7 @@ ghost use Rattle.std.specs.Prelude.{◌≡◌, ◌++◌, ◌<◌, ◌≤◌, ◌
 ghost use Rattle.std.specs.Prelude.{length};
 ghost use Rattle.std.specs.List.{prefix_len};
 ghost use Rattle.bb_dts.specs.Characters.{is_octal, is_hexadecimal};
-ghost use Rattle.bb_dts.specs.Numbers.{numeral_value};
+ghost use Rattle.bb_dts.specs.Numbers.{value_in_radix};
 ghost use Rattle.bb_dts.specs.Strings.{named_escape, byte_of, octal_len, hexadecimal_len};
 ghost use Rattle.bb_dts.specs.Strings.{escape_of, string_len, quoted_bytes};
 
@@ -10,8 +10,8 @@ use crate::character::{is_hexadecimal, is_octal};
 use crate::number::read_digits;
 use bb_base::{Bytes, NoMemory};
 
-/// How many bytes stand before the `"` that ends a string, behind the one that begins it. `None` where none does or an
-/// escape is malformed.
+/// How many bytes stand before the `"` that ends a string, after the one that begins it. `None`
+/// where none does or an escape is malformed.
 pub(crate) fn string_len(text: &[u8]) -> Option<usize>
     ensures value { result ≡ string_len false text.now }
     ensures within { IfSome result (λ n. n < length text.now) }
@@ -30,7 +30,8 @@ pub(crate) fn string_len(text: &[u8]) -> Option<usize>
     None
 }
 
-/// Appends the bytes of a string, from the text between its quotes. After an `Err` some of them are appended.
+/// Appends the bytes of a string, from the text between its quotes. After an `Err` some of them are
+/// appended.
 pub(crate) fn unescape(value: &mut Bytes, text: &[u8]) -> Result<(), NoMemory>
     ensures { OnOk result (value.new ≡ value.old ++ quoted_bytes 0 text.now) }
 {
@@ -67,7 +68,7 @@ fn plain_len(text: &[u8]) -> usize
     text.iter().take_while(|c| **c != b'\\').count()
 }
 
-// The byte that an escape gives, and how many characters it has behind its `\`.
+// The byte that an escape gives, and how many characters it has after its `\`.
 #[tactic(auto, unfolding(crate::specs::Strings::escape_of))]
 fn escape(text: &[u8]) -> Option<(u8, usize)>
     ensures value { result ≡ escape_of text.now }
@@ -106,7 +107,7 @@ fn hexadecimal_len(text: &[u8]) -> usize
 pub(crate) fn read_byte(radix: u32, digits: &[u8]) -> Option<u8>
     requires few { radix ≤ 36 }
     requires some { 2 ≤ radix }
-    ensures { result ≡ byte_of (numeral_value radix digits.now) }
+    ensures { result ≡ byte_of (value_in_radix radix digits.now) }
 {
     u8::try_from(read_digits(radix, digits).ok()?).ok()
 }

@@ -2,10 +2,11 @@ ghost use Rattle.std.specs.Prelude.{◌≡◌, ◌==◌, ◌+◌, ◌<◌, ◌�
 ghost use Rattle.std.specs.Prelude.{nat_eq, IfSome, IsTrue, is_some, length};
 ghost use Rattle.std.specs.List.{prefix_len, list_any, starts_with};
 ghost use Rattle.std.specs.Str.{bytes_eq};
-ghost use Rattle.bb_dts.specs.Characters.{is_name, is_word, is_blank, is_hexadecimal};
+ghost use Rattle.bb_dts.specs.Characters.{is_name_character, is_word, is_blank, is_hexadecimal};
 ghost use Rattle.bb_dts.specs.Numbers.{number_value};
 ghost use Rattle.bb_dts.specs.Tokens.{token_at, slash_at, quoted_at, reference_at, word_at};
-ghost use Rattle.bb_dts.specs.Tokens.{name_at, number_at, value_at, byte_at, mark_of, comment_len};
+ghost use Rattle.bb_dts.specs.Tokens.{name_at, number_token, value_token, byte_at, mark_of};
+ghost use Rattle.bb_dts.specs.Tokens.{comment_len};
 ghost use Rattle.bb_dts.specs.Tokens.{label_len, left_out_words, directives, IsWithin, IsPlain};
 
 use crate::character::{begins_label, is_blank, is_hexadecimal, is_name, is_word};
@@ -69,7 +70,7 @@ fn quoted_at(tail: &[u8]) -> Lexed
     }
 }
 
-// Behind a `/`.
+// After a `/`.
 #[tactic(auto, unfolding(crate::specs::Tokens::slash_at))]
 fn slash_at(tail: &[u8]) -> Lexed
     ensures value { result ≡ slash_at tail.now }
@@ -101,7 +102,7 @@ fn line_len(text: &[u8]) -> usize
     text.iter().take_while(|c| **c != b'\n').count()
 }
 
-// How many bytes a comment has behind its `/*`, with its `*/`.
+// How many bytes a comment has after its `/*`, with its `*/`.
 fn comment_len(text: &[u8]) -> Option<usize>
     ensures value { result ≡ comment_len text.now }
     ensures within { IfSome result (λ n. n ≤ length text.now) }
@@ -126,7 +127,7 @@ fn is_left_out(tail: &[u8]) -> bool
         || tail.starts_with(b"bits/")
 }
 
-// Behind a `&`.
+// After a `&`.
 #[tactic(auto, unfolding(crate::specs::Tokens::reference_at))]
 fn reference_at(tail: &[u8]) -> Lexed
     ensures value { result ≡ reference_at tail.now }
@@ -195,7 +196,7 @@ fn name_at(with_directives: bool, text: &[u8]) -> Lexed
 }
 
 fn name_len(text: &[u8]) -> usize
-    ensures value { result ≡ prefix_len is_name text.now }
+    ensures value { result ≡ prefix_len is_name_character text.now }
     ensures within { result ≤ length text.now }
 {
     text.iter().take_while(|c| is_name(**c)).count()
@@ -217,7 +218,7 @@ fn is_directive(word: &[u8]) -> bool
 
 #[tactic(auto, unfolding(crate::specs::Tokens::value_at))]
 fn value_at(text: &[u8]) -> Lexed
-    ensures value { result ≡ value_at text.now }
+    ensures value { result ≡ value_token text.now }
     ensures within { IsWithin result (length text.now) }
     ensures plain { IsPlain result text.now }
 {
@@ -231,7 +232,7 @@ fn value_at(text: &[u8]) -> Lexed
 }
 
 fn name_in_value_len(text: &[u8]) -> usize
-    ensures value { result ≡ prefix_len (λ c. is_name c && not (c == 44)) text.now }
+    ensures value { result ≡ prefix_len (λ c. is_name_character c && not (c == 44)) text.now }
     ensures within { result ≤ length text.now }
 {
     text.iter()
@@ -241,7 +242,7 @@ fn name_in_value_len(text: &[u8]) -> usize
 
 #[tactic(auto, unfolding(crate::specs::Tokens::number_at))]
 fn number_at(text: &[u8]) -> Lexed
-    ensures value { result ≡ number_at text.now }
+    ensures value { result ≡ number_token text.now }
     ensures within { IsWithin result (length text.now) }
     ensures plain { IsPlain result text.now }
 {

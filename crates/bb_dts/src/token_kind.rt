@@ -51,7 +51,7 @@ pub(crate) enum Mode {
     Pairs,
 }
 
-/// What begins at a character. A number is how many bytes it has behind that character.
+/// What begins at a character. A number is how many bytes it has after that character.
 #[derive(Clone, Copy, Debug, PartialEq, Eq)]
 pub(crate) enum Lexed {
     /// Blanks or a comment.

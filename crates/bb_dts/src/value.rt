@@ -4,7 +4,7 @@ ghost use Rattle.std.specs.Str.{IsAscii};
 ghost use Rattle.bb_dts.specs.Places.{Value, Cells, Bytes, After};
 ghost use Rattle.bb_dts.specs.Strings.{quoted_bytes};
 ghost use Rattle.bb_dts.specs.Walk.{number_below, byte_value, property_of_name, with_reference};
-ghost use Rattle.bb_dts.specs.Walk.{with_bytes};
+ghost use Rattle.bb_dts.specs.Walk.{with_joined_bytes};
 ghost use Rattle.bb_dts.specs.Descent.{value_walk_from, walk_after_value, walk_after_prop};
 ghost use Rattle.bb_dts.specs.Descent.{RefusesResult, RefusesValue};
 
@@ -31,7 +31,7 @@ pub(crate) fn empty_prop(alloc: Global, name: &[u8]) -> Result<DraftProp, NoMemo
     Ok(DraftProp { name, parts })
 }
 
-/// Reads a property, behind its `=`, with its `;`. Its name must be ASCII.
+/// Reads a property, after its `=`, with its `;`. Its name must be ASCII.
 #[tactic(auto, using(crate::proofs::WalkLemmas::walk_after_value_is))]
 pub(crate) fn read_property<'a>(
     input: Input,
@@ -53,7 +53,7 @@ pub(crate) fn read_property<'a>(
     Ok((property.finish()?, rest))
 }
 
-// Reads a property's value, behind the `=`, with the `;`.
+// Reads a property's value, after the `=`, with the `;`.
 #[tactic(auto, using(crate::proofs::WalkLemmas::value_walk_from_after))]
 fn read_value<'a>(
     input: Input,
@@ -121,7 +121,7 @@ fn read_part<'a>(
 
 fn add_string(property: &mut Property, word: &[u8]) -> Result<(), NoMemory>
     ensures { OnOk result
-        (property.new ≡ with_bytes property.old (quoted_bytes 0 word.now ++ 0 ∷ [])) }
+        (property.new ≡ with_joined_bytes property.old (quoted_bytes 0 word.now ++ 0 ∷ [])) }
 {
     unescape(&mut property.bytes, word)?;
     property.add(&[0])
@@ -139,7 +139,7 @@ fn refer(input: Input, property: &mut Property, reference: Part, at: usize) -> R
     Ok(())
 }
 
-// Reads the cells behind a `<`, with the `>`.
+// Reads the cells after a `<`, with the `>`.
 #[tactic(auto, using(crate::proofs::WalkLemmas::value_walk_from_cells))]
 fn read_cells<'a>(
     input: Input,
@@ -188,7 +188,7 @@ fn cell(word: &[u8], at: usize) -> Result<u32, DtsError>
     }
 }
 
-// Reads the bytes behind a `[`, with the `]`.
+// Reads the bytes after a `[`, with the `]`.
 #[tactic(auto, using(crate::proofs::WalkLemmas::value_walk_from_bytes))]
 fn read_bytes<'a>(
     input: Input,

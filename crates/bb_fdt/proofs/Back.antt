@@ -7,10 +7,10 @@ use Rattle.std.proofs.lemmas.Bool.Decides.{nat_tests}
 use Rattle.std.proofs.Math.Seq.{drop-append_seam, take-append_seam}
 use Rattle.byteorder.specs.Numbers.{big_number-reads_back}
 use Rattle.bb_tree.specs.Node.{grow, empty}
-use Rattle.bb_tree.specs.Blob.{Devicetree, word, double_word, blob_text, header_text, reservation_list, structure_block, strings_block, names_of, offset_of, nodes_text, prop_names}
+use Rattle.bb_tree.specs.Blob.{Devicetree, word, double_word, blob_text, header_text, reservation_list, structure_block, strings_block, names_used, offset_of, nodes_text, prop_names}
 use Rattle.bb_tree.proofs.Lengths.{length-double_word, length-header, length-reservations}
-use Rattle.bb_fdt.specs.Header.{word_at, header_of, fields_of, header_or_fault}
-use Rattle.bb_fdt.specs.Reading.{double_word_at, pairs_in, part, tree_in, read_from, with_reserved, blob_of}
+use Rattle.bb_fdt.specs.Header.{header_word_at, header_of, header_fields, header_or_fault}
+use Rattle.bb_fdt.specs.Reading.{double_word_at, pairs_in, part, blob_tree, read_from, with_reserved, blob_of}
 use Rattle.bb_fdt.specs.Laws.{AreReserved, IsWritable}
 use Rattle.bb_fdt.proofs.PairLemmas.{pairs-end, pairs-more}
 use Rattle.bb_fdt.specs.declared.header.Header.{Header}
@@ -20,21 +20,21 @@ use Rattle.bb_fdt.proofs.BackTokens.{word_at-front}
 use Rattle.bb_fdt.proofs.BackNodes.{has_all_added, root_read}
 
 -- a word among others
-word_behind : (a i : ℕ) (rest : List ℕ) → word_at (4 * suc i) (word a
-    ++ rest) ≡ word_at (4 * i) rest
-unfolding word_at word
+word_behind : (a i : ℕ) (rest : List ℕ) → header_word_at (4 * suc i) (word a
+    ++ rest) ≡ header_word_at (4 * i) rest
+unfolding header_word_at word
 word_behind a i rest = let e : 4 * suc i ≡ suc (suc (suc (suc (4 * i)))) = omega arith in rw e refl
 
 word_among : (words : List ℕ) (i n : ℕ) (rest : List ℕ) → slice_get words i ≡ Some n
-    → n < 4294967296 → word_at (4 * i) (flat_map word words ++ rest) ≡ n
+    → n < 4294967296 → header_word_at (4 * i) (flat_map word words ++ rest) ≡ n
 word_among [] i n rest got small = absurd cc
 word_among (w ∷ ws) zero n rest got small =
     let e : w ≡ n = cc in
-    ap (word_at 0) (append_assoc (word w) (flat_map word ws) rest)
-    ∙ ap (λ (m : ℕ). word_at 0 (word m ++ (flat_map word ws ++ rest))) e
+    ap (header_word_at 0) (append_assoc (word w) (flat_map word ws) rest)
+    ∙ ap (λ (m : ℕ). header_word_at 0 (word m ++ (flat_map word ws ++ rest))) e
     ∙ word_at-front n (flat_map word ws ++ rest) small
 word_among (w ∷ ws) (suc i) n rest got small =
-    ap (word_at (4 * suc i)) (append_assoc (word w) (flat_map word ws) rest)
+    ap (header_word_at (4 * suc i)) (append_assoc (word w) (flat_map word ws) rest)
     ∙ word_behind w i (flat_map word ws ++ rest) ∙ word_among ws i n rest got small
 
 -- pairs
@@ -114,10 +114,10 @@ words r s u =
     0xD00DFEED ∷ (40 + r + s + u) ∷ (40 + r) ∷ (40 + r + s) ∷ 40 ∷ 17 ∷ 16 ∷ 0 ∷ u ∷ s ∷ []
 
 fields_back : (r s u : ℕ) (rest : List ℕ) → 40 + r + s + u < 4294967296
-    → fields_of (header_text r s u ++ rest) ≡ header r s u
+    → header_fields (header_text r s u ++ rest) ≡ header r s u
 fields_back r s u rest short =
     let at : (i n : ℕ) → slice_get (words r s u) i ≡ Some n → n < 4294967296
-    → word_at (4 * i) (header_text r s u ++ rest) ≡ n =
+    → header_word_at (4 * i) (header_text r s u ++ rest) ≡ n =
     λ i n got small. word_among (words r s u) i n rest got small in
     let a = at 1 (40 + r + s + u) refl short in
     let b = at 2 (40 + r) refl (omega arith) in
@@ -146,7 +146,7 @@ header_back : (r s u k : ℕ) (rest : List ℕ) → r ≡ 16 * k + 16
 header_back r s u k rest is_r len short =
     let bytes = header_text r s u ++ rest in
     let long : nat_lt (length bytes) 40 ≡ false = grind (arith, nat_tests) in
-    let magic : word_at 0 bytes ≡ 0xD00DFEED =
+    let magic : header_word_at 0 bytes ≡ 0xD00DFEED =
     word_among (words r s u) 0 0xD00DFEED rest refl (lit< tt) in
     rw (long, magic) (ap (header_or_fault (length bytes)) (fields_back r s u rest short)
     ∙ checked_back (length bytes) r s u k is_r len)
@@ -162,7 +162,7 @@ at_seam xs ys n is = ap (λ k. drop k (xs ++ ys)) is ∙ drop-append_seam xs ys
 pub read_back : (t : Devicetree) → IsWritable t → blob_of (blob_text t) ≡ Ok t
 unfolding blob_text
 read_back t writable =
-    let names = names_of t.root in
+    let names = names_used t.root in
     let r = reservation_list t.reserved in
     let s = structure_block (offset_of names) t.root in
     let u = strings_block names in
@@ -209,9 +209,9 @@ read_back t writable =
     (has_all_added (prop_names (grow t.root empty)) []) (omega (arith, is_s, short))
     (omega (arith, short)) in
     ap (read_from blob) (header_back R S U (length t.reserved) behind is_r len short)
-    ∙ ap (λ l. tree_in (header R S U) l (pairs_in 0 (drop 40 l))) all
-    ∙ ap (λ l. tree_in (header R S U) blob (pairs_in 0 l)) front
-    ∙ ap (tree_in (header R S U) blob) pairs
+    ∙ ap (λ l. blob_tree (header R S U) l (pairs_in 0 (drop 40 l))) all
+    ∙ ap (λ l. blob_tree (header R S U) blob (pairs_in 0 l)) front
+    ∙ ap (blob_tree (header R S U) blob) pairs
     ∙ ap (λ l. with_reserved t.reserved (walk l (40 + R + S) 0 (part blob (40 + R) S) Before []))
     strings
     ∙ ap (λ l. with_reserved t.reserved (walk u (40 + R + S) 0 l Before [])) structure

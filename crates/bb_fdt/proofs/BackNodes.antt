@@ -11,7 +11,7 @@ use Rattle.bb_tree.proofs.Lengths.{length-prop, has_name-append}
 use Rattle.bb_tree.proofs.Changing.{bytes_eq-refl}
 use Rattle.bb_fdt.specs.declared.error.FdtError.TheVariants as refusal
 use Rattle.bb_tree.specs.Depth.{depth_limit}
-use Rattle.bb_fdt.specs.Tokens.{is_name, up_to_zero, name_in}
+use Rattle.bb_fdt.specs.Tokens.{is_name, up_to_zero, string_at}
 use Rattle.bb_fdt.specs.Walk.{Open, Before, Inside, open_node, node_of_open, with_prop, with_node, child_name, prop_name}
 use Rattle.bb_fdt.specs.Descent.{Onward, walk_from, walk_inside, walk_after_node, item_walk_by_token, walk_into_node, walk_after_prop, root_walk_by_token, end_walk_by_token}
 use Rattle.bb_fdt.specs.Laws.{HaveNames, CanStand}
@@ -44,8 +44,8 @@ ended_at (n ∷ ns) name has is =
         ap (λ n. drop n (x ∷ (xs ++ ys))) e ∙ past xs k ys
 
 pub name_found : (names : List (List ℕ)) (name : List ℕ) → has_name names name ≡ true
-    → is_name name ≡ true → name_in (strings_block names) (offset_of names name) ≡ Some name
-unfolding name_in
+    → is_name name ≡ true → string_at (strings_block names) (offset_of names name) ≡ Some name
+unfolding string_at
 name_found names name has is = rw (ended_at names name has is, is) refl
 
 offset_within : (names : List (List ℕ)) (name : List ℕ)

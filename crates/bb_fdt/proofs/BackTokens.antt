@@ -8,20 +8,20 @@ use Rattle.byteorder.specs.Numbers.{big_number-reads_back}
 use Rattle.bb_tree.specs.Blob.{word, whole_words, filling, begin_text, prop_text}
 use Rattle.bb_tree.proofs.Lengths.{length-word, length-begin, length-prop}
 use Rattle.bb_fdt.specs.declared.token_kind.TokenKind.TheVariants.{BeginNode, EndNode, Property, End}
-use Rattle.bb_fdt.specs.Header.{word_at}
+use Rattle.bb_fdt.specs.Header.{header_word_at}
 use Rattle.bb_fdt.specs.Tokens.{Token, token_at, token_by, node_at, prop_at, up_to_zero, is_name, is_name_byte, bare, node_token, first_token}
 use Rattle.bb_fdt.proofs.TokenLemmas.{here, first_token-here}
 
-pub word_at-front : (n : ℕ) (rest : List ℕ) → n < 4294967296 → word_at 0 (word n ++ rest) ≡ n
-unfolding word_at word
+pub word_at-front : (n : ℕ) (rest : List ℕ) → n < 4294967296 → header_word_at 0 (word n ++ rest) ≡ n
+unfolding header_word_at word
 word_at-front n rest small = big_number-reads_back 4 n rest small
 
-pub word_at-4 : (a : ℕ) (rest : List ℕ) → word_at 4 (word a ++ rest) ≡ word_at 0 rest
-unfolding word_at word
+pub word_at-4 : (a : ℕ) (rest : List ℕ) → header_word_at 4 (word a ++ rest) ≡ header_word_at 0 rest
+unfolding header_word_at word
 word_at-4 a rest = refl
 
-pub word_at-8 : (a b : ℕ) (rest : List ℕ) → word_at 8 (word a ++ (word b ++ rest)) ≡ word_at 0 rest
-unfolding word_at word
+pub word_at-8 : (a b : ℕ) (rest : List ℕ) → header_word_at 8 (word a ++ (word b ++ rest)) ≡ header_word_at 0 rest
+unfolding header_word_at word
 word_at-8 a b rest = refl
 
 drop-4 : (a : ℕ) (rest : List ℕ) → drop 4 (word a ++ rest) ≡ rest
@@ -198,9 +198,9 @@ prop_token_at offset p rest short small =
     let long : nat_lt (length text) 12 ≡ false = grind (arith, nat_tests) in
     let test : nat_lt (11 + whole_words (length p.1)) (length text) ≡ true =
     grind (arith, nat_tests) in
-    let is_len : word_at 4 text ≡ length p.1 = ap (word_at 4) whole
+    let is_len : header_word_at 4 text ≡ length p.1 = ap (header_word_at 4) whole
     ∙ word_at-4 3 (word (length p.1) ++ at) ∙ word_at-front (length p.1) at short in
-    let is_at : word_at 8 text ≡ offset p.0 = ap (word_at 8) whole ∙ word_at-8 3 (length p.1) at
+    let is_at : header_word_at 8 text ≡ offset p.0 = ap (header_word_at 8) whole ∙ word_at-8 3 (length p.1) at
     ∙ word_at-front (offset p.0) filled small in
     let is_rest : drop 12 text ≡ filled = ap (drop 12) whole
     ∙ drop-12 3 (length p.1) (offset p.0) filled in

@@ -5,13 +5,13 @@ use Rattle.bb_tree.specs.Blob.{Devicetree, word, double_word, blob_text}
 use Rattle.bb_tree.specs.Node.{empty, node, bare}
 use Rattle.bb_fdt.specs.declared.error.FdtError.TheVariants.{NotBlob, Version, OutOfBounds, BadToken, BadName}
 use Rattle.bb_fdt.specs.declared.error.Field.TheVariants.{Total, Struct, Strings, Reserve}
-use Rattle.bb_fdt.specs.Header.{word_at}
-use Rattle.bb_fdt.specs.Tokens.{token_at, node_at, prop_at, up_to_zero, name_in}
+use Rattle.bb_fdt.specs.Header.{header_word_at}
+use Rattle.bb_fdt.specs.Tokens.{token_at, node_at, prop_at, up_to_zero, string_at}
 use Rattle.bb_fdt.specs.Walk.{walk}
 use Rattle.bb_fdt.specs.Reading.{double_word_at, pairs_in, blob_of}
 
--- a header of these words (totalsize, off_dt_struct, off_dt_strings, off_mem_rsvmap, last_comp_version, size_dt_strings,
--- size_dt_struct), the pair of zeros, and these words behind it
+-- a header of these words (totalsize, off_dt_struct, off_dt_strings, off_mem_rsvmap,
+-- last_comp_version, size_dt_strings, size_dt_struct), the pair of zeros, and these words after it
 abbrev blob : ℕ → ℕ → ℕ → ℕ → ℕ → ℕ → ℕ → List ℕ → List ℕ
 blob total struct_at strings_at reserve_at last strings_len struct_len words =
     flat_map word
@@ -28,119 +28,119 @@ bare_tree = record { root = bare []; reserved = [] }
 
 -- the blob of the bare tree, 72 bytes
 bare_blob : blob_text bare_tree ≡ blob 72 56 72 40 16 0 16 bare_words
-unfolding word double_word word_at double_word_at pairs_in walk token_at node_at prop_at up_to_zero
-    name_in blob_text
+unfolding word double_word header_word_at double_word_at pairs_in walk token_at node_at prop_at up_to_zero
+    string_at blob_text
 bare_blob = refl
 
 bare_is_read : blob_of (blob 72 56 72 40 16 0 16 bare_words) ≡ Ok bare_tree
-unfolding word double_word word_at double_word_at pairs_in walk token_at node_at prop_at up_to_zero
-    name_in
+unfolding word double_word header_word_at double_word_at pairs_in walk token_at node_at prop_at up_to_zero
+    string_at
 bare_is_read = refl
 
 cut_to_71 : blob_of (take 71 (blob 72 56 72 40 16 0 16 bare_words)) ≡ Err (OutOfBounds Total)
-unfolding word double_word word_at double_word_at pairs_in walk token_at node_at prop_at up_to_zero
-    name_in
+unfolding word double_word header_word_at double_word_at pairs_in walk token_at node_at prop_at up_to_zero
+    string_at
 cut_to_71 = refl
 
 cut_to_39 : blob_of (take 39 (blob 72 56 72 40 16 0 16 bare_words)) ≡ Err NotBlob
-unfolding word double_word word_at double_word_at pairs_in walk token_at node_at prop_at up_to_zero
-    name_in
+unfolding word double_word header_word_at double_word_at pairs_in walk token_at node_at prop_at up_to_zero
+    string_at
 cut_to_39 = refl
 
 a_byte_behind : blob_of (blob 72 56 72 40 16 0 16 bare_words ++ 0xFF ∷ []) ≡ Ok bare_tree
-unfolding word double_word word_at double_word_at pairs_in walk token_at node_at prop_at up_to_zero
-    name_in
+unfolding word double_word header_word_at double_word_at pairs_in walk token_at node_at prop_at up_to_zero
+    string_at
 a_byte_behind = refl
 
 longer_than_the_bytes : blob_of (blob 0x49 56 72 40 16 0 16 bare_words) ≡ Err (OutOfBounds Total)
-unfolding word double_word word_at double_word_at pairs_in walk token_at node_at prop_at up_to_zero
-    name_in
+unfolding word double_word header_word_at double_word_at pairs_in walk token_at node_at prop_at up_to_zero
+    string_at
 longer_than_the_bytes = refl
 
 shorter_than_the_header : blob_of (blob 39 56 72 40 16 0 16 bare_words) ≡ Err (OutOfBounds Total)
-unfolding word double_word word_at double_word_at pairs_in walk token_at node_at prop_at up_to_zero
-    name_in
+unfolding word double_word header_word_at double_word_at pairs_in walk token_at node_at prop_at up_to_zero
+    string_at
 shorter_than_the_header = refl
 
 for_version_18 : blob_of (blob 72 56 72 40 18 0 16 bare_words) ≡ Err Version
-unfolding word double_word word_at double_word_at pairs_in walk token_at node_at prop_at up_to_zero
-    name_in
+unfolding word double_word header_word_at double_word_at pairs_in walk token_at node_at prop_at up_to_zero
+    string_at
 for_version_18 = refl
 
 for_version_17 : blob_of (blob 72 56 72 40 17 0 16 bare_words) ≡ Ok bare_tree
-unfolding word double_word word_at double_word_at pairs_in walk token_at node_at prop_at up_to_zero
-    name_in
+unfolding word double_word header_word_at double_word_at pairs_in walk token_at node_at prop_at up_to_zero
+    string_at
 for_version_17 = refl
 
 cut_in_the_structure : blob_of (blob 72 56 72 40 16 0 4 bare_words) ≡ Err (BadToken 56)
-unfolding word double_word word_at double_word_at pairs_in walk token_at node_at prop_at up_to_zero
-    name_in
+unfolding word double_word header_word_at double_word_at pairs_in walk token_at node_at prop_at up_to_zero
+    string_at
 cut_in_the_structure = refl
 
 cut_between_tokens : blob_of (blob 72 56 72 40 16 0 8 bare_words) ≡ Err (BadToken 64)
-unfolding word double_word word_at double_word_at pairs_in walk token_at node_at prop_at up_to_zero
-    name_in
+unfolding word double_word header_word_at double_word_at pairs_in walk token_at node_at prop_at up_to_zero
+    string_at
 cut_between_tokens = refl
 
 reserved_at_4 : blob_of (blob 72 56 72 0x2c 16 0 16 bare_words) ≡ Err (OutOfBounds Reserve)
-unfolding word double_word word_at double_word_at pairs_in walk token_at node_at prop_at up_to_zero
-    name_in
+unfolding word double_word header_word_at double_word_at pairs_in walk token_at node_at prop_at up_to_zero
+    string_at
 reserved_at_4 = refl
 
 reserved_without_an_end : blob_of (blob 72 56 72 48 16 0 16 bare_words) ≡ Err (OutOfBounds Reserve)
-unfolding word double_word word_at double_word_at pairs_in walk token_at node_at prop_at up_to_zero
-    name_in
+unfolding word double_word header_word_at double_word_at pairs_in walk token_at node_at prop_at up_to_zero
+    string_at
 reserved_without_an_end = refl
 
 structure_at_2 : blob_of (blob 72 58 72 40 16 0 12 bare_words) ≡ Err (OutOfBounds Struct)
-unfolding word double_word word_at double_word_at pairs_in walk token_at node_at prop_at up_to_zero
-    name_in
+unfolding word double_word header_word_at double_word_at pairs_in walk token_at node_at prop_at up_to_zero
+    string_at
 structure_at_2 = refl
 
 structure_past_the_end : blob_of (blob 72 56 72 40 16 0 20 bare_words) ≡ Err (OutOfBounds Struct)
-unfolding word double_word word_at double_word_at pairs_in walk token_at node_at prop_at up_to_zero
-    name_in
+unfolding word double_word header_word_at double_word_at pairs_in walk token_at node_at prop_at up_to_zero
+    string_at
 structure_past_the_end = refl
 
 structure_before_strings : blob_of (blob 72 56 72 40 16 1 20 bare_words) ≡ Err (OutOfBounds Struct)
-unfolding word double_word word_at double_word_at pairs_in walk token_at node_at prop_at up_to_zero
-    name_in
+unfolding word double_word header_word_at double_word_at pairs_in walk token_at node_at prop_at up_to_zero
+    string_at
 structure_before_strings = refl
 
 strings_past_the_end : blob_of (blob 72 56 72 40 16 1 16 bare_words) ≡ Err (OutOfBounds Strings)
-unfolding word double_word word_at double_word_at pairs_in walk token_at node_at prop_at up_to_zero
-    name_in
+unfolding word double_word header_word_at double_word_at pairs_in walk token_at node_at prop_at up_to_zero
+    string_at
 strings_past_the_end = refl
 
 a_nop_in_front : blob_of (blob 76 56 76 40 16 0 20 (4 ∷ bare_words)) ≡ Ok bare_tree
-unfolding word double_word word_at double_word_at pairs_in walk token_at node_at prop_at up_to_zero
-    name_in
+unfolding word double_word header_word_at double_word_at pairs_in walk token_at node_at prop_at up_to_zero
+    string_at
 a_nop_in_front = refl
 
 nops_everywhere : blob_of (blob 84 56 84 40 16 0 28 (1 ∷ 0 ∷ 4 ∷ 2 ∷ 4 ∷ 9 ∷ 5 ∷ [])) ≡ Ok bare_tree
-unfolding word double_word word_at double_word_at pairs_in walk token_at node_at prop_at up_to_zero
-    name_in
+unfolding word double_word header_word_at double_word_at pairs_in walk token_at node_at prop_at up_to_zero
+    string_at
 nops_everywhere = refl
 
 a_token_unknown : blob_of (blob 72 56 72 40 16 0 16 (1 ∷ 0 ∷ 5 ∷ 9 ∷ [])) ≡ Err (BadToken 64)
-unfolding word double_word word_at double_word_at pairs_in walk token_at node_at prop_at up_to_zero
-    name_in
+unfolding word double_word header_word_at double_word_at pairs_in walk token_at node_at prop_at up_to_zero
+    string_at
 a_token_unknown = refl
 
 two_roots : blob_of (blob 84 56 84 40 16 0 28 (1 ∷ 0 ∷ 2 ∷ 1 ∷ 0 ∷ 2 ∷ 9 ∷ [])) ≡ Err (BadToken 68)
-unfolding word double_word word_at double_word_at pairs_in walk token_at node_at prop_at up_to_zero
-    name_in
+unfolding word double_word header_word_at double_word_at pairs_in walk token_at node_at prop_at up_to_zero
+    string_at
 two_roots = refl
 
 a_node_without_a_name : blob_of (blob 84 56 84 40 16 0 28 (1 ∷ 0 ∷ 1 ∷ 0 ∷ 2 ∷ 2 ∷ 9 ∷ []))
     ≡ Err (BadName 64)
-unfolding word double_word word_at double_word_at pairs_in walk token_at node_at prop_at up_to_zero
-    name_in
+unfolding word double_word header_word_at double_word_at pairs_in walk token_at node_at prop_at up_to_zero
+    string_at
 a_node_without_a_name = refl
 
 a_root_with_a_name : blob_of (blob 72 56 72 40 16 0 16 (1 ∷ 0x61ff2000 ∷ 2 ∷ 9 ∷ [])) ≡ Ok bare_tree
-unfolding word double_word word_at double_word_at pairs_in walk token_at node_at prop_at up_to_zero
-    name_in
+unfolding word double_word header_word_at double_word_at pairs_in walk token_at node_at prop_at up_to_zero
+    string_at
 a_root_with_a_name = refl
 
 -- filling has any value
@@ -153,42 +153,43 @@ a_property : blob_of (blob 92 56 88 40 16 2 32 (1 ∷ 0 ∷ 3 ∷ 1 ∷ 0 ∷ 0x
       };
       reserved = [];
     })
-unfolding word double_word word_at double_word_at pairs_in walk token_at node_at prop_at up_to_zero
-    name_in
+unfolding word double_word header_word_at double_word_at pairs_in walk token_at node_at prop_at up_to_zero
+    string_at
 a_property = refl
 
 a_property_that_ends_in_its_filling : blob_of
     (blob 92 56 88 40 16 2 21 (1 ∷ 0 ∷ 3 ∷ 1 ∷ 0 ∷ 0xab123456 ∷ 2 ∷ 9 ∷ 0x70000000 ∷ []))
     ≡ Err (BadToken 64)
-unfolding word double_word word_at double_word_at pairs_in walk token_at node_at prop_at up_to_zero
-    name_in
+unfolding word double_word header_word_at double_word_at pairs_in walk token_at node_at prop_at up_to_zero
+    string_at
 a_property_that_ends_in_its_filling = refl
 
 a_name_at_the_strings_end : blob_of (blob 92 56 88 40 16 2 32 (1 ∷ 0 ∷ 3 ∷ 1 ∷ 2 ∷ 0xab123456 ∷ 2
     ∷ 9 ∷ 0x70000000 ∷ [])) ≡ Err (BadName 64)
-unfolding word double_word word_at double_word_at pairs_in walk token_at node_at prop_at up_to_zero
-    name_in
+unfolding word double_word header_word_at double_word_at pairs_in walk token_at node_at prop_at up_to_zero
+    string_at
 a_name_at_the_strings_end = refl
 
 a_name_without_an_end : blob_of (blob 92 56 88 40 16 1 32 (1 ∷ 0 ∷ 3 ∷ 1 ∷ 0 ∷ 0xab123456 ∷ 2 ∷ 9
     ∷ 0x70000000 ∷ [])) ≡ Err (BadName 64)
-unfolding word double_word word_at double_word_at pairs_in walk token_at node_at prop_at up_to_zero
-    name_in
+unfolding word double_word header_word_at double_word_at pairs_in walk token_at node_at prop_at up_to_zero
+    string_at
 a_name_without_an_end = refl
 
 an_empty_name : blob_of (blob 92 56 88 40 16 2 32 (1 ∷ 0 ∷ 3 ∷ 1 ∷ 1 ∷ 0xab123456 ∷ 2 ∷ 9
     ∷ 0x70000000 ∷ [])) ≡ Err (BadName 64)
-unfolding word double_word word_at double_word_at pairs_in walk token_at node_at prop_at up_to_zero
-    name_in
+unfolding word double_word header_word_at double_word_at pairs_in walk token_at node_at prop_at up_to_zero
+    string_at
 an_empty_name = refl
 
 a_name_with_a_space : blob_of (blob 92 56 88 40 16 2 32 (1 ∷ 0 ∷ 3 ∷ 1 ∷ 0 ∷ 0xab123456 ∷ 2 ∷ 9
     ∷ 0x20000000 ∷ [])) ≡ Err (BadName 64)
-unfolding word double_word word_at double_word_at pairs_in walk token_at node_at prop_at up_to_zero
-    name_in
+unfolding word double_word header_word_at double_word_at pairs_in walk token_at node_at prop_at up_to_zero
+    string_at
 a_name_with_a_space = refl
 
--- what dtc 1.6.1 makes of `/memreserve/ 0x10000000 0x4000; / { a = [01 02 03 04 05]; b; n@1 { b = "x"; a = <7>; m { }; }; };`
+-- what dtc 1.6.1 makes of `/memreserve/ 0x10000000 0x4000; / { a = [01 02 03 04 05]; b; n@1 { b =
+-- "x"; a = <7>; m { }; }; };`
 abbrev dtc_words : List ℕ
 dtc_words =
     0xd00dfeed ∷ 0xb4 ∷ 0x48 ∷ 0xb0 ∷ 0x28 ∷ 0x11 ∷ 0x10 ∷ 0 ∷ 4 ∷ 0x68 ∷ 0 ∷ 0x10000000 ∷ 0
@@ -208,11 +209,11 @@ dtc_tree = record {
 }
 
 dtc_blob : blob_text dtc_tree ≡ flat_map word dtc_words
-unfolding word double_word word_at double_word_at pairs_in walk token_at node_at prop_at up_to_zero
-    name_in blob_text
+unfolding word double_word header_word_at double_word_at pairs_in walk token_at node_at prop_at up_to_zero
+    string_at blob_text
 dtc_blob = refl
 
 dtc_is_read : blob_of (flat_map word dtc_words) ≡ Ok dtc_tree
-unfolding word double_word word_at double_word_at pairs_in walk token_at node_at prop_at up_to_zero
-    name_in
+unfolding word double_word header_word_at double_word_at pairs_in walk token_at node_at prop_at up_to_zero
+    string_at
 dtc_is_read = refl

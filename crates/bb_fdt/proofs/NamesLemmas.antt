@@ -8,7 +8,7 @@ use Rattle.std.proofs.lemmas.List.{map-append}
 use Rattle.bb_tree.specs.Blob.{has_name, offset_of, strings_block}
 use Rattle.bb_tree.specs.Texts.{texts_in}
 use Rattle.bb_fdt.specs.declared.names.Names.TheInside.{Inside}
-use Rattle.bb_fdt.specs.Names.{with_places, names_in, ArePlaced}
+use Rattle.bb_fdt.specs.Names.{with_places, found_names, ArePlaced}
 
 pub has_lookup : {X : Type 0} (name : List ℕ) (es : List (List ℕ × X))
     → is_some (lookup (bytes_eq name) es) ≡ has_name (map (λ e. e.0) es) name
@@ -47,12 +47,12 @@ at_placed at (n ∷ ns) name =
 
 pub offset_placed : (n : Inside) (name : List ℕ) → ArePlaced n
     → unwrap_or (lookup (bytes_eq name) (texts_in n.places.entries)) n.len
-    ≡ offset_of (names_in n) name
+    ≡ offset_of (found_names n) name
 offset_placed n name are =
     ap (λ es. unwrap_or (lookup (bytes_eq name) es) n.len) are.places
-    ∙ ap (λ k. unwrap_or (lookup (bytes_eq name) (with_places 0 (names_in n))) k)
-    (are.len ∙ sym (zero-add (length (strings_block (names_in n)))))
-    ∙ at_placed 0 (names_in n) name ∙ zero-add (offset_of (names_in n) name)
+    ∙ ap (λ k. unwrap_or (lookup (bytes_eq name) (with_places 0 (found_names n))) k)
+    (are.len ∙ sym (zero-add (length (strings_block (found_names n)))))
+    ∙ at_placed 0 (found_names n) name ∙ zero-add (offset_of (found_names n) name)
 
 placed-append : (at : ℕ) (names : List (List ℕ)) (name : List ℕ)
     → with_places at (names ++ name ∷ [])
@@ -82,7 +82,7 @@ strings_length-append (n ∷ ns) name =
           (strings_block (ns ++ name ∷ [])),
     )
 
--- one name more is placed behind the others
+-- one name more is placed after the others
 pub more_placed : (es more : List (List ℕ × ℕ)) (name : List ℕ) (len longer : ℕ)
     → es ≡ with_places 0 (map (λ e. e.0) es) → len ≡ length (strings_block (map (λ e. e.0) es))
     → more ≡ es ++ (name, len) ∷ [] → longer ≡ len + (length name + 1)

@@ -11,7 +11,7 @@ pairs_in-skip zero (b ∷ tail) = refl
 pairs_in-skip (suc skip) [] = refl
 pairs_in-skip (suc skip) (b ∷ tail) = pairs_in-skip skip tail
 
--- one pair, before those behind it
+-- one pair, before those after it
 pub pairs_step : (text : List ℕ) → pairs_in 0 text ≡ pair_before text (pairs_in 0 (drop 16 text))
 unfolding pairs_in
 pairs_step [] = refl

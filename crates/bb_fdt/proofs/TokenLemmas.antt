@@ -4,7 +4,7 @@ use Rattle.bb_fdt.specs.declared.error.FdtError.{FdtError}
 use Rattle.bb_fdt.specs.declared.error.FdtError.TheVariants.{BadToken}
 use Rattle.bb_fdt.specs.declared.token_kind.TokenKind.{TokenKind}
 use Rattle.bb_fdt.specs.declared.token_kind.TokenKind.TheVariants.{BeginNode, EndNode, Property, Nop, End}
-use Rattle.bb_fdt.specs.Tokens.{Found, Token, first_token, token_at, found_by, found_at}
+use Rattle.bb_fdt.specs.Tokens.{FoundToken, Token, first_token, token_at, found_by, found_at}
 
 pub first_token-skip : (end skip : ℕ) (text : List ℕ)
     → first_token end skip text ≡ first_token end 0 (drop skip text)
@@ -15,7 +15,7 @@ first_token-skip end (suc skip) [] = refl
 first_token-skip end (suc skip) (b ∷ tail) = first_token-skip end skip tail
 
 -- what comes of the token that a text begins with
-abbrev pub here_by : ℕ → List ℕ → Token → TokenKind → Result Found FdtError
+abbrev pub here_by : ℕ → List ℕ → Token → TokenKind → Result FoundToken FdtError
 here_by end text t Nop = first_token end 0 (drop (t.behind + 1) text)
 here_by end text t kind = Ok (record {
   kind = kind;
@@ -25,7 +25,7 @@ here_by end text t kind = Ok (record {
   rest = drop (t.behind + 1) text;
 })
 
-abbrev pub here : ℕ → List ℕ → Option Token → Result Found FdtError
+abbrev pub here : ℕ → List ℕ → Option Token → Result FoundToken FdtError
 here end text None = Err (BadToken (end - length text))
 here end text (Some t) = here_by end text t t.kind
 
@@ -67,7 +67,7 @@ here-other end text t Nop other = absurd (other refl)
 here-other end text t _ other = refl
 
 -- what is found isn't FDT_NOP
-other_by : (at : ℕ) (tail : List ℕ) (t : Token) (kind : TokenKind) (on : ℕ → Result Found FdtError)
+other_by : (at : ℕ) (tail : List ℕ) (t : Token) (kind : TokenKind) (on : ℕ → Result FoundToken FdtError)
     → ((n : ℕ) → IfOk (on n) (λ f. f.kind ≢ Nop))
     → IfOk (found_by at tail t kind on) (λ f. f.kind ≢ Nop)
 other_by at tail t Nop on onward = onward t.behind
@@ -76,7 +76,7 @@ other_by at tail t EndNode on onward = λ e. cc
 other_by at tail t Property on onward = λ e. cc
 other_by at tail t End on onward = λ e. cc
 
-other_at : (at : ℕ) (tail : List ℕ) (t : Option Token) (on : ℕ → Result Found FdtError)
+other_at : (at : ℕ) (tail : List ℕ) (t : Option Token) (on : ℕ → Result FoundToken FdtError)
     → ((n : ℕ) → IfOk (on n) (λ f. f.kind ≢ Nop)) → IfOk (found_at at tail t on) (λ f. f.kind ≢ Nop)
 other_at at tail None on onward = tt
 other_at at tail (Some t) on onward = other_by at tail t t.kind on onward

@@ -9,8 +9,8 @@ use Rattle.bb_fdt.specs.declared.error.FdtError.{FdtError}
 use Rattle.bb_fdt.specs.declared.error.FdtError.TheVariants as refusal
 use Rattle.bb_fdt.specs.declared.token_kind.TokenKind.{TokenKind}
 use Rattle.bb_fdt.specs.declared.token_kind.TokenKind.TheVariants.{BeginNode, EndNode, Property, Nop, End}
-use Rattle.bb_fdt.specs.Tokens.{Found, Token, first_token, token_at, found_by, found_at}
-use Rattle.bb_fdt.specs.Walk.{Open, Place, Before, Inside, Behind, walk, walk_over_token, behind, does, with_prop, with_node, child_name, prop_name, child_step, prop_step}
+use Rattle.bb_fdt.specs.Tokens.{FoundToken, Token, first_token, token_at, found_by, found_at}
+use Rattle.bb_fdt.specs.Walk.{Open, Place, Before, Inside, Behind, walk, walk_over_token, walk_after, does, with_prop, with_node, child_name, prop_name, child_step, prop_step}
 use Rattle.bb_fdt.proofs.TokenLemmas.{first_token-other}
 use Rattle.bb_fdt.specs.Descent.{Onward, walk_from, refusal_walk, walk_at_token, walk_by_token, walk_inside, walk_after_node, walk_into_node, walk_after_prop, item_walk_at_token, item_walk_by_token, root_walk_at_token, root_walk_by_token, end_walk_at_token, end_walk_by_token, open_of, unless_memory}
 
@@ -24,7 +24,7 @@ walk-skip strings end (suc skip) (b ∷ tail) = walk-skip strings end skip tail
 
 -- FDT_NOP leaves the place as it is
 nop : (strings : List ℕ) (at : ℕ) (place : Place) (bytes : List ℕ) (name_at : ℕ)
-    (on : Place → Onward) → behind (does strings at place bytes name_at Nop) on ≡ on place
+    (on : Place → Onward) → walk_after (does strings at place bytes name_at Nop) on ≡ on place
 nop strings at Before bytes name_at on = refl
 nop strings at (Inside o) bytes name_at on = refl
 nop strings at (Behind root) bytes name_at on = refl
@@ -33,22 +33,22 @@ takes_by : (strings : List ℕ) (end at : ℕ) (tail : List ℕ) (place : Place)
     (kind : TokenKind)
     → ((n : ℕ)
     → walk strings end n tail place ≡ walk_by_token strings end place (first_token end n tail))
-    → behind (does strings at place t.bytes t.name_at kind) (walk strings end t.behind tail)
+    → walk_after (does strings at place t.bytes t.name_at kind) (walk strings end t.behind tail)
     ≡ walk_by_token strings end place (found_by at tail t kind (λ n. first_token end n tail))
 unfolding walk_at_token walk_from
 takes_by strings end at tail place t Nop onward =
     nop strings at place t.bytes t.name_at (walk strings end t.behind tail) ∙ onward t.behind
 takes_by strings end at tail place t BeginNode onward =
-    ap (λ on. behind (does strings at place t.bytes t.name_at BeginNode) on)
+    ap (λ on. walk_after (does strings at place t.bytes t.name_at BeginNode) on)
     (walk-skip strings end t.behind tail)
 takes_by strings end at tail place t EndNode onward =
-    ap (λ on. behind (does strings at place t.bytes t.name_at EndNode) on)
+    ap (λ on. walk_after (does strings at place t.bytes t.name_at EndNode) on)
     (walk-skip strings end t.behind tail)
 takes_by strings end at tail place t Property onward =
-    ap (λ on. behind (does strings at place t.bytes t.name_at Property) on)
+    ap (λ on. walk_after (does strings at place t.bytes t.name_at Property) on)
     (walk-skip strings end t.behind tail)
 takes_by strings end at tail place t End onward =
-    ap (λ on. behind (does strings at place t.bytes t.name_at End) on)
+    ap (λ on. walk_after (does strings at place t.bytes t.name_at End) on)
     (walk-skip strings end t.behind tail)
 
 takes : (strings : List ℕ) (end at : ℕ) (tail : List ℕ) (place : Place) (t : Option Token)
@@ -76,7 +76,7 @@ unfolding walk_from
 walk_from_step strings end place text = walk-token strings end 0 text place
 
 enters : (strings : List ℕ) (end : ℕ) (o : Open) (rest : List ℕ) (name : Result (List ℕ) FdtError)
-    → behind (child_step o name) (λ p. walk_from strings end p rest)
+    → walk_after (child_step o name) (λ p. walk_from strings end p rest)
     ≡ walk_into_node strings end o rest name
 unfolding walk_inside refusal_walk
 enters strings end o rest (Ok name) = refl
@@ -84,14 +84,14 @@ enters strings end o rest (Err e) = refl
 
 has : (strings : List ℕ) (end : ℕ) (o : Open) (value rest : List ℕ)
     (name : Result (List ℕ) FdtError)
-    → behind (prop_step o value name) (λ p. walk_from strings end p rest)
+    → walk_after (prop_step o value name) (λ p. walk_from strings end p rest)
     ≡ walk_after_prop strings end o value rest name
 unfolding refusal_walk
 has strings end o value rest (Ok name) = refl
 has strings end o value rest (Err e) = refl
 
-item_found : (strings : List ℕ) (end : ℕ) (o : Open) (f : Found) (kind : TokenKind) → kind ≢ Nop
-    → behind (does strings f.at (Inside o) f.bytes f.name_at kind)
+item_found : (strings : List ℕ) (end : ℕ) (o : Open) (f : FoundToken) (kind : TokenKind) → kind ≢ Nop
+    → walk_after (does strings f.at (Inside o) f.bytes f.name_at kind)
     (λ p. walk_from strings end p f.rest) ≡ item_walk_at_token strings end o f kind
 unfolding refusal_walk walk_after_node
 item_found strings end o f BeginNode other =
@@ -102,7 +102,7 @@ item_found strings end o f EndNode other = refl
 item_found strings end o f Nop other = absurd (other refl)
 item_found strings end o f End other = refl
 
-item_on_found : (strings : List ℕ) (end : ℕ) (o : Open) (found : Result Found FdtError)
+item_on_found : (strings : List ℕ) (end : ℕ) (o : Open) (found : Result FoundToken FdtError)
     → IfOk found (λ f. f.kind ≢ Nop)
     → walk_by_token strings end (Inside o) found ≡ item_walk_by_token strings end o found
 unfolding walk_at_token
@@ -116,8 +116,8 @@ pub item_step : (strings : List ℕ) (end : ℕ) (o : Open) (text : List ℕ)
 item_step strings end o text = walk_from_step strings end (Inside o) text
     ∙ item_on_found strings end o (first_token end 0 text) (first_token-other end 0 text)
 
-root_found : (strings : List ℕ) (end : ℕ) (f : Found) (kind : TokenKind) → kind ≢ Nop
-    → behind (does strings f.at Before f.bytes f.name_at kind) (λ p. walk_from strings end p f.rest)
+root_found : (strings : List ℕ) (end : ℕ) (f : FoundToken) (kind : TokenKind) → kind ≢ Nop
+    → walk_after (does strings f.at Before f.bytes f.name_at kind) (λ p. walk_from strings end p f.rest)
     [] ≡ root_walk_at_token strings end f kind
 root_found strings end f BeginNode other = refl
 root_found strings end f Nop other = absurd (other refl)
@@ -125,7 +125,7 @@ root_found strings end f EndNode other = refl
 root_found strings end f Property other = refl
 root_found strings end f End other = refl
 
-root_on_found : (strings : List ℕ) (end : ℕ) (found : Result Found FdtError)
+root_on_found : (strings : List ℕ) (end : ℕ) (found : Result FoundToken FdtError)
     → IfOk found (λ f. f.kind ≢ Nop)
     → walk_by_token strings end Before found [] ≡ root_walk_by_token strings end found
 unfolding walk_at_token refusal_walk
@@ -138,9 +138,9 @@ pub root_step : (strings : List ℕ) (end : ℕ) (text : List ℕ)
 root_step strings end text = ap (λ (w : Onward). w []) (walk_from_step strings end Before text)
     ∙ root_on_found strings end (first_token end 0 text) (first_token-other end 0 text)
 
-end_found : (strings : List ℕ) (end : ℕ) (root : Branch (List ℕ)) (f : Found) (kind : TokenKind)
+end_found : (strings : List ℕ) (end : ℕ) (root : Branch (List ℕ)) (f : FoundToken) (kind : TokenKind)
     → kind ≢ Nop
-    → behind (does strings f.at (Behind root) f.bytes f.name_at kind)
+    → walk_after (does strings f.at (Behind root) f.bytes f.name_at kind)
     (λ p. walk_from strings end p f.rest) [] ≡ end_walk_at_token root f kind
 end_found strings end root f BeginNode other = refl
 end_found strings end root f Nop other = absurd (other refl)
@@ -148,7 +148,7 @@ end_found strings end root f EndNode other = refl
 end_found strings end root f Property other = refl
 end_found strings end root f End other = refl
 
-end_on_found : (strings : List ℕ) (end : ℕ) (root : Branch (List ℕ)) (found : Result Found FdtError)
+end_on_found : (strings : List ℕ) (end : ℕ) (root : Branch (List ℕ)) (found : Result FoundToken FdtError)
     → IfOk found (λ f. f.kind ≢ Nop)
     → walk_by_token strings end (Behind root) found [] ≡ end_walk_by_token root found
 unfolding walk_at_token refusal_walk

@@ -11,8 +11,8 @@ use Rattle.bb_fdt.specs.declared.error.FdtError.{FdtError}
 use Rattle.bb_fdt.specs.declared.error.FdtError.TheVariants as refusal
 use Rattle.bb_fdt.specs.declared.token_kind.TokenKind.{TokenKind}
 use Rattle.bb_fdt.specs.declared.token_kind.TokenKind.TheVariants.{BeginNode, EndNode, Property, End}
-use Rattle.bb_fdt.specs.Tokens.{Found}
-use Rattle.bb_fdt.specs.Walk.{Open, Place, Inside, WalkResult, walk, does, behind, close_node, open_node, node_of_open, with_prop, child_name, prop_name}
+use Rattle.bb_fdt.specs.Tokens.{FoundToken}
+use Rattle.bb_fdt.specs.Walk.{Open, Place, Inside, WalkResult, walk, does, walk_after, close_node, open_node, node_of_open, with_prop, child_name, prop_name}
 
 -- a walk that is left open to the nodes around
 abbrev pub Onward : Type 0
@@ -27,12 +27,12 @@ unfoldable pub refusal_walk : FdtError → Onward
 refusal_walk e around = Err e
 
 -- the walk where a token was found
-unfoldable pub walk_at_token : List ℕ → ℕ → Place → Found → Onward
+unfoldable pub walk_at_token : List ℕ → ℕ → Place → FoundToken → Onward
 walk_at_token strings end place f =
-    behind (does strings f.at place f.bytes f.name_at f.kind) (λ p. walk_from strings end p f.rest)
+    walk_after (does strings f.at place f.bytes f.name_at f.kind) (λ p. walk_from strings end p f.rest)
 
 -- the walk where this is the first token, or the refusal in its place
-abbrev pub walk_by_token : List ℕ → ℕ → Place → Result Found FdtError → Onward
+abbrev pub walk_by_token : List ℕ → ℕ → Place → Result FoundToken FdtError → Onward
 walk_by_token strings end place (Ok f) = walk_at_token strings end place f
 walk_by_token strings end place (Err e) = refusal_walk e
 
@@ -51,7 +51,7 @@ walk_into_node strings end o rest (Ok name) =
     walk_inside o (walk_from strings end (Inside (open_node (o.level + 1) name)) rest)
 walk_into_node strings end o rest (Err e) = refusal_walk e
 
--- the walk behind a property
+-- the walk after a property
 abbrev pub walk_after_prop :
     List ℕ → ℕ → Open → List ℕ → List ℕ → Result (List ℕ) FdtError → Onward
 walk_after_prop strings end o value rest (Ok name) =
@@ -59,7 +59,7 @@ walk_after_prop strings end o value rest (Ok name) =
 walk_after_prop strings end o value rest (Err e) = refusal_walk e
 
 -- the walk in a node where a token was found
-abbrev pub item_walk_at_token : List ℕ → ℕ → Open → Found → TokenKind → Onward
+abbrev pub item_walk_at_token : List ℕ → ℕ → Open → FoundToken → TokenKind → Onward
 item_walk_at_token strings end o f BeginNode =
     walk_into_node strings end o f.rest (child_name f.at o.level f.bytes)
 item_walk_at_token strings end o f Property =
@@ -68,26 +68,26 @@ item_walk_at_token strings end o f EndNode =
     walk_after_node strings end (node_of_open o) f.rest
 item_walk_at_token strings end o f kind = refusal_walk (refusal.BadToken f.at)
 
-abbrev pub item_walk_by_token : List ℕ → ℕ → Open → Result Found FdtError → Onward
+abbrev pub item_walk_by_token : List ℕ → ℕ → Open → Result FoundToken FdtError → Onward
 item_walk_by_token strings end o (Ok f) = item_walk_at_token strings end o f f.kind
 item_walk_by_token strings end o (Err e) = refusal_walk e
 
 -- the walk before the root where a token was found
-abbrev pub root_walk_at_token : List ℕ → ℕ → Found → TokenKind → WalkResult
+abbrev pub root_walk_at_token : List ℕ → ℕ → FoundToken → TokenKind → WalkResult
 root_walk_at_token strings end f BeginNode =
     walk_from strings end (Inside (open_node 1 [])) f.rest []
 root_walk_at_token strings end f kind = Err (refusal.BadToken f.at)
 
-abbrev pub root_walk_by_token : List ℕ → ℕ → Result Found FdtError → WalkResult
+abbrev pub root_walk_by_token : List ℕ → ℕ → Result FoundToken FdtError → WalkResult
 root_walk_by_token strings end (Ok f) = root_walk_at_token strings end f f.kind
 root_walk_by_token strings end (Err e) = Err e
 
--- the walk behind the root where a token was found
-abbrev pub end_walk_at_token : Branch (List ℕ) → Found → TokenKind → WalkResult
+-- the walk after the root where a token was found
+abbrev pub end_walk_at_token : Branch (List ℕ) → FoundToken → TokenKind → WalkResult
 end_walk_at_token root f End = Ok root
 end_walk_at_token root f kind = Err (refusal.BadToken f.at)
 
-abbrev pub end_walk_by_token : Branch (List ℕ) → Result Found FdtError → WalkResult
+abbrev pub end_walk_by_token : Branch (List ℕ) → Result FoundToken FdtError → WalkResult
 end_walk_by_token root (Ok f) = end_walk_at_token root f f.kind
 end_walk_by_token root (Err e) = Err e
 

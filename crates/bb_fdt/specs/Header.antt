@@ -18,23 +18,23 @@ use Rattle.bb_fdt.specs.declared.error.Field.TheVariants.{Total, Struct, Strings
 use Rattle.bb_fdt.specs.declared.header.Header.{Header}
 
 -- the word at a place
-unfoldable pub word_at : ℕ → List ℕ → ℕ
-word_at at bytes = big_number 4 (drop at bytes)
+unfoldable pub header_word_at : ℕ → List ℕ → ℕ
+header_word_at at bytes = big_number 4 (drop at bytes)
 
 -- the words that are looked at
-abbrev pub fields_of : List ℕ → Header
-fields_of bytes = record {
-  total = word_at 4 bytes;
-  struct_at = word_at 8 bytes;
-  strings_at = word_at 12 bytes;
-  reserve_at = word_at 16 bytes;
-  version = word_at 20 bytes;
-  last_version = word_at 24 bytes;
-  strings_len = word_at 32 bytes;
-  struct_len = word_at 36 bytes;
+abbrev pub header_fields : List ℕ → Header
+header_fields bytes = record {
+  total = header_word_at 4 bytes;
+  struct_at = header_word_at 8 bytes;
+  strings_at = header_word_at 12 bytes;
+  reserve_at = header_word_at 16 bytes;
+  version = header_word_at 20 bytes;
+  last_version = header_word_at 24 bytes;
+  strings_len = header_word_at 32 bytes;
+  struct_len = header_word_at 36 bytes;
 }
 
--- whether a part of the blob ends behind the blob's end
+-- whether a part of the blob ends after the blob's end
 abbrev pub is_outside : ℕ → ℕ → ℕ → Bool
 is_outside total at len = nat_lt total (at + len)
 
@@ -52,6 +52,6 @@ header_or_fault len h =
 -- the header that bytes begin with, or the first of its faults
 abbrev pub header_of : List ℕ → Result Header FdtError
 header_of bytes =
-    if nat_lt (length bytes) 40 || not (word_at 0 bytes == 0xD00DFEED)
+    if nat_lt (length bytes) 40 || not (header_word_at 0 bytes == 0xD00DFEED)
     then Err NotBlob
-    else header_or_fault (length bytes) (fields_of bytes)
+    else header_or_fault (length bytes) (header_fields bytes)

@@ -10,10 +10,10 @@ with_places at [] = []
 with_places at (name ∷ names) = (name, at) ∷ with_places (at + (length name + 1)) names
 
 -- the names alone
-abbrev pub names_in : Inside → List (List ℕ)
-names_in n = map (λ e. e.0) (texts_in n.places.entries)
+abbrev pub found_names : Inside → List (List ℕ)
+found_names n = map (λ e. e.0) (texts_in n.places.entries)
 
 -- each name stands with its place, and the length is the strings block's
 pub record ArePlaced (n : Inside) : Type 0 where
-  pub places : texts_in n.places.entries ≡ with_places 0 (names_in n)
-  pub len : n.len ≡ length (strings_block (names_in n))
+  pub places : texts_in n.places.entries ≡ with_places 0 (found_names n)
+  pub len : n.len ≡ length (strings_block (found_names n))

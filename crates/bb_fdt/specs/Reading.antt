@@ -15,7 +15,7 @@ use Rattle.bb_fdt.specs.Walk.{WalkResult, Before, walk}
 unfoldable pub double_word_at : ℕ → List ℕ → ℕ
 double_word_at at bytes = big_number 8 (drop at bytes)
 
--- the pair that a text begins with, before those behind it, none of which come where both numbers
+-- the pair that a text begins with, before those after it, none of which come where both numbers
 -- are zero
 abbrev pub pair_before : List ℕ → Option (List (ℕ × ℕ)) → Option (List (ℕ × ℕ))
 pair_before text behind =
@@ -50,15 +50,15 @@ with_reserved reserved (Ok root) = Ok (record { root = root; reserved = reserved
 with_reserved reserved (Err e) = Err e
 
 -- the reservation list is looked at before the structure block
-abbrev pub tree_in : Header → List ℕ → Option (List (ℕ × ℕ)) → Result Devicetree FdtError
-tree_in h blob None = Err (OutOfBounds Reserve)
-tree_in h blob (Some reserved) = with_reserved reserved (root_in h blob)
+abbrev pub blob_tree : Header → List ℕ → Option (List (ℕ × ℕ)) → Result Devicetree FdtError
+blob_tree h blob None = Err (OutOfBounds Reserve)
+blob_tree h blob (Some reserved) = with_reserved reserved (root_in h blob)
 
--- the tree behind a header
+-- the tree after a header
 abbrev pub read_from : List ℕ → Result Header FdtError → Result Devicetree FdtError
 read_from bytes (Err e) = Err e
 read_from bytes (Ok h) =
-    let blob = take h.total bytes in tree_in h blob (pairs_in zero (drop h.reserve_at blob))
+    let blob = take h.total bytes in blob_tree h blob (pairs_in zero (drop h.reserve_at blob))
 
 -- the tree of a blob, or the first refusal
 abbrev pub blob_of : List ℕ → Result Devicetree FdtError

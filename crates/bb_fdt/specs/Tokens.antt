@@ -15,7 +15,7 @@ use Rattle.bb_fdt.specs.declared.token_kind.TokenKind.{TokenKind}
 use Rattle.bb_fdt.specs.declared.token_kind.TokenKind.TheVariants.{BeginNode, EndNode, Property, Nop, End}
 use Rattle.bb_fdt.specs.declared.next_token.Found.{Found as FoundRead}
 use Rattle.bb_fdt.specs.declared.token.Token.{Token as TokenRead}
-use Rattle.bb_fdt.specs.Header.{word_at}
+use Rattle.bb_fdt.specs.Header.{header_word_at}
 
 -- what stands before the first zero byte, if there is one
 unfoldable pub up_to_zero : List ℕ → Option (List ℕ)
@@ -32,13 +32,13 @@ abbrev pub is_name : List ℕ → Bool
 is_name name = nat_lt 0 (length name) && list_all is_name_byte name
 
 -- the name that begins there in a strings block
-unfoldable pub name_in : List ℕ → ℕ → Option (List ℕ)
-name_in strings at =
+unfoldable pub string_at : List ℕ → ℕ → Option (List ℕ)
+string_at strings at =
     option_and_then (λ name. if is_name name then Some name else None)
     (up_to_zero (drop at strings))
 
 -- a token: a node's name or a property's value, where a property's name begins in the strings
--- block, and how many bytes the token has behind its first one
+-- block, and how many bytes the token has after its first one
 pub record Token : Type 0 where
   pub kind : TokenKind
   pub bytes : List ℕ
@@ -76,7 +76,7 @@ unfoldable pub prop_at : List ℕ → Option Token
 prop_at text =
     if nat_lt (length text) 12
     then None
-    else within text (prop_token (word_at 4 text) (word_at 8 text) (drop 12 text))
+    else within text (prop_token (header_word_at 4 text) (header_word_at 8 text) (drop 12 text))
 
 -- the token that a word begins
 abbrev pub token_by : ℕ → List ℕ → Option Token
@@ -90,10 +90,10 @@ token_by word text =
 -- the token that a text begins with, or none where the text ends within it or its first word names
 -- none
 unfoldable pub token_at : List ℕ → Option Token
-token_at text = if nat_lt (length text) 4 then None else token_by (word_at 0 text) text
+token_at text = if nat_lt (length text) 4 then None else token_by (header_word_at 0 text) text
 
--- a token that was found: where it begins, and the text behind it
-pub record Found : Type 0 where
+-- a token that was found: where it begins, and the text after it
+pub record FoundToken : Type 0 where
   pub kind : TokenKind
   pub bytes : List ℕ
   pub name_at : ℕ
@@ -101,7 +101,7 @@ pub record Found : Type 0 where
   pub rest : List ℕ
 
 -- a token as it was found in a text, as clauses see it
-abbrev pub found_seen : FoundRead → Found
+abbrev pub found_seen : FoundRead → FoundToken
 found_seen f = record {
   kind = f.kind;
   bytes = f.bytes.now;
@@ -110,22 +110,22 @@ found_seen f = record {
   rest = f.rest.now;
 }
 
--- a token as it was found, but for FDT_NOP, behind which the next one is
+-- a token as it was found, but for FDT_NOP, after which the next one is
 abbrev pub found_by :
-    ℕ → List ℕ → Token → TokenKind → (ℕ → Result Found FdtError) → Result Found FdtError
+    ℕ → List ℕ → Token → TokenKind → (ℕ → Result FoundToken FdtError) → Result FoundToken FdtError
 found_by at tail t Nop on = on t.behind
 found_by at tail t kind on =
     let rest = drop t.behind tail in
     Ok (record { kind = kind; bytes = t.bytes; name_at = t.name_at; at = at; rest = rest })
 
 abbrev pub found_at :
-    ℕ → List ℕ → Option Token → (ℕ → Result Found FdtError) → Result Found FdtError
+    ℕ → List ℕ → Option Token → (ℕ → Result FoundToken FdtError) → Result FoundToken FdtError
 found_at at tail None on = Err (BadToken at)
 found_at at tail (Some t) on = found_by at tail t t.kind on
 
 -- the first token but FDT_NOP of a text that ends at the offset `end`, or the refusal. Its first
 -- `skip` bytes belong to a token that is passed over
-unfoldable pub first_token : ℕ → ℕ → List ℕ → Result Found FdtError
+unfoldable pub first_token : ℕ → ℕ → List ℕ → Result FoundToken FdtError
 first_token end skip [] = Err (BadToken end)
 first_token end (suc skip) (b ∷ tail) = first_token end skip tail
 first_token end zero (b ∷ tail) =

@@ -6,7 +6,7 @@ use Rattle.bb_fdt.specs.declared.error.FdtError.{FdtError}
 use Rattle.bb_fdt.specs.declared.error.FdtError.TheVariants.{BadToken, BadName, TooDeep}
 use Rattle.bb_fdt.specs.declared.token_kind.TokenKind.{TokenKind}
 use Rattle.bb_fdt.specs.declared.token_kind.TokenKind.TheVariants.{BeginNode, EndNode, Property, Nop, End}
-use Rattle.bb_fdt.specs.Tokens.{Token, token_at, is_name, name_in}
+use Rattle.bb_fdt.specs.Tokens.{Token, token_at, is_name, string_at}
 
 -- a node that isn't closed yet. The root's level is 1
 pub record Open : Type 0 where
@@ -15,7 +15,7 @@ pub record Open : Type 0 where
   pub props : List (List ℕ × List ℕ)
   pub nodes : List (Branch (List ℕ))
 
--- before the root, inside a node, or behind the root
+-- before the root, inside a node, or after the root
 pub data Place : Type 0 where
   Before : Place
   Inside : Open → Place
@@ -59,7 +59,7 @@ child_step o (Err e) = Refuses e
 
 -- the name of a property
 abbrev pub prop_name : ℕ → List ℕ → ℕ → Result (List ℕ) FdtError
-prop_name at strings name_at = ok_or (name_in strings name_at) (BadName at)
+prop_name at strings name_at = ok_or (string_at strings name_at) (BadName at)
 
 -- the step over a property of that name
 abbrev pub prop_step : Open → List ℕ → Result (List ℕ) FdtError → Step
@@ -85,13 +85,13 @@ abbrev pub close_node : Branch (List ℕ) → (Place → List Open → WalkResul
 close_node branch on [] = on (Behind branch) []
 close_node branch on (o ∷ around) = on (Inside (with_node o branch)) around
 
--- the walk behind a step; `around` is the list of the nodes around the innermost one, from inside
-abbrev pub behind : Step → (Place → List Open → WalkResult) → List Open → WalkResult
-behind (Refuses e) on around = Err e
-behind (Goes place) on around = on place around
-behind (Enters o inner) on around = on (Inside inner) (o ∷ around)
-behind (Leaves branch) on around = close_node branch on around
-behind (Ends root) on around = Ok root
+-- the walk after a step; `around` is the list of the nodes around the innermost one, from inside
+abbrev pub walk_after : Step → (Place → List Open → WalkResult) → List Open → WalkResult
+walk_after (Refuses e) on around = Err e
+walk_after (Goes place) on around = on place around
+walk_after (Enters o inner) on around = on (Inside inner) (o ∷ around)
+walk_after (Leaves branch) on around = close_node branch on around
+walk_after (Ends root) on around = Ok root
 
 -- the walk over a token, or where none is
 abbrev pub walk_over_token :
@@ -99,7 +99,7 @@ abbrev pub walk_over_token :
     → List Open → WalkResult
 walk_over_token strings at place None on around = Err (BadToken at)
 walk_over_token strings at place (Some t) on around =
-    behind (does strings at place t.bytes t.name_at t.kind) (on t.behind) around
+    walk_after (does strings at place t.bytes t.name_at t.kind) (on t.behind) around
 
 -- the walk over a text from a place on, where `strings` is the strings block. The text ends at the
 -- offset `end`, and its first `skip` bytes belong to a token that was read

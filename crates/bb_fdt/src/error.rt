@@ -15,8 +15,8 @@ pub enum Field {
     Reserve,
 }
 
-/// Why bytes are no blob. An offset is one in the blob, in bytes from 0: that at which the first token that breaks a
-/// rule begins.
+/// Why bytes are no blob. An offset is one in the blob, in bytes from 0: that at which the first
+/// token that breaks a rule begins.
 #[derive(Clone, Copy, Debug, PartialEq, Eq, Error)]
 pub enum FdtError {
     /// Fewer than 40 bytes, or another magic than 0xD00DFEED.
@@ -31,8 +31,8 @@ pub enum FdtError {
     /// A token that isn't allowed here, or one that the structure block ends within.
     #[error("bad token at {0}")]
     BadToken(usize),
-    /// The name of a node other than the root, or of a property: it is empty, has a byte outside 0x21 to 0x7E, or isn't
-    /// in the strings block.
+    /// The name of a node other than the root, or of a property: it is empty, has a byte outside
+    /// 0x21 to 0x7E, or isn't in the strings block.
     #[error("bad name at {0}")]
     BadName(usize),
     /// A node at level 33. The root's level is 1.

@@ -1,5 +1,6 @@
 ghost use Rattle.std.specs.Prelude.{◌≡◌, ◌≤◌, ◌+◌, Ok, length};
-ghost use Rattle.bb_fdt.specs.Header.{header_of, fields_of, header_or_fault, is_outside, word_at};
+ghost use Rattle.bb_fdt.specs.Header.{header_of, header_fields, header_or_fault, is_outside};
+ghost use Rattle.bb_fdt.specs.Header.{header_word_at};
 
 use crate::{FdtError, Field};
 use byteorder::{BigEndian, ByteOrder};
@@ -10,7 +11,8 @@ const MAGIC: u32 = 0xD00D_FEED;
 /// The version that is read.
 const VERSION: u32 = 17;
 
-/// What a blob's header says. Places and lengths are in bytes, and places are counted from the blob's beginning.
+/// What a blob's header says. Places and lengths are in bytes, and places are counted from the
+/// blob's beginning.
 #[derive(Clone, Copy, Debug)]
 pub(crate) struct Header {
     pub total: u32,
@@ -35,7 +37,7 @@ pub(crate) fn read_header(bytes: &[u8]) -> Result<Header, FdtError>
 
 fn header_fields(bytes: &[u8]) -> Header
     requires { 40 ≤ length bytes.now }
-    ensures { result ≡ fields_of bytes.now }
+    ensures { result ≡ header_fields bytes.now }
 {
     Header {
         total: word_at(bytes, 4),
@@ -81,7 +83,7 @@ fn is_outside(total: u32, at: u32, len: u32) -> bool
 #[tactic(auto, unfolding(crate::specs::Header::word_at))]
 pub(crate) fn word_at(bytes: &[u8], at: usize) -> u32
     requires { at + 4 ≤ length bytes.now }
-    ensures { result ≡ word_at at bytes.now }
+    ensures { result ≡ header_word_at at bytes.now }
 {
     BigEndian::read_u32(&bytes[at..])
 }

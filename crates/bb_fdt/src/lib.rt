@@ -1,6 +1,7 @@
-//! The reader and the writer of flattened devicetrees, called blobs. The reader accepts exactly the blobs of
-//! docs/FORMATS.md, gives the tree, and refuses everything else by name; the writer writes the one blob of a tree.
-//! Sessions and the record format that is a blob know it; it knows nothing of states.
+//! The reader and the writer of flattened devicetrees, called blobs. The reader accepts exactly the
+//! blobs of docs/FORMATS.md, gives the tree, and refuses everything else by name; the writer writes
+//! the one blob of a tree. Sessions and the record format that is a blob know it; it knows nothing
+//! of states.
 #![tactic(auto)]
 
 mod error;

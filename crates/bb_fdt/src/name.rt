@@ -1,7 +1,7 @@
 ghost use Rattle.std.specs.Prelude.{◌≡◌, ◌==◌, true, IfOk, IfSome};
 ghost use Rattle.std.specs.List.{position_or_len};
 ghost use Rattle.std.specs.Option.{option_map};
-ghost use Rattle.bb_fdt.specs.Tokens.{up_to_zero, is_name, name_in};
+ghost use Rattle.bb_fdt.specs.Tokens.{up_to_zero, is_name, string_at};
 
 use bb_base::{NoMemory, Text};
 use std::alloc::Global;
@@ -41,7 +41,7 @@ pub(crate) fn is_name(name: &[u8]) -> bool
 /// The name that begins there in the strings block.
 #[tactic(auto, unfolding(crate::specs::Tokens::name_in))]
 pub(crate) fn name_in(strings: &[u8], at: u32) -> Option<&[u8]>
-    ensures name { option_map (λ name. name.now) result ≡ name_in strings.now at }
+    ensures name { option_map (λ name. name.now) result ≡ string_at strings.now at }
     ensures fits { IfSome result (λ name. is_name name.now ≡ true) }
 {
     let at = at as usize;

@@ -3,7 +3,7 @@ ghost use Rattle.std.specs.Option.{option_map};
 ghost use Rattle.std.specs.Map.{lookup};
 ghost use Rattle.std.specs.Str.{bytes_eq};
 ghost use Rattle.bb_tree.specs.Blob.{has_name, with_name, prop_names, offset_of, strings_block};
-ghost use Rattle.bb_tree.specs.BlobLength.{names_in};
+ghost use Rattle.bb_tree.specs.BlobLength.{names_of_props};
 ghost use Rattle.bb_tree.specs.Node.{grow, empty};
 ghost use Rattle.bb_tree.specs.NodeViews.{branch_of};
 ghost use Rattle.bb_tree.specs.Texts.{texts_in};
@@ -26,11 +26,11 @@ pub(crate) struct Names {
 
 impl Model for Names {
     ghost use Rattle.std.specs.Prelude.{List, ℕ};
-    ghost use Rattle.bb_fdt.specs.Names.{names_in, ArePlaced};
+    ghost use Rattle.bb_fdt.specs.Names.{found_names, ArePlaced};
 
     ghost Value = { List (List ℕ) };
 
-    ghost view = { names_in };
+    ghost view = { found_names };
 
     ghost invariant = { ArePlaced };
 }
@@ -78,7 +78,7 @@ impl Names {
     }
 
     fn add_props(&mut self, props: &PropList) -> Result<(), NoMemory>
-        ensures { OnOk result (self.new ≡ fold with_name self.old (names_in props.now)) }
+        ensures { OnOk result (self.new ≡ fold with_name self.old (found_names props.now)) }
     {
         for prop in props.as_slice() {
             self.add(prop.name.as_str())?;

@@ -15,7 +15,7 @@ pub(crate) struct Found<'a> {
     pub name_at: u32,
     /// The offset at which it begins.
     pub at: usize,
-    /// The text behind it.
+    /// The text after it.
     pub rest: &'a [u8],
 }
 

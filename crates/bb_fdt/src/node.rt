@@ -13,7 +13,7 @@ use crate::token_kind::TokenKind;
 use bb_base::{Bytes, Text};
 use bb_tree::{DEPTH_LIMIT, Node, NodeList, Prop, PropList};
 
-/// Reads the node of this level and name, behind its FDT_BEGIN_NODE, with its FDT_END_NODE.
+/// Reads the node of this level and name, after its FDT_BEGIN_NODE, with its FDT_END_NODE.
 #[tactic(auto, using(crate::proofs::WalkLemmas::item_step, crate::proofs::WalkLemmas::inside_after_node, crate::proofs::WalkLemmas::inside_refusal_walk, crate::proofs::WalkLemmas::inside_unless_memory))]
 pub(crate) fn read_node<'a>(
     input: Input<'_>,

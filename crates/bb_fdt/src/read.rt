@@ -17,9 +17,10 @@ use bb_base::Text;
 use bb_tree::{Node, Tree};
 use std::alloc::Global;
 
-/// Reads a flattened devicetree, version 17 or compatible with it (Devicetree Specification v0.4, chapter 5;
-/// docs/FORMATS.md has the order of the checks). The first check that fails decides, and of the structure block the
-/// first token. Bytes behind the blob's own length, and what follows FDT_END, aren't looked at.
+/// Reads a flattened devicetree, version 17 or compatible with it (Devicetree Specification v0.4,
+/// chapter 5; docs/FORMATS.md has the order of the checks). The first check that fails decides, and
+/// of the structure block the first token. Bytes after the blob's own length, and what follows
+/// FDT_END, aren't looked at.
 pub fn read_blob(alloc: Global, bytes: &[u8]) -> Result<Tree, FdtError>
     ensures ok { IfOk result (λ tree. blob_of bytes.now ≡ Ok (devicetree_of tree)) }
     ensures refused { IfErr result (Refuses (blob_of bytes.now)) }
@@ -94,7 +95,7 @@ fn read_begin<'a>(input: Input<'_>, text: &'a [u8]) -> Result<&'a [u8], FdtError
     }
 }
 
-// Reads FDT_END, behind the root's FDT_END_NODE.
+// Reads FDT_END, after the root's FDT_END_NODE.
 #[tactic(auto, using(crate::proofs::WalkLemmas::end_step))]
 fn read_end(input: Input<'_>, root: Node, text: &[u8]) -> Result<Node, FdtError>
     requires { length text.now ≤ input.end }

@@ -15,11 +15,12 @@ pub(crate) struct Token<'a> {
     pub bytes: &'a [u8],
     /// Where a property's name begins in the strings block.
     pub name_at: u32,
-    /// How many bytes the token has behind its first one.
+    /// How many bytes the token has after its first one.
     pub behind: usize,
 }
 
-/// The token that the text begins with, or none where the text ends within it or its first word names none.
+/// The token that the text begins with, or none where the text ends within it or its first word
+/// names none.
 #[tactic(auto, unfolding(crate::specs::Tokens::token_at))]
 pub(crate) fn token_at(text: &[u8]) -> Option<Token<'_>>
     ensures within { IfSome result (λ t. t.behind < length text.now) }

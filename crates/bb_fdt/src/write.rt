@@ -1,5 +1,5 @@
 ghost use Rattle.std.specs.Prelude.{◌≡◌, ◌<◌, ◌+◌, ◌++◌, OnOk, OnErr, IfOk, length};
-ghost use Rattle.bb_tree.specs.Blob.{devicetree_of, blob_text, names_of, offset_of};
+ghost use Rattle.bb_tree.specs.Blob.{devicetree_of, blob_text, names_used, offset_of};
 ghost use Rattle.bb_tree.specs.Blob.{structure_block, reservation_list, header_text, double_word};
 ghost use Rattle.bb_tree.specs.NodeViews.{branch_of};
 
@@ -10,8 +10,8 @@ use bb_base::NoMemory;
 use bb_tree::{Node, PairList, Tree};
 use std::alloc::Global;
 
-/// Writes the blob of the tree, version 17, into `out`, which has its length, `blob_length` of the tree. After
-/// `NoMemory` `out` is as before.
+/// Writes the blob of the tree, version 17, into `out`, which has its length, `blob_length` of the
+/// tree. After `NoMemory` `out` is as before.
 pub fn write_blob(alloc: Global, tree: &Tree, out: &mut [u8]) -> Result<(), NoMemory>
     requires fits { length (blob_text (devicetree_of tree.now)) < 4294967296 }
     requires room { length out.old ≡ length (blob_text (devicetree_of tree.now)) }
@@ -41,7 +41,7 @@ fn blob_bytes(alloc: Global, tree: &Tree) -> Result<Vec<u8>, NoMemory>
 }
 
 fn names_of(alloc: Global, root: &Node) -> Result<Names, NoMemory>
-    ensures { IfOk result (λ names. names ≡ names_of (branch_of root.now)) }
+    ensures { IfOk result (λ names. names ≡ names_used (branch_of root.now)) }
 {
     let mut names = Names::none(alloc);
     names.add_node(root)?;

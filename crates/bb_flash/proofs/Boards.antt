@@ -10,7 +10,7 @@ use Rattle.bb_base.specs.Faults.{one_more}
 use Rattle.bb_flash.specs.declared.fault.Fault.{Fault}
 use Rattle.bb_flash.specs.declared.geometry.Geometry.{Geometry}
 use Rattle.bb_flash.specs.Geometry.{IsGeometry}
-use Rattle.bb_flash.specs.Calls.{CanErase, CanProgram, ChangesOnly, IsTornBy, IsUntouched, blank_block}
+use Rattle.bb_flash.specs.Calls.{CanErase, CanProgram, ChangesOnly, IsTornBy, HasNoChange, erased_bytes}
 use Rattle.bb_flash.specs.Cuts.{IsContinued, IsLater}
 use Rattle.bb_flash.specs.Device.{Change, IsDevice, Told, change_of, moment}
 use Rattle.bb_flash.specs.Image.{Image, IsImageOf, IsInside}
@@ -126,11 +126,11 @@ program_later m at bytes = program_later_by m (is_program_refused m (length byte
 torn_told : (m : Memory) (fault : Option Fault) (at : ℕ) (bytes : List ℕ) → IsInside m.geometry.page m.told.image at (length bytes) → IsTornBy m.geometry.page at bytes m.told (with_write fault at bytes m).told
 torn_told m fault at bytes inside = record { torn = Torn-left_by fault m.geometry.page m.told.image at bytes inside; change = refl }
 
-touched_by : (m n : Memory) (at : ℕ) (bytes : List ℕ) → IsUntouched m.told n.told ⊎ IsTornBy m.geometry.page at bytes m.told n.told → ChangesOnly at bytes (device_of m) (device_of n)
+touched_by : (m n : Memory) (at : ℕ) (bytes : List ℕ) → HasNoChange m.told n.told ⊎ IsTornBy m.geometry.page at bytes m.told n.told → ChangesOnly at bytes (device_of m) (device_of n)
 touched_by m n at bytes how = record {
   told =
-      for_some (λ before. ForSome (Some n.told) (λ after. IsUntouched before after ⊎ IsTornBy m.geometry.page at bytes before after)) m.told
-      (for_some (λ after. IsUntouched m.told after ⊎ IsTornBy m.geometry.page at bytes m.told after) n.told how);
+      for_some (λ before. ForSome (Some n.told) (λ after. HasNoChange before after ⊎ IsTornBy m.geometry.page at bytes before after)) m.told
+      (for_some (λ after. HasNoChange m.told after ⊎ IsTornBy m.geometry.page at bytes m.told after) n.told how);
 }
 
 program_changes_by : (m : Memory) (refused : Bool) (fault : Option Fault) (at : ℕ) (bytes : List ℕ) → IsInside m.geometry.page m.told.image at (length bytes) → ChangesOnly at bytes (device_of m) (device_of (cond refused (with_fault m) (program_by fault at bytes m)))
@@ -155,7 +155,7 @@ program_whole m at bytes whole can = program_whole_by m (is_program_refused m (l
 
 -- erases
 abbrev erase_change : Memory → ℕ → Change
-erase_change m block = change_of m.geometry.page (block * m.geometry.block) (blank_block m.geometry) m.told.image
+erase_change m block = change_of m.geometry.page (block * m.geometry.block) (erased_bytes m.geometry) m.told.image
 
 erase_later_by : (m : Memory) (refused : Bool) (fault : Option Fault) (block : ℕ) → IsLater (device_of m) (device_of (cond refused (with_fault m) (erase_by fault block m)))
 erase_later_by m true fault block = later_of m (with_fault m) refl (more_is_more m.faults) (same_number m.read_faults) (continued_same m.told m.told.reads)
@@ -165,19 +165,19 @@ erase_later_by m false (Some fault) block = later_of m (erase_by (Some fault) bl
 pub erase_later : (m : Memory) (block : ℕ) → IsLater (device_of m) (device_of (after_erase block m))
 erase_later m block = erase_later_by m (is_erase_refused m block) (fault_of m) block
 
-torn_block : (m : Memory) (fault : Option Fault) (block : ℕ) → IsDevice (device_of m) → CanErase m.geometry block → IsTornBy m.geometry.page (block * m.geometry.block) (blank_block m.geometry) m.told (with_blanks fault block m).told
+torn_block : (m : Memory) (fault : Option Fault) (block : ℕ) → IsDevice (device_of m) → CanErase m.geometry block → IsTornBy m.geometry.page (block * m.geometry.block) (erased_bytes m.geometry) m.told (with_blanks fault block m).told
 torn_block m fault block whole can =
-    let bytes : List ℕ = blank_block m.geometry in
+    let bytes : List ℕ = erased_bytes m.geometry in
     torn_told m fault (block * m.geometry.block) bytes (inside_erase m block (length bytes) whole can (length-replicate {A = ℕ} m.geometry.block 255))
 
-erase_torn_by : (m : Memory) (refused : Bool) (fault : Option Fault) (block : ℕ) → IsDevice (device_of m) → CanErase m.geometry block → IsUntouched m.told (cond refused (with_fault m) (erase_by fault block m)).told ⊎ IsTornBy m.geometry.page (block * m.geometry.block) (blank_block m.geometry) m.told (cond refused (with_fault m) (erase_by fault block m)).told
+erase_torn_by : (m : Memory) (refused : Bool) (fault : Option Fault) (block : ℕ) → IsDevice (device_of m) → CanErase m.geometry block → HasNoChange m.told (cond refused (with_fault m) (erase_by fault block m)).told ⊎ IsTornBy m.geometry.page (block * m.geometry.block) (erased_bytes m.geometry) m.told (cond refused (with_fault m) (erase_by fault block m)).told
 erase_torn_by m true fault block whole can = inl (record { image = refl; changes = refl })
 erase_torn_by m false None block whole can = let torn = torn_block m None block whole can in inr (record { torn = torn.torn; change = torn.change })
 erase_torn_by m false (Some fault) block whole can = let torn = torn_block m (Some fault) block whole can in inr (record { torn = torn.torn; change = torn.change })
 
-pub erase_changes : (m : Memory) (block : ℕ) → IsDevice (device_of m) → CanErase m.geometry block → ChangesOnly (block * m.geometry.block) (blank_block m.geometry) (device_of m) (device_of (after_erase block m))
+pub erase_changes : (m : Memory) (block : ℕ) → IsDevice (device_of m) → CanErase m.geometry block → ChangesOnly (block * m.geometry.block) (erased_bytes m.geometry) (device_of m) (device_of (after_erase block m))
 erase_changes m block whole can =
-    touched_by m (after_erase block m) (block * m.geometry.block) (blank_block m.geometry) (erase_torn_by m (is_erase_refused m block) (fault_of m) block whole can)
+    touched_by m (after_erase block m) (block * m.geometry.block) (erased_bytes m.geometry) (erase_torn_by m (is_erase_refused m block) (fault_of m) block whole can)
 
 erase_whole_by : (m : Memory) (refused : Bool) (fault : Option Fault) (block : ℕ) → IsDevice (device_of m) → CanErase m.geometry block → IsDevice (device_of (cond refused (with_fault m) (erase_by fault block m)))
 erase_whole_by m true fault block whole can = whole_of m (with_fault m) whole refl refl refl refl

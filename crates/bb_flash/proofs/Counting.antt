@@ -1,10 +1,11 @@
--- Which images count, over runs of calls: two runs joined, fewer images, and a run that changes nothing.
+-- Which images count, over runs of calls: two runs joined, fewer images, and a run that changes
+-- nothing.
 use Rattle.std.proofs.Common.{◌≡◌, ℕ, true, zero, suc, ◌+◌, ◌<◌, ◌≤◌, ◌∙◌, List, [], ◌∷◌, length, take, Option, Some, None, ap, sym, subst, arith, refl, inl, inr, ◌⊎◌}
 use Rattle.std.specs.Prelude.{slice_get, unwrap_or}
 use Rattle.std.specs.Option.{ForSome, is_some, option_map}
 use Rattle.std.proofs.lemmas.List.{length-take}
 use Rattle.std.proofs.lemmas.Option.{slice_get_within}
-use Rattle.bb_flash.specs.Calls.{IsUntouched}
+use Rattle.bb_flash.specs.Calls.{HasNoChange}
 use Rattle.bb_flash.specs.Counted.{Counts, CountsNow, EachCounted, IsFair}
 use Rattle.bb_flash.specs.Cuts.{Cuts, EachImage, IsContinued, IsLater}
 use Rattle.bb_flash.specs.Device.{Change, Device, Told, image_at, moment}
@@ -47,7 +48,7 @@ counted_fewer L K R from to more counted = record {
 }
 
 -- a run without a change leaves what the device holds
-pub images_untouched : (from to : Device) → ForSome from.told (λ first. ForSome to.told (IsUntouched first)) → EachImage (λ before image. image ≡ before) from to
+pub images_untouched : (from to : Device) → ForSome from.told (λ first. ForSome to.told (HasNoChange first)) → EachImage (λ before image. image ≡ before) from to
 images_untouched from to untouched = record {
   each = λ first e last f image cut.
       let same = untouched first e last f in
@@ -107,8 +108,8 @@ fair_earlier L mid last since until most continued inside order fair = λ call c
 fair_later : (L : Change → Image → Type 0) (told : Told) (since later until : ℕ) → since ≤ later → IsFair L told since until → IsFair L told later until
 fair_later L told since later until order fair = λ call change from before made lucky. fair call change (omega arith) before made lucky
 
--- where an image counts after two runs it counts at the end of the first; or what the first left counts, and the image
--- counts since then
+-- where an image counts after two runs it counts at the end of the first; or what the first left
+-- counts, and the image counts since then
 counts_at : (L : Change → Image → Type 0) (one two three : Device) → IsLater two three → (first mid : Told) → moment first ≤ moment mid → (last : Told) → IsContinued mid last → (image : Image) → Counts L three.geometry.page last (moment first) image → Counts L two.geometry.page mid (moment first) image ⊎ (CountsNow L mid (moment first) mid.image × Counts L three.geometry.page last (moment mid) image)
 counts_at L one two three k first mid order last continued image (inl now) =
     let reach = moment_order mid last continued in
@@ -133,8 +134,8 @@ counts_at L one two three k first mid order last continued image (inr torn) = el
       (record { held = refl; fair = fair_earlier L mid last (moment first) (moment mid) torn.call continued (omega arith) late torn.fair }, inr (record { call = torn.call; change = torn.change; later = late; made = torn.made; torn = torn.torn; unlucky = torn.unlucky; fair = fair_later L last (moment first) (moment mid) torn.call order torn.fair }))
 ]
 
--- Two runs that follow each other, where the second began with an image that has M: an image that counts in the first
--- has T, and so does one that counts in the second.
+-- Two runs that follow each other, where the second began with an image that has M: an image that
+-- counts in the first has T, and so does one that counts in the second.
 pub counted_joined_at : (L : Change → Image → Type 0) (R S T M : Image → Image → Type 0) (one two three : Device) → ((x y : Image) → R x y → T x y) → ((x y z : Image) → M x y → R x y → S y z → T x z) → IsLater one two → IsLater two three → ForSome one.told (λ first. ForSome two.told (λ mid. M first.image mid.image)) → EachCounted L R one two → EachCounted L S two three → EachCounted L T one three
 counted_joined_at L R S T M one two three early late h k between first_run second_run = record {
   each = λ first e last f image counts.

@@ -5,7 +5,7 @@ use Rattle.std.proofs.lemmas.List.{take_at, drop_at}
 use Rattle.bb_flash.specs.declared.health.Health.{Health}
 use Rattle.bb_flash.specs.declared.log.Span.{Span}
 use Rattle.bb_flash.specs.Device.{change_of}
-use Rattle.bb_flash.specs.Saved.{Saved, saved_of, history, image_before}
+use Rattle.bb_flash.specs.Saved.{SavedCall, saved_of, history, image_before}
 use Rattle.bb_flash.specs.Image.{Image, Torn, with_items_at, page_count}
 use Rattle.bb_flash.proofs.Overwrites.{overwritten_back}
 
@@ -25,7 +25,7 @@ split_more xs ys =
     let size : length (xs ++ ys) - length ys ≡ length xs = omega (arith, length-append xs ys) in
     (ap (λ n. drop n (xs ++ ys)) size ∙ drop_at xs ys (length xs) refl, ap (λ n. take n (xs ++ ys)) size ∙ take_at xs ys (length xs) refl)
 
-pub saved_of-more : (spans : List Span) (before : List ℕ) (health : List Health) (bytes : List ℕ) (saved : Saved) → length saved.before ≡ length saved.bytes → saved_of (reverse (spans ++ record { at = saved.at; bytes = length saved.bytes; pages = length saved.health } ∷ [])) (before ++ saved.before) (health ++ saved.health) (bytes ++ saved.bytes) ≡ saved ∷ saved_of (reverse spans) before health bytes
+pub saved_of-more : (spans : List Span) (before : List ℕ) (health : List Health) (bytes : List ℕ) (saved : SavedCall) → length saved.before ≡ length saved.bytes → saved_of (reverse (spans ++ record { at = saved.at; bytes = length saved.bytes; pages = length saved.health } ∷ [])) (before ++ saved.before) (health ++ saved.health) (bytes ++ saved.bytes) ≡ saved ∷ saved_of (reverse spans) before health bytes
 unfolding saved_of
 saved_of-more spans before health bytes saved same =
     let span : Span = record { at = saved.at; bytes = length saved.bytes; pages = length saved.health } in
@@ -44,7 +44,7 @@ pub history-none : (page : ℕ) (image : Image) → history page [] image ≡ []
 unfolding history
 history-none page image = refl
 
-pub history-more : (page : ℕ) (saved : Saved) (older : List Saved) (image before : Image) → image_before page saved image ≡ before → history page (saved ∷ older) image ≡ history page older before ++ change_of page saved.at saved.bytes before ∷ []
+pub history-more : (page : ℕ) (saved : SavedCall) (older : List SavedCall) (image before : Image) → image_before page saved image ≡ before → history page (saved ∷ older) image ≡ history page older before ++ change_of page saved.at saved.bytes before ∷ []
 unfolding history
 history-more page saved older image before e = ap (λ b. history page older b ++ change_of page saved.at saved.bytes b ∷ []) e
 
@@ -58,9 +58,9 @@ restored_is page at len bytes before after inside pages torn =
     ∙ ap (λ h. image before.bytes h) health
 
 -- a call that saved what stood in its range, and then changed it
-pub history-saved : (page : ℕ) (saved : Saved) (older : List Saved) (before after : Image) → let len = length saved.bytes in saved.at + len ≤ length before.bytes → saved.at / page + page_count page saved.at len ≤ length before.health → Torn page saved.at len before after → saved.before ≡ take len (drop saved.at before.bytes) → saved.health ≡ take (page_count page saved.at len) (drop (saved.at / page) before.health) → history page (saved ∷ older) after ≡ history page older before ++ change_of page saved.at saved.bytes before ∷ []
+pub history-saved : (page : ℕ) (saved : SavedCall) (older : List SavedCall) (before after : Image) → let len = length saved.bytes in saved.at + len ≤ length before.bytes → saved.at / page + page_count page saved.at len ≤ length before.health → Torn page saved.at len before after → saved.before ≡ take len (drop saved.at before.bytes) → saved.health ≡ take (page_count page saved.at len) (drop (saved.at / page) before.health) → history page (saved ∷ older) after ≡ history page older before ++ change_of page saved.at saved.bytes before ∷ []
 history-saved page saved older before after inside pages torn b h =
     let len = length saved.bytes in
-    let of : List ℕ → List Health → Saved = λ bs hs. record { at = saved.at; before = bs; health = hs; bytes = saved.bytes } in
+    let of : List ℕ → List Health → SavedCall = λ bs hs. record { at = saved.at; before = bs; health = hs; bytes = saved.bytes } in
     history-more page saved older after before
     (ap (λ bs. image_before page (of bs saved.health) after) b ∙ ap (λ hs. image_before page (of (take len (drop saved.at before.bytes)) hs) after) h ∙ restored_is page saved.at len saved.bytes before after inside pages torn)

@@ -1,10 +1,11 @@
--- What a cut may leave, over the calls of a flash: three laws of `Cuts`, and what they give for runs of calls.
+-- What a cut may leave, over the calls of a flash: three laws of `Cuts`, and what they give for
+-- runs of calls.
 use Rattle.std.proofs.Common.{◌≡◌, ℕ, Bool, true, zero, suc, ◌+◌, ◌-◌, ◌%◌, ◌<◌, ◌≤◌, ◌∙◌, List, [], ◌∷◌, ◌++◌, length, take, take_all, Option, Some, None, ap, sym, subst, arith, refl, inl, inr, ◌⊎◌}
 use Rattle.std.specs.Prelude.{slice_get, unwrap_or}
 use Rattle.std.specs.Option.{ForSome, is_some, option_map}
 use Rattle.std.proofs.lemmas.List.{length-take, take-take}
 use Rattle.std.proofs.lemmas.Option.{slice_get_past, slice_get_within}
-use Rattle.bb_flash.specs.Calls.{ChangesOnly, IsTornBy, IsUntouched, told_after_read}
+use Rattle.bb_flash.specs.Calls.{ChangesOnly, IsTornBy, HasNoChange, told_after_read}
 use Rattle.bb_flash.specs.Cuts.{Cuts, EachImage, EachTorn, IsContinued, IsLater, IsSameRegion, IsTornSince}
 use Rattle.bb_flash.specs.Device.{Change, Device, IsDevice, Told, change_of, image_at, moment}
 use Rattle.bb_flash.specs.Image.{Image, Torn}
@@ -43,8 +44,9 @@ below_or_not m zero = inr (omega arith)
 below_or_not zero (suc n) = inl (omega arith)
 below_or_not (suc m) (suc n) = elim (below_or_not m n) [ inl h ↦ inl (omega arith) | inr h ↦ inr (omega arith) ]
 
--- a call that touched `len` bytes at a place adds to what counts only what it left, and what is torn from before
-pub Cuts-changes : (page at : ℕ) (bytes : List ℕ) (before after : Told) (since : ℕ) (image : Image) → IsUntouched before after ⊎ IsTornBy page at bytes before after → Cuts page after since image → Cuts page before since image ⊎ ((image ≡ after.image) ⊎ Torn page at (length bytes) before.image image)
+-- a call that touched `len` bytes at a place adds to what counts only what it left, and what is
+-- torn from before
+pub Cuts-changes : (page at : ℕ) (bytes : List ℕ) (before after : Told) (since : ℕ) (image : Image) → HasNoChange before after ⊎ IsTornBy page at bytes before after → Cuts page after since image → Cuts page before since image ⊎ ((image ≡ after.image) ⊎ Torn page at (length bytes) before.image image)
 Cuts-changes page at bytes before after since image how (inl now) = inr (inl now)
 Cuts-changes page at bytes before after since image (inl same) (inr torn) =
     inl (inr (record { call = torn.call; change = torn.change; later = torn.later; made = ap (λ changes. slice_get changes torn.call) (sym same.changes) ∙ torn.made; torn = torn.torn }))
@@ -57,7 +59,7 @@ Cuts-changes page at bytes before after since image (inr tears) (inr torn) =
           inr (inr (subst (λ (c : Change). Torn page c.at c.len c.before image) (sym same) torn.torn))
     ]
 
-torn_last : (page at : ℕ) (bytes : List ℕ) (before after : Told) → IsUntouched before after ⊎ IsTornBy page at bytes before after → Torn page at (length bytes) before.image after.image
+torn_last : (page at : ℕ) (bytes : List ℕ) (before after : Told) → HasNoChange before after ⊎ IsTornBy page at bytes before after → Torn page at (length bytes) before.image after.image
 torn_last page at bytes before after (inl same) = subst (λ (i : Image). Torn page at (length bytes) before.image i) (sym same.image) (Torn-refl page before.image at (length bytes))
 torn_last page at bytes before after (inr tears) = tears.torn
 
@@ -75,7 +77,7 @@ images_of_call page at bytes from to same_page later changes = record {
   each = λ first e last f image cut.
       let len : ℕ = length bytes in
       let here : Cuts page last (moment first) image = subst (λ (p : ℕ). Cuts p last (moment first) image) (ap (λ geo. geo.page) later.geometry ∙ same_page) cut in
-      let how : IsUntouched first last ⊎ IsTornBy page at bytes first last = subst (λ (p : ℕ). IsUntouched first last ⊎ IsTornBy p at bytes first last) same_page (changes.told first e last f) in
+      let how : HasNoChange first last ⊎ IsTornBy page at bytes first last = subst (λ (p : ℕ). HasNoChange first last ⊎ IsTornBy p at bytes first last) same_page (changes.told first e last f) in
       let torn : Torn page at len first.image last.image = torn_last page at bytes first last how in
       elim (Cuts-changes page at bytes first last (moment first) image how here) [
         | inl old ↦ elim old [
@@ -181,8 +183,8 @@ joined_at one two three k first mid g last f continued image (inr torn) = elim (
   | inr late ↦ inr (inr (record { call = torn.call; change = torn.change; later = late; made = torn.made; torn = torn.torn }))
 ]
 
--- where two runs follow each other, and an image torn in the first has T, and so does one torn in the second, which
--- began with an image that has M
+-- where two runs follow each other, and an image torn in the first has T, and so does one torn in
+-- the second, which began with an image that has M
 pub images_joined_at : (R S T M : Image → Image → Type 0) (one two three : Device) → ((x y : Image) → R x y → T x y) → ((x y z : Image) → M x y → S y z → T x z) → IsLater one two → IsLater two three → ForSome one.told (λ first. ForSome two.told (λ mid. M first.image mid.image)) → EachImage R one two → EachImage S two three → EachImage T one three
 images_joined_at R S T M one two three early late h k between first_run second_run = record {
   each = λ first e last f image cut.

@@ -1,4 +1,5 @@
--- A torn call leaves each region that it doesn't touch; and what is torn inside a range is torn inside a wider one.
+-- A torn call leaves each region that it doesn't touch; and what is torn inside a range is torn
+-- inside a wider one.
 use Rattle.std.proofs.Common.{◌≡◌, ℕ, zero, suc, ◌+◌, ◌-◌, ◌*◌, ◌/◌, ◌%◌, ◌<◌, ◌≤◌, ◌∙◌, List, take, drop, ap, sym, arith, refl, inl, inr, ◌⊎◌}
 use Rattle.std.proofs.lemmas.Grind.{div_ceil_times}
 use Rattle.std.proofs.lemmas.List.{drop-drop, drop-take, take-take}

@@ -24,8 +24,8 @@ told_after_program page at bytes told =
     with_change page at bytes (with_bytes page at bytes Fine told.image) told
 
 -- the bytes that an erase writes
-abbrev pub blank_block : Geometry → List ℕ
-blank_block geometry = replicate geometry.block 255
+abbrev pub erased_bytes : Geometry → List ℕ
+erased_bytes geometry = replicate geometry.block 255
 
 -- with one erase of a block more
 abbrev pub with_erase : ℕ → Told → Told
@@ -36,7 +36,7 @@ with_erase block told =
 abbrev pub told_after_erase : Geometry → ℕ → Told → Told
 told_after_erase geometry block told =
     with_erase block
-    (told_after_program geometry.page (block * geometry.block) (blank_block geometry) told)
+    (told_after_program geometry.page (block * geometry.block) (erased_bytes geometry) told)
 
 -- what is told after a start that answered Ok: it is the last one, with what the device holds
 abbrev pub told_after_start : Plan → Told → Told
@@ -49,7 +49,7 @@ pub record IsTornBy (page at : ℕ) (bytes : List ℕ) (before after : Told) : T
   pub change : after.changes ≡ before.changes ++ change_of page at bytes before.image ∷ []
 
 -- no change came
-pub record IsUntouched (before after : Told) : Type 0 where
+pub record HasNoChange (before after : Told) : Type 0 where
   pub image : after.image ≡ before.image
   pub changes : after.changes ≡ before.changes
 
@@ -60,7 +60,7 @@ pub record ChangesOnly (at : ℕ) (bytes : List ℕ) (from to : Device) : Type 0
       ForSome from.told
       (λ before.
       ForSome to.told
-      (λ after. IsUntouched before after ⊎ IsTornBy from.geometry.page at bytes before after))
+      (λ after. HasNoChange before after ⊎ IsTornBy from.geometry.page at bytes before after))
 
 -- a read, whatever it answers: it is counted where it answers Ok, as a fault where it fails, and
 -- changes nothing

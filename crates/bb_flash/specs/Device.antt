@@ -30,7 +30,7 @@ change_of page at bytes before = record {
   len = length bytes;
 }
 
--- what a device tells of itself: memory boards do, and a device behind the operating system doesn't
+-- what a device tells of itself: memory boards do, and a device after the operating system doesn't
 pub record Told : Type 0 where
   pub image : Image
   -- oldest first

@@ -8,7 +8,7 @@ use Rattle.bb_flash.specs.declared.health.Health.TheVariants.{Fine}
 use Rattle.bb_flash.specs.declared.fault.Fault.{Fault}
 use Rattle.bb_flash.specs.declared.plan.Plan.{Plan}
 use Rattle.bb_flash.specs.Device.{Device, Told}
-use Rattle.bb_flash.specs.Calls.{blank_block, with_change, told_after_read, with_erase, told_after_start}
+use Rattle.bb_flash.specs.Calls.{erased_bytes, with_change, told_after_read, with_erase, told_after_start}
 use Rattle.bb_flash.specs.Filled.{is_cut, left_by}
 
 -- what a board in memory is
@@ -174,7 +174,7 @@ after_program at bytes memory =
 -- with one call more that was to erase a block
 abbrev pub with_blanks : Option Fault → ℕ → Memory → Memory
 with_blanks fault block memory =
-    with_write fault (block * memory.geometry.block) (blank_block memory.geometry) memory
+    with_write fault (block * memory.geometry.block) (erased_bytes memory.geometry) memory
 
 -- after an erase that met this fault, or none
 abbrev pub erase_by : Option Fault → ℕ → Memory → Memory

@@ -7,10 +7,10 @@ use Rattle.bb_flash.specs.declared.geometry.Geometry.{Geometry}
 use Rattle.bb_flash.specs.Geometry.{IsGeometry}
 use Rattle.bb_flash.specs.Image.{Image, IsImageOf, with_items_at}
 use Rattle.bb_flash.specs.Device.{Change, Start, change_of}
-use Rattle.bb_flash.specs.Calls.{blank_block}
+use Rattle.bb_flash.specs.Calls.{erased_bytes}
 
 -- what stood in the range of a call before it, and the bytes that it was to write there
-pub record Saved : Type 0 where
+pub record SavedCall : Type 0 where
   pub at : ℕ
   pub before : List ℕ
   pub health : List Health
@@ -23,11 +23,11 @@ pub record Record : Type 0 where
   -- how many bytes the calls were to write in all
   pub used : ℕ
   -- newest first
-  pub saved : List Saved
+  pub saved : List SavedCall
 
--- the ranges, newest first; what stood in them, its health and the calls' bytes lie one behind
+-- the ranges, newest first; what stood in them, its health and the calls' bytes lie one after
 -- another, the newest last
-unfoldable pub saved_of : List Span → List ℕ → List Health → List ℕ → List Saved
+unfoldable pub saved_of : List Span → List ℕ → List Health → List ℕ → List SavedCall
 saved_of [] before health bytes = []
 saved_of (span ∷ older) before health bytes =
     record {
@@ -42,14 +42,14 @@ saved_of (span ∷ older) before health bytes =
     (take (length bytes - span.bytes) bytes)
 
 -- what the device held before the call, where it held this image after it
-abbrev pub image_before : ℕ → Saved → Image → Image
+abbrev pub image_before : ℕ → SavedCall → Image → Image
 image_before page saved image = record {
   bytes = with_items_at saved.at saved.before image.bytes;
   health = with_items_at (saved.at / page) saved.health image.health;
 }
 
 -- the changes in the order in which they came, where the device holds this image after them
-unfoldable pub history : ℕ → List Saved → Image → List Change
+unfoldable pub history : ℕ → List SavedCall → Image → List Change
 history page [] image = []
 history page (saved ∷ older) image =
     history page older (image_before page saved image)
@@ -61,7 +61,7 @@ pub record IsMemory
     (calls : ℕ) (starts : List Start) : Type 0 where
   pub geometry_within : IsGeometry geometry
   pub image_whole : IsImageOf geometry image
-  pub block_blank : blank ≡ blank_block geometry
+  pub block_blank : blank ≡ erased_bytes geometry
   pub each_block : length numbers ≡ geometry.size / geometry.block
   pub all_calls : length log.saved ≤ calls
   -- each start gave up a byte of the room at least

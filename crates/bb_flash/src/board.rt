@@ -9,9 +9,10 @@ use bb_base::Failed;
 
 /// A flash device on a board, which can start a system.
 pub trait Board: Flash {
-    /// Starts a system by a plan. Once it answered Ok the plan is the last among the starts, with what the device
-    /// holds. A start that fails is counted once, and adds nothing; no other counts. It changes nothing on the
-    /// device, so what a power cut leaves in it is what the device holds.
+    /// Starts a system by a plan. Once it answered Ok the plan is the last among the starts, with
+    /// what the device holds. A start that fails is counted once, and adds nothing; no other
+    /// counts. It changes nothing on the device, so what a power cut leaves in it is what the
+    /// device holds.
     fn start(&mut self, plan: &Plan) -> Result<(), Failed>
         ensures done { OnOk result ((Self.device self.new).told ≡
             option_map (told_after_start plan.now) (Self.device self.old).told) }

@@ -3,8 +3,8 @@
 pub enum Fault {
     /// The call answers Failed. What it was to write is filled.
     Fail(Fill),
-    /// A power cut: the call fails in the same way, and so does every later call, which changes nothing, until a
-    /// restart.
+    /// A power cut: the call fails in the same way, and so does every later call, which changes
+    /// nothing, until a restart.
     Cut(Fill),
 }
 

@@ -34,10 +34,10 @@ const MOST_PAGE: u32 = 16_384;
 const LEAST_PAGE: u32 = 16;
 
 /// The geometry that a word spells, `None` exactly for every other word.
-/// `ov:SIZE` is a device that is overwritten in place, with SIZE from 1 to 268,435,456: its page is 1, its block 0.
-/// `er:PAGE:BLOCK:SIZE` is one that is erased in blocks, with PAGE from 16 to 16,384, BLOCK a positive multiple of
-/// PAGE up to 4,194,304, and SIZE a positive multiple of BLOCK up to 268,435,456.
-/// The numbers are spelt as `read_number` reads them.
+/// `ov:SIZE` is a device that is overwritten in place, with SIZE from 1 to 268,435,456: its page is
+/// 1, its block 0. `er:PAGE:BLOCK:SIZE` is one that is erased in blocks, with PAGE from 16 to
+/// 16,384, BLOCK a positive multiple of PAGE up to 4,194,304, and SIZE a positive multiple of BLOCK
+/// up to 268,435,456. The numbers are spelt as `read_number` reads them.
 pub fn geometry_of(word: &str) -> Option<Geometry>
     ensures value { result ≡ geometry_from word.now }
     ensures bounds { IfSome result IsGeometry }

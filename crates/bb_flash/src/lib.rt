@@ -1,5 +1,5 @@
-//! Flash devices: their geometries, what they hold, what each call leaves of it, and the plans by which a board
-//! starts a system.
+//! Flash devices: their geometries, what they hold, what each call leaves of it, and the plans by
+//! which a board starts a system.
 //! Any crate above bb_base may know it.
 #![tactic(auto)]
 

@@ -13,8 +13,8 @@ pub struct Span {
     pub pages: usize,
 }
 
-/// What stood in the range of each call that changed a board, before that call, and what the call was to
-/// write. It takes its memory once, and then only fills it.
+/// What stood in the range of each call that changed a board, before that call, and what the call
+/// was to write. It takes its memory once, and then only fills it.
 #[derive(Debug, Drop)]
 pub struct Log {
     most_calls: u32,

@@ -1,7 +1,8 @@
 ghost use Rattle.std.specs.Prelude.{◌≡◌, ◌+◌, ◌*◌, ◌<◌, ◌≤◌, ◌∷◌, length, option_map, IfOk, OnOk};
 ghost use Rattle.std.specs.Prelude.{OnErr, is_err};
 ghost use Rattle.std.specs.Option.{ForSome};
-ghost use Rattle.bb_flash.specs.Calls.{CanErase, CanProgram, IsChangeCall, IsReadCall, blank_block};
+ghost use Rattle.bb_flash.specs.Calls.{CanErase, CanProgram, IsChangeCall, IsReadCall};
+ghost use Rattle.bb_flash.specs.Calls.{erased_bytes};
 ghost use Rattle.bb_flash.specs.Calls.{told_after_erase, told_after_program};
 ghost use Rattle.bb_flash.specs.Device.{IsReading, content, erases};
 ghost use Rattle.bb_flash.specs.Geometry.{IsGeometry};
@@ -20,10 +21,11 @@ use starts::StartMade;
 use std::alloc::Global;
 use std::marker::Model;
 
-/// A board in memory, which tells all that it holds. It records each call that changes it, for as many calls and
-/// bytes as it took memory for, and each start, which takes room for as many bytes as the device has, for good. A call
-/// or a start fails where a fault is planned for it, where there is no room to record it, after a planned cut until a
-/// restart, and where a count but those of faults would pass 2^64 - 1; a start also where memory is refused.
+/// A board in memory, which tells all that it holds. It records each call that changes it, for as
+/// many calls and bytes as it took memory for, and each start, which takes room for as many bytes
+/// as the device has, for good. A call or a start fails where a fault is planned for it, where
+/// there is no room to record it, after a planned cut until a restart, and where a count but those
+/// of faults would pass 2^64 - 1; a start also where memory is refused.
 #[derive(Debug, Drop)]
 pub struct MemBoard {
     alloc: Global,
@@ -83,9 +85,10 @@ impl Model for MemBoard {
 }
 
 impl MemBoard {
-    #[tactic(auto, using(crate::proofs::Geometries::whole_pages), unfolding(crate::specs::Saved::history))]
-    /// A board that holds these bytes, one for each byte of the geometry's size, in pages that are Fine. It
-    /// records at most `calls` flash calls, and at most `room` bytes that they are to write.
+    #[tactic(auto, using(crate::proofs::Geometries::whole_pages), # unfolding(crate::specs::Saved::history))]
+    /// A board that holds these bytes, one for each byte of the geometry's size, in pages that are
+    /// Fine. It records at most `calls` flash calls, and at most `room` bytes that they are to
+    /// write.
     pub fn of(
         alloc: Global,
         geometry: Geometry,
@@ -123,8 +126,8 @@ impl MemBoard {
         })
     }
 
-    /// Plans a fault at a flash call, counted from 0 since the last restart. It takes the place of an earlier one
-    /// at that call.
+    /// Plans a fault at a flash call, counted from 0 since the last restart. It takes the place of
+    /// an earlier one at that call.
     pub fn plan_fault(&mut self, call: u32, fault: Fault) -> Result<(), NoMemory>
         ensures ok { OnOk result (self.new
             ≡ record self.old { plan = (call, fault) ∷ self.old.plan }) }
@@ -135,8 +138,9 @@ impl MemBoard {
     }
 
     #[tactic(auto, unfolding(crate::specs::Saved::history))]
-    /// Starts the board anew after a cut, or without one: what it holds stays, and so do the starts and the counts of
-    /// faults, reads, programs and erases. The record of calls and the planned faults go.
+    /// Starts the board anew after a cut, or without one: what it holds stays, and so do the starts
+    /// and the counts of faults, reads, programs and erases. The record of calls and the planned
+    /// faults go.
     pub fn restart(&mut self)
         ensures { self.new ≡ memory.after_restart self.old }
     {
@@ -149,7 +153,8 @@ impl MemBoard {
     }
 
     #[tactic(auto, unfolding(crate::specs::Saved::history))]
-    /// Sets the health of a page of the device, counted from 0. What calls changed before is no longer recorded.
+    /// Sets the health of a page of the device, counted from 0. What calls changed before is no
+    /// longer recorded.
     pub fn set_health(&mut self, page: u32, health: Health)
         requires { page * self.old.geometry.page < self.old.geometry.size }
         ensures { self.new ≡ memory.with_health self.old page health }
@@ -202,7 +207,7 @@ impl Flash for MemBoard {
             (device_of self.old).told) }
         ensures failed { OnErr result (erases (device_of self.new) ≡ erases (device_of self.old)) }
         ensures call { let geometry = self.old.geometry in
-            IsChangeCall result (block * geometry.block) (blank_block geometry)
+            IsChangeCall result (block * geometry.block) (erased_bytes geometry)
             (device_of self.old) (device_of self.new) }
     {
         self.erase_call(block)

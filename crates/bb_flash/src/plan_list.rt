@@ -31,7 +31,8 @@ impl PlanList {
         }
     }
 
-    /// Appends the plan of the next target, or that it has none. A plan is dropped where memory is refused.
+    /// Appends the plan of the next target, or that it has none. A plan is dropped where memory is
+    /// refused.
     pub fn push(&mut self, plan: Option<Plan>) -> Result<(), NoMemory>
         ensures ok { OnOk result (self.new ≡ self.old ++ plan ∷ []) }
         ensures err { OnErr result (self.new ≡ self.old) }

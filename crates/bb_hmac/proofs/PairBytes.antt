@@ -9,7 +9,7 @@ use Rattle.sha2.specs.declared.Sha256.{Sha256}
 use Rattle.hex.specs.Hex.{decode_of, decode_pairs, decode_sized, digit_or_error, hex_digit_value, is_hex_digit, pair_value}
 use Rattle.hex.proofs.HexLemmas.{decode_of-even, decode_sized-twice}
 use Rattle.hex.proofs.Pairs.{cons_byte, decode_pairs-ok_pair}
-use Rattle.bb_hmac.specs.Key.{IsSpelt}
+use Rattle.bb_hmac.specs.Key.{IsHexadecimal}
 
 abbrev digit_value : ℕ → ℕ
 digit_value c = unwrap_or (hex_digit_value c) 0
@@ -37,10 +37,10 @@ pairs_read i (a ∷ b ∷ rest) even h =
     let pair : pair_value a b i ≡ Ok (digit_value a * 16 + digit_value b) = rw (ha, hb) refl in
     decode_pairs-ok_pair i a b _ rest pair ∙ ap (cons_byte (digit_value a * 16 + digit_value b)) ih
 
-pub decoded : (s : List ℕ) → IsSpelt s → decode_of s ≡ Ok (pair_bytes s)
+pub decoded : (s : List ℕ) → IsHexadecimal s → decode_of s ≡ Ok (pair_bytes s)
 decoded s h = decode_of-even s h.even ∙ pairs_read 0 s h.even h.each
 
-pub decoded_into : (s : List ℕ) (n : ℕ) → length s ≡ 2 * n → IsSpelt s
+pub decoded_into : (s : List ℕ) (n : ℕ) → length s ≡ 2 * n → IsHexadecimal s
     → decode_sized s n ≡ Ok (pair_bytes s)
 decoded_into s n twice h = decode_sized-twice s n twice ∙ decoded s h
 
@@ -59,14 +59,14 @@ length_pair_bytes (a ∷ b ∷ rest) even = let ih = length_pair_bytes rest (ome
 
 -- the bytes of the digits in front of the rest are hashed
 pub record HashedTo (hasher : Sha256) (digits rest : List ℕ) : Type 0 where
-  pub spelt : IsSpelt rest
+  pub spelt : IsHexadecimal rest
   pub fed : List ℕ
   pub holds : Holds256 hasher fed
   pub whole : fed ++ pair_bytes rest ≡ pair_bytes digits
 
--- the parts of digits that are cut behind an even number
-pub spelt_parts : (front behind : List ℕ) → length front % 2 ≡ 0 → IsSpelt (front ++ behind)
-    → IsSpelt front × IsSpelt behind
+-- the parts of digits that are cut after an even number
+pub spelt_parts : (front behind : List ℕ) → length front % 2 ≡ 0 → IsHexadecimal (front ++ behind)
+    → IsHexadecimal front × IsHexadecimal behind
 spelt_parts front behind even h =
     let len = length-append front behind in (
       record {
@@ -92,15 +92,15 @@ hashed_more before after digits front behind h even step = record {
       ∙ ap (λ l. h.fed ++ l) (sym (pair_bytes_append front behind even)) ∙ h.whole;
 }
 
--- the piece that is taken at a time, and what is left behind it
+-- the piece that is taken at a time, and what is left after it
 pub record IsCut (rest piece behind : List ℕ) : Type 0 where
   pub whole : piece ++ behind ≡ rest
   pub even : length piece % 2 ≡ 0
   pub room : length piece ≤ 128
-  pub spelt : IsSpelt piece
+  pub spelt : IsHexadecimal piece
 
 pub cut : (rest piece behind : List ℕ) (n : ℕ) → n ≡ min (length rest) 128 → piece ≡ take n rest
-    → behind ≡ drop n rest → IsSpelt rest
+    → behind ≡ drop n rest → IsHexadecimal rest
     → IsCut rest piece behind
 cut rest piece behind n least front back h =
     let len : length piece ≡ n = ap length front ∙ length-take-le n rest (omega arith) in

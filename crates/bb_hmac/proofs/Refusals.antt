@@ -9,8 +9,8 @@ use Rattle.std.specs.Option.{option_map_or}
 use Rattle.std.specs.Result.{result_map_both}
 use Rattle.hex.specs.Hex.{is_hex_digit}
 use Rattle.hex.proofs.HexLemmas.{decode_of-odd}
-use Rattle.bb_hmac.specs.Hmac.{block_of}
-use Rattle.bb_hmac.specs.Key.{IsBadAt, IsSpelt, first_bad, key_of_pairs, spelt_key}
+use Rattle.bb_hmac.specs.Hmac.{key_block}
+use Rattle.bb_hmac.specs.Key.{IsBadAt, IsHexadecimal, first_bad, key_of_pairs, spelt_key}
 use Rattle.bb_hmac.specs.declared.error.KeyError.{KeyError}
 use Rattle.bb_hmac.specs.declared.error.KeyError.TheVariants.{BadHex}
 use Rattle.bb_hmac.proofs.PairBytes.{decoded, pair_bytes}
@@ -30,10 +30,10 @@ each_is_digit digits h =
 
 -- digits that nothing speaks against
 pub spelt_from_none : (digits : List ℕ) → first_bad digits ≡ None → length digits % 2 ≡ 0
-    → IsSpelt digits
+    → IsHexadecimal digits
 spelt_from_none digits h even = record { each = each_is_digit digits h; even = even }
 
-pub paired_even : (digits : List ℕ) → IsSpelt digits → key_of_pairs digits ≡ Ok (pair_bytes digits)
+pub paired_even : (digits : List ℕ) → IsHexadecimal digits → key_of_pairs digits ≡ Ok (pair_bytes digits)
 paired_even digits h = ap (result_map_both (λ key. key) (λ _. BadHex (length digits))) (decoded digits h)
 
 pub paired_odd : (digits : List ℕ) → length digits % 2 ≡ 1
@@ -48,9 +48,9 @@ spelt_even digits some none even =
     rw (some, none) (paired_even digits (spelt_from_none digits none even))
 
 abbrev pub with_block : Result (List ℕ) KeyError → Result (List ℕ) KeyError
-with_block r = result_map_both block_of (λ e. e) r
+with_block r = result_map_both key_block (λ e. e) r
 
--- behind the test for no digit
+-- after the test for no digit
 refused_in : (o : Option ℕ) (digits : List ℕ) (place : ℕ) → first_bad digits ≡ o
     → (with_block (option_map_or (λ p. Err (BadHex p)) o (key_of_pairs digits)) ≡ Err (BadHex place)) ↔ IsBadAt digits place
 refused_in (Some p) digits place e = (λ h. inl (cc), λ bad. elim bad [ inl at ↦ cc | inr odd ↦ absurd (cc) ])

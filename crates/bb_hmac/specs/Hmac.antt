@@ -11,12 +11,12 @@ abbrev pub filled_block : List ℕ → List ℕ
 filled_block key = key ++ replicate (64 - length key) 0
 
 -- the block that a key is used as
-abbrev pub block_of : List ℕ → List ℕ
-block_of key = filled_block (short_key key)
+abbrev pub key_block : List ℕ → List ℕ
+key_block key = filled_block (short_key key)
 
 -- each byte of the key's block, exclusive or the byte of a pad
 abbrev pub masked_block : ℕ → List ℕ → List ℕ
-masked_block pad key = map (λ byte. bit_xor byte pad) (block_of key)
+masked_block pad key = map (λ byte. bit_xor byte pad) (key_block key)
 
 -- the byte of the inner pad
 abbrev pub ipad : ℕ

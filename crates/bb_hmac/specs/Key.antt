@@ -13,14 +13,14 @@ abbrev pub is_blank : ℕ → Bool
 is_blank c = c == 32 || c == 9 || c == 13 || c == 10
 
 -- the text without the blanks at its end
-abbrev pub digits_of : List ℕ → List ℕ
-digits_of text = take (length text - suffix_len is_blank text) text
+abbrev pub hex_part : List ℕ → List ℕ
+hex_part text = take (length text - suffix_len is_blank text) text
 
 -- the place of the first byte that is no digit
 abbrev pub first_bad : List ℕ → Option ℕ
 first_bad digits = position (λ c. not (is_hex_digit c)) digits
 
--- the bytes of digits; an odd number of them is refused behind the last
+-- the bytes of digits; an odd number of them is refused after the last
 abbrev pub key_of_pairs : List ℕ → Result (List ℕ) KeyError
 key_of_pairs digits = result_map_both (λ key. key) (λ _. BadHex (length digits)) (decode_of digits)
 
@@ -32,10 +32,10 @@ spelt_key digits =
 
 -- the key that a text is, or why it is none
 abbrev pub key_of : List ℕ → Result (List ℕ) KeyError
-key_of text = spelt_key (digits_of text)
+key_of text = spelt_key (hex_part text)
 
 -- each byte is a digit, and their number is even
-pub record IsSpelt (digits : List ℕ) : Type 0 where
+pub record IsHexadecimal (digits : List ℕ) : Type 0 where
   pub each : AllPass is_hex_digit digits
   pub even : length digits % 2 ≡ 0
 

@@ -2,8 +2,8 @@ ghost use Rattle.std.specs.Prelude.{◌≡◌, ◌≤◌, ◌*◌, ◌↔◌, �
 ghost use Rattle.std.specs.Result.{result_map_both};
 ghost use Rattle.hex.specs.Hex.{decode_of};
 ghost use Rattle.sha2.specs.Sha256.{sha256};
-ghost use Rattle.bb_hmac.specs.Hmac.{block_of, filled_block, masked_block};
-ghost use Rattle.bb_hmac.specs.Key.{IsBadAt, IsSpelt, digits_of, first_bad, is_blank, key_of};
+ghost use Rattle.bb_hmac.specs.Hmac.{key_block, filled_block, masked_block};
+ghost use Rattle.bb_hmac.specs.Key.{IsBadAt, IsHexadecimal, hex_part, first_bad, is_blank, key_of};
 ghost use Rattle.bb_hmac.specs.Key.{spelt_key};
 ghost use Rattle.bb_hmac.specs.declared.error.KeyError.TheVariants.{BadHex, Empty};
 
@@ -35,10 +35,10 @@ impl Key {
     /// The key that a text spells: two hexadecimal digits a byte, in either case, the high four
     /// bits first. Spaces, tabs, CR and LF at its end don't count. It takes no memory.
     pub fn from_hex(text: &[u8]) -> Result<Key, KeyError>
-        ensures value { result ≡ result_map_both block_of (λ e. e) (key_of text.now) }
-        ensures empty { (result ≡ Err Empty) ↔ (digits_of text.now ≡ []) }
+        ensures value { result ≡ result_map_both key_block (λ e. e) (key_of text.now) }
+        ensures empty { (result ≡ Err Empty) ↔ (hex_part text.now ≡ []) }
         ensures bad_hex { (place : ℕ)
-            → (result ≡ Err (BadHex place)) ↔ IsBadAt (digits_of text.now) place }
+            → (result ≡ Err (BadHex place)) ↔ IsBadAt (hex_part text.now) place }
     {
         let digits = without_blanks(text);
         check(digits)?;
@@ -60,7 +60,7 @@ impl Key {
 }
 
 fn without_blanks(text: &[u8]) -> &[u8]
-    ensures { result.now ≡ digits_of text.now }
+    ensures { result.now ≡ hex_part text.now }
 {
     let mut end = text.len();
     while end > 0 && is_blank(text[end - 1]) {
@@ -77,7 +77,7 @@ fn is_blank(c: u8) -> bool
 
 // Refuses digits that spell no key.
 fn check(digits: &[u8]) -> Result<(), KeyError>
-    ensures ok { OnOk result (IsSpelt digits.now) }
+    ensures ok { OnOk result (IsHexadecimal digits.now) }
     ensures value { result_map_both (λ _. tt) (λ e. e) (spelt_key digits.now) ≡ result }
 {
     if digits.is_empty() {
@@ -100,8 +100,8 @@ fn first_bad(digits: &[u8]) -> Option<usize>
 
 // The block of the key that the digits spell.
 fn block_from(digits: &[u8]) -> [u8; 64]
-    requires { IsSpelt digits.now }
-    ensures { IfOk (decode_of digits.now) (λ key. result ≡ block_of key) }
+    requires { IsHexadecimal digits.now }
+    ensures { IfOk (decode_of digits.now) (λ key. result ≡ key_block key) }
 {
     if digits.len() <= 2 * BLOCK_LEN {
         filled_block(digits)
@@ -111,7 +111,7 @@ fn block_from(digits: &[u8]) -> [u8; 64]
 }
 
 fn filled_block(digits: &[u8]) -> [u8; 64]
-    requires spelt { IsSpelt digits.now }
+    requires spelt { IsHexadecimal digits.now }
     requires short { length digits.now ≤ 2 * 64 }
     ensures { IfOk (decode_of digits.now) (λ key. result ≡ filled_block key) }
 {
@@ -121,7 +121,7 @@ fn filled_block(digits: &[u8]) -> [u8; 64]
 }
 
 fn hashed_block(digits: &[u8]) -> [u8; 64]
-    requires { IsSpelt digits.now }
+    requires { IsHexadecimal digits.now }
     ensures { IfOk (decode_of digits.now) (λ key. result ≡ filled_block (sha256 key)) }
 {
     let mut block = [0; BLOCK_LEN];
@@ -131,7 +131,7 @@ fn hashed_block(digits: &[u8]) -> [u8; 64]
 
 // SHA-256 of the bytes that the digits spell.
 fn hash_of(digits: &[u8]) -> [u8; 32]
-    requires { IsSpelt digits.now }
+    requires { IsHexadecimal digits.now }
     ensures { IfOk (decode_of digits.now) (λ key. result ≡ sha256 key) }
 {
     let mut hasher = Sha256::new();
@@ -148,7 +148,7 @@ fn hash_of(digits: &[u8]) -> [u8; 32]
 
 // Writes the bytes that the digits spell to the front of `out`.
 fn write_bytes(digits: &[u8], out: &mut [u8])
-    requires spelt { IsSpelt digits.now }
+    requires spelt { IsHexadecimal digits.now }
     requires room { length digits.now ≤ 2 * length out.old }
     ensures { IfOk (decode_of digits.now) (λ bytes.
         out.new ≡ bytes ++ drop (length bytes) out.old) }

@@ -250,7 +250,8 @@ no_log = refl
 direct : on (with_storage (codes "direct")) blocks ≡ Some (OneBlock, 3)
 direct = refl
 
--- in place there are strides, whatever good storage is asked for, and on blocks none, whatever stride is
+-- in place there are strides, whatever good storage is asked for, and on blocks none, whatever
+-- stride is
 log_in_place : on (with_storage (codes "circular")) small ≡ Some (Stride 128, 3)
 log_in_place = refl
 

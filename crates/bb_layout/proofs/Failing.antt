@@ -9,14 +9,14 @@ use Rattle.bb_tree.specs.Paths.{prop_of}
 use Rattle.bb_tree.specs.Phandle.{node_with}
 use Rattle.bb_layout.specs.Backend.{backend_of, node_along, partition_at, partition_of, path_in}
 use Rattle.bb_layout.specs.Copies.{copies_of, room_for, spacing}
-use Rattle.bb_layout.specs.Fields.{cell_of, string_of, texts_of, two_cells_of}
+use Rattle.bb_layout.specs.Fields.{cell_of, string_of, utf8_strings, two_cells_of}
 use Rattle.bb_layout.specs.Ranges.{area_len_of, greatest_end, has_same_name, shares_byte, some_pair}
 use Rattle.bb_layout.specs.Results.{all_ok, option_filter, result_and_then}
-use Rattle.bb_layout.specs.StateProps.{circular_in, format_of, is_circular_of, keyed_in, magic_of, required_prop, props_of, some_cell, stride_of, type_in}
+use Rattle.bb_layout.specs.StateProps.{circular_in, format_named, is_circular_of, format_by_algo, magic_of, required_prop, props_of, some_cell, stride_of, type_in}
 use Rattle.bb_layout.specs.StateProps
 use Rattle.bb_layout.specs.Steps.{result_then}
 use Rattle.bb_layout.specs.Storage.{check_room, is_aligned, check_place}
-use Rattle.bb_layout.specs.Variables.{default_in, default_of, dotted_name, bytes_of_size, fits_type, is_variable, kind_of, names_of, range_of, type_of, variable_at, variable_of, variables_of, ways_of}
+use Rattle.bb_layout.specs.Variables.{default_in, default_of, dotted_name, bytes_of_size, fits_type, is_variable, kind_of, names_of, range_in_area, type_of, variable_at, variable_of, variables_of, ways_of}
 use Rattle.bb_layout.specs.VarType.{type_named}
 use Rattle.bb_layout.specs.declared.format_kind.FormatKind.{FormatKind}
 use Rattle.bb_layout.specs.declared.layout_error.LayoutError.{LayoutError}
@@ -110,14 +110,14 @@ module _ (b : Branch (List ℕ)) where
   fails_magic =
       fails_then (required_prop b (codes "magic")) _ (fails_needed (codes "magic") refl) (λ v. fails_or (cell_of v) (BadProp (codes "magic")) refl)
 
-  fails_type : Fails of_props (StateProps.type_of b)
+  fails_type : Fails of_props (StateProps.backend_type b)
   fails_type =
       fails_then (required_prop b (codes "backend-type")) _ (fails_needed (codes "backend-type") refl) (λ v. fails_or (type_in v) (BadProp (codes "backend-type")) refl)
 
-  fails_format : (type : FormatKind) → Fails of_props (format_of b type)
+  fails_format : (type : FormatKind) → Fails of_props (format_named b type)
   fails_format type =
       let bad = BadProp (codes "algo") in
-      fails_map_or (λ v. ok_or (keyed_in type v) bad) (prop_of (codes "algo") b) (Ok type) (λ v. fails_or (keyed_in type v) bad refl) (fails_ok type)
+      fails_map_or (λ v. ok_or (format_by_algo type v) bad) (prop_of (codes "algo") b) (Ok type) (λ v. fails_or (format_by_algo type v) bad refl) (fails_ok type)
 
   fails_circular : Fails of_props (is_circular_of b)
   fails_circular =
@@ -135,18 +135,18 @@ module _ (b : Branch (List ℕ)) where
   pub fails_props : Fails of_props (props_of b)
   fails_props =
       fails_then (magic_of b) _ fails_magic (λ magic.
-      fails_then (StateProps.type_of b) _ fails_type (λ type.
-      fails_then (format_of b type) _ (fails_format type) (λ format.
+      fails_then (StateProps.backend_type b) _ fails_type (λ type.
+      fails_then (format_named b type) _ (fails_format type) (λ format.
       fails_then (is_circular_of b) _ fails_circular (λ is_circular.
       fails_then (stride_of b) _ fails_stride (λ stride. fails_ok (record { magic = magic; format = format; is_circular = is_circular; stride = stride }))))))
 
-fails_range : (type : VarType) (value : Option (List ℕ)) → Fails of_vars (range_of type value)
+fails_range : (type : VarType) (value : Option (List ℕ)) → Fails of_vars (range_in_area type value)
 fails_range type None = fails_err (Missing (codes "reg")) refl
 fails_range type (Some v) = fails_or (option_filter (fits_type type) (two_cells_of v)) BadReg refl
 
 fails_names : (value : Option (List ℕ)) → Fails of_vars (names_of value)
 fails_names None = fails_err (Missing (codes "names")) refl
-fails_names (Some v) = fails_or (option_filter (λ names. nat_le (length names) 4294967295) (texts_of v)) (BadProp (codes "names")) refl
+fails_names (Some v) = fails_or (option_filter (λ names. nat_le (length names) 4294967295) (utf8_strings v)) (BadProp (codes "names")) refl
 
 fails_kind : (type : VarType) (size : ℕ) (names : Option (List ℕ)) → Fails of_vars (kind_of type size names)
 fails_kind kinds.Uint8 size names = fails_ok Uint8
@@ -162,7 +162,7 @@ fails_default kind (Some v) = fails_or (default_in kind v) (BadProp (codes "defa
 fails_variable : (path : List (List ℕ)) (b : Branch (List ℕ)) → Fails of_vars (variable_of path b)
 fails_variable path b =
     fails_and_then _ (type_of (prop_of (codes "type") b)) (fails_or (option_and_then type_named (option_and_then string_of (prop_of (codes "type") b))) BadType refl) (λ type.
-    fails_and_then _ (range_of type (prop_of (codes "reg") b)) (fails_range type (prop_of (codes "reg") b)) (λ range.
+    fails_and_then _ (range_in_area type (prop_of (codes "reg") b)) (fails_range type (prop_of (codes "reg") b)) (λ range.
     fails_and_then _ (kind_of type range.1 (prop_of (codes "names") b)) (fails_kind type range.1 (prop_of (codes "names") b)) (λ kind.
     fails_and_then _ (default_of kind (prop_of (codes "default") b)) (fails_default kind (prop_of (codes "default") b)) (λ default.
     fails_ok (record { name = dotted_name path; path = path; at = range.0; size = range.1; kind = kind; default = default })))))

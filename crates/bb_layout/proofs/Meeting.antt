@@ -1,4 +1,5 @@
--- Spans in rising order: two of all share a place exactly where one begins before the one in front of it ends.
+-- Spans in rising order: two of all share a place exactly where one begins before the one in front
+-- of it ends.
 use Rattle.std.proofs.Common.{◌≡◌, ℕ, zero, suc, ◌+◌, ◌<◌, ◌≤◌, Bool, true, false, ◌&&◌, cond, leb, ltb, List, [], ◌∷◌, length, get_or, map, arith, sym, ap, ◌∙◌, inl, inr, All, count_by, max, min}
 use Rattle.std.proofs.lemmas.Bool.{cases_Bool, false≢true}
 use Rattle.std.proofs.lemmas.Bool.Decides.{nat_tests}
@@ -92,7 +93,7 @@ module _ {X : Type 0} (p : X → Bool) where
             record { first = suc rest.first; second = suc rest.second; order = omega (arith, rest.order); inside = omega (arith, rest.inside); passes = rest.passes }
       ]
 
--- ---- spans one behind the other
+-- ---- spans one after the other
 
 not_below : (a b : ℕ) → ltb a b ≡ false → b ≤ a
 not_below a b h = grind (arith, nat_tests)

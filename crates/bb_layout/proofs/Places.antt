@@ -13,7 +13,7 @@ use Rattle.std.specs.Option.{option_or, option_map_or, option_copied, is_some}
 use Rattle.std.specs.Result.{OnOk, is_err}
 use Rattle.std.specs.Str.{bytes_eq}
 use Rattle.bb_layout.specs.Ranges.{some_pair, has_same_name}
-use Rattle.bb_layout.specs.VarNames.{place_of, with_place, AreFirstPlaces, is_first_of_name}
+use Rattle.bb_layout.specs.VarNames.{place_of_var, with_place, AreFirstPlaces, is_first_of_name}
 use Rattle.bb_layout.specs.declared.var.Var.{Var}
 use Rattle.bb_layout.proofs.Pairs.{pair_at, pair_none}
 
@@ -93,8 +93,8 @@ places_push vars places v are n =
 
 -- ---- names that stand twice
 
-first_by : (vars : List Var) (i : ℕ) (d : Var) → i < length vars → is_first_of_name vars i ≡ option_map_or (λ k. eqb k i) (place_of vars (get_or vars i d).name) false
-first_by vars i d inside = ap (λ (o : Option Var). option_map_or (λ v. option_map_or (λ k. eqb k i) (place_of vars v.name) false) o true) (slice_get-get_or vars i d inside)
+first_by : (vars : List Var) (i : ℕ) (d : Var) → i < length vars → is_first_of_name vars i ≡ option_map_or (λ k. eqb k i) (place_of_var vars (get_or vars i d).name) false
+first_by vars i d inside = ap (λ (o : Option Var). option_map_or (λ v. option_map_or (λ k. eqb k i) (place_of_var vars v.name) false) o true) (slice_get-get_or vars i d inside)
 
 place_is : (o : Option ℕ) (i : ℕ) → option_map_or (λ k. eqb k i) o false ≡ true → o ≡ Some i
 place_is None i h = absurd (false≢true h)
@@ -102,7 +102,7 @@ place_is (Some k) i h = ap Some (eqb-true k i h)
 
 pub names_differ : (vars : List Var) → ((i : ℕ) → i < length vars → is_first_of_name vars i ≡ true) → some_pair has_same_name vars ≡ false
 names_differ vars first = pair_none has_same_name vars (λ i j d l m.
-    let at = place_is (place_of vars (get_or vars j d).name) j (sym (first_by vars j d m) ∙ first j m) in
+    let at = place_is (place_of_var vars (get_or vars j d).name) j (sym (first_by vars j d m) ∙ first j m) in
     (position-Some (λ w. bytes_eq (get_or vars j d).name w.name) vars j d at).2 i l)
 
 not_first : (q i all : ℕ) → q ≤ i → i < all → option_map_or (λ k. eqb k i) (cond (ltb q all) (Some q) None) false ≡ false → q < i

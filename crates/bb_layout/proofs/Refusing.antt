@@ -7,7 +7,7 @@ use Rattle.bb_layout.specs.Backend.{backend_of}
 use Rattle.bb_layout.specs.Copies.{copies_of}
 use Rattle.bb_layout.specs.Layout.{Laid, fields_of, layout_at, len_of}
 use Rattle.bb_layout.specs.Ranges.{area_len_of}
-use Rattle.bb_layout.specs.Refusals.{answer_to, area_step, place_step, progress_of, props_step, region_step, room_step, state_step, vars_step, AtArea, AtBackend, AtPlace, AtProperties, AtProps, AtRoom, AtVars, ComesAt, ComesExactly, HasNoState, Question, Refuses}
+use Rattle.bb_layout.specs.Refusals.{layout_answer, area_step, place_step, progress_of, props_step, region_step, room_step, state_step, vars_step, AtArea, AtBackend, AtPlace, AtProperties, AtProps, AtRoom, AtVars, ComesAt, ComesExactly, HasNoState, Question, Refuses}
 use Rattle.bb_layout.specs.StateNode.{state_of}
 use Rattle.bb_layout.specs.StateProps.{props_of}
 use Rattle.bb_layout.specs.Steps.{result_then}
@@ -147,14 +147,14 @@ module _ (question : Question) where
   same_by (Err e) = refl
   same_by (Ok s) = same_from_props question s (props_of s.1) (variables_of s.1) (backend_of question.tree s.1)
 
-  last_refuses : refusal_of (answer_to question) ≡ refusal_of (room_step question)
+  last_refuses : refusal_of (layout_answer question) ≡ refusal_of (room_step question)
   last_refuses = same_by (state_step question)
 
-  to_last : (e : LayoutError) → answer_to question ≡ Err e → room_step question ≡ Err e
+  to_last : (e : LayoutError) → layout_answer question ≡ Err e → room_step question ≡ Err e
   to_last e h = refused_by (room_step question) e (sym last_refuses ∙ ap refusal_of h)
 
-  from_last : (e : LayoutError) → room_step question ≡ Err e → answer_to question ≡ Err e
-  from_last e h = refused_by (answer_to question) e (last_refuses ∙ ap refusal_of h)
+  from_last : (e : LayoutError) → room_step question ≡ Err e → layout_answer question ≡ Err e
+  from_last e h = refused_by (layout_answer question) e (last_refuses ∙ ap refusal_of h)
 
 -- ---- the first step that refuses
 
@@ -210,7 +210,7 @@ module _ (question : Question) (e : LayoutError) where
     | inr q ↦ at_place q
   ]
 
-  first_refusal : answer_to question ≡ Err e → FirstRefusal question e
+  first_refusal : layout_answer question ≡ Err e → FirstRefusal question e
   unfolding progress_of
   first_refusal h = elim (back (place_step question) _ e (to_last question e h)) [
     | inl q ↦ first_from_place q
@@ -219,22 +219,22 @@ module _ (question : Question) (e : LayoutError) where
 
   -- ---- a step that refuses decides
 
-  by_place : place_step question ≡ Err e → answer_to question ≡ Err e
+  by_place : place_step question ≡ Err e → layout_answer question ≡ Err e
   by_place h = from_last question e (ahead (place_step question) _ e h)
 
-  by_backend : region_step question ≡ Err e → answer_to question ≡ Err e
+  by_backend : region_step question ≡ Err e → layout_answer question ≡ Err e
   by_backend h = by_place (ahead (region_step question) _ e h)
 
-  by_area : area_step question ≡ Err e → answer_to question ≡ Err e
+  by_area : area_step question ≡ Err e → layout_answer question ≡ Err e
   by_area h = by_backend (ahead (area_step question) _ e h)
 
-  by_vars : vars_step question ≡ Err e → answer_to question ≡ Err e
+  by_vars : vars_step question ≡ Err e → layout_answer question ≡ Err e
   by_vars h = by_area (ahead (vars_step question) _ e h)
 
-  by_props : props_step question ≡ Err e → answer_to question ≡ Err e
+  by_props : props_step question ≡ Err e → layout_answer question ≡ Err e
   by_props h = by_vars (ahead (props_step question) _ e h)
 
-  decides : FirstRefusal question e → answer_to question ≡ Err e
+  decides : FirstRefusal question e → layout_answer question ≡ Err e
   unfolding progress_of
   decides (at_state h) = by_props (ahead (state_step question) _ e h)
   decides (at_props h) = by_props h.1
@@ -349,8 +349,8 @@ exactly expected (Err x) e fact is other to from = record {
     code_same : {y z : LayoutError} → ◌≡◌ {A = Result Layout LayoutError} (Err y) (Err z) → y ≡ z
     code_same q = cc
 
-module _ (question : Question) (result : Result Layout LayoutError) (is : IsLayoutOf (answer_to question) result) where
-  abbrev first : (e : LayoutError) → answer_to question ≡ Err e → FirstRefusal question e
+module _ (question : Question) (result : Result Layout LayoutError) (is : IsLayoutOf (layout_answer question) result) where
+  abbrev first : (e : LayoutError) → layout_answer question ≡ Err e → FirstRefusal question e
   first e h = first_refusal question e h
 
   none_of : (found : Option (List ℕ × Branch (List ℕ))) → ok_or found NoState ≡ Err NoState → found ≡ None
@@ -439,7 +439,7 @@ module _ (question : Question) (result : Result Layout LayoutError) (is : IsLayo
       exactly _ result NameTwice _ is (λ h. cc) (λ h. name_twice_only (first NameTwice h)) (λ f. decides question NameTwice (at_area f))
 
   -- a property of that name is refused by each of three steps
-  decides_property : (e : LayoutError) → AtProperties question e → answer_to question ≡ Err e
+  decides_property : (e : LayoutError) → AtProperties question e → layout_answer question ≡ Err e
   decides_property e f = elim f [
     | inl h ↦ decides question e (at_props h)
     | inr g ↦ elim g [

@@ -10,10 +10,10 @@ use Rattle.bb_tree.specs.Paths.{prop_of}
 use Rattle.bb_vars.specs.Kind.{size_of, HasFewNames}
 use Rattle.bb_vars.specs.declared.kind.Kind.{Kind}
 use Rattle.bb_vars.specs.declared.kind.Kind.TheVariants.{Uint8, Uint32, Enum32, Mac, Chars}
-use Rattle.bb_layout.specs.Fields.{cell_of, cell_below, two_cells_of, string_of, texts_of}
+use Rattle.bb_layout.specs.Fields.{cell_of, cell_below, two_cells_of, string_of, utf8_strings}
 use Rattle.bb_layout.specs.Results.{option_filter, result_and_then, all_ok}
 use Rattle.bb_layout.specs.VarType.{may_have_size}
-use Rattle.bb_layout.specs.Variables.{type_of, fits_type, range_of, names_of, kind_of, bytes_of_size, default_in, default_of, dotted_name, with_kind, with_range, with_type, variable_of, ways_of, is_variable, variable_at, variables_of, IsWellFormed}
+use Rattle.bb_layout.specs.Variables.{type_of, fits_type, range_in_area, names_of, kind_of, bytes_of_size, default_in, default_of, dotted_name, with_kind, with_range, with_type, variable_of, ways_of, is_variable, variable_at, variables_of, IsWellFormed}
 use Rattle.bb_layout.specs.declared.layout_error.LayoutError.{LayoutError}
 use Rattle.bb_layout.specs.declared.layout_error.LayoutError.TheVariants.{BadReg, BadProp}
 use Rattle.bb_layout.specs.declared.var.Var.{Var}
@@ -56,7 +56,7 @@ mapped f (Some x) y h = record { value = x; there = refl; is = cc }
 
 -- ---- one variable
 
-range_fits : (type : VarType) (value : Option (List ℕ)) (range : ℕ × ℕ) → range_of type value ≡ Ok range → fits_type type range ≡ true
+range_fits : (type : VarType) (value : Option (List ℕ)) (range : ℕ × ℕ) → range_in_area type value ≡ Ok range → fits_type type range ≡ true
 range_fits type None range h = absurd (cc)
 range_fits type (Some value) range h = (filter_some (fits_type type) (two_cells_of value) range (ok_or_ok (option_filter (fits_type type) (two_cells_of value)) BadReg range h)).1
 
@@ -64,7 +64,7 @@ few_names : (value : Option (List ℕ)) (names : List (List ℕ)) → names_of v
 few_names None names h = absurd (cc)
 few_names (Some value) names h =
     let few : leb (length names) 4294967295 ≡ true =
-    (filter_some (λ l. leb (length l) 4294967295) (texts_of value) names (ok_or_ok (option_filter (λ l. leb (length l) 4294967295) (texts_of value)) (BadProp (codes "names")) names h)).1 in
+    (filter_some (λ l. leb (length l) 4294967295) (utf8_strings value) names (ok_or_ok (option_filter (λ l. leb (length l) 4294967295) (utf8_strings value)) (BadProp (codes "names")) names h)).1 in
     grind (arith, nat_tests)
 
 record Fits (size : ℕ) (kind : Kind) : Type 0 where
@@ -126,7 +126,7 @@ default_sized kind (Some value) bytes h = default_fits kind value bytes (ok_or_o
 pub well_formed : (path : List (List ℕ)) (b : Branch (List ℕ)) (v : Var) → path ≢ [] → variable_of path b ≡ Ok v → IsWellFormed v
 well_formed path b v led h =
     let t = came (with_type path b) (type_of (prop_of (codes "type") b)) v h in
-    let r = came (with_range path b t.value) (range_of t.value (prop_of (codes "reg") b)) v t.then in
+    let r = came (with_range path b t.value) (range_in_area t.value (prop_of (codes "reg") b)) v t.then in
     let k = came (with_kind path b r.value) (kind_of t.value r.value.1 (prop_of (codes "names") b)) v r.then in
     let made : List ℕ → Var = λ default. record { name = dotted_name path; path = path; at = r.value.0; size = r.value.1; kind = k.value; default = default } in
     let d = came (λ default. Ok (made default)) (default_of k.value (prop_of (codes "default") b)) v k.then in

@@ -1,5 +1,5 @@
--- The partition that `backend` leads to (devicetree binding `barebox,state`; Devicetree Specification v0.4, section 2.3.6
--- on `reg`).
+-- The partition that `backend` leads to (devicetree binding `barebox,state`; Devicetree
+-- Specification v0.4, section 2.3.6 on `reg`).
 use Rattle.std.specs.Prelude.{ℕ, ◌==◌, ◌&&◌, nat_eq, List, Option, Some, None, Result, Err, if◌then◌else◌, codes, ok_or, option_and_then, option_map}
 use Rattle.std.specs.List.{starts_with}
 use Rattle.std.specs.Option.{option_map_or, option_or}

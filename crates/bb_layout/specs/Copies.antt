@@ -1,8 +1,8 @@
--- Where copies stand in a partition, one behind the other, two or three of them, and the room that
+-- Where copies stand in a partition, one after the other, two or three of them, and the room that
 -- a record takes there (barebox User Manual, State Framework).
 use Rattle.std.specs.Prelude.{ℕ, ◌+◌, ◌*◌, ◌/◌, min}
 use Rattle.std.specs.Int.{next_multiple_of}
-use Rattle.bb_bucket.specs.Front.{front_len}
+use Rattle.bb_bucket.specs.Front.{stride_header_len}
 use Rattle.bb_flash.specs.declared.geometry.Geometry.{Geometry}
 use Rattle.bb_flash.specs.declared.region.Region.{Region}
 use Rattle.bb_layout.specs.declared.storage.Storage.{Storage}
@@ -24,8 +24,8 @@ abbrev pub copies_of : Geometry → Storage → Region → ℕ
 copies_of geometry storage partition = min 3 (partition.size / spacing geometry storage)
 
 -- how many bytes a copy with a record of that length takes: a front stands before the record, or
--- as many bytes behind it where an entry of whole pages ends with them
+-- as many bytes after it where an entry of whole pages ends with them
 abbrev pub room_for : Geometry → Storage → ℕ → ℕ
-room_for geometry (Stride stride) len = len + front_len
-room_for geometry OneBlock len = len + front_len
-room_for geometry Circular len = next_multiple_of (len + front_len) geometry.page
+room_for geometry (Stride stride) len = len + stride_header_len
+room_for geometry OneBlock len = len + stride_header_len
+room_for geometry Circular len = next_multiple_of (len + stride_header_len) geometry.page

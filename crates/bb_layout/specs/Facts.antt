@@ -53,9 +53,9 @@ is_stride (Stride stride) = true
 is_stride OneBlock = false
 is_stride Circular = false
 
--- copies in a partition of a device, with records of that length: each has a region in the partition, with room for its
--- record, and no two of them share a byte. They stand in strides exactly on a device without blocks, and in whole blocks
--- on every other.
+-- copies in a partition of a device, with records of that length: each has a region in the
+-- partition, with room for its record, and no two of them share a byte. They stand in strides
+-- exactly on a device without blocks, and in whole blocks on every other.
 pub record HasCopies (geometry : Geometry) (partition : Region) (storage : Storage) (copies len : ℕ) : Type 0 where
   pub strides : is_stride storage ≡ (geometry.block == 0)
   pub on_device : partition.at + partition.size ≤ geometry.size

@@ -24,26 +24,26 @@ four_cells_of value = option_zip (two_cells_of (take 8 value)) (two_cells_of (dr
 -- ---- strings
 
 -- what stands before a zero byte that ends a value
-abbrev pub front_of : List ℕ → Option (List ℕ)
-front_of value = if ends_with nat_eq value (0 ∷ []) then Some (take (length value - 1) value) else None
+abbrev pub before_zero_byte : List ℕ → Option (List ℕ)
+before_zero_byte value = if ends_with nat_eq value (0 ∷ []) then Some (take (length value - 1) value) else None
 
 -- a string is bytes without zero, and then a zero byte
 abbrev pub string_of : List ℕ → Option (List ℕ)
-string_of value = option_filter (λ front. not (list_any (λ c. c == 0) front)) (front_of value)
+string_of value = option_filter (λ front. not (list_any (λ c. c == 0) front)) (before_zero_byte value)
 
 -- a list of strings is one or more of them
 abbrev pub parts_of : List ℕ → List (List ℕ)
 parts_of front = slice_split (λ c. c == 0) front
 
 abbrev pub strings_of : List ℕ → Option (List (List ℕ))
-strings_of value = option_map parts_of (front_of value)
+strings_of value = option_map parts_of (before_zero_byte value)
 
 -- a string in UTF-8, and a list of such strings
-abbrev pub text_of : List ℕ → Option (List ℕ)
-text_of value = option_filter is_utf8 (string_of value)
+abbrev pub utf8_string : List ℕ → Option (List ℕ)
+utf8_string value = option_filter is_utf8 (string_of value)
 
-abbrev pub texts_of : List ℕ → Option (List (List ℕ))
-texts_of value = option_filter (list_all is_utf8) (strings_of value)
+abbrev pub utf8_strings : List ℕ → Option (List (List ℕ))
+utf8_strings value = option_filter (list_all is_utf8) (strings_of value)
 
 -- whether a value is a list of strings that has this one
 abbrev pub has_string : List ℕ → List ℕ → Bool

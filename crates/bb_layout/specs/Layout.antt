@@ -1,5 +1,5 @@
--- The layout that a devicetree gives, or the first refusal (devicetree binding `barebox,state`; barebox User Manual, State
--- Framework).
+-- The layout that a devicetree gives, or the first refusal (devicetree binding `barebox,state`;
+-- barebox User Manual, State Framework).
 use Rattle.std.specs.Prelude.{ℕ, List, Option, Result, Ok, ok_or}
 use Rattle.bb_flash.specs.declared.geometry.Geometry.{Geometry}
 use Rattle.bb_flash.specs.declared.region.Region.{Region}

@@ -1,4 +1,5 @@
--- The area that variables take: their names differ, their ranges share no byte, and it ends with the last of them.
+-- The area that variables take: their names differ, their ranges share no byte, and it ends with
+-- the last of them.
 use Rattle.std.specs.Prelude.{ℕ, ◌+◌, ◌≤◌, ◌⊎◌, ◌||◌, Bool, false, List, [], ◌∷◌, Result, Ok, Err, if◌then◌else◌, max, min, nat_lt}
 use Rattle.std.specs.List.{list_any}
 use Rattle.std.specs.Str.{bytes_eq}

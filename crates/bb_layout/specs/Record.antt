@@ -53,7 +53,7 @@ with_last f (x ∷ y ∷ xs) = x ∷ with_last f (y ∷ xs)
 abbrev pub put_prop : {V : Type 0} → List ℕ × V → Branch V → Branch V
 put_prop prop b = record { name = b.name; props = b.props ++ prop ∷ []; nodes = b.nodes }
 
--- A property is put where a path leads, behind all that is there: through the last nodes for so
+-- A property is put where a path leads, after all that is there: through the last nodes for so
 -- many of its names, which those nodes have, and then through new ones.
 abbrev pub nodes_with_prop :
     {V : Type 0} → ℕ → List (List ℕ) → List ℕ × V → List (Branch V) → List (Branch V)
@@ -119,8 +119,8 @@ record_tree_by fixed value recorded = record {
 }
 
 -- over the bytes of an area
-abbrev pub state_of : Recorded → List ℕ → Branch (List ℕ)
-state_of recorded area = state_by (λ bytes. bytes) (value_of area) recorded
+abbrev pub state_record_tree : Recorded → List ℕ → Branch (List ℕ)
+state_record_tree recorded area = state_by (λ bytes. bytes) (value_of area) recorded
 
 abbrev pub record_tree_of : Recorded → List ℕ → Branch (List ℕ)
 record_tree_of recorded area = record_tree_by (λ bytes. bytes) (value_of area) recorded

@@ -1,4 +1,5 @@
--- Where each refusal of a layout comes: at the first step that refuses. The steps are the fields of `Progress`, in order.
+-- Where each refusal of a layout comes: at the first step that refuses. The steps are the fields of
+-- `Progress`, in order.
 use Rattle.std.specs.Prelude.{◌≡◌, ◌⊎◌, ℕ, List, Option, None, Result, Err, IsOk, ok_or}
 use Rattle.std.specs.Borrow.{Bor}
 use Rattle.std.specs.Option.{option_copied}
@@ -22,7 +23,8 @@ use Rattle.bb_layout.specs.declared.layout_error.LayoutError.TheVariants.{NoMemo
 use Rattle.bb_layout.specs.declared.state_props.Props.{Props}
 use Rattle.bb_layout.specs.declared.var.Var.{Var}
 
--- what is asked of a devicetree: the layout for a device of this geometry, by a name where one is given
+-- what is asked of a devicetree: the layout for a device of this geometry, by a name where one is
+-- given
 pub record Question : Type 0 where
   pub tree : Branch (List ℕ)
   pub name : Option (List ℕ)
@@ -32,12 +34,12 @@ abbrev pub question_of : Tree → Option (Bor (List ℕ)) → Geometry → Quest
 question_of tree name geometry =
     record { tree = branch_of tree.root; name = option_copied name; geometry = geometry }
 
-abbrev pub answer_to : Question → Result Laid LayoutError
-answer_to question = layout_from question.tree question.name question.geometry
+abbrev pub layout_answer : Question → Result Laid LayoutError
+layout_answer question = layout_from question.tree question.name question.geometry
 
 -- ---- how far the steps come
 
--- what each step gives; once one refuses, it and all behind it give that refusal
+-- what each step gives; once one refuses, it and all after it give that refusal
 pub record Progress : Type 0 where
   -- the name of the state, and its node
   pub state : Result (List ℕ × Branch (List ℕ)) LayoutError

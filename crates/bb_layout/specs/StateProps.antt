@@ -1,5 +1,5 @@
--- The properties of the state node itself, in the order in which they are looked at (devicetree binding `barebox,state`;
--- barebox User Manual, State Framework).
+-- The properties of the state node itself, in the order in which they are looked at (devicetree
+-- binding `barebox,state`; barebox User Manual, State Framework).
 use Rattle.std.specs.Prelude.{ℕ, Bool, true, false, ◌||◌, ◌∷◌, [], ◌++◌, List, Option, Some, None, Result, Ok, Err, if◌then◌else◌, codes, nat_lt, ok_or, option_and_then}
 use Rattle.std.specs.Option.{option_map_or}
 use Rattle.std.specs.Str.{bytes_eq}
@@ -32,19 +32,19 @@ type_in value =
     else if is_string value (codes "dtb") then Some Dtb
     else None
 
-abbrev pub type_of : Branch (List ℕ) → Result FormatKind LayoutError
-type_of b =
+abbrev pub backend_type : Branch (List ℕ) → Result FormatKind LayoutError
+backend_type b =
     result_then (required_prop b (codes "backend-type")) (λ value. ok_or (type_in value) (BadProp (codes "backend-type")))
 
 -- `algo` is `hmac(sha256)`, which a raw record alone takes
-abbrev pub keyed_in : FormatKind → List ℕ → Option FormatKind
-keyed_in Raw value = if is_string value (codes "hmac(sha256)") then Some RawHmac else None
-keyed_in RawHmac value = None
-keyed_in Dtb value = None
+abbrev pub format_by_algo : FormatKind → List ℕ → Option FormatKind
+format_by_algo Raw value = if is_string value (codes "hmac(sha256)") then Some RawHmac else None
+format_by_algo RawHmac value = None
+format_by_algo Dtb value = None
 
-abbrev pub format_of : Branch (List ℕ) → FormatKind → Result FormatKind LayoutError
-format_of b type =
-    option_map_or (λ value. ok_or (keyed_in type value) (BadProp (codes "algo"))) (prop_of (codes "algo") b) (Ok type)
+abbrev pub format_named : Branch (List ℕ) → FormatKind → Result FormatKind LayoutError
+format_named b type =
+    option_map_or (λ value. ok_or (format_by_algo type value) (BadProp (codes "algo"))) (prop_of (codes "algo") b) (Ok type)
 
 -- whether `backend-storage-type` asks for a circular log, if it is one of its three strings
 abbrev pub circular_in : List ℕ → Option Bool
@@ -71,8 +71,8 @@ stride_of b =
 abbrev pub props_of : Branch (List ℕ) → Result Props LayoutError
 props_of b =
     result_then (magic_of b) (λ magic.
-    result_then (type_of b) (λ type.
-    result_then (format_of b type) (λ format.
+    result_then (backend_type b) (λ type.
+    result_then (format_named b type) (λ format.
     result_then (is_circular_of b) (λ is_circular.
     result_then (stride_of b) (λ stride.
     Ok (record { magic = magic; format = format; is_circular = is_circular; stride = stride }))))))

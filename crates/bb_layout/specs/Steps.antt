@@ -10,11 +10,11 @@ abbrev pub result_then : {A B : Type 0} → Result A LayoutError → (A → Resu
 result_then result next = result_and_then next result
 
 -- what a step that takes memory answers: what is expected of it, or that memory was refused
-abbrev pub Gives : {A : Type 0} → Result A LayoutError → Result A LayoutError → Type 0
-Gives expected (Ok x) = expected ≡ Ok x
-Gives expected (Err e) = e ≢ NoMemory → expected ≡ Err e
+abbrev pub StepGives : {A : Type 0} → Result A LayoutError → Result A LayoutError → Type 0
+StepGives expected (Ok x) = expected ≡ Ok x
+StepGives expected (Err e) = e ≢ NoMemory → expected ≡ Err e
 
--- the value behind a reference that a step gives
+-- the value after a reference that a step gives
 abbrev pub result_copied : {A : Type 0} → Result (Bor A) LayoutError → Result A LayoutError
 result_copied (Ok x) = Ok x.now
 result_copied (Err e) = Err e

@@ -7,7 +7,7 @@ use Rattle.bb_tree.specs.Paths.{prop_of}
 use Rattle.bb_vars.specs.Kind.{size_of, HasFewNames}
 use Rattle.bb_vars.specs.declared.kind.Kind.{Kind}
 use Rattle.bb_vars.specs.declared.kind.Kind.TheVariants.{Uint8, Uint32, Enum32, Mac, Chars}
-use Rattle.bb_layout.specs.Fields.{cell_of, cell_below, two_cells_of, string_of, texts_of, base_name}
+use Rattle.bb_layout.specs.Fields.{cell_of, cell_below, two_cells_of, string_of, utf8_strings, base_name}
 use Rattle.bb_layout.specs.Results.{option_filter, result_and_then, all_ok}
 use Rattle.bb_layout.specs.VarType.{type_named, may_have_size}
 use Rattle.bb_layout.specs.declared.layout_error.LayoutError.{LayoutError}
@@ -26,14 +26,14 @@ type_of value = ok_or (option_and_then type_named (option_and_then string_of val
 abbrev pub fits_type : VarType → ℕ × ℕ → Bool
 fits_type type range = may_have_size type range.1 && nat_le (range.0 + range.1) 4294967295
 
-abbrev pub range_of : VarType → Option (List ℕ) → Result (ℕ × ℕ) LayoutError
-range_of type None = Err (Missing (codes "reg"))
-range_of type (Some value) = ok_or (option_filter (fits_type type) (two_cells_of value)) BadReg
+abbrev pub range_in_area : VarType → Option (List ℕ) → Result (ℕ × ℕ) LayoutError
+range_in_area type None = Err (Missing (codes "reg"))
+range_in_area type (Some value) = ok_or (option_filter (fits_type type) (two_cells_of value)) BadReg
 
 -- an enum's names, by the value of `names`
 abbrev pub names_of : Option (List ℕ) → Result (List (List ℕ)) LayoutError
 names_of None = Err (Missing (codes "names"))
-names_of (Some value) = ok_or (option_filter (λ names. nat_le (length names) 4294967295) (texts_of value)) (BadProp (codes "names"))
+names_of (Some value) = ok_or (option_filter (λ names. nat_le (length names) 4294967295) (utf8_strings value)) (BadProp (codes "names"))
 
 abbrev pub kind_of : VarType → ℕ → Option (List ℕ) → Result Kind LayoutError
 kind_of kinds.Uint8 size names = Ok Uint8
@@ -62,7 +62,8 @@ default_of kind (Some value) = ok_or (default_in kind value) (BadProp (codes "de
 abbrev pub dotted_name : List (List ℕ) → List ℕ
 dotted_name path = join_with_byte 46 (map base_name path)
 
--- the variable of a node, to which the full names of a path lead: its type, range, kind and default one after another
+-- the variable of a node, to which the full names of a path lead: its type, range, kind and default
+-- one after another
 abbrev pub with_kind : List (List ℕ) → Branch (List ℕ) → ℕ × ℕ → Kind → Result Var LayoutError
 with_kind path b range kind =
     result_and_then
@@ -73,14 +74,15 @@ abbrev pub with_range : List (List ℕ) → Branch (List ℕ) → VarType → �
 with_range path b type range = result_and_then (with_kind path b range) (kind_of type range.1 (prop_of (codes "names") b))
 
 abbrev pub with_type : List (List ℕ) → Branch (List ℕ) → VarType → Result Var LayoutError
-with_type path b type = result_and_then (with_range path b type) (range_of type (prop_of (codes "reg") b))
+with_type path b type = result_and_then (with_range path b type) (range_in_area type (prop_of (codes "reg") b))
 
 abbrev pub variable_of : List (List ℕ) → Branch (List ℕ) → Result Var LayoutError
 variable_of path b = result_and_then (with_type path b) (type_of (prop_of (codes "type") b))
 
 -- ---- all variables
 
--- nodes in preorder, each as the nodes that lead to it: itself, the node that it stands in, and so on outwards
+-- nodes in preorder, each as the nodes that lead to it: itself, the node that it stands in, and so
+-- on outwards
 abbrev pub ways_of : List (Branch (List ℕ)) → Forest (List ℕ) → List (List (Branch (List ℕ)))
 ways_of above empty = []
 ways_of above (node n ps ks rest) =

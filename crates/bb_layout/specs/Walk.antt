@@ -6,7 +6,8 @@ use Rattle.bb_layout.specs.Variables.{has_type, variable_of}
 use Rattle.bb_layout.specs.declared.layout_error.LayoutError.{LayoutError}
 use Rattle.bb_layout.specs.declared.var.Var.{Var}
 
--- the nodes that are variables, each with the full names that lead to it, where `above` leads to the forest
+-- the nodes that are variables, each with the full names that lead to it, where `above` leads to
+-- the forest
 abbrev pub typed_in : List (List ℕ) → Forest (List ℕ) → List (List (List ℕ) × Branch (List ℕ))
 typed_in above empty = []
 typed_in above (node n ps ks rest) =
@@ -24,6 +25,6 @@ variables_below above b = variables_in above b.nodes
 abbrev pub onto : List Var → Result (List Var) LayoutError → Result (List Var) LayoutError
 onto vars rest = result_and_then (λ more. Ok (vars ++ more)) rest
 
--- a name more, behind a `.` unless it is the first
+-- a name more, after a `.` unless it is the first
 abbrev pub dotted_more : Bool → List ℕ → List ℕ → List ℕ
 dotted_more is_first names name = if is_first then names ++ name else names ++ 46 ∷ name

@@ -2,7 +2,7 @@ ghost use Rattle.std.specs.Prelude.{◌≡◌};
 ghost use Rattle.std.specs.Option.{option_copied, option_map};
 ghost use Rattle.bb_tree.specs.NodeViews.{branch_of};
 ghost use Rattle.bb_layout.specs.Backend as spec;
-ghost use Rattle.bb_layout.specs.Steps.{Gives};
+ghost use Rattle.bb_layout.specs.Steps.{StepGives};
 
 use crate::LayoutError;
 use crate::fields::{cell, four_cells, string, two_cells};
@@ -14,7 +14,7 @@ use std::str;
 
 /// The partition that the state node's `backend` leads to, by a phandle or along a path.
 pub(crate) fn backend(alloc: Global, tree: &Tree, state: &Node) -> Result<Region, LayoutError>
-    ensures { Gives (spec.backend_of (branch_of tree.now.root) (branch_of state.now)) result }
+    ensures { StepGives (spec.backend_of (branch_of tree.now.root) (branch_of state.now)) result }
 {
     let value = required_prop(alloc, state, "backend")?;
     if let Some(phandle) = cell(value) {

@@ -5,7 +5,8 @@ ghost use Rattle.bb_vars.specs.Table.{table_with};
 use crate::{Var, VarList};
 
 #[tactic(auto, using(crate::proofs::Filling::defaults_more, crate::proofs::Filling::room_at))]
-/// Fills an area, in which each default has room at its place: zero bytes, and over them the defaults.
+/// Fills an area, in which each default has room at its place: zero bytes, and over them the
+/// defaults.
 pub(crate) fn fill_defaults(vars: &VarList, out: &mut [u8])
     requires { All (λ v. v.at + length v.default ≤ length out.old) vars.now }
     ensures { out.new ≡ defaults_of (length out.old) vars.now }

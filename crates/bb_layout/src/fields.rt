@@ -63,14 +63,14 @@ pub(crate) fn string(value: &[u8]) -> Option<&[u8]>
 
 /// A value that is a string in UTF-8.
 pub(crate) fn text(value: &[u8]) -> Option<&str>
-    ensures { option_copied result ≡ field.text_of value.now }
+    ensures { option_copied result ≡ field.utf8_string value.now }
 {
     str::from_utf8(string(value)?).ok()
 }
 
 /// A value that is one or more strings in UTF-8.
 pub(crate) fn strings(alloc: Global, value: &[u8]) -> Result<Option<TextList>, NoMemory>
-    ensures { IfOk result (λ found. found ≡ field.texts_of value.now) }
+    ensures { IfOk result (λ found. found ≡ field.utf8_strings value.now) }
 {
     let Some(front) = front(value) else {
         return Ok(None);
@@ -127,7 +127,7 @@ pub(crate) fn base_name(name: &str) -> &str
 
 // What stands before the zero byte that ends a value.
 fn front(value: &[u8]) -> Option<&[u8]>
-    ensures { option_copied result ≡ field.front_of value.now }
+    ensures { option_copied result ≡ field.before_zero_byte value.now }
 {
     let (last, front) = value.split_last()?;
     if *last != 0 {

@@ -7,9 +7,10 @@ ghost use Rattle.bb_layout.specs.Layout.{fields_of, layout_at, len_of};
 ghost use Rattle.bb_layout.specs.Ranges.{end_of};
 ghost use Rattle.bb_layout.specs.Refusals.{AtArea, AtBackend, AtPlace, AtProperties, AtRoom};
 ghost use Rattle.bb_layout.specs.Refusals.{AtVars};
-ghost use Rattle.bb_layout.specs.Refusals.{ComesAt, ComesExactly, HasNoState, Refuses, answer_to};
+ghost use Rattle.bb_layout.specs.Refusals.{ComesAt, ComesExactly, HasNoState, Refuses};
+ghost use Rattle.bb_layout.specs.Refusals.{layout_answer};
 ghost use Rattle.bb_layout.specs.Refusals.{question_of};
-ghost use Rattle.bb_layout.specs.Steps.{Gives};
+ghost use Rattle.bb_layout.specs.Steps.{StepGives};
 ghost use Rattle.bb_layout.specs.Storage.{storage_in};
 ghost use Rattle.bb_layout.specs.Variables.{IsWellFormed};
 ghost use Rattle.bb_layout.specs.declared.layout_error.LayoutError.TheVariants.{AreaTooLong};
@@ -37,10 +38,11 @@ use bb_flash::{Geometry, Region};
 use bb_tree::{Node, Tree};
 use std::alloc::Global;
 
-/// The layout that a devicetree gives for a device of this geometry. The state node is the one to which `/aliases`
-/// leads by `name`, else the first in preorder that is called so up to its `@`; without a name the one that is aliased
-/// `state`, else the first. Its properties, its variables, their area, its backend and the room there are looked at in
-/// this order, and the first refusal decides (devicetree binding `barebox,state`).
+/// The layout that a devicetree gives for a device of this geometry. The state node is the one to
+/// which `/aliases` leads by `name`, else the first in preorder that is called so up to its `@`;
+/// without a name the one that is aliased `state`, else the first. Its properties, its variables,
+/// their area, its backend and the room there are looked at in this order, and the first refusal
+/// decides (devicetree binding `barebox,state`).
 pub fn layout_of(
     alloc: Global,
     tree: &Tree,
@@ -49,9 +51,9 @@ pub fn layout_of(
 ) -> Result<Layout, LayoutError>
     requires { IsGeometry geometry }
     ensures ok { IfOk result (λ layout.
-        answer_to (question_of tree.now name.entry geometry) ≡ Ok (fields_of layout)) }
+        layout_answer (question_of tree.now name.entry geometry) ≡ Ok (fields_of layout)) }
     ensures refused { IfErr result
-        (Refuses (answer_to (question_of tree.now name.entry geometry))) }
+        (Refuses (layout_answer (question_of tree.now name.entry geometry))) }
 
     // Each refusal, and where it comes.
     ensures no_state { ComesExactly result NoState
@@ -87,9 +89,9 @@ fn named_layout(
 ) -> Result<Layout, LayoutError>
     requires { IsGeometry geometry }
     ensures ok { IfOk result (λ layout.
-        answer_to (question_of tree.now name.entry geometry) ≡ Ok (fields_of layout)) }
+        layout_answer (question_of tree.now name.entry geometry) ≡ Ok (fields_of layout)) }
     ensures refused { IfErr result
-        (Refuses (answer_to (question_of tree.now name.entry geometry))) }
+        (Refuses (layout_answer (question_of tree.now name.entry geometry))) }
 {
     let alias = name.unwrap_or("state");
     if let Some(state) = node_by_alias(tree, alias) {
@@ -148,7 +150,7 @@ fn storage(
     requires geometry { IsGeometry geometry }
     requires formed { All IsWellFormed vars.now }
     requires inside { All (λ v. end_of v ≤ area_len) vars.now }
-    ensures gives { Gives (storage_in geometry region props
+    ensures gives { StepGives (storage_in geometry region props
         (len_of (branch_of state.now) props vars.now area_len)) result }
     ensures copies { IfOk result (λ storage. HasCopies geometry region storage
         (copies_of geometry storage region)

@@ -11,9 +11,10 @@ use bb_flash::{Geometry, Region};
 use bb_tree::Tree;
 use std::alloc::Global;
 
-/// What a state node says: its variables in an area, and the copies of that area on a device. Two or three copies stand
-/// in the partition, each with room for its record, and the partition on the device: in strides on one that is overwritten
-/// in place, in whole erase blocks on any other. The variables' names differ, and their ranges share no byte.
+/// What a state node says: its variables in an area, and the copies of that area on a device. Two
+/// or three copies stand in the partition, each with room for its record, and the partition on the
+/// device: in strides on one that is overwritten in place, in whole erase blocks on any other. The
+/// variables' names differ, and their ranges share no byte.
 #[derive(Drop)]
 pub struct Layout {
     /// The name by which it is asked for.
@@ -47,7 +48,7 @@ impl Layout {
     ghost use Rattle.bb_layout.specs.Facts.{IsAligned, IsWithin};
     ghost use Rattle.bb_layout.specs.Layout.{fields_of, laid_len, recorded_of};
     ghost use Rattle.bb_layout.specs.Record.{record_tree_of};
-    ghost use Rattle.bb_layout.specs.VarNames.{place_of};
+    ghost use Rattle.bb_layout.specs.VarNames.{place_of_var};
 
     /// Where a copy stands, counted from 0.
     pub fn region(&self, copy: u32) -> Region
@@ -67,12 +68,13 @@ impl Layout {
 
     /// The place of the variable of that name in `vars`.
     pub fn find(&self, name: &str) -> Option<usize>
-        ensures { result ≡ place_of self.now.vars name.now }
+        ensures { result ≡ place_of_var self.now.vars name.now }
     {
         self.vars.find(name)
     }
 
-    /// Fills an area of `area_len` bytes with the variables' defaults. All bytes outside the variables become 0.
+    /// Fills an area of `area_len` bytes with the variables' defaults. All bytes outside the
+    /// variables become 0.
     pub fn defaults(&self, out: &mut [u8])
         requires { length out.old ≡ self.now.area_len }
         ensures { out.new ≡ defaults_of self.now.area_len self.now.vars }
@@ -80,9 +82,10 @@ impl Layout {
         fill_defaults(&self.vars, out);
     }
 
-    /// The tree whose blob is the record of an area of `area_len` bytes, where that is a blob: 4 zero bytes stand in it
-    /// for its CRC. A variable's node stands in those of its path, and shares with the variable before it the nodes of
-    /// the longest path that leads to both. A number is a cell, big endian; a MAC address and a string are their bytes.
+    /// The tree whose blob is the record of an area of `area_len` bytes, where that is a blob: 4
+    /// zero bytes stand in it for its CRC. A variable's node stands in those of its path, and
+    /// shares with the variable before it the nodes of the longest path that leads to both. A
+    /// number is a cell, big endian; a MAC address and a string are their bytes.
     pub fn record_tree(alloc: Global, layout: &Layout, area: &[u8]) -> Result<Tree, NoMemory>
         requires { length area.now ≡ layout.now.area_len }
         ensures tree { IfOk result (λ tree. branch_of tree.root

@@ -1,5 +1,6 @@
-//! From the state node of a devicetree to the layout of its variables and copies (barebox User Manual, State
-//! Framework). States and choosers stand on it; it knows no text format and makes no device call.
+//! From the state node of a devicetree to the layout of its variables and copies (barebox User
+//! Manual, State Framework). States and choosers stand on it; it knows no text format and makes no
+//! device call.
 #![tactic(auto)]
 
 mod backend;

@@ -11,8 +11,8 @@ use bb_bucket::FRONT_LEN;
 use bb_flash::{Geometry, Region};
 
 #[tactic(auto, using(crate::proofs::Standing::stored_copies))]
-/// How copies with a record of `len` bytes are stored in a partition of a device. 2^64 - 1 stands for all lengths from
-/// there on, as `blob_length` gives it.
+/// How copies with a record of `len` bytes are stored in a partition of a device. 2^64 - 1 stands
+/// for all lengths from there on, as `blob_length` gives it.
 pub(crate) fn storage_in(
     geometry: Geometry,
     partition: Region,
@@ -64,7 +64,8 @@ fn storage_for(geometry: Geometry, partition: Region, props: Props) -> Storage
     }
 }
 
-/// Whether two copies fit, and a record of `len` bytes fits into each. 2^64 - 1 stands for all lengths from there on.
+/// Whether two copies fit, and a record of `len` bytes fits into each. 2^64 - 1 stands for all
+/// lengths from there on.
 pub(crate) fn check_room(
     geometry: Geometry,
     storage: Storage,

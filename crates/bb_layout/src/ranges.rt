@@ -11,8 +11,8 @@ use crate::{LayoutError, VarList};
 use bb_base::{AREA_LIMIT, NoMemory};
 use std::alloc::Global;
 
-/// The length of the area that the variables take. `NameTwice` where two have one name, else `Overlap` where two share
-/// a byte, else `AreaTooLong` where it exceeds `AREA_LIMIT`.
+/// The length of the area that the variables take. `NameTwice` where two have one name, else
+/// `Overlap` where two share a byte, else `AreaTooLong` where it exceeds `AREA_LIMIT`.
 pub(crate) fn area_len(alloc: Global, vars: &VarList) -> Result<u32, LayoutError>
     requires { All IsWellFormed vars.now }
     ensures ok { IfOk result (λ len. area_len_of vars.now ≡ Ok len) }

@@ -64,7 +64,7 @@ pub fn shared_len(path: &TextList, other: &TextList) -> usize
     path.len().min(other.len())
 }
 
-// The nodes with a property put where a path leads from one of its names on, behind all that is
+// The nodes with a property put where a path leads from one of its names on, after all that is
 // there: through the last nodes for so many names, and then through new ones.
 fn put(
     alloc: Global,

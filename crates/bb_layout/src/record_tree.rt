@@ -49,7 +49,7 @@ fn state_node(
 ) -> Result<Node, NoMemory>
     requires formed { All IsWellFormed vars.now }
     requires inside { All (λ v. end_of v ≤ length area.now) vars.now }
-    ensures { IfOk result (λ state. branch_of state ≡ spec.state_of
+    ensures { IfOk result (λ state. branch_of state ≡ spec.state_record_tree
         (record { node = node.now; magic = magic; vars = vars.now }) area.now) }
 {
     let mut props = PropList::none(alloc);

@@ -17,8 +17,8 @@ pub(crate) fn node_by_alias<'a>(tree: &'a Tree, name: &str) -> Option<&'a Node>
     counts(node).then_some(node)
 }
 
-/// The first node in preorder, from `node` on, that counts as a state node, and that is called `name` up to its `@`
-/// where a name is given.
+/// The first node in preorder, from `node` on, that counts as a state node, and that is called
+/// `name` up to its `@` where a name is given.
 pub(crate) fn first_wanted<'a>(node: &'a Node, name: Option<&str>) -> Option<&'a Node>
     ensures { option_map branch_of (option_copied result)
         ≡ find (spec.is_wanted (option_copied name.entry)) (preorder (branch_of node.now)) }

@@ -1,7 +1,7 @@
 ghost use Rattle.std.specs.Prelude.{◌≡◌};
 ghost use Rattle.bb_tree.specs.NodeViews.{branch_of};
 ghost use Rattle.bb_layout.specs.StateProps as spec;
-ghost use Rattle.bb_layout.specs.Steps.{Gives, result_copied};
+ghost use Rattle.bb_layout.specs.Steps.{StepGives, result_copied};
 
 use crate::fields::cell;
 use crate::{FormatKind, LayoutError};
@@ -21,10 +21,10 @@ pub(crate) struct Props {
     pub stride: Option<u32>,
 }
 
-/// Reads the properties of the state node itself, in order: `magic`, `backend-type`, `algo`, `backend-storage-type`
-/// and `backend-stridesize`.
+/// Reads the properties of the state node itself, in order: `magic`, `backend-type`, `algo`,
+/// `backend-storage-type` and `backend-stridesize`.
 pub(crate) fn state_props(alloc: Global, state: &Node) -> Result<Props, LayoutError>
-    ensures { Gives (spec.props_of (branch_of state.now)) result }
+    ensures { StepGives (spec.props_of (branch_of state.now)) result }
 {
     let magic = magic(alloc, state)?;
     let kind = record_type(alloc, state)?;
@@ -45,7 +45,7 @@ pub(crate) fn required_prop<'a>(
     node: &'a Node,
     name: &str,
 ) -> Result<&'a [u8], LayoutError>
-    ensures { Gives (spec.required_prop (branch_of node.now) name.now) (result_copied result) }
+    ensures { StepGives (spec.required_prop (branch_of node.now) name.now) (result_copied result) }
 {
     match node.prop(name) {
         Some(value) => Ok(value),
@@ -54,7 +54,7 @@ pub(crate) fn required_prop<'a>(
 }
 
 fn magic(alloc: Global, state: &Node) -> Result<u32, LayoutError>
-    ensures { Gives (spec.magic_of (branch_of state.now)) result }
+    ensures { StepGives (spec.magic_of (branch_of state.now)) result }
 {
     match cell(required_prop(alloc, state, "magic")?) {
         Some(magic) => Ok(magic),
@@ -63,7 +63,7 @@ fn magic(alloc: Global, state: &Node) -> Result<u32, LayoutError>
 }
 
 fn record_type(alloc: Global, state: &Node) -> Result<FormatKind, LayoutError>
-    ensures { Gives (spec.type_of (branch_of state.now)) result }
+    ensures { StepGives (spec.backend_type (branch_of state.now)) result }
 {
     match type_in(required_prop(alloc, state, "backend-type")?) {
         Some(kind) => Ok(kind),
@@ -82,7 +82,7 @@ fn type_in(value: &[u8]) -> Option<FormatKind>
 
 // The format of records of that type, with a key where `algo` asks for one.
 fn format_of(alloc: Global, state: &Node, kind: FormatKind) -> Result<FormatKind, LayoutError>
-    ensures { Gives (spec.format_of (branch_of state.now) kind) result }
+    ensures { StepGives (spec.format_named (branch_of state.now) kind) result }
 {
     let Some(value) = state.prop("algo") else {
         return Ok(kind);
@@ -94,7 +94,7 @@ fn format_of(alloc: Global, state: &Node, kind: FormatKind) -> Result<FormatKind
 }
 
 fn keyed_in(kind: FormatKind, value: &[u8]) -> Option<FormatKind>
-    ensures { result ≡ spec.keyed_in kind value.now }
+    ensures { result ≡ spec.format_by_algo kind value.now }
 {
     match kind {
         FormatKind::Raw => {
@@ -106,7 +106,7 @@ fn keyed_in(kind: FormatKind, value: &[u8]) -> Option<FormatKind>
 }
 
 fn is_circular(alloc: Global, state: &Node) -> Result<bool, LayoutError>
-    ensures { Gives (spec.is_circular_of (branch_of state.now)) result }
+    ensures { StepGives (spec.is_circular_of (branch_of state.now)) result }
 {
     let Some(value) = state.prop("backend-storage-type") else {
         return Ok(true);
@@ -130,7 +130,7 @@ fn circular_in(value: &[u8]) -> Option<bool>
 }
 
 fn stride(alloc: Global, state: &Node) -> Result<Option<u32>, LayoutError>
-    ensures { Gives (spec.stride_of (branch_of state.now)) result }
+    ensures { StepGives (spec.stride_of (branch_of state.now)) result }
 {
     let Some(value) = state.prop("backend-stridesize") else {
         return Ok(None);

@@ -14,8 +14,8 @@ use bb_flash::{Geometry, Region};
 use std::alloc::Global;
 
 #[tactic(auto, using(crate::proofs::Standing::have_copies))]
-/// The layout of raw records with an area of so many bytes, at most 65,535: no name and no variables, and three copies
-/// in the thirds of a device that is overwritten in place.
+/// The layout of raw records with an area of so many bytes, at most 65,535: no name and no
+/// variables, and three copies in the thirds of a device that is overwritten in place.
 pub fn raw_layout(
     alloc: Global,
     magic: u32,

@@ -1,7 +1,7 @@
 ghost use Rattle.std.specs.Prelude.{◌≡◌, ◌==◌, ◌++◌, ◌∷◌, [], length, OnOk, OnErr, slice_get};
 ghost use Rattle.std.specs.Option.{option_copied};
 ghost use Rattle.std.specs.String.{string_bytes};
-ghost use Rattle.bb_layout.specs.VarNames.{place_of, with_place};
+ghost use Rattle.bb_layout.specs.VarNames.{place_of_var, with_place};
 ghost use Rattle.bb_tree.specs.Texts.{texts_in};
 
 use crate::Var;
@@ -10,7 +10,8 @@ use indexmap::IndexMap;
 use std::alloc::Global;
 use std::marker::Model;
 
-/// A list of variables that grows at its end, and in which a name is looked up at once. Clauses see the list.
+/// A list of variables that grows at its end, and in which a name is looked up at once. Clauses see
+/// the list.
 #[derive(Drop)]
 pub struct VarList {
     alloc: Global,
@@ -86,7 +87,7 @@ impl VarList {
 
     /// The place of the first variable of that name.
     pub fn find(&self, name: &str) -> Option<usize>
-        ensures { result ≡ place_of self.now name.now }
+        ensures { result ≡ place_of_var self.now name.now }
     {
         self.places.get(name).copied()
     }

@@ -1,6 +1,7 @@
 ghost use Rattle.std.specs.Prelude.{◌≡◌};
 
-/// The type of a variable, as its node's property `type` names it (barebox User Manual, State Framework).
+/// The type of a variable, as its node's property `type` names it (barebox User Manual, State
+/// Framework).
 #[derive(Clone, Copy, Debug, PartialEq, Eq)]
 pub(crate) enum VarType {
     Uint8,

@@ -53,9 +53,9 @@ fn range_in(
     value: Option<&[u8]>,
 ) -> Result<(u32, u32), LayoutError>
     ensures ok { IfOk result (λ range.
-        spec.range_of var_type (option_copied value.entry) ≡ Ok range) }
+        spec.range_in_area var_type (option_copied value.entry) ≡ Ok range) }
     ensures refused { IfErr result
-        (Refuses (spec.range_of var_type (option_copied value.entry))) }
+        (Refuses (spec.range_in_area var_type (option_copied value.entry))) }
 {
     let Some(value) = value else {
         return Err(LayoutError::missing(alloc, "reg"));
@@ -198,7 +198,7 @@ fn dotted_name(alloc: Global, path: &TextList) -> Result<Text, NoMemory>
     Text::of(alloc, name.as_str())
 }
 
-// Adds a name, behind a `.` unless it is the first.
+// Adds a name, after a `.` unless it is the first.
 fn add_name(names: &mut String, is_first: bool, name: &str) -> Result<(), NoMemory>
     ensures { OnOk result
         (string_bytes names.new ≡ dotted_more is_first (string_bytes names.old) name.now) }

@@ -2,13 +2,14 @@
 use Rattle.std.proofs.Common.{◌≡◌, ℕ, List, [], ◌∷◌, ◌++◌, drop, refl, codes, Some, None}
 use Rattle.bb_base.specs.Crc.{after_bit, after_eight_bits, after_byte}
 use Rattle.sha2.specs.Sha256.{compress, digest_bytes, first_words, hash_after, rounds, schedule, sha256}
-use Rattle.bb_hmac.specs.Hmac.{block_of}
+use Rattle.bb_hmac.specs.Hmac.{key_block}
 use Rattle.bb_raw.specs.Raw.{RawKind, raw_passes, raw_text}
 
 plain : RawKind
 plain = record { magic = 0x12345678; area_len = 9; key = None }
 
--- magic 0x12345678, nothing reserved, 9 bytes, the CRC of the area 0xcbf43926, that of the header 0xdf3c2e03
+-- magic 0x12345678, nothing reserved, 9 bytes, the CRC of the area 0xcbf43926, that of the header
+-- 0xdf3c2e03
 header : List ℕ
 header = 0x78 ∷ 0x56 ∷ 0x34 ∷ 0x12 ∷ 0 ∷ 0 ∷ 9 ∷ 0 ∷ 0x26 ∷ 0x39 ∷ 0xf4 ∷ 0xcb ∷ 0x03 ∷ 0x2e ∷ 0x3c ∷ 0xdf ∷ []
 
@@ -35,7 +36,7 @@ another_byte_passes_nothing = refl
 -- ---- under the key `Jefe`
 
 keyed : RawKind
-keyed = record { magic = 0x12345678; area_len = 9; key = Some (block_of (codes "Jefe")) }
+keyed = record { magic = 0x12345678; area_len = 9; key = Some (key_block (codes "Jefe")) }
 
 -- what OpenSSL gives of the worked record without a key
 code : List ℕ

@@ -12,7 +12,7 @@ use Rattle.byteorder.specs.Numbers.{little_from-bytes, little_from-take}
 use Rattle.bb_base.specs.Crc.{crc_of}
 use Rattle.bb_base.specs.Form.{IsForm}
 use Rattle.bb_hmac.proofs.Lengths.{length_hmac_of}
-use Rattle.bb_raw.specs.Raw.{RawKind, area_agrees, area_of, code_len, code_of, coded_text, has_code, has_field, header_agrees, header_text, raw_agrees, raw_form, raw_length, raw_passes, raw_text}
+use Rattle.bb_raw.specs.Raw.{RawKind, area_agrees, area_of, code_len, hmac_text, coded_text, has_code, has_field, header_agrees, header_text, raw_agrees, raw_form, raw_length, raw_passes, raw_text}
 
 -- what was written as a number's low bytes is a field of that number
 field_written : (len number : ℕ) (rest : List ℕ) →
@@ -49,19 +49,19 @@ headed_area magic len data_crc header_crc rest e =
 coded_whole : (magic : ℕ) (area : List ℕ) → length (coded_text magic area) ≡ 16 + length area
 coded_whole magic area = omega arith
 
-code_whole : (key : Option (List ℕ)) (text : List ℕ) → length (code_of key text) ≡ code_len key
+code_whole : (key : Option (List ℕ)) (text : List ℕ) → length (hmac_text key text) ≡ code_len key
 code_whole None text = refl
 code_whole (Some key) text = length_hmac_of key text
 
 same_bytes : (bytes : List ℕ) → bytes_eq bytes bytes ≡ true
 same_bytes bytes = (bytes_eq-Decides bytes bytes).1 refl
 
--- behind a text stands its code, whatever follows
+-- after a text stands its code, whatever follows
 code_written : (key : Option (List ℕ)) (text rest : List ℕ) (count : ℕ) → length text ≡ count →
-    has_code key count (text ++ (code_of key text ++ rest)) ≡ true
+    has_code key count (text ++ (hmac_text key text ++ rest)) ≡ true
 code_written key text rest count whole =
-    let code : List ℕ = code_of key text in
-    ap (λ l. bytes_eq (code_of key l) (take (code_len key) (drop count (text ++ (code ++ rest)))))
+    let code : List ℕ = hmac_text key text in
+    ap (λ l. bytes_eq (hmac_text key l) (take (code_len key) (drop count (text ++ (code ++ rest)))))
     (take_at text (code ++ rest) count whole)
     ∙ ap (λ l. bytes_eq code (take (code_len key) l)) (drop_at text (code ++ rest) count whole)
     ∙ ap (bytes_eq code) (take_at code rest (code_len key) (code_whole key text))
@@ -72,7 +72,7 @@ taken_back area rest = grind (arith, common_steps)
 
 -- the record of an area and what follows, as the fields of the header and the rest
 abbrev behind_header : RawKind → List ℕ → List ℕ → List ℕ
-behind_header kind area rest = area ++ (code_of kind.key (coded_text kind.magic area) ++ rest)
+behind_header kind area rest = area ++ (hmac_text kind.key (coded_text kind.magic area) ++ rest)
 
 abbrev as_headed : RawKind → List ℕ → List ℕ → List ℕ
 as_headed kind area rest =
@@ -82,7 +82,7 @@ as_headed kind area rest =
 text_headed : (kind : RawKind) (area rest : List ℕ) →
     raw_text kind area ++ rest ≡ as_headed kind area rest
 text_headed kind area rest =
-    append_assoc (coded_text kind.magic area) (code_of kind.key (coded_text kind.magic area)) rest
+    append_assoc (coded_text kind.magic area) (hmac_text kind.key (coded_text kind.magic area)) rest
 
 text_whole : (kind : RawKind) (area : List ℕ) → length area ≡ kind.area_len →
     length (raw_text kind area) ≡ raw_length kind
@@ -90,13 +90,13 @@ text_whole kind area e =
     let text : List ℕ = coded_text kind.magic area in
     let whole = coded_whole kind.magic area in
     let code = code_whole kind.key text in
-    omega (arith, length-append text (code_of kind.key text))
+    omega (arith, length-append text (hmac_text kind.key text))
 
 text_agrees : (kind : RawKind) (area rest : List ℕ) → length area ≡ kind.area_len →
     raw_agrees kind (raw_text kind area ++ rest) ≡ true
 text_agrees kind area rest e =
     let text : List ℕ = coded_text kind.magic area in
-    let code : List ℕ = code_of kind.key text in
+    let code : List ℕ = hmac_text kind.key text in
     let all : List ℕ = raw_text kind area ++ rest in
     let taken : List ℕ = behind_header kind area rest in
     let whole = text_whole kind area e in
@@ -122,7 +122,7 @@ text_area : (kind : RawKind) (area rest : List ℕ) → length area ≡ kind.are
     area_of kind.area_len (raw_text kind area ++ rest) ≡ area
 text_area kind area rest e =
     ap (area_of kind.area_len) (text_headed kind area rest)
-    ∙ take_at area (code_of kind.key (coded_text kind.magic area) ++ rest) kind.area_len e
+    ∙ take_at area (hmac_text kind.key (coded_text kind.magic area) ++ rest) kind.area_len e
 
 text_passes : (kind : RawKind) (area rest : List ℕ) → length area ≡ kind.area_len →
     raw_passes kind (raw_text kind area ++ rest) ≡ Some area
@@ -199,9 +199,9 @@ area_check_within area_len m bytes inside =
 code_within : (key : Option (List ℕ)) (count m : ℕ) (bytes : List ℕ) → count + code_len key ≤ m →
     has_code key count (take m bytes) ≡ has_code key count bytes
 code_within key count m bytes inside =
-    ap (λ l. bytes_eq (code_of key l) (take (code_len key) (drop count (take m bytes))))
+    ap (λ l. bytes_eq (hmac_text key l) (take (code_len key) (drop count (take m bytes))))
     (take-take count m bytes (omega arith))
-    ∙ ap (bytes_eq (code_of key (take count bytes)))
+    ∙ ap (bytes_eq (hmac_text key (take count bytes)))
     (part_within count (code_len key) m bytes inside)
 
 agrees_within : (kind : RawKind) (bytes : List ℕ) →

@@ -32,26 +32,26 @@ has_field len at number bytes = little_number len (drop at bytes) == number % 25
 abbrev pub header_len : ℕ
 header_len = 16
 
--- the area behind the header
+-- the area after the header
 abbrev pub area_of : ℕ → List ℕ → List ℕ
 area_of area_len bytes = take area_len (drop header_len bytes)
 
 -- ---- the code at the end
 
 -- the code of a text, which is nothing without a key
-abbrev pub code_of : Option (List ℕ) → List ℕ → List ℕ
-code_of None text = []
-code_of (Some key) text = hmac_of key text
+abbrev pub hmac_text : Option (List ℕ) → List ℕ → List ℕ
+hmac_text None text = []
+hmac_text (Some key) text = hmac_of key text
 
 -- how many bytes it has
 abbrev pub code_len : Option (List ℕ) → ℕ
 code_len None = 0
 code_len (Some _) = 32
 
--- behind the first bytes of a text stands their code
+-- after the first bytes of a text stands their code
 abbrev pub has_code : Option (List ℕ) → ℕ → List ℕ → Bool
 has_code key count bytes =
-    bytes_eq (code_of key (take count bytes)) (take (code_len key) (drop count bytes))
+    bytes_eq (hmac_text key (take count bytes)) (take (code_len key) (drop count bytes))
 
 -- ---- what is written
 
@@ -68,7 +68,7 @@ coded_text magic area =
 
 -- the record of an area
 abbrev pub raw_text : RawKind → List ℕ → List ℕ
-raw_text kind area = coded_text kind.magic area ++ code_of kind.key (coded_text kind.magic area)
+raw_text kind area = coded_text kind.magic area ++ hmac_text kind.key (coded_text kind.magic area)
 
 -- how many bytes it has
 abbrev pub raw_length : RawKind → ℕ

@@ -1,6 +1,6 @@
 ghost use Rattle.std.specs.Prelude.{◌≡◌, ◌+◌, ◌≤◌, ◌++◌, drop, length};
 ghost use Rattle.bb_base.specs.Form.{area_limit};
-ghost use Rattle.bb_raw.specs.Raw.{area_agrees, code_len, code_of, coded_text, has_code};
+ghost use Rattle.bb_raw.specs.Raw.{area_agrees, code_len, hmac_text, coded_text, has_code};
 ghost use Rattle.bb_raw.specs.Raw.{header_agrees, header_len, header_text, raw_agrees, raw_form};
 ghost use Rattle.bb_raw.specs.Laws.{raw_laws};
 
@@ -39,7 +39,8 @@ impl Model for Raw {
 }
 
 impl Raw {
-    /// The format of areas of `area_len` bytes, at most `AREA_LIMIT`, under a key where one is given.
+    /// The format of areas of `area_len` bytes, at most `AREA_LIMIT`, under a key where one is
+    /// given.
     pub fn of(magic: u32, area_len: u32, key: Option<Key>) -> Raw
         requires { area_len ≤ area_limit }
         ensures { result ≡ record { magic = magic; area_len = area_len; key = key } }
@@ -99,7 +100,7 @@ fn area_passes(bytes: &[u8], area_len: u32) -> bool
     LittleEndian::read_u32(&bytes[8..]) == crc32(&bytes[HEADER_LEN..end])
 }
 
-// Whether the code of the first `end` bytes stands behind them. All of it is compared.
+// Whether the code of the first `end` bytes stands after them. All of it is compared.
 fn code_passes(key: &Option<Key>, bytes: &[u8], end: usize) -> bool
     requires { end + code_len key.now ≤ length bytes.now }
     ensures { result ≡ has_code key.now end bytes.now }
@@ -137,7 +138,7 @@ fn write_coded(magic: u32, area: &[u8], out: &mut [u8])
 // Writes the code of a text.
 fn write_code(key: &Option<Key>, text: &[u8], out: &mut [u8])
     requires { length out.old ≡ code_len key.now }
-    ensures { out.new ≡ code_of key.now text.now }
+    ensures { out.new ≡ hmac_text key.now text.now }
 {
     if let Some(key) = key {
         out.copy_from_slice(&hmac(key, text, b""));

@@ -4,7 +4,7 @@ use Rattle.std.specs.Option.{option_map_or}
 use Rattle.bb_chooser.specs.Binding.{Binding}
 use Rattle.bb_flash.specs.declared.plan.Plan.{Plan}
 use Rattle.bb_flash.specs.Device.{Device}
-use Rattle.bb_state.specs.State.{form_of, kept_of, keyed_of, laid_of, used_of}
+use Rattle.bb_state.specs.State.{form_of, last_table_of, keyed_of, laid_of, used_of}
 use Rattle.bb_state.specs.declared.state.State.{State}
 use Rattle.bb_layout.specs.Kept.{IsLaid}
 use Rattle.bb_shell.proofs.Reached.{stops_refused}
@@ -34,8 +34,8 @@ booted_of b plans first table before after from to end same geometry fits facts 
           ∙ sym (ap (λ o. option_map_or (λ (round : Round). end_by b (length rounds) round round.outcome) o ends.NoTarget) last);
       table = run.table ∙ sym (ap (λ o. option_map_or (λ (round : Round). round.table) o before.table) last);
       kept = λ sure. run.kept sure ∙ sym (ap (λ o. option_map_or (λ (round : Round). round.table) o before.backing.kept) last);
-      trail = boot_trail (keyed_of before) plans rounds (kept_of before) (used_of before) (used_of after) from to geometry stops run.run;
-      exit = boot_exit (keyed_of before) plans rounds (kept_of before) (used_of before) (used_of after) from to geometry stops run.run;
+      trail = boot_trail (keyed_of before) plans rounds (last_table_of before) (used_of before) (used_of after) from to geometry stops run.run;
+      exit = boot_exit (keyed_of before) plans rounds (last_table_of before) (used_of before) (used_of after) from to geometry stops run.run;
       start_faults = run.start_faults;
     }
 
@@ -52,7 +52,7 @@ booted_none b plans first state device none geometry = record {
   end_is = refl;
   table = refl;
   kept = λ sure. refl;
-  trail = boot_trail (keyed_of state) plans [] (kept_of state) (used_of state) (used_of state) device device geometry tt (refl, refl);
-  exit = boot_exit (keyed_of state) plans [] (kept_of state) (used_of state) (used_of state) device device geometry tt (refl, refl);
+  trail = boot_trail (keyed_of state) plans [] (last_table_of state) (used_of state) (used_of state) device device geometry tt (refl, refl);
+  exit = boot_exit (keyed_of state) plans [] (last_table_of state) (used_of state) (used_of state) device device geometry tt (refl, refl);
   start_faults = rose_none device.start_faults;
 }

@@ -13,14 +13,14 @@ use Rattle.bb_chooser.specs.Resets.{reset_of}
 use Rattle.bb_chooser.specs.declared.cause.Cause.{Cause}
 use Rattle.bb_copies.proofs.Chronicle.{stands_after}
 use Rattle.bb_copies.proofs.History.{picked_holds}
-use Rattle.bb_copies.specs.Chronicle.{Chronicle, Content, CutOff, Decayed, Entry, Event, Finished, Follows, IsAsBefore, IsSaved, IsStanding, Loaded, Looked, Step, Turn, Unloaded, Untouched, loaded_in, place_of}
+use Rattle.bb_copies.specs.Chronicle.{Chronicle, Content, CutOff, Decayed, ChronicleEntry, Event, Finished, Follows, IsAsBefore, IsAfterSaves, IsStanding, Loaded, Looked, TurnMakes, Turn, Unloaded, Untouched, loaded_in, place_of}
 use Rattle.bb_flash.specs.declared.plan.Plan.{Plan}
 use Rattle.bb_shell.proofs.Answering.{found_qualifies}
 use Rattle.bb_shell.proofs.Attempts.{enabled_spent, spent_sized}
 use Rattle.bb_shell.proofs.Falling.{Falls, falls_cons, falls_later, falls_longer, falls_one, falls_to, longer, longer_less, number_of}
 use Rattle.bb_shell.proofs.Reached.{begun_saving}
 use Rattle.bb_shell.specs.Boot.{Round, is_retried}
-use Rattle.bb_shell.specs.Counting.{AreBoots, AttemptsLaw, IsBootBehind, IsBootEvent, IsBootTurn, NoLoadLaw, StaysReset, enabled_attempts, first_loaded, starts_in, starts_of, target_started, turn_starts}
+use Rattle.bb_shell.specs.Counting.{AreBoots, AttemptsLaw, IsBootAfter, IsBootEvent, IsBootTurn, NoLoadLaw, StaysReset, enabled_attempts, first_loaded, starts_in, starts_of, target_started, turn_starts}
 use Rattle.bb_shell.specs.Rounds.{RoundAnswer, best_of, followed_by, round_by, rounds_by}
 use Rattle.bb_shell.specs.Stages.{saves_of}
 
@@ -125,12 +125,13 @@ module _ (b : Binding) (is : IsBinding b) where
   -- ---- one power-on
 
   module _ (cause : Cause) (plans : List (Option Plan)) (before : Content) where
-    -- from the acknowledged place on the numbers fall, and the starts and what is left are no more than so many
+    -- from the acknowledged place on the numbers fall, and the starts and what is left are no more
+    -- than so many
     record Leaves (most starts : ℕ) (after : Content) : Type 0 where
       pub falls : Falls left after.areas after.acked
       pub less : starts + number_of left after.areas after.acked ≤ most
 
-    module _ (place : ℕ) (saves : List (List ℕ)) (ok : ℕ) (started : Option ℕ) (boot : IsBootBehind b cause plans before place saves ok started)
+    module _ (place : ℕ) (saves : List (List ℕ)) (ok : ℕ) (started : Option ℕ) (boot : IsBootAfter b cause plans before place saves ok started)
         (stays : (table : List ℕ) → slice_get before.areas place ≡ Some table → reset_of b cause table ≡ table) where
       abbrev rounds : List Round
       rounds = rounds_by b plans boot.table boot.answers
@@ -159,7 +160,7 @@ module _ (b : Binding) (is : IsBinding b) where
       start_made true e all = let saved = some_saved e in let made = all e in omega (arith, saved, made)
       start_made false e all = omega arith
 
-      boot_leaves : (after : Content) → IsSaved before place saves ok started after.areas after.acked →
+      boot_leaves : (after : Content) → IsAfterSaves before place saves ok started after.areas after.acked →
           Leaves (number_of left before.areas place) (one_if (is_some started)) after
       boot_leaves after saved =
           let here = boot.table_is in
@@ -190,7 +191,7 @@ module _ (b : Binding) (is : IsBinding b) where
 
     module _ (first : List ℕ) (stands : IsStanding first before) (falls : Falls left before.areas before.acked) where
       loaded_leaves : (place : ℕ) (saves : List (List ℕ)) (ok : ℕ) (started : Option ℕ) (after : Content) →
-          IsSaved before place saves ok started after.areas after.acked → IsBootBehind b cause plans before place saves ok started →
+          IsAfterSaves before place saves ok started after.areas after.acked → IsBootAfter b cause plans before place saves ok started →
           ((table : List ℕ) → slice_get before.areas place ≡ Some table → reset_of b cause table ≡ table) →
           Leaves now (one_if (is_some started)) after
       loaded_leaves place saves ok started after saved boot stays =
@@ -201,7 +202,7 @@ module _ (b : Binding) (is : IsBinding b) where
           let fewer = falls_to left before.areas before.acked before.acked place falls (omega arith) behind inside in
           record { falls = leaves.falls; less = omega (arith, leaves.less, fewer) }
 
-      turn_leaves : (turn : Turn) (after : Content) → Step before turn after.areas after.acked → IsBootTurn b cause plans before turn →
+      turn_leaves : (turn : Turn) (after : Content) → TurnMakes before turn after.areas after.acked → IsBootTurn b cause plans before turn →
           StaysReset b cause before (Finished turn) → Leaves now (one_if (turn_starts turn)) after
       turn_leaves Untouched after step boot stays = as_before after step falls
       turn_leaves Looked after step boot stays = as_before after step falls
@@ -217,10 +218,10 @@ module _ (b : Binding) (is : IsBinding b) where
 
     -- ---- the first load, and what comes before it
 
-    -- of `rest` starts behind a power-on: what they are at most, once a load answered Ok and before
+    -- of `rest` starts after a power-on: what they are at most, once a load answered Ok and before
     module _ (after : Content) (rest : ℕ) (behind : Falls left after.areas after.acked → rest ≤ number_of left after.areas after.acked)
         (table : List ℕ) (later : Option (List ℕ)) (before_it : later ≡ Some table → rest ≤ left table) where
-      turn_bounded : (turn : Turn) → Step before turn after.areas after.acked → IsBootTurn b cause plans before turn →
+      turn_bounded : (turn : Turn) → TurnMakes before turn after.areas after.acked → IsBootTurn b cause plans before turn →
           StaysReset b cause before (Finished turn) → option_map_or (slice_get before.areas) (place_of turn) later ≡ Some table →
           one_if (turn_starts turn) + rest ≤ left table
       turn_bounded Untouched step boot stays given = omega (arith, before_it given)
@@ -256,11 +257,11 @@ module _ (b : Binding) (cause : Cause) (plans : List (Option Plan)) (before : Co
 
 -- ---- over a chronicle
 
-starts_cons : (entry : Entry) (later : List Entry) → starts_of (entry ∷ later) ≡ one_if (starts_in entry.event) + starts_of later
-starts_cons entry later = sum_by-cons (λ (e : Entry). one_if (starts_in e.event)) entry later
+starts_cons : (entry : ChronicleEntry) (later : List ChronicleEntry) → starts_of (entry ∷ later) ≡ one_if (starts_in entry.event) + starts_of later
+starts_cons entry later = sum_by-cons (λ (e : ChronicleEntry). one_if (starts_in e.event)) entry later
 
 module _ (b : Binding) (is : IsBinding b) (plans : List (Option Plan)) (first : List ℕ) where
-  starts_left : (before : Content) (entries : List Entry) → IsStanding first before → Chronicle first before entries →
+  starts_left : (before : Content) (entries : List ChronicleEntry) → IsStanding first before → Chronicle first before entries →
       AreBoots b plans before entries → Falls (enabled_attempts b) before.areas before.acked →
       starts_of entries ≤ number_of (enabled_attempts b) before.areas before.acked
   unfolding AreBoots
@@ -271,7 +272,7 @@ module _ (b : Binding) (is : IsBinding b) (plans : List (Option Plan)) (first : 
       let rest = starts_left entry.content later behind chronicle.1 boots.1 leaves.falls in
       omega (arith, starts_cons entry later, leaves.less, rest)
 
-  starts_bounded : (table : List ℕ) (before : Content) (entries : List Entry) → IsStanding first before → Chronicle first before entries →
+  starts_bounded : (table : List ℕ) (before : Content) (entries : List ChronicleEntry) → IsStanding first before → Chronicle first before entries →
       AreBoots b plans before entries → first_loaded before entries ≡ Some table → starts_of entries ≤ enabled_attempts b table
   unfolding AreBoots first_loaded
   starts_bounded table before [] stands chronicle boots given = absurd (none-some table given)

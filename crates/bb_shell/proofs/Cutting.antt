@@ -18,10 +18,10 @@ use Rattle.bb_flash.specs.declared.plan.Plan.{Plan}
 use Rattle.bb_shell.proofs.Ends.{retried_saved}
 use Rattle.bb_shell.proofs.Reached.{begun_saving, idle_saving, is_made, made_cons, made_stages, reached_by, refused_stages, stage}
 use Rattle.bb_shell.specs.Boot.{Round, first_table, is_retried, last_round, plan_at}
-use Rattle.bb_shell.specs.Counting.{IsBootBehind, IsBootTurn, target_started, turn_of_rounds}
+use Rattle.bb_shell.specs.Counting.{IsBootAfter, IsBootTurn, target_started, turn_of_rounds}
 use Rattle.bb_shell.specs.Cutting.{BootCutLaw, IsBootCutOff}
 use Rattle.bb_shell.specs.Rounds.{RoundAnswer, best_of, followed_by, is_started, outcome_by, round_by, rounds_by}
-use Rattle.bb_shell.specs.Running.{is_refused}
+use Rattle.bb_shell.specs.Running.{is_refused_save}
 use Rattle.bb_shell.specs.Stages.{made_of, saves_of, saving_rounds}
 use Rattle.bb_shell.specs.declared.outcome.Outcome.{Outcome}
 use Rattle.bb_shell.specs.declared.outcome.Outcome.TheVariants.{Refused, Unplanned, Failed, Started}
@@ -48,7 +48,7 @@ ends_here : (b : Binding) (round : Round) (rest : List Round) → is_retried b r
     followed_by b round rest ≡ round ∷ []
 ends_here b round rest e = ap (λ more. cond more (round ∷ rest) (round ∷ [])) e
 
-unrefused_by : (plan : Option Plan) → is_refused (outcome_by plan false None) ≡ false
+unrefused_by : (plan : Option Plan) → is_refused_save (outcome_by plan false None) ≡ false
 unrefused_by None = refl
 unrefused_by (Some plan) = refl
 
@@ -80,7 +80,7 @@ later_started round next later e =
     (slice_get (round ∷ next ∷ later) n)) same
     ∙ e
 
--- nothing was started behind a round that started nothing
+-- nothing was started after a round that started nothing
 unstarted_behind : (round : Round) (later : List Round) → is_started round.outcome ≡ false →
     target_started later ≡ None → target_started (round ∷ later) ≡ None
 unstarted_behind round [] none rest = one_started round none
@@ -200,7 +200,7 @@ module _ (b : Binding) (plans : List (Option Plan)) where
           least = omega (arith, made);
         }))
 
-  -- ---- behind a round after which another is tried
+  -- ---- after a round after which another is tried
 
   module _ (table kept : List ℕ) (answer : RoundAnswer) (target : ℕ) (best : best_of b table ≡ Some target)
       (retried : is_retried b (round_by b plans table answer target).outcome ≡ true) where
@@ -275,9 +275,9 @@ module _ (b : Binding) (plans : List (Option Plan)) where
 
     -- a round that is the last
     last_reached : Reaches table kept h a (Round0 ∷ [])
-    last_reached = at (bytes_eq Round0.table kept) refl (is_refused Round0.outcome) refl
+    last_reached = at (bytes_eq Round0.table kept) refl (is_refused_save Round0.outcome) refl
       where
-        at : (same : Bool) → bytes_eq Round0.table kept ≡ same → (refused : Bool) → is_refused Round0.outcome ≡ refused →
+        at : (same : Bool) → bytes_eq Round0.table kept ≡ same → (refused : Bool) → is_refused_save Round0.outcome ≡ refused →
             Reaches table kept h a (Round0 ∷ [])
         at true e refused f =
             subst (λ l. AllByRecursion (ReachedBy table kept h a) (reached_by h a l)) (sym (idle_saving kept Round0 [] e))
@@ -293,7 +293,7 @@ module _ (b : Binding) (plans : List (Option Plan)) where
               (reached_begun table kept h a target best e, (reached_made table kept h a target best e, tt)),
             ))
 
-    -- one behind which others come
+    -- one after which others come
     more_reached : is_retried b Round0.outcome ≡ true → (rest : List Round) →
         ((h' : List (List ℕ)) (a' : ℕ) → Reaches Round0.table Round0.table h' a' rest) →
         Reaches table kept h a (Round0 ∷ rest)
@@ -405,7 +405,7 @@ module _ (b : Binding) (cause : Cause) (plans : List (Option Plan)) (first : Lis
       }
 
   module _ (place ok : ℕ) (saves : List (List ℕ)) (started : Option ℕ) (given : place ≡ picked before.marks)
-      (behind : IsBootBehind b cause plans before place saves ok started) where
+      (behind : IsBootAfter b cause plans before place saves ok started) where
     abbrev Given : List (List ℕ)
     Given = take (place + 1) before.areas
 

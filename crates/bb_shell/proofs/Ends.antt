@@ -12,7 +12,7 @@ use Rattle.bb_shell.proofs.Joins.{some_is}
 use Rattle.bb_shell.proofs.Saves.{write_fault}
 use Rattle.bb_shell.specs.Boot.{IsOutcome, Round, end_by, is_retried, plan_at}
 use Rattle.bb_shell.specs.Ends.{AddsStart, AddsStarts, HasEndCause, RaisedBy, StartsOnce, failed_start}
-use Rattle.bb_shell.specs.Running.{IsRoundRun, is_refused}
+use Rattle.bb_shell.specs.Running.{IsRoundRun, is_refused_save}
 use Rattle.bb_shell.specs.declared.outcome.Outcome.{Outcome}
 use Rattle.bb_shell.specs.declared.outcome.Outcome.TheVariants.{Refused, Unplanned, Failed, Started}
 
@@ -35,7 +35,7 @@ some_joined : (o : Option Plan) (from mid to : Device) → starts mid ≡ starts
 some_joined None from mid to same told h = h
 some_joined (Some plan) from mid to same told h = once_joined plan from mid to same told h
 
--- behind rounds that started nothing
+-- after rounds that started nothing
 pub end_adds : (b : Binding) (plans : List (Option Plan)) (tries : ℕ) (round : Round) (outcome : Outcome) (from mid to : Device) →
     starts mid ≡ starts from → is_some mid.told ≡ is_some from.told →
     AddsStart (plan_at plans round.target) outcome mid to → AddsStarts plans from to (end_by b tries round outcome)
@@ -57,7 +57,7 @@ retried_starts b plan Failed from to h adds = adds
 retried_starts b plan Started from to h adds = absurd (false≢true (sym (and_none b.rules.retry) ∙ h))
 
 -- and its save wasn't refused
-pub retried_saved : (b : Binding) (outcome : Outcome) → is_retried b outcome ≡ true → is_refused outcome ≡ false
+pub retried_saved : (b : Binding) (outcome : Outcome) → is_retried b outcome ≡ true → is_refused_save outcome ≡ false
 retried_saved b (Refused fault) h = absurd (false≢true (sym (and_none b.rules.retry) ∙ h))
 retried_saved b Unplanned h = refl
 retried_saved b Failed h = refl

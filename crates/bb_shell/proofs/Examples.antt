@@ -4,12 +4,12 @@ use Rattle.bb_chooser.specs.Binding.{Binding}
 use Rattle.bb_chooser.specs.declared.cause.Cause.TheVariants.{Other}
 use Rattle.bb_chooser.specs.declared.rules.Rules.{Rules}
 use Rattle.bb_chooser.specs.declared.target.Target.{Target}
-use Rattle.bb_copies.specs.Chronicle.{Chronicle, Content, CutOff, Decayed, Entry, Finished, IsStanding, Loaded, Step}
+use Rattle.bb_copies.specs.Chronicle.{Chronicle, Content, CutOff, Decayed, ChronicleEntry, Finished, IsStanding, Loaded, TurnMakes}
 use Rattle.bb_copies.specs.StandsFor.{Decay, IsAt}
 use Rattle.bb_copies.specs.declared.answers.CopyFault.TheVariants.{WriteFault}
 use Rattle.bb_flash.specs.declared.plan.Plan.{Plan}
-use Rattle.bb_shell.specs.Boot.{end_of, first_table, table_after}
-use Rattle.bb_shell.specs.Counting.{AreBoots, IsBootBehind, StaysReset, enabled_attempts, first_loaded, starts_of}
+use Rattle.bb_shell.specs.Boot.{boot_end, first_table, table_after}
+use Rattle.bb_shell.specs.Counting.{AreBoots, IsBootAfter, StaysReset, enabled_attempts, first_loaded, starts_of}
 use Rattle.bb_shell.specs.Plans.{plan_by, plans_by}
 use Rattle.bb_shell.specs.Rounds.{RoundAnswer, best_of, rounds_by}
 use Rattle.bb_shell.specs.Stages.{made_of, saves_of, stages_reached}
@@ -60,7 +60,7 @@ refused = record { save = Some (WriteFault 1); starts = false }
 
 -- ---- the first start of a fresh board, and one that fails
 
-fresh : end_of (bound false false) (rounds_by (bound false false) both (table 3 20 3 10 0) (made ∷ [])) ≡ Started 0 2 1
+fresh : boot_end (bound false false) (rounds_by (bound false false) both (table 3 20 3 10 0) (made ∷ [])) ≡ Started 0 2 1
 unfolding rounds_by
 fresh = refl
 
@@ -68,21 +68,21 @@ fresh_table : table_after (table 3 20 3 10 0) (rounds_by (bound false false) bot
 unfolding rounds_by
 fresh_table = refl
 
-fresh_fails : end_of (bound false false) (rounds_by (bound false false) both (table 3 20 3 10 0) (failed ∷ [])) ≡ StartFailed 0 1
+fresh_fails : boot_end (bound false false) (rounds_by (bound false false) both (table 3 20 3 10 0) (failed ∷ [])) ≡ StartFailed 0 1
 unfolding rounds_by
 fresh_fails = refl
 
-its_save_is_refused : end_of (bound false false) (rounds_by (bound false false) both (table 3 20 3 10 0) (refused ∷ [])) ≡ Fault (WriteFault 1)
+its_save_is_refused : boot_end (bound false false) (rounds_by (bound false false) both (table 3 20 3 10 0) (refused ∷ [])) ≡ Fault (WriteFault 1)
 unfolding rounds_by
 its_save_is_refused = refl
 
 -- ---- the best target
 
-the_other_has_attempts : end_of (bound false false) (rounds_by (bound false false) both (table 0 10 3 10 0) (made ∷ [])) ≡ Started 1 2 1
+the_other_has_attempts : boot_end (bound false false) (rounds_by (bound false false) both (table 0 10 3 10 0) (made ∷ [])) ≡ Started 1 2 1
 unfolding rounds_by
 the_other_has_attempts = refl
 
-none_has_attempts : end_of (bound false false) (rounds_by (bound false false) both (table 0 20 0 10 0) (made ∷ [])) ≡ NoTarget
+none_has_attempts : boot_end (bound false false) (rounds_by (bound false false) both (table 0 20 0 10 0) (made ∷ [])) ≡ NoTarget
 unfolding rounds_by
 none_has_attempts = refl
 
@@ -94,7 +94,7 @@ equal_priorities = refl
 reset_first : first_table (bound true false) Other true (table 0 20 0 10 0) ≡ table 3 20 3 10 0
 reset_first = refl
 
-reset_and_started : end_of (bound true false) (rounds_by (bound true false) both (table 3 20 3 10 0) (made ∷ [])) ≡ Started 0 2 1
+reset_and_started : boot_end (bound true false) (rounds_by (bound true false) both (table 3 20 3 10 0) (made ∷ [])) ≡ Started 0 2 1
 unfolding rounds_by
 reset_and_started = refl
 
@@ -106,7 +106,7 @@ six = made ∷ made ∷ made ∷ made ∷ made ∷ made ∷ made ∷ []
 abbrev no_plans : List (Option Plan)
 no_plans = None ∷ None ∷ []
 
-all_are_tried : end_of (bound false true) (rounds_by (bound false true) no_plans (table 3 20 3 10 0) six) ≡ StartFailed 1 6
+all_are_tried : boot_end (bound false true) (rounds_by (bound false true) no_plans (table 3 20 3 10 0) six) ≡ StartFailed 1 6
 unfolding rounds_by
 all_are_tried = refl
 
@@ -148,7 +148,7 @@ stages_made : stages_reached ((1 ∷ []) ∷ []) 0 ((2 ∷ []) ∷ []) 1
     ∷ record { areas = (1 ∷ []) ∷ (2 ∷ []) ∷ []; acked = 1 } ∷ []
 stages_made = refl
 
--- behind it one that was refused
+-- after it one that was refused
 stages_refused : stages_reached ((1 ∷ []) ∷ []) 0 ((2 ∷ []) ∷ (3 ∷ []) ∷ []) 1
     ≡ record { areas = (1 ∷ []) ∷ []; acked = 0 }
     ∷ record { areas = (1 ∷ []) ∷ (2 ∷ []) ∷ []; acked = 0 }
@@ -202,23 +202,23 @@ twice_started = record {
   marks = Some 3 ∷ Some 3 ∷ [];
 }
 
-abbrev power_ons : List Entry
+abbrev power_ons : List ChronicleEntry
 power_ons =
     record { event = Finished (Loaded 0 (system0_has 2 ∷ []) 1 (Some 0)); content = once_started }
     ∷ record { event = CutOff (Loaded 1 (system0_has 1 ∷ []) 0 None); content = cut }
     ∷ record { event = Decayed; content = worn }
     ∷ record { event = Finished (Loaded 2 (system0_has 0 ∷ []) 1 (Some 0)); content = twice_started } ∷ []
 
-first_boot : IsBootBehind b Other both at_first 0 (system0_has 2 ∷ []) 1 (Some 0)
+first_boot : IsBootAfter b Other both at_first 0 (system0_has 2 ∷ []) 1 (Some 0)
 unfolding rounds_by
 first_boot = record { table = table 3 20 3 10 0; table_is = refl; sized = refl; answers = made ∷ []; turn = refl }
 
 -- a save that was cut is one that was refused
-cut_boot : IsBootBehind b Other both once_started 1 (system0_has 1 ∷ []) 0 None
+cut_boot : IsBootAfter b Other both once_started 1 (system0_has 1 ∷ []) 0 None
 unfolding rounds_by
 cut_boot = record { table = system0_has 2; table_is = refl; sized = refl; answers = refused ∷ []; turn = refl }
 
-last_boot : IsBootBehind b Other both worn 2 (system0_has 0 ∷ []) 1 (Some 0)
+last_boot : IsBootAfter b Other both worn 2 (system0_has 0 ∷ []) 1 (Some 0)
 unfolding rounds_by
 last_boot = record { table = system0_has 1; table_is = refl; sized = refl; answers = made ∷ []; turn = refl }
 
@@ -256,13 +256,13 @@ stands_twice =
     let last : IsAt twice_started.areas 3 (Some (system0_has 0)) 3 = record { acked = omega arith; inside = omega arith; area = refl } in
     record { begins = refl; marked = (last, (last, tt)); some = inl refl }
 
-starts_once : Step at_first (Loaded 0 (system0_has 2 ∷ []) 1 (Some 0)) once_started.areas 1
+starts_once : TurnMakes at_first (Loaded 0 (system0_has 2 ∷ []) 1 (Some 0)) once_started.areas 1
 starts_once = record { given = refl; areas = refl; acked = refl; most = omega arith; least = omega arith; start = λ some. refl }
 
-cuts : Step once_started (Loaded 1 (system0_has 1 ∷ []) 0 None) with_cut 1
+cuts : TurnMakes once_started (Loaded 1 (system0_has 1 ∷ []) 0 None) with_cut 1
 cuts = record { given = refl; areas = refl; acked = refl; most = omega arith; least = omega arith; start = λ some. grind arith }
 
-starts_again : Step worn (Loaded 2 (system0_has 0 ∷ []) 1 (Some 0)) twice_started.areas 3
+starts_again : TurnMakes worn (Loaded 2 (system0_has 0 ∷ []) 1 (Some 0)) twice_started.areas 3
 starts_again = record { given = refl; areas = refl; acked = refl; most = omega arith; least = omega arith; start = λ some. refl }
 
 decays : Decay cut.passed worn.passed

@@ -50,7 +50,7 @@ module _ {X : Type 0} (f : X → ℕ) where
       let next = falls i (omega arith) (omega (arith, inside)) in
       omega (arith, here, next)
 
-  -- ---- a list that is cut behind a place, with more behind it
+  -- ---- a list that is cut after a place, with more after it
 
   get_behind : (xs ys : List X) (j : ℕ) → slice_get (xs ++ ys) (length xs + j) ≡ slice_get ys j
   get_behind [] ys j = let same : 0 + j ≡ j = omega arith in ap (slice_get ys) same
@@ -94,7 +94,7 @@ module _ {X : Type 0} (f : X → ℕ) where
         let less = falls j (omega arith) (omega (arith, len, low, within)) in
         omega (arith, same, next, less)
 
-    -- so many places behind the cut it is less by as many
+    -- so many places after the cut it is less by as many
     pub longer_less : Falls (x ∷ more) 0 → (k : ℕ) → k ≤ length more → number_of longer (place + k) + k ≤ f x
     longer_less falls k most =
         let less = falls_by (x ∷ more) 0 falls 0 k (omega arith) (omega (arith, most)) in

@@ -9,7 +9,7 @@ use Rattle.bb_copies.specs.StandsFor.{EachPassesOrNothing}
 use Rattle.bb_copies.proofs.Runs.{same_images}
 use Rattle.bb_flash.proofs.Counting.{images_untouched}
 use Rattle.bb_flash.proofs.Moments.{images_same_joined, images_weaker}
-use Rattle.bb_flash.specs.Calls.{IsUntouched}
+use Rattle.bb_flash.specs.Calls.{HasNoChange}
 use Rattle.bb_flash.specs.Cuts.{EachImage, IsLater, IsSameRegion}
 use Rattle.bb_flash.specs.Device.{Device, Told, changes, content}
 use Rattle.bb_state.specs.Keyed.{Keyed}
@@ -45,7 +45,7 @@ outside_joined kinds one two three first second before behind region apart =
     subst (λ g. EachImage (IsSameRegion g.page region.at region.size) two three) first.geometry (behind region apart) in
     images_same_joined page region.at region.size one two three first second (before region apart) again
 
-pub untouched : (from to : Device) → content to ≡ content from → changes to ≡ changes from → ForSome from.told (λ first. ForSome to.told (IsUntouched first))
+pub untouched : (from to : Device) → content to ≡ content from → changes to ≡ changes from → ForSome from.told (λ first. ForSome to.told (HasNoChange first))
 untouched from to same history first h last k = record {
   image = some_is _ _ (ap (option_map (λ (told : Told). told.image)) (sym k) ∙ same ∙ ap (option_map (λ (told : Told). told.image)) h);
   changes = some_is _ _ (ap (option_map (λ (told : Told). told.changes)) (sym k) ∙ history ∙ ap (option_map (λ (told : Told). told.changes)) h);

@@ -30,14 +30,14 @@ use Rattle.bb_shell.proofs.Joins.{untouched}
 use Rattle.bb_shell.proofs.Saves.{save_later}
 use Rattle.bb_shell.proofs.Starts.{by_start, round_later, start_content, start_later, unrefused}
 use Rattle.bb_shell.specs.Boot.{AreRounds, Round, is_retried, plan_at}
-use Rattle.bb_shell.specs.Running.{AreRun, IsRoundRun, IsTried, is_refused, refusal_of}
+use Rattle.bb_shell.specs.Running.{AreRun, IsRoundRun, IsTried, is_refused_save, refusal_of}
 use Rattle.bb_shell.specs.Stages.{IsSettled, StandsIn, first_area, saving_rounds, stages_reached}
 use Rattle.bb_shell.specs.declared.outcome.Outcome.{Outcome}
 
 -- ---- the stages of the rounds that save
 
 abbrev pub is_made : Round → Bool
-is_made round = not (is_refused round.outcome)
+is_made round = not (is_refused_save round.outcome)
 
 abbrev pub reached_by : List (List ℕ) → ℕ → List Round → List Stage
 reached_by h a rounds = stages_reached h a (map (λ (round : Round). round.table) rounds) (count_by is_made rounds)
@@ -45,18 +45,18 @@ reached_by h a rounds = stages_reached h a (map (λ (round : Round). round.table
 abbrev pub stage : List (List ℕ) → ℕ → Stage
 stage h a = record { areas = h; acked = a }
 
-pub made_cons : (round : Round) (later : List Round) (refused : Bool) → is_refused round.outcome ≡ refused →
+pub made_cons : (round : Round) (later : List Round) (refused : Bool) → is_refused_save round.outcome ≡ refused →
     count_by is_made (round ∷ later) ≡ cond (not refused) 1 0 + count_by is_made later
 made_cons round later refused e =
     sum_by-cons (λ (r : Round). cond (is_made r) 1 0) round later
     ∙ ap (λ refuses. cond (not refuses) 1 0 + count_by is_made later) e
 
-pub refused_stages : (h : List (List ℕ)) (a : ℕ) (round : Round) → is_refused round.outcome ≡ true →
+pub refused_stages : (h : List (List ℕ)) (a : ℕ) (round : Round) → is_refused_save round.outcome ≡ true →
     reached_by h a (round ∷ []) ≡ stage h a ∷ stage (h ++ round.table ∷ []) a ∷ []
 refused_stages h a round e =
     ap (λ (n : ℕ). take (2 + n) (stage h a ∷ stages_of h a (round.table ∷ []))) (made_cons round [] true e)
 
-pub made_stages : (h : List (List ℕ)) (a : ℕ) (round : Round) (later : List Round) → is_refused round.outcome ≡ false →
+pub made_stages : (h : List (List ℕ)) (a : ℕ) (round : Round) (later : List Round) → is_refused_save round.outcome ≡ false →
     reached_by h a (round ∷ later)
     ≡ stage h a ∷ stage (h ++ round.table ∷ []) a ∷ reached_by (h ++ round.table ∷ []) (a + 1) later
 made_stages h a round later e =
@@ -80,7 +80,7 @@ begun_saving kept round later e =
 
 abbrev pub StopsRefused : List Round → Type 0
 StopsRefused [] = ⊤
-StopsRefused (round ∷ later) = (is_refused round.outcome ≡ true → later ≡ []) × StopsRefused later
+StopsRefused (round ∷ later) = (is_refused_save round.outcome ≡ true → later ≡ []) × StopsRefused later
 
 pub stops_refused : (b : Binding) (plans : List (Option Plan)) (table : List ℕ) (rounds : List Round) →
     AreRounds b plans table rounds → StopsRefused rounds
@@ -139,7 +139,7 @@ module _ (keyed : Keyed) where
       (subst (λ u. KeepsUsed u (passings (laid_form keyed) page (laid_kinds keyed.layout) image)) (sym saved.is)
       (ap is_some (saved.exit.kept image here).passes))
 
-  -- a table that was saved goes behind the list, and is acknowledged
+  -- a table that was saved goes after the list, and is acknowledged
   pub settled_more : (kept : List ℕ) (used : Option ℕ) (table : List ℕ) (now : Option ℕ) (x y : Image) (h : List (List ℕ)) (a : ℕ) →
       IsSettled keyed kept used x h a → HoldsNow table now y → IsSettled keyed table now y (h ++ table ∷ []) (a + 1)
   settled_more kept used table now x y h a settled holds =
@@ -162,7 +162,8 @@ module _ (keyed : Keyed) where
   abbrev pub Longer : Option ℕ → List ℕ → Image → Image → Type 0
   Longer used table x y = StandsLonger used table (Passed x) (Passed y)
 
-  -- whatever list of areas an image stood for, one that counts stands for one of the stages of the rounds
+  -- whatever list of areas an image stood for, one that counts stands for one of the stages of the
+  -- rounds
   abbrev pub Reaches : List ℕ → Option ℕ → List Round → Image → Image → Type 0
   Reaches kept used saving x z =
       (h : List (List ℕ)) (a : ℕ) →
@@ -231,7 +232,7 @@ module _ (keyed : Keyed) where
         (save_counted used round.table from run.middle geometry (run.saved.begun e).runs.images)
         (counted_of_images Luck (λ x y. y ≡ x) run.middle device behind_same)
 
-    pub made_holds : bytes_eq round.table kept ≡ false → is_refused round.outcome ≡ false → (image : Image) →
+    pub made_holds : bytes_eq round.table kept ≡ false → is_refused_save round.outcome ≡ false → (image : Image) →
         content device ≡ Some image → HoldsNow round.table copy image
     made_holds e done image here =
         let stored = subst (λ r. IfNone r (IsStored keyed round.table copy from run.middle)) (unrefused round.outcome done)
@@ -239,7 +240,7 @@ module _ (keyed : Keyed) where
         stored_holds round.table copy from run.middle image geometry stored
         (sym (start_content (plan_at plans round.target) round.outcome run.middle device run.tried) ∙ here)
 
-    -- the images that count since the round began, where those that count behind it are known
+    -- the images that count since the round began, where those that count after it are known
     module _ (later : List Round) (to : Device) (early : IsLater from device) (late : IsLater device to)
         (stops : StopsRefused (round ∷ later)) (alone : later ≡ [] → to ≡ device)
         (rest : EachCounted Luck (Reaches round.table copy (saving_rounds round.table later)) device to) where
@@ -252,7 +253,7 @@ module _ (keyed : Keyed) where
           (λ x y z is reaches h a settled. reaches h a (idle_settled e x y h a is settled))
           early late (idle_counted e) rest)
 
-      refused_reached : bytes_eq round.table kept ≡ false → is_refused round.outcome ≡ true →
+      refused_reached : bytes_eq round.table kept ≡ false → is_refused_save round.outcome ≡ true →
           EachCounted Luck (Reaches kept used (round ∷ saving_rounds round.table later)) from to
       refused_reached e refused =
           let none : later ≡ [] = stops.0 refused in
@@ -264,7 +265,7 @@ module _ (keyed : Keyed) where
           (inr (inl (longer_stands kept used round.table x y h a settled longer))))
           (begun_counted e)))
 
-      made_reached : bytes_eq round.table kept ≡ false → is_refused round.outcome ≡ false →
+      made_reached : bytes_eq round.table kept ≡ false → is_refused_save round.outcome ≡ false →
           EachCounted Luck (Reaches kept used (round ∷ saving_rounds round.table later)) from to
       made_reached e done =
           let saving = saving_rounds round.table later in
@@ -281,14 +282,14 @@ module _ (keyed : Keyed) where
           (begun_counted e) rest
 
       pub round_reached : EachCounted Luck (Reaches kept used (saving_rounds kept (round ∷ later))) from to
-      round_reached = at (bytes_eq round.table kept) refl (is_refused round.outcome) refl
+      round_reached = at (bytes_eq round.table kept) refl (is_refused_save round.outcome) refl
         where
           begun : bytes_eq round.table kept ≡ false →
               EachCounted Luck (Reaches kept used (round ∷ saving_rounds round.table later)) from to →
               EachCounted Luck (Reaches kept used (saving_rounds kept (round ∷ later))) from to
           begun e counted = subst (λ rs. EachCounted Luck (Reaches kept used rs) from to) (sym (begun_saving kept round later e)) counted
 
-          at : (same : Bool) → bytes_eq round.table kept ≡ same → (refused : Bool) → is_refused round.outcome ≡ refused →
+          at : (same : Bool) → bytes_eq round.table kept ≡ same → (refused : Bool) → is_refused_save round.outcome ≡ refused →
               EachCounted Luck (Reaches kept used (saving_rounds kept (round ∷ later))) from to
           at true e refused done = idle_reached e
           at false e true refused = begun e (refused_reached e refused)

@@ -11,7 +11,7 @@ use Rattle.bb_chooser.specs.Binding.{Binding}
 use Rattle.bb_flash.specs.declared.plan.Plan.{Plan}
 use Rattle.bb_layout.specs.Results.{all_ok, result_and_then}
 use Rattle.bb_state.proofs.Lists.{take_next}
-use Rattle.bb_shell.specs.Plans.{AreAnswersOf, EntryAnswer, IsAnswerOf, IsPlanOf, IsPlanned, entries_of, plan_by, plan_for, plans_by, plans_of}
+use Rattle.bb_shell.specs.Plans.{AreAnswersOf, EntryAnswer, IsAnswerOf, IsPlanOf, IsPlanned, entries_of, plan_by, start_plan_for, plans_by, plans_of}
 use Rattle.bb_shell.specs.declared.plan_fault.PlanFault.{PlanFault}
 use Rattle.bb_shell.specs.declared.plan_fault.PlanFault.TheVariants.{FileFault, FileTooLong, NoMemory}
 
@@ -23,7 +23,7 @@ numbered_more n (x ∷ xs) y =
     let e : n + 1 + length xs ≡ n + length (x ∷ xs) = omega arith in
     ap (λ l. (n, x) ∷ l) (numbered_more (n + 1) xs y ∙ ap (λ k. enumerate_from (n + 1) xs ++ (k, y) ∷ []) e)
 
--- results behind values that are all there
+-- results after values that are all there
 abbrev onto : {A E : Type 0} → List A → Result A E → Result (List A) E
 onto front r = result_and_then (λ x. Ok (front ++ x ∷ [])) r
 
@@ -41,7 +41,7 @@ nil_onto : {A E : Type 0} (r : Result A E) → all_ok (r ∷ []) ≡ onto [] r
 nil_onto (Ok x) = refl
 nil_onto (Err e) = refl
 
--- behind a result that is there
+-- after a result that is there
 all_next : {A E : Type 0} (y : A) (front : List A) (rest : Result (List A) E) (more : Result (List A) E) (r : Result A E) →
     result_and_then (λ xs. Ok (y ∷ xs)) rest ≡ Ok front → ((behind : List A) → rest ≡ Ok behind → more ≡ onto behind r) →
     result_and_then (λ xs. Ok (y ∷ xs)) more ≡ onto front r
@@ -56,13 +56,13 @@ all_more (Err e ∷ rs) front r h = absurd (err_ok e front h)
 all_more (Ok y ∷ rs) front r h = all_next y front (all_ok rs) (all_ok (rs ++ r ∷ [])) r h (λ behind k. all_more rs behind r k)
 
 pub plans_more : (answers : List EntryAnswer) (answer : EntryAnswer) (plans : List (Option Plan)) → plans_by answers ≡ Ok plans →
-    plans_by (answers ++ answer ∷ []) ≡ result_and_then (λ plan. Ok (plans ++ plan ∷ [])) (plan_for (length answers) answer)
+    plans_by (answers ++ answer ∷ []) ≡ result_and_then (λ plan. Ok (plans ++ plan ∷ [])) (start_plan_for (length answers) answer)
 plans_more answers answer plans h =
-    let f : ℕ × EntryAnswer → Result (Option Plan) PlanFault = λ entry. plan_for entry.0 entry.1 in
+    let f : ℕ × EntryAnswer → Result (Option Plan) PlanFault = λ entry. start_plan_for entry.0 entry.1 in
     let e : 0 + length answers ≡ length answers = omega arith in
     let numbered = numbered_more 0 answers answer ∙ ap (λ k. enumerate_from 0 answers ++ (k, answer) ∷ []) e in
     ap (λ l. all_ok (map f l)) numbered ∙ ap all_ok (map-append f (enumerate_from 0 answers) ((length answers, answer) ∷ []))
-    ∙ all_more (map f (enumerate_from 0 answers)) plans (plan_for (length answers) answer) h
+    ∙ all_more (map f (enumerate_from 0 answers)) plans (start_plan_for (length answers) answer) h
 
 -- ---- what was read so far
 
@@ -121,7 +121,7 @@ some_is x y h = cc
 
 pub plan_read : (b : Binding) (target : ℕ) (before : Folder) (name : List ℕ) (answer : EntryAnswer) (given : Result (Option Plan) PlanFault) →
     slice_get (entries_of b) target ≡ Some name → ForSome before.told (λ files. IsAnswerOf answer (file_of files name)) →
-    (given ≢ Err NoMemory → given ≡ plan_for target answer) → IsPlanOf b target before given
+    (given ≢ Err NoMemory → given ≡ start_plan_for target answer) → IsPlanOf b target before given
 plan_read b target before name answer given there told gives = record {
   answer = answer;
   answered = λ files h other got. subst (λ n. IsAnswerOf answer (file_of files n)) (some_is name other (sym there ∙ got)) (told files h);
@@ -178,7 +178,7 @@ module _ (b : Binding) (before : Folder) (done : ℕ) (plans : List (Option Plan
 
   answers_give : given ≢ Err NoMemory → plans_by answers ≡ onto plans given
   answers_give known =
-      plans_more (all_read read.texts) of.answer plans read.planned ∙ ap (λ n. onto plans (plan_for n of.answer)) len
+      plans_more (all_read read.texts) of.answer plans read.planned ∙ ap (λ n. onto plans (start_plan_for n of.answer)) len
       ∙ ap (onto plans) (sym (of.gives known))
 
   more_by : (answer : EntryAnswer) → of.answer ≡ answer → (plan : Option Plan) → given ≡ Ok plan → AreRead b before (done + 1) (plans ++ plan ∷ [])
@@ -192,11 +192,11 @@ module _ (b : Binding) (before : Folder) (done : ℕ) (plans : List (Option Plan
         answered = subst (AreAnswersOf before b) (sym split) answers_are;
       }
   more_by (Err file_fails.Fault) e plan is =
-      absurd (ok_err plan (FileFault done) (sym is ∙ of.gives (λ h. ok_err plan NoMemory (sym is ∙ h)) ∙ ap (plan_for done) e))
+      absurd (ok_err plan (FileFault done) (sym is ∙ of.gives (λ h. ok_err plan NoMemory (sym is ∙ h)) ∙ ap (start_plan_for done) e))
   more_by (Err file_fails.TooLong) e plan is =
-      absurd (ok_err plan (FileTooLong done) (sym is ∙ of.gives (λ h. ok_err plan NoMemory (sym is ∙ h)) ∙ ap (plan_for done) e))
+      absurd (ok_err plan (FileTooLong done) (sym is ∙ of.gives (λ h. ok_err plan NoMemory (sym is ∙ h)) ∙ ap (start_plan_for done) e))
   more_by (Err file_fails.NoMemory) e plan is =
-      absurd (ok_err plan NoMemory (sym is ∙ of.gives (λ h. ok_err plan NoMemory (sym is ∙ h)) ∙ ap (plan_for done) e))
+      absurd (ok_err plan NoMemory (sym is ∙ of.gives (λ h. ok_err plan NoMemory (sym is ∙ h)) ∙ ap (start_plan_for done) e))
 
   pub read_more : (plan : Option Plan) → given ≡ Ok plan → AreRead b before (done + 1) (plans ++ plan ∷ [])
   read_more plan is = more_by of.answer refl plan is
@@ -212,7 +212,7 @@ module _ (b : Binding) (before : Folder) (done : ℕ) (plans : List (Option Plan
         sym (answers_give (λ h. known (ap Err (err_is fault NoMemory given is h))) ∙ ap (onto plans) is);
   }
 
--- memory was refused behind what was read
+-- memory was refused after what was read
 pub planned_refused : (b : Binding) (before : Folder) (done : ℕ) (plans : List (Option Plan)) → done ≤ length b.targets → AreRead b before done plans →
     IsPlanned b before (Err NoMemory)
 planned_refused b before done plans inside read = record {
@@ -254,7 +254,7 @@ all_err (Ok y ∷ rs) ss e h = err_next y e (all_ok rs) (all_ok (rs ++ ss)) h (�
 
 plans_err : (answers more : List EntryAnswer) (fault : PlanFault) → plans_by answers ≡ Err fault → plans_by (answers ++ more) ≡ Err fault
 plans_err answers more fault h =
-    let f : ℕ × EntryAnswer → Result (Option Plan) PlanFault = λ entry. plan_for entry.0 entry.1 in
+    let f : ℕ × EntryAnswer → Result (Option Plan) PlanFault = λ entry. start_plan_for entry.0 entry.1 in
     ap (λ l. all_ok (map f l)) (numbered_both 0 answers more)
     ∙ ap all_ok (map-append f (enumerate_from 0 answers) (enumerate_from (0 + length answers) more))
     ∙ all_err (map f (enumerate_from 0 answers)) (map f (enumerate_from (0 + length answers) more)) fault h
@@ -281,12 +281,12 @@ module _ (b : Binding) (before : Folder) (done : ℕ) (plans : List (Option Plan
   known p = long_no_memory target (err_is (FileTooLong target) NoMemory given is p)
 
   answer_long : (answer : EntryAnswer) → of.answer ≡ answer → of.answer ≡ Err file_fails.TooLong
-  answer_long (Ok text) e = absurd (ok_err (plan_by done text) (FileTooLong target) (sym (of.gives known ∙ ap (plan_for done) e) ∙ is))
+  answer_long (Ok text) e = absurd (ok_err (plan_by done text) (FileTooLong target) (sym (of.gives known ∙ ap (start_plan_for done) e) ∙ is))
   answer_long (Err file_fails.TooLong) e = e
   answer_long (Err file_fails.Fault) e =
-      absurd (long_no_fault target done (err_is (FileTooLong target) (FileFault done) given is (of.gives known ∙ ap (plan_for done) e)))
+      absurd (long_no_fault target done (err_is (FileTooLong target) (FileFault done) given is (of.gives known ∙ ap (start_plan_for done) e)))
   answer_long (Err file_fails.NoMemory) e =
-      absurd (long_no_memory target (err_is (FileTooLong target) NoMemory given is (of.gives known ∙ ap (plan_for done) e)))
+      absurd (long_no_memory target (err_is (FileTooLong target) NoMemory given is (of.gives known ∙ ap (start_plan_for done) e)))
 
   pub ended_long : ForSome before.told (λ files. plans_of files b ≡ Err (FileTooLong target))
   ended_long files told =

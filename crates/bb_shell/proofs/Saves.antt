@@ -8,7 +8,7 @@ use Rattle.std.specs.Str.{bytes_eq}
 use Rattle.bb_copies.specs.Loading.{KeepsOutside}
 use Rattle.bb_copies.specs.Passing.{passings}
 use Rattle.bb_copies.specs.Saving.{EachWritten, SaveFails, SaveRuns}
-use Rattle.bb_copies.specs.Settling.{IsUndisturbed}
+use Rattle.bb_copies.specs.Settling.{NothingFails}
 use Rattle.bb_copies.specs.StandsFor.{EachPassesOrNothing}
 use Rattle.bb_copies.specs.declared.answers.CopyFault.{CopyFault}
 use Rattle.bb_copies.specs.declared.answers.CopyFault.TheVariants.{ReadFault, WriteFault, Unsure}
@@ -21,19 +21,19 @@ use Rattle.bb_chooser.proofs.Alone.{keeps_changes}
 use Rattle.bb_state.proofs.Fitting.{changed_fits}
 use Rattle.bb_state.specs.Keyed.{Keyed}
 use Rattle.bb_state.specs.Kinds.{laid_form, laid_kinds}
-use Rattle.bb_state.specs.State.{IsStored, form_of, has_changed, is_kept, is_sure, kept_of, keyed_of, kinds_of, laid_of, used_of}
+use Rattle.bb_state.specs.State.{IsStored, form_of, has_changed, is_kept, is_sure, last_table_of, keyed_of, kinds_of, laid_of, used_of}
 use Rattle.bb_state.specs.declared.state.State.{State}
 use Rattle.bb_shell.proofs.Joins.{outside_refl, stored_refl}
-use Rattle.bb_shell.specs.Ends.{IsWriteFault, StaysStored}
+use Rattle.bb_shell.specs.Ends.{EndsByWriteFault, StaysStored}
 use Rattle.bb_shell.specs.Running.{IsSaveRun}
 
 -- ---- the state's words
 
-changed_is : (state : State) (same : Bool) → is_sure state ≡ true → bytes_eq state.table (kept_of state) ≡ same → has_changed state ≡ not same
-changed_is state same sure e = ap (λ s. s && not (bytes_eq state.table (kept_of state))) sure ∙ ap not e
+changed_is : (state : State) (same : Bool) → is_sure state ≡ true → bytes_eq state.table (last_table_of state) ≡ same → has_changed state ≡ not same
+changed_is state same sure e = ap (λ s. s && not (bytes_eq state.table (last_table_of state))) sure ∙ ap not e
 
-kept_is : (state : State) → is_sure state ≡ true → bytes_eq state.table (kept_of state) ≡ true → is_kept state ≡ true
-kept_is state sure e = ap (λ s. s && bytes_eq state.table (kept_of state)) sure ∙ e
+kept_is : (state : State) → is_sure state ≡ true → bytes_eq state.table (last_table_of state) ≡ true → is_kept state ≡ true
+kept_is state sure e = ap (λ s. s && bytes_eq state.table (last_table_of state)) sure ∙ e
 
 -- a table in which a chooser changed its own variables alone can be kept as a record
 pub chosen_fits : (b : Binding) (state : State) (table : List ℕ) → IsBoundTo (laid_of state).vars b → KeepsOthers b state.table table
@@ -46,9 +46,9 @@ pub saved_ok : (state : State) (now : Option ℕ) (from to : Device) → is_sure
     (has_changed state ≡ false → to ≡ from) →
     (has_changed state ≡ true → SaveRuns (form_of state) (kinds_of state) (used_of state) state.table from to) →
     (has_changed state ≡ true → IsStored (keyed_of state) state.table now from to) →
-    (has_changed state ≡ true → IsUndisturbed from to → EachWritten (kinds_of state) ((form_of state).text state.table) from to) →
+    (has_changed state ≡ true → NothingFails from to → EachWritten (kinds_of state) ((form_of state).text state.table) from to) →
     (is_kept state ≡ true → now ≡ used_of state) →
-    IsSaveRun (keyed_of state) (kept_of state) (used_of state) now state.table None from to
+    IsSaveRun (keyed_of state) (last_table_of state) (used_of state) now state.table None from to
 saved_ok state now from to sure idle runs stored exact used = record {
   idle = λ same. record { device = idle (changed_is state true sure same); copy = used (kept_is state sure same); done = refl };
   begun = λ other. record {
@@ -65,7 +65,7 @@ pub saved_err : (state : State) (now : Option ℕ) (fault : CopyFault) (from to 
     (is_kept state ≡ true → ⊥) → fault ≢ Unsure →
     (has_changed state ≡ true → SaveRuns (form_of state) (kinds_of state) (used_of state) state.table from to) →
     SaveFails (form_of state) (kinds_of state) (used_of state) state.table from to fault →
-    IsSaveRun (keyed_of state) (kept_of state) (used_of state) now state.table (Some fault) from to
+    IsSaveRun (keyed_of state) (last_table_of state) (used_of state) now state.table (Some fault) from to
 saved_err state now fault from to sure other known runs fails = record {
   idle = λ same. absurd (other (kept_is state sure same));
   begun = λ changed. record {
@@ -118,14 +118,14 @@ module _ (keyed : Keyed) (kept : List ℕ) (used now : Option ℕ) (table : List
 
 -- a save is refused by a write alone
 pub write_fault : (keyed : Keyed) (kept : List ℕ) (used now : Option ℕ) (table : List ℕ) (fault : CopyFault) (from to : Device) →
-    IsSaveRun keyed kept used now table (Some fault) from to → IsWriteFault fault
+    IsSaveRun keyed kept used now table (Some fault) from to → EndsByWriteFault fault
 write_fault keyed kept used now table fault from to run = at (bytes_eq table kept) refl
   where
-    by : (f : CopyFault) → SaveFails (laid_form keyed) (laid_kinds keyed.layout) used table from to f → f ≢ Unsure → IsWriteFault f
+    by : (f : CopyFault) → SaveFails (laid_form keyed) (laid_kinds keyed.layout) used table from to f → f ≢ Unsure → EndsByWriteFault f
     by ReadFault fails sure = absurd fails
     by (WriteFault copy) fails sure = record { copy = copy; is = refl }
     by Unsure fails sure = absurd (sure refl)
 
-    at : (same : Bool) → bytes_eq table kept ≡ same → IsWriteFault fault
+    at : (same : Bool) → bytes_eq table kept ≡ same → EndsByWriteFault fault
     at true e = let none : Some fault ≡ None = (run.idle e).done in absurd (let f : Option CopyFault → Bool = λ o. is_some o in false≢true (sym (ap f none)))
     at false e = by fault (run.begun e).fails (run.begun e).sure

@@ -19,7 +19,7 @@ use Rattle.bb_shell.proofs.Joins.{outside_joined, outside_refl, some_is, still_o
 use Rattle.bb_shell.proofs.Saves.{save_later, save_outside, save_starts, save_stored}
 use Rattle.bb_shell.specs.Boot.{Round, plan_at}
 use Rattle.bb_shell.specs.Ends.{AddsStart, RaisedBy, StartsOnce, StaysStored, failed_start}
-use Rattle.bb_shell.specs.Running.{IsRoundRun, IsSaveRun, IsStartFailed, IsStartMade, IsTried, StartRuns, is_refused, refusal_of}
+use Rattle.bb_shell.specs.Running.{IsRoundRun, IsSaveRun, IsStartFailed, IsStartMade, IsTried, StartRuns, is_refused_save, refusal_of}
 use Rattle.bb_shell.specs.declared.outcome.Outcome.{Outcome}
 use Rattle.bb_shell.specs.declared.outcome.Outcome.TheVariants.{Refused, Unplanned, Failed, Started}
 
@@ -93,7 +93,7 @@ start_rose (Some plan) Started from to h = h.runs.start_faults ∙ rose_same fro
 told_starts : (first : Told) (from : Device) → from.told ≡ Some first → starts from ≡ Some first.starts
 told_starts first from h = ap (option_map (λ (told : Told). told.starts)) h
 
--- a start behind a step that leaves the starts
+-- a start after a step that leaves the starts
 once_behind : (plan : Plan) (from mid to : Device) → starts mid ≡ starts from → is_some mid.told ≡ is_some from.told →
     to.told ≡ option_map (told_after_start plan) mid.told → StartsOnce from to plan
 once_behind plan from mid to same told done = record {
@@ -129,7 +129,7 @@ start_adds (Some plan) Started from mid to same later h = once_behind plan from 
 true_false : true ≡ false → ⊥
 true_false p = cc
 
-pub unrefused : (outcome : Outcome) → is_refused outcome ≡ false → refusal_of outcome ≡ None
+pub unrefused : (outcome : Outcome) → is_refused_save outcome ≡ false → refusal_of outcome ≡ None
 unrefused (Refused fault) h = absurd (true_false h)
 unrefused Unplanned h = refl
 unrefused Failed h = refl
@@ -138,7 +138,7 @@ unrefused Started h = refl
 -- a round whose save answered Ok
 pub round_ok : (keyed : Keyed) (plans : List (Option Plan)) (kept : List ℕ) (used now : Option ℕ) (target : ℕ)
     (spent table : List ℕ) (outcome : Outcome) (from middle to : Device) →
-    IsSaveRun keyed kept used now spent None from middle → table ≡ spent → is_refused outcome ≡ false →
+    IsSaveRun keyed kept used now spent None from middle → table ≡ spent → is_refused_save outcome ≡ false →
     IsTried (plan_at plans target) outcome middle to →
     IsRoundRun keyed plans kept used now (record { target = target; table = table; outcome = outcome }) from to
 round_ok keyed plans kept used now target spent table outcome from middle to saved same done tried = record {
@@ -174,7 +174,7 @@ module _ (keyed : Keyed) (plans : List (Option Plan)) (kept : List ℕ) (used no
       subst (λ n. RaisedBy (failed_start round.outcome) n to.start_faults) saved.start_faults
       (start_rose (plan_at plans round.target) round.outcome run.middle to run.tried)
 
-  pub round_stored : from.geometry ≡ keyed.layout.geometry → is_refused round.outcome ≡ false → StaysStored keyed kept round.table from to
+  pub round_stored : from.geometry ≡ keyed.layout.geometry → is_refused_save round.outcome ≡ false → StaysStored keyed kept round.table from to
   round_stored geometry done =
       stored_joined keyed kept round.table round.table from run.middle to to_middle
       (save_stored keyed kept used now round.table (refusal_of round.outcome) from run.middle run.saved geometry (unrefused round.outcome done))

@@ -20,7 +20,7 @@ use Rattle.bb_shell.proofs.Reached.{Luck, Passed, Reaches, StopsRefused, begun_c
 use Rattle.bb_shell.proofs.Joins.{some_is}
 use Rattle.bb_shell.proofs.Starts.{round_later, start_changes, start_later, unrefused}
 use Rattle.bb_shell.specs.Boot.{Round, plan_at, table_after}
-use Rattle.bb_shell.specs.Running.{AreRun, IsRoundRun, is_refused}
+use Rattle.bb_shell.specs.Running.{AreRun, IsRoundRun, is_refused_save}
 use Rattle.bb_shell.specs.Stages.{AreAnswered, EachSettled, HasTrail, IsCounted, IsFairRun, IsSettled, KeepsATrail, KeepsAtExit, LeadsTo, StandsIn, first_area, saving_rounds}
 
 some_of : {T : Type 0} → (o : Option T) → is_some o ≡ true → (x : T) × (o ≡ Some x)
@@ -65,7 +65,7 @@ module _ (keyed : Keyed) where
   abbrev Page : ℕ
   Page = keyed.layout.geometry.page
 
-  -- ---- a trail that goes on behind its first milestone
+  -- ---- a trail that goes on after its first milestone
 
   module _ (last : Told) where
     abbrev Since : ℕ → List (Option (List ℕ)) → Type 0
@@ -88,7 +88,7 @@ module _ (keyed : Keyed) where
         } in
         (here, trail)
 
-    -- what stands for a list stands for it with a table behind it too
+    -- what stands for a list stands for it with a table after it too
     longer_one : (h : List (List ℕ)) (a : ℕ) (table : List ℕ) (rest : List Stage) (image : Image) →
         StandsAtOne First (Passed keyed image) (stage h a ∷ stage (h ++ table ∷ []) a ∷ rest) →
         StandsAtOne First (Passed keyed image) (stage (h ++ table ∷ []) a ∷ rest)
@@ -111,7 +111,7 @@ module _ (keyed : Keyed) where
     }
 
     refused_trail : (from to : Device) (first : Told) (h : List (List ℕ)) (a : ℕ) (round : Round) → IsLater from to →
-        is_refused round.outcome ≡ true → moment first ≤ moment last →
+        is_refused_save round.outcome ≡ true → moment first ≤ moment last →
         StandSince (moment first) (reached_by h a (round ∷ [])) → TrailBy from to first h a (round ∷ [])
     unfolding AreAnswered trail_of
     refused_trail from to first h a round later refused past stand =
@@ -128,10 +128,10 @@ module _ (keyed : Keyed) where
               (in_front longer_list a (moment first) [] past (λ image counts. longer_one h a round.table [] image (stands image counts)) tt);
         }
 
-    -- a save that answered Ok, and a trail behind it
+    -- a save that answered Ok, and a trail after it
     made_trail : (from done to : Device) (used : Option ℕ) (first mid : Told) (h : List (List ℕ)) (a : ℕ) (round : Round) (saving : List Round) →
         IsStored keyed round.table used from done → ForSome done.told (λ told. moment told ≡ moment mid) →
-        is_refused round.outcome ≡ false → moment first ≤ moment mid →
+        is_refused_save round.outcome ≡ false → moment first ≤ moment mid →
         StandSince (moment first) (reached_by h a (round ∷ saving)) →
         TrailBy done to mid (h ++ round.table ∷ []) (a + 1) saving → TrailBy from to first h a (round ∷ saving)
     unfolding AreAnswered trail_of
@@ -255,7 +255,7 @@ module _ (keyed : Keyed) where
           trail_at behind same =
               subst (λ n. IsTrail (IsCounted keyed last) (moment last) First (trail_of h a n (map (λ (r : Round). r.table) (saving_rounds round.table later)) behind.answered)) same behind.trail
 
-      refused_one : bytes_eq round.table kept ≡ false → is_refused round.outcome ≡ true →
+      refused_one : bytes_eq round.table kept ≡ false → is_refused_save round.outcome ≡ true →
           TrailBy last from to first h a (saving_rounds kept (round ∷ later))
       refused_one e refused =
           let alone : saving_rounds kept (round ∷ later) ≡ round ∷ [] =
@@ -264,7 +264,7 @@ module _ (keyed : Keyed) where
           (refused_trail last from to first h a round whole refused past
           (subst (λ rs. StandSince last (moment first) (reached_by h a rs)) alone stand_here))
 
-      made_one : bytes_eq round.table kept ≡ false → is_refused round.outcome ≡ false →
+      made_one : bytes_eq round.table kept ≡ false → is_refused_save round.outcome ≡ false →
           TrailBy last from to first h a (saving_rounds kept (round ∷ later))
       made_one e done =
           let begun = begun_saving kept round later e in
@@ -287,7 +287,7 @@ module _ (keyed : Keyed) where
           (told_order from device first next.0 early here next.1)
           (subst (λ rs. StandSince last (moment first) (reached_by h a rs)) begun stand_here) here_on)
 
-      one_trail : (same : Bool) → bytes_eq round.table kept ≡ same → (refused : Bool) → is_refused round.outcome ≡ refused →
+      one_trail : (same : Bool) → bytes_eq round.table kept ≡ same → (refused : Bool) → is_refused_save round.outcome ≡ refused →
           TrailBy last from to first h a (saving_rounds kept (round ∷ later))
       one_trail true e refused done = idle_trail e
       one_trail false e true refused = refused_one e refused
@@ -295,7 +295,7 @@ module _ (keyed : Keyed) where
 
     pub round_trails : Trails kept used (saving_rounds kept (round ∷ later)) from to
     round_trails first here last there h a settled =
-        one_trail first last here there h a settled (bytes_eq round.table kept) refl (is_refused round.outcome) refl
+        one_trail first last here there h a settled (bytes_eq round.table kept) refl (is_refused_save round.outcome) refl
 
   pub rounds_trails : (plans : List (Option Plan)) (rounds : List Round) (kept : List ℕ) (used now : Option ℕ) (from to : Device) →
       from.geometry ≡ keyed.layout.geometry → StopsRefused rounds → AreRun keyed plans kept used now rounds from to →
@@ -364,7 +364,7 @@ module _ (keyed : Keyed) where
           subst (LeadsBy end now first last h a) (sym (idle_saving kept round later e))
           (record { stands = λ fair. behind.stands (fair_behind fair); settled = behind.settled })
 
-      refused_leads : bytes_eq round.table kept ≡ false → is_refused round.outcome ≡ true →
+      refused_leads : bytes_eq round.table kept ≡ false → is_refused_save round.outcome ≡ true →
           LeadsBy end now first last h a (saving_rounds kept (round ∷ later))
       refused_leads e refused =
           let none : later ≡ [] = stops.0 refused in
@@ -383,7 +383,7 @@ module _ (keyed : Keyed) where
             settled = λ all. absurd (let no : count_by is_made (round ∷ []) ≡ 1 = all in omega (arith, made, no));
           })
 
-      made_leads : bytes_eq round.table kept ≡ false → is_refused round.outcome ≡ false →
+      made_leads : bytes_eq round.table kept ≡ false → is_refused_save round.outcome ≡ false →
           LeadsBy end now first last h a (saving_rounds kept (round ∷ later))
       made_leads e done =
           let saving = saving_rounds round.table later in
@@ -406,7 +406,7 @@ module _ (keyed : Keyed) where
                 (subst (λ l. IsSettled keyed end now last.image l (a + 1 + count_by is_made saving)) list (behind.settled fewer));
           })
 
-      one_leads : (same : Bool) → bytes_eq round.table kept ≡ same → (refused : Bool) → is_refused round.outcome ≡ refused →
+      one_leads : (same : Bool) → bytes_eq round.table kept ≡ same → (refused : Bool) → is_refused_save round.outcome ≡ refused →
           LeadsBy end now first last h a (saving_rounds kept (round ∷ later))
       one_leads true e refused done = idle_leads e
       one_leads false e true refused = refused_leads e refused
@@ -415,7 +415,7 @@ module _ (keyed : Keyed) where
     pub round_leads : Leads (table_after kept (round ∷ later)) kept used now (saving_rounds kept (round ∷ later)) from to
     round_leads = λ first here last there h a settled.
         subst (λ t. LeadsBy t now first last h a (saving_rounds kept (round ∷ later))) (sym (table_cons kept round later))
-        (one_leads first last here there h a settled (bytes_eq round.table kept) refl (is_refused round.outcome) refl)
+        (one_leads first last here there h a settled (bytes_eq round.table kept) refl (is_refused_save round.outcome) refl)
 
   pub rounds_leads : (plans : List (Option Plan)) (rounds : List Round) (kept : List ℕ) (used now : Option ℕ) (from to : Device) →
       from.geometry ≡ keyed.layout.geometry → StopsRefused rounds → AreRun keyed plans kept used now rounds from to →

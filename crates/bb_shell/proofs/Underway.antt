@@ -1,4 +1,4 @@
--- Rounds that were run so far, behind which more may come.
+-- Rounds that were run so far, after which more may come.
 use Rattle.std.proofs.Common.{◌≡◌, ℕ, ◌+◌, ◌-◌, Bool, true, false, List, [], ◌∷◌, ◌++◌, Option, Some, ap, append_assoc, arith, length, length-append, refl, sym, subst, ◌∙◌}
 use Rattle.std.proofs.lemmas.List.Sums.{sum_by_push}
 use Rattle.std.specs.Prelude.{MatchBool, slice_get}

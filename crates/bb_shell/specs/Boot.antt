@@ -1,6 +1,6 @@
 -- What a boot does: round by round it spends an attempt of the best target, saves that, and starts
--- the target (barebox User Manual, Bootchooser). What saves and starts answer is part of a round, so
--- that the rest follows from it.
+-- the target (barebox User Manual, Bootchooser). What saves and starts answer is part of a round,
+-- so that the rest follows from it.
 use Rattle.std.specs.Prelude.{◌≡◌, ℕ, ◌-◌, ◌&&◌, ⊤, Bool, true, false, List, [], ◌∷◌, length, slice_get, Option, IsNone, IsSome, MatchBool, if◌then◌else◌, sum_by}
 use Rattle.std.specs.Option.{option_and_then, option_map_or}
 use Rattle.bb_flash.specs.declared.plan.Plan.{Plan}
@@ -52,12 +52,12 @@ has_failed Started = false
 abbrev pub NoneQualifies : Binding → List ℕ → Type 0
 NoneQualifies b table = (target : ℕ) → Qualifies b table target → ⊥
 
--- behind a round another is tried where it failed and the settings say so
+-- after a round another is tried where it failed and the settings say so
 abbrev pub is_retried : Binding → Outcome → Bool
 is_retried b outcome = b.rules.retry && has_failed outcome
 
 -- All rounds that come from a table on. There is none exactly where no target qualifies, and none
--- follows one behind which no other is tried.
+-- follows one after which no other is tried.
 unfoldable pub AreRounds : Binding → List (Option Plan) → List ℕ → List Round → Type 0
 AreRounds b plans table [] = NoneQualifies b table
 AreRounds b plans table (round ∷ later) =
@@ -77,7 +77,7 @@ all_attempts b table = sum_by (λ t. number_at table t.attempts_at) b.targets
 abbrev pub last_round : List Round → Option Round
 last_round rounds = slice_get rounds (length rounds - 1)
 
--- the end that a round brings behind which none follows, where so many were tried
+-- the end that a round brings after which none follows, where so many were tried
 abbrev pub end_by : Binding → ℕ → Round → Outcome → BootEnd
 end_by b tries round (Refused fault) = ends.Fault fault
 end_by b tries round Unplanned = ends.StartFailed round.target tries
@@ -85,8 +85,8 @@ end_by b tries round Failed = ends.StartFailed round.target tries
 end_by b tries round Started =
     ends.Started round.target (attempts_of b round.table round.target) tries
 
-abbrev pub end_of : Binding → List Round → BootEnd
-end_of b rounds =
+abbrev pub boot_end : Binding → List Round → BootEnd
+boot_end b rounds =
     option_map_or (λ round. end_by b (length rounds) round round.outcome) (last_round rounds)
     ends.NoTarget
 

@@ -7,7 +7,7 @@ use Rattle.bb_chooser.specs.Binding.{Binding, IsBinding}
 use Rattle.bb_chooser.specs.Choosing.{number_at}
 use Rattle.bb_chooser.specs.Resets.{reset_of}
 use Rattle.bb_chooser.specs.declared.cause.Cause.{Cause}
-use Rattle.bb_copies.specs.Chronicle.{Chronicle, Content, CutOff, Decayed, Entry, Event, Finished, IsStanding, Loaded, Looked, Turn, Unloaded, Untouched, loaded_in}
+use Rattle.bb_copies.specs.Chronicle.{Chronicle, Content, CutOff, Decayed, ChronicleEntry, Event, Finished, IsStanding, Loaded, Looked, Turn, Unloaded, Untouched, loaded_in}
 use Rattle.bb_flash.specs.declared.plan.Plan.{Plan}
 use Rattle.bb_shell.specs.Boot.{Round, first_table, last_round}
 use Rattle.bb_shell.specs.Rounds.{RoundAnswer, is_started, rounds_by}
@@ -28,9 +28,9 @@ turn_of_rounds place table rounds =
     Loaded place (saves_of table rounds) (made_of table rounds) (target_started rounds)
 
 -- A boot by these files did this with a content: no load answered Ok; or one did, and the rounds
--- behind it came of some answers. Of a boot that was cut they are those that it had had by then,
+-- after it came of some answers. Of a boot that was cut they are those that it had had by then,
 -- and a save that it had begun is one that was refused.
-pub record IsBootBehind (b : Binding) (cause : Cause) (plans : List (Option Plan))
+pub record IsBootAfter (b : Binding) (cause : Cause) (plans : List (Option Plan))
     (before : Content) (place : ℕ) (saves : List (List ℕ)) (ok : ℕ) (started : Option ℕ)
     : Type 0 where
   pub table : List ℕ
@@ -46,7 +46,7 @@ IsBootTurn b cause plans before Untouched = Unit {0}
 IsBootTurn b cause plans before Looked = Unit {0}
 IsBootTurn b cause plans before Unloaded = Unit {0}
 IsBootTurn b cause plans before (Loaded place saves ok started) =
-    IsBootBehind b cause plans before place saves ok started
+    IsBootAfter b cause plans before place saves ok started
 
 abbrev pub IsBootEvent : Binding → Cause → List (Option Plan) → Content → Event → Type 0
 IsBootEvent b cause plans before (Finished turn) = IsBootTurn b cause plans before turn
@@ -69,7 +69,7 @@ pub record IsPowerOn (b : Binding) (plans : List (Option Plan)) (before : Conten
   pub stays : StaysReset b cause before event
 
 -- so is each, one after another
-unfoldable pub AreBoots : Binding → List (Option Plan) → Content → List Entry → Type 0
+unfoldable pub AreBoots : Binding → List (Option Plan) → Content → List ChronicleEntry → Type 0
 AreBoots b plans before [] = Unit {0}
 AreBoots b plans before (entry ∷ later) =
     IsPowerOn b plans before entry.event × AreBoots b plans entry.content later
@@ -86,7 +86,7 @@ starts_in (CutOff turn) = turn_starts turn
 starts_in Decayed = false
 
 -- how many systems were started
-abbrev pub starts_of : List Entry → ℕ
+abbrev pub starts_of : List ChronicleEntry → ℕ
 starts_of entries = count_by (λ entry. starts_in entry.event) entries
 
 -- the attempts of the targets that are enabled: those with a priority above 0
@@ -97,7 +97,7 @@ enabled_attempts b table =
     b.targets
 
 -- the table that the first load that answered Ok gave, if one did
-unfoldable pub first_loaded : Content → List Entry → Option (List ℕ)
+unfoldable pub first_loaded : Content → List ChronicleEntry → Option (List ℕ)
 first_loaded before [] = None
 first_loaded before (entry ∷ later) =
     option_map_or (slice_get before.areas) (loaded_in entry.event)
@@ -110,7 +110,7 @@ first_loaded before (entry ∷ later) =
 abbrev pub AttemptsLaw : Type 0
 AttemptsLaw =
     (b : Binding) (plans : List (Option Plan)) (first table : List ℕ)
-    (before : Content) (entries : List Entry) →
+    (before : Content) (entries : List ChronicleEntry) →
     IsBinding b →
     IsStanding first before →
     Chronicle first before entries →
@@ -121,7 +121,7 @@ AttemptsLaw =
 -- and where no load answered Ok, no system is started
 abbrev pub NoLoadLaw : Type 0
 NoLoadLaw =
-    (b : Binding) (plans : List (Option Plan)) (before : Content) (entries : List Entry) →
+    (b : Binding) (plans : List (Option Plan)) (before : Content) (entries : List ChronicleEntry) →
     AreBoots b plans before entries →
     first_loaded before entries ≡ None →
     starts_of entries ≡ 0

@@ -12,9 +12,9 @@ use Rattle.bb_flash.specs.Device.{Device, content, starts}
 use Rattle.bb_layout.specs.Layout.{Laid}
 use Rattle.bb_state.specs.Keyed.{Keyed}
 use Rattle.bb_state.specs.Kinds.{laid_passings}
-use Rattle.bb_state.specs.State.{IsOn, is_sure, kept_of, keyed_of, laid_of, used_of}
+use Rattle.bb_state.specs.State.{IsOn, is_sure, last_table_of, keyed_of, laid_of, used_of}
 use Rattle.bb_state.specs.declared.state.State.{State}
-use Rattle.bb_shell.specs.Boot.{AreRounds, Round, end_by, end_of, plan_at, table_after}
+use Rattle.bb_shell.specs.Boot.{AreRounds, Round, end_by, boot_end, plan_at, table_after}
 use Rattle.bb_shell.specs.Running.{AreRun}
 use Rattle.bb_shell.specs.Stages.{KeepsATrail, KeepsAtExit}
 use Rattle.bb_shell.specs.declared.boot_end.BootEnd.{BootEnd}
@@ -35,7 +35,7 @@ pub record IsReady (b : Binding) (state : State) (device : Device) : Type 0 wher
   pub on : IsOn state device
   pub bound : IsBoundIn b (laid_of state)
 
--- ---- behind
+-- ---- after
 
 abbrev pub is_failed_start : Outcome → Bool
 is_failed_start (Refused fault) = false
@@ -55,8 +55,8 @@ RaisedBy rise before now = now ≡ max before (min (before + rise) (2 ^ 64 - 1))
 abbrev pub failed_starts : List Round → ℕ
 failed_starts rounds = count_by (λ round. is_failed_start round.outcome) rounds
 
--- Rounds were run from this table on, and the last one brought this end. The table is the one that it
--- left, which is also the one that was last saved.
+-- Rounds were run from this table on, and the last one brought this end. The table is the one that
+-- it left, which is also the one that was last saved.
 pub record HaveRun
     (b : Binding) (plans : List (Option Plan)) (before after : State) (from to : Device)
     (end : BootEnd) : Type 0 where
@@ -64,29 +64,30 @@ pub record HaveRun
   pub last : Round
   pub are : AreRounds b plans before.table (earlier ++ last ∷ [])
   pub run :
-      AreRun (keyed_of before) plans (kept_of before) (used_of before) (used_of after)
+      AreRun (keyed_of before) plans (last_table_of before) (used_of before) (used_of after)
       (earlier ++ last ∷ []) from to
   pub end_is : end ≡ end_by b (length earlier + 1) last last.outcome
   pub table : after.table ≡ last.table
-  pub kept : is_sure after ≡ true → kept_of after ≡ last.table
+  pub kept : is_sure after ≡ true → last_table_of after ≡ last.table
   pub start_faults : RaisedBy (failed_starts (earlier ++ last ∷ [])) from.start_faults to.start_faults
 
--- Some rounds came from the first table, to this end. The device is what their saves and starts made
--- of it, and the table is the last one that they left, which is also the one that was last saved.
+-- Some rounds came from the first table, to this end. The device is what their saves and starts
+-- made of it, and the table is the last one that they left, which is also the one that was last
+-- saved.
 pub record IsBooted
     (b : Binding) (plans : List (Option Plan)) (first : List ℕ) (before after : State)
     (from to : Device) (end : BootEnd) : Type 0 where
   pub rounds : List Round
   pub are : AreRounds b plans first rounds
   pub run :
-      AreRun (keyed_of before) plans (kept_of before) (used_of before) (used_of after) rounds from to
-  pub end_is : end ≡ end_of b rounds
+      AreRun (keyed_of before) plans (last_table_of before) (used_of before) (used_of after) rounds from to
+  pub end_is : end ≡ boot_end b rounds
   pub table : after.table ≡ table_after before.table rounds
-  pub kept : is_sure after ≡ true → kept_of after ≡ table_after (kept_of before) rounds
+  pub kept : is_sure after ≡ true → last_table_of after ≡ table_after (last_table_of before) rounds
   -- what the copies stand for, in each image on the way and at exit
-  pub trail : KeepsATrail (keyed_of before) (kept_of before) (used_of before) rounds from to
+  pub trail : KeepsATrail (keyed_of before) (last_table_of before) (used_of before) rounds from to
   pub exit :
-      KeepsAtExit (keyed_of before) (kept_of before) (used_of before) (used_of after) rounds from to
+      KeepsAtExit (keyed_of before) (last_table_of before) (used_of before) (used_of after) rounds from to
   pub start_faults : RaisedBy (failed_starts rounds) from.start_faults to.start_faults
 
 -- nothing was saved or started, and the table is the one before any reset
@@ -128,15 +129,15 @@ StaysStored keyed kept now from to =
     EachPassesOrNothing kept (laid_passings keyed before) →
     EachPassesOrNothing now (laid_passings keyed after)))
 
-abbrev pub is_fault : BootEnd → Bool
-is_fault (ends.Started target left tries) = false
-is_fault ends.NoTarget = false
-is_fault (ends.StartFailed target tries) = false
-is_fault (ends.Fault fault) = true
+abbrev pub is_fault_end : BootEnd → Bool
+is_fault_end (ends.Started target left tries) = false
+is_fault_end ends.NoTarget = false
+is_fault_end (ends.StartFailed target tries) = false
+is_fault_end (ends.Fault fault) = true
 
 -- the cause of an end that brings a refusal: a copy couldn't be written; the last target has no
 -- plan, or a start failed
-pub record IsWriteFault (fault : CopyFault) : Type 0 where
+pub record EndsByWriteFault (fault : CopyFault) : Type 0 where
   pub copy : ℕ
   pub is : fault ≡ WriteFault copy
 
@@ -145,4 +146,4 @@ HasEndCause plans from to (ends.Started target left tries) = Unit {0}
 HasEndCause plans from to ends.NoTarget = Unit {0}
 HasEndCause plans from to (ends.StartFailed target tries) =
     IsNone (plan_at plans target) ⊎ Rose from.start_faults to.start_faults
-HasEndCause plans from to (ends.Fault fault) = IsWriteFault fault
+HasEndCause plans from to (ends.Fault fault) = EndsByWriteFault fault

@@ -36,11 +36,11 @@ abbrev pub EntryAnswer : Type 0
 EntryAnswer = Result (Option (List ℕ)) FileFail
 
 -- the plan of a target by what reading its entry's file gave, or why there are no plans
-abbrev pub plan_for : ℕ → EntryAnswer → Result (Option Plan) PlanFault
-plan_for target (Ok text) = Ok (plan_by target text)
-plan_for target (Err file_fails.Fault) = Err (FileFault target)
-plan_for target (Err file_fails.TooLong) = Err (FileTooLong target)
-plan_for target (Err file_fails.NoMemory) = Err NoMemory
+abbrev pub start_plan_for : ℕ → EntryAnswer → Result (Option Plan) PlanFault
+start_plan_for target (Ok text) = Ok (plan_by target text)
+start_plan_for target (Err file_fails.Fault) = Err (FileFault target)
+start_plan_for target (Err file_fails.TooLong) = Err (FileTooLong target)
+start_plan_for target (Err file_fails.NoMemory) = Err NoMemory
 
 -- ---- all targets
 
@@ -48,7 +48,7 @@ plan_for target (Err file_fails.NoMemory) = Err NoMemory
 -- read decides
 abbrev pub plans_by : List EntryAnswer → Result (List (Option Plan)) PlanFault
 plans_by answers =
-    all_ok (map (λ entry. plan_for entry.0 entry.1) (enumerate_from 0 answers))
+    all_ok (map (λ entry. start_plan_for entry.0 entry.1) (enumerate_from 0 answers))
 
 -- the name of each target's entry file
 abbrev pub entries_of : Binding → List (List ℕ)
@@ -106,4 +106,4 @@ pub record IsPlanOf
       ForSome before.told
       (λ files.
       ForSome (slice_get (entries_of b) target) (λ name. IsAnswerOf answer (file_of files name)))
-  pub gives : given ≢ Err NoMemory → given ≡ plan_for target answer
+  pub gives : given ≢ Err NoMemory → given ≡ start_plan_for target answer

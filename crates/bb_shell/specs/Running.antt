@@ -3,7 +3,7 @@ use Rattle.std.specs.Prelude.{◌≡◌, ◌≢◌, ℕ, Bool, true, false, not,
 use Rattle.std.specs.Str.{bytes_eq}
 use Rattle.bb_base.specs.Faults.{counted}
 use Rattle.bb_copies.specs.Saving.{EachWritten, SaveFails, SaveRuns}
-use Rattle.bb_copies.specs.Settling.{IsUndisturbed}
+use Rattle.bb_copies.specs.Settling.{NothingFails}
 use Rattle.bb_copies.specs.declared.answers.CopyFault.{CopyFault}
 use Rattle.bb_copies.specs.declared.answers.CopyFault.TheVariants.{Unsure}
 use Rattle.bb_flash.specs.declared.plan.Plan.{Plan}
@@ -26,11 +26,11 @@ refusal_of Unplanned = None
 refusal_of Failed = None
 refusal_of Started = None
 
-abbrev pub is_refused : Outcome → Bool
-is_refused outcome = is_some (refusal_of outcome)
+abbrev pub is_refused_save : Outcome → Bool
+is_refused_save outcome = is_some (refusal_of outcome)
 
 -- The table is the one that was last loaded or saved: no call of the device is made.
-pub record IsIdle
+pub record SavesNothing
     (used now : Option ℕ) (refusal : Option CopyFault) (from to : Device) : Type 0 where
   pub device : to ≡ from
   pub copy : now ≡ used
@@ -46,14 +46,14 @@ pub record IsBegun
   pub fails : IfSome refusal (SaveFails (laid_form keyed) (laid_kinds keyed.layout) used table from to)
   pub sure : IfSome refusal (λ fault. fault ≢ Unsure)
   pub exact :
-      IsUndisturbed from to →
+      NothingFails from to →
       IfNone refusal (EachWritten (laid_kinds keyed.layout) ((laid_form keyed).text table) from to)
 
 -- a table was to be saved where `kept` was last loaded or saved
 pub record IsSaveRun
     (keyed : Keyed) (kept : List ℕ) (used now : Option ℕ) (table : List ℕ)
     (refusal : Option CopyFault) (from to : Device) : Type 0 where
-  pub idle : bytes_eq table kept ≡ true → IsIdle used now refusal from to
+  pub idle : bytes_eq table kept ≡ true → SavesNothing used now refusal from to
   pub begun : bytes_eq table kept ≡ false → IsBegun keyed used now table refusal from to
 
 -- ---- the start of a round
@@ -100,7 +100,7 @@ pub record Between (P Q : Option ℕ → Device → Type 0) : Type 0 where
   pub behind : Q copy device
 
 -- The rounds were run one after another. `kept` was last loaded or saved before them, and `used` is
--- the copy that is used before them, `now` the one behind them.
+-- the copy that is used before them, `now` the one after them.
 unfoldable pub AreRun :
     Keyed → List (Option Plan) → List ℕ → Option ℕ → Option ℕ → List Round → Device → Device → Type 0
 AreRun keyed plans kept used now [] from to = (now ≡ used) × (to ≡ from)

@@ -1,6 +1,6 @@
 -- How far the saves of a boot came, and since when: what the copies stand for at its end, and in
 -- each image that a cut of power leaves on the way. It goes on after a load or a save that answered
--- Ok, and another call's stages go on behind it.
+-- Ok, and another call's stages go on after it.
 use Rattle.std.specs.Prelude.{◌≡◌, ℕ, ◌+◌, List, [], ◌∷◌, ◌++◌, length, take, map, count_by, slice_get, not, Option, Some, if◌then◌else◌}
 use Rattle.std.specs.Option.{ForSome}
 use Rattle.std.specs.Str.{bytes_eq}
@@ -18,7 +18,7 @@ use Rattle.bb_state.specs.Keyed.{Keyed}
 use Rattle.bb_state.specs.Kinds.{laid_passings}
 use Rattle.bb_state.specs.State.{IsStored}
 use Rattle.bb_shell.specs.Boot.{Round, table_after}
-use Rattle.bb_shell.specs.Running.{is_refused}
+use Rattle.bb_shell.specs.Running.{is_refused_save}
 
 -- ---- the saves of rounds
 
@@ -36,11 +36,11 @@ saves_of kept rounds = map (λ round. round.table) (saving_rounds kept rounds)
 
 -- how many of these saves answered Ok
 abbrev pub made_of : List ℕ → List Round → ℕ
-made_of kept rounds = count_by (λ round. not (is_refused round.outcome)) (saving_rounds kept rounds)
+made_of kept rounds = count_by (λ round. not (is_refused_save round.outcome)) (saving_rounds kept rounds)
 
 -- ---- stages
 
--- The stages that saves reach behind a list of areas of which the one at `a` is acknowledged. So
+-- The stages that saves reach after a list of areas of which the one at `a` is acknowledged. So
 -- many of them answered Ok: one that wasn't acknowledged is the last.
 abbrev pub stages_reached : List (List ℕ) → ℕ → List (List ℕ) → ℕ → List Stage
 stages_reached h a saves ok =
@@ -79,7 +79,7 @@ EachSettled keyed kept used from to P =
 
 -- A save of this area answered Ok at this moment, after calls that may have come from a device on,
 -- as `IsStored` knows it, and `Next` holds of the device that it left.
-pub record IsAnswered (keyed : Keyed) (area : List ℕ) (from : Device) (when : ℕ)
+pub record IsAnsweredAt (keyed : Keyed) (area : List ℕ) (from : Device) (when : ℕ)
     (Next : Device → Type 0) : Type 0 where
   pub begun : Device
   pub done : Device
@@ -95,7 +95,7 @@ unfoldable pub AreAnswered : Keyed → Device → Device → List (List ℕ) →
 AreAnswered keyed from end areas [] = IsLater from end
 AreAnswered keyed from end [] (when ∷ answered) = ⊥
 AreAnswered keyed from end (area ∷ areas) (when ∷ answered) =
-    IsAnswered keyed area from when (λ done. AreAnswered keyed done end areas answered)
+    IsAnsweredAt keyed area from when (λ done. AreAnswered keyed done end areas answered)
 
 -- of an image that the copies have at the end, or that a cut left since a moment: what they pass
 pub record IsCounted (keyed : Keyed) (told : Told) (since : ℕ) (passed : List (Option (List ℕ)))
@@ -125,8 +125,8 @@ abbrev pub IsFairRun : Keyed → Told → Told → Type 0
 IsFairRun keyed first last =
     IsFair (IsLucky (laid_passings keyed)) last (moment first) (moment last)
 
--- In a fair run the copies stand for the list with the saves behind it. Where each of these answered
--- Ok the last table is acknowledged, and another save may go on behind it.
+-- In a fair run the copies stand for the list with the saves after it. Where each of these answered
+-- Ok the last table is acknowledged, and another save may go on after it.
 pub record LeadsTo (keyed : Keyed) (kept : List ℕ) (used : Option ℕ) (first last : Told)
     (h : List (List ℕ)) (a : ℕ) (saves : List (List ℕ)) (ok : ℕ) : Type 0 where
   pub stands : IsFairRun keyed first last → StandsIn keyed last.image (h ++ saves) (a + ok)
@@ -135,15 +135,16 @@ pub record LeadsTo (keyed : Keyed) (kept : List ℕ) (used : Option ℕ) (first 
 
 -- ---- of a boot
 
--- Each image that counts since the boot began stands for a stage that its saves had reached by then,
--- or for a later one. `kept` was loaded or saved last before it, and `used` is the copy that passed it.
+-- Each image that counts since the boot began stands for a stage that its saves had reached by
+-- then, or for a later one. `kept` was loaded or saved last before it, and `used` is the copy that
+-- passed it.
 abbrev pub KeepsATrail : Keyed → List ℕ → Option ℕ → List Round → Device → Device → Type 0
 KeepsATrail keyed kept used rounds from to =
     EachSettled keyed kept used from to
     (λ first last h a. HasTrail keyed from to first last h a (saves_of kept rounds)
     (made_of kept rounds))
 
--- at exit the copies stand for the list with the tables of its rounds behind it; `now` is the copy
+-- at exit the copies stand for the list with the tables of its rounds after it; `now` is the copy
 -- that is used then
 abbrev pub KeepsAtExit : Keyed → List ℕ → Option ℕ → Option ℕ → List Round → Device → Device → Type 0
 KeepsAtExit keyed kept used now rounds from to =

@@ -8,8 +8,8 @@ ghost use Rattle.bb_copies.specs.Loading.{KeepsOutside};
 ghost use Rattle.bb_flash.specs.Cuts.{IsLater};
 ghost use Rattle.bb_shell.specs.Boot.{NoneQualifies, all_attempts, end_by, first_table, is_retried};
 ghost use Rattle.bb_shell.specs.Ends.{AddsStarts, HasEndCause, HaveRun, IsBooted, IsReady};
-ghost use Rattle.bb_shell.specs.Ends.{IsUnchanged, StaysStored, is_fault};
-ghost use Rattle.bb_state.specs.State.{IsOn, is_sure, kept_of, keyed_of};
+ghost use Rattle.bb_shell.specs.Ends.{IsUnchanged, StaysStored, is_fault_end};
+ghost use Rattle.bb_state.specs.State.{IsOn, is_sure, last_table_of, keyed_of};
 ghost use Rattle.bb_state.specs.State.{kinds_of};
 
 use crate::boot_end::BootEnd;
@@ -20,11 +20,12 @@ use bb_flash::{Board, PlanList};
 use bb_state::State;
 use bb_vars::Table;
 
-/// Boots: resets where the boot is the session's first, then chooses the best target, spends one of its attempts, saves
-/// that, and starts it by its plan. A reset is saved together with the first attempt, by one save. Where the target has
-/// no plan or its start fails, and the settings have `retry`, it goes on with the table as it now is. Where no target
-/// qualifies at first, nothing is changed. The state's last load or save answered Ok, and the chooser was bound to its
-/// layout. It takes no memory.
+/// Boots: resets where the boot is the session's first, then chooses the best target, spends one of
+/// its attempts, saves that, and starts it by its plan. A reset is saved together with the first
+/// attempt, by one save. Where the target has no plan or its start fails, and the settings have
+/// `retry`, it goes on with the table as it now is. Where no target qualifies at first, nothing is
+/// changed. The state's last load or save answered Ok, and the chooser was bound to its layout. It
+/// takes no memory.
 pub fn boot_run<B: Board>(
     state: &mut State,
     chooser: &Chooser,
@@ -48,14 +49,14 @@ pub fn boot_run<B: Board>(
     // At most one start, and what the copies then hold.
     ensures starts { AddsStarts plans.now (B.device board.old) (B.device board.new) result }
     ensures stored { is_sure state.new ≡ true
-        → StaysStored (keyed_of state.old) (kept_of state.old) (kept_of state.new)
+        → StaysStored (keyed_of state.old) (last_table_of state.old) (last_table_of state.new)
         (B.device board.old) (B.device board.new) }
 
     // What stays.
     ensures outside { KeepsOutside (kinds_of state.old) (B.device board.old) (B.device board.new) }
     ensures later { IsLater (B.device board.old) (B.device board.new) }
     ensures keyed { keyed_of state.new ≡ keyed_of state.old }
-    ensures sure { is_sure state.new ≡ not (is_fault result) }
+    ensures sure { is_sure state.new ≡ not (is_fault_end result) }
     ensures on { IsOn state.new (B.device board.new) }
 {
     let Some(target) = first_target(chooser, &state.table, cause, first) else {
@@ -105,7 +106,8 @@ fn attempts_in(chooser: &Chooser, table: &Table) -> u64
     attempts
 }
 
-// All rounds from the best target on. Each spends an attempt, so they are no more than the attempts.
+// All rounds from the best target on. Each spends an attempt, so they are no more than the
+// attempts.
 fn run_rounds<B: Board>(
     state: &mut State,
     chooser: &Chooser,
@@ -120,12 +122,12 @@ fn run_rounds<B: Board>(
     ensures cause { HasEndCause plans.now (B.device board.old) (B.device board.new) result }
     ensures starts { AddsStarts plans.now (B.device board.old) (B.device board.new) result }
     ensures stored { is_sure state.new ≡ true
-        → StaysStored (keyed_of state.old) (kept_of state.old) (kept_of state.new)
+        → StaysStored (keyed_of state.old) (last_table_of state.old) (last_table_of state.new)
         (B.device board.old) (B.device board.new) }
     ensures outside { KeepsOutside (kinds_of state.old) (B.device board.old) (B.device board.new) }
     ensures later { IsLater (B.device board.old) (B.device board.new) }
     ensures keyed { keyed_of state.new ≡ keyed_of state.old }
-    ensures sure { is_sure state.new ≡ not (is_fault result) }
+    ensures sure { is_sure state.new ≡ not (is_fault_end result) }
     ensures on { IsOn state.new (B.device board.new) }
 {
     let attempts = attempts_in(chooser, &state.table);
@@ -140,7 +142,7 @@ fn run_rounds<B: Board>(
     unreachable!()
 }
 
-// The target of the next round, behind one of which this came, where another is tried.
+// The target of the next round, after one of which this came, where another is tried.
 fn next_target(chooser: &Chooser, table: &Table, outcome: Outcome) -> Option<usize>
     requires { length table.now ≡ chooser.now.area_len }
     ensures best { IfSome result (IsBest chooser.now table.now) }

@@ -1,5 +1,6 @@
-//! The boot sequence: the plan of each target, and the rounds in which an attempt is spent, saved, and only then the
-//! target is started (barebox User Manual, Bootchooser). Sessions stand on it; it knows no words of a command.
+//! The boot sequence: the plan of each target, and the rounds in which an attempt is spent, saved,
+//! and only then the target is started (barebox User Manual, Bootchooser). Sessions stand on it; it
+//! knows no words of a command.
 #![tactic(auto)]
 
 mod boot;

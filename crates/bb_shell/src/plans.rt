@@ -14,9 +14,9 @@ use bb_chooser::Chooser;
 use bb_flash::{Plan, PlanList};
 use std::alloc::Global;
 
-/// The plan of each target, from its entry's file, in order. A target whose file isn't there, or is no entry, has no
-/// plan. The first file that can't be read decides: FileFault where a fault was counted, and FileTooLong exactly
-/// where the file has more than 1,048,576 bytes.
+/// The plan of each target, from its entry's file, in order. A target whose file isn't there, or is
+/// no entry, has no plan. The first file that can't be read decides: FileFault where a fault was
+/// counted, and FileTooLong exactly where the file has more than 1,048,576 bytes.
 pub fn read_plans<F: Files>(
     alloc: Global,
     chooser: &Chooser,

@@ -29,7 +29,7 @@ first_cons : {X : Type 0} (o : Option X) (xs : List X) → slice_get (cons_optio
 first_cons None xs = refl
 first_cons (Some x) xs = refl
 
--- the first that is given for an item is what the next item gives, or else the first behind it
+-- the first that is given for an item is what the next item gives, or else the first after it
 pub first_next : {X Y : Type 0} (f : X → Option Y) (xs : List X) (i : ℕ) (x : X) → slice_get xs i ≡ Some x
     → slice_get (filter_map f (drop i xs)) 0 ≡ option_or (f x) (slice_get (filter_map f (drop (i + 1) xs)) 0)
 first_next f xs i x h =

@@ -29,7 +29,7 @@ use Rattle.bb_layout.specs.declared.format_kind.FormatKind.TheVariants.{Dtb, Raw
 use Rattle.bb_layout.specs.declared.storage.Storage.{Storage}
 use Rattle.bb_layout.specs.declared.storage.Storage.TheVariants.{Stride, OneBlock, Circular}
 use Rattle.bb_state.specs.Keyed.{FitsKey, Keyed}
-use Rattle.bb_state.specs.Kinds.{any_form, any_holding, block_at, bucket_at, format_for, format_of, key_in, laid_buckets, laid_form, laid_kinds, raw_under}
+use Rattle.bb_state.specs.Kinds.{any_form, any_holding, block_at, bucket_at, format_for, format_of, key_of_format, laid_buckets, laid_form, laid_kinds, raw_under}
 use Rattle.bb_state.specs.declared.any_bucket.AnyBucket.{AnyBucket}
 
 -- one bucket more
@@ -242,13 +242,13 @@ none_of : (key : Option (List ℕ)) → is_some key ≡ false → None ≡ key
 none_of None h = refl
 none_of (Some _) h = absurd cc
 
-key_at : (format : FormatKind) (keyed : Keyed) → FitsKey format keyed.key → key_in (format_for format keyed) ≡ keyed.key
+key_at : (format : FormatKind) (keyed : Keyed) → FitsKey format keyed.key → key_of_format (format_for format keyed) ≡ keyed.key
 key_at Raw keyed fits = none_of keyed.key fits
 key_at RawHmac keyed fits = refl
 key_at Dtb keyed fits = none_of keyed.key fits
 
 -- records under a layout's key have that key
-pub key_is : (keyed : Keyed) → FitsKey keyed.layout.format keyed.key → key_in (format_of keyed) ≡ keyed.key
+pub key_is : (keyed : Keyed) → FitsKey keyed.layout.format keyed.key → key_of_format (format_of keyed) ≡ keyed.key
 key_is keyed fits = key_at keyed.layout.format keyed fits
 
 -- records without a key, where none is given

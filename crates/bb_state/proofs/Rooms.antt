@@ -5,9 +5,9 @@ use Rattle.bb_layout.specs.Facts.{AreVars}
 use Rattle.bb_layout.specs.Ranges.{end_of}
 use Rattle.bb_layout.specs.Variables.{IsWellFormed}
 use Rattle.bb_layout.specs.declared.var.Var.{Var}
-use Rattle.bb_state.specs.Room.{HasRoom}
+use Rattle.bb_state.specs.Room.{VarHasRoom}
 
-pub room_at : (len : ℕ) (vars : List Var) (i : ℕ) (v : Var) → AreVars len vars → slice_get vars i ≡ Some v → HasRoom len v
+pub room_at : (len : ℕ) (vars : List Var) (i : ℕ) (v : Var) → AreVars len vars → slice_get vars i ≡ Some v → VarHasRoom len v
 room_at len vars i v are h =
     let within = slice_get_within vars i v h in
     let same = get_or_from_slice_get vars i v v h in

@@ -11,7 +11,7 @@ use Rattle.bb_vars.specs.declared.value_error.ValueError.{ValueError}
 use Rattle.bb_layout.specs.Facts.{AreVars}
 use Rattle.bb_layout.specs.Outside.{ChangesVarsAlone}
 use Rattle.bb_layout.specs.Ranges.{end_of}
-use Rattle.bb_layout.specs.VarNames.{place_of}
+use Rattle.bb_layout.specs.VarNames.{place_of_var}
 use Rattle.bb_layout.specs.Variables.{IsWellFormed}
 use Rattle.bb_layout.specs.declared.var.Var.{Var}
 use Rattle.bb_layout.proofs.Outside.{changes_none, put_changes}
@@ -38,15 +38,15 @@ set_at area_len vars text area i v are sized there = by (bytes_of v.kind text) r
         put_changes vars i v area bytes there (read_sized v.kind text bytes read ∙ sym formed.size) (omega arith)
 
 pub set_changes : (area_len : ℕ) (vars : List Var) (name text area : List ℕ) → AreVars area_len vars → length area ≡ area_len → ChangesVarsAlone vars area (after_set vars name text area)
-set_changes area_len vars name text area are sized = by (place_of vars name) refl
+set_changes area_len vars name text area are sized = by (place_of_var vars name) refl
   where
     found : (o : Option Var) → var_of vars name ≡ o → ChangesVarsAlone vars area (set_in text area o) → ChangesVarsAlone vars area (after_set vars name text area)
     found o is changes = subst (λ (o : Option Var). ChangesVarsAlone vars area (set_in text area o)) (sym is) changes
 
-    at : (i : ℕ) (o : Option Var) → place_of vars name ≡ Some i → slice_get vars i ≡ o → ChangesVarsAlone vars area (after_set vars name text area)
+    at : (i : ℕ) (o : Option Var) → place_of_var vars name ≡ Some i → slice_get vars i ≡ o → ChangesVarsAlone vars area (after_set vars name text area)
     at i None place there = found None (var_of_past name vars i place there) (changes_none vars area)
     at i (Some v) place there = found (Some v) (var_of_some name vars i v place there) (set_at area_len vars text area i v are sized there)
 
-    by : (p : Option ℕ) → place_of vars name ≡ p → ChangesVarsAlone vars area (after_set vars name text area)
+    by : (p : Option ℕ) → place_of_var vars name ≡ p → ChangesVarsAlone vars area (after_set vars name text area)
     by None place = found None (var_of_none name vars place) (changes_none vars area)
     by (Some i) place = at i (slice_get vars i) place refl

@@ -97,9 +97,9 @@ abbrev pub laid_form : Keyed → Form
 laid_form keyed = any_form (format_of keyed)
 
 -- the block of the key of such records, if they stand under one
-abbrev pub key_in : AnyFormat → Option (List ℕ)
-key_in (Raw kind) = kind.key
-key_in (Dtb pattern) = None
+abbrev pub key_of_format : AnyFormat → Option (List ℕ)
+key_of_format (Raw kind) = kind.key
+key_of_format (Dtb pattern) = None
 
 -- what each of its copies passes in an image: an area, or nothing
 abbrev pub laid_passings : Keyed → Image → List (Option (List ℕ))

@@ -6,7 +6,7 @@ use Rattle.std.specs.Str.{bytes_eq}
 use Rattle.bb_vars.specs.Setting.{with_value}
 use Rattle.bb_vars.specs.Value.{bytes_of}
 use Rattle.bb_layout.specs.declared.var.Var.{Var}
-use Rattle.bb_state.specs.Lines.{value_of}
+use Rattle.bb_state.specs.Lines.{printed_value}
 use Rattle.bb_state.specs.declared.error.StateError.{StateError}
 use Rattle.bb_state.specs.declared.error.StateError.TheVariants.{NoMemory, NoSuchVariable, Value}
 
@@ -17,7 +17,7 @@ var_of vars name = find (λ v. bytes_eq name v.name) vars
 -- the text of its value in an area
 abbrev pub text_for : List Var → List ℕ → List ℕ → Result (List ℕ) StateError
 text_for vars name area =
-    option_map_or (λ v. Ok (value_of area v)) (var_of vars name) (Err NoSuchVariable)
+    option_map_or (λ v. Ok (printed_value area v)) (var_of vars name) (Err NoSuchVariable)
 
 -- an answer is refused as it is expected, unless memory was refused
 abbrev pub Refuses : {A : Type 0} → Result A StateError → StateError → Type 0

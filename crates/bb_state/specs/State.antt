@@ -33,8 +33,8 @@ abbrev pub kinds_of : State → List BucketKind
 kinds_of state = kinds_in state.backing
 
 -- the table that was last loaded or saved, and the copy that passed it first, if any did
-abbrev pub kept_of : State → List ℕ
-kept_of state = state.backing.kept
+abbrev pub last_table_of : State → List ℕ
+last_table_of state = state.backing.kept
 
 abbrev pub used_of : State → Option ℕ
 used_of state = state.backing.used
@@ -45,10 +45,10 @@ is_sure state = state.backing.sure
 
 -- whether that is known to be its table, and whether it is known to be another
 abbrev pub is_kept : State → Bool
-is_kept state = is_sure state && bytes_eq state.table (kept_of state)
+is_kept state = is_sure state && bytes_eq state.table (last_table_of state)
 
 abbrev pub has_changed : State → Bool
-has_changed state = is_sure state && not (bytes_eq state.table (kept_of state))
+has_changed state = is_sure state && not (bytes_eq state.table (last_table_of state))
 
 -- it may be used with a device: one of the layout's geometry, of which its buckets keep what
 -- stands there
@@ -58,8 +58,8 @@ pub record IsOn (state : State) (device : Device) : Type 0 where
   pub whole : IsDevice device
 
 -- so it may be with every device of that geometry
-abbrev pub IsFresh : State → Type 0
-IsFresh state =
+abbrev pub FitsEveryDevice : State → Type 0
+FitsEveryDevice state =
     (device : Device) →
     device.geometry ≡ (laid_of state).geometry → IsDevice device → IsOn state device
 

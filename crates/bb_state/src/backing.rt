@@ -11,7 +11,7 @@ ghost use Rattle.bb_copies.specs.Loading.{KeepsOutside, LoadGives, LoadImages, L
 ghost use Rattle.bb_copies.specs.Loading.{LoadsExactly, LookGives};
 ghost use Rattle.bb_copies.specs.Placing.{AllPlaced, ReadsNothing};
 ghost use Rattle.bb_copies.specs.Saving.{EachWritten, SaveFails, SaveRuns};
-ghost use Rattle.bb_copies.specs.Settling.{IsUndisturbed};
+ghost use Rattle.bb_copies.specs.Settling.{NothingFails};
 ghost use Rattle.bb_copies.specs.Store.{used_after};
 ghost use Rattle.bb_copies.specs.declared.answers.CopyFault.TheVariants.{ReadFault, Unsure};
 ghost use Rattle.bb_layout.specs.Layout.{fields_of};
@@ -44,12 +44,12 @@ pub(crate) struct Backing {
 impl Model for Backing {
     ghost use Rattle.bb_layout.specs.Layout.{fields_of};
     ghost use Rattle.bb_state.specs.Backed.{Backed, IsBacked};
-    ghost use Rattle.bb_state.specs.Kinds.{key_in};
+    ghost use Rattle.bb_state.specs.Kinds.{key_of_format};
 
     ghost Value = { Backed };
 
     ghost view = { λ b. record {
-      keyed = record { layout = fields_of b.layout; key = key_in b.copies.format };
+      keyed = record { layout = fields_of b.layout; key = key_of_format b.copies.format };
       buckets = b.copies.buckets;
       used = b.copies.used;
       sure = b.copies.sure;
@@ -57,7 +57,7 @@ impl Model for Backing {
     } };
 
     ghost invariant = { λ b.
-        IsBacked (record { layout = fields_of b.layout; key = key_in b.copies.format })
+        IsBacked (record { layout = fields_of b.layout; key = key_of_format b.copies.format })
         b.copies.buckets b.copies.format b.kept.items };
 }
 
@@ -154,10 +154,10 @@ impl Backing {
             (F.device flash.old) (F.device flash.new)) }
         ensures fails { IfErr result (SaveFails (form_in self.old) (kinds_in self.old) self.old.used
             table.now (F.device flash.old) (F.device flash.new)) }
-        ensures exact { IsUndisturbed (F.device flash.old) (F.device flash.new)
+        ensures exact { NothingFails (F.device flash.old) (F.device flash.new)
             → OnOk result (EachWritten (kinds_in self.old) ((form_in self.old).text table.now)
             (F.device flash.old) (F.device flash.new)) }
-        ensures erases { IsUndisturbed (F.device flash.old) (F.device flash.new)
+        ensures erases { NothingFails (F.device flash.old) (F.device flash.new)
             → OnOk result (ErasesBy (kinds_in self.old) ((form_in self.old).text table.now)
             (F.device flash.old) (F.device flash.new)) }
         ensures keyed { self.new.keyed ≡ self.old.keyed }

@@ -2,7 +2,7 @@ ghost use Rattle.std.specs.Prelude.{◌≡◌, ◌++◌, OnOk, length};
 ghost use Rattle.std.specs.List.{flat_map};
 ghost use Rattle.bb_state.specs.Lines.{dump_line, shell_line, value_line};
 ghost use Rattle.bb_state.specs.Named.{var_of};
-ghost use Rattle.bb_state.specs.Room.{HasRoom};
+ghost use Rattle.bb_state.specs.Room.{VarHasRoom};
 
 use crate::shell::{add_shell_name, add_shell_value};
 use crate::value::{add_value, var_at};
@@ -58,7 +58,7 @@ pub fn add_shell_dump(
 }
 
 fn add_dump_line(area: &[u8], var: &Var, out: &mut Bytes) -> Result<(), NoMemory>
-    requires { HasRoom (length area.now) var.now }
+    requires { VarHasRoom (length area.now) var.now }
     ensures { OnOk result (out.new ≡ out.old ++ dump_line area.now var.now) }
 {
     out.add(var.name.as_str().as_bytes())?;
@@ -74,7 +74,7 @@ fn add_shell_line(
     var: &Var,
     out: &mut Bytes,
 ) -> Result<(), NoMemory>
-    requires { HasRoom (length area.now) var.now }
+    requires { VarHasRoom (length area.now) var.now }
     ensures { OnOk result (out.new ≡ out.old ++ shell_line name.now area.now var.now) }
 {
     let mut value = Bytes::none(alloc);

@@ -1,5 +1,5 @@
 ghost use Rattle.std.specs.Prelude.{◌≡◌, ◌++◌, OnOk};
-ghost use Rattle.bb_state.specs.Lines.{escape_of, shell_name, shell_value};
+ghost use Rattle.bb_state.specs.Lines.{shell_escape, shell_name, shell_value};
 
 use bb_base::{Bytes, NoMemory};
 
@@ -25,7 +25,7 @@ pub(crate) fn add_shell_value(value: &[u8], out: &mut Bytes) -> Result<(), NoMem
 }
 
 fn add_escaped(c: u8, out: &mut Bytes) -> Result<(), NoMemory>
-    ensures { OnOk result (out.new ≡ out.old ++ escape_of c) }
+    ensures { OnOk result (out.new ≡ out.old ++ shell_escape c) }
 {
     match c {
         b'\\' | b'"' | b'$' | b'`' => out.add(&[b'\\', c]),

@@ -15,8 +15,8 @@ use bb_layout::Layout;
 use bb_vars::Table;
 use std::alloc::Global;
 
-/// The variables of a layout, over the copies of their area. The table always has the length of that area, and can be
-/// kept as a record.
+/// The variables of a layout, over the copies of their area. The table always has the length of
+/// that area, and can be kept as a record.
 #[derive(Drop)]
 pub struct State {
     /// The bytes of all variables.
@@ -39,17 +39,17 @@ impl State {
     ghost use Rattle.bb_copies.specs.Loading.{LoadsExactly, LookGives};
     ghost use Rattle.bb_copies.specs.Placing.{ReadsNothing};
     ghost use Rattle.bb_copies.specs.Saving.{EachWritten, SaveFails, SaveRuns};
-    ghost use Rattle.bb_copies.specs.Settling.{IsUndisturbed};
+    ghost use Rattle.bb_copies.specs.Settling.{NothingFails};
     ghost use Rattle.bb_copies.specs.Store.{used_after};
     ghost use Rattle.bb_copies.specs.declared.answers.CopyFault.TheVariants.{ReadFault, Unsure};
     ghost use Rattle.bb_layout.specs.Layout.{fields_of};
     ghost use Rattle.bb_layout.specs.Outside.{ChangesVarsAlone};
     ghost use Rattle.bb_state.specs.Keyed.{FitsKey};
     ghost use Rattle.bb_state.specs.Named.{Refuses, after_set, refusal_for, text_for};
-    ghost use Rattle.bb_state.specs.State.{form_of, kinds_of, IsDefault, IsFresh, IsOn};
+    ghost use Rattle.bb_state.specs.State.{form_of, kinds_of, IsDefault, FitsEveryDevice, IsOn};
     ghost use Rattle.bb_state.specs.State.{IsPlaced};
     ghost use Rattle.bb_state.specs.State.{IsRefused, IsStored, has_changed, is_kept, is_sure};
-    ghost use Rattle.bb_state.specs.State.{kept_of, keyed_of, laid_of, used_of};
+    ghost use Rattle.bb_state.specs.State.{last_table_of, keyed_of, laid_of, used_of};
 
     /// The state of a layout, of which no copy was looked at yet. The table has the defaults. A key
     /// is given exactly where the layout's records are kept under one.
@@ -60,7 +60,7 @@ impl State {
         ensures table { IfOk result (λ state.
             state.table ≡ defaults_of layout.area_len layout.vars) }
         ensures sure { IfOk result (λ state. is_sure state ≡ false) }
-        ensures fresh { IfOk result IsFresh }
+        ensures fresh { IfOk result FitsEveryDevice }
     {
         let table = defaults(alloc, &layout)?;
         let backing = Backing::mount(alloc, layout, key)?;
@@ -96,7 +96,7 @@ impl State {
         ensures starts { LeavesStarts (F.device flash.old) (F.device flash.new) }
         ensures unchanged { OnErr result (self.new.table ≡ self.old.table) }
         ensures keyed { keyed_of self.new ≡ keyed_of self.old }
-        ensures kept { OnOk result (kept_of self.new ≡ self.new.table) }
+        ensures kept { OnOk result (last_table_of self.new ≡ self.new.table) }
         ensures used { IfOk result (λ loaded. used_of self.new ≡ used_after loaded) }
         ensures sure { is_sure self.new ≡ is_ok result }
         ensures on { IsOn self.new (F.device flash.new) }
@@ -126,16 +126,16 @@ impl State {
         ensures fails { IfErr result (SaveFails (form_of self.old) (kinds_of self.old)
             (used_of self.old) self.old.table (F.device flash.old) (F.device flash.new)) }
         ensures exact { has_changed self.old ≡ true
-            → IsUndisturbed (F.device flash.old) (F.device flash.new)
+            → NothingFails (F.device flash.old) (F.device flash.new)
             → OnOk result (EachWritten (kinds_of self.old) ((form_of self.old).text self.old.table)
             (F.device flash.old) (F.device flash.new)) }
         ensures erases { has_changed self.old ≡ true
-            → IsUndisturbed (F.device flash.old) (F.device flash.new)
+            → NothingFails (F.device flash.old) (F.device flash.new)
             → OnOk result (ErasesBy (kinds_of self.old) ((form_of self.old).text self.old.table)
             (F.device flash.old) (F.device flash.new)) }
         ensures table { self.new.table ≡ self.old.table }
         ensures keyed { keyed_of self.new ≡ keyed_of self.old }
-        ensures kept { OnOk result (kept_of self.new ≡ self.new.table) }
+        ensures kept { OnOk result (last_table_of self.new ≡ self.new.table) }
         ensures used { is_kept self.old ≡ true → used_of self.new ≡ used_of self.old }
         ensures sure { is_sure self.new ≡ is_ok result }
         ensures on { IsOn self.new (F.device flash.new) }
@@ -161,15 +161,15 @@ impl State {
             (F.device flash.old) (F.device flash.new)) }
         ensures fails { IfErr result (SaveFails (form_of self.old) (kinds_of self.old)
             (used_of self.old) self.old.table (F.device flash.old) (F.device flash.new)) }
-        ensures exact { IsUndisturbed (F.device flash.old) (F.device flash.new)
+        ensures exact { NothingFails (F.device flash.old) (F.device flash.new)
             → OnOk result (EachWritten (kinds_of self.old) ((form_of self.old).text self.old.table)
             (F.device flash.old) (F.device flash.new)) }
-        ensures erases { IsUndisturbed (F.device flash.old) (F.device flash.new)
+        ensures erases { NothingFails (F.device flash.old) (F.device flash.new)
             → OnOk result (ErasesBy (kinds_of self.old) ((form_of self.old).text self.old.table)
             (F.device flash.old) (F.device flash.new)) }
         ensures table { self.new.table ≡ self.old.table }
         ensures keyed { keyed_of self.new ≡ keyed_of self.old }
-        ensures kept { OnOk result (kept_of self.new ≡ self.new.table) }
+        ensures kept { OnOk result (last_table_of self.new ≡ self.new.table) }
         ensures sure { is_sure self.new ≡ is_ok result }
         ensures on { IsOn self.new (F.device flash.new) }
         ensures placed { OnOk result (IsPlaced self.new) }
@@ -194,7 +194,7 @@ impl State {
             ≡ counted (is_err result) (F.device flash.old).read_faults }
         ensures table { self.new.table ≡ self.old.table }
         ensures keyed { keyed_of self.new ≡ keyed_of self.old }
-        ensures kept { kept_of self.new ≡ kept_of self.old }
+        ensures kept { last_table_of self.new ≡ last_table_of self.old }
         ensures used { used_of self.new ≡ used_of self.old }
         ensures sure { is_sure self.new ≡ (is_sure self.old && is_ok result) }
         ensures on { IsOn self.new (F.device flash.new) }

@@ -15,7 +15,7 @@ use Rattle.bb_tool.specs.Booting.{SaveAnswer, boots, has_no_target}
 use Rattle.bb_tool.specs.Marking.{lost_place}
 use Rattle.bb_tool.specs.Plan.{Act, Boot, Good, SessionPlan, Show, Work, Write}
 use Rattle.bb_tool.specs.Refusal.{copy_refusal, status_of}
-use Rattle.bb_tool.specs.Session.{Session, refusal_by_table, ended_status, loaded_area, refused_for, session_of_saves, saved_where, saves_of, saving_session, text_of, unless_barred, work_session, worked_on}
+use Rattle.bb_tool.specs.Session.{Session, refusal_by_table, ended_status, loaded_area, refused_for, session_of_saves, saved_where, saves_of, saving_session, work_text, unless_barred, work_session, worked_on}
 use Rattle.bb_tool.specs.declared.refusal.Refusal.{Refusal}
 use Rattle.bb_tool.specs.declared.refusal.Refusal.TheVariants.{NoGood, NoTarget}
 use Rattle.bb_tool.specs.declared.status.Status.{Status}
@@ -98,7 +98,7 @@ pub worked_saves : (plan : SessionPlan) (found : Option (List ℕ)) (saves : Lis
 worked_saves plan found saves store None h = ap (λ (s : Session). s.saves) (open_session plan found saves store h)
 worked_saves plan found saves store (Some refusal) h =
     ap (λ (s : Session). s.saves) (barred_session plan found saves refusal h)
-    ∙ sym (ap (λ areas. (session_of_saves (text_of plan.keyed.layout plan.work found) areas saves).saves)
+    ∙ sym (ap (λ areas. (session_of_saves (work_text plan.keyed.layout plan.work found) areas saves).saves)
     (barred_saves plan.keyed.layout plan.work (loaded_area plan.keyed.layout found) refusal h))
 
 -- ---- faults of the device

@@ -1,4 +1,4 @@
--- The turn of a boot and its trail: the load's, and behind it what the saves of its rounds reached.
+-- The turn of a boot and its trail: the load's, and after it what the saves of its rounds reached.
 use Rattle.std.proofs.Common.{◌≡◌, ◌⊎◌, ℕ, suc, ◌+◌, ◌≤◌, Bool, true, false, List, [], ◌∷◌, ◌++◌, length, take, Option, Some, None, Ok, IsSome, is_some, cond, refl, sym, ap, subst, ◌∙◌, inl, inr, arith}
 use Rattle.std.specs.Option.{option_and_then}
 use Rattle.std.specs.Prelude.{count_by, unwrap_or}
@@ -22,7 +22,7 @@ use Rattle.bb_flash.proofs.Counting.{counted_joined_at}
 use Rattle.bb_state.specs.Keyed.{Keyed}
 use Rattle.bb_shell.specs.Boot.{Round, last_round}
 use Rattle.bb_shell.specs.Rounds.{is_started}
-use Rattle.bb_shell.specs.Running.{is_refused}
+use Rattle.bb_shell.specs.Running.{is_refused_save}
 use Rattle.bb_shell.specs.Stages.{IsCounted as IsCountedHere, IsSettled, KeepsATrail, KeepsAtExit, made_of, saves_of, saving_rounds, stages_reached}
 use Rattle.bb_shell.specs.declared.outcome.Outcome.{Outcome}
 use Rattle.bb_shell.specs.declared.outcome.Outcome.TheVariants as outcomes
@@ -31,7 +31,7 @@ use Rattle.bb_state.specs.Kinds.{laid_form, laid_kinds, laid_passings}
 use Rattle.bb_shell.specs.Counting.{target_started}
 use Rattle.bb_tool.specs.Looking.{passed_in}
 use Rattle.bb_tool.specs.Session.{loaded_area}
-use Rattle.bb_tool.specs.Turns.{HasTrail, IsCounted, IsFairRun, LeadsTo, first_area}
+use Rattle.bb_tool.specs.SessionTurns.{HasTrail, IsCounted, IsFairRun, LeadsTo, first_area}
 use Rattle.bb_tool.specs.Work.{IsLoaded, IsLoadedAs}
 use Rattle.bb_tool.proofs.Booted.{last_behind}
 use Rattle.bb_tool.proofs.Copies.{loaded_to, loads_in_order}
@@ -42,7 +42,7 @@ use Rattle.bb_tool.proofs.Turns.{before_trail, fair_from, leads, moment_is, stan
 
 -- all of them, or all but the last, where the last round was refused
 abbrev pub RefusedLast : List Round → Type 0
-RefusedLast rounds = (last : Round) × ((last_round rounds ≡ Some last) × (is_refused last.outcome ≡ true))
+RefusedLast rounds = (last : Round) × ((last_round rounds ≡ Some last) × (is_refused_save last.outcome ≡ true))
 
 abbrev pub Made : List Round → List Round → Type 0
 Made saving rounds =
@@ -53,7 +53,7 @@ behind_last saving round later (inl all) = inl all
 behind_last saving round later (inr but) =
     inr (but.0, (but.1.0, (last_behind round later but.1.0 but.1.1.0, but.1.1.1)))
 
-one_more : (round : Round) (saving later : List Round) → is_refused round.outcome ≡ false → Made saving later →
+one_more : (round : Round) (saving later : List Round) → is_refused_save round.outcome ≡ false → Made saving later →
     Made (round ∷ saving) (round ∷ later)
 one_more round saving later done (inl all) =
     let made = made_cons round saving false done in inl (omega (arith, made, all))
@@ -65,9 +65,9 @@ one_more round saving later done (inr but) =
 saves_made : (rounds : List Round) (kept : List ℕ) → StopsRefused rounds → Made (saving_rounds kept rounds) rounds
 saves_made [] kept stops = inl refl
 saves_made (round ∷ later) kept stops =
-    by (saves_made later round.table stops.1) (bytes_eq round.table kept) refl (is_refused round.outcome) refl
+    by (saves_made later round.table stops.1) (bytes_eq round.table kept) refl (is_refused_save round.outcome) refl
   where
-    by : Made (saving_rounds round.table later) later → (same : Bool) → bytes_eq round.table kept ≡ same → (refused : Bool) → is_refused round.outcome ≡ refused →
+    by : Made (saving_rounds round.table later) later → (same : Bool) → bytes_eq round.table kept ≡ same → (refused : Bool) → is_refused_save round.outcome ≡ refused →
         Made (saving_rounds kept (round ∷ later)) (round ∷ later)
     by behind true e refused done =
         subst (λ s. Made s (round ∷ later)) (sym (idle_saving kept round later e))
@@ -82,7 +82,7 @@ saves_made (round ∷ later) kept stops =
         (subst (λ l. Made (round ∷ saving_rounds round.table l) (round ∷ l)) (sym none)
         (inr (omega (arith, made), (round, (refl, done)))))
 
-not_started : (outcome : Outcome) → is_refused outcome ≡ true → is_started outcome ≡ false
+not_started : (outcome : Outcome) → is_refused_save outcome ≡ true → is_started outcome ≡ false
 not_started (outcomes.Refused fault) h = refl
 not_started outcomes.Unplanned h = absurd cc
 not_started outcomes.Failed h = absurd cc

@@ -16,9 +16,9 @@ use Rattle.bb_flash.specs.Cuts.{IsLater}
 use Rattle.bb_flash.specs.Device.{Device}
 use Rattle.bb_flash.specs.declared.plan.Plan.{Plan as StartPlan}
 use Rattle.bb_state.specs.Keyed.{Keyed}
-use Rattle.bb_shell.specs.Boot.{AreRounds, Round, all_attempts, end_of, first_table, is_retried, last_round, table_after}
+use Rattle.bb_shell.specs.Boot.{AreRounds, Round, all_attempts, boot_end, first_table, is_retried, last_round, table_after}
 use Rattle.bb_copies.specs.Settling.{RoseBy}
-use Rattle.bb_shell.specs.Ends.{AddsStarts, HasEndCause, IsBooted, RaisedBy, StaysStored, failed_starts, is_fault}
+use Rattle.bb_shell.specs.Ends.{AddsStarts, HasEndCause, IsBooted, RaisedBy, StaysStored, failed_starts, is_fault_end}
 use Rattle.bb_shell.specs.Rounds.{RoundAnswer, answer_of, rounds_by}
 use Rattle.bb_shell.specs.Running.{AreRun}
 use Rattle.bb_shell.specs.Stages.{KeepsATrail, KeepsAtExit}
@@ -28,7 +28,7 @@ use Rattle.bb_shell.specs.declared.outcome.Outcome.TheVariants as outcomes
 use Rattle.bb_shell.proofs.Answering.{best_is, best_none, rounds_are}
 use Rattle.bb_shell.proofs.Attempts.{best_there, target_at, total_some, total_spent}
 use Rattle.bb_state.specs.Kinds.{laid_kinds}
-use Rattle.bb_state.specs.State.{is_sure, kept_of, keyed_of, used_of}
+use Rattle.bb_state.specs.State.{is_sure, last_table_of, keyed_of, used_of}
 use Rattle.bb_state.specs.declared.state.State.{State}
 use Rattle.bb_tool.specs.Booting.{SaveAnswer, answer_to, end_refusal, has_no_target, round_answer, rounds_of}
 use Rattle.bb_tool.specs.Plan.{Boot, SessionPlan, Work}
@@ -173,17 +173,17 @@ pub record BootClauses (targets : Binding) (cause : Cause) (plans : List (Option
   pub booted : IsBooted targets plans (first_table targets cause true before.table) before after from to end
   pub end_cause : HasEndCause plans from to end
   pub starts : AddsStarts plans from to end
-  pub stored : is_sure after ≡ true → StaysStored (keyed_of before) (kept_of before) (kept_of after) from to
+  pub stored : is_sure after ≡ true → StaysStored (keyed_of before) (last_table_of before) (last_table_of after) from to
   pub outside : KeepsOutside (laid_kinds (keyed_of before).layout) from to
   pub later : IsLater from to
-  pub sure : is_sure after ≡ not (is_fault end)
+  pub sure : is_sure after ≡ not (is_fault_end end)
 
 -- a count that rose by exactly so much rose by that much
 raised_rose : (rise before now : ℕ) → RaisedBy rise before now → RoseBy rise before now
 raised_rose rise before now raised = omega arith
 
 run_is : (targets : Binding) (cause : Cause) (plans : List (Option StartPlan)) (before after : State) (from to : Device)
-    (end : BootEnd) → kept_of before ≡ before.table → IsBinding targets → length before.table ≡ targets.area_len →
+    (end : BootEnd) → last_table_of before ≡ before.table → IsBinding targets → length before.table ≡ targets.area_len →
     (clauses : BootClauses targets cause plans before after from to end) →
     IsBootRun (keyed_of before) targets cause plans before.table (used_of before) from to (answers_to clauses.booted.rounds)
 run_is targets cause plans before after from to end kept binding sized clauses =
@@ -203,9 +203,9 @@ run_is targets cause plans before after from to end kept binding sized clauses =
       exit = subst (λ k. KeepsAtExit keyed k (used_of before) (used_of after) rounds from to) kept boot.exit;
       stored = λ calm.
           let sure : is_sure after ≡ true =
-          clauses.sure ∙ ap (λ e. not (is_fault e)) boot.end_is ∙ ap not calm in
+          clauses.sure ∙ ap (λ e. not (is_fault_end e)) boot.end_is ∙ ap not calm in
           subst (λ k. StaysStored keyed k (table_after k rounds) from to) kept
-          (subst (λ k. StaysStored keyed (kept_of before) k from to) (boot.kept sure) (clauses.stored sure));
+          (subst (λ k. StaysStored keyed (last_table_of before) k from to) (boot.kept sure) (clauses.stored sure));
       outside = clauses.outside;
       later = clauses.later;
       starts = subst (AddsStarts plans from to) boot.end_is clauses.starts;
@@ -216,7 +216,7 @@ run_is targets cause plans before after from to end kept binding sized clauses =
 -- ---- the work after a load that answered Ok
 
 end_gives : (targets : Binding) (table : List ℕ) (rounds : List Round) (given : Result Report Refusal) →
-    GivesEnd targets (end_of targets rounds) given → Gives (boot_session targets table rounds) given
+    GivesEnd targets (boot_end targets rounds) given → Gives (boot_session targets table rounds) given
 end_gives targets table rounds (Ok report) gives = gives
 end_gives targets table rounds (Err refusal) gives = gives
 
@@ -224,7 +224,7 @@ end_gives targets table rounds (Err refusal) gives = gives
 pub boot_out : (keyed : Keyed) (targets : Binding) (cause : Cause) (plans : List (Option StartPlan))
     (from mid to : Device) (loaded : Loaded) (before after : State) (end : BootEnd) (given : Result Report Refusal) →
     from.geometry ≡ keyed.layout.geometry → 2 ≤ keyed.layout.copies → keyed_of before ≡ keyed → LoadClauses keyed before.table from mid (Ok loaded) →
-    used_of before ≡ used_after loaded → kept_of before ≡ before.table → IsBinding targets → length before.table ≡ targets.area_len →
+    used_of before ≡ used_after loaded → last_table_of before ≡ before.table → IsBinding targets → length before.table ≡ targets.area_len →
     BootClauses targets cause plans before after mid to end → IsReportOf targets end given →
     IsWorkedOut keyed (Boot targets cause plans) from to given
 boot_out keyed targets cause plans from mid to loaded before after end given geometry many laid clauses used kept binding sized boot report =

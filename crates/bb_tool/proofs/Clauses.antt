@@ -59,8 +59,8 @@ starts ran session = record {
   start_faults = start_faults_of ran session;
 }
 
-pub causes : (ran : Ran) → IsSession ran → KeepsFiles ran → KeepsHistory ran → ran.before.outlet.faults ≤ ran.after.outlet.faults → KnowsItsCauses ran
-causes ran session files later outlet = record {
+pub causes : (ran : Ran) → IsSession ran → KeepsFiles ran → KeepsHistory ran → ran.before.sink.faults ≤ ran.after.sink.faults → KnowsItsCauses ran
+causes ran session files later sink = record {
   bad_words = bad_words_of ran session;
   file_missing = comes_planned ran session statuses.FileMissing refl (λ h. cc) (λ h. cc) (λ h. cc);
   file_too_long = comes_planned ran session statuses.FileTooLong refl (λ h. cc) (λ h. cc) (λ h. cc);
@@ -80,6 +80,6 @@ causes ran session files later outlet = record {
   no_target = no_target_of ran session;
   start_failed = start_failed_of ran session;
   start_failed_cause = start_causes_of ran session;
-  sink_fault = sink_fault_of ran session outlet;
+  sink_fault = sink_fault_of ran session sink;
   no_memory = no_memory_of ran session;
 }

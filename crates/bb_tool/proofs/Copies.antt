@@ -16,7 +16,7 @@ use Rattle.bb_state.specs.Keyed.{Keyed}
 use Rattle.bb_state.specs.Kinds.{laid_form, laid_kinds}
 use Rattle.bb_state.specs.State.{IsStored}
 use Rattle.bb_tool.specs.Looking.{passed_in}
-use Rattle.bb_tool.specs.Turns.{first_area}
+use Rattle.bb_tool.specs.SessionTurns.{first_area}
 use Rattle.bb_tool.specs.Work.{IsLoadedAs}
 use Rattle.bb_tool.proofs.Kept.{IsLeft, load_left, passes_some}
 use Rattle.bb_tool.proofs.Turns.{Begun, LoadedTo, SinceEntry, SinceLoad, Stays, in_order, left_stands, longer_begun, standing_at, still_begun, told_content}

@@ -8,18 +8,18 @@ use Rattle.bb_state.specs.Keyed.{Keyed}
 use Rattle.bb_words.specs.Words.{words_of}
 use Rattle.bb_tool.specs.Calls.{IsSession, geometry_of}
 use Rattle.bb_tool.specs.Copying.{StopsAtFileFault, StopsBetweenSaves}
-use Rattle.bb_tool.specs.Ending.{IsFollowed}
+use Rattle.bb_tool.specs.SessionAnswer.{IsFollowed}
 use Rattle.bb_tool.specs.Filing.{IsFiled}
 use Rattle.bb_shell.specs.Boot.{Round, first_table}
-use Rattle.bb_shell.specs.Running.{is_refused}
+use Rattle.bb_shell.specs.Running.{is_refused_save}
 use Rattle.bb_shell.specs.declared.outcome.Outcome.{Outcome}
 use Rattle.bb_shell.specs.declared.outcome.Outcome.TheVariants as outcomes
 use Rattle.bb_tool.specs.Booting.{SaveAnswer, answer_to, boots}
 use Rattle.bb_tool.specs.Plan.{Act, Boot, FileAnswers, Good, SessionPlan, Show, Work, Write, names_file, plan_by_words}
 use Rattle.bb_tool.specs.Ran.{Ran}
-use Rattle.bb_tool.specs.Session.{Answers, LoadAnswer, Session, refusal_by_table, session_by, loaded_area, session_of_saves, saves_behind, text_of, work_session}
+use Rattle.bb_tool.specs.Session.{Answers, LoadAnswer, Session, refusal_by_table, session_by, loaded_area, session_of_saves, saves_after, work_text, work_session}
 use Rattle.bb_tool.specs.Refusal.{status_of}
-use Rattle.bb_tool.specs.Telling.{takes_memory}
+use Rattle.bb_tool.specs.Sending.{takes_memory}
 use Rattle.bb_tool.specs.Work.{AreSaved, IsStoreWork, IsWorkOf, SendsByMemory}
 use Rattle.bb_tool.specs.declared.refusal.Refusal.{Refusal}
 use Rattle.bb_tool.specs.declared.refusal.Refusal.TheVariants as refusals
@@ -86,7 +86,7 @@ store_made : (plan : SessionPlan) (from to : Device) (found : Option (List ℕ))
     refusal_by_table plan.work (loaded_area plan.keyed.layout found) ≡ bars →
     HasNoFault (work_session plan (Ok found) saves) → AllMade saves
 store_made plan from to found saves store done None bars whole =
-    saves_made plan.keyed done.used (text_of plan.keyed.layout plan.work found) (saves_behind plan (Ok found)) saves done.middle to
+    saves_made plan.keyed done.used (work_text plan.keyed.layout plan.work found) (saves_after plan (Ok found)) saves done.middle to
     done.saved (stored_whole plan found saves store bars whole)
 store_made plan from to found saves store done (Some refusal) bars whole =
     let none = barred_saves plan.keyed.layout plan.work (loaded_area plan.keyed.layout found) refusal bars in
@@ -98,7 +98,7 @@ rounds_made : (rounds : List Round) → AllSaved rounds → AllMade (answers_to 
 rounds_made [] all = refl
 rounds_made (round ∷ later) all = by round.outcome all.0 (rounds_made later all.1)
   where
-    by : (outcome : Outcome) → is_refused outcome ≡ false → AllMade (answers_to later) → AllMade (answer_to outcome ∷ answers_to later)
+    by : (outcome : Outcome) → is_refused_save outcome ≡ false → AllMade (answers_to later) → AllMade (answer_to outcome ∷ answers_to later)
     by (outcomes.Refused fault) e rest = absurd cc
     by outcomes.Unplanned e rest = rest
     by outcomes.Failed e rest = rest

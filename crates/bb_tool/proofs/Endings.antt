@@ -24,8 +24,8 @@ use Rattle.bb_state.specs.Keyed.{Keyed}
 use Rattle.bb_chooser.specs.Binding.{Binding}
 use Rattle.bb_chooser.specs.declared.cause.Cause.{Cause}
 use Rattle.bb_flash.specs.declared.plan.Plan.{Plan as StartPlan}
-use Rattle.bb_shell.specs.Boot.{Round, end_by, end_of, last_round, plan_at}
-use Rattle.bb_shell.specs.Running.{AreRun, IsRoundRun, IsSaveRun, is_refused, refusal_of}
+use Rattle.bb_shell.specs.Boot.{Round, end_by, boot_end, last_round, plan_at}
+use Rattle.bb_shell.specs.Running.{AreRun, IsRoundRun, IsSaveRun, is_refused_save, refusal_of}
 use Rattle.bb_shell.specs.declared.boot_end.BootEnd.{BootEnd}
 use Rattle.bb_shell.specs.declared.boot_end.BootEnd.TheVariants as ends
 use Rattle.bb_shell.specs.declared.outcome.Outcome.{Outcome}
@@ -36,16 +36,16 @@ use Rattle.bb_state.specs.Kinds.{any_holding, bucket_at, laid_buckets, laid_form
 use Rattle.bb_state.specs.State.{IsStored}
 use Rattle.bb_words.specs.Words.{words_of}
 use Rattle.bb_words.specs.declared.command.Command.{Command}
-use Rattle.bb_tool.specs.Calls.{ComesByDevice, ComesByFiles, ComesByOutlet, ComesByPlan, ComesByPlanAlone, ComesByReads, ComesByWords, IsAnswered, IsRefusedWith, IsSession, IsWithoutMemory, MayAnswer, NamesACopy, SendsSessionFront, Tells, geometry_of, is_planning, plan_over, session_for}
-use Rattle.bb_tool.specs.Copying.{KeepsATrail, KeepsAtExit, KeepsOthers}
-use Rattle.bb_tool.specs.Ending.{IsFollowed, IsGiven}
+use Rattle.bb_tool.specs.Calls.{ComesByDevice, ComesByFiles, ComesByOutlet, ComesByPlan, ComesByPlanAlone, ComesByReads, ComesByWords, IsAnswered, IsRefusedWith, IsSession, IsWithoutMemory, MayAnswer, NamesACopy, SendsSessionFront, SendsText, geometry_of, is_planning, plan_over, session_for}
+use Rattle.bb_tool.specs.Copying.{KeepsATrail, KeepsAtExit, KeepsOutsideCopies}
+use Rattle.bb_tool.specs.SessionAnswer.{IsFollowed, IsSessionAnswer}
 use Rattle.bb_tool.specs.Booting.{SaveAnswer, boots, end_refusal, rounds_of}
 use Rattle.bb_tool.specs.Plan.{Act, Boot, FileAnswers, Good, SessionPlan, Show, Work, Write, copies_in, files_for, plan_of, plan_by_words}
 use Rattle.bb_tool.specs.Ran.{Ran}
 use Rattle.bb_tool.specs.Refusal.{copy_refusal, line_of, status_of}
-use Rattle.bb_tool.specs.Session.{Answers, LoadAnswer, Session, refusal_by_table, ended_status, session_by, loaded_area, refused_for, session_of_saves, saves_behind, saves_of, sent_of, session_of, saving_session, text_of, unless_barred, work_session, worked_on}
-use Rattle.bb_tool.specs.Telling.{IsCutOff, IsToldBehind, IsToldRefusal}
-use Rattle.bb_tool.specs.Work.{AreSaved, IsBootWork, IsFound, IsLookWork, IsStoreWork, IsWorkOf, SendsByMemory}
+use Rattle.bb_tool.specs.Session.{Answers, LoadAnswer, Session, refusal_by_table, ended_status, session_by, loaded_area, refused_for, session_of_saves, saves_after, saves_of, sent_of, session_of, saving_session, work_text, unless_barred, work_session, worked_on}
+use Rattle.bb_tool.specs.Sending.{IsTextCut, IsSentAfter, IsSentRefusal}
+use Rattle.bb_tool.specs.Work.{AreSaved, IsBootWork, IsLoadedArea, IsLookWork, IsStoreWork, IsWorkOf, SendsByMemory}
 use Rattle.bb_tool.specs.declared.refusal.Refusal.{Refusal}
 use Rattle.bb_tool.specs.declared.refusal.Refusal.TheVariants as refusals
 use Rattle.bb_tool.specs.declared.report.Report.{Report}
@@ -66,14 +66,15 @@ pub record IsOwn (ran : Ran) (answer : Status) : Type 0 where
 pub own_answer : (ran : Ran) (answer : Status) → IsSession ran → answer ≢ statuses.SinkFault → answer ≢ statuses.NoMemory → ran.status ≡ answer → IsOwn ran answer
 own_answer ran answer (inl ending) first second e = record {
   ending = ending;
-  own = told_own _ _ answer ran.before.outlet ran.after.outlet ran.status ending.told first second e;
+  own = told_own _ _ answer ran.before.sink ran.after.sink ran.status ending.told first second e;
 }
-own_answer ran answer (inr memory) first second e = absurd (told_other answer ran.before.outlet ran.after.outlet ran.status memory.told first second e)
+own_answer ran answer (inr memory) first second e = absurd (told_other answer ran.before.sink ran.after.sink ran.status memory.told first second e)
 
--- an answer that a fact about the words and the layout brings comes, but for the two that come first
+-- an answer that a fact about the words and the layout brings comes, but for the two that come
+-- first
 comes_always : (ran : Ran) (answer : Status) → IsSession ran → ((answers : Answers) → ended_status (session_for ran answers) ≡ answer) → (ran.status ≡ answer) ⊎ ((ran.status ≡ statuses.SinkFault) ⊎ (ran.status ≡ statuses.NoMemory))
-comes_always ran answer (inl ending) always = elim (told_cases _ _ ran.before.outlet ran.after.outlet ran.status ending.told) [ inl own ↦ inl (own ∙ always ending.answers) | inr other ↦ inr other ]
-comes_always ran answer (inr memory) always = elim (told_cases _ statuses.NoMemory ran.before.outlet ran.after.outlet ran.status memory.told) [ inl e ↦ inr (inr e) | inr other ↦ inr other ]
+comes_always ran answer (inl ending) always = elim (told_cases _ _ ran.before.sink ran.after.sink ran.status ending.told) [ inl own ↦ inl (own ∙ always ending.answers) | inr other ↦ inr other ]
+comes_always ran answer (inr memory) always = elim (told_cases _ statuses.NoMemory ran.before.sink ran.after.sink ran.status memory.told) [ inl e ↦ inr (inr e) | inr other ↦ inr other ]
 
 -- ---- the statuses that the work on the device has
 
@@ -114,12 +115,12 @@ end_work targets (ends.StartFailed target tries) = refl
 end_work targets (ends.Fault fault) = fault_work fault
 
 on_work : (work : Work) (plan : SessionPlan) (found : Option (List ℕ)) (saves : List SaveAnswer) → is_work (ended_status (worked_on work plan found saves)) ≡ true
-on_work Show plan found saves = saved_work (text_of plan.keyed.layout plan.work found) (saves_behind plan (Ok found)) saves
-on_work (Write area) plan found saves = saved_work (text_of plan.keyed.layout plan.work found) (saves_behind plan (Ok found)) saves
-on_work (Act actions) plan found saves = saved_work (text_of plan.keyed.layout plan.work found) (saves_behind plan (Ok found)) saves
-on_work (Good targets) plan found saves = saved_work (text_of plan.keyed.layout plan.work found) (saves_behind plan (Ok found)) saves
+on_work Show plan found saves = saved_work (work_text plan.keyed.layout plan.work found) (saves_after plan (Ok found)) saves
+on_work (Write area) plan found saves = saved_work (work_text plan.keyed.layout plan.work found) (saves_after plan (Ok found)) saves
+on_work (Act actions) plan found saves = saved_work (work_text plan.keyed.layout plan.work found) (saves_after plan (Ok found)) saves
+on_work (Good targets) plan found saves = saved_work (work_text plan.keyed.layout plan.work found) (saves_after plan (Ok found)) saves
 on_work (Boot targets cause plans) plan found saves =
-    end_work targets (end_of targets (rounds_of targets cause plans (loaded_area plan.keyed.layout found) saves))
+    end_work targets (boot_end targets (rounds_of targets cause plans (loaded_area plan.keyed.layout found) saves))
 
 unless_work : (bars : Option Refusal) (session : Session) → ((refusal : Refusal) → bars ≡ Some refusal → is_work (status_of refusal) ≡ true) → is_work (ended_status session) ≡ true → is_work (ended_status (unless_barred bars session)) ≡ true
 unless_work None session each h = h
@@ -166,10 +167,10 @@ bad_words_of ran s = record {
 }
 
 always_planned : (ran : Ran) → IsSession ran → (answer : Status) → (files : FileMap) → ran.before.folder.told ≡ Some files → IsRefusedWith answer (plan_over ran files) → (ran.status ≡ answer) ⊎ ((ran.status ≡ statuses.SinkFault) ⊎ ((ran.status ≡ statuses.NoMemory) ⊎ (ran.status ≡ statuses.FileFault)))
-always_planned ran (inr memory) answer files told refused = elim (told_cases _ statuses.NoMemory ran.before.outlet ran.after.outlet ran.status memory.told) [ inl e ↦ inr (inr (inl e)) | inr other ↦ elim other [ inl sink ↦ inr (inl sink) | inr e ↦ inr (inr (inl e)) ] ]
+always_planned ran (inr memory) answer files told refused = elim (told_cases _ statuses.NoMemory ran.before.sink ran.after.sink ran.status memory.told) [ inl e ↦ inr (inr (inl e)) | inr other ↦ elim other [ inl sink ↦ inr (inl sink) | inr e ↦ inr (inr (inl e)) ] ]
 always_planned ran (inl ending) answer files told refused =
     let plan = plan_by_words ran.words (geometry_of ran) ending.answers.files in
-    elim (told_cases _ _ ran.before.outlet ran.after.outlet ran.status ending.told) [
+    elim (told_cases _ _ ran.before.sink ran.after.sink ran.status ending.told) [
       | inr other ↦ elim other [ inl sink ↦ inr (inl sink) | inr e ↦ inr (inr (inl e)) ]
       | inl own ↦ elim (same_plan ran.words (geometry_of ran) ran.before.folder ran.after.folder ending.answers.files ending.answered.filed files told) [
         | inl same ↦ inl (own ∙ plan_ends plan ending.answers answer (subst (IsRefusedWith answer) (sym same) refused))
@@ -317,7 +318,7 @@ load_tells keyed area from to faults.Unsure fails = fails
 look_tells : (keyed : Keyed) (from to : Device) (fault : CopyFault) → fault ≡ faults.ReadFault → Rose from.faults to.faults → Rose from.read_faults to.read_faults → FaultTells keyed from to fault
 look_tells keyed from to fault is rose read = subst (FaultTells keyed from to) (sym is) (rose, read)
 
-used_inside : (keyed : Keyed) (used : Option ℕ) (copy : ℕ) (from to : Device) (found : Option (List ℕ)) → (area : List ℕ) (loaded : Loaded) → IsFound keyed area loaded from to → used_after loaded ≡ Some copy → copy < length (laid_kinds keyed.layout)
+used_inside : (keyed : Keyed) (used : Option ℕ) (copy : ℕ) (from to : Device) (found : Option (List ℕ)) → (area : List ℕ) (loaded : Loaded) → IsLoadedArea keyed area loaded from to → used_after loaded ≡ Some copy → copy < length (laid_kinds keyed.layout)
 used_inside keyed used copy from to found area (loads.Copy taken live) gave is =
     let same : taken ≡ copy = cc in
     subst (λ k. k < length (laid_kinds keyed.layout)) same gave.gives.exit.inside
@@ -371,7 +372,7 @@ store_fault plan from to (Err fault) saves refusal store device work h =
     }
 store_fault plan from to (Ok found) saves refusal store device work h =
     let gave = work.loaded.gives in
-    let fault = saves_fault plan.keyed work.used (text_of plan.keyed.layout plan.work found) (saves_behind plan (Ok found)) saves work.middle to refusal work.many
+    let fault = saves_fault plan.keyed work.used (work_text plan.keyed.layout plan.work found) (saves_after plan (Ok found)) saves work.middle to refusal work.many
     (λ copy is. used_inside plan.keyed work.used copy from work.middle found gave.area gave.loaded gave.gave (sym gave.used_is ∙ is)) work.saved
     (stored_refusal plan found saves refusal store device h (refusal_by_table plan.work (loaded_area plan.keyed.layout found)) refl) in
     record {
@@ -387,7 +388,7 @@ look_fault keyed text from to (Err fault) refusal plan saves device shows work h
   tells = look_tells plan.keyed from to fault work.looked.fails (work.looked.faults.rose refl) (work.looked.read_faults.rose refl);
 }
 look_fault keyed text from to (Ok found) refusal plan saves device shows work h =
-    absurd (none_some refusal (sym (ap (λ (w : Work). (session_of_saves (text_of plan.keyed.layout plan.work found) (saves_of plan.keyed.layout w (loaded_area plan.keyed.layout found)) saves).refusal) shows)
+    absurd (none_some refusal (sym (ap (λ (w : Work). (session_of_saves (work_text plan.keyed.layout plan.work found) (saves_of plan.keyed.layout w (loaded_area plan.keyed.layout found)) saves).refusal) shows)
     ∙ stored_refusal plan found saves refusal (ap boots shows) device h (refusal_by_table plan.work (loaded_area plan.keyed.layout found)) refl))
 
 -- ---- a fault in a boot
@@ -404,7 +405,7 @@ by_fault targets tries round outcomes.Unplanned fault h = absurd cc
 by_fault targets tries round outcomes.Failed fault h = absurd cc
 by_fault targets tries round outcomes.Started fault h = absurd cc
 
-pub refused_last : (targets : Binding) (rounds : List Round) (fault : CopyFault) → end_of targets rounds ≡ ends.Fault fault → IsRefusedLast rounds fault
+pub refused_last : (targets : Binding) (rounds : List Round) (fault : CopyFault) → boot_end targets rounds ≡ ends.Fault fault → IsRefusedLast rounds fault
 refused_last targets rounds fault h = by (last_round rounds) refl h
   where
     by : (o : Option Round) → last_round rounds ≡ o →
@@ -457,7 +458,7 @@ module _ (keyed : Keyed) (many : 2 ≤ keyed.layout.copies) where
       subst (λ d. FaultTells keyed from d fault) (sym run.behind.1)
       (round_fault plans kept used run.copy round from run.device fault run.before (ap (λ (r : Round). r.outcome) same ∙ last.outcome) inside)
   run_fault plans (round ∷ (next ∷ later)) kept used now from to fault stops run last inside =
-      let done : is_refused round.outcome ≡ false = by (is_refused round.outcome) refl in
+      let done : is_refused_save round.outcome ≡ false = by (is_refused_save round.outcome) refl in
       let there = save_there kept used run.copy round.table (refusal_of round.outcome) from run.before.middle run.before.saved (unrefused round.outcome done) inside in
       let early = round_later keyed plans kept used run.copy round from run.device run.before in
       tells_from keyed from run.device to fault
@@ -465,7 +466,7 @@ module _ (keyed : Keyed) (many : 2 ≤ keyed.layout.copies) where
       (record { last = last.last; is = sym (later_last round next later) ∙ last.is; outcome = last.outcome }) there)
       early.faults early.read_faults
     where
-      by : (refused : Bool) → is_refused round.outcome ≡ refused → is_refused round.outcome ≡ false
+      by : (refused : Bool) → is_refused_save round.outcome ≡ refused → is_refused_save round.outcome ≡ false
       by true e = absurd (let h : next ∷ later ≡ [] = stops.0 e in cc)
       by false e = e
 
@@ -490,7 +491,7 @@ boot_fault plan targets cause plans from to (Ok found) saves refusal device is w
     let run = work.booted in
     let gave = work.loaded.gives in
     let session = boot_is plan targets cause plans found work.used work.middle to saves is run in
-    let ended = end_fault targets (end_of targets run.rounds) refusal device (sym (ap (λ (s : Session). s.refusal) session) ∙ h) in
+    let ended = end_fault targets (boot_end targets run.rounds) refusal device (sym (ap (λ (s : Session). s.refusal) session) ∙ h) in
     record {
       fault = ended.0;
       is = ended.1.1;
@@ -503,7 +504,7 @@ boot_fault plan targets cause plans from to (Ok found) saves refusal device is w
     }
 
 pub work_fault : (work : Work) (plan : SessionPlan) (from to : Device) (load : LoadAnswer) (saves : List SaveAnswer) (refusal : Refusal) → is_device_fault (status_of refusal) ≡ true → plan.work ≡ work → IsWorkOf work plan from to load saves → (work_session plan load saves).refusal ≡ Some refusal → IsFault plan.keyed from to refusal
-work_fault Show plan from to load saves refusal device is work h = look_fault plan.keyed (text_of plan.keyed.layout Show) from to load refusal plan saves device is work h
+work_fault Show plan from to load saves refusal device is work h = look_fault plan.keyed (work_text plan.keyed.layout Show) from to load refusal plan saves device is work h
 work_fault (Write area) plan from to load saves refusal device is work h = store_fault plan from to load saves refusal (ap boots is) device work h
 work_fault (Act actions) plan from to load saves refusal device is work h = store_fault plan from to load saves refusal (ap boots is) device work h
 work_fault (Good targets) plan from to load saves refusal device is work h = store_fault plan from to load saves refusal (ap boots is) device work h
@@ -590,7 +591,7 @@ copy_of_fault ran s e =
       copy = named.1.copy;
       inside = subst (λ (p : Result SessionPlan Refusal). named.1.copy < copies_in p) (sym named.0.plan_is) named.1.inside;
       refusal = named.0.refusal_is ∙ ap (λ r. Some r) named.1.is;
-      told = subst (λ (status : Status). Tells ran (sent_of (session_for ran answers)) status) own.own own.ending.told;
+      told = subst (λ (status : Status). SendsText ran (sent_of (session_for ran answers)) status) own.own own.ending.told;
     }
 
 -- ---- the copies
@@ -605,7 +606,7 @@ on_a_trail ran session answers plan answered is =
     has_trails plan ran.before.device ran.after.device answers.load answers.saves
     (subst (λ (p : Result SessionPlan Refusal). IsFollowed p ran.before.device ran.after.device answers) is answered.followed)
 
-pub beside : (ran : Ran) → IsSession ran → KeepsOthers ran
+pub beside : (ran : Ran) → IsSession ran → KeepsOutsideCopies ran
 beside ran session answers plan answered is =
     keeps_outside plan ran.before.device ran.after.device answers.load answers.saves
     (subst (λ (p : Result SessionPlan Refusal). IsFollowed p ran.before.device ran.after.device answers) is answered.followed)
@@ -646,10 +647,10 @@ plan_memory (Err refusal) from to answers work h = record {
 pub no_memory_of : (ran : Ran) → IsSession ran → ran.status ≡ statuses.NoMemory → IsWithoutMemory ran
 no_memory_of ran (inr memory) e = memory
 no_memory_of ran (inl ending) e =
-    let own = told_memory _ _ ran.before.outlet ran.after.outlet ran.status ending.told e in
+    let own = told_memory _ _ ran.before.sink ran.after.sink ran.status ending.told e in
     let memory = plan_memory (plan_by_words ran.words (geometry_of ran) ending.answers.files) ran.before.device ran.after.device ending.answers ending.answered.followed own in
     record {
-      told = subst (λ (session : Session). Tells ran (sent_of session) (ended_status session)) memory.is ending.told;
+      told = subst (λ (session : Session). SendsText ran (sent_of session) (ended_status session)) memory.is ending.told;
       work = inl memory.unasked;
     }
 
@@ -661,8 +662,8 @@ plan_sink plan answers none = λ e. none (plan_only plan answers statuses.SinkFa
 session_sink : (words : List (List ℕ)) (geometry : Geometry) (answers : Answers) → ended_status (session_of words geometry answers) ≢ statuses.SinkFault
 session_sink words geometry answers = plan_sink (plan_by_words words geometry answers.files) answers (plan_refusal statuses.SinkFault refl (words_of words) geometry answers.files)
 
-cut_off : (ran : Ran) (ending : IsAnswered ran) → ran.status ≡ statuses.SinkFault → IsCutOff (sent_of (session_for ran ending.answers)) (ended_status (session_for ran ending.answers)) ran.before.outlet ran.after.outlet ran.status
-cut_off ran ending e = told_front _ _ ran.before.outlet ran.after.outlet ran.status ending.told (session_sink ran.words (geometry_of ran) ending.answers) e
+cut_off : (ran : Ran) (ending : IsAnswered ran) → ran.status ≡ statuses.SinkFault → IsTextCut (sent_of (session_for ran ending.answers)) (ended_status (session_for ran ending.answers)) ran.before.sink ran.after.sink ran.status
+cut_off ran ending e = told_front _ _ ran.before.sink ran.after.sink ran.status ending.told (session_sink ran.words (geometry_of ran) ending.answers) e
 
 pub front_of : (ran : Ran) → IsSession ran → ran.status ≡ statuses.SinkFault → SendsSessionFront ran
 front_of ran (inl ending) e = record {
@@ -670,16 +671,16 @@ front_of ran (inl ending) e = record {
   answered = ending.answered;
   front = (cut_off ran ending e).front;
 }
-front_of ran (inr memory) e = absurd (memory_sink ran.before.outlet ran.after.outlet ran.status memory.told e)
+front_of ran (inr memory) e = absurd (memory_sink ran.before.sink ran.after.sink ran.status memory.told e)
 
-pub sink_fault_of : (ran : Ran) → IsSession ran → ran.before.outlet.faults ≤ ran.after.outlet.faults → ComesByOutlet statuses.SinkFault ran
+pub sink_fault_of : (ran : Ran) → IsSession ran → ran.before.sink.faults ≤ ran.after.sink.faults → ComesByOutlet statuses.SinkFault ran
 sink_fault_of ran (inl ending) later = record {
   later = later;
   rose = λ e. (cut_off ran ending e).cause;
 }
 sink_fault_of ran (inr memory) later = record {
   later = later;
-  rose = λ e. absurd (memory_sink ran.before.outlet ran.after.outlet ran.status memory.told e);
+  rose = λ e. absurd (memory_sink ran.before.sink ran.after.sink ran.status memory.told e);
 }
 
 -- ---- what the work gave, and how it was told
@@ -691,12 +692,12 @@ err_same : (one two : Refusal) → ◌≡◌ {A = Result Report Refusal} (Err on
 err_same one two h = cc
 
 -- the line of refused memory was told
-memory_told : (ran : Ran) (refusal : Refusal) → refusal ≡ refusals.NoMemory → IsToldRefusal refusal ran.before.outlet ran.after.outlet ran.status → Tells ran (line_of refusals.NoMemory) statuses.NoMemory
-memory_told ran refusal same (inl told) = subst (λ (r : Refusal). Tells ran (line_of r) (status_of r)) same told
+memory_told : (ran : Ran) (refusal : Refusal) → refusal ≡ refusals.NoMemory → IsSentRefusal refusal ran.before.sink ran.after.sink ran.status → SendsText ran (line_of refusals.NoMemory) statuses.NoMemory
+memory_told ran refusal same (inl told) = subst (λ (r : Refusal). SendsText ran (line_of r) (status_of r)) same told
 memory_told ran refusal same (inr memory) = memory.1
 
 -- the line of a refusal was told, before which no text was gathered
-pub refused : (ran : Ran) (refusal : Refusal) → IsGiven ran.words ran.before.folder ran.after.folder ran.before.device ran.after.device (Err refusal) → IsToldRefusal refusal ran.before.outlet ran.after.outlet ran.status → IsSession ran
+pub refused : (ran : Ran) (refusal : Refusal) → IsSessionAnswer ran.words ran.before.folder ran.after.folder ran.before.device ran.after.device (Err refusal) → IsSentRefusal refusal ran.before.sink ran.after.sink ran.status → IsSession ran
 refused ran refusal (inl given) (inl told) =
     let session = session_for ran given.answers in
     let ended : ended_status session ≡ status_of refusal = ap (λ (r : Option Refusal). option_map_or status_of r statuses.Done) given.gives.1 in
@@ -706,7 +707,7 @@ refused ran refusal (inl given) (inl told) =
     inl (record {
       answers = given.answers;
       answered = given.answered;
-      told = subst (λ (text : List ℕ). Tells ran text (ended_status session)) (sym line) (subst (λ (status : Status). Tells ran (line_of refusal) status) (sym ended) told);
+      told = subst (λ (text : List ℕ). SendsText ran text (ended_status session)) (sym line) (subst (λ (status : Status). SendsText ran (line_of refusal) status) (sym ended) told);
     })
 refused ran refusal (inl given) (inr memory) = inr (record {
   told = memory.1;
@@ -725,10 +726,10 @@ refused ran refusal (inr (inr given)) told = inr (record {
   work = inl given.unasked;
 })
 
--- a report was told: the text alone, or the line of a refusal behind it
+-- a report was told: the text alone, or the line of a refusal after it
 reported : (ran : Ran) (answers : Answers) (text : List ℕ) (behind : Option Refusal) → MayAnswer ran answers →
     (session_for ran answers).text ≡ text → (session_for ran answers).refusal ≡ behind →
-    IsToldBehind text behind ran.before.outlet ran.after.outlet ran.status → IsSession ran
+    IsSentAfter text behind ran.before.sink ran.after.sink ran.status → IsSession ran
 reported ran answers text None answered text_is none told =
     let session = session_for ran answers in
     let ended : ended_status session ≡ statuses.Done = ap (λ (r : Option Refusal). option_map_or status_of r statuses.Done) none in
@@ -736,7 +737,7 @@ reported ran answers text None answered text_is none told =
     inl (record {
       answers = answers;
       answered = answered;
-      told = subst (λ (t : List ℕ). Tells ran t (ended_status session)) (sym whole) (subst (λ (status : Status). Tells ran text status) (sym ended) told);
+      told = subst (λ (t : List ℕ). SendsText ran t (ended_status session)) (sym whole) (subst (λ (status : Status). SendsText ran text status) (sym ended) told);
     })
 reported ran answers text (Some refusal) answered text_is some (inl told) =
     let session = session_for ran answers in
@@ -747,7 +748,7 @@ reported ran answers text (Some refusal) answered text_is some (inl told) =
     inl (record {
       answers = answers;
       answered = answered;
-      told = subst (λ (t : List ℕ). Tells ran t (ended_status session)) (sym whole) (subst (λ (status : Status). Tells ran (text ++ line_of refusal) status) (sym ended) told);
+      told = subst (λ (t : List ℕ). SendsText ran t (ended_status session)) (sym whole) (subst (λ (status : Status). SendsText ran (text ++ line_of refusal) status) (sym ended) told);
     })
 reported ran answers text (Some refusal) answered text_is some (inr memory) =
     inr (record {
@@ -759,7 +760,7 @@ reported ran answers text (Some refusal) answered text_is some (inr memory) =
       });
     })
 
-pub done : (ran : Ran) (report : Report) → IsGiven ran.words ran.before.folder ran.after.folder ran.before.device ran.after.device (Ok report) → IsToldBehind report.text report.refusal ran.before.outlet ran.after.outlet ran.status → IsSession ran
+pub done : (ran : Ran) (report : Report) → IsSessionAnswer ran.words ran.before.folder ran.after.folder ran.before.device ran.after.device (Ok report) → IsSentAfter report.text report.refusal ran.before.sink ran.after.sink ran.status → IsSession ran
 done ran report (inr (inl given)) told = absurd (ok_err report refusals.NoMemory given.is)
 done ran report (inr (inr given)) told = absurd (ok_err report refusals.NoMemory given.is)
 done ran report (inl given) told =

@@ -9,7 +9,7 @@ use Rattle.bb_base.specs.declared.files.FileFail.TheVariants.{Fault, TooLong, No
 use Rattle.bb_chooser.specs.Binding.{Binding}
 use Rattle.bb_flash.specs.declared.plan.Plan.{Plan as StartPlan}
 use Rattle.bb_layout.specs.Results.{all_ok, result_and_then}
-use Rattle.bb_shell.specs.Plans.{IsPlanned, entries_of, plan_by, plan_for, plans_by}
+use Rattle.bb_shell.specs.Plans.{IsPlanned, entries_of, plan_by, start_plan_for, plans_by}
 use Rattle.bb_shell.specs.declared.plan_fault.PlanFault.{PlanFault}
 use Rattle.bb_shell.specs.declared.plan_fault.PlanFault.TheVariants as plan_faults
 use Rattle.bb_tool.specs.Filing.{AreEntries, AreRead, IsAnswerFor}
@@ -19,9 +19,9 @@ use Rattle.bb_tool.specs.declared.refusal.Refusal.TheVariants as refusals
 
 -- the plans from a target on
 abbrev pub plans_from : ℕ → List FileAnswer → Result (List (Option StartPlan)) PlanFault
-plans_from n answers = all_ok (map (λ entry. plan_for entry.0 entry.1) (enumerate_from n answers))
+plans_from n answers = all_ok (map (λ entry. start_plan_for entry.0 entry.1) (enumerate_from n answers))
 
--- behind the plan of one
+-- after the plan of one
 abbrev next_of : Option StartPlan → Result (List (Option StartPlan)) PlanFault → Result (List (Option StartPlan)) PlanFault
 next_of plan r = result_and_then (λ plans. Ok (plan ∷ plans)) r
 

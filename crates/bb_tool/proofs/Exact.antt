@@ -16,7 +16,7 @@ use Rattle.bb_bucket.specs.Kind.{BucketKind, part_of}
 use Rattle.bb_copies.specs.Loading.{IsAllKept, IsExact}
 use Rattle.bb_copies.specs.Passing.{passing_of}
 use Rattle.bb_copies.specs.Saving.{EachWritten}
-use Rattle.bb_copies.specs.Settling.{IsUndisturbed, RoseBy}
+use Rattle.bb_copies.specs.Settling.{NothingFails, RoseBy}
 use Rattle.bb_flash.specs.Cuts.{IsLater}
 use Rattle.bb_copies.specs.StandsFor.{IsAreaOrNone}
 use Rattle.bb_copies.specs.declared.answers.Loaded.{Loaded}
@@ -28,7 +28,7 @@ use Rattle.bb_chooser.specs.declared.cause.Cause.{Cause}
 use Rattle.bb_flash.specs.declared.plan.Plan.{Plan as StartPlan}
 use Rattle.bb_state.specs.Keyed.{Keyed}
 use Rattle.bb_shell.specs.Boot.{Round, first_table, plan_at}
-use Rattle.bb_shell.specs.Running.{AreRun, IsRoundRun, is_refused, refusal_of}
+use Rattle.bb_shell.specs.Running.{AreRun, IsRoundRun, is_refused_save, refusal_of}
 use Rattle.bb_shell.specs.Stages.{saves_of as tables_of}
 use Rattle.bb_shell.proofs.Reached.{begun_saving, idle_saving, rounds_later}
 use Rattle.bb_shell.proofs.Starts.{round_later, start_content, start_later, unrefused as unrefused_round}
@@ -36,14 +36,14 @@ use Rattle.bb_state.specs.State.{IsStored}
 use Rattle.bb_state.specs.Kinds.{laid_form, laid_kinds}
 use Rattle.bb_tool.specs.Calls.{IsSession, geometry_of}
 use Rattle.bb_tool.specs.Copying.{MakesAlike, WritesExactly}
-use Rattle.bb_tool.specs.Ending.{IsFollowed}
-use Rattle.bb_tool.specs.Exactly.{EndsAlike, LeavesExactly, LeavesRegions, PassAlike, is_fresh, last_area, last_of, loaded_region, saved_region, worked_region}
+use Rattle.bb_tool.specs.SessionAnswer.{IsFollowed}
+use Rattle.bb_tool.specs.Exactly.{EndsAlike, LeavesExactly, LeavesRegions, PassAlike, is_fresh, last_area, last_area_of, loaded_region, saved_region, worked_region}
 use Rattle.bb_tool.specs.Looking.{first_found, passed_in}
 use Rattle.bb_tool.specs.Booting.{SaveAnswer}
 use Rattle.bb_tool.specs.Plan.{Act, Boot, Good, SessionPlan, Show, Work, Write, plan_by_words}
 use Rattle.bb_tool.specs.Ran.{Ran}
-use Rattle.bb_tool.specs.Session.{Answers, LoadAnswer, Session, loaded_area, saves_behind, work_session}
-use Rattle.bb_tool.specs.Work.{AreSaved, IsBootWork, IsFound, IsLoadedAs, IsStoreWork, IsWork, IsWorkOf, area_taken}
+use Rattle.bb_tool.specs.Session.{Answers, LoadAnswer, Session, loaded_area, saves_after, work_session}
+use Rattle.bb_tool.specs.Work.{AreSaved, IsBootWork, IsLoadedArea, IsLoadedAs, IsStoreWork, IsWork, IsWorkOf, area_taken}
 use Rattle.bb_tool.specs.declared.refusal.Refusal.{Refusal}
 use Rattle.bb_tool.proofs.Endings.{rose_by, rose_from, rose_on, saved_later}
 use Rattle.bb_tool.proofs.Turns.{some_of, told_content}
@@ -141,7 +141,7 @@ all_pass area (p ∷ passed) (inr none, rest) many =
 
 all_kept : (keyed : Keyed) (area : List ℕ) (used live : ℕ) (from to : Device) →
     IsAllKept (laid_form keyed) (laid_kinds keyed.layout) area used live from to →
-    IsUndisturbed from to → (z : Image) → content to ≡ Some z →
+    NothingFails from to → (z : Image) → content to ≡ Some z →
     All (λ p. p ≡ Some area) (passed_in keyed from.geometry.page z)
 all_kept keyed area used live from to kept calm z f =
     let passed = passed_in keyed from.geometry.page z in
@@ -156,7 +156,7 @@ all_kept keyed area used live from to kept calm z f =
 
 -- ---- a load that answered Ok
 
-module _ (keyed : Keyed) (from mid : Device) (calm : IsUndisturbed from mid) (x y : Image)
+module _ (keyed : Keyed) (from mid : Device) (calm : NothingFails from mid) (x y : Image)
     (e : content from ≡ Some x) (f : content mid ≡ Some y) where
   abbrev page : ℕ
   page = from.geometry.page
@@ -165,7 +165,7 @@ module _ (keyed : Keyed) (from mid : Device) (calm : IsUndisturbed from mid) (x 
   LeftBy found =
       LeavesRegions (laid_kinds keyed.layout) page (λ kind region. loaded_region (laid_form keyed) kind found region) x y
 
-  found_left : (area : List ℕ) (loaded : Loaded) → IsFound keyed area loaded from mid →
+  found_left : (area : List ℕ) (loaded : Loaded) → IsLoadedArea keyed area loaded from mid →
       LeftBy (area_taken area loaded)
   found_left area (Copy used live) found = λ copy kind there.
       exact_region (laid_form keyed) page kind area x y (found.exact calm x e y f copy kind there)
@@ -177,7 +177,7 @@ module _ (keyed : Keyed) (from mid : Device) (calm : IsUndisturbed from mid) (x 
       IsLoadedAs keyed used from mid found → LeftBy found
   loaded_left used found gave = subst LeftBy (sym gave.taken) (found_left gave.area gave.loaded gave.gave)
 
-  found_alike : (area : List ℕ) (loaded : Loaded) → IsFound keyed area loaded from mid →
+  found_alike : (area : List ℕ) (loaded : Loaded) → IsLoadedArea keyed area loaded from mid →
       PassAlike keyed page (area_taken area loaded) x y
   found_alike area (Copy used live) found =
       all_kept keyed area used live from mid found.gives.exit calm y f
@@ -193,7 +193,7 @@ module _ (keyed : Keyed) (from mid : Device) (calm : IsUndisturbed from mid) (x 
 
 saved_left : (keyed : Keyed) (used : Option ℕ) (areas : List (List ℕ)) (saves : List SaveAnswer)
     (mid to : Device) → AreSaved keyed used areas mid to saves → AllMade saves →
-    IsUndisturbed mid to → (y z : Image) → content mid ≡ Some y → content to ≡ Some z →
+    NothingFails mid to → (y z : Image) → content mid ≡ Some y → content to ≡ Some z →
     LeavesRegions (laid_kinds keyed.layout) mid.geometry.page
     (λ kind region. saved_region (laid_form keyed) kind areas region) y z
 saved_left keyed used [] saves mid to done made calm y z e f = λ copy kind there.
@@ -209,9 +209,9 @@ saved_left keyed used (area ∷ (other ∷ areas)) (Ok ok ∷ saves) mid to done
 
 saved_alike : (keyed : Keyed) (used : Option ℕ) (found : Option (List ℕ)) (areas : List (List ℕ))
     (saves : List SaveAnswer) (mid to : Device) → AreSaved keyed used areas mid to saves →
-    AllMade saves → IsUndisturbed mid to → (x y z : Image) → content mid ≡ Some y →
+    AllMade saves → NothingFails mid to → (x y z : Image) → content mid ≡ Some y →
     content to ≡ Some z → PassAlike keyed mid.geometry.page found x y →
-    PassAlike keyed mid.geometry.page (last_of found areas) x z
+    PassAlike keyed mid.geometry.page (last_area_of found areas) x z
 saved_alike keyed used found [] saves mid to done made calm x y z e f alike =
     subst (λ i. PassAlike keyed mid.geometry.page found x i)
     (one_content mid y z e (ap content (sym done.1) ∙ f)) alike
@@ -233,15 +233,15 @@ module _ (keyed : Keyed) (plans : List (Option StartPlan)) where
 
   -- one round, whose save was made
   module _ (kept : List ℕ) (used copy : Option ℕ) (round : Round) (from device : Device)
-      (run : IsRoundRun keyed plans kept used copy round from device) (done : is_refused round.outcome ≡ false)
-      (calm : IsUndisturbed from device) (y d : Image) (e : content from ≡ Some y) (f : content device ≡ Some d) where
+      (run : IsRoundRun keyed plans kept used copy round from device) (done : is_refused_save round.outcome ≡ false)
+      (calm : NothingFails from device) (y d : Image) (e : content from ≡ Some y) (f : content device ≡ Some d) where
     none : refusal_of round.outcome ≡ None
     none = unrefused_round round.outcome done
 
     started : content device ≡ content run.middle
     started = start_content (plan_at plans round.target) round.outcome run.middle device run.tried
 
-    save_calm : IsUndisturbed from run.middle
+    save_calm : NothingFails from run.middle
     save_calm = λ rose.
         calm (rose_on from.faults run.middle.faults device.faults rose
         (start_later (plan_at plans round.target) round.outcome run.middle device run.tried).faults)
@@ -264,7 +264,7 @@ module _ (keyed : Keyed) (plans : List (Option StartPlan)) where
         let stored = subst (λ r. IfNone r (IsStored keyed round.table copy from run.middle)) none (run.saved.begun other).stored in
         all_kept keyed round.table stored.saved.used stored.live from run.middle stored.saved.exit save_calm d saved_content
 
-  -- it, and what was run behind it
+  -- it, and what was run after it
   joined_left : (page : ℕ) (kept : List ℕ) (round : Round) (later : List Round) (y d z : Image) →
       RegionsBy page (tables_of round.table later) d z → (bytes_eq round.table kept ≡ true → d ≡ y) →
       (bytes_eq round.table kept ≡ false → RegionsBy page (round.table ∷ []) y d) →
@@ -279,22 +279,22 @@ module _ (keyed : Keyed) (plans : List (Option StartPlan)) where
       ∙ ap (λ r. saved_region (laid_form keyed) kind (tables_of round.table later) r) (begun e place kind there))
 
   joined_alike : (page : ℕ) (kept : List ℕ) (round : Round) (later : List Round) (found : Option (List ℕ)) (x y d z : Image) →
-      ((found' : Option (List ℕ)) → PassAlike keyed page found' x d → PassAlike keyed page (last_of found' (tables_of round.table later)) x z) →
+      ((found' : Option (List ℕ)) → PassAlike keyed page found' x d → PassAlike keyed page (last_area_of found' (tables_of round.table later)) x z) →
       (bytes_eq round.table kept ≡ true → d ≡ y) →
       (bytes_eq round.table kept ≡ false → All (λ p. p ≡ Some round.table) (passed_in keyed page d)) → PassAlike keyed page found x y →
-      (same : Bool) → bytes_eq round.table kept ≡ same → PassAlike keyed page (last_of found (tables_of kept (round ∷ later))) x z
+      (same : Bool) → bytes_eq round.table kept ≡ same → PassAlike keyed page (last_area_of found (tables_of kept (round ∷ later))) x z
   joined_alike page kept round later found x y d z again idle begun alike true e =
-      subst (λ areas. PassAlike keyed page (last_of found areas) x z)
+      subst (λ areas. PassAlike keyed page (last_area_of found areas) x z)
       (sym (ap (map (λ (r : Round). r.table)) (idle_saving kept round later e)))
       (again found (subst (λ i. PassAlike keyed page found x i) (sym (idle e)) alike))
   joined_alike page kept round later found x y d z again idle begun alike false e =
-      subst (λ areas. PassAlike keyed page (last_of found areas) x z)
+      subst (λ areas. PassAlike keyed page (last_area_of found areas) x z)
       (sym (ap (map (λ (r : Round). r.table)) (begun_saving kept round later e)))
       (again (Some round.table) (begun e))
 
   -- all of them
   run_left : (rounds : List Round) (kept : List ℕ) (used now : Option ℕ) (from to : Device) → AreRun keyed plans kept used now rounds from to →
-      AllSaved rounds → IsUndisturbed from to → (y z : Image) → content from ≡ Some y → content to ≡ Some z →
+      AllSaved rounds → NothingFails from to → (y z : Image) → content from ≡ Some y → content to ≡ Some z →
       RegionsBy from.geometry.page (tables_of kept rounds) y z
   unfolding AreRun
   run_left [] kept used now from to run saved calm y z e f = λ place kind there.
@@ -305,8 +305,8 @@ module _ (keyed : Keyed) (plans : List (Option StartPlan)) where
       let between = some_of run.device.told (early.told ∙ content_is from.told y e) in
       let d = between.0.image in
       let g = told_content run.device between.0 between.1 in
-      let first : IsUndisturbed from run.device = λ rose. calm (rose_on from.faults run.device.faults to.faults rose late.faults) in
-      let last : IsUndisturbed run.device to = λ rose. calm (rose_from from.faults run.device.faults to.faults early.faults rose) in
+      let first : NothingFails from run.device = λ rose. calm (rose_on from.faults run.device.faults to.faults rose late.faults) in
+      let last : NothingFails run.device to = λ rose. calm (rose_from from.faults run.device.faults to.faults early.faults rose) in
       joined_left from.geometry.page kept round later y d z
       (subst (λ p. RegionsBy p (tables_of round.table later) d z) (ap (λ geometry. geometry.page) early.geometry)
       (run_left later round.table run.copy now run.device to run.behind saved.1 last d z g f))
@@ -315,8 +315,8 @@ module _ (keyed : Keyed) (plans : List (Option StartPlan)) where
       (bytes_eq round.table kept) refl
 
   run_alike : (rounds : List Round) (kept : List ℕ) (used now : Option ℕ) (from to : Device) → AreRun keyed plans kept used now rounds from to →
-      AllSaved rounds → IsUndisturbed from to → (found : Option (List ℕ)) (x y z : Image) → content from ≡ Some y → content to ≡ Some z →
-      PassAlike keyed from.geometry.page found x y → PassAlike keyed from.geometry.page (last_of found (tables_of kept rounds)) x z
+      AllSaved rounds → NothingFails from to → (found : Option (List ℕ)) (x y z : Image) → content from ≡ Some y → content to ≡ Some z →
+      PassAlike keyed from.geometry.page found x y → PassAlike keyed from.geometry.page (last_area_of found (tables_of kept rounds)) x z
   unfolding AreRun
   run_alike [] kept used now from to run saved calm found x y z e f alike =
       subst (λ i. PassAlike keyed from.geometry.page found x i) (one_content from y z e (ap content (sym run.1) ∙ f)) alike
@@ -327,11 +327,11 @@ module _ (keyed : Keyed) (plans : List (Option StartPlan)) where
       let d = between.0.image in
       let g = told_content run.device between.0 between.1 in
       let page : run.device.geometry.page ≡ from.geometry.page = ap (λ geometry. geometry.page) early.geometry in
-      let first : IsUndisturbed from run.device = λ rose. calm (rose_on from.faults run.device.faults to.faults rose late.faults) in
-      let last : IsUndisturbed run.device to = λ rose. calm (rose_from from.faults run.device.faults to.faults early.faults rose) in
+      let first : NothingFails from run.device = λ rose. calm (rose_on from.faults run.device.faults to.faults rose late.faults) in
+      let last : NothingFails run.device to = λ rose. calm (rose_from from.faults run.device.faults to.faults early.faults rose) in
       joined_alike from.geometry.page kept round later found x y d z
       (λ found' here.
-      subst (λ p. PassAlike keyed p (last_of found' (tables_of round.table later)) x z) page
+      subst (λ p. PassAlike keyed p (last_area_of found' (tables_of round.table later)) x z) page
       (run_alike later round.table run.copy now run.device to run.behind saved.1 last found' x d z g f
       (subst (λ p. PassAlike keyed p found' x d) (sym page) here)))
       (idle_same kept used run.copy round from run.device run.before saved.0 first y d e g)
@@ -344,15 +344,15 @@ module _ (keyed : Keyed) (plans : List (Option StartPlan)) where
 record IsLeftBy (plan : SessionPlan) (from : Device) (found : Option (List ℕ)) (areas : List (List ℕ)) (x z : Image) : Type 0 where
   left : LeavesRegions (laid_kinds plan.keyed.layout) from.geometry.page
       (λ kind region. saved_region (laid_form plan.keyed) kind areas (loaded_region (laid_form plan.keyed) kind found region)) x z
-  alike : PassAlike plan.keyed from.geometry.page (last_of found areas) x z
+  alike : PassAlike plan.keyed from.geometry.page (last_area_of found areas) x z
 
 module _ (plan : SessionPlan) (from middle to : Device) (used : Option ℕ) (found : Option (List ℕ)) (early : IsLater from middle) (late : middle.faults ≤ to.faults)
-    (gave : IsLoadedAs plan.keyed used from middle found) (areas : List (List ℕ)) (calm : IsUndisturbed from to)
+    (gave : IsLoadedAs plan.keyed used from middle found) (areas : List (List ℕ)) (calm : NothingFails from to)
     (x z : Image) (e : content from ≡ Some x) where
-  first_calm : IsUndisturbed from middle
+  first_calm : NothingFails from middle
   first_calm = λ rose. calm (rose_on from.faults middle.faults to.faults rose late)
 
-  last_calm : IsUndisturbed middle to
+  last_calm : NothingFails middle to
   last_calm = λ rose. calm (rose_from from.faults middle.faults to.faults early.faults rose)
 
   between : (t : Told) × (middle.told ≡ Some t)
@@ -368,10 +368,10 @@ module _ (plan : SessionPlan) (from middle to : Device) (used : Option ℕ) (fou
   same_page = ap (λ geometry. geometry.page) early.geometry
 
   behind_load :
-      (IsUndisturbed middle to → (y : Image) → content middle ≡ Some y →
+      (NothingFails middle to → (y : Image) → content middle ≡ Some y →
       LeavesRegions (laid_kinds plan.keyed.layout) middle.geometry.page (λ kind region. saved_region (laid_form plan.keyed) kind areas region) y z) →
-      (IsUndisturbed middle to → (y : Image) → content middle ≡ Some y → PassAlike plan.keyed middle.geometry.page found x y →
-      PassAlike plan.keyed middle.geometry.page (last_of found areas) x z) → IsLeftBy plan from found areas x z
+      (NothingFails middle to → (y : Image) → content middle ≡ Some y → PassAlike plan.keyed middle.geometry.page found x y →
+      PassAlike plan.keyed middle.geometry.page (last_area_of found areas) x z) → IsLeftBy plan from found areas x z
   behind_load saved alike = record {
     left = λ copy kind there.
         let loaded = loaded_left plan.keyed from middle first_calm x Mid e there_is used found gave copy kind there in
@@ -381,7 +381,7 @@ module _ (plan : SessionPlan) (from middle to : Device) (used : Option ℕ) (fou
         same_page (saved last_calm Mid there_is) copy kind there in
         behind ∙ ap (λ r. saved_region (laid_form plan.keyed) kind areas r) loaded;
     alike =
-        subst (λ p. PassAlike plan.keyed p (last_of found areas) x z) same_page
+        subst (λ p. PassAlike plan.keyed p (last_area_of found areas) x z) same_page
         (alike last_calm Mid there_is
         (subst (λ p. PassAlike plan.keyed p found x Mid) (sym same_page)
         (loaded_alike plan.keyed from middle first_calm x Mid e there_is used found gave)));
@@ -389,10 +389,10 @@ module _ (plan : SessionPlan) (from middle to : Device) (used : Option ℕ) (fou
 
 -- saves alone
 store_left : (plan : SessionPlan) (from to : Device) (found : Option (List ℕ)) (saves : List SaveAnswer) →
-    IsStoreWork plan from to (Ok found) saves → AllMade saves → IsUndisturbed from to → (x z : Image) →
-    content from ≡ Some x → content to ≡ Some z → IsLeftBy plan from found (saves_behind plan (Ok found)) x z
+    IsStoreWork plan from to (Ok found) saves → AllMade saves → NothingFails from to → (x z : Image) →
+    content from ≡ Some x → content to ≡ Some z → IsLeftBy plan from found (saves_after plan (Ok found)) x z
 store_left plan from to found saves work made calm x z e f =
-    let areas = saves_behind plan (Ok found) in
+    let areas = saves_after plan (Ok found) in
     let late = saved_later plan.keyed work.used areas saves work.middle to work.saved in
     behind_load plan from work.middle to work.used found work.loaded.later late.0 work.loaded.gives areas calm x z e
     (λ last y here. saved_left plan.keyed work.used areas saves work.middle to work.saved made last y z here f)
@@ -401,7 +401,7 @@ store_left plan from to found saves work made calm x z e f =
 -- a boot
 boot_left : (plan : SessionPlan) (targets : Binding) (cause : Cause) (plans : List (Option StartPlan)) (from to : Device)
     (found : Option (List ℕ)) (saves : List SaveAnswer) → (work : IsBootWork targets cause plans plan from to (Ok found) saves) →
-    AllSaved work.booted.rounds → IsUndisturbed from to → (x z : Image) → content from ≡ Some x → content to ≡ Some z →
+    AllSaved work.booted.rounds → NothingFails from to → (x z : Image) → content from ≡ Some x → content to ≡ Some z →
     IsLeftBy plan from found (tables_of (loaded_area plan.keyed.layout found) work.booted.rounds) x z
 boot_left plan targets cause plans from to found saves work made calm x z e f =
     let run = work.booted in
@@ -417,7 +417,7 @@ record IsDone (work : Work) (plan : SessionPlan) (from : Device) (found : Option
   alike : PassAlike plan.keyed from.geometry.page (last_area work plan found saves) x z
 
 work_done : (work : Work) (plan : SessionPlan) (from to : Device) (found : Option (List ℕ)) (saves : List SaveAnswer) → plan.work ≡ work →
-    IsWorkOf work plan from to (Ok found) saves → HasNoFault (work_session plan (Ok found) saves) → IsUndisturbed from to → (x z : Image) →
+    IsWorkOf work plan from to (Ok found) saves → HasNoFault (work_session plan (Ok found) saves) → NothingFails from to → (x z : Image) →
     content from ≡ Some x → content to ≡ Some z → IsDone work plan from found saves x z
 work_done Show plan from to found saves is work whole calm x z e f =
     let same : z ≡ x =
@@ -447,11 +447,11 @@ work_done (Boot targets cause plans) plan from to found saves is work whole calm
           (λ areas. LeavesRegions (laid_kinds plan.keyed.layout) from.geometry.page
           (λ kind region. saved_region (laid_form plan.keyed) kind areas (loaded_region (laid_form plan.keyed) kind found region)) x z)
           (sym same) done.left;
-      alike = subst (λ areas. PassAlike plan.keyed from.geometry.page (last_of found areas) x z) (sym same) done.alike;
+      alike = subst (λ areas. PassAlike plan.keyed from.geometry.page (last_area_of found areas) x z) (sym same) done.alike;
     }
 
 plan_done : (plan : SessionPlan) (from to : Device) (load : LoadAnswer) (saves : List SaveAnswer) →
-    IsWork plan from to load saves → IsUndisturbed from to → (x z : Image) →
+    IsWork plan from to load saves → NothingFails from to → (x z : Image) →
     content from ≡ Some x → content to ≡ Some z →
     IsDone plan.work plan from (first_found (passed_in plan.keyed from.geometry.page x)) saves x z
 plan_done plan from to (Err fault) saves work calm x z e f =
@@ -463,13 +463,13 @@ plan_done plan from to (Ok found) saves work calm x z e f =
     (work_done plan.work plan from to found saves refl work whole calm x z e f)
 
 left_by : (plan : Result SessionPlan Refusal) (from to : Device) (answers : Answers) →
-    IsFollowed plan from to answers → IsUndisturbed from to → LeavesExactly plan answers.saves from to
+    IsFollowed plan from to answers → NothingFails from to → LeavesExactly plan answers.saves from to
 left_by (Err refusal) from to answers done calm = done
 left_by (Ok plan) from to answers done calm = λ x e z f.
     (plan_done plan from to answers.load answers.saves done calm x z e f).left
 
 alike_by : (plan : Result SessionPlan Refusal) (from to : Device) (answers : Answers) →
-    IsFollowed plan from to answers → IsUndisturbed from to → EndsAlike plan answers.saves from to
+    IsFollowed plan from to answers → NothingFails from to → EndsAlike plan answers.saves from to
 alike_by (Err refusal) from to answers done calm = done
 alike_by (Ok plan) from to answers done calm = λ x e z f.
     (plan_done plan from to answers.load answers.saves done calm x z e f).alike

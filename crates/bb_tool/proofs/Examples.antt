@@ -22,7 +22,7 @@ use Rattle.bb_tool.specs.Marking.{good_text, lost_place}
 use Rattle.bb_tool.specs.Plan.{Boot, FileAnswers, SessionPlan, plans_in}
 use Rattle.bb_tool.specs.Refusal.{line_of}
 use Rattle.bb_tool.specs.Session.{done_with, refused_for, sent_of, session_of, work_session}
-use Rattle.bb_tool.specs.Turns.{boot_turn}
+use Rattle.bb_tool.specs.SessionTurns.{boot_turn}
 use Rattle.bb_tool.specs.declared.refusal.Refusal.TheVariants.{BadSettings, BadWords, BadLayout, BadVariable, FileFault, FileMissing, FileTooLong, NoGood, NoTarget, ReadFault, StartFailed, WriteFault}
 
 in_place : Geometry
@@ -99,7 +99,7 @@ line_of_copy_2 : line_of (WriteFault 2) ≡ codes "fault 9 WriteFault 2\n"
 unfolding digits
 line_of_copy_2 = refl
 
--- the line of a refusal stands behind the text
+-- the line of a refusal stands after the text
 line_behind_the_text : sent_of (record { text = codes "a\n"; refusal = Some ReadFault; saves = []; rounds = [] }) ≡ codes "a\nfault 8 ReadFault\n"
 unfolding digits
 line_behind_the_text = refl
@@ -122,7 +122,7 @@ line_of_no_place : line_of (NoGood 0) ≡ codes "fault 18 NoGood 0\n"
 unfolding digits
 line_of_no_place = refl
 
--- one target with its attempts, its priority and, behind these, the place that was chosen last
+-- one target with its attempts, its priority and, after these, the place that was chosen last
 one_target : Binding
 one_target = record {
   targets =
@@ -171,7 +171,8 @@ no_tree_to_boot : session_of (codes "boot" ∷ codes "-i" ∷ codes "b.dts" ∷ 
 unfolding in_place words_from
 no_tree_to_boot = refl
 
--- two systems: where another is tried behind one that failed, and where attempts are reset at power-on
+-- two systems: where another is tried after one that failed, and where attempts are reset at
+-- power-on
 abbrev two_targets : Bool → Bool → Binding
 two_targets retry power_on = record {
   targets =
@@ -226,7 +227,7 @@ module _ (keyed : Keyed) where
   unfolding rounds_by digits
   turn_of_a_start = refl
 
-  -- where the start fails the target is named behind the text
+  -- where the start fails the target is named after the text
   fails : sent_of (work_session (booting (two_targets false false) both) (Ok (Some (two 3 3 0))) (Ok false ∷ []))
       ≡ codes "tries 1\nfault 11 StartFailed a\n"
   unfolding rounds_by digits

@@ -22,8 +22,8 @@ use Rattle.bb_flash.proofs.Moments.{later_joined}
 use Rattle.bb_flash.specs.Cuts.{IsLater}
 use Rattle.bb_flash.specs.Device.{Device, content}
 use Rattle.bb_flash.specs.declared.plan.Plan.{Plan as StartPlan}
-use Rattle.bb_shell.specs.Boot.{Round, end_of, plan_at}
-use Rattle.bb_shell.specs.Running.{AreRun, IsRoundRun, IsSaveRun, IsTried, is_refused, refusal_of}
+use Rattle.bb_shell.specs.Boot.{Round, boot_end, plan_at}
+use Rattle.bb_shell.specs.Running.{AreRun, IsRoundRun, IsSaveRun, IsTried, is_refused_save, refusal_of}
 use Rattle.bb_shell.specs.Stages.{saves_of as tables_of}
 use Rattle.bb_shell.specs.declared.outcome.Outcome.TheVariants as outcomes
 use Rattle.bb_shell.proofs.Reached.{StopsRefused, begun_saving, idle_saving, stops_refused}
@@ -33,14 +33,14 @@ use Rattle.bb_flash.specs.Image.{Image}
 use Rattle.bb_state.specs.Kinds.{laid_form, laid_kinds}
 use Rattle.bb_tool.specs.Calls.{IsSession, geometry_of}
 use Rattle.bb_tool.specs.Copying.{KnowsWriteFaults, LeavesUnread}
-use Rattle.bb_tool.specs.Ending.{IsFollowed}
+use Rattle.bb_tool.specs.SessionAnswer.{IsFollowed}
 use Rattle.bb_tool.specs.Looking.{first_found, passed_in}
-use Rattle.bb_tool.specs.Booting.{SaveAnswer, boots, plans_of}
+use Rattle.bb_tool.specs.Booting.{SaveAnswer, boots, start_plans_of}
 use Rattle.bb_tool.specs.Exactly.{saves_made}
 use Rattle.bb_tool.specs.Plan.{Act, Boot, Good, SessionPlan, Show, Work, Write, plan_by_words}
 use Rattle.bb_tool.specs.Ran.{Ran}
 use Rattle.bb_tool.specs.Refusal.{copy_refusal, status_of}
-use Rattle.bb_tool.specs.Session.{Answers, LoadAnswer, Session, refusal_by_table, session_by, loaded_area, session_of_saves, saves_behind, saves_of, text_of, work_session}
+use Rattle.bb_tool.specs.Session.{Answers, LoadAnswer, Session, refusal_by_table, session_by, loaded_area, session_of_saves, saves_after, saves_of, work_text, work_session}
 use Rattle.bb_tool.specs.Work.{AreSaved, IsBootWork, IsLoaded, IsLoadedAs, IsStoreWork, IsWorkOf, area_taken}
 use Rattle.bb_tool.specs.WriteFault.{IsUsed, IsWanted, IsWriteFault}
 use Rattle.bb_tool.specs.declared.refusal.Refusal.{Refusal}
@@ -135,7 +135,7 @@ module _ (plan : SessionPlan) (from : Device) where
   nothing_taken used found area (Copy first live) is none so = absurd cc
   nothing_taken used found area NoCopy is none so = so
 
-  -- of this area, after a load that answered Ok and what came behind it, with `used` in use
+  -- of this area, after a load that answered Ok and what came after it, with `used` in use
   saved_fault : (found : Option (List ℕ)) (answers : List SaveAnswer) (used : Option ℕ) (area : List ℕ) (copy : ℕ)
       (mid to : Device) → Contains (saves_made plan.work plan found answers) area →
       IsLater from mid → IsLater mid to → (used ≡ Some copy → IsUsed plan from mid (Ok found) copy) →
@@ -214,7 +214,7 @@ lost_load : (plan : SessionPlan) (from mid : Device) (used : Option ℕ) (found 
 lost_load plan from mid used found gave none =
     nothing_taken plan from used found gave.area gave.loaded gave.used_is none gave.taken
 
--- the copy that a load took is in use behind it
+-- the copy that a load took is in use after it
 used_first : (plan : SessionPlan) (from mid : Device) (used : Option ℕ) (found : Option (List ℕ)) → IsLoaded plan.keyed used from mid (Ok found) →
     (copy : ℕ) → used ≡ Some copy → IsUsed plan from mid (Ok found) copy
 unfolding AreRun
@@ -232,7 +232,7 @@ used_first plan from mid used found loaded copy is = record {
 -- ---- saves alone
 
 behind_made : (work : Work) (plan : SessionPlan) (found : Option (List ℕ)) (answers : List SaveAnswer) → boots work ≡ false →
-    saves_made work plan found answers ≡ saves_behind plan (Ok found)
+    saves_made work plan found answers ≡ saves_after plan (Ok found)
 behind_made Show plan found answers store = refl
 behind_made (Write area) plan found answers store = refl
 behind_made (Act actions) plan found answers store = refl
@@ -274,8 +274,8 @@ store_explains plan from to (Err fault) saves refusal store device work h = reco
       work.loaded);
 }
 store_explains plan from to (Ok found) saves refusal store device work h =
-    saves_explain plan work.used from work.middle to found saves (text_of plan.keyed.layout plan.work found)
-    (saves_behind plan (Ok found)) saves refusal (behind_made plan.work plan found saves store) work.loaded work.saved
+    saves_explain plan work.used from work.middle to found saves (work_text plan.keyed.layout plan.work found)
+    (saves_after plan (Ok found)) saves refusal (behind_made plan.work plan found saves store) work.loaded work.saved
     (stored_refusal plan found saves refusal store device h
     (refusal_by_table plan.work (loaded_area plan.keyed.layout found)) refl)
 
@@ -303,7 +303,7 @@ contains_behind area other areas at = let here = at.1 in (suc at.0, omega (arith
 module _ (plan : SessionPlan) (plans : List (Option StartPlan)) (from first : Device) (found : Option (List ℕ)) (saves : List (List ℕ))
     (used : Option ℕ) (kept : List ℕ) (now copy : Option ℕ) (here device : Device) (round : Round) (later : List Round)
     (reached : IsReached plan plans from first found saves used kept now here (round ∷ later))
-    (run : IsRoundRun plan.keyed plans kept now copy round here device) (done : is_refused round.outcome ≡ false) where
+    (run : IsRoundRun plan.keyed plans kept now copy round here device) (done : is_refused_save round.outcome ≡ false) where
   lost_behind : copy ≡ None → used ≡ None
   lost_behind none = by (bytes_eq round.table kept) refl
     where
@@ -345,8 +345,8 @@ module _ (plan : SessionPlan) (targets : Binding) (cause : Cause) (plans : List 
   boots_so : boots plan.work ≡ true
   boots_so = ap boots is
 
-  plans_so : plans ≡ plans_of plan.work
-  plans_so = sym (ap plans_of is)
+  plans_so : plans ≡ start_plans_of plan.work
+  plans_so = sym (ap start_plans_of is)
 
   -- the last round, whose save was refused
   last_explains : (kept : List ℕ) (now copy : Option ℕ) (here device : Device) (round : Round) →
@@ -396,13 +396,13 @@ module _ (plan : SessionPlan) (targets : Binding) (cause : Cause) (plans : List 
       subst (λ d. Explains plan from d (Ok found) answers fault) (sym run.behind.1)
       (last_explains kept now run.copy here run.device round reached run.before (ap (λ (r : Round). r.outcome) same ∙ last.outcome))
   rounds_explain (round ∷ (next ∷ later)) kept now end here reached stops run last =
-      let done : is_refused round.outcome ≡ false = by (is_refused round.outcome) refl in
+      let done : is_refused_save round.outcome ≡ false = by (is_refused_save round.outcome) refl in
       rounds_explain (next ∷ later) round.table run.copy end run.device
       (further plan plans from first found Saves used kept now run.copy here run.device round (next ∷ later) reached run.before done)
       stops.1 run.behind
       (record { last = last.last; is = sym (later_last round next later) ∙ last.is; outcome = last.outcome })
     where
-      by : (refused : Bool) → is_refused round.outcome ≡ refused → is_refused round.outcome ≡ false
+      by : (refused : Bool) → is_refused_save round.outcome ≡ refused → is_refused_save round.outcome ≡ false
       by true e = absurd (let h : next ∷ later ≡ [] = stops.0 e in cc)
       by false e = e
 
@@ -421,7 +421,7 @@ boot_explains plan targets cause plans from to (Ok found) saves refusal device i
     let run = work.booted in
     let table = loaded_area plan.keyed.layout found in
     let session = boot_is plan targets cause plans found work.used work.middle to saves is run in
-    let ended = end_fault targets (end_of targets run.rounds) refusal device (sym (ap (λ (s : Session). s.refusal) session) ∙ h) in
+    let ended = end_fault targets (boot_end targets run.rounds) refusal device (sym (ap (λ (s : Session). s.refusal) session) ∙ h) in
     let made : tables_of table run.rounds ≡ saves_made plan.work plan found saves =
     sym (ap (λ (w : Work). saves_made w plan found saves) is ∙ ap (λ (s : Session). s.saves) session) in
     record {
@@ -456,7 +456,7 @@ work_explains Show plan from to (Err fault) saves refusal device is work h = rec
 work_explains Show plan from to (Ok found) saves refusal device is work h =
     absurd
     (none_some refusal
-    (sym (ap (λ (w : Work). (session_of_saves (text_of plan.keyed.layout plan.work found)
+    (sym (ap (λ (w : Work). (session_of_saves (work_text plan.keyed.layout plan.work found)
     (saves_of plan.keyed.layout w (loaded_area plan.keyed.layout found)) saves).refusal) is)
     ∙ stored_refusal plan found saves refusal (ap boots is) device h
     (refusal_by_table plan.work (loaded_area plan.keyed.layout found)) refl))

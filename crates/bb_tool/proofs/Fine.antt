@@ -10,7 +10,7 @@ use Rattle.bb_flash.specs.declared.plan.Plan.{Plan as StartPlan}
 use Rattle.bb_shell.specs.Boot.{AreRounds, IsOutcome, IsRound, Round, end_by, is_retried, last_round, plan_at}
 use Rattle.bb_shell.specs.Ends.{failed_starts, is_failed_start}
 use Rattle.bb_shell.specs.Rounds.{RoundAnswer, best_of, followed_by, outcome_by, round_by, rounds_by}
-use Rattle.bb_shell.specs.Running.{is_refused}
+use Rattle.bb_shell.specs.Running.{is_refused_save}
 use Rattle.bb_shell.specs.declared.boot_end.BootEnd.TheVariants as ends
 use Rattle.bb_shell.specs.declared.outcome.Outcome.{Outcome}
 use Rattle.bb_shell.specs.declared.outcome.Outcome.TheVariants as outcomes
@@ -28,12 +28,12 @@ use Rattle.bb_tool.proofs.Booted.{last_behind}
 
 abbrev pub AllSaved : List Round → Type 0
 AllSaved [] = ⊤
-AllSaved (round ∷ later) = (is_refused round.outcome ≡ false) × AllSaved later
+AllSaved (round ∷ later) = (is_refused_save round.outcome ≡ false) × AllSaved later
 
 none_refused : (rounds : List Round) → StopsRefused rounds → (RefusedLast rounds → ⊥) → AllSaved rounds
 none_refused [] stops none = tt
 none_refused (round ∷ later) stops none = (
-  by (is_refused round.outcome) refl,
+  by (is_refused_save round.outcome) refl,
   none_refused later stops.1 (λ last. none (last.0, (last_behind round later last.0 last.1.0, last.1.1))),
 )
   where
@@ -41,12 +41,12 @@ none_refused (round ∷ later) stops none = (
     alone [] e = refl
     alone (next ∷ l) e = absurd cc
 
-    by : (refused : Bool) → is_refused round.outcome ≡ refused → is_refused round.outcome ≡ false
+    by : (refused : Bool) → is_refused_save round.outcome ≡ refused → is_refused_save round.outcome ≡ false
     by true e = absurd (none (round, (alone later (stops.0 e), e)))
     by false e = e
 
 -- a boot whose last round was refused ends with a fault of the device
-refused_ends : (targets : Binding) (tries : ℕ) (round : Round) (outcome : Outcome) → is_refused outcome ≡ true →
+refused_ends : (targets : Binding) (tries : ℕ) (round : Round) (outcome : Outcome) → is_refused_save outcome ≡ true →
     is_device_fault (option_map_or status_of (end_refusal targets (end_by targets tries round outcome)) statuses.Done) ≡ true
 refused_ends targets tries round (outcomes.Refused fault) e = fault_device fault
 refused_ends targets tries round outcomes.Unplanned e = absurd cc
@@ -104,7 +104,7 @@ none_failed rounds before now rose none = none_counted rounds (none_rose (failed
 abbrev pub good : RoundAnswer
 good = record { save = None; starts = true }
 
-good_outcome : (plan : Option StartPlan) (outcome : Outcome) → IsOutcome plan outcome → is_refused outcome ≡ false →
+good_outcome : (plan : Option StartPlan) (outcome : Outcome) → IsOutcome plan outcome → is_refused_save outcome ≡ false →
     is_failed_start outcome ≡ false → outcome_by plan true None ≡ outcome
 good_outcome plan (outcomes.Refused fault) h saved started = absurd cc
 good_outcome None outcomes.Unplanned h saved started = refl
@@ -114,7 +114,7 @@ good_outcome None outcomes.Started h saved started = absurd (let e : false ≡ t
 good_outcome (Some plan) outcomes.Started h saved started = refl
 
 good_round : (b : Binding) (plans : List (Option StartPlan)) (table : List ℕ) (round : Round) → IsRound b plans table round →
-    is_refused round.outcome ≡ false → is_failed_start round.outcome ≡ false → round_by b plans table good round.target ≡ round
+    is_refused_save round.outcome ≡ false → is_failed_start round.outcome ≡ false → round_by b plans table good round.target ≡ round
 good_round b plans table round is saved started =
     λ i. record {
       target = round.target;

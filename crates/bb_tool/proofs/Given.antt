@@ -1,4 +1,5 @@
--- What a session gave before anything was sent: each way in which its steps end, as answers of the file and the device.
+-- What a session gave before anything was sent: each way in which its steps end, as answers of the
+-- file and the device.
 use Rattle.std.proofs.Common.{◌≡◌, ◌≢◌, ◌⊎◌, ℕ, List, [], All, Contains, Option, Some, None, IsOk, length, map, take, Result, Ok, Err, refl, sym, ap, subst, ◌∙◌, inl, inr, arith}
 use Rattle.std.specs.List.{AllZip}
 use Rattle.std.specs.Option.{ForSome, option_and_then, option_map, option_map_or}
@@ -28,7 +29,7 @@ use Rattle.bb_words.specs.declared.command.RawCommand.{RawCommand}
 use Rattle.bb_words.specs.declared.command.StateCommand.{StateCommand}
 use Rattle.bb_words.specs.declared.error.WordsError.{WordsError}
 use Rattle.bb_words.specs.declared.error.WordsError.TheVariants.{BadWord, NoMemory}
-use Rattle.bb_tool.specs.Ending.{IsAnswer, IsFollowed, IsGiven}
+use Rattle.bb_tool.specs.SessionAnswer.{IsAnswer, IsFollowed, IsSessionAnswer}
 use Rattle.bb_tool.specs.Filing.{AreEntries, AreRead, IsAnswerFor, IsFiled, IsFileRead, IsFolderLater, IsStateRead, entries_named}
 use Rattle.bb_tool.specs.Plan.{Act, Boot, Described, FileAnswer, FileAnswers, Good, Key, SessionPlan, Role, Settings, Tree, Work, binding_in, boot_bound, boot_described, boot_keyed, boot_plan, cause_of, described_by, entries_for, key_named, keyed_by, mark_described, mark_keyed, mark_plan, name_for, plan_of, plan_by_words, plans_in, raw_laid, raw_work, settings_named, state_described, state_plan}
 use Rattle.bb_tool.specs.Refusal.{layout_refusal, words_refusal}
@@ -98,7 +99,7 @@ no_file words geometry folder command is none no_entries =
 
 no_memory : (words : List (List ℕ)) (folder folder' : Folder) (device : Device)
     (given : Result Report Refusal) → given ≡ Err refusals.NoMemory →
-    IsGiven words folder folder' device device given
+    IsSessionAnswer words folder folder' device device given
 no_memory words folder folder' device given is = inr (inr (record { is = is; unasked = refl }))
 
 no_place : (place : ℕ) (geometry : Geometry) (role : Role) → name_for (Err place) geometry (Ok None) role ≡ None
@@ -114,7 +115,7 @@ no_name command geometry Settings = refl
 -- the words are refused
 pub given_words : (words : List (List ℕ)) (folder : Folder) (device : Device) (error : WordsError) →
     Refuses (words_of words) error →
-    IsGiven words folder folder device device (Err (words_refusal error))
+    IsSessionAnswer words folder folder device device (Err (words_refusal error))
 given_words words folder device (BadWord place) refused =
     inl (given_refused words folder folder unnamed device (refusals.BadWords place)
     (no_file words device.geometry folder (Err place) refused (no_place place device.geometry) refl)
@@ -150,7 +151,7 @@ pub given_layout : (words : List (List ℕ)) (folder : Folder) (device : Device)
     (e : LayoutError) → words_of words ≡ Ok (Raw command) →
     (e ≢ layout_errors.NoMemory →
     raw_layout command.magic command.area_len device.geometry ≡ Err e) →
-    IsGiven words folder folder device device (Err (layout_refusal e))
+    IsSessionAnswer words folder folder device device (Err (layout_refusal e))
 given_layout words folder device command e is refused = elim (layout_cases e) [
   | inl memory ↦
       no_memory words folder folder device (Err (layout_refusal e))
@@ -164,12 +165,12 @@ given_layout words folder device command e is refused = elim (layout_cases e) [
       ∙ ap (raw_laid command) (refused other.0))))
 ]
 
--- the work of a plan was done, or memory was refused before it or behind it
+-- the work of a plan was done, or memory was refused before it or after it
 given_worked : (words : List (List ℕ)) (folder folder' : Folder) (files : FileAnswers)
     (before after : Device) (keyed : Keyed) (work : Work) (given : Result Report Refusal) →
     IsFiled words before.geometry folder folder' files →
     plan_by_words words before.geometry files ≡ Ok (record { keyed = keyed; work = work }) →
-    IsWorkedOut keyed work before after given → IsGiven words folder folder' before after given
+    IsWorkedOut keyed work before after given → IsSessionAnswer words folder folder' before after given
 given_worked words folder folder' files before after keyed work given filed is (inl done) =
     let answers : Answers = record { files = files; load = done.load; saves = done.saves } in
     inl (record {
@@ -205,7 +206,7 @@ pub given_raw : (words : List (List ℕ)) (folder : Folder) (before after : Devi
     (command : RawCommand) (layout : Laid) (work : Work) (given : Result Report Refusal) →
     words_of words ≡ Ok (Raw command) → raw_work command.action ≡ work →
     raw_layout command.magic command.area_len before.geometry ≡ Ok layout →
-    IsWorkedOut (record { layout = layout; key = None }) work before after given → IsGiven words folder folder before after given
+    IsWorkedOut (record { layout = layout; key = None }) work before after given → IsSessionAnswer words folder folder before after given
 given_raw words folder before after command layout work given is action laid worked =
     given_worked words folder folder unnamed before after (record { layout = layout; key = None }) work given
     (raw_no_file words before.geometry folder command is)
@@ -264,12 +265,12 @@ module _ (words : List (List ℕ)) (command : Result Command ℕ) (is : words_of
         read.calm (each Tree state.file tree_named) (λ name named. each Key name (key_named_so name named));
   }
 
-  -- settings were read behind them
+  -- settings were read after them
   module _ (folder mid late : Folder) (settings : FileAnswer) (file : List ℕ)
       (set : settings_named command ≡ Some file) (first : IsStateRead state geometry folder mid tree key)
       (early : IsFolderLater folder mid) (second : IsFileRead file mid late settings)
       (behind : IsFolderLater mid late) where
-    -- and these entries behind it
+    -- and these entries after it
     set_filed : (last : Folder) (entries : List FileAnswer) → IsFolderLater late last →
         AreEntries (entries_named words geometry (all_read tree key settings entries)) folder entries →
         (Contains entries (Err Fault) → Rose late.faults last.faults) →
@@ -336,7 +337,7 @@ module _ (words : List (List ℕ)) (command : StateCommand) (is : words_of words
 
   -- a file, the tree, its layout, the key or a variable was refused
   pub given_state_refused : (device : Device) → device.geometry ≡ geometry → (refusal : Refusal) →
-      state_plan command geometry tree key ≡ Err refusal → IsGiven words folder folder' device device (Err refusal)
+      state_plan command geometry tree key ≡ Err refusal → IsSessionAnswer words folder folder' device device (Err refusal)
   given_state_refused device here refusal refused =
       inl
       (given_refused words folder folder' (unset_read tree key) device refusal (state_filed device here)
@@ -345,7 +346,7 @@ module _ (words : List (List ℕ)) (command : StateCommand) (is : words_of words
   -- the actions of `state` were done
   pub given_acted : (before after : Device) → before.geometry ≡ geometry → (keyed : Keyed) (given : Result Report Refusal) →
       state_plan command geometry tree key ≡ Ok (record { keyed = keyed; work = Act command.actions }) →
-      IsWorkedOut keyed (Act command.actions) before after given → IsGiven words folder folder' before after given
+      IsWorkedOut keyed (Act command.actions) before after given → IsSessionAnswer words folder folder' before after given
   given_acted before after here keyed given plans worked =
       given_worked words folder folder' (unset_read tree key) before after keyed (Act command.actions) given
       (state_filed before here) (state_planned before here ∙ plans) worked
@@ -367,7 +368,7 @@ module _ (words : List (List ℕ)) (command : MarkGoodCommand)
 
   -- a file of the state was refused, its tree, its layout or its key
   pub given_unset : (device : Device) → device.geometry ≡ geometry → (refusal : Refusal) →
-      keyed_by (mark_described command) geometry tree key ≡ Err refusal → IsGiven words folder mid device device (Err refusal)
+      keyed_by (mark_described command) geometry tree key ≡ Err refusal → IsSessionAnswer words folder mid device device (Err refusal)
   given_unset device here refusal refused =
       inl
       (given_refused words folder mid (unset_read tree key) device refusal
@@ -387,7 +388,7 @@ module _ (words : List (List ℕ)) (command : MarkGoodCommand)
 
     -- the file of the settings was refused, its text or what it is bound to
     pub given_misset : (device : Device) → device.geometry ≡ geometry → (refusal : Refusal) →
-        mark_plan command geometry tree key settings ≡ Err refusal → IsGiven words folder folder' device device (Err refusal)
+        mark_plan command geometry tree key settings ≡ Err refusal → IsSessionAnswer words folder folder' device device (Err refusal)
     given_misset device here refusal refused =
         inl
         (given_refused words folder folder' (all_read tree key settings []) device refusal (mark_filed device here)
@@ -397,7 +398,7 @@ module _ (words : List (List ℕ)) (command : MarkGoodCommand)
     pub given_marked : (before after : Device) → before.geometry ≡ geometry → (keyed : Keyed) (targets : Binding)
         (given : Result Report Refusal) →
         mark_plan command geometry tree key settings ≡ Ok (record { keyed = keyed; work = Good targets }) →
-        IsWorkedOut keyed (Good targets) before after given → IsGiven words folder folder' before after given
+        IsWorkedOut keyed (Good targets) before after given → IsSessionAnswer words folder folder' before after given
     given_marked before after here keyed targets given plans worked =
         given_worked words folder folder' (all_read tree key settings []) before after keyed (Good targets) given
         (mark_filed before here) (mark_planned settings before here ∙ plans) worked
@@ -430,7 +431,7 @@ module _ (words : List (List ℕ)) (command : BootCommand)
 
   -- a file of the state was refused, its tree, its layout or its key
   pub boot_unset : (device : Device) → device.geometry ≡ geometry → (refusal : Refusal) → Keyed_so ≡ Err refusal →
-      IsGiven words folder mid device device (Err refusal)
+      IsSessionAnswer words folder mid device device (Err refusal)
   boot_unset device here refusal refused =
       inl
       (given_refused words folder mid (unset_read tree key) device refusal
@@ -446,7 +447,7 @@ module _ (words : List (List ℕ)) (command : BootCommand)
     -- the file of the settings was refused, its text or what it is bound to
     pub boot_misset : (device : Device) → device.geometry ≡ geometry → (refusal : Refusal) →
         binding_in command.settings keyed.layout settings ≡ Err refusal →
-        IsGiven words folder late device device (Err refusal)
+        IsSessionAnswer words folder late device device (Err refusal)
     boot_misset device here refusal refused =
         let none =
         boot_names settings ∙ ap (λ r. names_by command r settings) laid
@@ -503,7 +504,7 @@ module _ (words : List (List ℕ)) (command : BootCommand)
 
       -- an entry was refused
       pub boot_unread : (device : Device) → device.geometry ≡ geometry → (refusal : Refusal) →
-          plans_in targets read.entries ≡ Err refusal → IsGiven words folder last device device (Err refusal)
+          plans_in targets read.entries ≡ Err refusal → IsSessionAnswer words folder last device device (Err refusal)
       boot_unread device here refusal refused =
           inl
           (given_refused words folder last (all_read tree key settings read.entries) device refusal
@@ -513,7 +514,7 @@ module _ (words : List (List ℕ)) (command : BootCommand)
       pub given_booted : (before after : Device) → before.geometry ≡ geometry → (plans : List (Option StartPlan)) →
           plans_in targets read.entries ≡ Ok plans → (answer : Result Report Refusal) →
           IsWorkedOut keyed (Boot targets (cause_of command.cause) plans) before after answer →
-          IsGiven words folder last before after answer
+          IsSessionAnswer words folder last before after answer
       given_booted before after here plans planned_ok answer worked =
           given_worked words folder last (all_read tree key settings read.entries) before after keyed
           (Boot targets (cause_of command.cause) plans) answer (filed_at before here)
@@ -522,5 +523,5 @@ module _ (words : List (List ℕ)) (command : BootCommand)
 -- memory was refused before any call of the device
 pub given_no_memory : (words : List (List ℕ)) (folder folder' : Folder) (device : Device)
     (given : Result Report Refusal) → given ≡ Err refusals.NoMemory →
-    IsGiven words folder folder' device device given
+    IsSessionAnswer words folder folder' device device given
 given_no_memory words folder folder' device given is = no_memory words folder folder' device given is

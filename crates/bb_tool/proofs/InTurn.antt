@@ -14,13 +14,13 @@ use Rattle.bb_shell.specs.Rounds.{answer_of}
 use Rattle.bb_shell.proofs.Answering.{rounds_are}
 use Rattle.bb_tool.specs.Booting.{SaveAnswer}
 use Rattle.bb_tool.specs.Calls.{IsSession, geometry_of}
-use Rattle.bb_tool.specs.Ending.{IsFollowed}
+use Rattle.bb_tool.specs.SessionAnswer.{IsFollowed}
 use Rattle.bb_tool.specs.Looking.{passed_in}
 use Rattle.bb_tool.specs.Plan.{Act, Boot, Good, SessionPlan, Show, Work, Write}
 use Rattle.bb_tool.specs.Ran.{Ran}
 use Rattle.bb_tool.specs.Session.{LoadAnswer, Session, loaded_area}
 use Rattle.bb_tool.specs.Starting.{BootsInTurn, IsBoundWork, IsTurnOf}
-use Rattle.bb_tool.specs.Turns.{EachStanding, boot_turn, first_area, work_turn}
+use Rattle.bb_tool.specs.SessionTurns.{EachStanding, boot_turn, first_area, work_turn}
 use Rattle.bb_tool.specs.Work.{IsBootWork, IsLoadedAs, IsWorkOf}
 use Rattle.bb_tool.specs.declared.refusal.Refusal.{Refusal}
 use Rattle.bb_tool.proofs.Booted.{boot_is}
@@ -28,7 +28,8 @@ use Rattle.bb_tool.proofs.Kept.{found_or, load_found}
 use Rattle.bb_tool.proofs.Sizes.{IsSizedWork, passed_sized, planned_sized}
 use Rattle.bb_tool.proofs.Turns.{standing_at, told_content}
 
--- the table that a load gave is the area of the first copy that passes, or the one of an empty device
+-- the table that a load gave is the area of the first copy that passes, or the one of an empty
+-- device
 table_is : (keyed : Keyed) (used : Option ℕ) (from mid : Device) (found : Option (List ℕ)) (first : Told) → from.told ≡ Some first →
     IsLoadedAs keyed used from mid found →
     first_passed (first_area keyed.layout) (passed_in keyed from.geometry.page first.image) ≡ loaded_area keyed.layout found

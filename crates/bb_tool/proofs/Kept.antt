@@ -13,8 +13,8 @@ use Rattle.bb_flash.specs.Image.{Image}
 use Rattle.bb_state.specs.Keyed.{Keyed}
 use Rattle.bb_tool.specs.Looking.{first_found, passed_in}
 use Rattle.bb_tool.specs.Session.{loaded_area}
-use Rattle.bb_tool.specs.Turns.{first_area}
-use Rattle.bb_tool.specs.Work.{IsFound, area_taken}
+use Rattle.bb_tool.specs.SessionTurns.{first_area}
+use Rattle.bb_tool.specs.Work.{IsLoadedArea, area_taken}
 
 pub passes_some : (passed : List (Option (List ℕ))) (copy : ℕ) (area : List ℕ) →
     passes_at passed copy ≡ Some area → SomePasses passed
@@ -49,7 +49,7 @@ pub record IsLeft (first : List ℕ) (used : Option ℕ) (before after : List (O
   pub uses : KeepsUsed used after
 
 pub load_left : (keyed : Keyed) (area : List ℕ) (loaded : Loaded) (from to : Device) (x y : Image) →
-    IsFound keyed area loaded from to → content from ≡ Some x → content to ≡ Some y →
+    IsLoadedArea keyed area loaded from to → content from ≡ Some x → content to ≡ Some y →
     IsLeft (first_area keyed.layout) (used_after loaded)
     (passed_in keyed from.geometry.page x) (passed_in keyed from.geometry.page y)
 load_left keyed area (Copy used live) from to x y found e f =
@@ -78,7 +78,7 @@ load_left keyed area NoCopy from to x y found e f =
 
 -- what it took is what the first copy passes that passes one
 pub load_found : (keyed : Keyed) (area : List ℕ) (loaded : Loaded) (from to : Device) (x : Image) →
-    IsFound keyed area loaded from to → content from ≡ Some x →
+    IsLoadedArea keyed area loaded from to → content from ≡ Some x →
     area_taken area loaded ≡ first_found (passed_in keyed from.geometry.page x)
 load_found keyed area (Copy used live) from to x found e =
     let entry = found.gives.entry x e in
@@ -89,6 +89,6 @@ load_found keyed area NoCopy from to x found e =
 
 -- and the area is what the answer makes of the defaults
 pub load_area : (keyed : Keyed) (area : List ℕ) (loaded : Loaded) (from to : Device) →
-    IsFound keyed area loaded from to → loaded_area keyed.layout (area_taken area loaded) ≡ area
+    IsLoadedArea keyed area loaded from to → loaded_area keyed.layout (area_taken area loaded) ≡ area
 load_area keyed area (Copy used live) from to found = refl
 load_area keyed area NoCopy from to found = sym found.defaults

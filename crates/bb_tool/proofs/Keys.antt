@@ -1,11 +1,11 @@
--- A layout and its key as they were read, one file behind the other.
+-- A layout and its key as they were read, one file after the other.
 use Rattle.std.proofs.Common.{◌≡◌, ℕ, Bool, true, false, List, Option, Some, None, Result, Ok, Err, cond, refl, sym, ap, subst, ◌∙◌}
 use Rattle.std.specs.Option.{ForSome}
 use Rattle.std.specs.Result.{result_map_both}
 use Rattle.bb_base.specs.Folder.{Folder, file_of}
 use Rattle.bb_base.specs.declared.files.FileFail.TheVariants as file_fails
 use Rattle.bb_flash.specs.declared.geometry.Geometry.{Geometry}
-use Rattle.bb_hmac.specs.Hmac.{block_of}
+use Rattle.bb_hmac.specs.Hmac.{key_block}
 use Rattle.bb_hmac.specs.Key.{key_of}
 use Rattle.bb_hmac.specs.declared.error.KeyError.{KeyError}
 use Rattle.bb_layout.specs.Formats.{takes_key}
@@ -108,21 +108,21 @@ module _ (format : FormatKind) (takes : takes_key format ≡ true) where
 -- ---- what a text spells
 
 abbrev read_as : Result (List ℕ) KeyError → Result (List ℕ) Refusal
-read_as r = result_and_then (λ key. Ok (block_of key)) (refused_as refusals.BadKey r)
+read_as r = result_and_then (λ key. Ok (key_block key)) (refused_as refusals.BadKey r)
 
-pub block_refused : (text : List ℕ) (e : KeyError) → Err e ≡ result_map_both block_of (λ e. e) (key_of text) →
+pub block_refused : (text : List ℕ) (e : KeyError) → Err e ≡ result_map_both key_block (λ e. e) (key_of text) →
     block_by text ≡ Err (refusals.BadKey e)
 block_refused text e is = by (key_of text) is
   where
-    by : (r : Result (List ℕ) KeyError) → Err e ≡ result_map_both block_of (λ e. e) r → read_as r ≡ Err (refusals.BadKey e)
+    by : (r : Result (List ℕ) KeyError) → Err e ≡ result_map_both key_block (λ e. e) r → read_as r ≡ Err (refusals.BadKey e)
     by (Ok key) h = absurd cc
     by (Err other) h = let same : e ≡ other = cc in ap (λ x. Err (refusals.BadKey x)) (sym same)
 
-pub block_given : (text block : List ℕ) → Ok block ≡ result_map_both block_of (λ e. e) (key_of text) → block_by text ≡ Ok block
+pub block_given : (text block : List ℕ) → Ok block ≡ result_map_both key_block (λ e. e) (key_of text) → block_by text ≡ Ok block
 block_given text block is = by (key_of text) is
   where
-    by : (r : Result (List ℕ) KeyError) → Ok block ≡ result_map_both block_of (λ e. e) r → read_as r ≡ Ok block
-    by (Ok key) h = let same : block ≡ block_of key = cc in ap (λ b. Ok b) (sym same)
+    by : (r : Result (List ℕ) KeyError) → Ok block ≡ result_map_both key_block (λ e. e) r → read_as r ≡ Ok block
+    by (Ok key) h = let same : block ≡ key_block key = cc in ap (λ b. Ok b) (sym same)
     by (Err other) h = absurd cc
 
 -- ---- a layout and its key
@@ -191,7 +191,8 @@ module _ {A : Type 0} (state : Described) (geometry : Geometry) (view : A → Ke
           ∙ ap (λ x. Ok x) (sym is);
     }
 
--- what was read of the state that was handed in, of the name, the key and the geometry that words say
+-- what was read of the state that was handed in, of the name, the key and the geometry that words
+-- say
 pub described_as : {A : Type 0} (file : List ℕ) (name key : Option (List ℕ)) (geometry : Geometry) {given_name given_key : Option (List ℕ)}
     {handed : Geometry} → given_name ≡ name → given_key ≡ key → handed ≡ geometry → (before after : Folder) (view : A → Keyed)
     (given : Result A Refusal) →

@@ -2,10 +2,10 @@
 use Rattle.std.proofs.Common.{◌≡◌, ◌++◌, ℕ, List, Result, Ok, Err, IfOk, String, true, string_bytes, Global, ap, codes, decimal, subst, sym, inl, inr, ◌∙◌}
 use Rattle.std.proofs.lemmas.List.{append_assoc}
 use Rattle.std.specs.declared.alloc.AllocError.{AllocError}
-use Rattle.bb_base.specs.Outlet.{Outlet}
+use Rattle.bb_base.specs.SinkRecord.{SinkRecord}
 use Rattle.bb_tool.specs.Refusal.{line_of, refusal_words, status_of, variable_words}
 use Rattle.bb_tool.specs.Status.{code_of}
-use Rattle.bb_tool.specs.Telling.{IsTold, IsToldMade, IsToldRefusal, takes_memory}
+use Rattle.bb_tool.specs.Sending.{IsSentOrCut, IsSentMade, IsSentRefusal, takes_memory}
 use Rattle.bb_state.specs.declared.error.StateError.{StateError}
 use Rattle.bb_tool.specs.declared.refusal.Refusal.{Refusal}
 use Rattle.bb_tool.specs.declared.refusal.Refusal.TheVariants as refusals
@@ -25,8 +25,8 @@ line_made (Ok line) refusal number words n w is =
 line_made (Err e) refusal number words n w is = tt
 
 -- one that was made, or was refused the memory for it
-pub told_made : (made : Result (String Global) AllocError) (refusal : Refusal) (before after : Outlet) (status : Status) → takes_memory refusal ≡ true → IfOk made (λ line. string_bytes line ≡ line_of refusal) → IsToldMade made (status_of refusal) before after status → IsToldRefusal refusal before after status
-told_made (Ok line) refusal before after status takes is told = inl (subst (λ (text : List ℕ). IsTold text (status_of refusal) before after status) is told)
+pub told_made : (made : Result (String Global) AllocError) (refusal : Refusal) (before after : SinkRecord) (status : Status) → takes_memory refusal ≡ true → IfOk made (λ line. string_bytes line ≡ line_of refusal) → IsSentMade made (status_of refusal) before after status → IsSentRefusal refusal before after status
+told_made (Ok line) refusal before after status takes is told = inl (subst (λ (text : List ℕ). IsSentOrCut text (status_of refusal) before after status) is told)
 told_made (Err e) refusal before after status takes is told = inr (takes, told)
 
 four : (a b c d : List ℕ) → a ++ (b ++ (c ++ d)) ≡ a ++ b ++ c ++ d

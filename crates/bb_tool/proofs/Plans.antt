@@ -13,7 +13,7 @@ use Rattle.bb_fdt.specs.Reading.{blob_of}
 use Rattle.bb_fdt.specs.declared.error.FdtError.{FdtError}
 use Rattle.bb_flash.specs.declared.geometry.Geometry.{Geometry}
 use Rattle.bb_flash.specs.declared.plan.Plan.{Plan as StartPlan}
-use Rattle.bb_hmac.specs.Hmac.{block_of}
+use Rattle.bb_hmac.specs.Hmac.{key_block}
 use Rattle.bb_hmac.specs.Key.{key_of}
 use Rattle.bb_hmac.specs.declared.error.KeyError.{KeyError}
 use Rattle.bb_layout.specs.Formats.{takes_key}
@@ -39,7 +39,7 @@ use Rattle.bb_tree.specs.Blob.{Devicetree}
 use Rattle.bb_tree.specs.Node.{Branch}
 use Rattle.bb_tool.specs.Calls.{IsRefusedWith}
 use Rattle.bb_tool.specs.Filing.{AreEntries, EachNamed, IsAnswerFor, IsFiled}
-use Rattle.bb_tool.specs.Plan.{Act, Boot, Described, FileAnswer, FileAnswers, Good, Key, SessionPlan, Role, Settings, Tree, binding_in, blob_root, block_by, block_in, boot_bound, boot_described, boot_keyed, boot_plan, bound_in, bytes_in, cause_of, described_by, entries_for, files_for, files_of, fit_by, has_file, is_blob, key_for, key_in, key_named, key_of_laid, keyed_by, keyed_in, laid_by, layout_by, mark_described, mark_keyed, mark_plan, name_for, plan_of, plan_refusal as refusal_for, plan_by_words, plans_in, raw_laid, raw_plan, read_named, refused_as, settings_named, source_root, state_described, state_keyed, state_plan, tree_in}
+use Rattle.bb_tool.specs.Plan.{Act, Boot, Described, FileAnswer, FileAnswers, Good, Key, SessionPlan, Role, Settings, Tree, binding_in, blob_root, block_by, block_in, boot_bound, boot_described, boot_keyed, boot_plan, binding_by, bytes_in, cause_of, described_by, entries_for, files_for, files_of, fit_by, has_file, is_blob, key_for, key_in, key_named, key_of_laid, keyed_by, keyed_in, laid_by, layout_by, mark_described, mark_keyed, mark_plan, name_for, plan_of, plan_refusal as refusal_for, plan_by_words, plans_in, raw_laid, raw_plan, read_named, refused_as, settings_named, source_root, state_described, state_keyed, state_plan, tree_in}
 use Rattle.bb_tool.specs.declared.refusal.Refusal.{Refusal}
 use Rattle.bb_tool.specs.declared.refusal.Refusal.TheVariants as refusals
 use Rattle.bb_tool.specs.Refusal.{status_of}
@@ -125,7 +125,7 @@ module _ (P : Refusal → Type 0) where
     -- ---- the key
     block_all : (text : List ℕ) → IfErr (block_by text) P
     block_all text =
-        then_all (λ (key : List ℕ). Ok (block_of key)) (refused_as refusals.BadKey (key_of text))
+        then_all (λ (key : List ℕ). Ok (key_block key)) (refused_as refusals.BadKey (key_of text))
         (as_all refusals.BadKey (key_of text) holds.key) (λ key. tt)
 
     fit_all : (misfit : Option (List ℕ × StateError)) → IfErr (fit_by misfit) P
@@ -138,8 +138,8 @@ module _ (P : Refusal → Type 0) where
         (fit_by (misfit_of keyed.layout.vars command.actions))
         (fit_all (misfit_of keyed.layout.vars command.actions)) (λ fit. tt)
 
-    bound_all : (layout : Laid) (text : List ℕ) → IfErr (refused_as refusals.BadSettings (bound_in layout text)) P
-    bound_all layout text = as_all refusals.BadSettings (bound_in layout text) holds.settings
+    bound_all : (layout : Laid) (text : List ℕ) → IfErr (refused_as refusals.BadSettings (binding_by layout text)) P
+    bound_all layout text = as_all refusals.BadSettings (binding_by layout text) holds.settings
 
     module _ (files : HoldsForFiles P) where
       named_all : (file : Option (List ℕ)) (answer : FileAnswer) → IfErr (block_in file answer) P
@@ -167,7 +167,7 @@ module _ (P : Refusal → Type 0) where
 
       binding_all : (file : List ℕ) (layout : Laid) (answer : FileAnswer) → IfErr (binding_in file layout answer) P
       binding_all file layout answer =
-          then_all (λ text. refused_as refusals.BadSettings (bound_in layout text)) (bytes_in file answer)
+          then_all (λ text. refused_as refusals.BadSettings (binding_by layout text)) (bytes_in file answer)
           (bytes_all files file answer) (bound_all layout)
 
       plans_all : (targets : Binding) (entries : List FileAnswer) → IfErr (plans_in targets entries) P
@@ -424,8 +424,8 @@ key_kept state geometry tree tree' is name named = elim (answer_cases tree tree'
 binding_same : (file : List ℕ) (layout : Laid) (settings settings' : FileAnswer) → IsAnswerFor settings settings' →
     IsSameFor (binding_in file layout settings) (binding_in file layout settings')
 binding_same file layout settings settings' is =
-    then_same (λ text. refused_as refusals.BadSettings (bound_in layout text))
-    (λ text. refused_as refusals.BadSettings (bound_in layout text)) (bytes_in file settings) (bytes_in file settings')
+    then_same (λ text. refused_as refusals.BadSettings (binding_by layout text))
+    (λ text. refused_as refusals.BadSettings (binding_by layout text)) (bytes_in file settings) (bytes_in file settings')
     (bytes_same file settings settings' is) (λ text read. inl refl)
 
 -- the plan of a boot by those of its entries
@@ -623,7 +623,7 @@ bytes_fault file (Err file_fails.Fault) fault = refl
 bytes_fault file (Err file_fails.TooLong) fault = absurd cc
 bytes_fault file (Err file_fails.NoMemory) fault = absurd cc
 
--- a step behind a file whose own refusals are no faults
+-- a step after a file whose own refusals are no faults
 behind_fault : {A : Type 0} (file : List ℕ) (answer : FileAnswer) (next : List ℕ → Result A Refusal) →
     ((bytes : List ℕ) → IfErr (next bytes) OtherThanFault) → IsAtFault (result_and_then next (bytes_in file answer)) →
     answer ≡ Err file_fails.Fault
@@ -673,7 +673,7 @@ keyed_fault state geometry tree key fault = elim (then_fault (keyed_in state.key
 binding_fault : (file : List ℕ) (layout : Laid) (settings : FileAnswer) → IsAtFault (binding_in file layout settings) →
     settings ≡ Err file_fails.Fault
 binding_fault file layout settings fault =
-    behind_fault file settings (λ text. refused_as refusals.BadSettings (bound_in layout text))
+    behind_fault file settings (λ text. refused_as refusals.BadSettings (binding_by layout text))
     (bound_all OtherThanFault fault_texts layout) fault
 
 -- an entry met one
@@ -827,7 +827,7 @@ keyed_read state geometry tree key keyed is =
 binding_read : (file : List ℕ) (layout : Laid) (settings : FileAnswer) (targets : Binding) → binding_in file layout settings ≡ Ok targets →
     IsOk settings
 binding_read file layout settings targets is =
-    let text = then_read (λ text. refused_as refusals.BadSettings (bound_in layout text)) (bytes_in file settings) targets is in
+    let text = then_read (λ text. refused_as refusals.BadSettings (binding_by layout text)) (bytes_in file settings) targets is in
     bytes_read file settings text.0 text.1.0
 
 -- each file that the words name was read, and each entry that was come to

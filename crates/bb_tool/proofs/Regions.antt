@@ -9,7 +9,7 @@ use Rattle.bb_flash.specs.declared.health.Health.TheVariants.{Fine, Worn}
 use Rattle.bb_flash.specs.Image.{Image}
 use Rattle.bb_state.specs.Kinds.{any_form}
 use Rattle.bb_state.specs.declared.any_format.AnyFormat.TheVariants.{Raw}
-use Rattle.bb_tool.specs.Exactly.{last_of, loaded_region, saved_region}
+use Rattle.bb_tool.specs.Exactly.{last_area_of, loaded_region, saved_region}
 
 form : Form
 form = any_form (Raw (record { magic = 0x12345678; area_len = 9; key = None }))
@@ -53,5 +53,5 @@ a_save_writes_each_copy : saved_region form kind (codes "123456789" ∷ []) (sto
 unfolding after_byte after_eight_bits after_bit form kind entry stored
 a_save_writes_each_copy = refl
 
-the_last_save_counts : last_of (Some (codes "a")) (codes "b" ∷ codes "c" ∷ []) ≡ Some (codes "c")
+the_last_save_counts : last_area_of (Some (codes "a")) (codes "b" ∷ codes "c" ∷ []) ≡ Some (codes "c")
 the_last_save_counts = refl

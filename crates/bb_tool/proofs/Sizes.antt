@@ -1,5 +1,5 @@
--- The area of a plan's layout has one length: in its defaults, in what its copies pass, and in what a boot is bound to; and
--- no two variables to which a boot is bound share a byte of it.
+-- The area of a plan's layout has one length: in its defaults, in what its copies pass, and in what
+-- a boot is bound to; and no two variables to which a boot is bound share a byte of it.
 use Rattle.std.proofs.Common.{◌≡◌, ℕ, suc, ◌+◌, ◌≤◌, Bool, true, false, List, [], ◌∷◌, All, length, Option, Some, None, Result, Ok, Err, IfOk, cond, nat_lt, refl, subst, ◌∙◌, arith}
 use Rattle.std.specs.Prelude.{⊤, fold, map, ok_or, replicate}
 use Rattle.std.specs.Option.{option_and_then}
@@ -53,8 +53,8 @@ use Rattle.bb_words.specs.declared.command.RawAction.TheVariants as raw_actions
 use Rattle.bb_words.specs.declared.command.RawCommand.{RawCommand}
 use Rattle.bb_layout.specs.Thirds.{raw_layout}
 use Rattle.bb_tool.specs.Looking.{passed_in}
-use Rattle.bb_tool.specs.Plan.{Act, Boot, Described, FileAnswer, FileAnswers, Good, Key, SessionPlan, Settings, Show, Tree, Work, Write, binding_in, boot_bound, boot_described, boot_keyed, bound_in, bytes_in, cause_of, fit_by, key_in, keyed_by, keyed_in, laid_by, layout_by, layout_in, mark_described, mark_keyed, plan_of, plan_by_words, plans_in, raw_laid, raw_work, refused_as, state_described, state_keyed, tree_in}
-use Rattle.bb_tool.specs.Turns.{first_area}
+use Rattle.bb_tool.specs.Plan.{Act, Boot, Described, FileAnswer, FileAnswers, Good, Key, SessionPlan, Settings, Show, Tree, Work, Write, binding_in, boot_bound, boot_described, boot_keyed, binding_by, bytes_in, cause_of, fit_by, key_in, keyed_by, keyed_in, laid_by, layout_by, layout_in, mark_described, mark_keyed, plan_of, plan_by_words, plans_in, raw_laid, raw_work, refused_as, state_described, state_keyed, tree_in}
+use Rattle.bb_tool.specs.SessionTurns.{first_area}
 use Rattle.bb_tool.specs.declared.refusal.Refusal.{Refusal}
 use Rattle.bb_tool.specs.declared.refusal.Refusal.TheVariants as refusals
 
@@ -224,17 +224,17 @@ bind_sized settings layout =
 
 bound_apart : (file : List ℕ) (layout : Laid) (answer : FileAnswer) → IsSized layout → IfOk (binding_in file layout answer) IsBinding
 bound_apart file layout answer sized =
-    then_ok IsBinding (λ text. refused_as refusals.BadSettings (bound_in layout text)) (bytes_in file answer)
+    then_ok IsBinding (λ text. refused_as refusals.BadSettings (binding_by layout text)) (bytes_in file answer)
     (λ text has_bytes.
-    as_ok IsBinding refusals.BadSettings (bound_in layout text)
+    as_ok IsBinding refusals.BadSettings (binding_by layout text)
     (then_ok IsBinding (λ settings. bind_from settings layout.name layout.vars layout.area_len) (settings_of text)
     (λ settings read. bind_apart text settings layout read sized.vars sized.short)))
 
 bound_sized : (file : List ℕ) (layout : Laid) (answer : FileAnswer) → IfOk (binding_in file layout answer) (IsAsLongAs layout)
 bound_sized file layout answer =
-    then_ok (IsAsLongAs layout) (λ text. refused_as refusals.BadSettings (bound_in layout text)) (bytes_in file answer)
+    then_ok (IsAsLongAs layout) (λ text. refused_as refusals.BadSettings (binding_by layout text)) (bytes_in file answer)
     (λ text has_bytes.
-    as_ok (IsAsLongAs layout) refusals.BadSettings (bound_in layout text)
+    as_ok (IsAsLongAs layout) refusals.BadSettings (binding_by layout text)
     (then_ok (IsAsLongAs layout) (λ settings. bind_from settings layout.name layout.vars layout.area_len) (settings_of text)
     (λ settings read. bind_sized settings layout)))
 

@@ -1,4 +1,4 @@
--- What reading a file gives, and what the steps behind it make of that.
+-- What reading a file gives, and what the steps after it make of that.
 use Rattle.std.proofs.Common.{◌≡◌, ◌≢◌, ◌⊎◌, ◌≤◌, ℕ, Bool, true, false, List, Option, None, Result, Ok, Err, ok_or, refl, sym, ap, subst, ◌∙◌, inl, inr, arith}
 use Rattle.std.specs.Option.{ForSome}
 use Rattle.bb_base.proofs.Counts.{one_more_later}
@@ -26,7 +26,7 @@ use Rattle.bb_layout.specs.Storage.{storage_in}
 use Rattle.bb_layout.specs.Variables.{variables_of}
 use Rattle.bb_layout.specs.declared.layout_error.LayoutError.{LayoutError}
 use Rattle.bb_layout.specs.declared.layout_error.LayoutError.TheVariants as layout_errors
-use Rattle.bb_tool.specs.Filing.{Follows, IsFolderLater, IsReadFor}
+use Rattle.bb_tool.specs.Filing.{IsExpected, IsFolderLater, IsReadFor}
 use Rattle.bb_tool.specs.Plan.{FileAnswer, bytes_in, layout_in, refused_as}
 use Rattle.bb_tool.specs.Refusal.{blob_refusal, layout_refusal, settings_refusal, tree_refusal}
 use Rattle.bb_tool.specs.declared.refusal.Refusal.{Refusal}
@@ -71,7 +71,7 @@ memory_read name before after expected view given is =
       follows = λ some. absurd (some refl);
     })
 
--- ---- steps behind a file's bytes
+-- ---- steps after a file's bytes
 
 -- the file wasn't read
 pub unread_for : {A B : Type 0} (name : List ℕ) (before after : Folder) (next : List ℕ → Result B Refusal) (view : A → B) (e : Refusal) →
@@ -83,15 +83,15 @@ unread_for name before after next view e read = record {
   follows = λ some. ap (result_and_then next) (read.follows some);
 }
 
--- it was, and the step behind it gave this
+-- it was, and the step after it gave this
 pub read_for : {A B : Type 0} (name : List ℕ) (before after : Folder) (next : List ℕ → Result B Refusal) (view : A → B) (bytes : List ℕ) (given : Result A Refusal) →
-    IsReadFor name before after (bytes_in name) (λ (bytes : List ℕ). bytes) (Ok bytes) → Follows (next bytes) view given →
+    IsReadFor name before after (bytes_in name) (λ (bytes : List ℕ). bytes) (Ok bytes) → IsExpected (next bytes) view given →
     IsReadFor name before after (λ answer. result_and_then next (bytes_in name answer)) view given
 read_for name before after next view bytes given read follows = record {
   answer = read.answer;
   read = read.read;
   follows =
-      subst (λ r. Follows r view given) (sym (ap (result_and_then next) read.follows)) follows;
+      subst (λ r. IsExpected r view given) (sym (ap (result_and_then next) read.follows)) follows;
 }
 
 -- the layout that was read, of the name and the geometry that were handed in

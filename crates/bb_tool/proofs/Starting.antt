@@ -14,23 +14,23 @@ use Rattle.bb_flash.specs.Device.{Device, LeavesStarts, Start, Told, content, st
 use Rattle.bb_flash.specs.declared.plan.Plan.{Plan as StartPlan}
 use Rattle.bb_state.specs.Keyed.{Keyed}
 use Rattle.bb_shell.specs.Boot.{Round, end_by, last_round, plan_at, table_after}
-use Rattle.bb_shell.specs.Ends.{AddsStarts, HasEndCause, StartsOnce, failed_starts, is_fault}
+use Rattle.bb_shell.specs.Ends.{AddsStarts, HasEndCause, StartsOnce, failed_starts, is_fault_end}
 use Rattle.bb_shell.specs.Rounds.{is_started}
 use Rattle.bb_shell.specs.declared.boot_end.BootEnd.TheVariants as ends
 use Rattle.bb_shell.specs.declared.outcome.Outcome.{Outcome}
 use Rattle.bb_shell.specs.declared.outcome.Outcome.TheVariants as outcomes
 use Rattle.bb_shell.proofs.Joins.{there}
 use Rattle.bb_state.specs.Kinds.{laid_passings}
-use Rattle.bb_tool.specs.Booting.{AreRoundsOf, SaveAnswer, boots, end_refusal, plans_of, start_in, start_of}
-use Rattle.bb_tool.specs.Calls.{IsSession, MayAnswer, Tells, plan_for, session_for}
-use Rattle.bb_tool.specs.Ending.{IsFollowed}
+use Rattle.bb_tool.specs.Booting.{AreRoundsOf, SaveAnswer, boots, end_refusal, start_plans_of, start_in, start_of}
+use Rattle.bb_tool.specs.Calls.{IsSession, MayAnswer, SendsText, session_plan_for, session_for}
+use Rattle.bb_tool.specs.SessionAnswer.{IsFollowed}
 use Rattle.bb_tool.specs.Looking.{passed_in}
 use Rattle.bb_tool.specs.Plan.{Act, Boot, Good, SessionPlan, Show, Work, Write}
 use Rattle.bb_tool.specs.Ran.{Ran}
 use Rattle.bb_tool.specs.Refusal.{copy_refusal, status_of}
-use Rattle.bb_tool.specs.Session.{Answers, LoadAnswer, Session, refusal_by_table, session_by, loaded_area, session_of_saves, saves_behind, sent_of, text_of, unless_barred, work_session, worked_on}
-use Rattle.bb_tool.specs.Starting.{AddsStart, CountsFailedStarts, KnowsStartFaults, NamesTheTarget, RunsRounds, StartsAtMostOne, StartsBehindSave, StartsTheLast}
-use Rattle.bb_tool.specs.Turns.{first_area}
+use Rattle.bb_tool.specs.Session.{Answers, LoadAnswer, Session, refusal_by_table, session_by, loaded_area, session_of_saves, saves_after, sent_of, work_text, unless_barred, work_session, worked_on}
+use Rattle.bb_tool.specs.Starting.{AddsStart, CountsFailedStarts, KnowsStartFaults, NamesTheTarget, RunsRounds, StartsAtMostOne, StartsAfterSave, StartsTheLast}
+use Rattle.bb_tool.specs.SessionTurns.{first_area}
 use Rattle.bb_tool.specs.Work.{IsBootWork, IsLoadedAs, IsStoreWork, IsWork, IsWorkOf}
 use Rattle.bb_tool.specs.declared.refusal.Refusal.{Refusal}
 use Rattle.bb_tool.specs.declared.refusal.Refusal.TheVariants as refusals
@@ -60,7 +60,7 @@ no_rounds plan (Err fault) saves store = refl
 no_rounds plan (Ok found) saves store =
     unless_rounds (refusal_by_table plan.work (loaded_area plan.keyed.layout found)) (worked_on plan.work plan found saves)
     (ap (λ (s : Session). s.rounds) (stored_on plan.work plan found saves store)
-    ∙ saved_rounds (text_of plan.keyed.layout plan.work found) (saves_behind plan (Ok found)) saves)
+    ∙ saved_rounds (work_text plan.keyed.layout plan.work found) (saves_after plan (Ok found)) saves)
 
 boot_rounds : (plan : SessionPlan) (targets : Binding) (cause : Cause) (plans : List (Option StartPlan)) (found : Option (List ℕ))
     (from to : Device) (saves : List SaveAnswer) → plan.work ≡ Boot targets cause plans →
@@ -122,7 +122,7 @@ last_start targets plans tries (Some round) from to h = round_start targets plan
 store_starts : (plan : SessionPlan) (from to : Device) (load : LoadAnswer) (saves : List SaveAnswer) →
     IsStoreWork plan from to load saves → LeavesStarts from to
 store_starts plan from to load saves done =
-    begun_starts plan.keyed done.used (saves_behind plan load) saves from done.middle to done.saved done.loaded.starts
+    begun_starts plan.keyed done.used (saves_after plan load) saves from done.middle to done.saved done.loaded.starts
 
 -- without a round none is made
 none_made : (work : Work) (rounds : List Round) (from to : Device) → rounds ≡ [] → LeavesStarts from to →
@@ -199,14 +199,14 @@ loaded_holds keyed used from mid found geometry gave x y at_x at_y =
     (subst (λ t. EachPassesOrNothing t (passed_in keyed page y)) table left.each)
 
 round_calm : (targets : Binding) (tries : ℕ) (round : Round) (outcome : Outcome) (plan : Option StartPlan) →
-    IsSome (cond (is_started outcome) plan None) → is_fault (end_by targets tries round outcome) ≡ false
+    IsSome (cond (is_started outcome) plan None) → is_fault_end (end_by targets tries round outcome) ≡ false
 round_calm targets tries round (outcomes.Refused fault) plan some = absurd cc
 round_calm targets tries round outcomes.Unplanned plan some = refl
 round_calm targets tries round outcomes.Failed plan some = refl
 round_calm targets tries round outcomes.Started plan some = refl
 
 last_calm : (targets : Binding) (plans : List (Option StartPlan)) (tries : ℕ) (o : Option Round) → IsSome (option_and_then (start_in plans) o) →
-    is_fault (option_map_or (λ (round : Round). end_by targets tries round round.outcome) o ends.NoTarget) ≡ false
+    is_fault_end (option_map_or (λ (round : Round). end_by targets tries round round.outcome) o ends.NoTarget) ≡ false
 last_calm targets plans tries None some = refl
 last_calm targets plans tries (Some round) some = round_calm targets tries round round.outcome (plan_at plans round.target) some
 
@@ -279,7 +279,7 @@ store_else plan (Err fault) saves store refusal h e = not_fault fault (ap status
 store_else plan (Ok found) saves store refusal h e =
     unless_else (refusal_by_table plan.work (loaded_area plan.keyed.layout found)) (worked_on plan.work plan found saves)
     (barred_has (λ r. IsStartFailed r → ⊥) (λ place f. cc) (λ f. cc) plan.work (loaded_area plan.keyed.layout found))
-    (λ r g. saved_else (text_of plan.keyed.layout plan.work found) (saves_behind plan (Ok found)) saves r
+    (λ r g. saved_else (work_text plan.keyed.layout plan.work found) (saves_after plan (Ok found)) saves r
     (sym (ap (λ (s : Session). s.refusal) (stored_on plan.work plan found saves store)) ∙ g))
     refusal h e
 
@@ -312,7 +312,7 @@ fails_from plans o from mid to same (inr rose) = inr (subst (λ n. Rose n to.sta
 
 work_cause : (work : Work) (plan : SessionPlan) (from to : Device) (load : LoadAnswer) (saves : List SaveAnswer) → plan.work ≡ work →
     IsWorkOf work plan from to load saves → (refusal : Refusal) → (work_session plan load saves).refusal ≡ Some refusal → IsStartFailed refusal →
-    FailsBy (plans_of work) (last_round (work_session plan load saves).rounds) from to
+    FailsBy (start_plans_of work) (last_round (work_session plan load saves).rounds) from to
 work_cause Show plan from to load saves is done refusal h e = absurd (store_else plan load saves (ap boots is) refusal h e)
 work_cause (Write area) plan from to load saves is done refusal h e = absurd (store_else plan load saves (ap boots is) refusal h e)
 work_cause (Act actions) plan from to load saves is done refusal h e = absurd (store_else plan load saves (ap boots is) refusal h e)
@@ -330,11 +330,11 @@ work_cause (Boot targets cause plans) plan from to (Ok found) saves is done refu
 
 -- ---- in the words of a call
 
-followed_is : (ran : Ran) (answers : Answers) (plan : SessionPlan) → plan_for ran answers ≡ Ok plan →
+followed_is : (ran : Ran) (answers : Answers) (plan : SessionPlan) → session_plan_for ran answers ≡ Ok plan →
     work_session plan answers.load answers.saves ≡ session_for ran answers
 followed_is ran answers plan is = sym (ap (λ (p : Result SessionPlan Refusal). session_by p answers) is)
 
-work_of : (ran : Ran) (answers : Answers) (plan : SessionPlan) → MayAnswer ran answers → plan_for ran answers ≡ Ok plan →
+work_of : (ran : Ran) (answers : Answers) (plan : SessionPlan) → MayAnswer ran answers → session_plan_for ran answers ≡ Ok plan →
     IsWork plan ran.before.device ran.after.device answers.load answers.saves
 work_of ran answers plan answered is =
     subst (λ (p : Result SessionPlan Refusal). IsFollowed p ran.before.device ran.after.device answers) is answered.followed
@@ -347,12 +347,12 @@ module _ (ran : Ran) where
   To = ran.after.device
 
   -- of a load that answered Ok
-  loaded_work : (answers : Answers) (plan : SessionPlan) → MayAnswer ran answers → plan_for ran answers ≡ Ok plan →
+  loaded_work : (answers : Answers) (plan : SessionPlan) → MayAnswer ran answers → session_plan_for ran answers ≡ Ok plan →
       (found : Option (List ℕ)) → answers.load ≡ Ok found → IsWork plan From To (Ok found) answers.saves
   loaded_work answers plan answered is found load =
       subst (λ l. IsWork plan From To l answers.saves) load (work_of ran answers plan answered is)
 
-  loaded_session : (answers : Answers) (plan : SessionPlan) → plan_for ran answers ≡ Ok plan →
+  loaded_session : (answers : Answers) (plan : SessionPlan) → session_plan_for ran answers ≡ Ok plan →
       (found : Option (List ℕ)) → answers.load ≡ Ok found → work_session plan (Ok found) answers.saves ≡ session_for ran answers
   loaded_session answers plan is found load =
       ap (λ (l : LoadAnswer). work_session plan l answers.saves) (sym load) ∙ followed_is ran answers plan is
@@ -370,7 +370,7 @@ module _ (ran : Ran) where
   pub starts_of : IsSession ran → StartsTheLast ran
   starts_of s = started
 
-  pub starts_saved_of : IsSession ran → StartsBehindSave ran
+  pub starts_saved_of : IsSession ran → StartsAfterSave ran
   starts_saved_of s answers plan answered is found load some =
       let session = loaded_session answers plan is found load in
       subst
@@ -388,7 +388,7 @@ module _ (ran : Ran) where
   pub start_causes_of : IsSession ran → KnowsStartFaults ran
   start_causes_of s answers plan answered is name refusal =
       let session = followed_is ran answers plan is in
-      subst (λ (s : Session). FailsBy (plans_of plan.work) (last_round s.rounds) From To) session
+      subst (λ (s : Session). FailsBy (start_plans_of plan.work) (last_round s.rounds) From To) session
       (work_cause plan.work plan From To answers.load answers.saves refl (work_of ran answers plan answered is)
       (refusals.StartFailed name) (ap (λ (s : Session). s.refusal) session ∙ refusal) refl)
 
@@ -398,7 +398,7 @@ module _ (ran : Ran) where
   one_or_none None h = inl h
   one_or_none (Some plan) h = inr (plan, h)
 
-  answered_once : (answers : Answers) → MayAnswer ran answers → (plan : Result SessionPlan Refusal) → plan_for ran answers ≡ plan →
+  answered_once : (answers : Answers) → MayAnswer ran answers → (plan : Result SessionPlan Refusal) → session_plan_for ran answers ≡ plan →
       (starts To ≡ starts From) ⊎ ((plan : StartPlan) × StartsOnce From To plan)
   answered_once answers answered (Ok plan) is =
       one_or_none (start_of plan.work (session_for ran answers).rounds) (started answers plan answered is)
@@ -406,10 +406,10 @@ module _ (ran : Ran) where
       inl (ap starts (subst (λ (p : Result SessionPlan Refusal). IsFollowed p From To answers) is answered.followed))
 
   pub starts_once_of : IsSession ran → StartsAtMostOne ran
-  starts_once_of (inl ending) = answered_once ending.answers ending.answered (plan_for ran ending.answers) refl
+  starts_once_of (inl ending) = answered_once ending.answers ending.answered (session_plan_for ran ending.answers) refl
   starts_once_of (inr memory) = elim memory.work [
     | inl unasked ↦ inl (ap starts unasked)
-    | inr without ↦ answered_once without.answers without.answered (plan_for ran without.answers) refl
+    | inr without ↦ answered_once without.answers without.answered (session_plan_for ran without.answers) refl
   ]
 
 -- ---- the target that is named
@@ -448,5 +448,5 @@ start_failed_of ran s e =
       answered = own.ending.answered;
       name = named.0;
       refusal = named.1;
-      told = subst (λ (status : Status). Tells ran (sent_of (session_for ran answers)) status) own.own own.ending.told;
+      told = subst (λ (status : Status). SendsText ran (sent_of (session_for ran answers)) status) own.own own.ending.told;
     }

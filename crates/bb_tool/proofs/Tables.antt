@@ -12,20 +12,20 @@ use Rattle.bb_flash.specs.Device.{Device, content}
 use Rattle.bb_flash.specs.Image.{Image}
 use Rattle.bb_flash.specs.declared.plan.Plan.{Plan as StartPlan}
 use Rattle.bb_state.specs.Keyed.{Keyed}
-use Rattle.bb_shell.specs.Boot.{AreRounds, Round, end_by, end_of, first_table, last_round}
+use Rattle.bb_shell.specs.Boot.{AreRounds, Round, end_by, boot_end, first_table, last_round}
 use Rattle.bb_shell.specs.declared.boot_end.BootEnd.TheVariants as ends
 use Rattle.bb_shell.specs.declared.outcome.Outcome.{Outcome}
 use Rattle.bb_shell.specs.declared.outcome.Outcome.TheVariants as outcomes
 use Rattle.bb_shell.proofs.Answering.{best_none}
 use Rattle.bb_words.specs.Words.{words_of}
 use Rattle.bb_tool.specs.Booting.{SaveAnswer, boots, end_refusal, has_no_target}
-use Rattle.bb_tool.specs.Calls.{ComesByTable, IsRefusedWith, IsSession, geometry_of, is_fault, session_for}
-use Rattle.bb_tool.specs.Ending.{IsFollowed}
+use Rattle.bb_tool.specs.Calls.{ComesByTable, IsRefusedWith, IsSession, geometry_of, is_fault_status, session_for}
+use Rattle.bb_tool.specs.SessionAnswer.{IsFollowed}
 use Rattle.bb_tool.specs.Looking.{first_found, passed_in}
 use Rattle.bb_tool.specs.Plan.{Act, Boot, Good, SessionPlan, Show, Work, Write, plan_by_words}
 use Rattle.bb_tool.specs.Ran.{Ran}
 use Rattle.bb_tool.specs.Refusal.{copy_refusal, status_of}
-use Rattle.bb_tool.specs.Session.{Answers, LoadAnswer, Session, refusal_by_table, barred_behind, ended_status, session_by, load_for, loaded_area, session_of_saves, saves_behind, text_of, unless_barred, work_session, worked_on}
+use Rattle.bb_tool.specs.Session.{Answers, LoadAnswer, Session, refusal_by_table, barred_after, ended_status, session_by, load_for, loaded_area, session_of_saves, saves_after, work_text, unless_barred, work_session, worked_on}
 use Rattle.bb_tool.specs.Work.{IsLoadedAs, IsWork, IsWorkOf}
 use Rattle.bb_tool.specs.declared.refusal.Refusal.{Refusal}
 use Rattle.bb_tool.specs.declared.refusal.Refusal.TheVariants as refusals
@@ -64,7 +64,7 @@ store_else : (plan : SessionPlan) (found : Option (List ℕ)) (saves : List Save
     is_bar (ended_status (worked_on plan.work plan found saves)) ≡ false
 store_else plan found saves store =
     ap (λ (s : Session). is_bar (ended_status s)) (stored_on plan.work plan found saves store)
-    ∙ saved_else (text_of plan.keyed.layout plan.work found) (saves_behind plan (Ok found)) saves
+    ∙ saved_else (work_text plan.keyed.layout plan.work found) (saves_after plan (Ok found)) saves
 
 -- a boot with a round ends otherwise
 round_else : (targets : Binding) (tries : ℕ) (round : Round) (outcome : Outcome) →
@@ -79,7 +79,7 @@ last_there round [] = (round, refl)
 last_there round (next ∷ later) = let last = last_there next later in (last.0, later_last round next later ∙ last.1)
 
 rounds_else : (targets : Binding) (round : Round) (later : List Round) →
-    is_bar (option_map_or status_of (end_refusal targets (end_of targets (round ∷ later))) statuses.Done) ≡ false
+    is_bar (option_map_or status_of (end_refusal targets (boot_end targets (round ∷ later))) statuses.Done) ≡ false
 rounds_else targets round later =
     let last = last_there round later in
     ap
@@ -100,7 +100,7 @@ none_target targets cause plans table rounds none are =
 -- of a boot that isn't barred
 boot_else : (targets : Binding) (cause : Cause) (plans : List (Option StartPlan)) (table : List ℕ) (rounds : List Round) →
     AreRounds targets plans (first_table targets cause true table) rounds → refusal_by_table (Boot targets cause plans) table ≡ None →
-    is_bar (option_map_or status_of (end_refusal targets (end_of targets rounds)) statuses.Done) ≡ false
+    is_bar (option_map_or status_of (end_refusal targets (boot_end targets rounds)) statuses.Done) ≡ false
 boot_else targets cause plans table [] are free =
     absurd (let none = none_target targets cause plans table [] refl are in
     let h : Some refusals.NoTarget ≡ None = sym (ap (λ t. if t then Some refusals.NoTarget else None) none) ∙ free in cc)
@@ -136,14 +136,14 @@ bars_behind plan from to found saves done answer bar None is e =
 
 bars_work : (plan : SessionPlan) (from to : Device) (load : LoadAnswer) (saves : List SaveAnswer) → IsWork plan from to load saves →
     (answer : Status) → is_bar answer ≡ true → ended_status (work_session plan load saves) ≡ answer →
-    option_map status_of (barred_behind (Ok plan) load) ≡ Some answer
+    option_map status_of (barred_after (Ok plan) load) ≡ Some answer
 bars_work plan from to (Ok found) saves done answer bar e =
     bars_behind plan from to found saves done answer bar (refusal_by_table plan.work (loaded_area plan.keyed.layout found)) refl e
 bars_work plan from to (Err fault) saves done answer bar e = not_bar (status_of (copy_refusal fault)) answer bar (fault_else fault) e
 
 bars_plan : (plan : Result SessionPlan Refusal) (from to : Device) (answers : Answers) → IsFollowed plan from to answers → (answer : Status) →
     is_bar answer ≡ true → (IsRefusedWith answer plan → ⊥) → ended_status (session_by plan answers) ≡ answer →
-    option_map status_of (barred_behind plan answers.load) ≡ Some answer
+    option_map status_of (barred_after plan answers.load) ≡ Some answer
 bars_plan (Ok plan) from to answers done answer bar none e = bars_work plan from to answers.load answers.saves done answer bar e
 bars_plan (Err refusal) from to answers done answer bar none e = absurd (none e)
 
@@ -166,28 +166,28 @@ abbrev BarsWith : Status → Option Refusal → Type 0
 BarsWith answer bars = option_map status_of bars ≡ Some answer
 
 abbrev bars_in : Result SessionPlan Refusal → Device → Image → Option Refusal
-bars_in plan device image = barred_behind plan (load_for plan device.geometry image)
+bars_in plan device image = barred_after plan (load_for plan device.geometry image)
 
 work_place : (answer : Status) (plan : SessionPlan) (from to : Device) (load : LoadAnswer) (saves : List SaveAnswer) → IsWork plan from to load saves → (image : Image) → content from ≡ Some image →
-    BarsWith answer (barred_behind (Ok plan) load) → BarsWith answer (bars_in (Ok plan) from image)
+    BarsWith answer (barred_after (Ok plan) load) → BarsWith answer (bars_in (Ok plan) from image)
 work_place answer plan from to (Ok found) saves done image held some =
     subst (λ f. BarsWith answer (refusal_by_table plan.work (loaded_area plan.keyed.layout f))) (work_gives plan.work plan from to found saves done image held) some
 work_place answer plan from to (Err fault) saves done image held some = absurd cc
 
 plan_place : (answer : Status) (plan : Result SessionPlan Refusal) (from to : Device) (answers : Answers) → IsFollowed plan from to answers → (image : Image) → content from ≡ Some image →
-    BarsWith answer (barred_behind plan answers.load) → BarsWith answer (bars_in plan from image)
+    BarsWith answer (barred_after plan answers.load) → BarsWith answer (bars_in plan from image)
 plan_place answer (Ok plan) from to answers done image held some = work_place answer plan from to answers.load answers.saves done image held some
 plan_place answer (Err refusal) from to answers done image held some = absurd cc
 
 -- ---- where the table bars the session, that is the answer, or a fault
 
-fault_is : (fault : CopyFault) → is_fault (status_of (copy_refusal fault)) ≡ true
+fault_is : (fault : CopyFault) → is_fault_status (status_of (copy_refusal fault)) ≡ true
 fault_is faults.ReadFault = refl
 fault_is (faults.WriteFault copy) = refl
 fault_is faults.Unsure = refl
 
 abbrev IsBarOrFault : Status → Status → Type 0
-IsBarOrFault answer status = (status ≡ answer) ⊎ (is_fault status ≡ true)
+IsBarOrFault answer status = (status ≡ answer) ⊎ (is_fault_status status ≡ true)
 
 found_ends : (answer : Status) (plan : SessionPlan) (found : Option (List ℕ)) (saves : List SaveAnswer) (bars : Option Refusal) → refusal_by_table plan.work (loaded_area plan.keyed.layout found) ≡ bars → BarsWith answer bars →
     ended_status (work_session plan (Ok found) saves) ≡ answer
@@ -210,15 +210,15 @@ lost_ends answer (Err refusal) from to answers done image held some = absurd cc
 -- ---- in the words of a call
 
 abbrev Comes : Status → Ran → Type 0
-Comes answer ran = (ran.status ≡ answer) ⊎ ((ran.status ≡ statuses.NoMemory) ⊎ (is_fault ran.status ≡ true))
+Comes answer ran = (ran.status ≡ answer) ⊎ ((ran.status ≡ statuses.NoMemory) ⊎ (is_fault_status ran.status ≡ true))
 
 comes_by : (answer : Status) (ran : Ran) (ended : Status) → (ran.status ≡ ended) ⊎ ((ran.status ≡ statuses.SinkFault) ⊎ (ran.status ≡ statuses.NoMemory)) →
     (ended ≡ statuses.NoMemory) ⊎ IsBarOrFault answer ended → Comes answer ran
-comes_by answer ran ended (inr (inl sink)) ends = inr (inr (ap is_fault sink))
+comes_by answer ran ended (inr (inl sink)) ends = inr (inr (ap is_fault_status sink))
 comes_by answer ran ended (inr (inr memory)) ends = inr (inl memory)
 comes_by answer ran ended (inl own) (inl memory) = inr (inl (own ∙ memory))
 comes_by answer ran ended (inl own) (inr (inl lost)) = inl (own ∙ lost)
-comes_by answer ran ended (inl own) (inr (inr fault)) = inr (inr (ap is_fault own ∙ fault))
+comes_by answer ran ended (inl own) (inr (inr fault)) = inr (inr (ap is_fault_status own ∙ fault))
 
 pub barred_of : (answer : Status) → is_bar answer ≡ true → answer ≢ statuses.SinkFault → answer ≢ statuses.NoMemory → answer ≢ statuses.FileFault →
     ((ran : Ran) (answers : Answers) → IsRefusedWith answer (plan_by_words ran.words (geometry_of ran) answers.files) → ⊥) →
@@ -240,17 +240,17 @@ barred_of answer bar first second third unplanned ran s = λ files told image he
       ];
   always = λ some. elim s [
     | inr memory ↦
-        comes_by answer ran statuses.NoMemory (told_cases _ statuses.NoMemory ran.before.outlet ran.after.outlet ran.status memory.told) (inl refl)
+        comes_by answer ran statuses.NoMemory (told_cases _ statuses.NoMemory ran.before.sink ran.after.sink ran.status memory.told) (inl refl)
     | inl ending ↦
         let answers = ending.answers in
         let plan = plan_by_words ran.words (geometry_of ran) answers.files in
-        comes_by answer ran (ended_status (session_for ran answers)) (told_cases _ _ ran.before.outlet ran.after.outlet ran.status ending.told)
+        comes_by answer ran (ended_status (session_for ran answers)) (told_cases _ _ ran.before.sink ran.after.sink ran.status ending.told)
         (elim (same_plan ran.words (geometry_of ran) ran.before.folder ran.after.folder answers.files ending.answered.filed files told) [
           | inl same ↦
               inr (lost_ends answer plan ran.before.device ran.after.device answers ending.answered.followed image held
               (subst (λ (p : Result SessionPlan Refusal). BarsWith answer (bars_in p ran.before.device image)) (sym same) some))
           | inr odd ↦ elim odd [
-            | inl fault ↦ inr (inr (ap is_fault (plan_ends plan answers statuses.FileFault fault)))
+            | inl fault ↦ inr (inr (ap is_fault_status (plan_ends plan answers statuses.FileFault fault)))
             | inr memory ↦ inl (ap (λ (p : Result SessionPlan Refusal). ended_status (session_by p answers)) memory)
           ]
         ])

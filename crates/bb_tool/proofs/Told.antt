@@ -1,9 +1,9 @@
 -- What a status says of how a text was told.
 use Rattle.std.proofs.Common.{◌≡◌, ◌≢◌, ◌⊎◌, ℕ, List, refl, sym, ◌∙◌, inl, inr}
 use Rattle.bb_base.specs.Faults.{Rose}
-use Rattle.bb_base.specs.Outlet.{Outlet}
+use Rattle.bb_base.specs.SinkRecord.{SinkRecord}
 use Rattle.bb_tool.specs.Refusal.{line_of}
-use Rattle.bb_tool.specs.Telling.{IsCutOff, IsSent, IsTold, IsToldMemory, status_unsent}
+use Rattle.bb_tool.specs.Sending.{IsTextCut, IsSent, IsSentOrCut, IsSentMemory, status_unsent}
 use Rattle.bb_tool.specs.declared.refusal.Refusal.TheVariants as refusals
 use Rattle.bb_tool.specs.declared.status.Status.{Status}
 use Rattle.bb_tool.specs.declared.status.Status.TheVariants as statuses
@@ -28,12 +28,12 @@ overrule_cases statuses.NoGood = inl refl
 overrule_cases statuses.SinkFault = inl refl
 overrule_cases statuses.NoMemory = inr refl
 
-pub told_cases : (text : List ℕ) (ended : Status) (before after : Outlet) (status : Status) → IsTold text ended before after status → (status ≡ ended) ⊎ ((status ≡ statuses.SinkFault) ⊎ (status ≡ statuses.NoMemory))
+pub told_cases : (text : List ℕ) (ended : Status) (before after : SinkRecord) (status : Status) → IsSentOrCut text ended before after status → (status ≡ ended) ⊎ ((status ≡ statuses.SinkFault) ⊎ (status ≡ statuses.NoMemory))
 told_cases text ended before after status (inl sent) = inl sent.status_is
 told_cases text ended before after status (inr cut) = elim (overrule_cases ended) [ inl e ↦ inr (inl (cut.status_is ∙ e)) | inr e ↦ inr (inr (cut.status_is ∙ e)) ]
 
 -- an answer that isn't one of the two that come first is the session's own
-pub told_own : (text : List ℕ) (ended answer : Status) (before after : Outlet) (status : Status) → IsTold text ended before after status → answer ≢ statuses.SinkFault → answer ≢ statuses.NoMemory → status ≡ answer → ended ≡ answer
+pub told_own : (text : List ℕ) (ended answer : Status) (before after : SinkRecord) (status : Status) → IsSentOrCut text ended before after status → answer ≢ statuses.SinkFault → answer ≢ statuses.NoMemory → status ≡ answer → ended ≡ answer
 told_own text ended answer before after status told first second e =
     elim (told_cases text ended before after status told) [
       | inl own ↦ sym own ∙ e
@@ -41,7 +41,7 @@ told_own text ended answer before after status told first second e =
     ]
 
 -- what was told of refused memory isn't another answer
-pub told_other : (answer : Status) (before after : Outlet) (status : Status) → IsTold (line_of refusals.NoMemory) statuses.NoMemory before after status → answer ≢ statuses.SinkFault → answer ≢ statuses.NoMemory → status ≡ answer → ⊥
+pub told_other : (answer : Status) (before after : SinkRecord) (status : Status) → IsSentOrCut (line_of refusals.NoMemory) statuses.NoMemory before after status → answer ≢ statuses.SinkFault → answer ≢ statuses.NoMemory → status ≡ answer → ⊥
 told_other answer before after status told first second e = second (sym (told_own (line_of refusals.NoMemory) statuses.NoMemory answer before after status told first second e))
 
 unsent_memory : (ended : Status) → status_unsent ended ≡ statuses.NoMemory → ended ≡ statuses.NoMemory
@@ -63,18 +63,18 @@ unsent_memory statuses.NoGood e = absurd cc
 unsent_memory statuses.SinkFault e = absurd cc
 unsent_memory statuses.NoMemory e = refl
 
-pub told_memory : (text : List ℕ) (ended : Status) (before after : Outlet) (status : Status) → IsTold text ended before after status → status ≡ statuses.NoMemory → ended ≡ statuses.NoMemory
+pub told_memory : (text : List ℕ) (ended : Status) (before after : SinkRecord) (status : Status) → IsSentOrCut text ended before after status → status ≡ statuses.NoMemory → ended ≡ statuses.NoMemory
 told_memory text ended before after status (inl sent) e = sym sent.status_is ∙ e
 told_memory text ended before after status (inr cut) e = unsent_memory ended (sym cut.status_is ∙ e)
 
-pub told_front : (text : List ℕ) (ended : Status) (before after : Outlet) (status : Status) → IsTold text ended before after status → ended ≢ statuses.SinkFault → status ≡ statuses.SinkFault → IsCutOff text ended before after status
+pub told_front : (text : List ℕ) (ended : Status) (before after : SinkRecord) (status : Status) → IsSentOrCut text ended before after status → ended ≢ statuses.SinkFault → status ≡ statuses.SinkFault → IsTextCut text ended before after status
 told_front text ended before after status (inl sent) own e = absurd (own (sym sent.status_is ∙ e))
 told_front text ended before after status (inr cut) own e = cut
 
-pub memory_sink : (before after : Outlet) (status : Status) → IsToldMemory before after status → status ≢ statuses.SinkFault
+pub memory_sink : (before after : SinkRecord) (status : Status) → IsSentMemory before after status → status ≢ statuses.SinkFault
 memory_sink before after status (inl sent) = λ e. (let h : statuses.NoMemory ≡ statuses.SinkFault = sym sent.status_is ∙ e in cc)
 memory_sink before after status (inr cut) = λ e. (let h : statuses.NoMemory ≡ statuses.SinkFault = sym cut.status_is ∙ e in cc)
 
-pub told_whole : (text : List ℕ) (ended : Status) (before after : Outlet) (status : Status) → IsTold text ended before after status → (Rose before.faults after.faults → ⊥) → IsSent text ended before after status
+pub told_whole : (text : List ℕ) (ended : Status) (before after : SinkRecord) (status : Status) → IsSentOrCut text ended before after status → (Rose before.faults after.faults → ⊥) → IsSent text ended before after status
 told_whole text ended before after status (inl sent) whole = sent
 told_whole text ended before after status (inr cut) whole = absurd (whole cut.cause)

@@ -3,7 +3,7 @@ use Rattle.std.proofs.Common.{◌≡◌, ◌⊎◌, ℕ, ◌+◌, ◌≤◌, tru
 use Rattle.std.specs.Option.{ForSome, option_map}
 use Rattle.std.proofs.lemmas.List.{append-nil, length-take}
 use Rattle.std.proofs.lemmas.Option.{same_Some, slice_get_within}
-use Rattle.bb_copies.specs.Chronicle.{Content, IsStanding, Loaded, Step, Turn}
+use Rattle.bb_copies.specs.Chronicle.{Content, IsStanding, Loaded, TurnMakes, Turn}
 use Rattle.bb_copies.specs.Cutting.{turn_stages}
 use Rattle.bb_copies.specs.Loading.{StandsStill}
 use Rattle.bb_copies.specs.Luck.{IsLucky}
@@ -18,7 +18,7 @@ use Rattle.bb_flash.specs.Image.{Image}
 use Rattle.bb_state.specs.Keyed.{Keyed}
 use Rattle.bb_shell.specs.Stages.{AreAnswered}
 use Rattle.bb_tool.specs.Looking.{passed_in}
-use Rattle.bb_tool.specs.Turns.{HasEntryTrail, HasLoadTrail, HasTrail, IsCounted, IsTrailOf, LeadsTo, first_area}
+use Rattle.bb_tool.specs.SessionTurns.{HasEntryTrail, HasLoadTrail, HasTrail, IsCounted, IsTrailOf, LeadsTo, first_area}
 use Rattle.bb_tool.specs.Work.{IsLoaded}
 use Rattle.bb_tool.proofs.Kept.{IsLeft}
 
@@ -123,7 +123,7 @@ module _ (keyed : Keyed) (page : ℕ) where
 
   -- a content whose copies pass this and that stands for a list
   pub leads : (before : Content) (turn : Turn) (h : List (List ℕ)) (a : ℕ)
-      (passed : List (Option (List ℕ))) → Step before turn h a → Stands First passed h a →
+      (passed : List (Option (List ℕ))) → TurnMakes before turn h a → Stands First passed h a →
       LeadsTo First before turn passed
   leads before turn h a passed step stands = record {
     after = record { passed = passed; areas = h; acked = a; marks = stands.marks };

@@ -3,7 +3,7 @@ use Rattle.std.proofs.Common.{◌≡◌, ◌⊎◌, ℕ, ◌≤◌, Bool, true, 
 use Rattle.std.specs.Prelude.{replicate}
 use Rattle.bb_base.specs.Faults.{Rose}
 use Rattle.bb_base.specs.Folder.{FileMap, Folder}
-use Rattle.bb_base.specs.Outlet.{Outlet}
+use Rattle.bb_base.specs.SinkRecord.{SinkRecord}
 use Rattle.bb_copies.specs.declared.answers.CopyFault.{CopyFault}
 use Rattle.bb_copies.specs.declared.answers.CopyFault.TheVariants as faults
 use Rattle.bb_flash.specs.Device.{Device, content}
@@ -19,14 +19,14 @@ use Rattle.bb_shell.specs.Rounds.{best_of, rounds_by}
 use Rattle.bb_shell.proofs.Answering.{best_is, best_none}
 use Rattle.bb_words.specs.Words.{words_of}
 use Rattle.bb_tool.specs.Calls.{IsSession, IsUndisturbed, IsUndisturbedAlone, geometry_of, session_for}
-use Rattle.bb_tool.specs.Ending.{AreAnswers, IsFollowed}
+use Rattle.bb_tool.specs.SessionAnswer.{AreAnswers, IsFollowed}
 use Rattle.bb_tool.specs.Looking.{first_found, passed_in}
 use Rattle.bb_tool.specs.Booting.{SaveAnswer, boots, has_no_target, rounds_of}
 use Rattle.bb_tool.specs.Plan.{Act, Boot, FileAnswers, Good, SessionPlan, Show, Work, Write, files_for, plan_by_words}
 use Rattle.bb_tool.specs.Ran.{Ran}
 use Rattle.bb_tool.specs.Refusal.{status_of}
-use Rattle.bb_tool.specs.Session.{Answers, LoadAnswer, Session, all_made, answers_behind, answers_of, answers_to, refusal_by_table, boot_session, ended_status, session_by, loaded_area, refused_for, session_of_saves, saves_behind, saves_of, sent_of, session_of, text_of, unless_barred, work_session, worked_on}
-use Rattle.bb_tool.specs.Telling.{IsSent, IsTold}
+use Rattle.bb_tool.specs.Session.{Answers, LoadAnswer, Session, all_made, answers_after, answers_of, answers_to, refusal_by_table, boot_session, ended_status, session_by, loaded_area, refused_for, session_of_saves, saves_after, saves_of, sent_of, session_of, work_text, unless_barred, work_session, worked_on}
+use Rattle.bb_tool.specs.Sending.{IsSent, IsSentOrCut}
 use Rattle.bb_tool.specs.Work.{AreSaved, IsStoreWork, IsWorkOf}
 use Rattle.bb_tool.specs.declared.refusal.Refusal.{Refusal}
 use Rattle.bb_tool.specs.declared.refusal.Refusal.TheVariants as refusals
@@ -71,18 +71,18 @@ saved_same keyed used text (area ∷ []) (Ok made ∷ saves) from to saved_so is
 saved_same keyed used text (area ∷ (other ∷ areas)) (Ok made ∷ saves) from to saved_so is =
     absurd (let e = saved_so.1.0 in cc)
 
-store_same : (plan : SessionPlan) (from to : Device) (found : Option (List ℕ)) (saves : List SaveAnswer) → boots plan.work ≡ false → IsStoreWork plan from to (Ok found) saves → (bars : Option Refusal) → refusal_by_table plan.work (loaded_area plan.keyed.layout found) ≡ bars → HasNoFault (work_session plan (Ok found) saves) → work_session plan (Ok found) saves ≡ work_session plan (Ok found) (all_made (saves_behind plan (Ok found)))
+store_same : (plan : SessionPlan) (from to : Device) (found : Option (List ℕ)) (saves : List SaveAnswer) → boots plan.work ≡ false → IsStoreWork plan from to (Ok found) saves → (bars : Option Refusal) → refusal_by_table plan.work (loaded_area plan.keyed.layout found) ≡ bars → HasNoFault (work_session plan (Ok found) saves) → work_session plan (Ok found) saves ≡ work_session plan (Ok found) (all_made (saves_after plan (Ok found)))
 store_same plan from to found saves store done None bars whole =
-    let made = all_made (saves_behind plan (Ok found)) in
+    let made = all_made (saves_after plan (Ok found)) in
     open_session plan found saves store bars
-    ∙ saved_same plan.keyed done.used (text_of plan.keyed.layout plan.work found) (saves_behind plan (Ok found)) saves done.middle to done.saved (stored_whole plan found saves store bars whole)
+    ∙ saved_same plan.keyed done.used (work_text plan.keyed.layout plan.work found) (saves_after plan (Ok found)) saves done.middle to done.saved (stored_whole plan found saves store bars whole)
     ∙ sym (open_session plan found made store bars)
 store_same plan from to found saves store done (Some refusal) bars whole =
     barred_session plan found saves refusal bars
-    ∙ sym (barred_session plan found (all_made (saves_behind plan (Ok found))) refusal bars)
+    ∙ sym (barred_session plan found (all_made (saves_after plan (Ok found))) refusal bars)
 
 -- what is answered to other work than a boot
-made_behind : (work : Work) (plan : SessionPlan) (load : LoadAnswer) → boots work ≡ false → answers_behind work plan load ≡ all_made (saves_behind plan load)
+made_behind : (work : Work) (plan : SessionPlan) (load : LoadAnswer) → boots work ≡ false → answers_after work plan load ≡ all_made (saves_after plan load)
 made_behind Show plan load store = refl
 made_behind (Write area) plan load store = refl
 made_behind (Act actions) plan load store = refl
@@ -146,9 +146,9 @@ module _ (targets : Binding) (cause : Cause) (plans : List (Option StartPlan)) (
 
 -- ---- the work of a plan
 
-work_same : (work : Work) (plan : SessionPlan) (from to : Device) (found : Option (List ℕ)) (saves : List SaveAnswer) → plan.work ≡ work → IsWorkOf work plan from to (Ok found) saves → HasNoFault (work_session plan (Ok found) saves) → IsCalm from to (work_session plan (Ok found) (answers_behind plan.work plan (Ok found))) → work_session plan (Ok found) saves ≡ work_session plan (Ok found) (answers_behind plan.work plan (Ok found))
+work_same : (work : Work) (plan : SessionPlan) (from to : Device) (found : Option (List ℕ)) (saves : List SaveAnswer) → plan.work ≡ work → IsWorkOf work plan from to (Ok found) saves → HasNoFault (work_session plan (Ok found) saves) → IsCalm from to (work_session plan (Ok found) (answers_after plan.work plan (Ok found))) → work_session plan (Ok found) saves ≡ work_session plan (Ok found) (answers_after plan.work plan (Ok found))
 work_same Show plan from to found saves is done none calm =
-    let empty : saves_behind plan (Ok found) ≡ [] = ap (λ (w : Work). saves_of plan.keyed.layout w (loaded_area plan.keyed.layout found)) is in
+    let empty : saves_after plan (Ok found) ≡ [] = ap (λ (w : Work). saves_of plan.keyed.layout w (loaded_area plan.keyed.layout found)) is in
     ap (work_session plan (Ok found)) (done.none ∙ sym (ap all_made empty) ∙ sym (made_behind plan.work plan (Ok found) (ap boots is)))
 work_same (Write area) plan from to found saves is done none calm =
     store_same plan from to found saves (ap boots is) done (refusal_by_table plan.work (loaded_area plan.keyed.layout found)) refl none
@@ -164,8 +164,8 @@ work_same (Boot targets cause plans) plan from to found saves is done none calm 
     let table = loaded_area plan.keyed.layout found in
     let n = all_attempts targets (first_table targets cause true table) in
     let session = boot_is plan targets cause plans found done.used done.middle to saves is run in
-    let ideal : work_session plan (Ok found) (answers_behind plan.work plan (Ok found)) ≡ Ends targets cause plans table n =
-    ap (λ (w : Work). unless_barred (refusal_by_table w table) (worked_on w plan found (answers_behind w plan (Ok found)))) is in
+    let ideal : work_session plan (Ok found) (answers_after plan.work plan (Ok found)) ≡ Ends targets cause plans table n =
+    ap (λ (w : Work). unless_barred (refusal_by_table w table) (worked_on w plan found (answers_after w plan (Ok found)))) is in
     session
     ∙ boot_same targets cause plans table from to done.middle run.rounds n run.are run.few (subst HasNoFault session none)
     done.loaded.starts.start_faults run.start_faults (subst (IsCalm from to) ideal calm)
@@ -173,14 +173,14 @@ work_same (Boot targets cause plans) plan from to found saves is done none calm 
 
 load_same : (plan : SessionPlan) (from to : Device) (load : LoadAnswer) (saves : List SaveAnswer) → IsWorkOf plan.work plan from to load saves → HasNoFault (work_session plan load saves) → (image : Image) → content from ≡ Some image →
     let held : LoadAnswer = Ok (first_found (passed_in plan.keyed from.geometry.page image)) in
-    IsCalm from to (work_session plan held (answers_behind plan.work plan held)) → work_session plan load saves ≡ work_session plan held (answers_behind plan.work plan held)
+    IsCalm from to (work_session plan held (answers_after plan.work plan held)) → work_session plan load saves ≡ work_session plan held (answers_after plan.work plan held)
 load_same plan from to (Err fault) saves done none image told calm =
     absurd (let e : true ≡ false = sym (fault_device fault) ∙ none in cc)
 load_same plan from to (Ok found) saves done none image told calm =
     let same = work_gives plan.work plan from to found saves done image told in
     work_same plan.work plan from to found saves refl done none
-    (subst (λ f. IsCalm from to (work_session plan (Ok f) (answers_behind plan.work plan (Ok f)))) (sym same) calm)
-    ∙ ap (λ f. work_session plan (Ok f) (answers_behind plan.work plan (Ok f))) same
+    (subst (λ f. IsCalm from to (work_session plan (Ok f) (answers_after plan.work plan (Ok f)))) (sym same) calm)
+    ∙ ap (λ f. work_session plan (Ok f) (answers_after plan.work plan (Ok f))) same
 
 plan_same : (plan : Result SessionPlan Refusal) (before after : Device) (answers : Answers) (files : FileAnswers) → IsFollowed plan before after answers → (Rose before.faults after.faults → ⊥) → (image : Image) → content before ≡ Some image → IsCalm before after (session_by plan (answers_to files plan before.geometry image)) → session_by plan answers ≡ session_by plan (answers_to files plan before.geometry image)
 plan_same (Err refusal) before after answers files done whole image told calm = refl
@@ -210,20 +210,20 @@ session_told words folder folder' before after answers answered calm files known
     ]
 
 -- what was sent whole of a session is sent of each that is the same
-told_same : (given other : Session) (before after : Outlet) (status : Status) → IsTold (sent_of given) (ended_status given) before after status → (Rose before.faults after.faults → ⊥) → IsSameOrMemory given other → IsSent (sent_of other) (ended_status other) before after status ⊎ (status ≡ statuses.NoMemory)
+told_same : (given other : Session) (before after : SinkRecord) (status : Status) → IsSentOrCut (sent_of given) (ended_status given) before after status → (Rose before.faults after.faults → ⊥) → IsSameOrMemory given other → IsSent (sent_of other) (ended_status other) before after status ⊎ (status ≡ statuses.NoMemory)
 told_same given other before after status told sent (inl same) =
     inl (subst (λ (session : Session). IsSent (sent_of session) (ended_status session) before after status) same (told_whole _ _ before after status told sent))
 told_same given other before after status told sent (inr memory) = inr ((told_whole _ _ before after status told sent).status_is ∙ ap ended_status memory)
 
 pub undisturbed_of : (ran : Ran) → IsSession ran → IsUndisturbed ran
-undisturbed_of ran (inr memory) = λ calm files known image told whole started sent. inr (told_whole _ _ ran.before.outlet ran.after.outlet ran.status memory.told sent).status_is
+undisturbed_of ran (inr memory) = λ calm files known image told whole started sent. inr (told_whole _ _ ran.before.sink ran.after.sink ran.status memory.told sent).status_is
 undisturbed_of ran (inl ending) = λ calm files known image told whole started sent.
-    told_same (session_for ran ending.answers) (session_for ran (answers_of ran.words (geometry_of ran) files image)) ran.before.outlet ran.after.outlet ran.status ending.told sent
+    told_same (session_for ran ending.answers) (session_for ran (answers_of ran.words (geometry_of ran) files image)) ran.before.sink ran.after.sink ran.status ending.told sent
     (session_told ran.words ran.before.folder ran.after.folder ran.before.device ran.after.device ending.answers ending.answered calm files known image told whole started)
 
 pub undisturbed_alone_of : (ran : Ran) → IsSession ran → IsUndisturbedAlone ran
-undisturbed_alone_of ran (inr memory) = λ none files image told whole started sent. inr (told_whole _ _ ran.before.outlet ran.after.outlet ran.status memory.told sent).status_is
+undisturbed_alone_of ran (inr memory) = λ none files image told whole started sent. inr (told_whole _ _ ran.before.sink ran.after.sink ran.status memory.told sent).status_is
 undisturbed_alone_of ran (inl ending) = λ none files image told whole started sent.
-    told_same (session_for ran ending.answers) (session_for ran (answers_of ran.words (geometry_of ran) files image)) ran.before.outlet ran.after.outlet ran.status ending.told sent
+    told_same (session_for ran ending.answers) (session_for ran (answers_of ran.words (geometry_of ran) files image)) ran.before.sink ran.after.sink ran.status ending.told sent
     (session_same ran.words ran.before.folder ran.after.folder ran.before.device ran.after.device ending.answers ending.answered files
     (alone_plan (words_of ran.words) (geometry_of ran) ending.answers.files (files_for ran.words (geometry_of ran) files) none) image told whole started)

@@ -6,7 +6,7 @@ use Rattle.std.proofs.lemmas.Grind.{common_steps}
 use Rattle.std.specs.Str.{bytes_eq}
 use Rattle.bb_copies.specs.Loading.{KeepsOutside, LoadGives, LoadImages, LoadsExactly, LookGives}
 use Rattle.bb_copies.specs.Saving.{EachWritten, SaveFails, SaveRuns}
-use Rattle.bb_copies.specs.Settling.{IsUndisturbed}
+use Rattle.bb_copies.specs.Settling.{NothingFails}
 use Rattle.bb_copies.specs.Store.{used_after}
 use Rattle.bb_copies.specs.declared.answers.CopyFault.{CopyFault}
 use Rattle.bb_copies.specs.declared.answers.CopyFault.TheVariants.{Unsure}
@@ -21,15 +21,15 @@ use Rattle.bb_state.specs.Backed.{Backed}
 use Rattle.bb_state.specs.Keyed.{Keyed}
 use Rattle.bb_vars.specs.Table.{table_with}
 use Rattle.bb_state.specs.Kinds.{laid_form, laid_kinds}
-use Rattle.bb_state.specs.State.{IsDefault, IsRefused, has_changed, is_kept, is_sure, kept_of, keyed_of, used_of}
+use Rattle.bb_state.specs.State.{IsDefault, IsRefused, has_changed, is_kept, is_sure, last_table_of, keyed_of, used_of}
 use Rattle.bb_state.specs.State.{IsStored}
 use Rattle.bb_state.specs.declared.state.State.{State}
 use Rattle.bb_tool.specs.Looking.{first_found, look_text, passed_in}
 use Rattle.bb_tool.specs.Booting.{SaveAnswer, boots}
 use Rattle.bb_tool.specs.Plan.{Act, Boot, Good, SessionPlan, Show, Work, Write}
 use Rattle.bb_tool.specs.Refusal.{copy_refusal}
-use Rattle.bb_tool.specs.Session.{LoadAnswer, Session, refusal_by_table, loaded_area, session_of_saves, saved_where, saves_behind, saves_of, text_of, work_session}
-use Rattle.bb_tool.specs.Work.{AreSaved, Gives, IsLoaded, IsLooked, IsSaved, IsStoreWork, IsWorkOf, IsWorkedOut, SendsByMemory, area_taken}
+use Rattle.bb_tool.specs.Session.{LoadAnswer, Session, refusal_by_table, loaded_area, session_of_saves, saved_where, saves_after, saves_of, work_text, work_session}
+use Rattle.bb_tool.specs.Work.{AreSaved, Gives, IsLoaded, IsLooked, IsSaveAnswered, IsStoreWork, IsWorkOf, IsWorkedOut, SendsByMemory, area_taken}
 use Rattle.bb_tool.specs.declared.refusal.Refusal.{Refusal}
 use Rattle.bb_tool.specs.declared.refusal.Refusal.TheVariants as refusals
 use Rattle.bb_tool.specs.declared.report.Report.{Report}
@@ -188,7 +188,7 @@ pub record IsBegun (keyed : Keyed) (used : Option ℕ) (areas : List (List ℕ))
   pub gives : (text : List ℕ) → Gives (session_of_saves text areas saves) (given text)
 
 pub saved_ok : (keyed : Keyed) (used : Option ℕ) (area : List ℕ) (mid to : Device) →
-    IsSaved keyed used area mid to (Ok false) →
+    IsSaveAnswered keyed used area mid to (Ok false) →
     IsBegun keyed used (area ∷ []) mid to (λ text. Ok (told_whole text))
 saved_ok keyed used area mid to done = record {
   saves = Ok false ∷ [];
@@ -197,7 +197,7 @@ saved_ok keyed used area mid to done = record {
 }
 
 pub saved_err : (keyed : Keyed) (used : Option ℕ) (area : List ℕ) (mid to : Device)
-    (fault : CopyFault) → IsSaved keyed used area mid to (Err fault) →
+    (fault : CopyFault) → IsSaveAnswered keyed used area mid to (Err fault) →
     IsBegun keyed used (area ∷ []) mid to (λ text. Err (copy_refusal fault))
 saved_err keyed used area mid to fault done = record {
   saves = Err fault ∷ [];
@@ -207,7 +207,7 @@ saved_err keyed used area mid to fault done = record {
 
 -- an area that is the one that was loaded isn't saved
 pub where_ok : (keyed : Keyed) (used : Option ℕ) (area : List ℕ) (mid to : Device) (same : Bool) →
-    (same ≡ true → to ≡ mid) → (same ≡ false → IsSaved keyed used area mid to (Ok false)) →
+    (same ≡ true → to ≡ mid) → (same ≡ false → IsSaveAnswered keyed used area mid to (Ok false)) →
     IsBegun keyed used (saved_where same area) mid to (λ text. Ok (told_whole text))
 where_ok keyed used area mid to true idle saves = record {
   saves = [];
@@ -218,7 +218,7 @@ where_ok keyed used area mid to false idle saves = saved_ok keyed used area mid 
 
 pub where_err : (keyed : Keyed) (used : Option ℕ) (area : List ℕ) (mid to : Device) (same : Bool)
     (fault : CopyFault) → (same ≡ true → ⊥) →
-    (same ≡ false → IsSaved keyed used area mid to (Err fault)) →
+    (same ≡ false → IsSaveAnswered keyed used area mid to (Err fault)) →
     IsBegun keyed used (saved_where same area) mid to (λ text. Err (copy_refusal fault))
 where_err keyed used area mid to true fault idle saves = absurd (idle refl)
 where_err keyed used area mid to false fault idle saves =
@@ -240,15 +240,15 @@ module _ (keyed : Keyed) (work : Work) (from mid to : Device) (area : List ℕ) 
       load_area keyed area loaded from mid
       (record { gives = clauses.gives; defaults = clauses.defaults; exact = clauses.exact })
 
-  begun_behind : IsBegun keyed (used_after loaded) (saves_behind Whole (Ok (area_taken area loaded)))
+  begun_behind : IsBegun keyed (used_after loaded) (saves_after Whole (Ok (area_taken area loaded)))
       mid to given
   begun_behind =
       subst (λ a. IsBegun keyed (used_after loaded) (saves_of keyed.layout work a) mid to given)
       (sym same_area) begun
 
   session_is : work_session Whole (Ok (area_taken area loaded)) begun_behind.saves
-      ≡ session_of_saves (text_of keyed.layout work (area_taken area loaded))
-      (saves_behind Whole (Ok (area_taken area loaded))) begun_behind.saves
+      ≡ session_of_saves (work_text keyed.layout work (area_taken area loaded))
+      (saves_after Whole (Ok (area_taken area loaded))) begun_behind.saves
   session_is =
       open_session Whole (area_taken area loaded) begun_behind.saves (store_boots work stored)
       (ap (refusal_by_table work) same_area ∙ free)
@@ -265,7 +265,7 @@ module _ (keyed : Keyed) (work : Work) (from mid to : Device) (area : List ℕ) 
 
   -- the session answers this
   pub stored_out : (answer : Result Report Refusal) →
-      answer ≡ given (text_of keyed.layout work (area_taken area loaded)) →
+      answer ≡ given (work_text keyed.layout work (area_taken area loaded)) →
       IsWorkedOut keyed work from to answer
   stored_out answer is =
       subst (IsWorkedOut keyed work from to) (sym is)
@@ -274,8 +274,8 @@ module _ (keyed : Keyed) (work : Work) (from mid to : Device) (area : List ℕ) 
         saves = begun_behind.saves;
         work = store_done;
         gives =
-            subst (λ (s : Session). Gives s (given (text_of keyed.layout work (area_taken area loaded))))
-            (sym session_is) (begun_behind.gives (text_of keyed.layout work (area_taken area loaded)));
+            subst (λ (s : Session). Gives s (given (work_text keyed.layout work (area_taken area loaded))))
+            (sym session_is) (begun_behind.gives (work_text keyed.layout work (area_taken area loaded)));
       }))
 
   -- or memory was refused for its text
@@ -283,9 +283,9 @@ module _ (keyed : Keyed) (work : Work) (from mid to : Device) (area : List ℕ) 
       (answer : Result Report Refusal) → answer ≡ Err refusals.NoMemory →
       IsWorkedOut keyed work from to answer
   stored_textless whole answer is =
-      let text = text_of keyed.layout work (area_taken area loaded) in
+      let text = work_text keyed.layout work (area_taken area loaded) in
       let gives = subst
-      (Gives (session_of_saves text (saves_behind Whole (Ok (area_taken area loaded))) begun_behind.saves))
+      (Gives (session_of_saves text (saves_after Whole (Ok (area_taken area loaded))) begun_behind.saves))
       (whole text) (begun_behind.gives text) in
       inr (inl (record {
         load = Ok (area_taken area loaded);
@@ -355,16 +355,16 @@ kept_is true same is = refl
 kept_is false same is = absurd cc
 
 pub has_changed_is : (state : State) (area new : List ℕ) → is_sure state ≡ true →
-    state.table ≡ new → kept_of state ≡ area → has_changed state ≡ not (bytes_eq new area)
+    state.table ≡ new → last_table_of state ≡ area → has_changed state ≡ not (bytes_eq new area)
 has_changed_is state area new sure table kept =
-    changed_is (is_sure state) (bytes_eq state.table (kept_of state)) sure
-    ∙ ap (λ t. not (bytes_eq t (kept_of state))) table ∙ ap (λ k. not (bytes_eq new k)) kept
+    changed_is (is_sure state) (bytes_eq state.table (last_table_of state)) sure
+    ∙ ap (λ t. not (bytes_eq t (last_table_of state))) table ∙ ap (λ k. not (bytes_eq new k)) kept
 
 pub is_kept_is : (state : State) (area new : List ℕ) → is_sure state ≡ true →
-    state.table ≡ new → kept_of state ≡ area → is_kept state ≡ bytes_eq new area
+    state.table ≡ new → last_table_of state ≡ area → is_kept state ≡ bytes_eq new area
 is_kept_is state area new sure table kept =
-    kept_is (is_sure state) (bytes_eq state.table (kept_of state)) sure
-    ∙ ap (λ t. bytes_eq t (kept_of state)) table ∙ ap (λ k. bytes_eq new k) kept
+    kept_is (is_sure state) (bytes_eq state.table (last_table_of state)) sure
+    ∙ ap (λ t. bytes_eq t (last_table_of state)) table ∙ ap (λ k. bytes_eq new k) kept
 
 -- ---- the save of a table that was changed
 
@@ -373,7 +373,7 @@ module _ (first state : State) (keyed : Keyed) (new : List ℕ) (loaded : Loaded
     (backing : state.backing ≡ first.backing)
     (new_is : state.table ≡ new)
     (layout_is : keyed_of first ≡ keyed) (used : used_of first ≡ used_after loaded)
-    (sure : is_sure first ≡ true) (kept : kept_of first ≡ first.table)
+    (sure : is_sure first ≡ true) (kept : last_table_of first ≡ first.table)
     (runs : has_changed state ≡ true →
     SaveRuns (laid_form (keyed_of state)) (laid_kinds (keyed_of state).layout) (used_of state) state.table mid
     to)
@@ -381,24 +381,24 @@ module _ (first state : State) (keyed : Keyed) (new : List ℕ) (loaded : Loaded
   sure_is : is_sure state ≡ true
   sure_is = ap (λ (b : Backed). b.sure) backing ∙ sure
 
-  kept_so : kept_of state ≡ first.table
+  kept_so : last_table_of state ≡ first.table
   kept_so = ap (λ (b : Backed). b.kept) backing ∙ kept
 
   changed_so : has_changed state ≡ not (bytes_eq new first.table)
   changed_so = has_changed_is state first.table new sure_is new_is kept_so
 
-  moved : (answer : SaveAnswer) → IsSaved (keyed_of state) (used_of state) state.table mid to answer →
-      IsSaved keyed (used_after loaded) new mid to answer
+  moved : (answer : SaveAnswer) → IsSaveAnswered (keyed_of state) (used_of state) state.table mid to answer →
+      IsSaveAnswered keyed (used_after loaded) new mid to answer
   moved answer done =
-      subst (λ (l : Keyed). IsSaved l (used_after loaded) new mid to answer)
+      subst (λ (l : Keyed). IsSaveAnswered l (used_after loaded) new mid to answer)
       (ap (λ (b : Backed). b.keyed) backing ∙ layout_is)
-      (subst (λ (u : Option ℕ). IsSaved (keyed_of state) u new mid to answer)
+      (subst (λ (u : Option ℕ). IsSaveAnswered (keyed_of state) u new mid to answer)
       (ap (λ (b : Backed). b.used) backing ∙ used)
-      (subst (λ (a : List ℕ). IsSaved (keyed_of state) (used_of state) a mid to answer) new_is done))
+      (subst (λ (a : List ℕ). IsSaveAnswered (keyed_of state) (used_of state) a mid to answer) new_is done))
 
   pub changed_ok :
       (has_changed state ≡ true → IsStored (keyed_of state) state.table now mid to) →
-      (has_changed state ≡ true → IsUndisturbed mid to →
+      (has_changed state ≡ true → NothingFails mid to →
       EachWritten (laid_kinds (keyed_of state).layout) ((laid_form (keyed_of state)).text state.table) mid to) →
       IsBegun keyed (used_after loaded) (saved_where (bytes_eq new first.table) new) mid to
       (λ text. Ok (told_whole text))
@@ -432,14 +432,14 @@ module _ (first state : State) (keyed : Keyed) (new : List ℕ) (loaded : Loaded
         exact = λ calm. tt;
       }))
 
--- ---- the save behind all sets
+-- ---- the save after all sets
 
 module _ (first state : State) (keyed : Keyed) (actions : List Action) (loaded : Loaded)
     (mid to : Device) (now : Option ℕ)
     (backing : state.backing ≡ first.backing)
     (table : state.table ≡ after_all (keyed_of first).layout.vars first.table actions)
     (layout_is : keyed_of first ≡ keyed) (used : used_of first ≡ used_after loaded)
-    (sure : is_sure first ≡ true) (kept : kept_of first ≡ first.table)
+    (sure : is_sure first ≡ true) (kept : last_table_of first ≡ first.table)
     (runs : has_changed state ≡ true →
     SaveRuns (laid_form (keyed_of state)) (laid_kinds (keyed_of state).layout) (used_of state) state.table mid
     to)
@@ -449,7 +449,7 @@ module _ (first state : State) (keyed : Keyed) (actions : List Action) (loaded :
 
   pub acted_ok :
       (has_changed state ≡ true → IsStored (keyed_of state) state.table now mid to) →
-      (has_changed state ≡ true → IsUndisturbed mid to →
+      (has_changed state ≡ true → NothingFails mid to →
       EachWritten (laid_kinds (keyed_of state).layout) ((laid_form (keyed_of state)).text state.table) mid to) →
       IsBegun keyed (used_after loaded) (saves_of keyed.layout (Act actions) first.table) mid to
       (λ text. Ok (told_whole text))

@@ -25,9 +25,9 @@ use Rattle.bb_tool.specs.Looking.{passed_in}
 use Rattle.bb_tool.specs.Booting.{SaveAnswer, boots}
 use Rattle.bb_shell.specs.Counting.{turn_of_rounds}
 use Rattle.bb_tool.specs.Plan.{Act, Boot, Good, SessionPlan, Show, Work, Write}
-use Rattle.bb_tool.specs.Session.{LoadAnswer, Session, refusal_by_table, loaded_area, session_of_saves, saves_behind, text_of}
-use Rattle.bb_tool.specs.Turns.{EachStanding, HasTrail, HasTrails, IsFairRun, LeadsOn, LeadsTo, boot_turn, first_area, load_turn, made_of, work_turn}
-use Rattle.bb_tool.specs.Work.{AreSaved, IsBootWork, IsLoaded, IsSaved, IsStoreWork, IsWork, IsWorkOf}
+use Rattle.bb_tool.specs.Session.{LoadAnswer, Session, refusal_by_table, loaded_area, session_of_saves, saves_after, work_text}
+use Rattle.bb_tool.specs.SessionTurns.{EachStanding, HasTrail, HasTrails, IsFairRun, LeadsOn, LeadsTo, boot_turn, first_area, load_turn, made_of, work_turn}
+use Rattle.bb_tool.specs.Work.{AreSaved, IsBootWork, IsLoaded, IsSaveAnswered, IsStoreWork, IsWork, IsWorkOf}
 use Rattle.bb_tool.proofs.Copies.{given, load_stays, loads_in_order, saves_in_order, since_entry, since_load, stored_stands}
 use Rattle.bb_tool.proofs.Barred.{worked_saves}
 use Rattle.bb_tool.proofs.BootTurns.{boot_leads, boot_trail}
@@ -96,7 +96,7 @@ unsaved keyed used from mid found load = λ first e last f before is stands.
 
 once_saved : (keyed : Keyed) (used : Option ℕ) (from mid to : Device) (found : Option (List ℕ))
     (area : List ℕ) → IsLoaded keyed used from mid (Ok found) → (answer : SaveAnswer) →
-    IsSaved keyed used area mid to answer →
+    IsSaveAnswered keyed used area mid to answer →
     Turned keyed from to
     (λ marks. Loaded (picked marks) (area ∷ []) (made_of (answer ∷ [])) None)
 unfolding AreAnswered
@@ -194,8 +194,8 @@ saves_turned keyed used from mid to found text (area ∷ []) (answer ∷ (other 
 store_turned : (plan : SessionPlan) (from to : Device) (load : LoadAnswer) (saves : List SaveAnswer) → boots plan.work ≡ false →
     IsStoreWork plan from to load saves → Turned plan.keyed from to (load_turn plan load saves)
 store_turned plan from to (Ok found) saves store work =
-    let text = text_of plan.keyed.layout plan.work found in
-    let areas = saves_behind plan (Ok found) in
+    let text = work_text plan.keyed.layout plan.work found in
+    let areas = saves_after plan (Ok found) in
     subst
     (λ (made : List (List ℕ)). Turned plan.keyed from to
     (λ marks. Loaded (picked marks) made (made_of saves) None))
@@ -340,13 +340,13 @@ work_outside : (work : Work) (plan : SessionPlan) (from to : Device) (load : Loa
     KeepsOutside (laid_kinds plan.keyed.layout) from to
 work_outside Show plan from to load saves work = outside_looked plan.keyed from to work.looked.quiet
 work_outside (Write area) plan from to load saves work =
-    outside_saved plan.keyed work.used from work.middle to load (saves_behind plan load) saves
+    outside_saved plan.keyed work.used from work.middle to load (saves_after plan load) saves
     work.loaded work.saved
 work_outside (Act actions) plan from to load saves work =
-    outside_saved plan.keyed work.used from work.middle to load (saves_behind plan load) saves
+    outside_saved plan.keyed work.used from work.middle to load (saves_after plan load) saves
     work.loaded work.saved
 work_outside (Good targets) plan from to load saves work =
-    outside_saved plan.keyed work.used from work.middle to load (saves_behind plan load) saves
+    outside_saved plan.keyed work.used from work.middle to load (saves_after plan load) saves
     work.loaded work.saved
 work_outside (Boot targets cause plans) plan from to (Ok found) saves work =
     outside_joined plan.keyed from work.middle to work.loaded.later work.booted.later work.loaded.outside work.booted.outside

@@ -1,5 +1,5 @@
--- A boot as part of a session: its rounds by what saves and starts answered, and what is sent of its
--- end.
+-- A boot as part of a session: its rounds by what saves and starts answered, and what is sent of
+-- its end.
 use Rattle.std.specs.Prelude.{◌≡◌, ℕ, Bool, true, false, List, [], ◌++◌, codes, decimal, map, Option, Some, None, is_none, Result, Ok, Err, option_and_then, slice_get, if◌then◌else◌}
 use Rattle.std.specs.Option.{option_map_or}
 use Rattle.bb_chooser.specs.Binding.{Binding}
@@ -20,7 +20,7 @@ use Rattle.bb_tool.specs.declared.refusal.Refusal.TheVariants as refusals
 -- ---- what is answered
 
 -- Of a save: that it was made, or that there was nothing to save, and whether a system was started
--- behind it; or why it was refused. Behind the save of another command than a boot none is started.
+-- after it; or why it was refused. After the save of another command than a boot none is started.
 abbrev pub SaveAnswer : Type 0
 SaveAnswer = Result Bool CopyFault
 
@@ -57,12 +57,12 @@ boots (Good targets) = false
 boots (Boot targets cause plans) = true
 
 -- the plans by which a session may start a system
-abbrev pub plans_of : Work → List (Option StartPlan)
-plans_of Show = []
-plans_of (Write area) = []
-plans_of (Act actions) = []
-plans_of (Good targets) = []
-plans_of (Boot targets cause plans) = plans
+abbrev pub start_plans_of : Work → List (Option StartPlan)
+start_plans_of Show = []
+start_plans_of (Write area) = []
+start_plans_of (Act actions) = []
+start_plans_of (Good targets) = []
+start_plans_of (Boot targets cause plans) = plans
 
 -- the plan of the start that a round made, if it made one
 abbrev pub start_in : List (Option StartPlan) → Round → Option StartPlan
@@ -71,11 +71,11 @@ start_in plans round =
 
 -- of the last round
 abbrev pub start_of : Work → List Round → Option StartPlan
-start_of work rounds = option_and_then (start_in (plans_of work)) (last_round rounds)
+start_of work rounds = option_and_then (start_in (start_plans_of work)) (last_round rounds)
 
--- A boot after a load of this table has rounds by the rules: each is of the best target in the table
--- that it starts from, one attempt of it is spent, and no start comes before its save answered Ok.
--- No other work has rounds.
+-- A boot after a load of this table has rounds by the rules: each is of the best target in the
+-- table that it starts from, one attempt of it is spent, and no start comes before its save
+-- answered Ok. No other work has rounds.
 abbrev pub AreRoundsOf : Work → List ℕ → List Round → Type 0
 AreRoundsOf Show table rounds = rounds ≡ []
 AreRoundsOf (Write area) table rounds = rounds ≡ []

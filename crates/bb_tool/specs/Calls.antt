@@ -1,21 +1,21 @@
--- What `run` says of each call: every clause of its contract is one of these facts, and none of them
--- names a command.
+-- What `run` says of each call: every clause of its contract is one of these facts, and none of
+-- them names a command.
 use Rattle.std.specs.Prelude.{◌≡◌, ◌⊎◌, ◌<◌, ℕ, Bool, true, false, List, [], Option, Some, Result, Ok, Err, IsErr, option_map}
 use Rattle.std.specs.Option.{ForSome}
 use Rattle.bb_base.specs.Faults.{HasCause, Rose}
 use Rattle.bb_base.specs.Folder.{FileMap}
-use Rattle.bb_base.specs.Outlet.{SendsFront}
+use Rattle.bb_base.specs.SinkRecord.{SendsFront}
 use Rattle.bb_flash.specs.Cuts.{IsLater}
 use Rattle.bb_flash.specs.Device.{content}
 use Rattle.bb_flash.specs.declared.geometry.Geometry.{Geometry}
 use Rattle.bb_words.specs.Words.{words_of}
-use Rattle.bb_tool.specs.Ending.{AreAnswers}
+use Rattle.bb_tool.specs.SessionAnswer.{AreAnswers}
 use Rattle.bb_tool.specs.Filing.{IsFolderLater}
 use Rattle.bb_tool.specs.Plan.{SessionPlan, copies_in, files_for, names_file, plan_by_words}
 use Rattle.bb_tool.specs.Ran.{Ran}
 use Rattle.bb_tool.specs.Refusal.{line_of, status_of}
-use Rattle.bb_tool.specs.Session.{Answers, Session, answers_of, barred_behind, ended_status, load_for, sent_of, session_of}
-use Rattle.bb_tool.specs.Telling.{IsSent, IsTold}
+use Rattle.bb_tool.specs.Session.{Answers, Session, answers_of, barred_after, ended_status, load_for, sent_of, session_of}
+use Rattle.bb_tool.specs.Sending.{IsSent, IsSentOrCut}
 use Rattle.bb_tool.specs.Work.{SendsByMemory}
 use Rattle.bb_tool.specs.declared.refusal.Refusal.{Refusal}
 use Rattle.bb_tool.specs.declared.refusal.Refusal.TheVariants as refusals
@@ -43,16 +43,16 @@ plan_over ran files =
     plan_by_words ran.words (geometry_of ran) (files_for ran.words (geometry_of ran) files)
 
 -- the plan for what reading the files answered
-abbrev pub plan_for : Ran → Answers → Result SessionPlan Refusal
-plan_for ran answers = plan_by_words ran.words (geometry_of ran) answers.files
+abbrev pub session_plan_for : Ran → Answers → Result SessionPlan Refusal
+session_plan_for ran answers = plan_by_words ran.words (geometry_of ran) answers.files
 
 -- the words name no file
 abbrev pub NamesNoFile : Ran → Type 0
 NamesNoFile ran = names_file ran.words ≡ false
 
 -- a text was told, and the call ended so
-abbrev pub Tells : Ran → List ℕ → Status → Type 0
-Tells ran text ended = IsTold text ended ran.before.outlet ran.after.outlet ran.status
+abbrev pub SendsText : Ran → List ℕ → Status → Type 0
+SendsText ran text ended = IsSentOrCut text ended ran.before.sink ran.after.sink ran.status
 
 -- ---- the whole of a call
 
@@ -60,7 +60,7 @@ Tells ran text ended = IsTold text ended ran.before.outlet ran.after.outlet ran.
 pub record IsAnswered (ran : Ran) : Type 0 where
   pub answers : Answers
   pub answered : MayAnswer ran answers
-  pub told : Tells ran (sent_of (session_for ran answers)) (ended_status (session_for ran answers))
+  pub told : SendsText ran (sent_of (session_for ran answers)) (ended_status (session_for ran answers))
 
 -- memory was refused after all work on the device, for what was to be sent of it
 pub record IsWithoutText (ran : Ran) : Type 0 where
@@ -71,7 +71,7 @@ pub record IsWithoutText (ran : Ran) : Type 0 where
 -- memory was refused, before any call of the device or after all work on it, and only that one line
 -- was told
 pub record IsWithoutMemory (ran : Ran) : Type 0 where
-  pub told : Tells ran (line_of refusals.NoMemory) statuses.NoMemory
+  pub told : SendsText ran (line_of refusals.NoMemory) statuses.NoMemory
   pub work : (ran.after.device ≡ ran.before.device) ⊎ IsWithoutText ran
 
 abbrev pub IsSession : Ran → Type 0
@@ -85,13 +85,14 @@ FailsNoStart ran session =
     (session.rounds ≡ [])
     ⊎ (Rose ran.before.device.start_faults ran.after.device.start_faults → ⊥)
 
--- unless the device, a start or the output failed, this session was sent whole, or memory was refused
+-- unless the device, a start or the output failed, this session was sent whole, or memory was
+-- refused
 abbrev pub IsWhole : Ran → Session → Type 0
 IsWhole ran session =
     (Rose ran.before.device.faults ran.after.device.faults → ⊥)
     → FailsNoStart ran session
-    → (Rose ran.before.outlet.faults ran.after.outlet.faults → ⊥)
-    → IsSent (sent_of session) (ended_status session) ran.before.outlet ran.after.outlet ran.status
+    → (Rose ran.before.sink.faults ran.after.sink.faults → ⊥)
+    → IsSent (sent_of session) (ended_status session) ran.before.sink ran.after.sink ran.status
     ⊎ (ran.status ≡ statuses.NoMemory)
 
 -- over these files it is the session of what they and the device hold
@@ -149,12 +150,12 @@ AsksNothing ran = is_planning ran.status ≡ true → ran.after.device ≡ ran.b
 -- ---- each answer and its cause
 
 -- the statuses that a fault of the files, the device or the output brings
-abbrev pub is_fault : Status → Bool
-is_fault statuses.FileFault = true
-is_fault statuses.ReadFault = true
-is_fault statuses.WriteFault = true
-is_fault statuses.SinkFault = true
-is_fault _ = false
+abbrev pub is_fault_status : Status → Bool
+is_fault_status statuses.FileFault = true
+is_fault_status statuses.ReadFault = true
+is_fault_status statuses.WriteFault = true
+is_fault_status statuses.SinkFault = true
+is_fault_status _ = false
 
 -- an answer comes exactly where a fact holds; a failing output and refused memory come before it
 pub record AnswersExactly (ran : Ran) (answer : Status) (fact : Type 0) : Type 0 where
@@ -197,7 +198,7 @@ pub record ComesBarred (ran : Ran) (answer : Status) (refusal : Option Refusal) 
   pub only : ran.status ≡ answer → option_map status_of refusal ≡ Some answer
   pub always : option_map status_of refusal ≡ Some answer
       → (ran.status ≡ answer)
-      ⊎ ((ran.status ≡ statuses.NoMemory) ⊎ (is_fault ran.status ≡ true))
+      ⊎ ((ran.status ≡ statuses.NoMemory) ⊎ (is_fault_status ran.status ≡ true))
 
 -- so it does over the files and a device that are told
 abbrev pub ComesByTable : Status → Ran → Type 0
@@ -207,7 +208,7 @@ ComesByTable answer ran =
     ForSome (content ran.before.device)
     (λ image.
     let plan = plan_over ran files in
-    ComesBarred ran answer (barred_behind plan (load_for plan (geometry_of ran) image))))
+    ComesBarred ran answer (barred_after plan (load_for plan (geometry_of ran) image))))
 
 -- an answer comes only where a count rose: that of the files, the device, its reads, or the output
 abbrev pub ComesByFiles : Status → Ran → Type 0
@@ -224,16 +225,16 @@ ComesByReads answer ran =
 
 abbrev pub ComesByOutlet : Status → Ran → Type 0
 ComesByOutlet answer ran =
-    HasCause ran.before.outlet.faults ran.after.outlet.faults (ran.status ≡ answer)
+    HasCause ran.before.sink.faults ran.after.sink.faults (ran.status ≡ answer)
 
 -- the copy that couldn't be written is one of the layout's
 pub record NamesACopy (ran : Ran) : Type 0 where
   pub answers : Answers
   pub answered : MayAnswer ran answers
   pub copy : ℕ
-  pub inside : copy < copies_in (plan_for ran answers)
+  pub inside : copy < copies_in (session_plan_for ran answers)
   pub refusal : (session_for ran answers).refusal ≡ Some (refusals.WriteFault copy)
-  pub told : Tells ran (sent_of (session_for ran answers)) statuses.WriteFault
+  pub told : SendsText ran (sent_of (session_for ran answers)) statuses.WriteFault
 
 abbrev pub NamesTheCopy : Ran → Type 0
 NamesTheCopy ran = ran.status ≡ statuses.WriteFault → NamesACopy ran
@@ -242,7 +243,7 @@ NamesTheCopy ran = ran.status ≡ statuses.WriteFault → NamesACopy ran
 pub record SendsSessionFront (ran : Ran) : Type 0 where
   pub answers : Answers
   pub answered : MayAnswer ran answers
-  pub front : SendsFront (sent_of (session_for ran answers)) ran.before.outlet ran.after.outlet
+  pub front : SendsFront (sent_of (session_for ran answers)) ran.before.sink ran.after.sink
 
 -- where the output failed, that is what was sent
 abbrev pub CutsTheText : Ran → Type 0

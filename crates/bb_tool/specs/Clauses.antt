@@ -1,9 +1,9 @@
 -- The clauses of `run`, in the order of its contract: each is a record of named facts about one
 -- call, and none of them names a command.
 use Rattle.bb_tool.specs.Calls.{AsksNothing, ComesByDevice, ComesByFiles, ComesByOutlet, ComesByPlan, ComesByPlanAlone, ComesByReads, ComesByTable, ComesByWords, CutsTheText, IsSession, IsUndisturbed, IsUndisturbedAlone, KeepsFiles, KeepsHistory, LeavesUnnamedFiles, NamesTheCopy, WantsMemory}
-use Rattle.bb_tool.specs.Copying.{KeepsATrail, KeepsAtExit, KeepsOthers, KnowsWriteFaults, LeavesUnread, MakesAlike, StopsAtFileFault, StopsBetweenSaves, WritesExactly}
+use Rattle.bb_tool.specs.Copying.{KeepsATrail, KeepsAtExit, KeepsOutsideCopies, KnowsWriteFaults, LeavesUnread, MakesAlike, StopsAtFileFault, StopsBetweenSaves, WritesExactly}
 use Rattle.bb_tool.specs.Ran.{Ran}
-use Rattle.bb_tool.specs.Starting.{BootsInTurn, CountsFailedStarts, KnowsStartFaults, NamesTheTarget, RunsRounds, StartsAtMostOne, StartsBehindSave, StartsTheLast}
+use Rattle.bb_tool.specs.Starting.{BootsInTurn, CountsFailedStarts, KnowsStartFaults, NamesTheTarget, RunsRounds, StartsAtMostOne, StartsAfterSave, StartsTheLast}
 use Rattle.bb_tool.specs.declared.status.Status.TheVariants as statuses
 
 -- what is sent, and the status
@@ -31,7 +31,7 @@ pub record KeepsTheCopies (ran : Ran) : Type 0 where
   -- each image on the way stands for a stage that was reached, or for a later one
   pub trail : KeepsATrail ran
   -- outside of them nothing changes, in any image
-  pub outside : KeepsOthers ran
+  pub outside : KeepsOutsideCopies ran
 
 -- where nothing failed
 pub record WorksUndisturbed (ran : Ran) : Type 0 where
@@ -62,7 +62,7 @@ pub record StartsTheBest (ran : Ran) : Type 0 where
   -- whatever was answered, at most one is made
   pub starts_once : StartsAtMostOne ran
   -- where one was made, every copy passes the table of its round, or nothing
-  pub starts_saved : StartsBehindSave ran
+  pub starts_saved : StartsAfterSave ran
   -- the count of failed starts rose by the rounds that failed although their target has a plan
   pub start_faults : CountsFailedStarts ran
 

@@ -3,16 +3,16 @@
 use Rattle.std.specs.Prelude.{◌≡◌, ◌<◌, ◌⊎◌, ℕ, true, List, Some, Result, Ok, is_ok}
 use Rattle.std.specs.List.{list_all}
 use Rattle.bb_copies.specs.Loading.{KeepsOutside}
-use Rattle.bb_copies.specs.Settling.{IsUndisturbed}
+use Rattle.bb_copies.specs.Settling.{NothingFails}
 use Rattle.bb_flash.specs.Device.{Device, content}
 use Rattle.bb_state.specs.Kinds.{laid_kinds}
-use Rattle.bb_tool.specs.Calls.{MayAnswer, plan_for, session_for}
+use Rattle.bb_tool.specs.Calls.{MayAnswer, session_plan_for, session_for}
 use Rattle.bb_tool.specs.Exactly.{EndsAlike, LeavesExactly}
 use Rattle.bb_tool.specs.Plan.{SessionPlan}
 use Rattle.bb_tool.specs.Ran.{Ran}
 use Rattle.bb_tool.specs.Booting.{SaveAnswer}
 use Rattle.bb_tool.specs.Session.{Answers}
-use Rattle.bb_tool.specs.Turns.{HasTrails, LeadsOn}
+use Rattle.bb_tool.specs.SessionTurns.{HasTrails, LeadsOn}
 use Rattle.bb_tool.specs.WriteFault.{IsWriteFault}
 use Rattle.bb_tool.specs.declared.refusal.Refusal.{Refusal}
 use Rattle.bb_tool.specs.declared.refusal.Refusal.TheVariants as refusals
@@ -24,7 +24,7 @@ use Rattle.bb_tool.specs.declared.status.Status.TheVariants as statuses
 abbrev pub EachWork : Ran → (SessionPlan → Answers → Type 0) → Type 0
 EachWork ran P =
     (answers : Answers) (plan : SessionPlan) → MayAnswer ran answers →
-    plan_for ran answers ≡ Ok plan → P plan answers
+    session_plan_for ran answers ≡ Ok plan → P plan answers
 
 -- For whatever answers the session is told: at exit, where no call that failed left a copy that
 -- passes by luck, the copies stand for what the session's turn makes of the list.
@@ -42,8 +42,8 @@ KeepsATrail ran =
     HasTrails plan ran.before.device ran.after.device answers.load answers.saves)
 
 -- nothing outside the copies changes, in any image
-abbrev pub KeepsOthers : Ran → Type 0
-KeepsOthers ran =
+abbrev pub KeepsOutsideCopies : Ran → Type 0
+KeepsOutsideCopies ran =
     EachWork ran
     (λ plan answers.
     KeepsOutside (laid_kinds plan.keyed.layout) ran.before.device ran.after.device)
@@ -54,8 +54,8 @@ KeepsOthers ran =
 abbrev pub EachCalm :
     Ran → (Result SessionPlan Refusal → List SaveAnswer → Device → Device → Type 0) → Type 0
 EachCalm ran P =
-    IsUndisturbed ran.before.device ran.after.device → (answers : Answers) → MayAnswer ran answers →
-    P (plan_for ran answers) answers.saves ran.before.device ran.after.device
+    NothingFails ran.before.device ran.after.device → (answers : Answers) → MayAnswer ran answers →
+    P (session_plan_for ran answers) answers.saves ran.before.device ran.after.device
 
 -- Each copy holds exactly what the load and the saves make of it: a save writes every copy; a load
 -- that took one writes those that don't pass its area, or have a Worn page in their record. A look,
@@ -84,7 +84,7 @@ pub record MakesItsSaves (ran : Ran) : Type 0 where
   pub answered : MayAnswer ran answers
   pub made : list_all is_ok answers.saves ≡ true
 
--- where memory was refused that was before any call of the device, or behind saves that were made
+-- where memory was refused that was before any call of the device, or after saves that were made
 abbrev pub StopsBetweenSaves : Ran → Type 0
 StopsBetweenSaves ran = ran.status ≡ statuses.NoMemory → LeavesDevice ran ⊎ MakesItsSaves ran
 

@@ -13,7 +13,7 @@ use Rattle.bb_state.specs.Kinds.{laid_form, laid_kinds}
 use Rattle.bb_tool.specs.Looking.{first_found, passed_in}
 use Rattle.bb_tool.specs.Booting.{SaveAnswer}
 use Rattle.bb_tool.specs.Plan.{Act, Boot, Good, SessionPlan, Show, Work, Write}
-use Rattle.bb_tool.specs.Session.{saves_behind, work_session}
+use Rattle.bb_tool.specs.Session.{saves_after, work_session}
 use Rattle.bb_tool.specs.declared.refusal.Refusal.{Refusal}
 
 -- ---- the region of one copy
@@ -41,13 +41,13 @@ saved_region form kind (area ∷ areas) region =
 
 -- the areas that are saved after the load: those of a boot hang on the answers of its starts
 abbrev pub saves_made : Work → SessionPlan → Option (List ℕ) → List SaveAnswer → List (List ℕ)
-saves_made Show plan found answers = saves_behind plan (Ok found)
-saves_made (Write area) plan found answers = saves_behind plan (Ok found)
-saves_made (Act actions) plan found answers = saves_behind plan (Ok found)
-saves_made (Good targets) plan found answers = saves_behind plan (Ok found)
+saves_made Show plan found answers = saves_after plan (Ok found)
+saves_made (Write area) plan found answers = saves_after plan (Ok found)
+saves_made (Act actions) plan found answers = saves_after plan (Ok found)
+saves_made (Good targets) plan found answers = saves_after plan (Ok found)
 saves_made (Boot targets cause plans) plan found answers = (work_session plan (Ok found) answers).saves
 
--- after the load, and the saves behind it; a look changes nothing
+-- after the load, and the saves after it; a look changes nothing
 abbrev pub worked_region :
     Work → SessionPlan → Option (List ℕ) → List SaveAnswer → BucketKind → Image → Image
 worked_region Show plan found answers kind region = region
@@ -57,15 +57,15 @@ worked_region work plan found answers kind region =
     (loaded_region form kind found region)
 
 -- the area that was loaded or saved last, if one was
-abbrev pub last_of : Option (List ℕ) → List (List ℕ) → Option (List ℕ)
-last_of found [] = found
-last_of found (area ∷ areas) = last_of (Some area) areas
+abbrev pub last_area_of : Option (List ℕ) → List (List ℕ) → Option (List ℕ)
+last_area_of found [] = found
+last_area_of found (area ∷ areas) = last_area_of (Some area) areas
 
 -- a look loads none
 abbrev pub last_area :
     Work → SessionPlan → Option (List ℕ) → List SaveAnswer → Option (List ℕ)
 last_area Show plan found answers = None
-last_area work plan found answers = last_of found (saves_made work plan found answers)
+last_area work plan found answers = last_area_of found (saves_made work plan found answers)
 
 -- ---- what it leaves of all copies
 

@@ -78,17 +78,17 @@ pub record IsFiled (words : List (List ℕ)) (geometry : Geometry) (before after
 -- ---- one step
 
 -- a step gave what is expected of it, unless memory was refused
-abbrev pub Follows : {A B : Type 0} → Result B Refusal → (A → B) → Result A Refusal → Type 0
-Follows expected view (Ok x) = expected ≡ Ok (view x)
-Follows expected view (Err e) = e ≢ refusals.NoMemory → expected ≡ Err e
+abbrev pub IsExpected : {A B : Type 0} → Result B Refusal → (A → B) → Result A Refusal → Type 0
+IsExpected expected view (Ok x) = expected ≡ Ok (view x)
+IsExpected expected view (Err e) = e ≢ refusals.NoMemory → expected ≡ Err e
 
--- a file was read, and the step behind it gave what is expected of what reading it gave
+-- a file was read, and the step after it gave what is expected of what reading it gave
 pub record IsReadFor {A B : Type 0} (name : List ℕ) (before after : Folder)
     (expected : FileAnswer → Result B Refusal) (view : A → B) (given : Result A Refusal)
     : Type 0 where
   pub answer : FileAnswer
   pub read : IsFileRead name before after answer
-  pub follows : Follows (expected answer) view given
+  pub follows : IsExpected (expected answer) view given
 
 -- ---- the state that words describe
 
@@ -118,7 +118,7 @@ pub record IsKeyedFor {A : Type 0} (state : Described) (geometry : Geometry) (be
   pub tree : FileAnswer
   pub key : FileAnswer
   pub read : IsStateRead state geometry before after tree key
-  pub follows : Follows (keyed_by state geometry tree key) view given
+  pub follows : IsExpected (keyed_by state geometry tree key) view given
 
 -- the file of a key was read, where records of that format stand under one
 pub record IsKeyRead {A : Type 0} (file : Option (List ℕ)) (format : FormatKind)
@@ -131,7 +131,7 @@ pub record IsKeyRead {A : Type 0} (file : Option (List ℕ)) (format : FormatKin
       ForSome (key_for file format) (λ name. answer ≡ Err Fault → Rose before.faults after.faults)
   pub calm :
       ForSome (key_for file format) (λ name. IsOk answer) → after.faults ≡ before.faults
-  pub follows : Follows (key_in file format answer) view given
+  pub follows : IsExpected (key_in file format answer) view given
 
 -- ---- the entries of targets
 
@@ -142,4 +142,4 @@ pub record AreRead (targets : Binding) (before after : Folder)
   pub are : AreEntries (entries_of targets) before entries
   pub cause : Contains entries (Err Fault) → Rose before.faults after.faults
   pub calm : All IsOk entries → after.faults ≡ before.faults
-  pub follows : Follows (plans_in targets entries) (λ plans. plans) given
+  pub follows : IsExpected (plans_in targets entries) (λ plans. plans) given

@@ -1,7 +1,7 @@
 -- Definitions that contracts cite. A reader has to believe all of them.
 pub use Rattle.bb_base.specs.Faults
 pub use Rattle.bb_base.specs.Folder
-pub use Rattle.bb_base.specs.Outlet
+pub use Rattle.bb_base.specs.SinkRecord
 pub use Rattle.bb_flash.specs.Cuts
 pub use Rattle.bb_flash.specs.Device
 pub use Rattle.bb_flash.specs.Image
@@ -23,7 +23,7 @@ pub mod Booting
 pub mod Calls
 pub mod Clauses
 pub mod Copying
-pub mod Ending
+pub mod SessionAnswer
 pub mod Exactly
 pub mod Filing
 pub mod Looking
@@ -35,7 +35,7 @@ pub mod Refusal
 pub mod Session
 pub mod Starting
 pub mod Status
-pub mod Telling
-pub mod Turns
+pub mod Sending
+pub mod SessionTurns
 pub mod Work
 pub mod WriteFault

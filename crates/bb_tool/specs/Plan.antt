@@ -1,5 +1,5 @@
--- What a session is to do on the device, or why it is refused before: a function of its words, of the device's geometry,
--- and of what reading the files gave that the words name.
+-- What a session is to do on the device, or why it is refused before: a function of its words, of
+-- the device's geometry, and of what reading the files gave that the words name.
 use Rattle.std.specs.Prelude.{ℕ, Bool, is_some, List, [], map, Option, Some, None, Result, Ok, Err, option_and_then, option_map}
 use Rattle.std.specs.Option.{option_map_or}
 use Rattle.std.specs.Result.{result_ok}
@@ -27,7 +27,7 @@ use Rattle.bb_words.specs.declared.command.RawCommand.{RawCommand}
 use Rattle.bb_words.specs.declared.command.StateCommand.{StateCommand}
 use Rattle.bb_tool.specs.declared.refusal.Refusal.{Refusal}
 use Rattle.bb_tool.specs.declared.refusal.Refusal.TheVariants as refusals
-pub use Rattle.bb_tool.specs.Reading.{Described, FileAnswer, FileAnswers, Key, Role, Settings, Tree, binding_in, blob_root, block_by, block_in, bound_in, bytes_in, cause_of, description_of, entry_name, fit_by, is_blob, key_for, key_in, key_named, key_of_laid, keyed_by, keyed_in, laid_by, layout_by, layout_in, plan_refusal, plans_in, refused_as, source_root, tree_in}
+pub use Rattle.bb_tool.specs.Reading.{Described, FileAnswer, FileAnswers, Key, Role, Settings, Tree, binding_in, blob_root, block_by, block_in, binding_by, bytes_in, cause_of, description_of, entry_name, fit_by, is_blob, key_for, key_in, key_named, key_of_laid, keyed_by, keyed_in, laid_by, layout_by, layout_in, plan_refusal, plans_in, refused_as, source_root, tree_in}
 
 -- what is done with the copies of a layout
 pub data Work : Type 0 where

@@ -12,7 +12,7 @@ use Rattle.bb_dts.specs.Source.{source_of}
 use Rattle.bb_fdt.specs.Reading.{blob_of}
 use Rattle.bb_flash.specs.declared.geometry.Geometry.{Geometry}
 use Rattle.bb_flash.specs.declared.plan.Plan.{Plan as StartPlan}
-use Rattle.bb_hmac.specs.Hmac.{block_of}
+use Rattle.bb_hmac.specs.Hmac.{key_block}
 use Rattle.bb_hmac.specs.Key.{key_of}
 use Rattle.bb_layout.specs.Formats.{takes_key}
 use Rattle.bb_layout.specs.Layout.{Laid, layout_from}
@@ -88,7 +88,7 @@ layout_in file name geometry answer =
 -- the block of the key that a text spells
 abbrev pub block_by : List ℕ → Result (List ℕ) Refusal
 block_by text =
-    result_and_then (λ key. Ok (block_of key)) (refused_as refusals.BadKey (key_of text))
+    result_and_then (λ key. Ok (key_block key)) (refused_as refusals.BadKey (key_of text))
 
 -- of the one in the file of this name, if one is named
 abbrev pub block_in : Option (List ℕ) → FileAnswer → Result (List ℕ) Refusal
@@ -137,15 +137,15 @@ abbrev pub key_named : Described → Geometry → FileAnswer → Option (List �
 key_named state geometry tree = key_of_laid state.key (laid_by state geometry tree)
 
 -- settings, bound to the variables of a layout
-abbrev pub bound_in : Laid → List ℕ → Result Binding SettingsError
-bound_in layout text =
+abbrev pub binding_by : Laid → List ℕ → Result Binding SettingsError
+binding_by layout text =
     result_and_then (λ settings. bind_from settings layout.name layout.vars layout.area_len)
     (settings_of text)
 
 -- those in the file
 abbrev pub binding_in : List ℕ → Laid → FileAnswer → Result Binding Refusal
 binding_in file layout answer =
-    result_and_then (λ text. refused_as refusals.BadSettings (bound_in layout text))
+    result_and_then (λ text. refused_as refusals.BadSettings (binding_by layout text))
     (bytes_in file answer)
 
 -- the reset of this cause

@@ -91,7 +91,8 @@ layout_words layout_errors.AreaTooLong = codes "AreaTooLong"
 layout_words layout_errors.NameTwice = codes "NameTwice"
 layout_words layout_errors.NoMemory = codes "NoMemory"
 
--- the words for a variable that doesn't fit: why a text is no value of its kind, or that there is none
+-- the words for a variable that doesn't fit: why a text is no value of its kind, or that there is
+-- none
 abbrev pub value_words : ValueError → List ℕ
 value_words value_errors.NotNumber = codes "NotNumber"
 value_words value_errors.TooLarge = codes "TooLarge"
@@ -105,7 +106,8 @@ variable_words state_errors.NoSuchVariable = codes "NoSuchVariable"
 variable_words (state_errors.Value cause) = value_words cause
 variable_words state_errors.NoMemory = codes "NoMemory"
 
--- the words for settings that are no good: the refusal's name, and the line, counted from 1, or the variable
+-- the words for settings that are no good: the refusal's name, and the line, counted from 1, or the
+-- variable
 abbrev pub settings_words : SettingsError → List ℕ
 settings_words (settings_errors.BadLine line) = codes "BadLine " ++ decimal line
 settings_words settings_errors.NoTargets = codes "NoTargets"
@@ -121,7 +123,7 @@ abbrev pub key_words : KeyError → List ℕ
 key_words key_errors.Empty = codes "Empty"
 key_words (key_errors.BadHex place) = codes "BadHex"
 
--- what the line says behind the number of the status: words are counted from 1, copies from 0
+-- what the line says after the number of the status: words are counted from 1, copies from 0
 abbrev pub refusal_words : Refusal → List ℕ
 refusal_words (refusals.BadWords place) = codes "BadWords " ++ decimal (place + 1)
 refusal_words (refusals.BadTree e) = codes "BadTree " ++ tree_words e
@@ -152,24 +154,24 @@ abbrev pub line_of : Refusal → List ℕ
 line_of refusal = fault_text (status_of refusal) (refusal_words refusal)
 
 -- a copy that is named is one of the three
-abbrev pub IsTellable : Refusal → Type 0
-IsTellable (refusals.WriteFault copy) = copy < 3
-IsTellable (refusals.BadWords place) = ⊤
-IsTellable (refusals.BadTree e) = ⊤
-IsTellable (refusals.BadBlob e) = ⊤
-IsTellable (refusals.BadLayout e) = ⊤
-IsTellable (refusals.BadVariable name cause) = ⊤
-IsTellable (refusals.FileMissing file) = ⊤
-IsTellable (refusals.FileFault file) = ⊤
-IsTellable (refusals.FileTooLong file) = ⊤
-IsTellable refusals.ReadFault = ⊤
-IsTellable refusals.NoTarget = ⊤
-IsTellable (refusals.StartFailed name) = ⊤
-IsTellable (refusals.BadSettings e) = ⊤
-IsTellable refusals.NoKey = ⊤
-IsTellable (refusals.BadKey e) = ⊤
-IsTellable (refusals.NoGood place) = ⊤
-IsTellable refusals.NoMemory = ⊤
+abbrev pub IsSendableRefusal : Refusal → Type 0
+IsSendableRefusal (refusals.WriteFault copy) = copy < 3
+IsSendableRefusal (refusals.BadWords place) = ⊤
+IsSendableRefusal (refusals.BadTree e) = ⊤
+IsSendableRefusal (refusals.BadBlob e) = ⊤
+IsSendableRefusal (refusals.BadLayout e) = ⊤
+IsSendableRefusal (refusals.BadVariable name cause) = ⊤
+IsSendableRefusal (refusals.FileMissing file) = ⊤
+IsSendableRefusal (refusals.FileFault file) = ⊤
+IsSendableRefusal (refusals.FileTooLong file) = ⊤
+IsSendableRefusal refusals.ReadFault = ⊤
+IsSendableRefusal refusals.NoTarget = ⊤
+IsSendableRefusal (refusals.StartFailed name) = ⊤
+IsSendableRefusal (refusals.BadSettings e) = ⊤
+IsSendableRefusal refusals.NoKey = ⊤
+IsSendableRefusal (refusals.BadKey e) = ⊤
+IsSendableRefusal (refusals.NoGood place) = ⊤
+IsSendableRefusal refusals.NoMemory = ⊤
 
 -- how a session is refused by what the steps refuse
 abbrev pub words_refusal : WordsError → Refusal

@@ -1,6 +1,6 @@
--- What a session answers: the text that its work gathered, the refusal that ended it, if one did, the
--- areas of the saves that it began, and the rounds of its boot, if it boots. It is a function of the
--- words, the device's geometry, and what the files and the device answered.
+-- What a session answers: the text that its work gathered, the refusal that ended it, if one did,
+-- the areas of the saves that it began, and the rounds of its boot, if it boots. It is a function
+-- of the words, the device's geometry, and what the files and the device answered.
 use Rattle.std.specs.Prelude.{ℕ, Bool, true, false, List, [], ◌∷◌, ◌++◌, map, Option, Some, None, Result, Ok, Err, option_map, replicate, unwrap_or, if◌then◌else◌}
 use Rattle.std.specs.Option.{option_map_or}
 use Rattle.std.specs.Str.{bytes_eq}
@@ -15,7 +15,7 @@ use Rattle.bb_layout.specs.Defaults.{defaults_of}
 use Rattle.bb_layout.specs.Layout.{Laid}
 use Rattle.bb_tool.specs.Looking.{first_found, look_text, passed_in}
 use Rattle.bb_tool.specs.Marking.{good_text, lost_place}
-use Rattle.bb_shell.specs.Boot.{Round, all_attempts, end_of, first_table}
+use Rattle.bb_shell.specs.Boot.{Round, all_attempts, boot_end, first_table}
 use Rattle.bb_shell.specs.Stages.{saves_of as tables_of}
 use Rattle.bb_tool.specs.Booting.{SaveAnswer, end_refusal, end_text, has_no_target, rounds_of}
 use Rattle.bb_tool.specs.Plan.{Act, Boot, FileAnswers, Good, SessionPlan, Show, Work, Write, files_for, plan_by_words}
@@ -31,8 +31,8 @@ use Rattle.bb_tool.specs.declared.status.Status.TheVariants.{Done}
 abbrev pub LoadAnswer : Type 0
 LoadAnswer = Result (Option (List ℕ)) CopyFault
 
--- what was answered: by the files that were read, by the load or the look, and by each save that was
--- begun, in their order; of a boot by each round
+-- what was answered: by the files that were read, by the load or the look, and by each save that
+-- was begun, in their order; of a boot by each round
 pub record Answers : Type 0 where
   pub files : FileAnswers
   pub load : LoadAnswer
@@ -53,7 +53,7 @@ done_with text = record { text = text; refusal = None; saves = []; rounds = [] }
 abbrev pub refused_for : Refusal → Session
 refused_for refusal = record { text = []; refusal = Some refusal; saves = []; rounds = [] }
 
--- all that is sent: the text, and the line of the refusal behind it
+-- all that is sent: the text, and the line of the refusal after it
 abbrev pub sent_of : Session → List ℕ
 sent_of session =
     option_map_or (λ refusal. session.text ++ line_of refusal) session.refusal session.text
@@ -83,14 +83,14 @@ saves_of layout (Good targets) area =
 saves_of layout (Boot targets cause plans) area = []
 
 -- the text that is sent where no save was refused
-abbrev pub text_of : Laid → Work → Option (List ℕ) → List ℕ
-text_of layout Show found = look_text found
-text_of layout (Write new) found = []
-text_of layout (Act actions) found =
+abbrev pub work_text : Laid → Work → Option (List ℕ) → List ℕ
+work_text layout Show found = look_text found
+work_text layout (Write new) found = []
+work_text layout (Act actions) found =
     actions_text layout (after_all layout.vars (loaded_area layout found) actions) actions
-text_of layout (Good targets) found =
+work_text layout (Good targets) found =
     good_text targets (mark_good_of targets (loaded_area layout found))
-text_of layout (Boot targets cause plans) found = []
+work_text layout (Boot targets cause plans) found = []
 
 -- the saves are begun one after another, and the first that is refused ends them, before any text
 -- is gathered
@@ -103,15 +103,15 @@ session_of_saves text (area ∷ areas) (Ok made ∷ answers) =
     let rest = session_of_saves text areas answers in record rest { saves = area ∷ rest.saves }
 
 -- the areas that are saved after the answer of the load, where no start is after a save
-abbrev pub saves_behind : SessionPlan → LoadAnswer → List (List ℕ)
-saves_behind plan (Ok found) = saves_of plan.keyed.layout plan.work (loaded_area plan.keyed.layout found)
-saves_behind plan (Err fault) = []
+abbrev pub saves_after : SessionPlan → LoadAnswer → List (List ℕ)
+saves_after plan (Ok found) = saves_of plan.keyed.layout plan.work (loaded_area plan.keyed.layout found)
+saves_after plan (Err fault) = []
 
 -- a boot that has these rounds after a load of this table
 abbrev pub boot_session : Binding → List ℕ → List Round → Session
 boot_session targets table rounds = record {
-  text = end_text targets (end_of targets rounds);
-  refusal = end_refusal targets (end_of targets rounds);
+  text = end_text targets (boot_end targets rounds);
+  refusal = end_refusal targets (boot_end targets rounds);
   saves = tables_of table rounds;
   rounds = rounds;
 }
@@ -127,10 +127,10 @@ refusal_by_table (Boot targets cause plans) table =
     if has_no_target targets cause table then Some NoTarget else None
 
 -- so it is after the answer of the load
-abbrev pub barred_behind : Result SessionPlan Refusal → LoadAnswer → Option Refusal
-barred_behind (Ok plan) (Ok found) = refusal_by_table plan.work (loaded_area plan.keyed.layout found)
-barred_behind (Ok plan) (Err fault) = None
-barred_behind (Err refusal) load = None
+abbrev pub barred_after : Result SessionPlan Refusal → LoadAnswer → Option Refusal
+barred_after (Ok plan) (Ok found) = refusal_by_table plan.work (loaded_area plan.keyed.layout found)
+barred_after (Ok plan) (Err fault) = None
+barred_after (Err refusal) load = None
 
 abbrev pub unless_barred : Option Refusal → Session → Session
 unless_barred None session = session
@@ -139,7 +139,7 @@ unless_barred (Some refusal) session = refused_for refusal
 -- work after a load that answered Ok, by what its saves were answered: saves alone, or a boot
 abbrev pub saving_session : SessionPlan → Option (List ℕ) → List SaveAnswer → Session
 saving_session plan found saves =
-    session_of_saves (text_of plan.keyed.layout plan.work found) (saves_behind plan (Ok found)) saves
+    session_of_saves (work_text plan.keyed.layout plan.work found) (saves_after plan (Ok found)) saves
 
 abbrev pub worked_on : Work → SessionPlan → Option (List ℕ) → List SaveAnswer → Session
 worked_on Show plan found saves = saving_session plan found saves
@@ -175,21 +175,21 @@ load_for (Err refusal) geometry image = Ok None
 abbrev pub all_made : List (List ℕ) → List SaveAnswer
 all_made areas = map (λ area. Ok false) areas
 
--- so is each start of a boot, of which no round is behind the last attempt
+-- so is each start of a boot, of which no round is after the last attempt
 abbrev pub starts_made : Binding → List ℕ → List SaveAnswer
 starts_made targets table = replicate (all_attempts targets table) (Ok true)
 
-abbrev pub answers_behind : Work → SessionPlan → LoadAnswer → List SaveAnswer
-answers_behind Show plan load = all_made (saves_behind plan load)
-answers_behind (Write area) plan load = all_made (saves_behind plan load)
-answers_behind (Act actions) plan load = all_made (saves_behind plan load)
-answers_behind (Good targets) plan load = all_made (saves_behind plan load)
-answers_behind (Boot targets cause plans) plan (Ok found) =
+abbrev pub answers_after : Work → SessionPlan → LoadAnswer → List SaveAnswer
+answers_after Show plan load = all_made (saves_after plan load)
+answers_after (Write area) plan load = all_made (saves_after plan load)
+answers_after (Act actions) plan load = all_made (saves_after plan load)
+answers_after (Good targets) plan load = all_made (saves_after plan load)
+answers_after (Boot targets cause plans) plan (Ok found) =
     starts_made targets (first_table targets cause true (loaded_area plan.keyed.layout found))
-answers_behind (Boot targets cause plans) plan (Err fault) = []
+answers_after (Boot targets cause plans) plan (Err fault) = []
 
 abbrev pub saves_for : Result SessionPlan Refusal → LoadAnswer → List SaveAnswer
-saves_for (Ok plan) load = answers_behind plan.work plan load
+saves_for (Ok plan) load = answers_after plan.work plan load
 saves_for (Err refusal) load = []
 
 -- what is answered to a plan at a device with this content

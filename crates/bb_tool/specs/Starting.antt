@@ -12,14 +12,14 @@ use Rattle.bb_flash.specs.declared.plan.Plan.{Plan as StartPlan}
 use Rattle.bb_shell.specs.Boot.{last_round, plan_at, table_after}
 use Rattle.bb_shell.specs.Counting.{IsBootTurn}
 use Rattle.bb_shell.specs.Ends.{StartsOnce, failed_starts}
-use Rattle.bb_tool.specs.Booting.{AreRoundsOf, plans_of, start_of}
-use Rattle.bb_tool.specs.Calls.{MayAnswer, Tells, session_for}
+use Rattle.bb_tool.specs.Booting.{AreRoundsOf, start_plans_of, start_of}
+use Rattle.bb_tool.specs.Calls.{MayAnswer, SendsText, session_for}
 use Rattle.bb_tool.specs.Copying.{EachWork}
 use Rattle.bb_tool.specs.Looking.{passed_in}
 use Rattle.bb_tool.specs.Plan.{Act, Boot, Good, SessionPlan, Show, Work, Write}
 use Rattle.bb_tool.specs.Ran.{Ran}
 use Rattle.bb_tool.specs.Session.{Answers, loaded_area, sent_of}
-use Rattle.bb_tool.specs.Turns.{EachStanding, turn_of}
+use Rattle.bb_tool.specs.SessionTurns.{EachStanding, turn_of}
 use Rattle.bb_tool.specs.declared.refusal.Refusal.TheVariants as refusals
 use Rattle.bb_tool.specs.declared.status.Status.TheVariants as statuses
 
@@ -40,8 +40,8 @@ RunsRounds ran =
     EachLoaded ran (λ plan answers table. AreRoundsOf plan.work table (session_for ran answers).rounds)
 
 -- A boot did what the law of starts takes for a boot: where its load answered Ok, the table that it
--- gave stands at the turn's place of the list and has the area's length, and the turn is that of the
--- rounds that come of some answers. No other work is a boot.
+-- gave stands at the turn's place of the list and has the area's length, and the turn is that of
+-- the rounds that come of some answers. No other work is a boot.
 abbrev pub IsTurnOf : Work → Content → Turn → Type 0
 IsTurnOf Show before turn = ⊤
 IsTurnOf (Write area) before turn = ⊤
@@ -92,8 +92,8 @@ StartsAtMostOne ran =
     ⊎ ((plan : StartPlan) × StartsOnce ran.before.device ran.after.device plan)
 
 -- where a start was made every copy passes the table of its round or nothing
-abbrev pub StartsBehindSave : Ran → Type 0
-StartsBehindSave ran =
+abbrev pub StartsAfterSave : Ran → Type 0
+StartsAfterSave ran =
     EachLoaded ran
     (λ plan answers table.
     IsSome (start_of plan.work (session_for ran answers).rounds) →
@@ -102,7 +102,8 @@ StartsBehindSave ran =
     EachPassesOrNothing (table_after table (session_for ran answers).rounds)
     (passed_in plan.keyed ran.before.device.geometry.page image)))
 
--- the count of failed starts rose by at least the rounds that failed although their target has a plan
+-- the count of failed starts rose by at least the rounds that failed although their target has a
+-- plan
 abbrev pub CountsFailedStarts : Ran → Type 0
 CountsFailedStarts ran =
     EachWork ran
@@ -116,7 +117,7 @@ CountsFailedStarts ran =
 abbrev pub IsUnplanned : Work → Ran → Answers → Type 0
 IsUnplanned work ran answers =
     IsNone
-    (option_and_then (λ round. plan_at (plans_of work) round.target)
+    (option_and_then (λ round. plan_at (start_plans_of work) round.target)
     (last_round (session_for ran answers).rounds))
 
 -- a target is named as one that couldn't be started only where it has no plan, or a start failed
@@ -134,7 +135,7 @@ pub record NamesATarget (ran : Ran) : Type 0 where
   pub answered : MayAnswer ran answers
   pub name : List ℕ
   pub refusal : (session_for ran answers).refusal ≡ Some (refusals.StartFailed name)
-  pub told : Tells ran (sent_of (session_for ran answers)) statuses.StartFailed
+  pub told : SendsText ran (sent_of (session_for ran answers)) statuses.StartFailed
 
 abbrev pub NamesTheTarget : Ran → Type 0
 NamesTheTarget ran = ran.status ≡ statuses.StartFailed → NamesATarget ran

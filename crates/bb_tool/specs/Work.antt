@@ -1,11 +1,12 @@
--- The work of a session on the copies of a layout: what was answered, and what became of the device.
+-- The work of a session on the copies of a layout: what was answered, and what became of the
+-- device.
 use Rattle.std.specs.Prelude.{◌≡◌, ◌≢◌, ◌⊎◌, ℕ, ◌≤◌, List, [], ◌∷◌, length, map, ⊤, false, true, Option, Some, None, Result, Ok, Err, IfOk, IfErr, IsErr}
 use Rattle.std.specs.Option.{ForSome}
 use Rattle.bb_base.specs.Faults.{HasCause}
 use Rattle.bb_bucket.specs.Calls.{IsQuiet}
 use Rattle.bb_copies.specs.Loading.{KeepsOutside, LoadGives, LoadImages, LoadsExactly}
 use Rattle.bb_copies.specs.Saving.{EachWritten, SaveFails, SaveRuns}
-use Rattle.bb_copies.specs.Settling.{IsUndisturbed, RoseBy}
+use Rattle.bb_copies.specs.Settling.{NothingFails, RoseBy}
 use Rattle.bb_copies.specs.Store.{used_after}
 use Rattle.bb_copies.specs.declared.answers.CopyFault.TheVariants.{ReadFault, Unsure}
 use Rattle.bb_copies.specs.declared.answers.Loaded.{Loaded}
@@ -16,8 +17,8 @@ use Rattle.bb_chooser.specs.declared.cause.Cause.{Cause}
 use Rattle.bb_flash.specs.Device.{Device, LeavesStarts, content}
 use Rattle.bb_flash.specs.declared.plan.Plan.{Plan as StartPlan}
 use Rattle.bb_state.specs.Keyed.{Keyed}
-use Rattle.bb_shell.specs.Boot.{AreRounds, Round, all_attempts, end_of, first_table, table_after}
-use Rattle.bb_shell.specs.Ends.{AddsStarts, HasEndCause, StaysStored, failed_starts, is_fault}
+use Rattle.bb_shell.specs.Boot.{AreRounds, Round, all_attempts, boot_end, first_table, table_after}
+use Rattle.bb_shell.specs.Ends.{AddsStarts, HasEndCause, StaysStored, failed_starts, is_fault_end}
 use Rattle.bb_shell.specs.Running.{AreRun}
 use Rattle.bb_shell.specs.Stages.{KeepsATrail, KeepsAtExit}
 use Rattle.bb_state.specs.Kinds.{laid_form, laid_kinds}
@@ -26,8 +27,8 @@ use Rattle.bb_tool.specs.Looking.{first_found, passed_in}
 use Rattle.bb_shell.specs.declared.boot_end.BootEnd.{BootEnd}
 use Rattle.bb_tool.specs.Booting.{SaveAnswer, answer_to, end_refusal, end_text}
 use Rattle.bb_tool.specs.Plan.{Act, Boot, Good, SessionPlan, Show, Work, Write}
-use Rattle.bb_tool.specs.Session.{LoadAnswer, Session, loaded_area, saves_behind, work_session}
-use Rattle.bb_tool.specs.Telling.{takes_memory}
+use Rattle.bb_tool.specs.Session.{LoadAnswer, Session, loaded_area, saves_after, work_session}
+use Rattle.bb_tool.specs.Sending.{takes_memory}
 use Rattle.bb_tool.specs.declared.report.Report.{Report}
 use Rattle.bb_tool.specs.declared.refusal.Refusal.{Refusal}
 use Rattle.bb_tool.specs.declared.refusal.Refusal.TheVariants as refusals
@@ -52,7 +53,7 @@ area_taken area (Copy used live) = Some area
 area_taken area NoCopy = None
 
 -- a load found a copy of this area, or no copy and this area's defaults
-pub record IsFound (keyed : Keyed) (area : List ℕ) (loaded : Loaded) (from to : Device)
+pub record IsLoadedArea (keyed : Keyed) (area : List ℕ) (loaded : Loaded) (from to : Device)
     : Type 0 where
   pub gives : LoadGives (laid_form keyed) (laid_kinds keyed.layout) area from to loaded
   pub defaults : IsDefault keyed.layout area loaded
@@ -63,7 +64,7 @@ pub record IsLoadedAs (keyed : Keyed) (used : Option ℕ) (from to : Device)
     (found : Option (List ℕ)) : Type 0 where
   pub area : List ℕ
   pub loaded : Loaded
-  pub gave : IsFound keyed area loaded from to
+  pub gave : IsLoadedArea keyed area loaded from to
   pub taken : found ≡ area_taken area loaded
   pub used_is : used ≡ used_after loaded
 
@@ -80,7 +81,7 @@ pub record IsLoaded (keyed : Keyed) (used : Option ℕ) (from to : Device) (answ
 -- ---- saves
 
 -- what a save made of the device, and what it answered
-pub record IsSaved (keyed : Keyed) (used : Option ℕ) (area : List ℕ) (from to : Device)
+pub record IsSaveAnswered (keyed : Keyed) (used : Option ℕ) (area : List ℕ) (from to : Device)
     (answer : SaveAnswer) : Type 0 where
   pub now : Option ℕ
   pub runs : SaveRuns (laid_form keyed) (laid_kinds keyed.layout) used area from to
@@ -89,7 +90,7 @@ pub record IsSaved (keyed : Keyed) (used : Option ℕ) (area : List ℕ) (from t
       IfErr answer (λ fault. SaveFails (laid_form keyed) (laid_kinds keyed.layout) used area from to fault)
   pub sure : IfErr answer (λ fault. fault ≢ Unsure)
   pub exact :
-      IsUndisturbed from to →
+      NothingFails from to →
       IfOk answer
       (λ made. EachWritten (laid_kinds keyed.layout) ((laid_form keyed).text area) from to)
 
@@ -98,7 +99,7 @@ abbrev pub AreSaved : Keyed → Option ℕ → List (List ℕ) → Device → De
 AreSaved keyed used [] from to answers = (answers ≡ []) × (to ≡ from)
 AreSaved keyed used (area ∷ areas) from to [] = ⊥
 AreSaved keyed used (area ∷ areas) from to (answer ∷ answers) =
-    IsSaved keyed used area from to answer × ((areas ≡ []) × (answers ≡ []))
+    IsSaveAnswered keyed used area from to answer × ((areas ≡ []) × (answers ≡ []))
 
 -- ---- a boot
 
@@ -118,22 +119,22 @@ pub record IsBootRun (keyed : Keyed) (targets : Binding) (cause : Cause)
   pub trail : KeepsATrail keyed table used rounds from to
   pub exit : KeepsAtExit keyed table used now rounds from to
   pub stored :
-      is_fault (end_of targets rounds) ≡ false →
+      is_fault_end (boot_end targets rounds) ≡ false →
       StaysStored keyed table (table_after table rounds) from to
   pub outside : KeepsOutside (laid_kinds keyed.layout) from to
   pub later : IsLater from to
   -- the start that was made, if one was, and those that failed
-  pub starts : AddsStarts plans from to (end_of targets rounds)
+  pub starts : AddsStarts plans from to (boot_end targets rounds)
   pub start_faults : RoseBy (failed_starts rounds) from.start_faults to.start_faults
-  pub end_cause : HasEndCause plans from to (end_of targets rounds)
+  pub end_cause : HasEndCause plans from to (boot_end targets rounds)
 
 -- it comes after a load that answered Ok
-abbrev pub IsBootBehind :
+abbrev pub IsBootAfterLoad :
     Keyed → Binding → Cause → List (Option StartPlan) → Option ℕ → Device → Device → LoadAnswer →
     List SaveAnswer → Type 0
-IsBootBehind keyed targets cause plans used from to (Ok found) answers =
+IsBootAfterLoad keyed targets cause plans used from to (Ok found) answers =
     IsBootRun keyed targets cause plans (loaded_area keyed.layout found) used from to answers
-IsBootBehind keyed targets cause plans used from to (Err fault) answers =
+IsBootAfterLoad keyed targets cause plans used from to (Err fault) answers =
     (answers ≡ []) × (to ≡ from)
 
 -- ---- the work of a plan
@@ -146,7 +147,7 @@ pub record IsStoreWork (plan : SessionPlan) (from to : Device) (load : LoadAnswe
   pub used : Option ℕ
   pub many : 2 ≤ plan.keyed.layout.copies
   pub loaded : IsLoaded plan.keyed used from middle load
-  pub saved : AreSaved plan.keyed used (saves_behind plan load) middle to saves
+  pub saved : AreSaved plan.keyed used (saves_after plan load) middle to saves
 
 pub record IsLookWork (plan : SessionPlan) (from to : Device) (load : LoadAnswer)
     (saves : List SaveAnswer) : Type 0 where
@@ -163,7 +164,7 @@ pub record IsBootWork (targets : Binding) (cause : Cause) (plans : List (Option 
   pub geometry : from.geometry ≡ plan.keyed.layout.geometry
   pub many : 2 ≤ plan.keyed.layout.copies
   pub loaded : IsLoaded plan.keyed used from middle load
-  pub booted : IsBootBehind plan.keyed targets cause plans used middle to load saves
+  pub booted : IsBootAfterLoad plan.keyed targets cause plans used middle to load saves
 
 abbrev pub IsWorkOf : Work → SessionPlan → Device → Device → LoadAnswer → List SaveAnswer → Type 0
 IsWorkOf Show plan from to load saves = IsLookWork plan from to load saves
@@ -176,7 +177,7 @@ IsWorkOf (Boot targets cause plans) plan from to load saves =
 abbrev pub IsWork : SessionPlan → Device → Device → LoadAnswer → List SaveAnswer → Type 0
 IsWork plan from to load saves = IsWorkOf plan.work plan from to load saves
 
--- before anything is sent the work gave what the session answers: its text, with a refusal behind it
+-- before anything is sent the work gave what the session answers: its text, with a refusal after it
 -- or none, or a refusal before which it had gathered no text
 abbrev pub Gives : Session → Result Report Refusal → Type 0
 Gives session (Ok report) = (session.text ≡ report.text) × (session.refusal ≡ report.refusal)
@@ -211,7 +212,8 @@ IsReportOf targets end given =
     GivesEnd targets end given
     ⊎ ((given ≡ Err refusals.NoMemory) × SendsByMemory (end_refusal targets end))
 
--- it was done, no call of the device was refused, and then memory was refused for what was to be sent
+-- it was done, no call of the device was refused, and then memory was refused for what was to be
+-- sent
 pub record IsTextRefused (plan : SessionPlan) (from to : Device) (given : Result Report Refusal)
     : Type 0 where
   pub load : LoadAnswer

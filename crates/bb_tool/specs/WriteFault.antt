@@ -11,7 +11,7 @@ use Rattle.bb_state.specs.Kinds.{laid_kinds}
 use Rattle.bb_tool.specs.Looking.{first_found, passed_in}
 use Rattle.bb_shell.specs.Boot.{Round}
 use Rattle.bb_shell.specs.Running.{AreRun}
-use Rattle.bb_tool.specs.Booting.{SaveAnswer, boots, plans_of}
+use Rattle.bb_tool.specs.Booting.{SaveAnswer, boots, start_plans_of}
 use Rattle.bb_tool.specs.Exactly.{saves_made}
 use Rattle.bb_tool.specs.Plan.{SessionPlan}
 use Rattle.bb_tool.specs.Session.{LoadAnswer, loaded_area}
@@ -36,7 +36,7 @@ pub record IsLeftStale (plan : SessionPlan) (from to : Device) (load : LoadAnswe
       PassesAnother area (passes_at (passed_in plan.keyed from.geometry.page image) copy))
   pub cause : RoseBy 2 from.faults to.faults
 
--- the copy is the one that the load took, or in a boot one that a save behind it left as the first
+-- the copy is the one that the load took, or in a boot one that a save after it left as the first
 -- that passes
 pub record IsUsed (plan : SessionPlan) (from middle : Device) (load : LoadAnswer) (copy : ℕ)
     : Type 0 where
@@ -48,7 +48,7 @@ pub record IsUsed (plan : SessionPlan) (from middle : Device) (load : LoadAnswer
   pub found_is : load ≡ Ok found
   pub earlier : List Round
   pub run :
-      AreRun plan.keyed (plans_of plan.work) (loaded_area plan.keyed.layout found) used (Some copy)
+      AreRun plan.keyed (start_plans_of plan.work) (loaded_area plan.keyed.layout found) used (Some copy)
       earlier first middle
   pub none : boots plan.work ≡ false → earlier ≡ []
 
@@ -69,8 +69,8 @@ pub record IsLeftAlone (plan : SessionPlan) (from to : Device) (load : LoadAnswe
       passes_at (passed_in plan.keyed from.geometry.page image) place ≡ None)
   pub cause : RoseBy (plan.keyed.layout.copies - 1) from.faults to.faults
 
--- The load took no copy, and the copy is the last. None passes anything, and for each of them a call
--- failed.
+-- The load took no copy, and the copy is the last. None passes anything, and for each of them a
+-- call failed.
 pub record AreAllLost (plan : SessionPlan) (from to : Device) (load : LoadAnswer) (copy : ℕ)
     : Type 0 where
   pub found : load ≡ Ok None

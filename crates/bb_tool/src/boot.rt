@@ -7,10 +7,10 @@ ghost use Rattle.bb_state.specs.State.{IsOn, keyed_of, laid_of};
 ghost use Rattle.bb_words.specs.Words.{words_of};
 ghost use Rattle.bb_words.specs.declared.command.Command.TheVariants as commands;
 ghost use Rattle.bb_tool.specs.Booting.{start_line, target_name, tries_line};
-ghost use Rattle.bb_tool.specs.Ending.{IsGiven};
+ghost use Rattle.bb_tool.specs.SessionAnswer.{IsSessionAnswer};
 ghost use Rattle.bb_tool.specs.Filing.{keyed_as, AreRead, IsFolderLater};
 ghost use Rattle.bb_tool.specs.Plan.{Boot, cause_of, entry_name};
-ghost use Rattle.bb_tool.specs.Refusal.{IsTellable};
+ghost use Rattle.bb_tool.specs.Refusal.{IsSendableRefusal};
 ghost use Rattle.bb_tool.specs.Work.{IsReportOf, IsSendable, IsWorkedOut};
 
 use crate::described::{KeyedLayout, read_keyed};
@@ -25,8 +25,8 @@ use bb_state::State;
 use bb_words::{BootCommand, CauseWord};
 use std::alloc::Global;
 
-/// The command `boot`: the layout that its file describes, the settings' targets, the plans of their entries, and then the
-/// work on the board.
+/// The command `boot`: the layout that its file describes, the settings' targets, the plans of
+/// their entries, and then the work on the board.
 pub(crate) fn boot<N: Files, B: Board>(
     alloc: Global,
     files: &mut N,
@@ -34,9 +34,9 @@ pub(crate) fn boot<N: Files, B: Board>(
     command: &BootCommand,
 ) -> Result<Report, Refusal>
     ensures gives { (words : List (List ℕ)) → words_of words ≡ Ok (commands.Boot command.now)
-        → IsGiven words (N.folder files.old) (N.folder files.new)
+        → IsSessionAnswer words (N.folder files.old) (N.folder files.new)
         (B.device board.old) (B.device board.new) result }
-    ensures tellable { IfErr result IsTellable }
+    ensures tellable { IfErr result IsSendableRefusal }
     ensures sends { IfOk result IsSendable }
     ensures files { IsFolderLater (N.folder files.old) (N.folder files.new) }
     ensures later { IsLater (B.device board.old) (B.device board.new) }
@@ -67,7 +67,7 @@ fn read_entries<N: Files>(
     chooser: &Chooser,
 ) -> Result<PlanList, Refusal>
     ensures read { AreRead chooser.now (N.folder files.old) (N.folder files.new) result }
-    ensures tellable { IfErr result IsTellable }
+    ensures tellable { IfErr result IsSendableRefusal }
     ensures files { IsFolderLater (N.folder files.old) (N.folder files.new) }
 {
     match read_plans(alloc, chooser, files) {
@@ -107,7 +107,7 @@ fn boot_by<B: Board>(
     ensures gives { IsWorkedOut (keyed_as keyed)
         (Boot chooser.now cause plans.now)
         (B.device board.old) (B.device board.new) result }
-    ensures tellable { IfErr result IsTellable }
+    ensures tellable { IfErr result IsSendableRefusal }
     ensures sends { IfOk result IsSendable }
     ensures later { IsLater (B.device board.old) (B.device board.new) }
 {

@@ -4,9 +4,9 @@ ghost use Rattle.bb_flash.specs.Geometry.{IsGeometry};
 ghost use Rattle.bb_layout.specs.Layout.{fields_of};
 ghost use Rattle.bb_state.specs.Keyed.{FitsKey};
 ghost use Rattle.bb_tree.specs.NodeViews.{branch_of};
-ghost use Rattle.bb_tool.specs.Filing.{Follows, IsFolderLater, IsKeyedFor, IsReadFor, keyed_as};
+ghost use Rattle.bb_tool.specs.Filing.{IsExpected, IsFolderLater, IsKeyedFor, IsReadFor, keyed_as};
 ghost use Rattle.bb_tool.specs.Plan.{blob_root, description_of, layout_in, source_root, tree_in};
-ghost use Rattle.bb_tool.specs.Refusal.{IsTellable};
+ghost use Rattle.bb_tool.specs.Refusal.{IsSendableRefusal};
 
 use crate::file::read_file;
 use crate::key::read_key;
@@ -42,7 +42,7 @@ pub(crate) fn read_keyed<N: Files>(
         (N.folder files.old) (N.folder files.new) keyed_as result }
     ensures fits { IfOk result (λ keyed. FitsKey keyed.layout.format keyed.key) }
     ensures same_geometry { IfOk result (λ keyed. keyed.layout.geometry ≡ geometry) }
-    ensures tellable { IfErr result IsTellable }
+    ensures tellable { IfErr result IsSendableRefusal }
     ensures files { IsFolderLater (N.folder files.old) (N.folder files.new) }
 {
     let layout = read_layout(alloc, files, file, name, geometry)?;
@@ -50,7 +50,8 @@ pub(crate) fn read_keyed<N: Files>(
     Ok(KeyedLayout { layout, key })
 }
 
-// The layout of the state of that name, or of the first without one, that the devicetree in a file describes.
+// The layout of the state of that name, or of the first without one, that the devicetree in a file
+// describes.
 fn read_layout<N: Files>(
     alloc: Global,
     files: &mut N,
@@ -61,7 +62,7 @@ fn read_layout<N: Files>(
     requires { IsGeometry geometry }
     ensures read { IsReadFor file.now (N.folder files.old) (N.folder files.new)
         (layout_in file.now (option_copied name.entry) geometry) fields_of result }
-    ensures tellable { IfErr result IsTellable }
+    ensures tellable { IfErr result IsSendableRefusal }
     ensures same_geometry { IfOk result (λ layout. layout.geometry ≡ geometry) }
     ensures files { IsFolderLater (N.folder files.old) (N.folder files.new) }
 {
@@ -73,8 +74,8 @@ fn read_layout<N: Files>(
 // The tree that bytes hold: as a blob where they begin as one, else as a source.
 fn read_tree(alloc: Global, bytes: &[u8]) -> Result<Tree, Refusal>
     requires { length bytes.now ≤ 4294967295 }
-    ensures read { Follows (tree_in bytes.now) (λ tree. branch_of tree.root) result }
-    ensures tellable { IfErr result IsTellable }
+    ensures read { IsExpected (tree_in bytes.now) (λ tree. branch_of tree.root) result }
+    ensures tellable { IfErr result IsSendableRefusal }
 {
     if bytes.starts_with(&[0xd0, 0x0d, 0xfe, 0xed]) {
         return read_blob_tree(alloc, bytes);
@@ -83,16 +84,16 @@ fn read_tree(alloc: Global, bytes: &[u8]) -> Result<Tree, Refusal>
 }
 
 fn read_blob_tree(alloc: Global, blob: &[u8]) -> Result<Tree, Refusal>
-    ensures read { Follows (blob_root blob.now) (λ tree. branch_of tree.root) result }
-    ensures tellable { IfErr result IsTellable }
+    ensures read { IsExpected (blob_root blob.now) (λ tree. branch_of tree.root) result }
+    ensures tellable { IfErr result IsSendableRefusal }
 {
     Ok(read_blob(alloc, blob)?)
 }
 
 fn read_source_tree(alloc: Global, source: &[u8]) -> Result<Tree, Refusal>
     requires { length source.now ≤ 4294967295 }
-    ensures read { Follows (source_root source.now) (λ tree. branch_of tree.root) result }
-    ensures tellable { IfErr result IsTellable }
+    ensures read { IsExpected (source_root source.now) (λ tree. branch_of tree.root) result }
+    ensures tellable { IfErr result IsSendableRefusal }
 {
     Ok(read_source(alloc, source)?)
 }

@@ -2,7 +2,7 @@ ghost use Rattle.std.specs.Prelude.{◌≤◌, IfErr, IfOk, length};
 ghost use Rattle.bb_base.specs.Folder.{file_limit};
 ghost use Rattle.bb_tool.specs.Filing.{IsFolderLater, IsReadFor};
 ghost use Rattle.bb_tool.specs.Plan.{bytes_in};
-ghost use Rattle.bb_tool.specs.Refusal.{IsTellable};
+ghost use Rattle.bb_tool.specs.Refusal.{IsSendableRefusal};
 
 use crate::refusal::Refusal;
 use bb_base::{Bytes, FileFail, Files, Text};
@@ -17,7 +17,7 @@ pub(crate) fn read_file<N: Files>(
     ensures read { IsReadFor name.now (N.folder files.old) (N.folder files.new)
         (bytes_in name.now) (λ bytes. bytes) result }
     ensures short { IfOk result (λ bytes. length bytes ≤ file_limit) }
-    ensures tellable { IfErr result IsTellable }
+    ensures tellable { IfErr result IsSendableRefusal }
     ensures files { IsFolderLater (N.folder files.old) (N.folder files.new) }
 {
     let mut bytes = Bytes::none(alloc);

@@ -4,7 +4,7 @@ ghost use Rattle.bb_state.specs.Keyed.{FitsKey};
 ghost use Rattle.bb_tool.specs.Filing.{IsFolderLater, IsKeyRead, IsReadFor};
 ghost use Rattle.bb_tool.specs.Plan.{block_by, bytes_in};
 ghost use Rattle.bb_layout.specs.Results.{result_and_then};
-ghost use Rattle.bb_tool.specs.Refusal.{IsTellable};
+ghost use Rattle.bb_tool.specs.Refusal.{IsSendableRefusal};
 
 use crate::file::read_file;
 use crate::refusal::Refusal;
@@ -13,8 +13,8 @@ use bb_hmac::Key;
 use bb_layout::FormatKind;
 use std::alloc::Global;
 
-/// The key of records of that format, which the file of that name spells. Where such records stand under none, no file
-/// is read.
+/// The key of records of that format, which the file of that name spells. Where such records stand
+/// under none, no file is read.
 pub(crate) fn read_key<N: Files>(
     alloc: Global,
     files: &mut N,
@@ -24,7 +24,7 @@ pub(crate) fn read_key<N: Files>(
     ensures read { IsKeyRead (option_copied file.entry) format
         (N.folder files.old) (N.folder files.new) (λ key. key) result }
     ensures fits { IfOk result (FitsKey format) }
-    ensures tellable { IfErr result IsTellable }
+    ensures tellable { IfErr result IsSendableRefusal }
     ensures files { IsFolderLater (N.folder files.old) (N.folder files.new) }
 {
     if !format.takes_key() {
@@ -40,7 +40,7 @@ pub(crate) fn read_key<N: Files>(
 fn spelt_key<N: Files>(alloc: Global, files: &mut N, file: &Text) -> Result<Key, Refusal>
     ensures read { IsReadFor file.now (N.folder files.old) (N.folder files.new)
         (λ answer. result_and_then block_by (bytes_in file.now answer)) (λ key. key) result }
-    ensures tellable { IfErr result IsTellable }
+    ensures tellable { IfErr result IsSendableRefusal }
     ensures files { IsFolderLater (N.folder files.old) (N.folder files.new) }
 {
     let text = read_file(alloc, files, file)?;

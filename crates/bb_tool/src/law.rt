@@ -3,32 +3,32 @@ ghost use Rattle.bb_copies.specs.Chronicle.{ChronicleLaw};
 ghost use Rattle.bb_copies.specs.Cutting.{CutLaw};
 ghost use Rattle.bb_shell.specs.Counting.{AttemptsLaw, NoLoadLaw};
 ghost use Rattle.bb_shell.specs.Cutting.{BootCutLaw};
-ghost use Rattle.bb_tool.specs.Turns.{BlankLaw};
+ghost use Rattle.bb_tool.specs.SessionTurns.{BlankLaw};
 
-/// Over every list of sessions, of sessions that were cut and of decays: the number of the area that is
-/// acknowledged never falls, all that was acknowledged stays, and each load that answers Ok gives the last
-/// acknowledged area or a later one. A device that holds 0xFF alone stands for the defaults alone, for every layout,
-/// key and format and whatever health its pages have. What a cut leaves that stands for a stage of a session's turn is
-/// what a session leaves that was cut there.
+/// Over every list of sessions, of sessions that were cut and of decays: the number of the area
+/// that is acknowledged never falls, all that was acknowledged stays, and each load that answers Ok
+/// gives the last acknowledged area or a later one. A device that holds 0xFF alone stands for the
+/// defaults alone, for every layout, key and format and whatever health its pages have. What a cut
+/// leaves that stands for a stage of a session's turn is what a session leaves that was cut there.
 pub fn law_chronicle()
     ensures kept { ChronicleLaw }
     ensures blank { BlankLaw }
     ensures cut { CutLaw }
 {}
 
-/// Over power-ons in each of which a board boots by the same files, with cuts and decays in between, and where no
-/// reset changes a table that a load gave: the starts are no more than the attempts that the enabled targets have in
-/// the first of these tables. Where no load answers Ok nothing is started. A boot that is cut at a stage is one of
-/// these boots, and started nothing.
+/// Over power-ons in each of which a board boots by the same files, with cuts and decays in
+/// between, and where no reset changes a table that a load gave: the starts are no more than the
+/// attempts that the enabled targets have in the first of these tables. Where no load answers Ok
+/// nothing is started. A boot that is cut at a stage is one of these boots, and started nothing.
 pub fn law_attempts()
     ensures attempts { AttemptsLaw }
     ensures no_load { NoLoadLaw }
     ensures cut { BootCutLaw }
 {}
 
-/// Over every history of a block that is written as a log, in which all calls answered Ok and nothing
-/// decayed or was voided: records of one length erase it at most once for as many as it holds, rounded
-/// up, whatever it held before.
+/// Over every history of a block that is written as a log, in which all calls answered Ok and
+/// nothing decayed or was voided: records of one length erase it at most once for as many as it
+/// holds, rounded up, whatever it held before.
 pub fn law_wear()
     ensures { WearLaw }
 {}

@@ -1,5 +1,5 @@
-//! One session of the program: its words, its steps in their order, and the text that it sends. The program alone
-//! stands on it.
+//! One session of the program: its words, its steps in their order, and the text that it sends. The
+//! program alone stands on it.
 #![tactic(auto)]
 
 mod boot;
@@ -12,13 +12,13 @@ mod mark_good;
 mod raw;
 mod refusal;
 mod report;
+mod send;
 mod session;
 mod state;
 mod status;
 mod targets;
-mod tell;
 
 pub use law::{law_attempts, law_chronicle, law_wear};
+pub use send::{send_fault, send_text};
 pub use session::run;
 pub use status::Status;
-pub use tell::{tell_fault, tell_text};

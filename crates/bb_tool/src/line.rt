@@ -3,7 +3,7 @@ ghost use Rattle.std.specs.Prelude.{length, string_bytes};
 ghost use Rattle.bb_tool.specs.Refusal.{blob_words, fault_text, field_name, key_words};
 ghost use Rattle.bb_tool.specs.Refusal.{layout_words, line_of, refusal_words, settings_words};
 ghost use Rattle.bb_tool.specs.Refusal.{tree_words, value_words, variable_words};
-ghost use Rattle.bb_tool.specs.Telling.{takes_memory};
+ghost use Rattle.bb_tool.specs.Sending.{takes_memory};
 
 use crate::Status;
 use crate::refusal::Refusal;

@@ -7,11 +7,11 @@ ghost use Rattle.bb_state.specs.Keyed.{FitsKey};
 ghost use Rattle.bb_state.specs.State.{IsOn, keyed_of, laid_of};
 ghost use Rattle.bb_words.specs.Words.{words_of};
 ghost use Rattle.bb_words.specs.declared.command.Command.TheVariants as commands;
-ghost use Rattle.bb_tool.specs.Ending.{IsGiven};
+ghost use Rattle.bb_tool.specs.SessionAnswer.{IsSessionAnswer};
 ghost use Rattle.bb_tool.specs.Filing.{keyed_as, IsFolderLater};
 ghost use Rattle.bb_tool.specs.Marking.{chosen_name, good_line, good_text};
 ghost use Rattle.bb_tool.specs.Plan.{Good};
-ghost use Rattle.bb_tool.specs.Refusal.{IsTellable};
+ghost use Rattle.bb_tool.specs.Refusal.{IsSendableRefusal};
 ghost use Rattle.bb_tool.specs.Work.{IsSendable, IsWorkedOut};
 
 use crate::described::{KeyedLayout, read_keyed};
@@ -26,7 +26,8 @@ use bb_vars::Table;
 use bb_words::MarkGoodCommand;
 use std::alloc::Global;
 
-/// The command `mark-good`: the layout that its file describes, the settings' targets, and then the work on the device.
+/// The command `mark-good`: the layout that its file describes, the settings' targets, and then the
+/// work on the device.
 pub(crate) fn mark_good<N: Files, F: Flash>(
     alloc: Global,
     files: &mut N,
@@ -34,9 +35,9 @@ pub(crate) fn mark_good<N: Files, F: Flash>(
     command: &MarkGoodCommand,
 ) -> Result<Report, Refusal>
     ensures gives { (words : List (List ℕ)) → words_of words ≡ Ok (commands.MarkGood command.now)
-        → IsGiven words (N.folder files.old) (N.folder files.new)
+        → IsSessionAnswer words (N.folder files.old) (N.folder files.new)
         (F.device flash.old) (F.device flash.new) result }
-    ensures tellable { IfErr result IsTellable }
+    ensures tellable { IfErr result IsSendableRefusal }
     ensures sends { IfOk result IsSendable }
     ensures files { IsFolderLater (N.folder files.old) (N.folder files.new) }
     ensures later { IsLater (F.device flash.old) (F.device flash.new) }
@@ -49,8 +50,8 @@ pub(crate) fn mark_good<N: Files, F: Flash>(
     mark(alloc, flash, keyed, &chooser)
 }
 
-// Loads the copies of a layout, gives the target that was chosen last its default attempts, saves the table where it is
-// another than the one that was loaded, and gives the target's line.
+// Loads the copies of a layout, gives the target that was chosen last its default attempts, saves
+// the table where it is another than the one that was loaded, and gives the target's line.
 fn mark<F: Flash>(
     alloc: Global,
     flash: &mut F,
@@ -65,7 +66,7 @@ fn mark<F: Flash>(
     ensures gives { IsWorkedOut (keyed_as keyed)
         (Good chooser.now)
         (F.device flash.old) (F.device flash.new) result }
-    ensures tellable { IfErr result IsTellable }
+    ensures tellable { IfErr result IsSendableRefusal }
     ensures sends { IfOk result IsSendable }
     ensures later { IsLater (F.device flash.old) (F.device flash.new) }
     ensures starts { LeavesStarts (F.device flash.old) (F.device flash.new) }

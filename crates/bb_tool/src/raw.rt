@@ -8,10 +8,10 @@ ghost use Rattle.bb_state.specs.State.{IsOn, keyed_of, laid_of};
 ghost use Rattle.bb_words.specs.Answer.{IsSizedRaw};
 ghost use Rattle.bb_words.specs.Words.{words_of};
 ghost use Rattle.bb_words.specs.declared.command.Command.TheVariants as commands;
-ghost use Rattle.bb_tool.specs.Ending.{IsGiven};
+ghost use Rattle.bb_tool.specs.SessionAnswer.{IsSessionAnswer};
 ghost use Rattle.bb_tool.specs.Looking.{look_text};
 ghost use Rattle.bb_tool.specs.Plan.{Show, Write};
-ghost use Rattle.bb_tool.specs.Refusal.{IsTellable};
+ghost use Rattle.bb_tool.specs.Refusal.{IsSendableRefusal};
 ghost use Rattle.bb_tool.specs.Work.{IsSendable, IsWorkedOut};
 
 use crate::refusal::Refusal;
@@ -32,8 +32,8 @@ pub(crate) fn raw<F: Flash>(
     requires sized { IsSizedRaw command }
     ensures gives { (words : List (List ℕ)) (folder : Folder)
         → words_of words ≡ Ok (commands.Raw command)
-        → IsGiven words folder folder (F.device flash.old) (F.device flash.new) result }
-    ensures tellable { IfErr result IsTellable }
+        → IsSessionAnswer words folder folder (F.device flash.old) (F.device flash.new) result }
+    ensures tellable { IfErr result IsSendableRefusal }
     ensures sends { IfOk result IsSendable }
     ensures later { IsLater (F.device flash.old) (F.device flash.new) }
     ensures starts { LeavesStarts (F.device flash.old) (F.device flash.new) }
@@ -53,7 +53,7 @@ fn look<F: Flash>(alloc: Global, flash: &mut F, layout: Layout) -> Result<Report
     ensures gives { IsWorkedOut (record { layout = fields_of layout; key = None })
         Show
         (F.device flash.old) (F.device flash.new) result }
-    ensures tellable { IfErr result IsTellable }
+    ensures tellable { IfErr result IsSendableRefusal }
     ensures sends { IfOk result IsSendable }
     ensures later { IsLater (F.device flash.old) (F.device flash.new) }
     ensures starts { LeavesStarts (F.device flash.old) (F.device flash.new) }
@@ -112,7 +112,7 @@ fn save<F: Flash>(
     ensures gives { IsWorkedOut (record { layout = fields_of layout; key = None })
         (Write area.now)
         (F.device flash.old) (F.device flash.new) result }
-    ensures tellable { IfErr result IsTellable }
+    ensures tellable { IfErr result IsSendableRefusal }
     ensures sends { IfOk result IsSendable }
     ensures later { IsLater (F.device flash.old) (F.device flash.new) }
     ensures starts { LeavesStarts (F.device flash.old) (F.device flash.new) }

@@ -39,7 +39,8 @@ pub enum Refusal {
     NoKey,
     /// What the key's file holds is none. Nothing of it is told.
     BadKey(KeyError),
-    /// The table has this place as the one that was chosen last, and it is 0 or above the number of targets.
+    /// The table has this place as the one that was chosen last, and it is 0 or above the number of
+    /// targets.
     NoGood(u32),
     NoMemory,
 }

@@ -1,8 +1,8 @@
 use crate::refusal::Refusal;
 use bb_base::Bytes;
 
-/// What is sent of a session whose work was done: a text, and behind it the line of a refusal, where one came behind
-/// that text.
+/// What is sent of a session whose work was done: a text, and after it the line of a refusal, where
+/// one came after that text.
 #[derive(Debug, Drop)]
 pub(crate) struct Report {
     pub text: Bytes,

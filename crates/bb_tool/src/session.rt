@@ -3,11 +3,11 @@ ghost use Rattle.bb_flash.specs.Cuts.{IsLater};
 ghost use Rattle.bb_tool.specs.Calls.{IsSession};
 ghost use Rattle.bb_tool.specs.Clauses.{EndsEarly, KeepsTheCopies, KnowsItsCauses, LeavesTheRest};
 ghost use Rattle.bb_tool.specs.Clauses.{SendsTheSession, StartsTheBest, WorksUndisturbed};
-ghost use Rattle.bb_tool.specs.Ending.{IsGiven};
+ghost use Rattle.bb_tool.specs.SessionAnswer.{IsSessionAnswer};
 ghost use Rattle.bb_tool.specs.Filing.{IsFolderLater};
 ghost use Rattle.bb_tool.specs.Plan.{names_file};
 ghost use Rattle.bb_tool.specs.Ran.{ran_by};
-ghost use Rattle.bb_tool.specs.Refusal.{IsTellable};
+ghost use Rattle.bb_tool.specs.Refusal.{IsSendableRefusal};
 ghost use Rattle.bb_tool.specs.Work.{IsSendable};
 
 use crate::Status;
@@ -16,46 +16,47 @@ use crate::mark_good::mark_good;
 use crate::raw::raw;
 use crate::refusal::Refusal;
 use crate::report::Report;
+use crate::send::{send_refusal, send_report};
 use crate::state::state;
-use crate::tell::{tell_refusal, tell_report};
 use bb_base::{Files, Sink, TextList};
 use bb_flash::Board;
 use bb_words::{Command, read_words};
 use std::alloc::Global;
 
-/// One session, over files, a device and an output: the words behind the device and its geometry, the
-/// files that they name, the layout, the work on the device, and the text that is sent, after all other
-/// work. The first refusal ends it, with one fault line behind the text that the work gathered.
+/// One session, over files, a device and an output: the words after the device and its geometry,
+/// the files that they name, the layout, the work on the device, and the text that is sent, after
+/// all other work. The first refusal ends it, with one fault line after the text that the work
+/// gathered.
 pub fn run<F: Files, B: Board, K: Sink>(
     alloc: Global,
     words: &TextList,
     files: &mut F,
     board: &mut B,
-    out: &mut K,
+    sink: &mut K,
 ) -> Status
     // What is sent, and the status.
-    ensures sent { SendsTheSession (ran_by F.folder B.device K.outlet words.now
-        files.old files.new board.old board.new out.old out.new result) }
+    ensures sent { SendsTheSession (ran_by F.folder B.device K.sink words.now
+        files.old files.new board.old board.new sink.old sink.new result) }
     // What stays: the files, what came before on the device, and all of it after an early refusal.
-    ensures stays { LeavesTheRest (ran_by F.folder B.device K.outlet words.now
-        files.old files.new board.old board.new out.old out.new result) }
+    ensures stays { LeavesTheRest (ran_by F.folder B.device K.sink words.now
+        files.old files.new board.old board.new sink.old sink.new result) }
     // What became of the copies: at exit, in each image on the way, and outside of them.
-    ensures copies { KeepsTheCopies (ran_by F.folder B.device K.outlet words.now
-        files.old files.new board.old board.new out.old out.new result) }
+    ensures copies { KeepsTheCopies (ran_by F.folder B.device K.sink words.now
+        files.old files.new board.old board.new sink.old sink.new result) }
     // Where nothing failed: text and status, and the copies to the byte.
-    ensures undisturbed { WorksUndisturbed (ran_by F.folder B.device K.outlet words.now
-        files.old files.new board.old board.new out.old out.new result) }
+    ensures undisturbed { WorksUndisturbed (ran_by F.folder B.device K.sink words.now
+        files.old files.new board.old board.new sink.old sink.new result) }
     // Sessions that end early: a file met a fault, or memory was refused.
-    ensures early { EndsEarly (ran_by F.folder B.device K.outlet words.now
-        files.old files.new board.old board.new out.old out.new result) }
+    ensures early { EndsEarly (ran_by F.folder B.device K.sink words.now
+        files.old files.new board.old board.new sink.old sink.new result) }
     // What is started: at most one system, of the best target, after the save of its attempt.
-    ensures starts { StartsTheBest (ran_by F.folder B.device K.outlet words.now
-        files.old files.new board.old board.new out.old out.new result) }
+    ensures starts { StartsTheBest (ran_by F.folder B.device K.sink words.now
+        files.old files.new board.old board.new sink.old sink.new result) }
     // Each answer but `Done`, and its cause.
-    ensures causes { KnowsItsCauses (ran_by F.folder B.device K.outlet words.now
-        files.old files.new board.old board.new out.old out.new result) }
+    ensures causes { KnowsItsCauses (ran_by F.folder B.device K.sink words.now
+        files.old files.new board.old board.new sink.old sink.new result) }
 {
-    answer(alloc, words, files, board, out)
+    answer(alloc, words, files, board, sink)
 }
 
 fn answer<N: Files, B: Board, K: Sink>(
@@ -63,18 +64,18 @@ fn answer<N: Files, B: Board, K: Sink>(
     words: &TextList,
     files: &mut N,
     board: &mut B,
-    out: &mut K,
+    sink: &mut K,
 ) -> Status
-    ensures session { IsSession (ran_by N.folder B.device K.outlet words.now
-        files.old files.new board.old board.new out.old out.new result) }
+    ensures session { IsSession (ran_by N.folder B.device K.sink words.now
+        files.old files.new board.old board.new sink.old sink.new result) }
     ensures files { IsFolderLater (N.folder files.old) (N.folder files.new) }
     ensures unread { names_file words.now ≡ false → N.folder files.new ≡ N.folder files.old }
     ensures later { IsLater (B.device board.old) (B.device board.new) }
-    ensures faults { (K.outlet out.old).faults ≤ (K.outlet out.new).faults }
+    ensures faults { (K.sink sink.old).faults ≤ (K.sink sink.new).faults }
 {
     match session(alloc, words, files, board) {
-        Ok(report) => tell_report(alloc, report, out),
-        Err(refusal) => tell_refusal(alloc, &refusal, out),
+        Ok(report) => send_report(alloc, report, sink),
+        Err(refusal) => send_refusal(alloc, &refusal, sink),
     }
 }
 
@@ -85,9 +86,9 @@ fn session<N: Files, B: Board>(
     files: &mut N,
     board: &mut B,
 ) -> Result<Report, Refusal>
-    ensures gives { IsGiven words.now (N.folder files.old) (N.folder files.new)
+    ensures gives { IsSessionAnswer words.now (N.folder files.old) (N.folder files.new)
         (B.device board.old) (B.device board.new) result }
-    ensures tellable { IfErr result IsTellable }
+    ensures tellable { IfErr result IsSendableRefusal }
     ensures sends { IfOk result IsSendable }
     ensures files { IsFolderLater (N.folder files.old) (N.folder files.new) }
     ensures unread { names_file words.now ≡ false → N.folder files.new ≡ N.folder files.old }

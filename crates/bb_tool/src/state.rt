@@ -6,10 +6,10 @@ ghost use Rattle.bb_state.specs.Keyed.{FitsKey};
 ghost use Rattle.bb_state.specs.State.{IsOn, keyed_of};
 ghost use Rattle.bb_words.specs.Words.{words_of};
 ghost use Rattle.bb_words.specs.declared.command.Command.TheVariants as commands;
-ghost use Rattle.bb_tool.specs.Ending.{IsGiven};
-ghost use Rattle.bb_tool.specs.Filing.{keyed_as, Follows, IsFolderLater};
+ghost use Rattle.bb_tool.specs.SessionAnswer.{IsSessionAnswer};
+ghost use Rattle.bb_tool.specs.Filing.{keyed_as, IsExpected, IsFolderLater};
 ghost use Rattle.bb_tool.specs.Plan.{Act, fit_by};
-ghost use Rattle.bb_tool.specs.Refusal.{IsTellable};
+ghost use Rattle.bb_tool.specs.Refusal.{IsSendableRefusal};
 ghost use Rattle.bb_tool.specs.Work.{IsSendable, IsWorkedOut};
 
 use crate::described::{KeyedLayout, read_keyed};
@@ -23,8 +23,8 @@ use bb_state::State;
 use bb_words::{ActionList, StateCommand};
 use std::alloc::Global;
 
-/// The command `state`: the layout that its file describes, the variables that are named, and then the work on the
-/// device.
+/// The command `state`: the layout that its file describes, the variables that are named, and then
+/// the work on the device.
 pub(crate) fn state<N: Files, F: Flash>(
     alloc: Global,
     files: &mut N,
@@ -32,9 +32,9 @@ pub(crate) fn state<N: Files, F: Flash>(
     command: &StateCommand,
 ) -> Result<Report, Refusal>
     ensures gives { (words : List (List ℕ)) → words_of words ≡ Ok (commands.State command.now)
-        → IsGiven words (N.folder files.old) (N.folder files.new)
+        → IsSessionAnswer words (N.folder files.old) (N.folder files.new)
         (F.device flash.old) (F.device flash.new) result }
-    ensures tellable { IfErr result IsTellable }
+    ensures tellable { IfErr result IsSendableRefusal }
     ensures sends { IfOk result IsSendable }
     ensures files { IsFolderLater (N.folder files.old) (N.folder files.new) }
     ensures later { IsLater (F.device flash.old) (F.device flash.new) }
@@ -49,8 +49,8 @@ pub(crate) fn state<N: Files, F: Flash>(
 
 // All variables that the actions name are in the layout, and all values fit.
 fn check_actions(layout: &Layout, actions: &ActionList) -> Result<(), Refusal>
-    ensures fit { Follows (fit_by (misfit_of layout.now.vars actions.now)) (λ fit. fit) result }
-    ensures tellable { IfErr result IsTellable }
+    ensures fit { IsExpected (fit_by (misfit_of layout.now.vars actions.now)) (λ fit. fit) result }
+    ensures tellable { IfErr result IsSendableRefusal }
 {
     match first_misfit(layout, actions) {
         Some((name, cause)) => Err(Refusal::BadVariable(name.copy()?, cause)),
@@ -58,8 +58,8 @@ fn check_actions(layout: &Layout, actions: &ActionList) -> Result<(), Refusal>
     }
 }
 
-// Loads the copies of a layout, makes all sets, saves the table where it is another than the one that was loaded,
-// and gives the text of what is got.
+// Loads the copies of a layout, makes all sets, saves the table where it is another than the one
+// that was loaded, and gives the text of what is got.
 fn act<F: Flash>(
     alloc: Global,
     flash: &mut F,
@@ -72,7 +72,7 @@ fn act<F: Flash>(
     ensures gives { IsWorkedOut (keyed_as keyed)
         (Act actions.now)
         (F.device flash.old) (F.device flash.new) result }
-    ensures tellable { IfErr result IsTellable }
+    ensures tellable { IfErr result IsSendableRefusal }
     ensures sends { IfOk result IsSendable }
     ensures later { IsLater (F.device flash.old) (F.device flash.new) }
     ensures starts { LeavesStarts (F.device flash.old) (F.device flash.new) }

@@ -3,7 +3,7 @@ ghost use Rattle.bb_chooser.specs.Binding.{IsBoundTo};
 ghost use Rattle.bb_layout.specs.Layout.{fields_of};
 ghost use Rattle.bb_tool.specs.Filing.{IsFolderLater, IsReadFor};
 ghost use Rattle.bb_tool.specs.Plan.{binding_in};
-ghost use Rattle.bb_tool.specs.Refusal.{IsTellable};
+ghost use Rattle.bb_tool.specs.Refusal.{IsSendableRefusal};
 
 use crate::file::read_file;
 use crate::refusal::Refusal;
@@ -21,7 +21,7 @@ pub(crate) fn read_targets<N: Files>(
 ) -> Result<Chooser, Refusal>
     ensures read { IsReadFor file.now (N.folder files.old) (N.folder files.new)
         (binding_in file.now (fields_of layout.now)) (λ chooser. chooser) result }
-    ensures tellable { IfErr result IsTellable }
+    ensures tellable { IfErr result IsSendableRefusal }
     ensures sized { IfOk result (λ chooser. chooser.area_len ≡ layout.now.area_len) }
     ensures bound { IfOk result (IsBoundTo layout.now.vars) }
     ensures files { IsFolderLater (N.folder files.old) (N.folder files.new) }

@@ -11,7 +11,7 @@ props_below_children slots sound k =
     props_from_children (props_at slots) (spine slots) sound.rising k
     ∙ ap (λ l. props_at slots k ∷ flat_map (λ e. props_below slots e.1) l) (sym (sound.tables k))
 
--- the child at a place stands behind its slot, within the list
+-- the child at a place stands after its slot, within the list
 pub child_within : (slots : List Slot) (k i : ℕ) (e : List ℕ × ℕ) → IsSound slots → k < length slots → slice_get (table_at slots k) i ≡ Some e → (k < e.1) × (e.1 < length slots)
 child_within slots k i e sound h g =
     let b = child_behind 1 (spine slots) k i e sound.rising (ap (λ l. slice_get l i) (sym (sound.tables k)) ∙ g) in

@@ -16,8 +16,8 @@ use Rattle.bb_tree.specs.Texts.{texts_in}
 use Rattle.bb_tree.specs.Node.{Forest, empty, Branch, grow, bare}
 use Rattle.bb_tree.specs.Paths.{child_of, node_at}
 use Rattle.bb_tree.specs.Merge.{put, put_all, reached}
-use Rattle.bb_tree.specs.Spine.{nodes_under, child_table, walk, IsRising}
-use Rattle.bb_tree.specs.Slots.{spine, props_in, props_at, table_in, table_at, tree_of, IsSound, LeadTo, Changes, HasChild, with_prop, with_props, with_node}
+use Rattle.bb_tree.specs.Spine.{nodes_under, child_table, slot_led_to, IsRising}
+use Rattle.bb_tree.specs.Slots.{spine, props_in, props_at, table_in, table_at, slots_tree, IsSound, LeadTo, Changes, HasChild, with_prop, with_props, with_node}
 use Rattle.bb_tree.proofs.Spine.{extend, extend-empty, grown_none, nodes_under_push, whole, whole_along, DiffersAt, walk_push, walk_one, walk_child, children_push, children_behind, IsRising_push, props-child_of, props_found, node_walk}
 use Rattle.bb_tree.proofs.Merging.{reached_at, reached_none, reached_ext, reached_then, reached-append, KeepsName, with_child_there, with_child_new}
 
@@ -69,7 +69,7 @@ table-set slots k s t h p j =
       | inr e ↦ ap (λ o. option_map_or table_in o []) (slice_get-set_other slots k j t e)
     ]
 
-tree_whole : (slots : List Slot) → tree_of slots ≡ whole (props_at slots) (λ _. empty) (spine slots)
+tree_whole : (slots : List Slot) → slots_tree slots ≡ whole (props_at slots) (λ _. empty) (spine slots)
 tree_whole slots = ap (λ f. record {
   name = [];
   props = props_at slots 0;
@@ -99,7 +99,7 @@ Changes-put slots k s t name parts h p e sound =
             ∙ ap (λ l. child_table 1 l j) (sym same);
       };
       longer = omega (arith, length-set slots k t);
-      leads = λ names c w. ap (λ l. walk 1 l 0 names) same ∙ w;
+      leads = λ names c w. ap (λ l. slot_led_to 1 l 0 names) same ∙ w;
       tree = λ names w. tree_whole new ∙ ap (whole (props_at new) none) same
           ∙ whole_along k (props_at slots) (props_at new) none none empty (with_prop name parts)
           apart refl
@@ -161,7 +161,7 @@ child_some P slots k c n h =
 
 -- the node of slot k, which the names lead to, has the nodes under k
 nodes_at : (slots : List Slot) (k : ℕ) (names : List (List ℕ)) (x : Branch (List Part))
-    → IsSound slots → LeadTo slots names k → node_at names (tree_of slots) ≡ Some x
+    → IsSound slots → LeadTo slots names k → node_at names (slots_tree slots) ≡ Some x
     → x.nodes ≡ nodes_under (props_at slots) 1 (spine slots) k
 nodes_at slots k names x sound w e =
     let at = node_walk (props_at slots) (spine slots) sound.rising names k w in
@@ -178,11 +178,11 @@ Changes-there slots k c name sound h = record {
       let child =
       child_some (props_at slots) (spine slots) k c name
       (ap (lookup (bytes_eq name)) (sym (sound.tables k)) ∙ h) in
-      sym (reached_at (with_node name) (λ b. b) names (tree_of slots) (λ x e.
+      sym (reached_at (with_node name) (λ b. b) names (slots_tree slots) (λ x e.
       let nodes = nodes_at slots k names x sound w e in
       ap (λ f. record { name = x.name; props = x.props; nodes = f })
       (with_child_there name x.nodes child.0 (ap (child_of name) nodes ∙ child.1)))
-      ∙ reached_none names (tree_of slots));
+      ∙ reached_none names (slots_tree slots));
 }
 
 pub HasChild-there : (slots : List Slot) (k c : ℕ) (name : List ℕ) → k < length slots
@@ -352,7 +352,7 @@ HasChild-new slots k name s t x h sound b free e_parent e_name e_props e_table =
     (IsRising_push 1 (spine slots) (k, name) sound.rising (omega arith)) in
     let leads : (names : List (List ℕ)) (c : ℕ) → LeadTo slots names c → LeadTo new names c =
     λ names c w.
-    ap (λ l. walk 1 l 0 names) spine_is ∙ walk_push 1 (spine slots) ((k, name) ∷ []) 0 names c w in
+    ap (λ l. slot_led_to 1 l 0 names) spine_is ∙ walk_push 1 (spine slots) ((k, name) ∷ []) 0 names c w in
     let longer : length new ≡ length slots + 1 = length-set pushed k t
     ∙ length-append slots (x ∷ []) in
     record {
@@ -378,7 +378,7 @@ HasChild-new slots k name s t x h sound b free e_parent e_name e_props e_table =
             }) (sym (props_are k)))
             (spine slots) names w
             ∙ ap (reached names add) (sym (tree_whole slots))
-            ∙ reached_at add (with_node name) names (tree_of slots) (λ y e.
+            ∙ reached_at add (with_node name) names (slots_tree slots) (λ y e.
             let nodes = nodes_at slots k names y sound w e in
             ap (λ f. record { name = y.name; props = y.props; nodes = f })
             (sym (with_child_new name y.nodes
@@ -428,7 +428,7 @@ Changes-none k slots sound = record {
   sound = sound;
   longer = omega arith;
   leads = λ names c w. w;
-  tree = λ names w. sym (reached_none names (tree_of slots));
+  tree = λ names w. sym (reached_none names (slots_tree slots));
 }
 
 pub Changes-ext : (k : ℕ) (F G : Branch (List Part) → Branch (List Part)) (a b : List Slot)
@@ -437,7 +437,7 @@ Changes-ext k F G a b e h = record {
   sound = h.sound;
   longer = h.longer;
   leads = h.leads;
-  tree = λ names w. h.tree names w ∙ reached_ext F G e names (tree_of a);
+  tree = λ names w. h.tree names w ∙ reached_ext F G e names (slots_tree a);
 }
 
 -- one change of a node after another
@@ -448,7 +448,7 @@ Changes-then k F G a b c keeps h g = record {
   longer = omega (arith, h.longer, g.longer);
   leads = λ names d w. g.leads names d (h.leads names d w);
   tree = λ names w. g.tree names (h.leads names k w) ∙ ap (reached names G) (h.tree names w)
-      ∙ reached_then F G keeps names (tree_of a);
+      ∙ reached_then F G keeps names (slots_tree a);
 }
 
 -- a change of a child is a change of the node that it stands in
@@ -461,9 +461,9 @@ Changes-in k d name G a b c h g = record {
   leads = λ names e w. g.leads names e (h.changes.leads names e w);
   tree = λ names w.
       g.tree (names ++ name ∷ []) (h.leads names w)
-      ∙ reached-append G names (name ∷ []) (tree_of b)
+      ∙ reached-append G names (name ∷ []) (slots_tree b)
       ∙ ap (reached names (reached (name ∷ []) G)) (h.changes.tree names w)
-      ∙ reached_then (with_node name) (reached (name ∷ []) G) (λ x. refl) names (tree_of a);
+      ∙ reached_then (with_node name) (reached (name ∷ []) G) (λ x. refl) names (slots_tree a);
 }
 
 put_all-push : (qs ps : List (List ℕ × List Part)) (p : List ℕ × List Part)

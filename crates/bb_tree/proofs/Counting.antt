@@ -4,7 +4,7 @@ use Rattle.std.specs.Option.{option_map_or}
 use Rattle.std.specs.Str.{bytes_eq}
 use Rattle.std.proofs.lemmas.Bool.{cases_Bool}
 use Rattle.bb_tree.specs.Node.{Forest, empty, node, Branch, preorder, preorder_of}
-use Rattle.bb_tree.specs.Paths.{names_of}
+use Rattle.bb_tree.specs.Paths.{path_names}
 use Rattle.bb_tree.specs.Merge.{put_all, in_child, reached, with_child, merging_nodes, merging, merged}
 use Rattle.bb_tree.proofs.Merging.{in_here, in_there}
 
@@ -46,7 +46,7 @@ module _ {V : Type 0} where
 
   -- a merged tree has at most the nodes of the tree and those in the body
   pub length-merged : (tree : Branch V) (path : List ℕ) (body : Branch V) → length (preorder (merged tree path body)) ≤ length (preorder tree) + count body.nodes
-  length-merged tree path body = go (names_of path)
+  length-merged tree path body = go (path_names path)
     where
       go : (o : Option (List (List ℕ))) → length (preorder (option_map_or (λ names. reached names (merging body) tree) o tree)) ≤ length (preorder tree) + count body.nodes
       go None = omega arith

@@ -13,7 +13,7 @@ use Rattle.bb_tree.specs.declared.node.Node.TheViews.{out-Node, out-NodeList}
 use Rattle.bb_tree.specs.NodeViews.{branch_of, branches_of, prop_pair}
 use Rattle.bb_tree.proofs.Nodes.{branch_of_out, branches_of_out}
 use Rattle.std.proofs.Common.{subst}
-use Rattle.bb_tree.specs.Blob.{Devicetree, word, double_word, whole_words, filling, prop_names, has_name, with_name, names_of, strings_block, offset_of, begin_text, prop_text, nodes_text, reservation_list, header_text, blob_text}
+use Rattle.bb_tree.specs.Blob.{Devicetree, word, double_word, whole_words, filling, prop_names, has_name, with_name, names_used, strings_block, offset_of, begin_text, prop_text, nodes_text, reservation_list, header_text, blob_text}
 use Rattle.bb_tree.specs.BlobLength.{props_length, nodes_length, names_under, strings_growth, StandAt}
 
 pub length-word : (n : ℕ) → length (word n) ≡ 4
@@ -192,7 +192,7 @@ strings_added (x ∷ xs) names seen same =
 
 -- the strings block has what each name adds
 pub length-strings : (root : Branch (List ℕ))
-    → length (strings_block (names_of root)) ≡ strings_growth [] (names_under root)
+    → length (strings_block (names_used root)) ≡ strings_growth [] (names_under root)
 unfolding names_under
 length-strings root = strings_added (prop_names (grow root empty)) [] [] (λ m. refl) ∙ omega arith
 
@@ -212,7 +212,7 @@ pub length-blob : (t : Devicetree)
     (names_under t.root)
 unfolding blob_text
 length-blob t =
-    let names = names_of t.root in
+    let names = names_used t.root in
     let r = reservation_list t.reserved in
     let nodes = nodes_text (offset_of names) (grow t.root empty) in
     let s = nodes ++ word 9 in
@@ -347,7 +347,7 @@ added-append seen (x ∷ xs) ys =
     ap (λ l. strings_growth l ys) (append_assoc seen (x ∷ []) xs) in
     omega (arith, more, same)
 
--- what names add that stand one behind another
+-- what names add that stand one after another
 pub added_at : (place : ℕ) (xs ys all : List (List ℕ)) → StandAt place (xs ++ ys) all
     → strings_growth (take place all) (xs ++ ys)
     ≡ strings_growth (take place all) xs + strings_growth (take (place + length xs) all) ys

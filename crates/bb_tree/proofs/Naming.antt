@@ -2,10 +2,10 @@
 use Rattle.std.proofs.Common.{◌≡◌, ◌≢◌, ℕ, ◌==◌, List, [], ◌∷◌, None, refl, ap, inl, inr}
 use Rattle.std.specs.List.{slice_split}
 use Rattle.std.proofs.lemmas.Bool.{cases_eq, ne_eqb}
-use Rattle.bb_tree.specs.Paths.{names_of, names_behind}
+use Rattle.bb_tree.specs.Paths.{path_names, names_behind}
 
 -- a text that does not begin with a slash is no path
-pub names_none : (path : List ℕ) → ((rest : List ℕ) → path ≢ 47 ∷ rest) → names_of path ≡ None
+pub names_none : (path : List ℕ) → ((rest : List ℕ) → path ≢ 47 ∷ rest) → path_names path ≡ None
 names_none [] h = refl
 names_none (c ∷ cs) h =
     elim (cases_eq c 47) [

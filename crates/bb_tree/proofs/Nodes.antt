@@ -52,7 +52,7 @@ prop_turn name items i x h e =
 pub prop_of_out : (name : List ℕ) (n : Node) → prop_of name (branch_of n) ≡ lookup (bytes_eq name) (map pair (out-Node n).props)
 prop_of_out name n = ap (λ (b : Branch (List ℕ)). prop_of name b) (branch_of_out n)
 
--- nothing is left behind the end
+-- nothing is left after the end
 pub past_all : {X : Type 0} (xs : List X) (i : ℕ) → length xs ≤ i → drop i xs ≡ []
 past_all [] zero h = refl
 past_all [] (suc i) h = refl

@@ -14,8 +14,8 @@ use Rattle.bb_tree.specs.Paths.{node_at}
 use Rattle.bb_tree.specs.Merge.{put, reached}
 use Rattle.bb_tree.specs.Phandle.{phandle_in, phandle_by}
 use Rattle.bb_tree.specs.Resolve.{literal, phandle_among, phandles, with_phandle, with_new_phandle, least_free}
-use Rattle.bb_tree.specs.Slots.{IsSound, LeadTo, spine, props_at, tree_of, with_prop}
-use Rattle.bb_tree.specs.Taking.{has, TakenBelow, Gives, GivesBy, IsTaken, LeadAll, IsNumbered}
+use Rattle.bb_tree.specs.Slots.{IsSound, LeadTo, spine, props_at, slots_tree, with_prop}
+use Rattle.bb_tree.specs.Taking.{is_taken, TakenBelow, GivesPhandles, GivesBy, AreTaken, LeadAll, IsNumbered}
 use Rattle.bb_tree.proofs.Changing.{bytes_eq-refl}
 use Rattle.bb_tree.specs.Spine.{nodes_under}
 use Rattle.bb_tree.proofs.Below.{take_next}
@@ -40,7 +40,7 @@ phandle_made n a b =
     let g = ne_eqb n 0xFFFFFFFF (λ q. omega arith) in
     rw (e, f, g)
 
-last_first : (m n : ℕ) (a : Bool) → (a || has (n ∷ []) m) ≡ (eqb m n || a)
+last_first : (m n : ℕ) (a : Bool) → (a || is_taken (n ∷ []) m) ≡ (eqb m n || a)
 last_first m n a =
     elim (cases_Bool (eqb m n)) [ inl e ↦ rw e (or_true a) | inr e ↦ rw e (or_false a) ]
   where
@@ -58,32 +58,32 @@ or_left false b e = cc
 
 -- the tree, where one more node was referred to
 pub referred_next : (slots new : List Slot) (k n : ℕ) (ns : List (List ℕ)) (taken more : List ℕ)
-    → IsSound slots → LeadTo slots ns k → IsTaken slots taken → Gives k slots new taken more n
-    → (tree_of new ≡ with_phandle (tree_of slots) ns) × IsTaken new more
+    → IsSound slots → LeadTo slots ns k → AreTaken slots taken → GivesPhandles k slots new taken more n
+    → (slots_tree new ≡ with_phandle (slots_tree slots) ns) × AreTaken new more
 referred_next slots new k n ns taken more sound w t g =
     go (phandle_among (props_at slots k)) refl g
     (node_walk (props_at slots) (spine slots) sound.rising ns k w)
   where
     go : (o : Option ℕ) → phandle_among (props_at slots k) ≡ o → GivesBy o k slots new taken more n
-        → (m : List ℕ) × (node_at ns (tree_of slots)
+        → (m : List ℕ) × (node_at ns (slots_tree slots)
         ≡ Some (record {
           name = m;
           props = props_at slots k;
           nodes = nodes_under (props_at slots) 1 (spine slots) k;
         }))
-        → (tree_of new ≡ with_phandle (tree_of slots) ns) × IsTaken new more
+        → (slots_tree new ≡ with_phandle (slots_tree slots) ns) × AreTaken new more
     go (Some h) q v at =
-        let tree = tree_of slots in
+        let tree = slots_tree slots in
         let has_one : option_and_then (phandle_by literal) (node_at ns tree) ≡ Some h =
         ap (option_and_then (phandle_by literal)) at.1 ∙ q in (
-          ap tree_of v.0.kept
+          ap slots_tree v.0.kept
               ∙ sym (ap (λ (o : Option ℕ). cond (is_none o) (with_new_phandle tree ns) tree)
               has_one),
-          λ m. ap (λ l. has l m) v.0.more_is ∙ t m
-              ∙ ap (λ (s : List Slot). has (phandles (tree_of s)) m) (sym v.0.kept),
+          λ m. ap (λ l. is_taken l m) v.0.more_is ∙ t m
+              ∙ ap (λ (s : List Slot). is_taken (phandles (slots_tree s)) m) (sym v.0.kept),
         )
     go None q v at =
-        let tree = tree_of slots in
+        let tree = slots_tree slots in
         let F = with_prop (codes "phandle") (Bytes (to_be_bytes w32 n) ∷ []) in
         let b : Branch (List Part) = record {
           name = at.0;
@@ -95,7 +95,7 @@ referred_next slots new k n ns taken more sound w t g =
         let least : least_free (phandles tree) ≡ n =
         least_is (phandles tree) n v.some (λ m a b. sym (t m) ∙ v.least m a b)
         (sym (t n) ∙ v.free) in
-        let changed : tree_of new ≡ reached ns F tree = v.changes.tree ns w in
+        let changed : slots_tree new ≡ reached ns F tree = v.changes.tree ns w in
         let some : phandle_among (put (props_at slots k) (codes "phandle") (Bytes (to_be_bytes w32
         n) ∷ [])) ≡ Some n =
         ap (option_and_then (λ (parts : List Part). phandle_in (literal parts)))
@@ -105,10 +105,10 @@ referred_next slots new k n ns taken more sound w t g =
               j) ∷ [])) tree) (sym least)
               ∙ sym (ap (λ (o : Option ℕ). cond (is_none o) (with_new_phandle tree ns) tree)
               has_none),
-          λ m. ap (λ l. has l m) v.more_is ∙ has-append taken (n ∷ []) m
-              ∙ last_first m n (has taken m) ∙ ap (λ z. eqb m n || z) (t m)
+          λ m. ap (λ l. is_taken l m) v.more_is ∙ has-append taken (n ∷ []) m
+              ∙ last_first m n (is_taken taken m) ∙ ap (λ z. eqb m n || z) (t m)
               ∙ sym (numbers_reached phandle_among m n F ns tree b at.1 q some (λ x. refl))
-              ∙ ap (λ (z : Branch (List Part)). has (phandles z) m) (sym changed),
+              ∙ ap (λ (z : Branch (List Part)). is_taken (phandles z) m) (sym changed),
         )
 
 -- names lead where they led, and numbers that were taken are taken
@@ -120,7 +120,7 @@ pub record Goes (now new : List Slot) (more : List ℕ) (n : ℕ) : Type 0 where
   pub below : TakenBelow more n
 
 pub Goes-from : (k n : ℕ) (now new : List Slot) (taken more : List ℕ) → IsSound now
-    → Gives k now new taken more n → Goes now new more n
+    → GivesPhandles k now new taken more n → Goes now new more n
 Goes-from k n now new taken more sound g = go (phandle_among (props_at now k)) g
   where
     go : (o : Option ℕ) → GivesBy o k now new taken more n → Goes now new more n
@@ -129,15 +129,15 @@ Goes-from k n now new taken more sound g = go (phandle_among (props_at now k)) g
       longer = omega (arith, ap length v.0.kept);
       leads = λ names c w. subst (λ (s : List Slot). LeadTo s names c) (sym v.0.kept) w;
       some = v.1;
-      below = λ m a b. ap (λ l. has l m) v.0.more_is ∙ v.2 m a b;
+      below = λ m a b. ap (λ l. is_taken l m) v.0.more_is ∙ v.2 m a b;
     }
     go None v = record {
       sound = v.changes.sound;
       longer = v.changes.longer;
       leads = v.changes.leads;
       some = v.some;
-      below = λ m a b. ap (λ l. has l m) v.more_is ∙ has-append taken (n ∷ []) m
-          ∙ or_left (has taken m) (has (n ∷ []) m) (v.least m a b);
+      below = λ m a b. ap (λ l. is_taken l m) v.more_is ∙ has-append taken (n ∷ []) m
+          ∙ or_left (is_taken taken m) (is_taken (n ∷ []) m) (v.least m a b);
     }
 
 fold-push : (t : Branch (List Part)) (names : List (List (List ℕ))) (ns : List (List ℕ))
@@ -169,8 +169,8 @@ LeadAll-at slots (ns ∷ names) (j ∷ ks) zero k l g = let e : j ≡ k = cc in
 LeadAll-at slots (ns ∷ names) (j ∷ ks) (suc i) k l g = LeadAll-at slots names ks i k l.1 g
 
 pub IsNumbered-next : (targets : List ℕ) (i k n : ℕ) (old now new : List Slot) (taken more : List ℕ)
-    → slice_get targets i ≡ Some k → IsNumbered (take i targets) old now → IsTaken now taken
-    → Gives k now new taken more n → IsNumbered (take (i + 1) targets) old new
+    → slice_get targets i ≡ Some k → IsNumbered (take i targets) old now → AreTaken now taken
+    → GivesPhandles k now new taken more n → IsNumbered (take (i + 1) targets) old new
 IsNumbered-next targets i k n old now new taken more g h t v =
     let goes = Goes-from k n now new taken more h.sound v in
     record {
@@ -182,8 +182,8 @@ IsNumbered-next targets i k n old now new taken more g h t v =
           (subst (LeadAll old names) (take_next targets i k g) l) in
           (referred_next now new k n s.0 taken more h.sound (h.leads s.0 k s.4) t v).0
           ∙ ap (λ (x : Branch (List Part)). with_phandle x s.0) (h.tree s.1 s.3)
-          ∙ sym (fold-push (tree_of old) s.1 s.0)
-          ∙ ap (fold with_phandle (tree_of old)) (sym s.2);
+          ∙ sym (fold-push (slots_tree old) s.1 s.0)
+          ∙ ap (fold with_phandle (slots_tree old)) (sym s.2);
     }
 
 pub IsNumbered-none : (slots : List Slot) → IsSound slots → IsNumbered [] slots slots
@@ -195,7 +195,7 @@ IsNumbered-none slots sound = record {
 }
   where
     none : (names : List (List (List ℕ))) → LeadAll slots names []
-        → tree_of slots ≡ fold with_phandle (tree_of slots) names
+        → slots_tree slots ≡ fold with_phandle (slots_tree slots) names
     none [] l = refl
     none (ns ∷ names) l = absurd l
 

@@ -61,7 +61,7 @@ module _ {V : Type 0} where
       ∷ l) (ap (λ f. map (λ (b : Branch V). b.props) (preorder_of f))
       (nodes_under_children P slots r k) ∙ props_of_children P slots (child_table 1 slots k))
 
--- a child stands behind its slot, within the list
+-- a child stands after its slot, within the list
 pub child_behind : (i : ℕ) (rest : Slots) (k j : ℕ) (e : List ℕ × ℕ) → IsRising i rest
     → slice_get (child_table i rest k) j ≡ Some e → (k < e.1) × (e.1 < i + length rest)
 child_behind i [] k j e r h = cc

@@ -8,12 +8,12 @@ use Rattle.bb_tree.specs.declared.slot.Slot.{Slot}
 use Rattle.bb_tree.specs.declared.tree_error.TreeError.{TreeError}
 use Rattle.bb_tree.specs.declared.tree_error.TreeError.TheVariants.{NoSuchLabel, DuplicatePhandle}
 use Rattle.bb_tree.specs.Node.{Branch, preorder}
-use Rattle.bb_tree.specs.Paths.{names_of}
+use Rattle.bb_tree.specs.Paths.{path_names}
 use Rattle.bb_tree.specs.Draft.{Labels, DraftValue, path_labelled}
 use Rattle.bb_tree.specs.Resolve.{Reference, phandle_among, references, phandles, is_distinct, is_unresolved, node_labelled, names_labelled, with_phandles, resolved, resolved_tree}
-use Rattle.bb_tree.specs.Spine.{walk}
-use Rattle.bb_tree.specs.Slots.{spine, props_at, props_below, tree_of, LeadTo}
-use Rattle.bb_tree.specs.SlotValues.{Surveys, slot_labelled, is_lost, cell_slot, references_of_props}
+use Rattle.bb_tree.specs.Spine.{slot_led_to}
+use Rattle.bb_tree.specs.Slots.{spine, props_at, props_below, slots_tree, LeadTo}
+use Rattle.bb_tree.specs.SlotValues.{Surveys, slot_labelled, is_dangling, cell_slot, references_of_props}
 use Rattle.bb_tree.specs.Taking.{LeadAll, TakesAll, refusal}
 use Rattle.bb_tree.proofs.Cells.{labelled_props}
 use Rattle.bb_tree.proofs.Surveying.{flat_map-map}
@@ -24,15 +24,15 @@ props_of b = b.props
 
 pub references_order : (slots : List Slot) (order : List ℕ)
     → map (props_at slots) order ≡ props_below slots 0
-    → flat_map references_of_props (map (props_at slots) order) ≡ references (tree_of slots)
+    → flat_map references_of_props (map (props_at slots) order) ≡ references (slots_tree slots)
 references_order slots order e = ap (flat_map references_of_props) e
-    ∙ flat_map-map props_of references_of_props (preorder (tree_of slots))
+    ∙ flat_map-map props_of references_of_props (preorder (slots_tree slots))
 
 pub phandles_order : (slots : List Slot) (order : List ℕ)
     → map (props_at slots) order ≡ props_below slots 0
-    → filter_map phandle_among (map (props_at slots) order) ≡ phandles (tree_of slots)
+    → filter_map phandle_among (map (props_at slots) order) ≡ phandles (slots_tree slots)
 phandles_order slots order e = ap (filter_map phandle_among) e
-    ∙ filter_map-map props_of phandle_among (preorder (tree_of slots))
+    ∙ filter_map-map props_of phandle_among (preorder (slots_tree slots))
 
 none_same : {X Y : Type 0} (f : X → List (List ℕ × List Part)) (g : Y → List (List ℕ × List Part))
     (o : Option X) (p : Option Y) → option_map f o ≡ option_map g p → is_none o ≡ is_none p
@@ -48,20 +48,20 @@ find-ext p q (x ∷ xs) h = ap (λ b. cond b (Some x) (find p xs)) (h x)
     ∙ ap (cond (q x) (Some x)) (find-ext p q xs h)
 
 pub lost_same : (labels : Labels) (slots : List Slot) (rs : List Reference)
-    → find (is_unresolved labels (tree_of slots)) rs ≡ find (is_lost labels slots) rs
+    → find (is_unresolved labels (slots_tree slots)) rs ≡ find (is_dangling labels slots) rs
 lost_same labels slots rs =
-    find-ext (is_unresolved labels (tree_of slots)) (is_lost labels slots) rs
-    (λ r. none_same props_of (props_at slots) (node_labelled labels (tree_of slots) r.label)
+    find-ext (is_unresolved labels (slots_tree slots)) (is_dangling labels slots) rs
+    (λ r. none_same props_of (props_at slots) (node_labelled labels (slots_tree slots) r.label)
     (slot_labelled labels slots r.label) (labelled_props labels slots r.label))
 
 -- a slot that is labelled is one that the label's names lead to
 led_by : (slots : List Slot) (o : Option (List ℕ)) (k : ℕ)
-    → option_and_then (λ path. option_and_then (walk 1 (spine slots) 0) (names_of path)) o ≡ Some k
-    → (ns : List (List ℕ)) × (option_and_then names_of o ≡ Some ns) × LeadTo slots ns k
+    → option_and_then (λ path. option_and_then (slot_led_to 1 (spine slots) 0) (path_names path)) o ≡ Some k
+    → (ns : List (List ℕ)) × (option_and_then path_names o ≡ Some ns) × LeadTo slots ns k
 led_by slots None k e = cc
-led_by slots (Some path) k e = go (names_of path) e
+led_by slots (Some path) k e = go (path_names path) e
   where
-    go : (o : Option (List (List ℕ))) → option_and_then (walk 1 (spine slots) 0) o ≡ Some k
+    go : (o : Option (List (List ℕ))) → option_and_then (slot_led_to 1 (spine slots) 0) o ≡ Some k
         → (ns : List (List ℕ)) × (o ≡ Some ns) × LeadTo slots ns k
     go None e = cc
     go (Some ns) e = (ns, refl, e)
@@ -74,11 +74,11 @@ abbrev pub name_target : Labels → Reference → Option (List (List ℕ))
 name_target labels r = cond r.is_cell (names_labelled labels r.label) None
 
 pub lead_all : (labels : Labels) (slots : List Slot) (rs : List Reference)
-    → find (is_lost labels slots) rs ≡ None
+    → find (is_dangling labels slots) rs ≡ None
     → LeadAll slots (filter_map (name_target labels) rs) (filter_map (cell_slot labels slots) rs)
 lead_all labels slots [] h = tt
 lead_all labels slots (r ∷ rs) h =
-    elim (cases_Bool (is_lost labels slots r)) [
+    elim (cases_Bool (is_dangling labels slots r)) [
       | inl e ↦ let h' = rw e at h in cc
       | inr e ↦
           let h' = rw e at h in
@@ -173,7 +173,7 @@ pub survey_facts : (labels : Labels) (slots a : List Slot) (order b old new : Li
     (r : Result (Unit {0}) TreeError) → a ≡ slots → b ≡ order
     → map (props_at slots) order ≡ props_below slots 0 → old ≡ []
     → Surveys labels a (flat_map references_of_props (map (props_at a) b)) old new r
-    → Surveys labels slots (references (tree_of slots)) [] new r
+    → Surveys labels slots (references (slots_tree slots)) [] new r
 survey_facts labels slots a order b old new r e f o g h =
     let h1 = subst (λ (s : List Slot). Surveys labels s (flat_map references_of_props (map
     (props_at s) b)) old new r) e h in
@@ -187,7 +187,7 @@ survey_facts labels slots a order b old new r e f o g h =
 pub taken_facts : (slots a : List Slot) (order b new : List ℕ) (r : Result (Unit {0}) TreeError)
     → a ≡ slots → b ≡ order → map (props_at slots) order ≡ props_below slots 0
     → TakesAll (filter_map phandle_among (map (props_at a) b)) new r
-    → TakesAll (phandles (tree_of slots)) new r
+    → TakesAll (phandles (slots_tree slots)) new r
 taken_facts slots a order b new r e f o h =
     let h1 = subst (λ (s : List Slot). TakesAll (filter_map phandle_among (map (props_at s) b)) new
     r) e h in

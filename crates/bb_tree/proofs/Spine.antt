@@ -7,12 +7,12 @@ use Rattle.std.proofs.lemmas.Bool.{cases_Bool, cases_eq, eq-eqb, ne_eqb}
 use Rattle.bb_tree.specs.Node.{Forest, empty, node, Branch, grow, bare}
 use Rattle.bb_tree.specs.Paths.{child_of, node_at}
 use Rattle.bb_tree.specs.Merge.{in_child, reached}
-use Rattle.bb_tree.specs.Spine.{nodes_under, child_table, walk, IsRising}
+use Rattle.bb_tree.specs.Spine.{nodes_under, child_table, slot_led_to, IsRising}
 
 abbrev pub Slots : Type 0
 Slots = List (ℕ × List ℕ)
 
-pub walk_nil : (i : ℕ) (rest : Slots) (k : ℕ) → walk i rest k [] ≡ Some k
+pub walk_nil : (i : ℕ) (rest : Slots) (k : ℕ) → slot_led_to i rest k [] ≡ Some k
 walk_nil i [] k = refl
 walk_nil i (s ∷ rest) k = refl
 
@@ -39,12 +39,12 @@ top_there i s rest c h = rw (ne_eqb _ _ h)
 
 -- one step of a walk: into the slot at hand, or past it
 pub walk_in : (i : ℕ) (s : ℕ × List ℕ) (rest : Slots) (k : ℕ) (n : List ℕ) (ns : List (List ℕ))
-    → s.0 ≡ k → bytes_eq n s.1 ≡ true → walk i (s ∷ rest) k (n ∷ ns) ≡ walk (i + 1) rest i ns
+    → s.0 ≡ k → bytes_eq n s.1 ≡ true → slot_led_to i (s ∷ rest) k (n ∷ ns) ≡ slot_led_to (i + 1) rest i ns
 walk_in i s rest k n ns e b = rw (eq-eqb _ _ e, b)
 
 pub walk_past : (i : ℕ) (s : ℕ × List ℕ) (rest : Slots) (k : ℕ) (n : List ℕ) (ns : List (List ℕ))
     → (s.0 ≢ k) ⊎ (bytes_eq n s.1 ≡ false)
-    → walk i (s ∷ rest) k (n ∷ ns) ≡ walk (i + 1) rest k (n ∷ ns)
+    → slot_led_to i (s ∷ rest) k (n ∷ ns) ≡ slot_led_to (i + 1) rest k (n ∷ ns)
 walk_past i s rest k n ns (inl e) = rw (ne_eqb _ _ e)
 walk_past i s rest k n ns (inr b) =
     elim (cases_Bool (eqb s.0 k)) [ inl e ↦ rw (e, b) | inr e ↦ rw e ]
@@ -59,7 +59,7 @@ walk_cases s k n =
     ]
 
 pub top_walk : (i : ℕ) (rest : Slots) (k : ℕ) (ns : List (List ℕ)) (c : ℕ) → k < i
-    → walk i rest k ns ≡ Some c → top i rest c ≡ k
+    → slot_led_to i rest k ns ≡ Some c → top i rest c ≡ k
 top_walk i [] k [] c h w = cc
 top_walk i [] k (n ∷ ns) c h w = cc
 top_walk i (s ∷ rest) k [] c h w = let e : k ≡ c = cc in let f : c < i = omega arith in
@@ -68,7 +68,7 @@ top_walk i (s ∷ rest) k (n ∷ ns) c h w =
     elim (walk_cases s k n) [
       | inl p ↦ top_here i s rest c (top_walk (i + 1) rest i ns c (omega arith) (sym (walk_in i s
           rest k n ns p.0 p.1) ∙ w)) ∙ p.0
-      | inr q ↦ let past : walk (i + 1) rest k (n ∷ ns) ≡ Some c = elim q [
+      | inr q ↦ let past : slot_led_to (i + 1) rest k (n ∷ ns) ≡ Some c = elim q [
         | inl p ↦ sym (walk_past i s rest k n ns (inr p.1)) ∙ w
         | inr p ↦ sym (walk_past i s rest k n ns (inl p)) ∙ w
       ] in
@@ -78,7 +78,7 @@ top_walk i (s ∷ rest) k (n ∷ ns) c h w =
 
 -- a walk leads to no slot before those at hand, or stays
 walk_behind : (i : ℕ) (rest : Slots) (k : ℕ) (n : List ℕ) (ns : List (List ℕ)) (c : ℕ)
-    → walk i rest k (n ∷ ns) ≡ Some c → i ≤ c
+    → slot_led_to i rest k (n ∷ ns) ≡ Some c → i ≤ c
 walk_behind i [] k n ns c w = cc
 walk_behind i (s ∷ rest) k n ns c w =
     elim (walk_cases s k n) [
@@ -93,8 +93,8 @@ walk_behind i (s ∷ rest) k n ns c w =
       )
     ]
   where
-    inside : (ns : List (List ℕ)) → walk (i + 1) rest i ns ≡ Some c
-        → ((m : List ℕ) (ms : List (List ℕ)) → walk (i + 1) rest i (m ∷ ms) ≡ Some c → i + 1 ≤ c)
+    inside : (ns : List (List ℕ)) → slot_led_to (i + 1) rest i ns ≡ Some c
+        → ((m : List ℕ) (ms : List (List ℕ)) → slot_led_to (i + 1) rest i (m ∷ ms) ≡ Some c → i + 1 ≤ c)
         → i ≤ c
     inside [] w ih = let e : i ≡ c = cc (walk_nil (i + 1) rest i) in omega arith
     inside (m ∷ ms) w ih = omega (arith, ih m ms w)
@@ -125,7 +125,7 @@ module _ {V : Type 0} where
   -- the node that the names lead to has the properties of the slot that they lead to
   pub props-child_of : (P : ℕ → List (List ℕ × V)) (i : ℕ) (rest : Slots) (k : ℕ) (n : List ℕ)
       (ns : List (List ℕ)) →
-      props_found ns (child_of n (nodes_under P i rest k)) ≡ option_map P (walk i rest k (n ∷ ns))
+      props_found ns (child_of n (nodes_under P i rest k)) ≡ option_map P (slot_led_to i rest k (n ∷ ns))
   props-child_of P i [] k n ns = refl
   props-child_of P i (s ∷ rest) k n ns =
       elim (walk_cases s k n) [
@@ -149,16 +149,16 @@ module _ {V : Type 0} where
     where
       inside : (ns : List (List ℕ)) → ((m : List ℕ) (ms : List (List ℕ))
           → props_found ms (child_of m (nodes_under P (i + 1) rest i))
-          ≡ option_map P (walk (i + 1) rest i (m ∷ ms)))
+          ≡ option_map P (slot_led_to (i + 1) rest i (m ∷ ms)))
           → props_found ns (Some (record {
             name = s.1;
             props = P i;
             nodes = nodes_under P (i + 1) rest i;
-          })) ≡ option_map P (walk (i + 1) rest i ns)
+          })) ≡ option_map P (slot_led_to (i + 1) rest i ns)
       inside [] ih = ap (option_map P) (sym (walk_nil (i + 1) rest i))
       inside (m ∷ ms) ih = ih m ms
 
-  -- a forest behind another
+  -- a forest after another
   abbrev pub extend : Forest V → Forest V → Forest V
   extend empty g = g
   extend (node n ps ks rest) g = node n ps ks (extend rest g)
@@ -167,7 +167,7 @@ module _ {V : Type 0} where
   extend-empty empty = refl
   extend-empty (node n ps ks rest) = ap (node n ps ks) (extend-empty rest)
 
-  -- the nodes under slot k, with the nodes `T k` behind them
+  -- the nodes under slot k, with the nodes `T k` after them
   abbrev pub grown : (ℕ → List (List ℕ × V)) → (ℕ → Forest V) → ℕ → Slots → ℕ → Forest V
   grown P T i [] k = T k
   grown P T i (s ∷ rest) k =
@@ -272,7 +272,7 @@ module _ {V : Type 0} where
         nodes = ks;
       }) ≡ record { name = m; props = Q c; nodes = extend ks g })
       → (i : ℕ) (rest : Slots) (k : ℕ) (n : List ℕ) (ns : List (List ℕ)) → k < i
-      → walk i rest k (n ∷ ns) ≡ Some c
+      → slot_led_to i rest k (n ∷ ns) ≡ Some c
       → grown Q U i rest k ≡ in_child n (reached ns F) (grown P T i rest k)
   grown_along c P Q T U g F d u f i [] k n ns h w = cc
   grown_along c P Q T U g F d u f i (s ∷ rest) k n ns h w =
@@ -309,8 +309,8 @@ module _ {V : Type 0} where
         ]
       ]
     where
-      inside : (ns : List (List ℕ)) → walk (i + 1) rest i ns ≡ Some c
-          → ((m : List ℕ) (ms : List (List ℕ)) → walk (i + 1) rest i (m ∷ ms) ≡ Some c
+      inside : (ns : List (List ℕ)) → slot_led_to (i + 1) rest i ns ≡ Some c
+          → ((m : List ℕ) (ms : List (List ℕ)) → slot_led_to (i + 1) rest i (m ∷ ms) ≡ Some c
           → grown Q U (i + 1) rest i ≡ in_child m (reached ms F) (grown P T (i + 1) rest i))
           → node s.1 (Q i) (grown Q U (i + 1) rest i) (grown P T (i + 1) rest k)
           ≡ grow (reached ns F (record {
@@ -331,7 +331,7 @@ module _ {V : Type 0} where
           (d.props i (λ q. omega arith))
           ∙ ap (λ f. node s.1 (P i) f (grown P T (i + 1) rest k)) (ih m ms w)
 
-  -- one more slot at the end is a bare node behind those of its parent
+  -- one more slot at the end is a bare node after those of its parent
   pub nodes_under_push : (P : ℕ → List (List ℕ × V)) (m p : ℕ) (name : List ℕ) → P m ≡ []
       → (i : ℕ) (rest : Slots) (k : ℕ) → m ≡ i + length rest
       → nodes_under P i (rest ++ (p, name) ∷ []) k
@@ -366,7 +366,7 @@ module _ {V : Type 0} where
         props = P c;
         nodes = ks;
       }) ≡ record { name = m; props = Q c; nodes = extend ks g })
-      → (slots : Slots) (names : List (List ℕ)) → walk 1 slots 0 names ≡ Some c
+      → (slots : Slots) (names : List (List ℕ)) → slot_led_to 1 slots 0 names ≡ Some c
       → whole Q U slots ≡ reached names F (whole P T slots)
   whole_along c P Q T U g F d u f slots [] w =
       let e : c ≡ 0 = cc (walk_nil 1 slots 0) in
@@ -383,7 +383,7 @@ module _ {V : Type 0} where
 
 -- names that lead on in more slots lead to the same slot
 pub walk_push : (i : ℕ) (rest more : Slots) (k : ℕ) (ns : List (List ℕ)) (c : ℕ)
-    → walk i rest k ns ≡ Some c → walk i (rest ++ more) k ns ≡ Some c
+    → slot_led_to i rest k ns ≡ Some c → slot_led_to i (rest ++ more) k ns ≡ Some c
 walk_push i rest more k [] c w = walk_nil i (rest ++ more) k ∙ sym (walk_nil i rest k) ∙ w
 walk_push i [] more k (n ∷ ns) c w = cc
 walk_push i (s ∷ rest) more k (n ∷ ns) c w =
@@ -409,7 +409,7 @@ children_past i s rest k e = rw (ne_eqb _ _ e)
 
 -- one name leads to the child of that name
 pub walk_one : (i : ℕ) (rest : Slots) (k : ℕ) (n : List ℕ)
-    → walk i rest k (n ∷ []) ≡ lookup (bytes_eq n) (child_table i rest k)
+    → slot_led_to i rest k (n ∷ []) ≡ lookup (bytes_eq n) (child_table i rest k)
 walk_one i [] k n = refl
 walk_one i (s ∷ rest) k n =
     elim (walk_cases s k n) [
@@ -428,8 +428,8 @@ walk_one i (s ∷ rest) k n =
 
 -- names and then one more lead to the child of the slot that the names lead to
 pub walk_child : (i : ℕ) (rest : Slots) (a : ℕ) (ns : List (List ℕ)) (n : List ℕ) (k : ℕ)
-    → IsRising i rest → walk i rest a ns ≡ Some k
-    → walk i rest a (ns ++ n ∷ []) ≡ lookup (bytes_eq n) (child_table i rest k)
+    → IsRising i rest → slot_led_to i rest a ns ≡ Some k
+    → slot_led_to i rest a (ns ++ n ∷ []) ≡ lookup (bytes_eq n) (child_table i rest k)
 walk_child i rest a [] n k r w =
     let e : a ≡ k = cc (walk_nil i rest a) in
     walk_one i rest a n ∙ ap (λ j. lookup (bytes_eq n) (child_table i rest j)) e
@@ -452,7 +452,7 @@ walk_child i (s ∷ rest) a (m ∷ ms) n k r w =
           (children_past i s rest k (λ q. omega (arith, r.0))))
     ]
   where
-    behind : (ms : List (List ℕ)) → walk (i + 1) rest i ms ≡ Some k → i ≤ k
+    behind : (ms : List (List ℕ)) → slot_led_to (i + 1) rest i ms ≡ Some k → i ≤ k
     behind [] v = let e : i ≡ k = cc (walk_nil (i + 1) rest i) in omega arith
     behind (m ∷ ms) v = omega (arith, walk_behind (i + 1) rest i m ms k v)
 
@@ -481,7 +481,7 @@ children_push i (t ∷ rest) s k =
       | inr p ↦ let f = ne_eqb _ _ p in rw f ih
     ]
 
--- the children of a slot stand behind it, within the list
+-- the children of a slot stand after it, within the list
 pub children_behind : (i : ℕ) (rest : Slots) (k : ℕ) (n : List ℕ) (c : ℕ)
     → lookup (bytes_eq n) (child_table i rest k) ≡ Some c → (i ≤ c) × (c < i + length rest)
 children_behind i [] k n c h = cc
@@ -519,7 +519,7 @@ module _ {V : Type 0} where
 
   child_walk : (P : ℕ → List (List ℕ × V)) (N : ℕ → Forest V) (i : ℕ) (rest : Slots)
       → IsRising i rest → ((j : ℕ) → i ≤ j → nodes_under P i rest j ≡ N j)
-      → (k : ℕ) (n : List ℕ) (ns : List (List ℕ)) (c : ℕ) → walk i rest k (n ∷ ns) ≡ Some c
+      → (k : ℕ) (n : List ℕ) (ns : List (List ℕ)) (c : ℕ) → slot_led_to i rest k (n ∷ ns) ≡ Some c
       → LeadsTo P N c (option_and_then (node_at ns) (child_of n (nodes_under P i rest k)))
   child_walk P N i [] r h k n ns c w = cc
   child_walk P N i (s ∷ rest) r h k n ns c w =
@@ -557,8 +557,8 @@ module _ {V : Type 0} where
       ]
     where
       inside : nodes_under P (i + 1) rest i ≡ N i → (ns : List (List ℕ))
-          → walk (i + 1) rest i ns ≡ Some c
-          → ((m : List ℕ) (ms : List (List ℕ)) → walk (i + 1) rest i (m ∷ ms) ≡ Some c
+          → slot_led_to (i + 1) rest i ns ≡ Some c
+          → ((m : List ℕ) (ms : List (List ℕ)) → slot_led_to (i + 1) rest i (m ∷ ms) ≡ Some c
           → LeadsTo P N c (option_and_then (node_at ms) (child_of m (nodes_under P (i + 1) rest
           i)))) → LeadsTo P N c (node_at ns (record {
             name = s.1;
@@ -574,7 +574,7 @@ module _ {V : Type 0} where
       inside l (m ∷ ms) v ih = ih m ms v
 
   pub node_walk : (P : ℕ → List (List ℕ × V)) (slots : Slots) → IsRising 1 slots
-      → (ns : List (List ℕ)) (c : ℕ) → walk 1 slots 0 ns ≡ Some c
+      → (ns : List (List ℕ)) (c : ℕ) → slot_led_to 1 slots 0 ns ≡ Some c
       → LeadsTo P (nodes_under P 1 slots) c
       (node_at ns (record { name = []; props = P 0; nodes = nodes_under P 1 slots 0 }))
   node_walk P slots r [] c w =
@@ -584,8 +584,8 @@ module _ {V : Type 0} where
       child_walk P (nodes_under P 1 slots) 1 slots r (λ j l. refl) 0 n ns c w
 
 -- where the first names lead nowhere, all lead nowhere
-pub walk_lost : (i : ℕ) (rest : Slots) (k : ℕ) (ns ms : List (List ℕ)) → walk i rest k ns ≡ None
-    → walk i rest k (ns ++ ms) ≡ None
+pub walk_lost : (i : ℕ) (rest : Slots) (k : ℕ) (ns ms : List (List ℕ)) → slot_led_to i rest k ns ≡ None
+    → slot_led_to i rest k (ns ++ ms) ≡ None
 walk_lost i rest k [] ms w = let e = walk_nil i rest k in cc
 walk_lost i [] k (n ∷ ns) ms w = refl
 walk_lost i (s ∷ rest) k (n ∷ ns) ms w =

@@ -8,7 +8,7 @@ use Rattle.bb_tree.specs.declared.tree_error.TreeError.{TreeError}
 use Rattle.bb_tree.specs.declared.tree_error.TreeError.TheVariants.{NoSuchLabel}
 use Rattle.bb_tree.specs.Resolve.{Reference, reference_in}
 use Rattle.bb_tree.specs.Draft.{Labels}
-use Rattle.bb_tree.specs.SlotValues.{Surveys, is_lost, cell_slot, references_of_part}
+use Rattle.bb_tree.specs.SlotValues.{Surveys, is_dangling, cell_slot, references_of_part}
 use Rattle.bb_tree.proofs.Nodes.{find-append, first_some}
 use Rattle.bb_tree.proofs.Below.{take_next, flat_map_push}
 
@@ -41,7 +41,7 @@ flat_map-map f g (x ∷ xs) = ap (λ l. g (f x) ++ l) (flat_map-map f g xs)
 -- the references so far are all found, and their slots are added
 pub record Surveyed (labels : Labels) (slots : List Slot) (rs : List Reference)
     (old new : List ℕ) : Type 0 where
-  pub none : find (is_lost labels slots) rs ≡ None
+  pub none : find (is_dangling labels slots) rs ≡ None
   pub added : new ≡ old ++ filter_map (cell_slot labels slots) rs
 
 pub Surveyed-nothing : (labels : Labels) (slots : List Slot) (old : List ℕ)
@@ -51,11 +51,11 @@ Surveyed-nothing labels slots old = record { none = refl; added = sym (append-ni
 pub Surveyed-more : {X : Type 0} (labels : Labels) (slots : List Slot) (R : X → List Reference)
     (xs : List X) (i : ℕ) (x : X) (old now new : List ℕ) → slice_get xs i ≡ Some x
     → Surveyed labels slots (flat_map R (take i xs)) old now
-    → (find (is_lost labels slots) (R x) ≡ None)
+    → (find (is_dangling labels slots) (R x) ≡ None)
     × (new ≡ now ++ filter_map (cell_slot labels slots) (R x))
     → Surveyed labels slots (flat_map R (take (i + 1) xs)) old new
 Surveyed-more labels slots R xs i x old now new g h n =
-    let lost = is_lost labels slots in
+    let lost = is_dangling labels slots in
     let cell = cell_slot labels slots in
     let done = flat_map R (take i xs) in
     let next : flat_map R (take (i + 1) xs) ≡ done ++ R x = ap (flat_map R) (take_next xs i x g)
@@ -87,7 +87,7 @@ Surveys-lost labels slots R xs i x old now new last r e q g h l =
     (sym q) (λ m. first (l m))
   where
     lost : Reference → Bool
-    lost = is_lost labels slots
+    lost = is_dangling labels slots
 
     rest : List Reference
     rest = flat_map R (drop (suc i) xs)

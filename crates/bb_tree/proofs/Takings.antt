@@ -8,18 +8,18 @@ use Rattle.bb_tree.specs.declared.tree_error.TreeError.TheVariants.{NoMemory, Du
 use Rattle.bb_tree.proofs.Surveying.{filter_map-append, cons_append}
 use Rattle.bb_tree.proofs.Below.{take_next}
 use Rattle.std.proofs.lemmas.Bool.{cases_Bool, cases_eq, eq-eqb, ne_eqb}
-use Rattle.bb_tree.specs.Taking.{has, Takes}
+use Rattle.bb_tree.specs.Taking.{is_taken, TakesPhandle}
 use Rattle.bb_tree.specs.Resolve.{is_distinct}
 
-pub has-append : (xs ys : List ℕ) (n : ℕ) → has (xs ++ ys) n ≡ (has xs n || has ys n)
+pub has-append : (xs ys : List ℕ) (n : ℕ) → is_taken (xs ++ ys) n ≡ (is_taken xs n || is_taken ys n)
 has-append [] ys n = refl
 has-append (x ∷ xs) ys n = elim (cases_Bool (eqb n x)) [ inl e ↦ rw e | inr e ↦ rw e (has-append xs ys n) ]
 
 -- a number more that isn't there keeps a list distinct
-pub is_distinct-push : (xs : List ℕ) (n : ℕ) → is_distinct xs ≡ true → has xs n ≡ false → is_distinct (xs ++ n ∷ []) ≡ true
+pub is_distinct-push : (xs : List ℕ) (n : ℕ) → is_distinct xs ≡ true → is_taken xs n ≡ false → is_distinct (xs ++ n ∷ []) ≡ true
 is_distinct-push [] n d h = refl
 is_distinct-push (x ∷ xs) n d h =
-    elim (cases_Bool (has xs x)) [
+    elim (cases_Bool (is_taken xs x)) [
       | inl e ↦ let d' = rw e at d in cc
       | inr e ↦
           let d' = rw e at d in
@@ -29,24 +29,24 @@ is_distinct-push (x ∷ xs) n d h =
                 let f = ne_eqb n x q in
                 let h' = rw f at h in
                 let g = ne_eqb x n (λ r. q (sym r)) in
-                let none : has (xs ++ n ∷ []) x ≡ false = has-append xs (n ∷ []) x ∙ (rw (e, g)) in
+                let none : is_taken (xs ++ n ∷ []) x ≡ false = has-append xs (n ∷ []) x ∙ (rw (e, g)) in
                 rw none (is_distinct-push xs n d' h')
           ]
     ]
 
 -- a number that comes again does not
-pub is_distinct_again : (xs ys : List ℕ) (n : ℕ) → has xs n ≡ true → is_distinct (xs ++ n ∷ ys) ≡ false
+pub is_distinct_again : (xs ys : List ℕ) (n : ℕ) → is_taken xs n ≡ true → is_distinct (xs ++ n ∷ ys) ≡ false
 is_distinct_again [] ys n h = cc
 is_distinct_again (x ∷ xs) ys n h =
     elim (cases_eq n x) [
       | inl q ↦
           let f = eq-eqb x n (sym q) in
-          let again : has (xs ++ n ∷ ys) x ≡ true = has-append xs (n ∷ ys) x ∙ (rw f (or_true (has xs x))) in
+          let again : is_taken (xs ++ n ∷ ys) x ≡ true = has-append xs (n ∷ ys) x ∙ (rw f (or_true (is_taken xs x))) in
           rw again
       | inr q ↦
           let f = ne_eqb n x q in
           let h' = rw f at h in
-          and_false (not (has (xs ++ n ∷ ys) x)) (is_distinct (xs ++ n ∷ ys)) (is_distinct_again xs ys n h')
+          and_false (not (is_taken (xs ++ n ∷ ys) x)) (is_distinct (xs ++ n ∷ ys)) (is_distinct_again xs ys n h')
     ]
   where
     or_true : (b : Bool) → (b || true) ≡ true
@@ -57,7 +57,7 @@ is_distinct_again (x ∷ xs) ys n h =
     and_false true b e = e
     and_false false b e = refl
 
-pub Takes-done : (o : Option ℕ) (old new : List ℕ) (u : Unit {0}) → is_distinct old ≡ true → Takes o old new (Ok u) → (is_distinct new ≡ true) × (new ≡ old ++ option_to_list o)
+pub Takes-done : (o : Option ℕ) (old new : List ℕ) (u : Unit {0}) → is_distinct old ≡ true → TakesPhandle o old new (Ok u) → (is_distinct new ≡ true) × (new ≡ old ++ option_to_list o)
 Takes-done None old new u d t = (ap is_distinct t ∙ d, t ∙ sym (append-nil old))
 Takes-done (Some n) old new u d t = (ap is_distinct t.1 ∙ is_distinct-push old n d t.0, t.1)
 
@@ -66,7 +66,7 @@ cons_split f [] i x g = cc
 cons_split f (y ∷ xs) zero x g = let e : y ≡ x = cc in ap (λ z. cons_option (f z) (filter_map f xs)) e
 cons_split f (y ∷ xs) (suc i) x g = ap (cons_option (f y)) (cons_split f xs i x g) ∙ cons_append (f y) (filter_map f (take i xs)) (cons_option (f x) (filter_map f (drop (suc i) xs)))
 
-pub Takes-next : {X : Type 0} (f : X → Option ℕ) (xs : List X) (i : ℕ) (x : X) (old new : List ℕ) (u : Unit {0}) → slice_get xs i ≡ Some x → is_distinct old ≡ true → old ≡ filter_map f (take i xs) → Takes (f x) old new (Ok u) → (is_distinct new ≡ true) × (new ≡ filter_map f (take (i + 1) xs))
+pub Takes-next : {X : Type 0} (f : X → Option ℕ) (xs : List X) (i : ℕ) (x : X) (old new : List ℕ) (u : Unit {0}) → slice_get xs i ≡ Some x → is_distinct old ≡ true → old ≡ filter_map f (take i xs) → TakesPhandle (f x) old new (Ok u) → (is_distinct new ≡ true) × (new ≡ filter_map f (take (i + 1) xs))
 Takes-next f xs i x old new u g d k t =
     let n = Takes-done (f x) old new u d t in
     (n.0, n.1 ∙ ap (λ l. l ++ option_to_list (f x)) k ∙ ap (λ l. filter_map f (take i xs) ++ l) (last (f x)) ∙ sym (filter_map-append f (take i xs) (x ∷ [])) ∙ ap (filter_map f) (sym (take_next xs i x g)))
@@ -75,10 +75,10 @@ Takes-next f xs i x old new u g d k t =
     last None = refl
     last (Some n) = refl
 
-pub Takes-twice : {X : Type 0} (f : X → Option ℕ) (xs : List X) (i : ℕ) (x : X) (old new : List ℕ) (e : TreeError) → slice_get xs i ≡ Some x → old ≡ filter_map f (take i xs) → Takes (f x) old new (Err e) → e ≢ NoMemory → (e ≡ DuplicatePhandle) × (is_distinct (filter_map f xs) ≡ false)
+pub Takes-twice : {X : Type 0} (f : X → Option ℕ) (xs : List X) (i : ℕ) (x : X) (old new : List ℕ) (e : TreeError) → slice_get xs i ≡ Some x → old ≡ filter_map f (take i xs) → TakesPhandle (f x) old new (Err e) → e ≢ NoMemory → (e ≡ DuplicatePhandle) × (is_distinct (filter_map f xs) ≡ false)
 Takes-twice f xs i x old new e g k t m = go (f x) refl t
   where
-    go : (o : Option ℕ) → f x ≡ o → Takes o old new (Err e) → (e ≡ DuplicatePhandle) × (is_distinct (filter_map f xs) ≡ false)
+    go : (o : Option ℕ) → f x ≡ o → TakesPhandle o old new (Err e) → (e ≡ DuplicatePhandle) × (is_distinct (filter_map f xs) ≡ false)
     go None q t = absurd (t m)
     go (Some n) q t =
         let v = t m in (

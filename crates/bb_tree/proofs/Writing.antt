@@ -5,7 +5,7 @@ use Rattle.bb_tree.specs.Node.{node, Branch, forest, with_values, with_values_of
 use Rattle.bb_tree.specs.Spine.{nodes_under}
 use Rattle.bb_tree.specs.Slots.{IsSound, spine, props_at, table_at}
 use Rattle.bb_tree.specs.Draft.{Labels}
-use Rattle.bb_tree.specs.SlotValues.{value_in, values_in, finished_node}
+use Rattle.bb_tree.specs.SlotValues.{slot_value, values_in, finished_node}
 use Rattle.bb_tree.proofs.Preorder.{as_node, nodes_under_children}
 
 with_values_forest : {V W : Type 0} (f : V → W) (bs : List (Branch V))
@@ -32,7 +32,7 @@ pub finished_children : (labels : Labels) (slots : List Slot) (name : List ℕ) 
           forest (map (child_finished labels slots) (table_at slots k));
     }
 finished_children labels slots name k sound =
-    let f = value_in labels slots in
+    let f = slot_value labels slots in
     let N = nodes_under (props_at slots) 1 (spine slots) in
     ap (λ g. record {
       name = name;

@@ -51,8 +51,8 @@ abbrev pub with_name : List (List ℕ) → List ℕ → List (List ℕ)
 with_name names name = if has_name names name then names else names ++ name ∷ []
 
 -- each name of a property once, in the order of first use
-abbrev pub names_of : Branch (List ℕ) → List (List ℕ)
-names_of root = fold with_name [] (prop_names (grow root empty))
+abbrev pub names_used : Branch (List ℕ) → List (List ℕ)
+names_used root = fold with_name [] (prop_names (grow root empty))
 
 -- the strings block of these names
 abbrev pub strings_block : List (List ℕ) → List ℕ
@@ -103,8 +103,8 @@ header_text reservations structure strings =
 unfoldable pub blob_text : Devicetree → List ℕ
 blob_text tree =
     let reservations = reservation_list tree.reserved in
-    let structure = structure_block (offset_of (names_of tree.root)) tree.root in
-    let strings = strings_block (names_of tree.root) in
+    let structure = structure_block (offset_of (names_used tree.root)) tree.root in
+    let strings = strings_block (names_used tree.root) in
     header_text (length reservations) (length structure) (length strings)
     ++ (reservations ++ (structure ++ strings))
 

@@ -25,8 +25,8 @@ names_under b = prop_names (grow b empty)
 abbrev pub node_names : Node → List (List ℕ)
 node_names n = names_under (branch_of n)
 
-abbrev pub names_in : List Prop → List (List ℕ)
-names_in props = map (λ p. p.0) (map prop_pair props)
+abbrev pub names_of_props : List Prop → List (List ℕ)
+names_of_props props = map (λ p. p.0) (map prop_pair props)
 
 -- how many bytes a name adds to a strings block that has those seen before it
 abbrev pub name_growth : List (List ℕ) → List ℕ → ℕ

@@ -69,11 +69,11 @@ abbrev pub reference : Bool → List ℕ → ℕ → Part
 reference true l a = Cell l a
 reference false l a = Path l a
 
-abbrev pub part : List ℕ ⊎ (Bool × (List ℕ × ℕ)) → Part
-part (inl b) = Bytes b
-part (inr r) = reference r.0 r.1.0 r.1.1
+abbrev pub seen_part : List ℕ ⊎ (Bool × (List ℕ × ℕ)) → Part
+seen_part (inl b) = Bytes b
+seen_part (inr r) = reference r.0 r.1.0 r.1.1
 
-pub part_split : (p : Part) → part (split p) ≡ p
+pub part_split : (p : Part) → seen_part (split p) ≡ p
 part_split (Bytes b) = refl
 part_split (Cell l a) = refl
 part_split (Path l a) = refl
@@ -82,7 +82,7 @@ abbrev pub part_code : Coded Part
 part_code =
     code_by (List ℕ ⊎ (Bool × (List ℕ × ℕ)))
     (coded⊎ (coded_list coded_ℕ) (coded× coded_bool (coded× (coded_list coded_ℕ) coded_ℕ)))
-    split part part_split
+    split seen_part part_split
 
 abbrev pub draft_code : Coded DraftValue
 draft_code =

@@ -6,7 +6,7 @@ use Rattle.std.specs.Prelude.{ℕ, List, [], ◌∷◌, fold, if◌then◌else�
 use Rattle.std.specs.Option.{option_map_or}
 use Rattle.std.specs.Str.{bytes_eq}
 use Rattle.bb_tree.specs.Node.{Forest, empty, node, Branch, bare, grow}
-use Rattle.bb_tree.specs.Paths.{names_of}
+use Rattle.bb_tree.specs.Paths.{path_names}
 
 module _ {V : Type 0} where
   -- the property with its new value, in its old place or last
@@ -52,4 +52,4 @@ module _ {V : Type 0} where
   -- a body merged into the node at a path
   abbrev pub merged : Branch V → List ℕ → Branch V → Branch V
   merged tree path body =
-      option_map_or (λ names. reached names (merging body) tree) (names_of path) tree
+      option_map_or (λ names. reached names (merging body) tree) (path_names path) tree

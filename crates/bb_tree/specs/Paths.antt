@@ -14,15 +14,15 @@ slash = 47
 abbrev pub names_between : List ℕ → List (List ℕ)
 names_between text = slice_split (λ b. b == slash) text
 
--- the names in what stands behind the first `/`
+-- the names in what stands after the first `/`
 abbrev pub names_behind : List ℕ → List (List ℕ)
 names_behind [] = []
 names_behind (c ∷ cs) = names_between (c ∷ cs)
 
 -- the names that a path leads through, none for a text that does not begin with `/`
-abbrev pub names_of : List ℕ → Option (List (List ℕ))
-names_of [] = None
-names_of (c ∷ rest) = if c == slash then Some (names_behind rest) else None
+abbrev pub path_names : List ℕ → Option (List (List ℕ))
+path_names [] = None
+path_names (c ∷ rest) = if c == slash then Some (names_behind rest) else None
 
 -- the path through these names
 abbrev pub path_behind : List (List ℕ) → List ℕ
@@ -49,7 +49,7 @@ module _ {V : Type 0} where
 
   -- the node at a path
   abbrev pub found : List ℕ → Branch V → Option (Branch V)
-  found path b = option_and_then (λ ns. node_at ns b) (names_of path)
+  found path b = option_and_then (λ ns. node_at ns b) (path_names path)
 
   -- the first property of that name
   abbrev pub prop_of : List ℕ → Branch V → Option V

@@ -13,7 +13,7 @@ use Rattle.bb_tree.specs.declared.part.Part.TheVariants.{Bytes, Cell, Path}
 use Rattle.bb_tree.specs.declared.tree_error.TreeError.{TreeError}
 use Rattle.bb_tree.specs.declared.tree_error.TreeError.TheVariants.{DuplicatePhandle, NoSuchLabel}
 use Rattle.bb_tree.specs.Node.{Branch, preorder, with_values}
-use Rattle.bb_tree.specs.Paths.{names_of, node_at, found}
+use Rattle.bb_tree.specs.Paths.{path_names, node_at, found}
 use Rattle.bb_tree.specs.Merge.{put, reached}
 use Rattle.bb_tree.specs.Phandle.{phandle_in, phandle_by, phandles_by}
 use Rattle.bb_tree.specs.Draft.{DraftValue, Labels, path_labelled}
@@ -60,7 +60,7 @@ phandles = phandles_by literal
 
 -- the names that lead to the node that a label stands for
 abbrev pub names_labelled : Labels → List ℕ → Option (List (List ℕ))
-names_labelled labels label = option_and_then names_of (path_labelled labels label)
+names_labelled labels label = option_and_then path_names (path_labelled labels label)
 
 -- the node that a label stands for
 abbrev pub node_labelled : Labels → Branch (List Part) → List ℕ → Option (Branch (List Part))

@@ -9,7 +9,7 @@ use Rattle.bb_tree.specs.declared.slot.Slot.{Slot}
 use Rattle.bb_tree.specs.Node.{Branch, with_values}
 use Rattle.bb_tree.specs.Draft.{Labels, path_labelled}
 use Rattle.bb_tree.specs.Resolve.{Reference, reference_in, resolved_part, phandle_among}
-use Rattle.bb_tree.specs.Slots.{props_at, nodes_at, slot_at_path, tree_of}
+use Rattle.bb_tree.specs.Slots.{props_at, nodes_at, slot_at_path, slots_tree}
 
 -- the slot that a label stands for
 abbrev pub slot_labelled : Labels → List Slot → List ℕ → Option ℕ
@@ -18,24 +18,24 @@ slot_labelled labels slots label =
 
 -- a part and a value resolved
 abbrev pub part_in : Labels → List Slot → Part → List ℕ
-part_in labels slots part = resolved_part labels (tree_of slots) part
+part_in labels slots part = resolved_part labels (slots_tree slots) part
 
-abbrev pub value_in : Labels → List Slot → List Part → List ℕ
-value_in labels slots parts = flat_map (resolved_part labels (tree_of slots)) parts
+abbrev pub slot_value : Labels → List Slot → List Part → List ℕ
+slot_value labels slots parts = flat_map (resolved_part labels (slots_tree slots)) parts
 
 -- the properties resolved
 abbrev pub values_in : Labels → List Slot → List (List ℕ × List Part) → List (List ℕ × List ℕ)
-values_in labels slots props = map (λ p. (p.0, value_in labels slots p.1)) props
+values_in labels slots props = map (λ p. (p.0, slot_value labels slots p.1)) props
 
 -- a slot and what is under it, as a finished node of that name
 abbrev pub finished_node : Labels → List Slot → List ℕ → ℕ → Branch (List ℕ)
 finished_node labels slots name k =
-    with_values (value_in labels slots)
+    with_values (slot_value labels slots)
     (record { name = name; props = props_at slots k; nodes = nodes_at slots k })
 
 -- whether a reference's label stands for no slot
-abbrev pub is_lost : Labels → List Slot → Reference → Bool
-is_lost labels slots r = is_none (slot_labelled labels slots r.label)
+abbrev pub is_dangling : Labels → List Slot → Reference → Bool
+is_dangling labels slots r = is_none (slot_labelled labels slots r.label)
 
 -- the slot that a reference inside `< >` leads to
 abbrev pub cell_slot : Labels → List Slot → Reference → Option ℕ
@@ -46,9 +46,9 @@ cell_slot labels slots r = if r.is_cell then slot_labelled labels slots r.label 
 abbrev pub Surveys :
     Labels → List Slot → List Reference → List ℕ → List ℕ → Result (Unit {0}) TreeError → Type 0
 Surveys labels slots rs old new (Ok done) =
-    (find (is_lost labels slots) rs ≡ None) × (new ≡ old ++ filter_map (cell_slot labels slots) rs)
+    (find (is_dangling labels slots) rs ≡ None) × (new ≡ old ++ filter_map (cell_slot labels slots) rs)
 Surveys labels slots rs old new (Err e) =
-    e ≢ NoMemory → option_map (λ r. NoSuchLabel r.at) (find (is_lost labels slots) rs) ≡ Some e
+    e ≢ NoMemory → option_map (λ r. NoSuchLabel r.at) (find (is_dangling labels slots) rs) ≡ Some e
 
 -- the references of a part, of a value, of a property, of properties, and of the properties of some
 -- slots

@@ -1,5 +1,5 @@
 -- The tree that a list of slots stands for. A slot holds where its parent is, its name, its
--- properties, and a table of the nodes in it. Slot 0 is the root, and each slot stands behind its
+-- properties, and a table of the nodes in it. Slot 0 is the root, and each slot stands after its
 -- parent.
 use Rattle.std.specs.Prelude.{◌≡◌, ℕ, ◌<◌, ◌≤◌, List, [], ◌∷◌, ◌++◌, Option, Some, map, drop, length, option_and_then, slice_get}
 use Rattle.std.specs.Option.{option_map_or}
@@ -7,9 +7,9 @@ use Rattle.bb_tree.specs.declared.part.Part.{Part}
 use Rattle.bb_tree.specs.declared.slot.Slot.{Slot}
 use Rattle.bb_tree.specs.Texts.{texts_in}
 use Rattle.bb_tree.specs.Node.{Forest, Branch, forest, preorder_of}
-use Rattle.bb_tree.specs.Paths.{names_of}
+use Rattle.bb_tree.specs.Paths.{path_names}
 use Rattle.bb_tree.specs.Merge.{put, put_all, reached, with_child, merging_nodes}
-use Rattle.bb_tree.specs.Spine.{nodes_under, child_table, walk, IsRising}
+use Rattle.bb_tree.specs.Spine.{nodes_under, child_table, slot_led_to, IsRising}
 
 -- a slot's place in the tree: where its parent is, and its name
 abbrev pub spine : List Slot → List (ℕ × List ℕ)
@@ -34,20 +34,20 @@ abbrev pub nodes_at : List Slot → ℕ → Forest (List Part)
 nodes_at slots k = nodes_under (props_at slots) 1 (spine slots) k
 
 -- the tree as a whole
-abbrev pub tree_of : List Slot → Branch (List Part)
-tree_of slots = record { name = []; props = props_at slots 0; nodes = nodes_at slots 0 }
+abbrev pub slots_tree : List Slot → Branch (List Part)
+slots_tree slots = record { name = []; props = props_at slots 0; nodes = nodes_at slots 0 }
 
--- each slot stands behind its parent, and each table names the nodes in its slot
+-- each slot stands after its parent, and each table names the nodes in its slot
 pub record IsSound (slots : List Slot) : Type 0 where
   pub rising : IsRising 1 (spine slots)
   pub tables : (k : ℕ) → table_at slots k ≡ child_table 1 (spine slots) k
 
 -- the slot that the names lead to from the root, and the slot at a path
 abbrev pub slot_through : List Slot → List (List ℕ) → Option ℕ
-slot_through slots names = walk 1 (spine slots) 0 names
+slot_through slots names = slot_led_to 1 (spine slots) 0 names
 
 abbrev pub slot_at_path : List Slot → List ℕ → Option ℕ
-slot_at_path slots path = option_and_then (λ names. slot_through slots names) (names_of path)
+slot_at_path slots path = option_and_then (λ names. slot_through slots names) (path_names path)
 
 -- the names lead from the root to slot c
 abbrev pub LeadTo : List Slot → List (List ℕ) → ℕ → Type 0
@@ -62,7 +62,7 @@ pub record Changes (k : ℕ) (change : Branch (List Part) → Branch (List Part)
   pub leads : (names : List (List ℕ)) (c : ℕ) → LeadTo old names c → LeadTo new names c
   pub tree :
       (names : List (List ℕ)) → LeadTo old names k
-      → tree_of new ≡ reached names change (tree_of old)
+      → slots_tree new ≡ reached names change (slots_tree old)
 
 -- one property put into a node
 abbrev pub with_prop : List ℕ → List Part → Branch (List Part) → Branch (List Part)
@@ -90,7 +90,7 @@ pub record HasChild (k c : ℕ) (name : List ℕ) (old new : List Slot) : Type 0
 pub record IsRooted (old new : List Slot) : Type 0 where
   pub sound : IsSound new
   pub some : 0 < length new
-  pub same : tree_of new ≡ tree_of old
+  pub same : slots_tree new ≡ slots_tree old
 
 -- the properties of a slot and of all slots under it, in preorder
 abbrev pub props_below : List Slot → ℕ → List (List (List ℕ × List Part))

@@ -8,23 +8,23 @@ use Rattle.bb_tree.specs.declared.tree_error.TreeError.{TreeError}
 use Rattle.bb_tree.specs.declared.tree_error.TreeError.TheVariants.{NoMemory, DuplicatePhandle, NoSuchLabel}
 use Rattle.bb_tree.specs.declared.part.Part.{Part}
 use Rattle.bb_tree.specs.declared.slot.Slot.{Slot}
-use Rattle.bb_tree.specs.Slots.{Changes, LeadTo, IsSound, with_prop, props_at, tree_of}
+use Rattle.bb_tree.specs.Slots.{Changes, LeadTo, IsSound, with_prop, props_at, slots_tree}
 use Rattle.bb_tree.specs.Resolve.{is_distinct, is_unresolved, references, with_phandles, phandle_among, phandle_value, phandles, with_phandle}
 
 -- whether a number is taken
-abbrev pub has : List ℕ → ℕ → Bool
-has taken n = list_any (λ m. n == m) taken
+abbrev pub is_taken : List ℕ → ℕ → Bool
+is_taken taken n = list_any (λ m. n == m) taken
 
 -- what comes of taking a number
 abbrev pub TakesNumber : ℕ → List ℕ → List ℕ → Result (Unit {0}) TreeError → Type 0
-TakesNumber n old new (Ok done) = (has old n ≡ false) × (new ≡ old ++ n ∷ [])
-TakesNumber n old new (Err e) = e ≢ NoMemory → (e ≡ DuplicatePhandle) × (has old n ≡ true)
+TakesNumber n old new (Ok done) = (is_taken old n ≡ false) × (new ≡ old ++ n ∷ [])
+TakesNumber n old new (Err e) = e ≢ NoMemory → (e ≡ DuplicatePhandle) × (is_taken old n ≡ true)
 
 -- what comes of taking a node's phandle, if it has one
-abbrev pub Takes : Option ℕ → List ℕ → List ℕ → Result (Unit {0}) TreeError → Type 0
-Takes None old new (Ok done) = new ≡ old
-Takes None old new (Err e) = e ≢ NoMemory → ⊥
-Takes (Some n) old new r = TakesNumber n old new r
+abbrev pub TakesPhandle : Option ℕ → List ℕ → List ℕ → Result (Unit {0}) TreeError → Type 0
+TakesPhandle None old new (Ok done) = new ≡ old
+TakesPhandle None old new (Err e) = e ≢ NoMemory → ⊥
+TakesPhandle (Some n) old new r = TakesNumber n old new r
 
 -- what comes of taking the phandles of nodes with these properties
 abbrev pub TakesAll : List ℕ → List ℕ → Result (Unit {0}) TreeError → Type 0
@@ -33,29 +33,29 @@ TakesAll hs taken (Err e) = e ≢ NoMemory → (e ≡ DuplicatePhandle) × (is_d
 
 -- from 1 on, all numbers below n are taken
 abbrev pub TakenBelow : List ℕ → ℕ → Type 0
-TakenBelow taken n = (m : ℕ) → 1 ≤ m → m < n → has taken m ≡ true
+TakenBelow taken n = (m : ℕ) → 1 ≤ m → m < n → is_taken taken m ≡ true
 
 -- a phandle for the node of slot k, which is the least number that is free
-pub record IsGiven (k n : ℕ) (old new : List Slot) (taken more : List ℕ) : Type 0 where
+pub record GetsPhandle (k n : ℕ) (old new : List Slot) (taken more : List ℕ) : Type 0 where
   pub changes : Changes k (with_prop (codes "phandle") (phandle_value n)) old new
-  pub free : has taken n ≡ false
+  pub free : is_taken taken n ≡ false
   pub least : TakenBelow taken n
   pub some : 1 ≤ n
   pub within : n < 2 ^ 32 - 1
   pub more_is : more ≡ taken ++ n ∷ []
 
 -- a node that has a phandle stays as it is
-pub record IsKept (k : ℕ) (old new : List Slot) (taken more : List ℕ) : Type 0 where
+pub record KeepsPhandle (k : ℕ) (old new : List Slot) (taken more : List ℕ) : Type 0 where
   pub kept : new ≡ old
   pub more_is : more ≡ taken
 
 -- what comes of giving the node of slot k a phandle: nothing where it has one, else a new one
 abbrev pub GivesBy : Option ℕ → ℕ → List Slot → List Slot → List ℕ → List ℕ → ℕ → Type 0
-GivesBy None k old new taken more n = IsGiven k n old new taken more
-GivesBy (Some h) k old new taken more n = IsKept k old new taken more × (1 ≤ n) × TakenBelow taken n
+GivesBy None k old new taken more n = GetsPhandle k n old new taken more
+GivesBy (Some h) k old new taken more n = KeepsPhandle k old new taken more × (1 ≤ n) × TakenBelow taken n
 
-abbrev pub Gives : ℕ → List Slot → List Slot → List ℕ → List ℕ → ℕ → Type 0
-Gives k old new taken more n = GivesBy (phandle_among (props_at old k)) k old new taken more n
+abbrev pub GivesPhandles : ℕ → List Slot → List Slot → List ℕ → List ℕ → ℕ → Type 0
+GivesPhandles k old new taken more n = GivesBy (phandle_among (props_at old k)) k old new taken more n
 
 -- names that lead to slots, one after another
 abbrev pub LeadAll : List Slot → List (List (List ℕ)) → List ℕ → Type 0
@@ -65,8 +65,8 @@ LeadAll slots (ns ∷ names) [] = ⊥
 LeadAll slots (ns ∷ names) (k ∷ ks) = LeadTo slots ns k × LeadAll slots names ks
 
 -- the numbers that are taken are the phandles of the tree
-abbrev pub IsTaken : List Slot → List ℕ → Type 0
-IsTaken slots taken = (m : ℕ) → has taken m ≡ has (phandles (tree_of slots)) m
+abbrev pub AreTaken : List Slot → List ℕ → Type 0
+AreTaken slots taken = (m : ℕ) → is_taken taken m ≡ is_taken (phandles (slots_tree slots)) m
 
 -- the nodes of some slots got phandles, one after another
 pub record IsNumbered (targets : List ℕ) (old new : List Slot) : Type 0 where
@@ -75,7 +75,7 @@ pub record IsNumbered (targets : List ℕ) (old new : List Slot) : Type 0 where
   pub leads : (names : List (List ℕ)) (c : ℕ) → LeadTo old names c → LeadTo new names c
   pub tree :
       (names : List (List (List ℕ))) → LeadAll old names targets
-      → tree_of new ≡ fold with_phandle (tree_of old) names
+      → slots_tree new ≡ fold with_phandle (slots_tree old) names
 
 -- why a draft with these labels and this tree has no finished tree
 abbrev pub refusal : Labels → Branch (List Part) → Option TreeError
@@ -88,5 +88,5 @@ refusal labels tree =
 abbrev pub Resolves : Labels → Branch (List Part) → List Slot → Result (Unit {0}) TreeError → Type 0
 Resolves labels tree new (Ok done) =
     (refusal labels tree ≡ None) × IsSound new × (0 < length new)
-    × (tree_of new ≡ with_phandles labels tree)
+    × (slots_tree new ≡ with_phandles labels tree)
 Resolves labels tree new (Err e) = e ≢ NoMemory → refusal labels tree ≡ Some e

@@ -1,19 +1,19 @@
 ghost use Rattle.std.specs.Prelude.{◌≡◌, ◌≤◌, ◌<◌, ◌+◌, ◌-◌, ◌^◌, false, length, map, take};
 ghost use Rattle.bb_tree.specs.Blob.{blob_text, devicetree_of, length_in_64_bits, has_name};
 ghost use Rattle.bb_tree.specs.Blob.{whole_words};
-ghost use Rattle.bb_tree.specs.BlobLength.{nodes_length, props_length, node_names, names_in};
+ghost use Rattle.bb_tree.specs.BlobLength.{nodes_length, props_length, node_names, names_of_props};
 ghost use Rattle.bb_tree.specs.BlobLength.{name_growth, growth_at, StandAt};
 ghost use Rattle.bb_tree.specs.Node.{grow, empty};
 ghost use Rattle.bb_tree.specs.NodeViews.{branch_of, prop_pair};
 
 use crate::{Node, PropList, Tree};
 
-/// The header, the pair of zeros behind the reservation list, and the token FDT_END.
+/// The header, the pair of zeros after the reservation list, and the token FDT_END.
 const FIXED: u64 = 40 + 16 + 4;
 
-/// The length in bytes of the tree's blob (Devicetree Specification v0.4, chapter 5), or 2^64 - 1 where the blob is
-/// longer. It takes no memory. Where many properties have names of their own, it takes time by the square of their
-/// number.
+/// The length in bytes of the tree's blob (Devicetree Specification v0.4, chapter 5), or 2^64 - 1
+/// where the blob is longer. It takes no memory. Where many properties have names of their own, it
+/// takes time by the square of their number.
 pub fn blob_length(tree: &Tree) -> u64
     ensures { result ≡ length_in_64_bits (length (blob_text (devicetree_of tree.now))) }
 {
@@ -61,8 +61,8 @@ fn whole_words(len: usize) -> u64
     4 * ((len as u64 + 3) / 4)
 }
 
-// How many bytes the names under the node add to the strings block. They stand at `place` among those under the root,
-// and `place` becomes the place behind them.
+// How many bytes the names under the node add to the strings block. They stand at `place` among
+// those under the root, and `place` becomes the place after them.
 fn strings_length(node: &Node, root: &Node, place: &mut u64) -> u64
     requires stands { StandAt place.old (node_names node.now) (node_names root.now) }
     requires fits { place.old + length (node_names node.now) < 2 ^ 64 }
@@ -79,10 +79,10 @@ fn strings_length(node: &Node, root: &Node, place: &mut u64) -> u64
 
 // The same for the names of some properties.
 fn own_length(root: &Node, props: &PropList, place: &mut u64) -> u64
-    requires stands { StandAt place.old (names_in props.now) (node_names root.now) }
+    requires stands { StandAt place.old (names_of_props props.now) (node_names root.now) }
     requires fits { place.old + length props.now < 2 ^ 64 }
     ensures sum { result
-        ≡ length_in_64_bits (growth_at place.old (node_names root.now) (names_in props.now)) }
+        ≡ length_in_64_bits (growth_at place.old (node_names root.now) (names_of_props props.now)) }
     ensures place { place.new ≡ place.old + length props.now }
 {
     let mut sum = 0u64;
@@ -104,8 +104,8 @@ fn name_length(root: &Node, name: &str, place: u64) -> u64
     name.len() as u64 + 1
 }
 
-// Whether the name is among the first `left` names under the node. Where it isn't, `left` becomes how many are left
-// of them behind the node.
+// Whether the name is among the first `left` names under the node. Where it isn't, `left` becomes
+// how many are left of them after the node.
 fn is_before(node: &Node, name: &str, left: &mut u64) -> bool
     ensures found { result ≡ has_name (take left.old (node_names node.now)) name.now }
     ensures left { result ≡ false → left.new ≡ left.old - length (node_names node.now) }
@@ -125,7 +125,7 @@ fn is_before(node: &Node, name: &str, left: &mut u64) -> bool
 }
 
 fn is_among(props: &PropList, name: &str, left: &mut u64) -> bool
-    ensures found { result ≡ has_name (take left.old (names_in props.now)) name.now }
+    ensures found { result ≡ has_name (take left.old (names_of_props props.now)) name.now }
     ensures left { result ≡ false → left.new ≡ left.old - length props.now }
 {
     for prop in props.as_slice() {

@@ -15,8 +15,8 @@ use indexmap::IndexMap;
 use std::alloc::Global;
 use std::marker::Model;
 
-/// A tree while it is read, with the labels of its nodes. Clauses see the tree with the references in its values,
-/// the labels with their paths, and the reserved pairs.
+/// A tree while it is read, with the labels of its nodes. Clauses see the tree with the references
+/// in its values, the labels with their paths, and the reserved pairs.
 #[derive(Drop)]
 pub struct Draft {
     alloc: Global,
@@ -34,11 +34,11 @@ impl Model for Draft {
 
     ghost coded = { draft_code };
 
-    ghost use Rattle.bb_tree.specs.DraftView.{draft_value, IsWhole};
+    ghost use Rattle.bb_tree.specs.DraftView.{draft_value, IsWholeDraft};
 
     ghost view = { draft_value };
 
-    ghost invariant = { IsWhole };
+    ghost invariant = { IsWholeDraft };
 }
 
 impl Draft {
@@ -80,8 +80,8 @@ impl Draft {
         self.labels.get(label)
     }
 
-    /// Lets the label stand for the path, whether or not a node stands there yet. `DuplicateLabel` exactly where it
-    /// stands for another path already.
+    /// Lets the label stand for the path, whether or not a node stands there yet. `DuplicateLabel`
+    /// exactly where it stands for another path already.
     pub fn label(&mut self, label: &str, path: &str) -> Result<(), TreeError>
         ensures ok { OnOk result (self.new ≡ draft_with_label self.old label.now path.now) }
         ensures duplicate { (result ≡ Err TreeError.DuplicateLabel)
@@ -106,8 +106,8 @@ impl Draft {
         slot_at(&self.slots, path).is_some()
     }
 
-    /// Merges the properties and nodes of `node` into the node at `path`, as there always is at `/`. The name of `node`
-    /// isn't looked at. After a refusal the draft is gone.
+    /// Merges the properties and nodes of `node` into the node at `path`, as there always is at
+    /// `/`. The name of `node` isn't looked at. After a refusal the draft is gone.
     pub fn merge(self, path: &str, node: DraftNode) -> Result<Draft, TreeError>
         requires { IsSome (found path.now self.tree) }
         ensures ok { IfOk result (λ d. d ≡ draft_with_body self path.now (draft_of node)) }
@@ -132,8 +132,9 @@ impl Draft {
         })
     }
 
-    /// Resolves the references. `NoSuchLabel` with the first reference, in the order of resolving, whose label names no
-    /// node, and else `DuplicatePhandle` where two nodes have one phandle. After a refusal the draft is gone.
+    /// Resolves the references. `NoSuchLabel` with the first reference, in the order of resolving,
+    /// whose label names no node, and else `DuplicatePhandle` where two nodes have one phandle.
+    /// After a refusal the draft is gone.
     pub fn finish(self) -> Result<Tree, TreeError>
         requires { length (preorder self.tree) ≤ 4294967294 }
         ensures ok { IfOk result (λ t. resolved self ≡ Ok (branch_of t.root)) }

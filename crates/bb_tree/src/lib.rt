@@ -1,5 +1,5 @@
-//! Devicetrees as values: the finished tree that layouts are read from, and the draft that a reader of source
-//! builds. Readers, writers and the layout know it; it knows no text format.
+//! Devicetrees as values: the finished tree that layouts are read from, and the draft that a reader
+//! of source builds. Readers, writers and the layout know it; it knows no text format.
 #![tactic(auto)]
 
 mod blob;

@@ -47,10 +47,11 @@ pub(crate) fn put_prop(
     Ok(())
 }
 
-// A table makes room for nine entries at its first, and most nodes have few properties and few nodes in them.
+// A table makes room for nine entries at its first, and most nodes have few properties and few
+// nodes in them.
 const FEW: usize = 4;
 
-// Gives back the room behind few entries.
+// Gives back the room after few entries.
 fn give_back<V>(table: &mut IndexMap<String, V>)
     ensures { table.new.entries ≡ table.old.entries }
 {

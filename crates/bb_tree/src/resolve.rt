@@ -1,5 +1,5 @@
 ghost use Rattle.std.specs.Prelude.{◌<◌, vec_len};
-ghost use Rattle.bb_tree.specs.Slots.{IsSound, tree_of};
+ghost use Rattle.bb_tree.specs.Slots.{IsSound, slots_tree};
 ghost use Rattle.bb_tree.specs.Taking.{Resolves};
 ghost use Rattle.bb_tree.specs.Texts.{labels_in};
 
@@ -12,8 +12,9 @@ use bb_base::Text;
 use indexmap::{IndexMap, IndexSet};
 use std::alloc::Global;
 
-/// Gives a phandle to each node that is referred to inside `< >` and has none. `NoSuchLabel` with the first reference
-/// whose label names no node, and else `DuplicatePhandle` where two nodes have one phandle.
+/// Gives a phandle to each node that is referred to inside `< >` and has none. `NoSuchLabel` with
+/// the first reference whose label names no node, and else `DuplicatePhandle` where two nodes have
+/// one phandle.
 pub(crate) fn number_references(
     alloc: Global,
     slots: &mut Vec<Slot>,
@@ -21,7 +22,7 @@ pub(crate) fn number_references(
 ) -> Result<(), TreeError>
     requires sound { IsSound slots.old.items }
     requires rooted { 0 < vec_len slots.old }
-    ensures { Resolves (labels_in labels.now) (tree_of slots.old.items) slots.new.items result }
+    ensures { Resolves (labels_in labels.now) (slots_tree slots.old.items) slots.new.items result }
 {
     let mut order = Vec::new(alloc);
     add_in_order(slots.as_slice(), 0, &mut order)?;

@@ -2,7 +2,8 @@ use crate::PartList;
 use bb_base::Text;
 use indexmap::IndexMap;
 
-/// A node of a draft in the list of all its nodes, each behind the node that it stands in. The first is the root.
+/// A node of a draft in the list of all its nodes, each after the node that it stands in. The first
+/// is the root.
 #[derive(Drop)]
 pub(crate) struct Slot {
     /// Where the node that it stands in is in the list.

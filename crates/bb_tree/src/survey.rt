@@ -11,8 +11,8 @@ use crate::{Part, PartList, TreeError};
 use bb_base::{NoMemory, Text};
 use indexmap::IndexMap;
 
-/// Adds the slots that the references inside `< >` lead to, in the order of resolving. `NoSuchLabel` with the first
-/// reference of all whose label names no node.
+/// Adds the slots that the references inside `< >` lead to, in the order of resolving.
+/// `NoSuchLabel` with the first reference of all whose label names no node.
 pub(crate) fn survey(
     slots: &[Slot],
     labels: &IndexMap<String, Text>,

@@ -3,8 +3,9 @@ ghost use Rattle.std.specs.Prelude.{◌∷◌, [], false, IfSome, OnOk};
 ghost use Rattle.bb_tree.specs.Resolve.{phandle_value};
 ghost use Rattle.bb_tree.specs.SlotValues.{phandles_at};
 ghost use Rattle.bb_tree.specs.Slots.{IsSound};
-ghost use Rattle.bb_tree.specs.Taking.{Gives, IsNumbered, IsTaken, LeadAll, Takes, TakesAll};
-ghost use Rattle.bb_tree.specs.Taking.{TakenBelow, has};
+ghost use Rattle.bb_tree.specs.Taking.{GivesPhandles, IsNumbered, AreTaken, LeadAll, TakesPhandle};
+ghost use Rattle.bb_tree.specs.Taking.{TakesAll};
+ghost use Rattle.bb_tree.specs.Taking.{TakenBelow, is_taken};
 
 use crate::place::put_prop;
 use crate::slot::Slot;
@@ -32,7 +33,7 @@ pub(crate) fn taken_phandles(
 }
 
 fn take_phandle(taken: &mut IndexSet<u32>, phandle: Option<u32>) -> Result<(), TreeError>
-    ensures { Takes phandle taken.old.keys taken.new.keys result }
+    ensures { TakesPhandle phandle taken.old.keys taken.new.keys result }
 {
     let Some(phandle) = phandle else {
         return Ok(());
@@ -46,7 +47,7 @@ fn take_phandle(taken: &mut IndexSet<u32>, phandle: Option<u32>) -> Result<(), T
 
 /// Takes a number that is free.
 pub(crate) fn take_number(taken: &mut IndexSet<u32>, number: u32) -> Result<(), NoMemory>
-    requires { has taken.old.keys number ≡ false }
+    requires { is_taken taken.old.keys number ≡ false }
     ensures { OnOk result (taken.new.keys ≡ taken.old.keys ++ number ∷ []) }
 {
     let _ = taken.insert(number)?;
@@ -57,7 +58,7 @@ pub(crate) fn take_number(taken: &mut IndexSet<u32>, number: u32) -> Result<(), 
 pub(crate) fn next_free(taken: &IndexSet<u32>, from: u32) -> Option<u32>
     requires some { 1 ≤ from }
     requires below { TakenBelow taken.now.keys from }
-    ensures free { IfSome result (λ n. has taken.now.keys n ≡ false) }
+    ensures free { IfSome result (λ n. is_taken taken.now.keys n ≡ false) }
     ensures least { IfSome result (λ n. TakenBelow taken.now.keys n) }
     ensures some { IfSome result (λ n. 1 ≤ n) }
     ensures within { IfSome result (λ n. n < 2 ^ 32 - 1) }
@@ -72,7 +73,8 @@ pub(crate) fn next_free(taken: &IndexSet<u32>, from: u32) -> Option<u32>
     Some(n)
 }
 
-/// A phandle for the node at `k`, where it has none: the least number that is free. Gives where to look on.
+/// A phandle for the node at `k`, where it has none: the least number that is free. Gives where to
+/// look on.
 pub(crate) fn give_phandle(
     alloc: Global,
     slots: &mut Vec<Slot>,
@@ -85,7 +87,7 @@ pub(crate) fn give_phandle(
     requires some { 1 ≤ from }
     requires below { TakenBelow taken.old.keys from }
     ensures { IfOk result
-        (λ n. Gives k slots.old.items slots.new.items taken.old.keys taken.new.keys n) }
+        (λ n. GivesPhandles k slots.old.items slots.new.items taken.old.keys taken.new.keys n) }
 {
     if phandle_at(alloc, slots.as_slice(), k)?.is_some() {
         return Ok(from);
@@ -121,7 +123,7 @@ pub(crate) fn number_targets(
     requires sound { IsSound slots.old.items }
     requires rooted { 0 < vec_len slots.old }
     requires led { (names : List (List (List ℕ))) × LeadAll slots.old.items names targets.now }
-    requires taken { IsTaken slots.old.items taken.old.keys }
+    requires taken { AreTaken slots.old.items taken.old.keys }
     ensures { OnOk result (IsNumbered targets.now slots.old.items slots.new.items) }
 {
     let mut from = 1;

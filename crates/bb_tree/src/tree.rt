@@ -15,8 +15,8 @@ impl Tree {
     ghost use Rattle.bb_tree.specs.Paths.{found};
     ghost use Rattle.bb_tree.specs.Phandle.{node_with};
 
-    /// The node at a path: full node names, each after a `/`; `/` alone is the root. Of nodes of one name the first is
-    /// taken at each level, so a name that holds a `/` is never found.
+    /// The node at a path: full node names, each after a `/`; `/` alone is the root. Of nodes of
+    /// one name the first is taken at each level, so a name that holds a `/` is never found.
     pub fn find(&self, path: &str) -> Option<&Node>
         ensures { branch_seen result ≡ found path.now (branch_of self.now.root) }
     {
@@ -27,8 +27,8 @@ impl Tree {
         find_behind(&self.root, names)
     }
 
-    /// The first node in preorder that has this phandle: a property `phandle` of 4 bytes, big-endian, neither 0 nor
-    /// 0xFFFFFFFF (Devicetree Specification v0.4, section 2.3.3).
+    /// The first node in preorder that has this phandle: a property `phandle` of 4 bytes,
+    /// big-endian, neither 0 nor 0xFFFFFFFF (Devicetree Specification v0.4, section 2.3.3).
     pub fn by_phandle(&self, phandle: u32) -> Option<&Node>
         ensures { branch_seen result ≡ node_with phandle (branch_of self.now.root) }
     {

@@ -6,7 +6,7 @@ ghost use Rattle.std.specs.Str.{bytes_eq};
 ghost use Rattle.bb_tree.specs.Draft.{path_labelled};
 ghost use Rattle.bb_tree.specs.Resolve as resolve;
 ghost use Rattle.bb_tree.specs.SlotValues.{cell_labelled, part_in, phandle_at, slot_labelled};
-ghost use Rattle.bb_tree.specs.SlotValues.{value_in};
+ghost use Rattle.bb_tree.specs.SlotValues.{slot_value};
 ghost use Rattle.bb_tree.specs.Slots.{IsSound, props_at};
 ghost use Rattle.bb_tree.specs.Texts.{labels_in};
 
@@ -76,7 +76,7 @@ pub(crate) fn resolved_value(
     parts: &PartList,
 ) -> Result<Bytes, NoMemory>
     requires { IsSound slots.now }
-    ensures { IfOk result (λ bytes. bytes ≡ value_in (labels_in labels.now) slots.now parts.now) }
+    ensures { IfOk result (λ bytes. bytes ≡ slot_value (labels_in labels.now) slots.now parts.now) }
 {
     let mut bytes = Bytes::none(alloc);
     for part in parts.as_slice() {

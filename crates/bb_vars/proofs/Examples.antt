@@ -1,7 +1,7 @@
 -- Values and texts by computation.
 use Rattle.std.proofs.Common.{◌≡◌, [], ◌∷◌, Ok, Err, codes, refl}
 use Rattle.std.specs.Fmt.{digits}
-use Rattle.bb_vars.specs.Mac.{pair_text, pair_of}
+use Rattle.bb_vars.specs.Mac.{pair_text, byte_of_pair}
 use Rattle.bb_vars.specs.Table.{table_with}
 use Rattle.bb_vars.specs.Value.{bytes_of, text_of}
 use Rattle.bb_vars.specs.declared.kind.Kind.TheVariants.{Uint8, Uint32, Enum32, Mac, Chars}
@@ -32,7 +32,7 @@ no_name : bytes_of (Enum32 (codes "primary" ∷ codes "backup" ∷ [])) (codes "
 no_name = refl
 
 six_pairs : bytes_of Mac (codes "00:11:22:33:aB:55") ≡ Ok (0 ∷ 17 ∷ 34 ∷ 51 ∷ 171 ∷ 85 ∷ [])
-unfolding pair_of
+unfolding byte_of_pair
 six_pairs = refl
 
 five_pairs : bytes_of Mac (codes "00:11:22:33:44") ≡ Err NotMac
@@ -42,7 +42,7 @@ other_joints : bytes_of Mac (codes "00-11-22-33-44-55") ≡ Err NotMac
 other_joints = refl
 
 no_digit : bytes_of Mac (codes "zz:11:22:33:44:55") ≡ Err NotMac
-unfolding pair_of
+unfolding byte_of_pair
 no_digit = refl
 
 string_filled : bytes_of (Chars 4) (codes "ab") ≡ Ok (97 ∷ 98 ∷ 0 ∷ 0 ∷ [])

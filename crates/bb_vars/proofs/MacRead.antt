@@ -4,7 +4,7 @@ use Rattle.std.proofs.lemmas.Bool.{eqb-true}
 use Rattle.std.proofs.lemmas.Option.{none-some}
 use Rattle.std.specs.List.{All}
 use Rattle.std.specs.Str.{str_to_ascii_lowercase}
-use Rattle.bb_vars.specs.Mac.{pair_text, pair_of, all_of, has_colons, mac_text, mac_of}
+use Rattle.bb_vars.specs.Mac.{pair_text, byte_of_pair, all_of, has_colons, mac_text, mac_of}
 use Rattle.bb_vars.proofs.Pairs.{pair_of-glyphs, pair_text-of}
 
 six_read_back : (a b c d e f : ℕ) → a < 256 → b < 256 → c < 256 → d < 256 → e < 256 → f < 256
@@ -76,7 +76,7 @@ colons_of text h =
 
 -- 17 bytes, of which every third is a `:`
 prints_lower : (t0 t1 t2 t3 t4 t5 t6 t7 t8 t9 t10 t11 : ℕ) (bytes : List ℕ)
-    → AreSix (pair_of t0 t1) (pair_of t2 t3) (pair_of t4 t5) (pair_of t6 t7) (pair_of t8 t9) (pair_of t10 t11) bytes
+    → AreSix (byte_of_pair t0 t1) (byte_of_pair t2 t3) (byte_of_pair t4 t5) (byte_of_pair t6 t7) (byte_of_pair t8 t9) (byte_of_pair t10 t11) bytes
     → mac_text bytes ≡ str_to_ascii_lowercase (t0 ∷ t1 ∷ 58 ∷ t2 ∷ t3 ∷ 58 ∷ t4 ∷ t5 ∷ 58 ∷ t6 ∷ t7 ∷ 58 ∷ t8 ∷ t9 ∷ 58 ∷ t10 ∷ t11 ∷ [])
 prints_lower t0 t1 t2 t3 t4 t5 t6 t7 t8 t9 t10 t11 bytes six =
     rw (
@@ -92,16 +92,16 @@ prints_lower t0 t1 t2 t3 t4 t5 t6 t7 t8 t9 t10 t11 bytes six =
 lower_of : (text bytes : List ℕ) → length text ≡ 17 → mac_of text ≡ Some bytes → mac_text bytes ≡ str_to_ascii_lowercase text
 lower_of (t0 ∷ t1 ∷ k0 ∷ t2 ∷ t3 ∷ k1 ∷ t4 ∷ t5 ∷ k2 ∷ t6 ∷ t7 ∷ k3 ∷ t8 ∷ t9 ∷ k4 ∷ t10 ∷ t11 ∷ []) bytes long h =
     let text : List ℕ = t0 ∷ t1 ∷ k0 ∷ t2 ∷ t3 ∷ k1 ∷ t4 ∷ t5 ∷ k2 ∷ t6 ∷ t7 ∷ k3 ∷ t8 ∷ t9 ∷ k4 ∷ t10 ∷ t11 ∷ [] in
-    let pairs : List (Option ℕ) = pair_of t0 t1 ∷ pair_of t2 t3 ∷ pair_of t4 t5 ∷ pair_of t6 t7 ∷ pair_of t8 t9 ∷ pair_of t10 t11 ∷ [] in
+    let pairs : List (Option ℕ) = byte_of_pair t0 t1 ∷ byte_of_pair t2 t3 ∷ byte_of_pair t4 t5 ∷ byte_of_pair t6 t7 ∷ byte_of_pair t8 t9 ∷ byte_of_pair t10 t11 ∷ [] in
     let parts = cond_found (has_colons text) (all_of pairs) bytes h in
     let colons = colons_of text parts.0 in
-    let six = six_of (pair_of t0 t1) (pair_of t2 t3) (pair_of t4 t5) (pair_of t6 t7) (pair_of t8 t9) (pair_of t10 t11) bytes parts.1 in
+    let six = six_of (byte_of_pair t0 t1) (byte_of_pair t2 t3) (byte_of_pair t4 t5) (byte_of_pair t6 t7) (byte_of_pair t8 t9) (byte_of_pair t10 t11) bytes parts.1 in
     rw (colons.1, colons.2, colons.3, colons.4, colons.5) (prints_lower t0 t1 t2 t3 t4 t5 t6 t7 t8 t9 t10 t11 bytes six)
 lower_of _ bytes long h = absurd (omega arith)
 
 -- the pairs of a text
 abbrev pairs_in : List ℕ → List (Option ℕ)
-pairs_in text = map (λ i. pair_of (get_or text i 0) (get_or text (i + 1) 0)) (0 ∷ 3 ∷ 6 ∷ 9 ∷ 12 ∷ 15 ∷ [])
+pairs_in text = map (λ i. byte_of_pair (get_or text i 0) (get_or text (i + 1) 0)) (0 ∷ 3 ∷ 6 ∷ 9 ∷ 12 ∷ 15 ∷ [])
 
 long_enough : (text bytes : List ℕ) → mac_of text ≡ Some bytes → length text ≡ 17
 long_enough text bytes h = (colons_of text (cond_found (has_colons text) (all_of (pairs_in text)) bytes h).0).0

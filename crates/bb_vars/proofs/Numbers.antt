@@ -9,13 +9,13 @@ use Rattle.std.specs.Int.{IsInRange}
 use Rattle.std.specs.List.{list_all}
 use Rattle.std.specs.Str.Parse.{AllDigits, digits_value}
 use Rattle.bb_base.specs.declared.number.NumberError.TheVariants.{NotNumber, TooLarge}
-use Rattle.bb_base.specs.Number.{is_hexadecimal, is_numeral, numeral_value, number_of}
+use Rattle.bb_base.specs.Number.{has_hex_prefix, is_numeral, numeral_value, number_of}
 
 all_digits : (radix : ℕ) (ds : List ℕ) → AllDigits radix ds → list_all (λ c. is_digit c radix) ds ≡ true
 all_digits radix [] digits = refl
 all_digits radix (c ∷ cs) digits = let rest = all_digits radix cs digits.1 in let first = digits.0 in grind (arith, nat_tests)
 
-not_hexadecimal : (ds : List ℕ) → AllDigits 10 ds → is_hexadecimal ds ≡ false
+not_hexadecimal : (ds : List ℕ) → AllDigits 10 ds → has_hex_prefix ds ≡ false
 not_hexadecimal [] digits = refl
 not_hexadecimal (c ∷ []) digits = grind (arith, nat_tests)
 not_hexadecimal (c ∷ d ∷ cs) digits =

@@ -6,7 +6,7 @@ use Rattle.std.proofs.lemmas.Option.{cond_some}
 use Rattle.std.specs.Char.{is_digit, digit_value, to_ascii_lowercase}
 use Rattle.std.specs.Fmt.{digit_glyph}
 use Rattle.std.specs.Str.Parse.{digits_value}
-use Rattle.bb_vars.specs.Mac.{pair_text, pair_of}
+use Rattle.bb_vars.specs.Mac.{pair_text, byte_of_pair}
 
 digit_value-glyph : (n : ℕ) → n < 16 → digit_value (digit_glyph false n) ≡ n
 digit_value-glyph n small = grind (arith, nat_tests)
@@ -24,8 +24,8 @@ pair_value : (high low : ℕ) → digits_value 16 (high ∷ low ∷ []) ≡ digi
 pair_value high low = omega arith
 
 -- the digits of a byte
-pub pair_of-glyphs : (b : ℕ) → b < 256 → pair_of (digit_glyph false (b / 16)) (digit_glyph false (b % 16)) ≡ Some b
-unfolding pair_of
+pub pair_of-glyphs : (b : ℕ) → b < 256 → byte_of_pair (digit_glyph false (b / 16)) (digit_glyph false (b % 16)) ≡ Some b
+unfolding byte_of_pair
 pair_of-glyphs b small =
     let h = digit_glyph false (b / 16) in
     let l = digit_glyph false (b % 16) in
@@ -40,8 +40,8 @@ pair_of-glyphs b small =
     ∙ ap (λ v. Some v) value
 
 -- the digits that spell a byte, printed
-pub pair_text-of : (high low b : ℕ) → pair_of high low ≡ Some b → pair_text b ≡ to_ascii_lowercase high ∷ to_ascii_lowercase low ∷ []
-unfolding pair_of pair_text
+pub pair_text-of : (high low b : ℕ) → byte_of_pair high low ≡ Some b → pair_text b ≡ to_ascii_lowercase high ∷ to_ascii_lowercase low ∷ []
+unfolding byte_of_pair pair_text
 pair_text-of high low b spelt =
     let parts = cond_some _ _ _ spelt in
     let digits = and_parts _ _ parts.0 in

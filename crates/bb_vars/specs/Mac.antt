@@ -20,8 +20,8 @@ mac_text bytes = join_with_byte 58 (map pair_text bytes)
 -- ---- from text to bytes
 
 -- the byte that two hexadecimal digits spell, in either case
-unfoldable pub pair_of : ℕ → ℕ → Option ℕ
-pair_of high low =
+unfoldable pub byte_of_pair : ℕ → ℕ → Option ℕ
+byte_of_pair high low =
     if is_digit high 16 && is_digit low 16 then Some (digits_value 16 (high ∷ low ∷ [])) else None
 
 -- each item, where none is missing
@@ -38,7 +38,7 @@ has_colons text =
 
 -- the byte that the two digits from a place on spell
 abbrev pub pair_at : List ℕ → ℕ → Option ℕ
-pair_at text i = pair_of (slice_index text i) (slice_index text (i + 1))
+pair_at text i = byte_of_pair (slice_index text i) (slice_index text (i + 1))
 
 -- the bytes that six pairs of digits joined by `:` spell
 abbrev pub mac_of : List ℕ → Option (List ℕ)

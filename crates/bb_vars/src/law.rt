@@ -24,7 +24,7 @@ pub fn law_read_then_print()
         → bytes_of kind text ≡ Ok value → length value ≡ size_of kind }
 {}
 
-/// A range of a table that is set holds the bytes, and every byte before and behind it stays. The
+/// A range of a table that is set holds the bytes, and every byte before and after it stays. The
 /// function does nothing.
 pub fn law_set_changes_its_range()
     ensures inside { (table : List ℕ) (at : ℕ) (bytes : List ℕ) → at + length bytes ≤ length table

@@ -1,6 +1,6 @@
 ghost use Rattle.std.specs.Prelude.{◌≡◌, ◌<◌, false, length};
 ghost use Rattle.std.specs.Fmt.{digit_glyph};
-ghost use Rattle.bb_vars.specs.Mac.{pair_of, has_colons, mac_of, mac_text};
+ghost use Rattle.bb_vars.specs.Mac.{byte_of_pair, has_colons, mac_of, mac_text};
 
 /// Reads six pairs of hexadecimal digits joined by `:`.
 pub(crate) fn read_mac(text: &[u8]) -> Option<[u8; 6]>
@@ -32,7 +32,7 @@ fn has_colons(text: &[u8]) -> bool
 
 #[tactic(auto, unfolding(crate::specs::Mac::pair_of))]
 fn pair(high: u8, low: u8) -> Option<u8>
-    ensures { result ≡ pair_of high low }
+    ensures { result ≡ byte_of_pair high low }
 {
     let high = char::from(high).to_digit(16)?;
     let low = char::from(low).to_digit(16)?;

@@ -1,4 +1,4 @@
--- The first bad word: each stage can be completed, and none behind a word that may not come.
+-- The first bad word: each stage can be completed, and none after a word that may not come.
 use Rattle.std.proofs.Common.{◌≡◌, ℕ, zero, suc, ◌+◌, ◌<◌, ◌≤◌, List, [], ◌∷◌, ◌++◌, Option, Some, None, Result, Ok, Err, codes, length, take, replicate, refl, ap, sym, subst, ◌∙◌, arith}
 use Rattle.std.proofs.lemmas.List.{length-replicate}
 use Rattle.std.specs.Option.{ok_or, option_map, option_map_or}
@@ -20,10 +20,10 @@ use Rattle.bb_words.specs.declared.row.Row.{Row}
 use Rattle.bb_words.specs.declared.row.Row.TheVariants.{State as StateRow, MarkGood as MarkGoodRow, Boot as BootRow}
 use Rattle.bb_words.specs.FirstBad.{Begins}
 use Rattle.bb_words.specs.Options.{with_action}
-use Rattle.bb_words.specs.Words.{Stage, Start, Magic, Length, Mode, Area, Options, Whole, raw_of, next, command_at, words_from, words_of}
+use Rattle.bb_words.specs.Words.{WordStage, Start, Magic, Length, Mode, Area, Options, Whole, raw_of, next, command_at, words_from, words_of}
 
--- some words behind these make a command, from a stage on
-abbrev pub Continues : ℕ → Stage → List (List ℕ) → Type 0
+-- some words after these make a command, from a stage on
+abbrev pub Continues : ℕ → WordStage → List (List ℕ) → Type 0
 Continues start stage front = (rest : List (List ℕ)) × (command : Command) × (words_from start stage (front ++ rest) ≡ Ok command)
 
 -- ---- each stage can be completed
@@ -70,7 +70,7 @@ mark_completed start (Some file) name None key cause actions =
 mark_completed start (Some file) name (Some settings) key cause actions =
     ([], MarkGood (record { file = file; settings = settings; name = name; key = key }), refl)
 
--- what is given, behind a file and settings, makes a boot
+-- what is given, after a file and settings, makes a boot
 abbrev boot_of : List ℕ → List ℕ → Option (List ℕ) → Option (List ℕ) → Option CauseWord → Command
 boot_of file settings name key cause = Boot (record { file = file; settings = settings; name = name; key = key; cause = unwrap_or cause Other })
 
@@ -113,7 +113,7 @@ value_completed start row SetOption given =
     let rest = options_completed (start + 1) row (with_action (Set [] []) given) in
     (codes "=" ∷ rest.0, rest.1, rest.2)
 
-completed : (start : ℕ) (stage : Stage) → Continues start stage []
+completed : (start : ℕ) (stage : WordStage) → Continues start stage []
 unfolding words_from
 completed start Start = (codes "raw" ∷ codes "0" ∷ codes "0" ∷ codes "-g" ∷ [], raw_of 0 0 Look, refl)
 completed start Magic = (codes "0" ∷ codes "0" ∷ codes "-g" ∷ [], raw_of 0 0 Look, refl)
@@ -126,7 +126,7 @@ completed start (Whole command) = ([], command, refl)
 
 -- ---- the first bad word from a stage on
 
-record IsFirstBad (start : ℕ) (stage : Stage) (words : List (List ℕ)) (place : ℕ) : Type 0 where
+record IsFirstBad (start : ℕ) (stage : WordStage) (words : List (List ℕ)) (place : ℕ) : Type 0 where
   before : ℕ
   place_is : place ≡ start + before
   inside : before ≤ length words
@@ -140,7 +140,7 @@ end_place : (o : Option Command) (start place : ℕ) → ok_or o start ≡ Err p
 end_place None start place h = same_place start place h
 end_place (Some command) start place h = absurd (cc)
 
-end_bad : (start : ℕ) (stage : Stage) (place : ℕ) → ok_or (command_at stage) start ≡ Err place → IsFirstBad start stage [] place
+end_bad : (start : ℕ) (stage : WordStage) (place : ℕ) → ok_or (command_at stage) start ≡ Err place → IsFirstBad start stage [] place
 end_bad start stage place h =
     let here = end_place (command_at stage) start place h in record {
       before = 0;
@@ -150,12 +150,12 @@ end_bad start stage place h =
       bad = λ more past within c. absurd (omega arith);
     }
 
-word_step : (start : ℕ) (stage : Stage) (w : List ℕ) (rest : List (List ℕ)) (o : Option Stage) → next stage w ≡ o →
+word_step : (start : ℕ) (stage : WordStage) (w : List ℕ) (rest : List (List ℕ)) (o : Option WordStage) → next stage w ≡ o →
     words_from start stage (w ∷ rest) ≡ option_map_or (λ behind. words_from (start + 1) behind rest) o (Err start)
 unfolding words_from
 word_step start stage w rest o e = ap (λ o. option_map_or (λ behind. words_from (start + 1) behind rest) o (Err start)) e
 
-none_behind : (start : ℕ) (stage : Stage) (w : List ℕ) (ws : List (List ℕ)) → next stage w ≡ None →
+none_behind : (start : ℕ) (stage : WordStage) (w : List ℕ) (ws : List (List ℕ)) → next stage w ≡ None →
     (more : ℕ) → 0 < more → Continues start stage (take more (w ∷ ws)) → ⊥
 none_behind start stage w ws bad zero past c = omega arith
 none_behind start stage w ws bad (suc more) past c =
@@ -163,16 +163,16 @@ none_behind start stage w ws bad (suc more) past c =
     let made = c.2 in
     cc
 
-some_behind : (start : ℕ) (stage behind : Stage) (w : List ℕ) (ws : List (List ℕ)) (before : ℕ) → next stage w ≡ Some behind →
+some_behind : (start : ℕ) (stage behind : WordStage) (w : List ℕ) (ws : List (List ℕ)) (before : ℕ) → next stage w ≡ Some behind →
     ((more : ℕ) → before < more → more ≤ length ws → Continues (start + 1) behind (take more ws) → ⊥) →
     (more : ℕ) → suc before < more → more ≤ length (w ∷ ws) → Continues start stage (take more (w ∷ ws)) → ⊥
 some_behind start stage behind w ws before may bad zero past within c = omega arith
 some_behind start stage behind w ws before may bad (suc more) past within c =
     bad more (omega arith) (omega arith) (c.0, c.1, sym (word_step start stage w (take more ws ++ c.0) (Some behind) may) ∙ c.2)
 
-word_bad : (start : ℕ) (stage : Stage) (w : List ℕ) (ws : List (List ℕ)) (place : ℕ) →
-    ((start : ℕ) (stage : Stage) (place : ℕ) → words_from start stage ws ≡ Err place → IsFirstBad start stage ws place) →
-    (o : Option Stage) → next stage w ≡ o → option_map_or (λ behind. words_from (start + 1) behind ws) o (Err start) ≡ Err place →
+word_bad : (start : ℕ) (stage : WordStage) (w : List ℕ) (ws : List (List ℕ)) (place : ℕ) →
+    ((start : ℕ) (stage : WordStage) (place : ℕ) → words_from start stage ws ≡ Err place → IsFirstBad start stage ws place) →
+    (o : Option WordStage) → next stage w ≡ o → option_map_or (λ behind. words_from (start + 1) behind ws) o (Err start) ≡ Err place →
     IsFirstBad start stage (w ∷ ws) place
 word_bad start stage w ws place ih None e h =
     let here = same_place start place h in record {
@@ -193,7 +193,7 @@ word_bad start stage w ws place ih (Some behind) e h =
       bad = some_behind start stage behind w ws rest.before e rest.bad;
     }
 
-first_bad : (start : ℕ) (stage : Stage) (words : List (List ℕ)) (place : ℕ) → words_from start stage words ≡ Err place → IsFirstBad start stage words place
+first_bad : (start : ℕ) (stage : WordStage) (words : List (List ℕ)) (place : ℕ) → words_from start stage words ≡ Err place → IsFirstBad start stage words place
 unfolding words_from
 first_bad start stage [] place h = end_bad start stage place h
 first_bad start stage (w ∷ ws) place h =

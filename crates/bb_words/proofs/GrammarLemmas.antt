@@ -19,10 +19,10 @@ use Rattle.bb_words.specs.declared.option.Valued.{Valued}
 use Rattle.bb_words.specs.declared.option.Valued.TheVariants.{Input, Name, Get as GetOption, Set as SetOption, Settings, Key, Cause}
 use Rattle.bb_words.specs.declared.row.Row.{Row}
 use Rattle.bb_words.specs.declared.row.Row.TheVariants.{State as StateRow, MarkGood as MarkGoodRow, Boot as BootRow}
-use Rattle.bb_words.specs.Grammar.{IsAction, IsRaw, IsSpelt, Spells, Form, Own, Long, Joined, Item, Takes, ShortDump, LongDump, ShellDump, own_form, long_form, spelling_of, has_long, has_form, is_value, has_item, file_in, name_in, settings_in, key_in, cause_in, action_in}
-use Rattle.bb_words.specs.Options.{cause_of, dump_of, long_of, valued_of, value_in, has_sign, set_in, with_value, with_action, none_given}
-use Rattle.bb_words.specs.Table.{name_of, row_of, has, has_dumps, may_come, cause_given, command_of}
-use Rattle.bb_words.specs.Words.{Stage, Magic, Length, Mode, Area, Options, Whole, raw_of, number_up_to, area_of, after_dump, before_value, after_value, after_joined, after_option, next, words_from, words_of}
+use Rattle.bb_words.specs.Grammar.{IsAction, IsRaw, IsSpelt, Spells, OptionForm, Own, Long, Joined, Item, Takes, ShortDump, LongDump, ShellDump, own_form, long_form, item_words, has_long, has_form, is_value, has_item, file_in, state_name_in, settings_in, key_file_in, cause_in, action_in}
+use Rattle.bb_words.specs.Options.{cause_word_of, dump_of, long_of, valued_of, joined_value_in, has_sign, set_in, with_option, with_action, none_given}
+use Rattle.bb_words.specs.Table.{command_name_of, row_of, has_option, has_dumps, may_come, cause_given, command_of}
+use Rattle.bb_words.specs.Words.{WordStage, Magic, Length, Mode, Area, Options, Whole, raw_of, number_up_to, area_spelt, after_dump, before_value, after_value, after_joined, after_option, next, words_from, words_of}
 
 -- ---- what is spelt is accepted
 
@@ -40,12 +40,12 @@ both : (a b : Bool) → (a && b) ≡ true → (a ≡ true) × (b ≡ true)
 both true b h = (refl, h)
 both false b h = absurd (cc)
 
--- what items give, behind what was given
+-- what items give, after what was given
 record Gives (given : Given) (items : List Item) (all : Given) : Type 0 where
   files : option_to_list given.file ++ filter_map file_in items ≡ option_to_list all.file
-  names : option_to_list given.name ++ filter_map name_in items ≡ option_to_list all.name
+  names : option_to_list given.name ++ filter_map state_name_in items ≡ option_to_list all.name
   settings : option_to_list given.settings ++ filter_map settings_in items ≡ option_to_list all.settings
-  keys : option_to_list given.key ++ filter_map key_in items ≡ option_to_list all.key
+  keys : option_to_list given.key ++ filter_map key_file_in items ≡ option_to_list all.key
   causes : option_to_list given.cause ++ filter_map cause_in items ≡ option_to_list all.cause
   actions : given.actions ++ filter_map action_in items ≡ all.actions
 
@@ -66,14 +66,14 @@ gives_none given all g =
     cause
     ∙ ap (λ actions. record all { actions = actions }) actions
 
--- an action is put behind those before
-action_behind : (given all : Given) (items : List Item) (item : Item) (action : Action) → file_in item ≡ None → name_in item ≡ None → settings_in item ≡ None → key_in item ≡ None → cause_in item ≡ None → action_in item ≡ Some action →
+-- an action is put after those before
+action_behind : (given all : Given) (items : List Item) (item : Item) (action : Action) → file_in item ≡ None → state_name_in item ≡ None → settings_in item ≡ None → key_file_in item ≡ None → cause_in item ≡ None → action_in item ≡ Some action →
     Gives given (item ∷ items) all → Gives (with_action action given) items all
 action_behind given all items item action no_file no_name no_settings no_key no_cause does g = record {
   files = ap (λ o. option_to_list given.file ++ cons_option o (filter_map file_in items)) (sym no_file) ∙ g.files;
-  names = ap (λ o. option_to_list given.name ++ cons_option o (filter_map name_in items)) (sym no_name) ∙ g.names;
+  names = ap (λ o. option_to_list given.name ++ cons_option o (filter_map state_name_in items)) (sym no_name) ∙ g.names;
   settings = ap (λ o. option_to_list given.settings ++ cons_option o (filter_map settings_in items)) (sym no_settings) ∙ g.settings;
-  keys = ap (λ o. option_to_list given.key ++ cons_option o (filter_map key_in items)) (sym no_key) ∙ g.keys;
+  keys = ap (λ o. option_to_list given.key ++ cons_option o (filter_map key_file_in items)) (sym no_key) ∙ g.keys;
   causes = ap (λ o. option_to_list given.cause ++ cons_option o (filter_map cause_in items)) (sym no_cause) ∙ g.causes;
   actions =
       append_assoc given.actions (action ∷ []) (filter_map action_in items)
@@ -82,13 +82,13 @@ action_behind given all items item action no_file no_name no_settings no_key no_
 }
 
 -- and the other way round
-action_before : (given all : Given) (items : List Item) (item : Item) (action : Action) → file_in item ≡ None → name_in item ≡ None → settings_in item ≡ None → key_in item ≡ None → cause_in item ≡ None → action_in item ≡ Some action →
+action_before : (given all : Given) (items : List Item) (item : Item) (action : Action) → file_in item ≡ None → state_name_in item ≡ None → settings_in item ≡ None → key_file_in item ≡ None → cause_in item ≡ None → action_in item ≡ Some action →
     Gives (with_action action given) items all → Gives given (item ∷ items) all
 action_before given all items item action no_file no_name no_settings no_key no_cause does g = record {
   files = ap (λ o. option_to_list given.file ++ cons_option o (filter_map file_in items)) no_file ∙ g.files;
-  names = ap (λ o. option_to_list given.name ++ cons_option o (filter_map name_in items)) no_name ∙ g.names;
+  names = ap (λ o. option_to_list given.name ++ cons_option o (filter_map state_name_in items)) no_name ∙ g.names;
   settings = ap (λ o. option_to_list given.settings ++ cons_option o (filter_map settings_in items)) no_settings ∙ g.settings;
-  keys = ap (λ o. option_to_list given.key ++ cons_option o (filter_map key_in items)) no_key ∙ g.keys;
+  keys = ap (λ o. option_to_list given.key ++ cons_option o (filter_map key_file_in items)) no_key ∙ g.keys;
   causes = ap (λ o. option_to_list given.cause ++ cons_option o (filter_map cause_in items)) no_cause ∙ g.causes;
   actions =
       ap (λ o. given.actions ++ cons_option o (filter_map action_in items)) does
@@ -110,18 +110,18 @@ set_made value h = ap (λ b. option_map set_cut (if b then Some (before_first is
 record Leaves (row : Row) (valued : Valued) (value : List ℕ) (items : List Item) (given all : Given) : Type 0 where
   behind : Given
   may : may_come row valued given ≡ true
-  with : with_value valued value given ≡ Some behind
+  with : with_option valued value given ≡ Some behind
   gives : Gives behind items all
 
 some_in : {A : Type 0} (o : Option A) → is_some o ≡ true → (a : A) × (o ≡ Some a)
 some_in None h = absurd (cc)
 some_in (Some a) h = (a, refl)
 
-may_still : (row : Row) (valued : Valued) → has row valued ≡ true → (has row valued && true) ≡ true
+may_still : (row : Row) (valued : Valued) → has_option row valued ≡ true → (has_option row valued && true) ≡ true
 may_still row valued h = ap (λ b. b && true) h
 
-takes_leaves : (row : Row) (form : Form) (valued : Valued) (value : List ℕ) (items : List Item) (file name settings key : Option (List ℕ)) (cause : Option CauseWord) (actions : List Action) (all : Given) →
-    has row valued ≡ true → is_value valued value ≡ true → Gives (record { file = file; name = name; settings = settings; key = key; cause = cause; actions = actions }) (Takes form valued value ∷ items) all →
+takes_leaves : (row : Row) (form : OptionForm) (valued : Valued) (value : List ℕ) (items : List Item) (file name settings key : Option (List ℕ)) (cause : Option CauseWord) (actions : List Action) (all : Given) →
+    has_option row valued ≡ true → is_value valued value ≡ true → Gives (record { file = file; name = name; settings = settings; key = key; cause = cause; actions = actions }) (Takes form valued value ∷ items) all →
     Leaves row valued value items (record { file = file; name = name; settings = settings; key = key; cause = cause; actions = actions }) all
 takes_leaves row form Input value items None name settings key cause actions all had is g = record {
   behind = record { file = Some value; name = name; settings = settings; key = key; cause = cause; actions = actions };
@@ -153,7 +153,7 @@ takes_leaves row form Key value items file name settings None cause actions all 
 takes_leaves row form Key value items file name settings (Some x) cause actions all had is g = absurd (one_item x value _ all.key g.keys)
 takes_leaves row form Cause value items file name settings key None actions all had is g =
     let given : Given = record { file = file; name = name; settings = settings; key = key; cause = None; actions = actions } in
-    let cause = some_in (cause_of value) is in
+    let cause = some_in (cause_word_of value) is in
     record {
       behind = record given { cause = Some cause.0 };
       may = may_still row Cause had;
@@ -168,7 +168,7 @@ takes_leaves row form Cause value items file name settings key None actions all 
       };
     }
 takes_leaves row form Cause value items file name settings key (Some x) actions all had is g =
-    let cause = some_in (cause_of value) is in
+    let cause = some_in (cause_word_of value) is in
     absurd (one_item x cause.0 _ all.cause (ap (λ o. x ∷ cons_option o (filter_map cause_in items)) (sym cause.1) ∙ g.causes))
 takes_leaves row form GetOption value items file name settings key cause actions all had is g =
     let given : Given = record { file = file; name = name; settings = settings; key = key; cause = cause; actions = actions } in
@@ -189,7 +189,7 @@ takes_leaves row form SetOption value items file name settings key cause actions
     }
 
 -- a word that may come
-open_step : (place : ℕ) (b : Bool) (s : Stage) (other : Option Stage) (rest : List (List ℕ)) → b ≡ true →
+open_step : (place : ℕ) (b : Bool) (s : WordStage) (other : Option WordStage) (rest : List (List ℕ)) → b ≡ true →
     option_map_or (λ behind. words_from (place + 1) behind rest) (option_or (if b then Some s else None) other) (Err place) ≡ words_from (place + 1) s rest
 open_step place b s other rest h = ap (λ b. option_map_or (λ behind. words_from (place + 1) behind rest) (option_or (if b then Some s else None) other) (Err place)) h
 
@@ -200,21 +200,21 @@ close_step place row b o given rest h with =
     ap (λ b. option_map_or (λ behind. words_from (place + 1) behind rest) (if b then option_map (Options row None) o else None) (Err place)) h
     ∙ ap (λ o. option_map_or (λ behind. words_from (place + 1) behind rest) (option_map (Options row None) o) (Err place)) with
 
-value_step : (place : ℕ) (row : Row) (valued : Valued) (value : List ℕ) (given behind : Given) (rest : List (List ℕ)) → with_value valued value given ≡ Some behind →
+value_step : (place : ℕ) (row : Row) (valued : Valued) (value : List ℕ) (given behind : Given) (rest : List (List ℕ)) → with_option valued value given ≡ Some behind →
     words_from place (Options row (Some valued) given) (value ∷ rest) ≡ words_from (place + 1) (Options row None behind) rest
 unfolding words_from
 value_step place row valued value given behind rest with =
     ap (λ o. option_map_or (λ behind. words_from (place + 1) behind rest) (option_map (Options row None) o) (Err place)) with
 
--- the place behind an option
-abbrev pub behind_form : ℕ → Form → ℕ
+-- the place after an option
+abbrev pub behind_form : ℕ → OptionForm → ℕ
 behind_form start Own = start + 1 + 1
 behind_form start Long = start + 1 + 1
 behind_form start Joined = start + 1
 
 opened_words : (start : ℕ) (row : Row) (valued : Valued) (value : List ℕ) (given behind : Given) (rest : List (List ℕ)) (w : List ℕ) →
     words_from start (Options row None given) (w ∷ value ∷ rest) ≡ words_from (start + 1) (Options row (Some valued) given) (value ∷ rest) →
-    with_value valued value given ≡ Some behind →
+    with_option valued value given ≡ Some behind →
     words_from start (Options row None given) (w ∷ value ∷ rest) ≡ words_from (start + 1 + 1) (Options row None behind) rest
 opened_words start row valued value given behind rest w opens with = opens ∙ value_step (start + 1) row valued value given behind rest with
 
@@ -240,9 +240,9 @@ long_opens start row Settings given rest long h = absurd (cc)
 long_opens start row Key given rest long h = absurd (cc)
 long_opens start row Cause given rest long h = absurd (cc)
 
-takes_words : (start : ℕ) (row : Row) (form : Form) (valued : Valued) (value : List ℕ) (given behind : Given) (rest : List (List ℕ)) → has_form form valued ≡ true →
-    may_come row valued given ≡ true → with_value valued value given ≡ Some behind →
-    words_from start (Options row None given) (spelling_of (Takes form valued value) ++ rest) ≡ words_from (behind_form start form) (Options row None behind) rest
+takes_words : (start : ℕ) (row : Row) (form : OptionForm) (valued : Valued) (value : List ℕ) (given behind : Given) (rest : List (List ℕ)) → has_form form valued ≡ true →
+    may_come row valued given ≡ true → with_option valued value given ≡ Some behind →
+    words_from start (Options row None given) (item_words (Takes form valued value) ++ rest) ≡ words_from (behind_form start form) (Options row None behind) rest
 unfolding words_from
 takes_words start row Own valued value given behind rest form h with =
     opened_words start row valued value given behind rest (own_form valued) (own_opens start row valued given (value ∷ rest) h) with
@@ -256,35 +256,35 @@ takes_words start row Joined Settings value given behind rest form h with = absu
 takes_words start row Joined Key value given behind rest form h with = absurd (cc)
 takes_words start row Joined Cause value given behind rest form h with = absurd (cc)
 
--- the words of items make this command, behind what was given
+-- the words of items make this command, after what was given
 Makes : Row → List Item → Type 0
 Makes row items = (start : ℕ) (given all : Given) (command : Command) → list_all (has_item row) items ≡ true → Gives given items all →
-    command_of row all ≡ Some command → words_from start (Options row None given) (flat_map spelling_of items) ≡ Ok command
+    command_of row all ≡ Some command → words_from start (Options row None given) (flat_map item_words items) ≡ Ok command
 
 none_made : (row : Row) → Makes row []
 unfolding Makes words_from
 none_made row start given all command had g made =
     ap (λ given. ok_or (command_of row given) start) (gives_none given all g) ∙ ap (λ o. ok_or o start) made
 
-takes_made : (row : Row) (form : Form) (valued : Valued) (value : List ℕ) (items : List Item) → Makes row items → Makes row (Takes form valued value ∷ items)
+takes_made : (row : Row) (form : OptionForm) (valued : Valued) (value : List ℕ) (items : List Item) → Makes row items → Makes row (Takes form valued value ∷ items)
 unfolding Makes
 takes_made row form valued value items ih start given all command had g made =
     let here = both _ _ had in
     let item = both _ _ here.0 in
     let spelt = both _ _ item.1 in
     let l = takes_leaves row form valued value items given.file given.name given.settings given.key given.cause given.actions all item.0 spelt.1 g in
-    takes_words start row form valued value given l.behind (flat_map spelling_of items) spelt.0 l.may l.with
+    takes_words start row form valued value given l.behind (flat_map item_words items) spelt.0 l.may l.with
     ∙ ih (behind_form start form) l.behind all command here.1 l.gives made
 
-dump_made : (row : Row) (item : Item) (action : Action) (items : List Item) → file_in item ≡ None → name_in item ≡ None → settings_in item ≡ None → key_in item ≡ None → cause_in item ≡ None → action_in item ≡ Some action →
+dump_made : (row : Row) (item : Item) (action : Action) (items : List Item) → file_in item ≡ None → state_name_in item ≡ None → settings_in item ≡ None → key_file_in item ≡ None → cause_in item ≡ None → action_in item ≡ Some action →
     has_item row item ≡ has_dumps row →
     ((start : ℕ) (given : Given) (rest : List (List ℕ)) → has_dumps row ≡ true →
-    words_from start (Options row None given) (spelling_of item ++ rest) ≡ words_from (start + 1) (Options row None (with_action action given)) rest) →
+    words_from start (Options row None given) (item_words item ++ rest) ≡ words_from (start + 1) (Options row None (with_action action given)) rest) →
     Makes row items → Makes row (item ∷ items)
 unfolding Makes
 dump_made row item action items no_file no_name no_settings no_key no_cause does is step ih start given all command had g made =
     let here = both _ _ had in
-    step start given (flat_map spelling_of items) (sym is ∙ here.0)
+    step start given (flat_map item_words items) (sym is ∙ here.0)
     ∙ ih (start + 1) (with_action action given) all command here.1 (action_behind given all items item action no_file no_name no_settings no_key no_cause does g) made
 
 item_made : (row : Row) (item : Item) (items : List Item) → Makes row items → Makes row (item ∷ items)
@@ -298,7 +298,7 @@ items_made : (row : Row) (items : List Item) → Makes row items
 items_made row [] = none_made row
 items_made row (item ∷ items) = item_made row item items (items_made row items)
 
-row_begins : (row : Row) (rest : List (List ℕ)) → words_of (name_of row ∷ rest) ≡ words_from 1 (Options row None none_given) rest
+row_begins : (row : Row) (rest : List (List ℕ)) → words_of (command_name_of row ∷ rest) ≡ words_from 1 (Options row None none_given) rest
 unfolding words_from
 row_begins StateRow rest = refl
 row_begins MarkGoodRow rest = refl
@@ -308,7 +308,7 @@ options_accepted : (row : Row) (words : List (List ℕ)) (command : Command) →
 unfolding Makes
 options_accepted row words command is =
     ap words_of is.spelt
-    ∙ row_begins row (flat_map spelling_of is.items)
+    ∙ row_begins row (flat_map item_words is.items)
     ∙ items_made row is.items 1 none_given is.given command is.has_all (record { files = is.file_is; names = is.name_is; settings = is.settings_are; keys = is.key_is; causes = is.cause_is; actions = is.actions_are }) is.made
 
 action_accepted : (magic len : ℕ) (action : RawAction) (words : List (List ℕ)) → IsAction len action words → words_from 3 (Mode magic len) words ≡ Ok (raw_of magic len action)
@@ -340,9 +340,9 @@ some_same a b h = cc
 ok_same : {A E : Type 0} (a b : A) → ◌≡◌ {A = Result A E} (Ok a) (Ok b) → a ≡ b
 ok_same a b h = cc
 
--- the stage behind a word that may come
-on_word : (o : Option Stage) (place : ℕ) (rest : List (List ℕ)) (command : Command) →
-    option_map_or (λ behind. words_from (place + 1) behind rest) o (Err place) ≡ Ok command → (s : Stage) × (o ≡ Some s) × (words_from (place + 1) s rest ≡ Ok command)
+-- the stage after a word that may come
+on_word : (o : Option WordStage) (place : ℕ) (rest : List (List ℕ)) (command : Command) →
+    option_map_or (λ behind. words_from (place + 1) behind rest) o (Err place) ≡ Ok command → (s : WordStage) × (o ≡ Some s) × (words_from (place + 1) s rest ≡ Ok command)
 on_word None place rest command h = absurd (cc)
 on_word (Some s) place rest command h = (s, refl, h)
 
@@ -373,12 +373,12 @@ from_whole c place [] command h = (refl, sym (ok_same c command h))
 from_whole c place (w ∷ ws) command h = absurd (cc)
 
 from_area : (magic len : ℕ) (words : List (List ℕ)) (command : Command) → words_from 4 (Area magic len) words ≡ Ok command →
-    (area : List ℕ) × (digits : List ℕ) × (words ≡ digits ∷ []) × (area_of len digits ≡ Some area) × (command ≡ raw_of magic len (Write area))
+    (area : List ℕ) × (digits : List ℕ) × (words ≡ digits ∷ []) × (area_spelt len digits ≡ Some area) × (command ≡ raw_of magic len (Write area))
 unfolding words_from
 from_area magic len [] command h = absurd (cc)
 from_area magic len (digits ∷ ws) command h =
     let word = on_word (next (Area magic len) digits) 4 ws command h in
-    let area = on_map (λ a. Whole (raw_of magic len (Write a))) (area_of len digits) word.0 word.1 in
+    let area = on_map (λ a. Whole (raw_of magic len (Write a))) (area_spelt len digits) word.0 word.1 in
     let whole = from_whole (raw_of magic len (Write area.0)) 5 ws command (subst (λ s. words_from 5 s ws ≡ Ok command) (sym area.2) word.2) in
     (area.0, digits, ap (λ ws. digits ∷ ws) whole.0, area.1, whole.1)
 
@@ -463,7 +463,7 @@ valued_words : (w : List ℕ) (v : Valued) → valued_of w ≡ Some v → (w ≡
 valued_words w v h =
     valued_cases w v (bytes_eq w (codes "-i")) (bytes_eq w (codes "-n")) (bytes_eq w (codes "-g")) (bytes_eq w (codes "-s")) (bytes_eq w (codes "-c")) (bytes_eq w (codes "-k")) (bytes_eq w (codes "--cause")) refl refl refl refl refl refl refl h
 
--- a word is what stands before its first `=`, that sign, and what stands behind it
+-- a word is what stands before its first `=`, that sign, and what stands after it
 cut_behind : (c : ℕ) (cs : List ℕ) (n m k : ℕ) → m ≡ suc n → k ≡ suc (n + 1) → cs ≡ take n cs ++ 61 ∷ drop (n + 1) cs → c ∷ cs ≡ take m (c ∷ cs) ++ 61 ∷ drop k (c ∷ cs)
 cut_behind c cs n m k em ek h = rw (em, ek) (ap (λ cs. c ∷ cs) h)
 
@@ -490,16 +490,16 @@ value_cases w given true e h =
     (sym (ap (λ (g : Valued × List ℕ). has_long g.0) long.2) ∙ word.0, cut w e ∙ ap (λ name. name ++ 61 ∷ after_first is_sign w) name ∙ ap (λ value. long_form given.0 ++ 61 ∷ value) value)
 value_cases w given false e h = absurd (cc)
 
-value_words : (w : List ℕ) (given : Valued × List ℕ) → value_in w ≡ Some given → (has_long given.0 ≡ true) × (w ≡ long_form given.0 ++ 61 ∷ given.1)
+value_words : (w : List ℕ) (given : Valued × List ℕ) → joined_value_in w ≡ Some given → (has_long given.0 ≡ true) × (w ≡ long_form given.0 ++ 61 ∷ given.1)
 value_words w given h = value_cases w given (list_any is_sign w) refl h
 
 -- the options, item by item
 
--- these words spell items that make this command, behind what was given
+-- these words spell items that make this command, after what was given
 record IsRead (row : Row) (given : Given) (words : List (List ℕ)) (command : Command) : Type 0 where
   items : List Item
   all : Given
-  spelt_so : words ≡ flat_map spelling_of items
+  spelt_so : words ≡ flat_map item_words items
   has_all : list_all (has_item row) items ≡ true
   gives : Gives given items all
   made : command_of row all ≡ Some command
@@ -508,7 +508,7 @@ record IsRead (row : Row) (given : Given) (words : List (List ℕ)) (command : C
 abbrev IsReadWith : Row → Option Valued → Given → List (List ℕ) → Command → Type 0
 IsReadWith row None given words command = IsRead row given words command
 IsReadWith row (Some valued) given words command =
-    (value : List ℕ) × (rest : List (List ℕ)) × (behind : Given) × (words ≡ value ∷ rest) × (with_value valued value given ≡ Some behind) × IsRead row behind rest command
+    (value : List ℕ) × (rest : List (List ℕ)) × (behind : Given) × (words ≡ value ∷ rest) × (with_option valued value given ≡ Some behind) × IsRead row behind rest command
 
 end_read : (start : ℕ) (row : Row) (given : Given) (o : Option Command) (command : Command) → command_of row given ≡ o → ok_or o start ≡ Ok command → IsRead row given [] command
 end_read start row given None command e h = absurd (cc)
@@ -527,19 +527,19 @@ set_value : (value : List ℕ) (action : Action) (b : Bool) → has_sign value �
 set_value value action true e h = e
 set_value value action false e h = absurd (cc)
 
--- what an option with its value and the items behind it give
-record Begun (row : Row) (form : Form) (valued : Valued) (value : List ℕ) (items : List Item) (given all : Given) : Type 0 where
+-- what an option with its value and the items after it give
+record Begun (row : Row) (form : OptionForm) (valued : Valued) (value : List ℕ) (items : List Item) (given all : Given) : Type 0 where
   had : has_item row (Takes form valued value) ≡ true
   gives : Gives given (Takes form valued value ∷ items) all
 
-item_had : (row : Row) (form : Form) (valued : Valued) (value : List ℕ) → has row valued ≡ true → has_form form valued ≡ true → is_value valued value ≡ true →
+item_had : (row : Row) (form : OptionForm) (valued : Valued) (value : List ℕ) → has_option row valued ≡ true → has_form form valued ≡ true → is_value valued value ≡ true →
     has_item row (Takes form valued value) ≡ true
 item_had row form valued value had formed is =
     ap (λ b. b && (has_form form valued && is_value valued value)) had ∙ ap (λ b. b && is_value valued value) formed ∙ is
 
-takes_begun : (row : Row) (form : Form) (valued : Valued) (value : List ℕ) (items : List Item) (file name settings key : Option (List ℕ)) (cause : Option CauseWord) (actions : List Action) (behind all : Given) →
+takes_begun : (row : Row) (form : OptionForm) (valued : Valued) (value : List ℕ) (items : List Item) (file name settings key : Option (List ℕ)) (cause : Option CauseWord) (actions : List Action) (behind all : Given) →
     has_form form valued ≡ true → may_come row valued (record { file = file; name = name; settings = settings; key = key; cause = cause; actions = actions }) ≡ true →
-    with_value valued value (record { file = file; name = name; settings = settings; key = key; cause = cause; actions = actions }) ≡ Some behind → Gives behind items all →
+    with_option valued value (record { file = file; name = name; settings = settings; key = key; cause = cause; actions = actions }) ≡ Some behind → Gives behind items all →
     Begun row form valued value items (record { file = file; name = name; settings = settings; key = key; cause = cause; actions = actions }) all
 takes_begun row form Input value items None name settings key cause actions behind all formed may with g =
     let given = subst (λ behind. Gives behind items all) (sym (some_same _ behind with)) g in
@@ -547,31 +547,31 @@ takes_begun row form Input value items None name settings key cause actions behi
       had = item_had row form Input value (both _ _ may).0 formed refl;
       gives = record { files = given.files; names = given.names; settings = given.settings; keys = given.keys; causes = given.causes; actions = given.actions };
     }
-takes_begun row form Input value items (Some x) name settings key cause actions behind all formed may with g = absurd (cc ((both (has row Input) false may).1))
+takes_begun row form Input value items (Some x) name settings key cause actions behind all formed may with g = absurd (cc ((both (has_option row Input) false may).1))
 takes_begun row form Name value items file None settings key cause actions behind all formed may with g =
     let given = subst (λ behind. Gives behind items all) (sym (some_same _ behind with)) g in
     record {
       had = item_had row form Name value (both _ _ may).0 formed refl;
       gives = record { files = given.files; names = given.names; settings = given.settings; keys = given.keys; causes = given.causes; actions = given.actions };
     }
-takes_begun row form Name value items file (Some x) settings key cause actions behind all formed may with g = absurd (cc ((both (has row Name) false may).1))
+takes_begun row form Name value items file (Some x) settings key cause actions behind all formed may with g = absurd (cc ((both (has_option row Name) false may).1))
 takes_begun row form Settings value items file name None key cause actions behind all formed may with g =
     let given = subst (λ behind. Gives behind items all) (sym (some_same _ behind with)) g in
     record {
       had = item_had row form Settings value (both _ _ may).0 formed refl;
       gives = record { files = given.files; names = given.names; settings = given.settings; keys = given.keys; causes = given.causes; actions = given.actions };
     }
-takes_begun row form Settings value items file name (Some x) key cause actions behind all formed may with g = absurd (cc ((both (has row Settings) false may).1))
+takes_begun row form Settings value items file name (Some x) key cause actions behind all formed may with g = absurd (cc ((both (has_option row Settings) false may).1))
 takes_begun row form Key value items file name settings None cause actions behind all formed may with g =
     let given = subst (λ behind. Gives behind items all) (sym (some_same _ behind with)) g in
     record {
       had = item_had row form Key value (both _ _ may).0 formed refl;
       gives = record { files = given.files; names = given.names; settings = given.settings; keys = given.keys; causes = given.causes; actions = given.actions };
     }
-takes_begun row form Key value items file name settings (Some x) cause actions behind all formed may with g = absurd (cc ((both (has row Key) false may).1))
+takes_begun row form Key value items file name settings (Some x) cause actions behind all formed may with g = absurd (cc ((both (has_option row Key) false may).1))
 takes_begun row form Cause value items file name settings key None actions behind all formed may with g =
     let before : Given = record { file = file; name = name; settings = settings; key = key; cause = None; actions = actions } in
-    let cause = on_map (λ cause. record before { cause = Some cause }) (cause_of value) behind with in
+    let cause = on_map (λ cause. record before { cause = Some cause }) (cause_word_of value) behind with in
     let given = subst (λ behind. Gives behind items all) (sym cause.2) g in
     record {
       had = item_had row form Cause value (both _ _ may).0 formed (ap (λ o. is_some o) cause.1);
@@ -584,7 +584,7 @@ takes_begun row form Cause value items file name settings key None actions behin
         actions = given.actions;
       };
     }
-takes_begun row form Cause value items file name settings key (Some x) actions behind all formed may with g = absurd (cc ((both (has row Cause) false may).1))
+takes_begun row form Cause value items file name settings key (Some x) actions behind all formed may with g = absurd (cc ((both (has_option row Cause) false may).1))
 takes_begun row form GetOption value items file name settings key cause actions behind all formed may with g =
     let before : Given = record { file = file; name = name; settings = settings; key = key; cause = cause; actions = actions } in
     let given = subst (λ behind. Gives behind items all) (sym (some_same _ behind with)) g in
@@ -601,27 +601,27 @@ takes_begun row form SetOption value items file name settings key cause actions 
       gives = action_before before all items (Takes form SetOption value) set.0 refl refl refl refl refl set.1 given;
     }
 
-takes_read : (row : Row) (form : Form) (valued : Valued) (value : List ℕ) (given behind : Given) (rest : List (List ℕ)) (command : Command) →
-    has_form form valued ≡ true → may_come row valued given ≡ true → with_value valued value given ≡ Some behind → IsRead row behind rest command →
-    IsRead row given (spelling_of (Takes form valued value) ++ rest) command
+takes_read : (row : Row) (form : OptionForm) (valued : Valued) (value : List ℕ) (given behind : Given) (rest : List (List ℕ)) (command : Command) →
+    has_form form valued ≡ true → may_come row valued given ≡ true → with_option valued value given ≡ Some behind → IsRead row behind rest command →
+    IsRead row given (item_words (Takes form valued value) ++ rest) command
 takes_read row form valued value given behind rest command formed may with r =
     let begun = takes_begun row form valued value r.items given.file given.name given.settings given.key given.cause given.actions behind r.all formed may with r.gives in
     record {
       items = Takes form valued value ∷ r.items;
       all = r.all;
-      spelt_so = ap (λ rest. spelling_of (Takes form valued value) ++ rest) r.spelt_so;
+      spelt_so = ap (λ rest. item_words (Takes form valued value) ++ rest) r.spelt_so;
       has_all = ap (λ b. b && list_all (has_item row) r.items) begun.had ∙ r.has_all;
       gives = begun.gives;
       made = r.made;
     }
 
 dump_read : (row : Row) (item : Item) (w : List ℕ) (action : Action) (given : Given) (rest : List (List ℕ)) (command : Command) →
-    w ∷ [] ≡ spelling_of item → has_item row item ≡ true → file_in item ≡ None → name_in item ≡ None → settings_in item ≡ None → key_in item ≡ None → cause_in item ≡ None → action_in item ≡ Some action →
+    w ∷ [] ≡ item_words item → has_item row item ≡ true → file_in item ≡ None → state_name_in item ≡ None → settings_in item ≡ None → key_file_in item ≡ None → cause_in item ≡ None → action_in item ≡ Some action →
     IsRead row (with_action action given) rest command → IsRead row given (w ∷ rest) command
 dump_read row item w action given rest command spelling had no_file no_name no_settings no_key no_cause does r = record {
   items = item ∷ r.items;
   all = r.all;
-  spelt_so = ap (λ ws. ws ++ rest) spelling ∙ ap (λ rest. spelling_of item ++ rest) r.spelt_so;
+  spelt_so = ap (λ ws. ws ++ rest) spelling ∙ ap (λ rest. item_words item ++ rest) r.spelt_so;
   has_all = ap (λ b. b && list_all (has_item row) r.items) had ∙ r.has_all;
   gives = action_before given r.all r.items item action no_file no_name no_settings no_key no_cause does r.gives;
   made = r.made;
@@ -642,14 +642,14 @@ dump_cases row w action given rest command false false true had ea eb ec h r =
     dump_read row ShellDump w action given rest command (one_word _ _ (same_bytes w (codes "--dump-shell") ec)) had refl refl refl refl refl h r
 dump_cases row w action given rest command false false false had ea eb ec h r = absurd (cc)
 
--- the words behind a stage spell the rest of a command
+-- the words after a stage spell the rest of a command
 Onward : Row → List (List ℕ) → Type 0
 Onward row rest = (start : ℕ) (due : Option Valued) (given : Given) (command : Command) → words_from start (Options row due given) rest ≡ Ok command → IsReadWith row due given rest command
 
-from_stage : (start : ℕ) (a b : Stage) (rest : List (List ℕ)) (command : Command) → a ≡ b → words_from start b rest ≡ Ok command → words_from start a rest ≡ Ok command
+from_stage : (start : ℕ) (a b : WordStage) (rest : List (List ℕ)) (command : Command) → a ≡ b → words_from start b rest ≡ Ok command → words_from start a rest ≡ Ok command
 from_stage start a b rest command e h = subst (λ s. words_from start s rest ≡ Ok command) (sym e) h
 
-dump_onward : (start : ℕ) (row : Row) (w : List ℕ) (rest : List (List ℕ)) (given : Given) (command : Command) (s : Stage) → Onward row rest →
+dump_onward : (start : ℕ) (row : Row) (w : List ℕ) (rest : List (List ℕ)) (given : Given) (command : Command) (s : WordStage) → Onward row rest →
     option_and_then (after_dump row given) (dump_of w) ≡ Some s → words_from (start + 1) s rest ≡ Ok command → IsRead row given (w ∷ rest) command
 unfolding Onward
 dump_onward start row w rest given command s ih stage h =
@@ -659,13 +659,13 @@ dump_onward start row w rest given command s ih stage h =
     dump_cases row w dump.0 given rest command (bytes_eq w (codes "-d")) (bytes_eq w (codes "--dump")) (bytes_eq w (codes "--dump-shell")) had.0 refl refl refl dump.1 r
 
 opened_form : (row : Row) (w value : List ℕ) (v : Valued) (given behind : Given) (rest : List (List ℕ)) (command : Command) → (w ≡ own_form v) ⊎ IsLong w v →
-    may_come row v given ≡ true → with_value v value given ≡ Some behind → IsRead row behind rest command → IsRead row given (w ∷ value ∷ rest) command
+    may_come row v given ≡ true → with_option v value given ≡ Some behind → IsRead row behind rest command → IsRead row given (w ∷ value ∷ rest) command
 opened_form row w value v given behind rest command (inl own) may with r =
     subst (λ w. IsRead row given (w ∷ value ∷ rest) command) (sym own) (takes_read row Own v value given behind rest command refl may with r)
 opened_form row w value v given behind rest command (inr long) may with r =
     subst (λ w. IsRead row given (w ∷ value ∷ rest) command) (sym long.1) (takes_read row Long v value given behind rest command long.0 may with r)
 
-opened_onward : (start : ℕ) (row : Row) (w : List ℕ) (rest : List (List ℕ)) (given : Given) (command : Command) (s : Stage) → Onward row rest →
+opened_onward : (start : ℕ) (row : Row) (w : List ℕ) (rest : List (List ℕ)) (given : Given) (command : Command) (s : WordStage) → Onward row rest →
     option_and_then (before_value row given) (valued_of w) ≡ Some s → words_from (start + 1) s rest ≡ Ok command → IsRead row given (w ∷ rest) command
 unfolding Onward
 opened_onward start row w rest given command s ih stage h =
@@ -678,25 +678,25 @@ on_test : {A : Type 0} (t : Bool) (o : Option A) (b : A) → (if t then o else N
 on_test true o b h = (refl, h)
 on_test false o b h = absurd (cc)
 
-closed_onward : (start : ℕ) (row : Row) (w : List ℕ) (rest : List (List ℕ)) (given : Given) (command : Command) (s : Stage) → Onward row rest →
-    option_and_then (after_joined row given) (value_in w) ≡ Some s → words_from (start + 1) s rest ≡ Ok command → IsRead row given (w ∷ rest) command
+closed_onward : (start : ℕ) (row : Row) (w : List ℕ) (rest : List (List ℕ)) (given : Given) (command : Command) (s : WordStage) → Onward row rest →
+    option_and_then (after_joined row given) (joined_value_in w) ≡ Some s → words_from (start + 1) s rest ≡ Ok command → IsRead row given (w ∷ rest) command
 unfolding Onward
 closed_onward start row w rest given command s ih stage h =
-    let v = on_then (after_joined row given) (value_in w) s stage in
+    let v = on_then (after_joined row given) (joined_value_in w) s stage in
     let may = on_test (may_come row v.0.0 given) (after_value row given v.0.0 v.0.1) s v.2 in
-    let behind = on_map (Options row None) (with_value v.0.0 v.0.1 given) s may.1 in
+    let behind = on_map (Options row None) (with_option v.0.0 v.0.1 given) s may.1 in
     let r = ih (start + 1) None behind.0 command (from_stage (start + 1) _ s rest command behind.2 h) in
     let word = value_words w v.0 v.1 in
     subst (λ w. IsRead row given (w ∷ rest) command) (sym word.1) (takes_read row Joined v.0.0 v.0.1 given behind.0 rest command word.0 may.0 behind.1 r)
 
-option_onward : (start : ℕ) (row : Row) (w : List ℕ) (rest : List (List ℕ)) (given : Given) (command : Command) (s : Stage) → Onward row rest →
+option_onward : (start : ℕ) (row : Row) (w : List ℕ) (rest : List (List ℕ)) (given : Given) (command : Command) (s : WordStage) → Onward row rest →
     after_option row given w ≡ Some s → words_from (start + 1) s rest ≡ Ok command → IsRead row given (w ∷ rest) command
 option_onward start row w rest given command s ih stage h =
     elim (on_or (option_and_then (after_dump row given) (dump_of w))
-    (option_or (option_and_then (before_value row given) (valued_of w)) (option_and_then (after_joined row given) (value_in w))) s stage) [
+    (option_or (option_and_then (before_value row given) (valued_of w)) (option_and_then (after_joined row given) (joined_value_in w))) s stage) [
       | inl dump ↦ dump_onward start row w rest given command s ih dump h
       | inr other ↦
-          elim (on_or (option_and_then (before_value row given) (valued_of w)) (option_and_then (after_joined row given) (value_in w)) s other) [
+          elim (on_or (option_and_then (before_value row given) (valued_of w)) (option_and_then (after_joined row given) (joined_value_in w)) s other) [
             | inl open_stage ↦ opened_onward start row w rest given command s ih open_stage h
             | inr close_stage ↦ closed_onward start row w rest given command s ih close_stage h
           ]
@@ -711,7 +711,7 @@ onward row (w ∷ ws) start None given command h =
     option_onward start row w ws given command word.0 (onward row ws) word.1 word.2
 onward row (w ∷ ws) start (Some valued) given command h =
     let word = on_word (after_value row given valued w) start ws command h in
-    let behind = on_map (Options row None) (with_value valued w given) word.0 word.1 in
+    let behind = on_map (Options row None) (with_option valued w given) word.0 word.1 in
     (w, ws, behind.0, refl, behind.1, onward row ws (start + 1) None behind.0 command (from_stage (start + 1) _ word.0 ws command behind.2 word.2))
 
 -- commands
@@ -739,15 +739,15 @@ row_made StateRow given words command made is =
     let state = on_map (λ file. State (record { file = file; name = given.name; key = given.key; actions = given.actions })) given.file command made in
     subst (λ command. IsSpelt StateRow words command → Spells words command) state.2 (λ is. is) is
 
-row_cases : (w : List ℕ) (row : Row) (a b c : Bool) → bytes_eq w (name_of StateRow) ≡ a → bytes_eq w (name_of MarkGoodRow) ≡ b → bytes_eq w (name_of BootRow) ≡ c →
-    (if a then Some StateRow else if b then Some MarkGoodRow else if c then Some BootRow else None) ≡ Some row → w ≡ name_of row
-row_cases w row true b c ea eb ec h = same_bytes w (name_of StateRow) ea ∙ ap name_of (some_same StateRow row h)
-row_cases w row false true c ea eb ec h = same_bytes w (name_of MarkGoodRow) eb ∙ ap name_of (some_same MarkGoodRow row h)
-row_cases w row false false true ea eb ec h = same_bytes w (name_of BootRow) ec ∙ ap name_of (some_same BootRow row h)
+row_cases : (w : List ℕ) (row : Row) (a b c : Bool) → bytes_eq w (command_name_of StateRow) ≡ a → bytes_eq w (command_name_of MarkGoodRow) ≡ b → bytes_eq w (command_name_of BootRow) ≡ c →
+    (if a then Some StateRow else if b then Some MarkGoodRow else if c then Some BootRow else None) ≡ Some row → w ≡ command_name_of row
+row_cases w row true b c ea eb ec h = same_bytes w (command_name_of StateRow) ea ∙ ap command_name_of (some_same StateRow row h)
+row_cases w row false true c ea eb ec h = same_bytes w (command_name_of MarkGoodRow) eb ∙ ap command_name_of (some_same MarkGoodRow row h)
+row_cases w row false false true ea eb ec h = same_bytes w (command_name_of BootRow) ec ∙ ap command_name_of (some_same BootRow row h)
 row_cases w row false false false ea eb ec h = absurd (cc)
 
-row_named : (w : List ℕ) (row : Row) → row_of w ≡ Some row → w ≡ name_of row
-row_named w row named = row_cases w row (bytes_eq w (name_of StateRow)) (bytes_eq w (name_of MarkGoodRow)) (bytes_eq w (name_of BootRow)) refl refl refl named
+row_named : (w : List ℕ) (row : Row) → row_of w ≡ Some row → w ≡ command_name_of row
+row_named w row named = row_cases w row (bytes_eq w (command_name_of StateRow)) (bytes_eq w (command_name_of MarkGoodRow)) (bytes_eq w (command_name_of BootRow)) refl refl refl named
 
 options_of_words : (row : Row) (w : List ℕ) (rest : List (List ℕ)) (command : Command) → row_of w ≡ Some row → words_from 1 (Options row None none_given) rest ≡ Ok command →
     Spells (w ∷ rest) command
@@ -757,7 +757,7 @@ options_of_words row w rest command named h =
     row_made row r.all (w ∷ rest) command r.made (record {
       items = r.items;
       given = r.all;
-      spelt = ap (λ w. w ∷ rest) (row_named w row named) ∙ ap (λ rest. name_of row ∷ rest) r.spelt_so;
+      spelt = ap (λ w. w ∷ rest) (row_named w row named) ∙ ap (λ rest. command_name_of row ∷ rest) r.spelt_so;
       has_all = r.has_all;
       file_is = r.gives.files;
       name_is = r.gives.names;

@@ -15,7 +15,7 @@ use Rattle.bb_words.specs.declared.error.WordsError.TheVariants.{BadWord, NoMemo
 use Rattle.bb_words.specs.declared.row.Row.{Row}
 use Rattle.bb_words.specs.Options.{none_given}
 use Rattle.bb_words.specs.Table.{row_of}
-use Rattle.bb_words.specs.Words.{Stage, Start, Magic, Length, Mode, Area, Options, Whole, raw_of, number_up_to, area_of, next, command_at, words_from, words_of}
+use Rattle.bb_words.specs.Words.{WordStage, Start, Magic, Length, Mode, Area, Options, Whole, raw_of, number_up_to, area_spelt, next, command_at, words_from, words_of}
 
 -- ---- answers
 
@@ -56,10 +56,10 @@ lost_on x f o at NoMemory e h = tt
 -- ---- the word at a place
 
 -- the words from a place on, where the next place is m and the word is the n-th
-abbrev pub behind_word : ℕ → ℕ → List (List ℕ) → Stage → List ℕ → Result Command ℕ
+abbrev pub behind_word : ℕ → ℕ → List (List ℕ) → WordStage → List ℕ → Result Command ℕ
 behind_word place m words stage word = option_map_or (λ behind. words_from (place + 1) behind (drop m words)) (next stage word) (Err place)
 
-step_at : (place n : ℕ) (stage : Stage) (words : List (List ℕ)) →
+step_at : (place n : ℕ) (stage : WordStage) (words : List (List ℕ)) →
     words_from place stage (drop n words) ≡ option_map_or (behind_word place (suc n) words stage) (slice_get words n) (ok_or (command_at stage) place)
 unfolding words_from
 step_at place zero stage [] = refl
@@ -67,32 +67,32 @@ step_at place (suc n) stage [] = refl
 step_at place zero stage (w ∷ ws) = refl
 step_at place (suc n) stage (w ∷ ws) = step_at place n stage ws
 
-step_to : (place m : ℕ) (stage : Stage) (words : List (List ℕ)) → m ≡ suc place →
+step_to : (place m : ℕ) (stage : WordStage) (words : List (List ℕ)) → m ≡ suc place →
     words_from place stage (drop place words) ≡ option_map_or (behind_word place m words stage) (slice_get words place) (ok_or (command_at stage) place)
 step_to place m stage words e = rw e (step_at place place stage words)
 
-step : (place : ℕ) (stage : Stage) (words : List (List ℕ)) →
+step : (place : ℕ) (stage : WordStage) (words : List (List ℕ)) →
     words_from place stage (drop place words) ≡ option_map_or (behind_word place (place + 1) words stage) (slice_get words place) (ok_or (command_at stage) place)
 step place stage words = step_to place (place + 1) stage words (add-one place)
 
-step_word : (place : ℕ) (stage : Stage) (words : List (List ℕ)) (word : List ℕ) → slice_get words place ≡ Some word →
+step_word : (place : ℕ) (stage : WordStage) (words : List (List ℕ)) (word : List ℕ) → slice_get words place ≡ Some word →
     words_from place stage (drop place words) ≡ behind_word place (place + 1) words stage word
 step_word place stage words word found = read_on _ _ _ _ word (step place stage words) found
 
 -- a word that may come, one that may not, and none
-pub step_on : (place : ℕ) (stage behind : Stage) (words : List (List ℕ)) (word : List ℕ) → slice_get words place ≡ Some word → next stage word ≡ Some behind →
+pub step_on : (place : ℕ) (stage behind : WordStage) (words : List (List ℕ)) (word : List ℕ) → slice_get words place ≡ Some word → next stage word ≡ Some behind →
     words_from place stage (drop place words) ≡ words_from (place + 1) behind (drop (place + 1) words)
 step_on place stage behind words word found may = read_on _ _ _ _ behind (step_word place stage words word found) may
 
-pub step_bad : (place : ℕ) (stage : Stage) (words : List (List ℕ)) (word : List ℕ) → slice_get words place ≡ Some word → next stage word ≡ None →
+pub step_bad : (place : ℕ) (stage : WordStage) (words : List (List ℕ)) (word : List ℕ) → slice_get words place ≡ Some word → next stage word ≡ None →
     words_from place stage (drop place words) ≡ Err place
 step_bad place stage words word found bad = step_word place stage words word found ∙ ap (λ o. option_map_or (λ behind. words_from (place + 1) behind (drop (place + 1) words)) o (Err place)) bad
 
-pub step_lost : (place : ℕ) (stage : Stage) (words : List (List ℕ)) (word : List ℕ) (cause : WordsError) → slice_get words place ≡ Some word →
+pub step_lost : (place : ℕ) (stage : WordStage) (words : List (List ℕ)) (word : List ℕ) (cause : WordsError) → slice_get words place ≡ Some word →
     Refuses (ok_or (next stage word) place) cause → Refuses (words_from place stage (drop place words)) cause
 step_lost place stage words word cause found h = lost_on _ _ (next stage word) place cause (step_word place stage words word found) h
 
-step_none : (place : ℕ) (stage : Stage) (words : List (List ℕ)) → slice_get words place ≡ None →
+step_none : (place : ℕ) (stage : WordStage) (words : List (List ℕ)) → slice_get words place ≡ None →
     words_from place stage (drop place words) ≡ ok_or (command_at stage) place
 step_none place stage words none = step place stage words ∙ ap (λ o. option_map_or (behind_word place (place + 1) words stage) o (ok_or (command_at stage) place)) none
 
@@ -101,19 +101,19 @@ pub at_end : (place : ℕ) (command : Command) (words : List (List ℕ)) →
 at_end place command words = step place (Whole command) words
 
 -- a word is missing
-pub missing : (place : ℕ) (stage : Stage) (words : List (List ℕ)) (cause : WordsError) → command_at stage ≡ None → (cause ≡ BadWord place) × (slice_get words place ≡ None) →
+pub missing : (place : ℕ) (stage : WordStage) (words : List (List ℕ)) (cause : WordsError) → command_at stage ≡ None → (cause ≡ BadWord place) × (slice_get words place ≡ None) →
     Refuses (words_from place stage (drop place words)) cause
 missing place stage words cause none bad =
     subst (Refuses _) (sym bad.0) (step_none place stage words bad.1 ∙ ap (λ o. ok_or o place) none)
 
 -- ---- words that stand for a value
 
-mapped : {A X : Type 0} (g : Stage → X) (make : A → Stage) (read : List ℕ → Option A) (d : X) (o : Option (List ℕ)) →
+mapped : {A X : Type 0} (g : WordStage → X) (make : A → WordStage) (read : List ℕ → Option A) (d : X) (o : Option (List ℕ)) →
     option_map_or (λ word. option_map_or g (option_map make (read word)) d) o d ≡ option_map_or (λ v. g (make v)) (option_and_then read o) d
 mapped g make read d None = refl
 mapped g make read d (Some word) = mapped_value g make d (read word)
   where
-    mapped_value : {A X : Type 0} (g : Stage → X) (make : A → Stage) (d : X) (o : Option A) → option_map_or g (option_map make o) d ≡ option_map_or (λ v. g (make v)) o d
+    mapped_value : {A X : Type 0} (g : WordStage → X) (make : A → WordStage) (d : X) (o : Option A) → option_map_or g (option_map make o) d ≡ option_map_or (λ v. g (make v)) o d
     mapped_value g make d None = refl
     mapped_value g make d (Some v) = refl
 
@@ -129,8 +129,8 @@ at_length place magic words = step place (Length magic) words ∙ mapped _ (λ n
 
 pub at_area : (place magic len : ℕ) (words : List (List ℕ)) →
     words_from place (Area magic len) (drop place words) ≡
-    option_map_or (λ area. words_from (place + 1) (Whole (raw_of magic len (Write area))) (drop (place + 1) words)) (option_and_then (area_of len) (slice_get words place)) (Err place)
-at_area place magic len words = step place (Area magic len) words ∙ mapped _ (λ area. Whole (raw_of magic len (Write area))) (area_of len) _ (slice_get words place)
+    option_map_or (λ area. words_from (place + 1) (Whole (raw_of magic len (Write area))) (drop (place + 1) words)) (option_and_then (area_spelt len) (slice_get words place)) (Err place)
+at_area place magic len words = step place (Area magic len) words ∙ mapped _ (λ area. Whole (raw_of magic len (Write area))) (area_spelt len) _ (slice_get words place)
 
 -- ---- words that are compared
 

@@ -16,9 +16,9 @@ use Rattle.bb_words.specs.declared.option.Valued.{Valued}
 use Rattle.bb_words.specs.declared.option.Valued.TheVariants.{Input, Name, Get as GetOption, Set as SetOption, Settings, Key, Cause}
 use Rattle.bb_words.specs.declared.row.Row.{Row}
 use Rattle.bb_words.specs.declared.row.Row.TheVariants.{State as StateRow, MarkGood as MarkGoodRow, Boot as BootRow}
-use Rattle.bb_words.specs.Options.{cause_of, has_sign, set_in}
-use Rattle.bb_words.specs.Table.{name_of, has, has_dumps, command_of}
-use Rattle.bb_words.specs.Words.{number_up_to, area_of}
+use Rattle.bb_words.specs.Options.{cause_word_of, has_sign, set_in}
+use Rattle.bb_words.specs.Table.{command_name_of, has_option, has_dumps, command_of}
+use Rattle.bb_words.specs.Words.{number_up_to, area_spelt}
 
 -- ---- `raw`
 
@@ -26,7 +26,7 @@ use Rattle.bb_words.specs.Words.{number_up_to, area_of}
 abbrev pub IsAction : ℕ → RawAction → List (List ℕ) → Type 0
 IsAction len Look words = words ≡ codes "-g" ∷ []
 IsAction len (Write area) words =
-    (digits : List ℕ) × (words ≡ codes "-s" ∷ digits ∷ []) × (area_of len digits ≡ Some area)
+    (digits : List ℕ) × (words ≡ codes "-s" ∷ digits ∷ []) × (area_spelt len digits ≡ Some area)
 
 -- the magic, the area's length and what is done
 pub record IsRaw (words : List (List ℕ)) (raw : RawCommand) : Type 0 where
@@ -42,13 +42,13 @@ pub record IsRaw (words : List (List ℕ)) (raw : RawCommand) : Type 0 where
 
 -- how an option is spelt: in its own form, `-i FILE` or `--cause WORD`, or in a long form,
 -- `--input FILE`, also joined with its value, `--input=FILE`
-pub data Form : Type 0 where
-  Own Long Joined : Form
+pub data OptionForm : Type 0 where
+  Own Long Joined : OptionForm
 
--- what may come behind a command's name
+-- what may come after a command's name
 pub data Item : Type 0 where
   -- an option with its value
-  Takes : Form → Valued → List ℕ → Item
+  Takes : OptionForm → Valued → List ℕ → Item
   -- `-d`, `--dump` and `--dump-shell`
   ShortDump LongDump ShellDump : Item
 
@@ -79,23 +79,23 @@ long_form Key = []
 long_form Cause = []
 
 -- the words of an item
-abbrev pub spelling_of : Item → List (List ℕ)
-spelling_of (Takes Own valued value) = own_form valued ∷ value ∷ []
-spelling_of (Takes Long valued value) = long_form valued ∷ value ∷ []
-spelling_of (Takes Joined valued value) = (long_form valued ++ (codes "=" ++ value)) ∷ []
-spelling_of ShortDump = codes "-d" ∷ []
-spelling_of LongDump = codes "--dump" ∷ []
-spelling_of ShellDump = codes "--dump-shell" ∷ []
+abbrev pub item_words : Item → List (List ℕ)
+item_words (Takes Own valued value) = own_form valued ∷ value ∷ []
+item_words (Takes Long valued value) = long_form valued ∷ value ∷ []
+item_words (Takes Joined valued value) = (long_form valued ++ (codes "=" ++ value)) ∷ []
+item_words ShortDump = codes "-d" ∷ []
+item_words LongDump = codes "--dump" ∷ []
+item_words ShellDump = codes "--dump-shell" ∷ []
 
 -- whether a text is a value of the option: that of `-s` is VAR=VALUE, that of `--cause` one of
 -- three words
 abbrev pub is_value : Valued → List ℕ → Bool
 is_value SetOption value = has_sign value
-is_value Cause value = is_some (cause_of value)
+is_value Cause value = is_some (cause_word_of value)
 is_value _ value = true
 
 -- whether an option has that form
-abbrev pub has_form : Form → Valued → Bool
+abbrev pub has_form : OptionForm → Valued → Bool
 has_form Own valued = true
 has_form Long valued = has_long valued
 has_form Joined valued = has_long valued
@@ -103,7 +103,7 @@ has_form Joined valued = has_long valued
 -- whether a command has the item
 abbrev pub has_item : Row → Item → Bool
 has_item row (Takes form valued value) =
-    has row valued && (has_form form valued && is_value valued value)
+    has_option row valued && (has_form form valued && is_value valued value)
 has_item row _ = has_dumps row
 
 -- the file, the state's name, the files of the settings and of the key, the cause and the action
@@ -112,20 +112,20 @@ abbrev pub file_in : Item → Option (List ℕ)
 file_in (Takes form Input value) = Some value
 file_in _ = None
 
-abbrev pub name_in : Item → Option (List ℕ)
-name_in (Takes form Name value) = Some value
-name_in _ = None
+abbrev pub state_name_in : Item → Option (List ℕ)
+state_name_in (Takes form Name value) = Some value
+state_name_in _ = None
 
 abbrev pub settings_in : Item → Option (List ℕ)
 settings_in (Takes form Settings value) = Some value
 settings_in _ = None
 
-abbrev pub key_in : Item → Option (List ℕ)
-key_in (Takes form Key value) = Some value
-key_in _ = None
+abbrev pub key_file_in : Item → Option (List ℕ)
+key_file_in (Takes form Key value) = Some value
+key_file_in _ = None
 
 abbrev pub cause_in : Item → Option CauseWord
-cause_in (Takes form Cause value) = cause_of value
+cause_in (Takes form Cause value) = cause_word_of value
 cause_in _ = None
 
 abbrev pub action_in : Item → Option Action
@@ -146,12 +146,12 @@ action_in ShellDump = Some DumpShell
 pub record IsSpelt (row : Row) (words : List (List ℕ)) (command : Command) : Type 0 where
   pub items : List Item
   pub given : Given
-  pub spelt : words ≡ name_of row ∷ flat_map spelling_of items
+  pub spelt : words ≡ command_name_of row ∷ flat_map item_words items
   pub has_all : list_all (has_item row) items ≡ true
   pub file_is : filter_map file_in items ≡ option_to_list given.file
-  pub name_is : filter_map name_in items ≡ option_to_list given.name
+  pub name_is : filter_map state_name_in items ≡ option_to_list given.name
   pub settings_are : filter_map settings_in items ≡ option_to_list given.settings
-  pub key_is : filter_map key_in items ≡ option_to_list given.key
+  pub key_is : filter_map key_file_in items ≡ option_to_list given.key
   pub cause_is : filter_map cause_in items ≡ option_to_list given.cause
   pub actions_are : filter_map action_in items ≡ given.actions
   pub made : command_of row given ≡ Some command

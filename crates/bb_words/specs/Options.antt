@@ -34,7 +34,7 @@ valued_of word =
     else if bytes_eq word (codes "--cause") then Some Cause
     else long_of word
 
--- a text has a `=`, and what stands before the first and what behind it
+-- a text has a `=`, and what stands before the first and what after it
 abbrev pub has_sign : List ℕ → Bool
 has_sign text = list_any (λ c. c == 61) text
 
@@ -44,9 +44,9 @@ cut_at_sign text =
     then Some (before_first (λ c. c == 61) text, after_first (λ c. c == 61) text)
     else None
 
--- a long form with its value, which stands behind the first `=`
-abbrev pub value_in : List ℕ → Option (Valued × List ℕ)
-value_in word =
+-- a long form with its value, which stands after the first `=`
+abbrev pub joined_value_in : List ℕ → Option (Valued × List ℕ)
+joined_value_in word =
     option_and_then
     (λ cut. option_map (λ valued. (valued, cut.1)) (long_of cut.0))
     (cut_at_sign word)
@@ -59,8 +59,8 @@ dump_of word =
     else None
 
 -- the cause of a start that a word says
-abbrev pub cause_of : List ℕ → Option CauseWord
-cause_of word =
+abbrev pub cause_word_of : List ℕ → Option CauseWord
+cause_word_of word =
     if bytes_eq word (codes "power-on") then Some PowerOn
     else if bytes_eq word (codes "reset") then Some Reset
     else if bytes_eq word (codes "other") then Some Other
@@ -79,7 +79,7 @@ none_given = record {
   actions = [];
 }
 
--- with an action more, behind the others
+-- with an action more, after the others
 abbrev pub with_action : Action → Given → Given
 with_action action given = record given { actions = given.actions ++ action ∷ [] }
 
@@ -88,15 +88,15 @@ abbrev pub set_in : List ℕ → Option Action
 set_in text = option_map (λ cut. Set cut.0 cut.1) (cut_at_sign text)
 
 -- with an option's value, where it is one
-abbrev pub with_value : Valued → List ℕ → Given → Option Given
-with_value Input value given = Some (record given { file = Some value })
-with_value Name value given = Some (record given { name = Some value })
-with_value Settings value given = Some (record given { settings = Some value })
-with_value Key value given = Some (record given { key = Some value })
-with_value Cause value given =
-    option_map (λ cause. record given { cause = Some cause }) (cause_of value)
-with_value GetOption value given = Some (with_action (Get value) given)
-with_value SetOption value given = option_map (λ action. with_action action given) (set_in value)
+abbrev pub with_option : Valued → List ℕ → Given → Option Given
+with_option Input value given = Some (record given { file = Some value })
+with_option Name value given = Some (record given { name = Some value })
+with_option Settings value given = Some (record given { settings = Some value })
+with_option Key value given = Some (record given { key = Some value })
+with_option Cause value given =
+    option_map (λ cause. record given { cause = Some cause }) (cause_word_of value)
+with_option GetOption value given = Some (with_action (Get value) given)
+with_option SetOption value given = option_map (λ action. with_action action given) (set_in value)
 
 -- whether an option that comes at most once was given; the others may come again
 abbrev pub given_once : Valued → Given → Bool

@@ -15,42 +15,42 @@ use Rattle.bb_words.specs.declared.row.Row.TheVariants.{State as StateRow, MarkG
 use Rattle.bb_words.specs.Options.{given_once}
 
 -- how a command is called
-abbrev pub name_of : Row → List ℕ
-name_of StateRow = codes "state"
-name_of MarkGoodRow = codes "mark-good"
-name_of BootRow = codes "boot"
+abbrev pub command_name_of : Row → List ℕ
+command_name_of StateRow = codes "state"
+command_name_of MarkGoodRow = codes "mark-good"
+command_name_of BootRow = codes "boot"
 
 -- the command that is called so
 abbrev pub row_of : List ℕ → Option Row
 row_of word =
-    if bytes_eq word (name_of StateRow) then Some StateRow
-    else if bytes_eq word (name_of MarkGoodRow) then Some MarkGoodRow
-    else if bytes_eq word (name_of BootRow) then Some BootRow
+    if bytes_eq word (command_name_of StateRow) then Some StateRow
+    else if bytes_eq word (command_name_of MarkGoodRow) then Some MarkGoodRow
+    else if bytes_eq word (command_name_of BootRow) then Some BootRow
     else None
 
 -- whether it has an option with a value
-abbrev pub has : Row → Valued → Bool
-has StateRow Input = true
-has StateRow Name = true
-has StateRow GetOption = true
-has StateRow SetOption = true
-has StateRow Settings = false
-has StateRow Key = true
-has StateRow Cause = false
-has MarkGoodRow Input = true
-has MarkGoodRow Name = true
-has MarkGoodRow GetOption = false
-has MarkGoodRow SetOption = false
-has MarkGoodRow Settings = true
-has MarkGoodRow Key = true
-has MarkGoodRow Cause = false
-has BootRow Input = true
-has BootRow Name = true
-has BootRow GetOption = false
-has BootRow SetOption = false
-has BootRow Settings = true
-has BootRow Key = true
-has BootRow Cause = true
+abbrev pub has_option : Row → Valued → Bool
+has_option StateRow Input = true
+has_option StateRow Name = true
+has_option StateRow GetOption = true
+has_option StateRow SetOption = true
+has_option StateRow Settings = false
+has_option StateRow Key = true
+has_option StateRow Cause = false
+has_option MarkGoodRow Input = true
+has_option MarkGoodRow Name = true
+has_option MarkGoodRow GetOption = false
+has_option MarkGoodRow SetOption = false
+has_option MarkGoodRow Settings = true
+has_option MarkGoodRow Key = true
+has_option MarkGoodRow Cause = false
+has_option BootRow Input = true
+has_option BootRow Name = true
+has_option BootRow GetOption = false
+has_option BootRow SetOption = false
+has_option BootRow Settings = true
+has_option BootRow Key = true
+has_option BootRow Cause = true
 
 -- whether it has `-d` and `--dump-shell`
 abbrev pub has_dumps : Row → Bool
@@ -102,4 +102,4 @@ command_of BootRow given =
 
 -- whether an option may come: the command has it, and it wasn't given before if it comes once
 abbrev pub may_come : Row → Valued → Given → Bool
-may_come row valued given = has row valued && not (given_once valued given)
+may_come row valued given = has_option row valued && not (given_once valued given)

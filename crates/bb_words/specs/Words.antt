@@ -1,4 +1,4 @@
--- The words of a command, behind the device and its geometry.
+-- The words of a command, after the device and its geometry.
 use Rattle.std.specs.Prelude.{ℕ, ◌+◌, List, [], ◌∷◌, codes, nat_le, Option, Some, None, Result, Err, option_and_then, if◌then◌else◌}
 use Rattle.std.specs.Option.{ok_or, option_map, option_map_or, option_or}
 use Rattle.std.specs.Result.{result_ok}
@@ -14,7 +14,7 @@ use Rattle.bb_words.specs.declared.command.RawAction.TheVariants.{Look, Write}
 use Rattle.bb_words.specs.declared.given.Given.{Given}
 use Rattle.bb_words.specs.declared.option.Valued.{Valued}
 use Rattle.bb_words.specs.declared.row.Row.{Row}
-use Rattle.bb_words.specs.Options.{none_given, dump_of, valued_of, value_in, with_action, with_value}
+use Rattle.bb_words.specs.Options.{none_given, dump_of, valued_of, joined_value_in, with_action, with_option}
 use Rattle.bb_words.specs.Table.{row_of, has_dumps, may_come, command_of}
 
 -- the number that a text spells, up to a greatest one
@@ -25,54 +25,54 @@ number_up_to most text =
     (result_ok (number_of text))
 
 -- the bytes of an area of this length that hexadecimal digits spell
-abbrev pub area_of : ℕ → List ℕ → Option (List ℕ)
-area_of len digits = result_ok (decode_sized digits len)
+abbrev pub area_spelt : ℕ → List ℕ → Option (List ℕ)
+area_spelt len digits = result_ok (decode_sized digits len)
 
 -- what the words so far are, and so which may come next
-pub data Stage : Type 0 where
+pub data WordStage : Type 0 where
   -- no word
-  Start : Stage
+  Start : WordStage
   -- `raw`, then the magic, then the area's length, then `-s`
-  Magic : Stage
-  Length : ℕ → Stage
-  Mode : ℕ → ℕ → Stage
-  Area : ℕ → ℕ → Stage
+  Magic : WordStage
+  Length : ℕ → WordStage
+  Mode : ℕ → ℕ → WordStage
+  Area : ℕ → ℕ → WordStage
   -- a command with options and some of them, with the option whose value comes next, if one does
-  Options : Row → Option Valued → Given → Stage
+  Options : Row → Option Valued → Given → WordStage
   -- a command to which no word can be added
-  Whole : Command → Stage
+  Whole : Command → WordStage
 
 -- a command `raw`
 abbrev pub raw_of : ℕ → ℕ → RawAction → Command
 raw_of magic len action = Raw (record { magic = magic; area_len = len; action = action })
 
 -- the stage after an option without a value
-abbrev pub after_dump : Row → Given → Action → Option Stage
+abbrev pub after_dump : Row → Given → Action → Option WordStage
 after_dump row given action =
     if has_dumps row then Some (Options row None (with_action action given)) else None
 
 -- between an option and its value, and after that
-abbrev pub before_value : Row → Given → Valued → Option Stage
+abbrev pub before_value : Row → Given → Valued → Option WordStage
 before_value row given valued =
     if may_come row valued given then Some (Options row (Some valued) given) else None
 
-abbrev pub after_value : Row → Given → Valued → List ℕ → Option Stage
-after_value row given valued value = option_map (Options row None) (with_value valued value given)
+abbrev pub after_value : Row → Given → Valued → List ℕ → Option WordStage
+after_value row given valued value = option_map (Options row None) (with_option valued value given)
 
 -- after an option that is joined with its value
-abbrev pub after_joined : Row → Given → Valued × List ℕ → Option Stage
+abbrev pub after_joined : Row → Given → Valued × List ℕ → Option WordStage
 after_joined row given (valued, value) =
     if may_come row valued given then after_value row given valued value else None
 
 -- after a word that is no option's value
-abbrev pub after_option : Row → Given → List ℕ → Option Stage
+abbrev pub after_option : Row → Given → List ℕ → Option WordStage
 after_option row given word =
     option_or (option_and_then (after_dump row given) (dump_of word))
     (option_or (option_and_then (before_value row given) (valued_of word))
-    (option_and_then (after_joined row given) (value_in word)))
+    (option_and_then (after_joined row given) (joined_value_in word)))
 
 -- the stage after a word, where the word may come
-abbrev pub next : Stage → List ℕ → Option Stage
+abbrev pub next : WordStage → List ℕ → Option WordStage
 next Start word =
     if bytes_eq word (codes "raw") then Some Magic
     else option_map (λ row. Options row None none_given) (row_of word)
@@ -83,20 +83,20 @@ next (Mode magic len) word =
     else if bytes_eq word (codes "-s") then Some (Area magic len)
     else None
 next (Area magic len) word =
-    option_map (λ area. Whole (raw_of magic len (Write area))) (area_of len word)
+    option_map (λ area. Whole (raw_of magic len (Write area))) (area_spelt len word)
 next (Options row None given) word = after_option row given word
 next (Options row (Some valued) given) word = after_value row given valued word
 next (Whole command) word = None
 
 -- the command that the words so far are
-abbrev pub command_at : Stage → Option Command
+abbrev pub command_at : WordStage → Option Command
 command_at (Options row None given) = command_of row given
 command_at (Whole command) = Some command
 command_at _ = None
 
 -- the command that the words are after those before this place, or the place of the first that may
--- not come there; where one is missing, the place behind the last
-unfoldable pub words_from : ℕ → Stage → List (List ℕ) → Result Command ℕ
+-- not come there; where one is missing, the place after the last
+unfoldable pub words_from : ℕ → WordStage → List (List ℕ) → Result Command ℕ
 words_from place stage [] = ok_or (command_at stage) place
 words_from place stage (word ∷ rest) =
     option_map_or (λ behind. words_from (place + 1) behind rest) (next stage word) (Err place)

@@ -1,8 +1,9 @@
 ghost use Rattle.std.specs.Prelude.{◌≡◌, None, Some, IfOk, IfErr, OnOk, option_and_then};
 ghost use Rattle.std.specs.Option.{ok_or, option_map};
 ghost use Rattle.bb_words.specs.Answer.{IsSized, Refuses};
-ghost use Rattle.bb_words.specs.Options.{given_once, none_given, set_in, value_in, valued_of};
-ghost use Rattle.bb_words.specs.Options.{with_value};
+ghost use Rattle.bb_words.specs.Options.{given_once, none_given, set_in, joined_value_in};
+ghost use Rattle.bb_words.specs.Options.{valued_of};
+ghost use Rattle.bb_words.specs.Options.{with_option};
 ghost use Rattle.bb_words.specs.Table.{may_come};
 ghost use Rattle.bb_words.specs.Words.{Options, after_joined, after_option, after_value};
 ghost use Rattle.bb_words.specs.Words.{before_value, command_at, next};
@@ -101,7 +102,7 @@ impl Given {
     // The option with its value in this word, if it may come.
     fn option_with_value<'a>(&self, row: Row, word: &'a str) -> Option<(Valued, &'a str)>
         ensures { option_and_then (λ given. after_value row self.now given.0 given.1.now) result
-            ≡ option_and_then (after_joined row self.now) (value_in word.now) }
+            ≡ option_and_then (after_joined row self.now) (joined_value_in word.now) }
     {
         value_in(word).filter(|given| self.may_come(row, given.0))
     }
@@ -134,9 +135,9 @@ impl Given {
         value: &str,
         place: usize,
     ) -> Result<(), WordsError>
-        ensures ok { OnOk result (with_value valued value.now self.old ≡ Some self.new) }
+        ensures ok { OnOk result (with_option valued value.now self.old ≡ Some self.new) }
         ensures refused { IfErr result (Refuses
-            (ok_or (with_value valued value.now self.old) place)) }
+            (ok_or (with_option valued value.now self.old) place)) }
     {
         match valued {
             Valued::Input => self.file = Some(Text::of(alloc, value)?),

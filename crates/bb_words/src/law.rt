@@ -14,7 +14,7 @@ pub fn law_accepted_words()
 
 /// Words that are refused are refused at the end of the longest front of them with which an
 /// accepted list of words begins: at the first word that no accepted list has in that place after
-/// the words before it, or, where all of them begin an accepted list, behind the last. The function
+/// the words before it, or, where all of them begin an accepted list, after the last. The function
 /// does nothing.
 pub fn law_first_bad_word()
     ensures inside { (words : List (List ℕ)) (place : ℕ)

@@ -1,7 +1,7 @@
 ghost use Rattle.std.specs.Prelude.{◌≡◌};
 ghost use Rattle.std.specs.Option.{option_map};
-ghost use Rattle.bb_words.specs.Options.{cause_of, cut_at_sign, dump_of, long_of, valued_of};
-ghost use Rattle.bb_words.specs.Options.{value_in};
+ghost use Rattle.bb_words.specs.Options.{cause_word_of, cut_at_sign, dump_of, long_of, valued_of};
+ghost use Rattle.bb_words.specs.Options.{joined_value_in};
 
 use crate::{Action, CauseWord};
 
@@ -51,15 +51,15 @@ pub(crate) fn valued_of(word: &str) -> Option<Valued>
     }
 }
 
-/// The option with its value behind `=`.
+/// The option with its value after `=`.
 pub(crate) fn value_in(word: &str) -> Option<(Valued, &str)>
-    ensures { option_map (λ given. (given.0, given.1.now)) result ≡ value_in word.now }
+    ensures { option_map (λ given. (given.0, given.1.now)) result ≡ joined_value_in word.now }
 {
     let (name, value) = cut_at_sign(word)?;
     Some((long_of(name)?, value))
 }
 
-/// What stands before the first `=` of a text, and what behind it.
+/// What stands before the first `=` of a text, and what after it.
 pub(crate) fn cut_at_sign(text: &str) -> Option<(&str, &str)>
     ensures { option_map (λ cut. (cut.0.now, cut.1.now)) result ≡ cut_at_sign text.now }
 {
@@ -81,7 +81,7 @@ fn long_of(name: &str) -> Option<Valued>
 
 /// The cause of a start that a word says.
 pub(crate) fn cause_of(word: &str) -> Option<CauseWord>
-    ensures { result ≡ cause_of word.now }
+    ensures { result ≡ cause_word_of word.now }
 {
     match word {
         "power-on" => Some(CauseWord::PowerOn),

@@ -10,7 +10,7 @@ use crate::{Command, WordsError};
 use bb_base::TextList;
 use std::alloc::Global;
 
-/// Reads the options behind a command's name.
+/// Reads the options after a command's name.
 pub(crate) fn read_options(alloc: Global, row: Row, words: &TextList) -> Result<Command, WordsError>
     requires { 0 < length words.now }
     ensures ok { IfOk result (λ command.

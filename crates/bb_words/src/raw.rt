@@ -4,7 +4,7 @@ ghost use Rattle.std.specs.Option.{ok_or};
 ghost use Rattle.bb_words.specs.Answer.{IsSizedFor, IsSizedRaw, Refuses};
 ghost use Rattle.bb_words.specs.declared.command.Command.{Command};
 ghost use Rattle.bb_words.specs.declared.command.Command.TheVariants.{Raw};
-ghost use Rattle.bb_words.specs.Words.{Magic, Mode, Whole, raw_of, number_up_to, area_of};
+ghost use Rattle.bb_words.specs.Words.{Magic, Mode, Whole, raw_of, number_up_to, area_spelt};
 ghost use Rattle.bb_words.specs.Words.{words_from};
 
 use crate::word::word_at;
@@ -13,7 +13,7 @@ use bb_base::{AREA_LIMIT, Bytes, TextList, read_number};
 use hex::FromHexError;
 use std::alloc::Global;
 
-/// Reads the words behind `raw`.
+/// Reads the words after `raw`.
 pub(crate) fn read_raw(alloc: Global, words: &TextList) -> Result<RawCommand, WordsError>
     ensures ok { IfOk result (λ raw. words_from 1 Magic (drop 1 words.now) ≡ Ok (Raw raw)) }
     ensures sized { IfOk result IsSizedRaw }
@@ -29,7 +29,7 @@ pub(crate) fn read_raw(alloc: Global, words: &TextList) -> Result<RawCommand, Wo
     })
 }
 
-// Reads the words behind the area's length.
+// Reads the words after the area's length.
 fn read_action(alloc: Global, words: &TextList, len: u32) -> Result<RawAction, WordsError>
     ensures ok { IfOk result (λ action. (magic : ℕ)
         → words_from 3 (Mode magic len) (drop 3 words.now) ≡ Ok (raw_of magic len action)) }
@@ -74,10 +74,10 @@ fn number_up_to(most: u32, text: &str) -> Option<u32>
 // The area that the digits at this place spell, of so many bytes.
 fn area_at(alloc: Global, words: &TextList, place: usize, len: u32) -> Result<Bytes, WordsError>
     ensures ok { IfOk result (λ area.
-        option_and_then (area_of len) (slice_get words.now place) ≡ Some area) }
+        option_and_then (area_spelt len) (slice_get words.now place) ≡ Some area) }
     ensures sized { IfOk result (λ area. length area ≡ len) }
     ensures refused { IfErr result (Refuses
-        (ok_or (option_and_then (area_of len) (slice_get words.now place)) place)) }
+        (ok_or (option_and_then (area_spelt len) (slice_get words.now place)) place)) }
 {
     let digits = word_at(words, place)?;
     if digits.len() != 2 * len as usize {

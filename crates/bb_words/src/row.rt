@@ -1,5 +1,5 @@
 ghost use Rattle.std.specs.Prelude.{◌≡◌};
-ghost use Rattle.bb_words.specs.Table.{has, has_dumps, row_of};
+ghost use Rattle.bb_words.specs.Table.{has_option, has_dumps, row_of};
 
 use crate::option::Valued;
 
@@ -27,7 +27,7 @@ impl Row {
 
     /// Whether it has this option.
     pub(crate) fn has(self, valued: Valued) -> bool
-        ensures { result ≡ has self valued }
+        ensures { result ≡ has_option self valued }
     {
         match (self, valued) {
             (_, Valued::Input | Valued::Name | Valued::Key) => true,

@@ -2,12 +2,12 @@
 -- place.
 use Rattle.std.specs.Prelude.{◌≡◌, List, ℕ, Result, Ok, Err, codes}
 use Rattle.bb_base.specs.Folder.{Folder}
-use Rattle.bb_base.specs.Outlet.{Outlet}
+use Rattle.bb_base.specs.SinkRecord.{SinkRecord}
 use Rattle.bb_tool.specs.Clauses.{EndsEarly, KeepsTheCopies, KnowsItsCauses, LeavesTheRest}
 use Rattle.bb_tool.specs.Clauses.{SendsTheSession, StartsTheBest, WorksUndisturbed}
 use Rattle.bb_tool.specs.Ran.{Ran}
 use Rattle.bb_tool.specs.Refusal.{fault_text}
-use Rattle.bb_tool.specs.Telling.{IsTold}
+use Rattle.bb_tool.specs.Sending.{IsSentOrCut}
 use Rattle.bb_tool.specs.declared.status.Status.{Status}
 use Rattle.bb_tool.specs.declared.status.Status.TheVariants as statuses
 use Rattle.bbx.specs.declared.early.Early.{Early}
@@ -40,10 +40,10 @@ pub record IsOneSession (ran : Ran) : Type 0 where
   pub causes : KnowsItsCauses ran
 
 -- no file is read, and this text is told
-pub record IsInPlace (text : List ℕ) (ended : Status) (before after : Folder) (out out' : Outlet) (status : Status)
+pub record IsInPlace (text : List ℕ) (ended : Status) (before after : Folder) (out out' : SinkRecord) (status : Status)
     : Type 0 where
   pub files : after ≡ before
-  pub told : IsTold text ended out out' status
+  pub told : IsSentOrCut text ended out out' status
 
 -- what happens where a device was opened, and what where none was: a device stays open
 abbrev pub ByOpening : {B : Type 0} → (B → B → Type 0) → (Early → Type 0) → Result B Early → Result B Early → Type 0

@@ -18,7 +18,7 @@ mod read_ahead;
 mod real_files;
 mod usage;
 
-use act::{act, exit_code, tell_early};
+use act::{act, exit_code, send_early};
 use bb_base::{NoMemory, TextList};
 use bb_flash::geometry_of;
 use bb_tool::Status;
@@ -37,7 +37,7 @@ fn main(rt: HostRuntime) -> ExitCode {
     let mut out = Out::new(rt.alloc(), io::writer(&rt));
     let status = match CommandLine::read(&rt) {
         Ok(line) => answer(&rt, &line, &mut out),
-        Err(NoMemory) => tell_early(Early::NoMemory, texts(), &mut out),
+        Err(NoMemory) => send_early(Early::NoMemory, texts(), &mut out),
     };
     exit_code(status)
 }

@@ -40,7 +40,7 @@ impl<W: Write> Out<W> {
 }
 
 impl<W: Write> Sink for Out<W> {
-    ghost outlet = { λ o. record { sent = None; faults = o.faults } };
+    ghost sink = { λ o. record { sent = None; faults = o.faults } };
 
     fn write(&mut self, piece: &[u8]) -> Result<(), Failed> {
         if let Err(error) = self.writer.write_all(piece) {

@@ -1,5 +1,5 @@
 ghost use Rattle.std.specs.Prelude.{◌≡◌, ◌++◌, IfOk, OnOk};
-ghost use Rattle.bbx.specs.PlanFile.{initrd_lines, line_of, plan_text};
+ghost use Rattle.bbx.specs.PlanFile.{initrd_lines, plan_line_of, plan_text};
 
 use crate::disk;
 use crate::open_error::{Cause, OpenError};
@@ -137,7 +137,7 @@ fn add_initrds(text: &mut Bytes, initrds: &TextList) -> Result<(), NoMemory>
 
 // Adds a line, or nothing where there is no value.
 fn add_line(text: &mut Bytes, key: &str, value: &str) -> Result<(), NoMemory>
-    ensures { OnOk result (text.new ≡ text.old ++ line_of key.now value.now) }
+    ensures { OnOk result (text.new ≡ text.old ++ plan_line_of key.now value.now) }
 {
     if value.is_empty() {
         return Ok(());

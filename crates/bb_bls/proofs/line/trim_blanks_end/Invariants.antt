@@ -3,7 +3,7 @@ use Rattle.std.specs.List.{suffix_len}
 use Rattle.bb_bls.specs.Entry.{is_blank}
 use Rattle.bb_bls.proofs.line.trim_blanks_end.Given as goal
 
--- what stands behind the end is blank, and the text can be cut there
+-- what stands after the end is blank, and the text can be cut there
 abbrev pub invariant-loop-end : goal.invariant-loop-end
 invariant-loop-end l = record {
   within : l.end ≤ length l.text;

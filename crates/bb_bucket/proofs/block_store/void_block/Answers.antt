@@ -1,6 +1,6 @@
 use Rattle.std.proofs.Common.{OnOk, subst, refl}
 use Rattle.bb_flash.specs.Image.{Image}
-use Rattle.bb_bucket.specs.Blocks.{blank_block}
+use Rattle.bb_bucket.specs.Blocks.{erased_block}
 use Rattle.bb_bucket.specs.BlockLaws.{block_of}
 use Rattle.bb_bucket.specs.Calls.{Leaves}
 use Rattle.bb_bucket.specs.FrontLaws.{blank_holds_none}
@@ -12,7 +12,7 @@ use Rattle.bb_bucket.proofs.block_store.void_block.Goals as goal
 pub returns-clause-done : goal.returns-clause-done
 returns-clause-done g c =
     let held = block_of c.args.block (g.F.Flash.device c.args.flash.now).geometry c.requires.held in
-    subst (λ page. OnOk c.erase_block.result (Leaves c.args.block.region (λ (part : Image). blank_block page c.args.block.region.size) (g.F.Flash.device c.args.flash.now) (g.F.Flash.device c.erase_block.new.flash))) held.page
+    subst (λ page. OnOk c.erase_block.result (Leaves c.args.block.region (λ (part : Image). erased_block page c.args.block.region.size) (g.F.Flash.device c.args.flash.now) (g.F.Flash.device c.erase_block.new.flash))) held.page
     c.erase_block.ensures.done
 
 pub returns-clause-calls : goal.returns-clause-calls

@@ -2,9 +2,9 @@ use Rattle.std.proofs.Common.{◌≡◌, ℕ, ◌+◌, ◌≤◌, length, take, 
 use Rattle.std.proofs.lemmas.List.{length-take, length-take-le}
 use Rattle.bb_flash.specs.declared.geometry.Geometry.{Geometry}
 use Rattle.bb_flash.specs.Image.{Image, IsBlank}
-use Rattle.bb_bucket.specs.Blocks.{blank_block, filled_len, filled_to}
+use Rattle.bb_bucket.specs.Blocks.{erased_block, filled_len, filled_to}
 use Rattle.bb_bucket.specs.BlockLaws.{block_lies_on, block_of}
-use Rattle.bb_bucket.specs.Front.{entry_of}
+use Rattle.bb_bucket.specs.Front.{with_header}
 use Rattle.bb_bucket.specs.Kind.{LiesOn, part_of}
 use Rattle.bb_bucket.specs.OneBlock.{block_entry, block_entry_len}
 use Rattle.bb_bucket.proofs.Erases.{blank_is_blank}
@@ -48,7 +48,7 @@ program_part-requires-clause-blank g c = λ blocks image told.
     let lies = block_lies_on c.args.block (g.F.Flash.device c.args.flash.now).geometry held in
     let long : length c.write_filled_entry.new.out ≤ c.args.block.region.size = omega (arith, c.write_filled_entry.auto.out, length-take c.whole_pages-len.result c.args.memory.now, c.requires.memory) in
     let after =
-    part_after c.args.block.region (λ part. blank_block page c.args.block.region.size) (g.F.Flash.device c.args.flash.now) (g.F.Flash.device c.erase_block.new.flash)
+    part_after c.args.block.region (λ part. erased_block page c.args.block.region.size) (g.F.Flash.device c.args.flash.now) (g.F.Flash.device c.erase_block.new.flash)
     image c.erase_block.ensures.within.later c.in_ok-erase_block.ensures.done told in
     let blank = blank_is_blank page c.args.block.region.size 0 (length c.write_filled_entry.new.out) (omega (arith, held.page, held.page_least)) lies.whole (omega arith) in
     subst (λ (geometry : Geometry). IsBlank geometry.page (part_of geometry.page c.args.block.region image) 0 (length c.write_filled_entry.new.out))
@@ -61,7 +61,7 @@ returns-clause-done g c =
     let fits = filled_fits c.args.block.page (8 + length c.args.rec.now) c.args.block.region.size (omega (arith, held.page_least)) held.pages c.requires.room in
     let room : c.whole_pages-len.result ≤ length c.args.memory.now = omega (arith, fits, c.whole_pages-len.ensures.value, c.requires.memory) in
     let len : length (take c.whole_pages-len.result c.args.memory.now) ≡ block_entry_len c.args.block.page (length c.args.rec.now) = length-take-le c.whole_pages-len.result c.args.memory.now room ∙ c.whole_pages-len.ensures.value in
-    let is : c.write_filled_entry.new.out ≡ block_entry c.args.block.page c.args.rec.now = c.write_filled_entry.ensures ∙ ap (λ n. filled_to n (entry_of c.args.rec.now)) len in
+    let is : c.write_filled_entry.new.out ≡ block_entry c.args.block.page c.args.rec.now = c.write_filled_entry.ensures ∙ ap (λ n. filled_to n (with_header c.args.rec.now)) len in
     on_ok_weaker _ _ c.program_part.result
     (one_block_leaves c.args.block c.args.rec.now c.write_filled_entry.new.out (g.F.Flash.device c.args.flash.now) (g.F.Flash.device c.erase_block.new.flash) (g.F.Flash.device c.program_part.new.flash)
     held is c.erase_block.ensures.within.later c.in_ok-erase_block.ensures.done) c.program_part.ensures.done
@@ -72,7 +72,7 @@ returns-clause-calls g c =
     let fits = filled_fits c.args.block.page (8 + length c.args.rec.now) c.args.block.region.size (omega (arith, held.page_least)) held.pages c.requires.room in
     let room : c.whole_pages-len.result ≤ length c.args.memory.now = omega (arith, fits, c.whole_pages-len.ensures.value, c.requires.memory) in
     let len : length (take c.whole_pages-len.result c.args.memory.now) ≡ block_entry_len c.args.block.page (length c.args.rec.now) = length-take-le c.whole_pages-len.result c.args.memory.now room ∙ c.whole_pages-len.ensures.value in
-    let is : c.write_filled_entry.new.out ≡ block_entry c.args.block.page c.args.rec.now = c.write_filled_entry.ensures ∙ ap (λ n. filled_to n (entry_of c.args.rec.now)) len in
+    let is : c.write_filled_entry.new.out ≡ block_entry c.args.block.page c.args.rec.now = c.write_filled_entry.ensures ∙ ap (λ n. filled_to n (with_header c.args.rec.now)) len in
     let long : length c.write_filled_entry.new.out ≡ block_entry_len c.args.block.page (length c.args.rec.now) = c.write_filled_entry.auto.out ∙ len in
     let erased = c.erase_block.ensures in
     let made = c.program_part.ensures in

@@ -1,7 +1,7 @@
 use Rattle.std.proofs.Common.{◌≡◌, ℕ, ◌≤◌, ◌+◌, ◌∙◌, sym, subst, length, arith, false}
 use Rattle.std.proofs.lemmas.List.{length-take-le}
 use Rattle.bb_flash.specs.declared.geometry.Geometry.{Geometry}
-use Rattle.bb_bucket.specs.Front.{IsPart, has_front, is_lost, len_of}
+use Rattle.bb_bucket.specs.Front.{IsPart, has_front, is_lost, header_len_of}
 use Rattle.bb_bucket.specs.Kind.{part_of}
 use Rattle.bb_bucket.proofs.Candidates.{found_lost, found_no_front, found_record, front_fits, front_found, front_not_found}
 use Rattle.bb_bucket.proofs.Quiet.{keeps_of_quiet}
@@ -24,7 +24,7 @@ returns-clause-done g c = λ image told.
     let page : ℕ = (g.F.Flash.device c.args.flash.now).geometry.page in
     let whole : length c.read_part.new.out ≡ 8 = omega (arith, c.read_part.auto.out) in
     let kept : is_lost c.in_ok-front_health.front_health ≡ false = sym c.is_lost.ensures ∙ c.if-is_lost.false in
-    let given = front_found (has_front c.args.region.size c.read_part.new.out) c.in-Some.len (len_of c.read_part.new.out) c.in-Some.ensures in
+    let given = front_found (has_front c.args.region.size c.read_part.new.out) c.in-Some.len (header_len_of c.read_part.new.out) c.in-Some.ensures in
     let fits : 8 + c.in-Some.len ≤ c.args.region.size = omega (arith, front_fits c.args.region.size c.read_part.new.out given.0, given.1) in
     let long : length c.read_part-2.new.out ≡ c.in-Some.len = c.read_part-2.auto.out ∙ length-take-le c.in-Some.len c.args.out.now (omega arith) in
     let keeps = keeps_of_quiet _ _ c.in_ok-front_health.ensures.quiet in

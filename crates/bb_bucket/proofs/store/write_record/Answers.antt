@@ -3,7 +3,7 @@ use Rattle.std.proofs.Math.Nat.{mod-one, zero-mod}
 use Rattle.bb_flash.specs.Calls.{ChangesOnly}
 use Rattle.bb_flash.specs.Device.{Device}
 use Rattle.bb_bucket.specs.Calls.{Leaves}
-use Rattle.bb_bucket.specs.Front.{entry_of, put_at}
+use Rattle.bb_bucket.specs.Front.{with_header, put_at}
 use Rattle.bb_bucket.specs.StrideLaws.{held_by, stride_lies_on}
 use Rattle.bb_bucket.proofs.StrideCalls.{write_calls}
 use Rattle.bb_bucket.proofs.store.write_record.Goals as goal
@@ -40,4 +40,4 @@ returns-clause-calls g c =
     let start : c.args.stride.at + 0 ≡ c.args.stride.at = omega arith in
     let changes = subst (λ (bytes : List ℕ). ChangesOnly (c.args.stride.at + 0) bytes from to) c.write_entry.ensures made.changes in
     write_calls c.args.stride c.args.rec.now from to held c.requires.room made.within.later made.within.whole
-    (subst (λ at. ChangesOnly at (entry_of c.args.rec.now) from to) start changes)
+    (subst (λ at. ChangesOnly at (with_header c.args.rec.now) from to) start changes)

@@ -5,7 +5,7 @@ use Rattle.bb_chooser.proofs.Following.{after, after_after, after_none, onto_lin
 use Rattle.bb_chooser.proofs.GivenSteps.{given_push}
 use Rattle.bb_chooser.proofs.Reading.{handed_on}
 use Rattle.bb_chooser.proofs.Texts.{now}
-use Rattle.bb_chooser.specs.Lines.{line_of}
+use Rattle.bb_chooser.specs.Lines.{setting_in_line}
 use Rattle.bb_chooser.specs.Reading.{line_in, settings_in_parts, with_setting}
 use Rattle.bb_chooser.specs.Settings.{at_line}
 use Rattle.bb_chooser.specs.declared.settings_error.SettingsError.TheVariants.{NoMemory}
@@ -26,7 +26,7 @@ loop-i-preserved c =
     let took = c.in_ok-take_line.ensures.ok in
     let inside : i < length parts = omega (arith, length-map c.args.parts.now now, c.loop-i-test.true) in
     let e : suc i ≡ i + 1 = omega arith in
-    let is : at_line (i + 1) (line_of (line_in parts i)) ≡ Ok took.0 = ap (λ (l : List ℕ). at_line (i + 1) (line_of l)) (sym c.line_at.ensures) ∙ took.1 in
+    let is : at_line (i + 1) (setting_in_line (line_in parts i)) ≡ Ok took.0 = ap (λ (l : List ℕ). at_line (i + 1) (setting_in_line l)) (sym c.line_at.ensures) ∙ took.1 in
     record {
       so_far = kept.so_far ++ option_to_list took.0;
       taken = took.2 ∙ ap (with_setting took.0) kept.taken ∙ given_push kept.so_far took.0;
@@ -44,7 +44,7 @@ returns-in_err-take_line-clause-refused c =
     handed_on NoMemory (λ e. settings_in_parts 1 parts ≡ Err e) c.from_residual.result c.in_err-take_line.field-0.0 c.from_residual.ensures.1
     (λ told. kept.rest ∙ ap (after kept.so_far) (said_next parts (i + 1) i inside
     ∙ ap (λ r. onto_line r (settings_in_parts (i + 1 + 1) (drop (suc i) parts)))
-    (ap (λ (l : List ℕ). at_line (i + 1) (line_of l)) (sym c.line_at.ensures) ∙ c.in_err-take_line.ensures.refused told)))
+    (ap (λ (l : List ℕ). at_line (i + 1) (setting_in_line l)) (sym c.line_at.ensures) ∙ c.in_err-take_line.ensures.refused told)))
 
 pub returns-clause-ok : goal.returns-clause-ok
 returns-clause-ok c =

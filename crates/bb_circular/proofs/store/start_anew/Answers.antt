@@ -2,7 +2,7 @@ use Rattle.std.proofs.Common.{ℕ, ◌+◌, ◌%◌, ◌<◌, ◌≤◌, List, l
 use Rattle.std.proofs.lemmas.Grind.{common_steps}
 use Rattle.bb_flash.specs.declared.geometry.Geometry.{Geometry}
 use Rattle.bb_flash.specs.Image.{Image, IsBlank}
-use Rattle.bb_bucket.specs.Blocks.{blank_block}
+use Rattle.bb_bucket.specs.Blocks.{erased_block}
 use Rattle.bb_bucket.specs.BlockLaws.{block_lies_on, block_of}
 use Rattle.bb_bucket.specs.Kind.{LiesOn, part_of}
 use Rattle.bb_bucket.proofs.Erases.{blank_is_blank}
@@ -48,7 +48,7 @@ program_part-requires-clause-blank g c = λ blocks image told.
     let fits = entry_fits c.args.block.page c.args.block.region.size (length c.args.rec.now) held.page_least held.pages c.requires.room in
     let inside : 0 + length entry ≤ c.args.block.region.size = omega (arith, long, fits) in
     let after =
-    part_after c.args.block.region (λ part. blank_block page c.args.block.region.size) (g.F.Flash.device c.args.flash.now) (g.F.Flash.device c.erase_block.new.flash)
+    part_after c.args.block.region (λ part. erased_block page c.args.block.region.size) (g.F.Flash.device c.args.flash.now) (g.F.Flash.device c.erase_block.new.flash)
     image c.erase_block.ensures.within.later c.in_ok-erase_block.ensures.done told in
     let blank = blank_is_blank page c.args.block.region.size 0 (length entry) (omega (arith, held.page, held.page_least)) lies.whole inside in
     subst (λ (geometry : Geometry). IsBlank geometry.page (part_of geometry.page c.args.block.region image) 0 (length entry))

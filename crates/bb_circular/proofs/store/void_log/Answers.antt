@@ -1,6 +1,6 @@
 use Rattle.std.proofs.Common.{sym, ap, ◌∙◌, subst, refl, arith}
 use Rattle.bb_flash.specs.Image.{Image}
-use Rattle.bb_bucket.specs.Blocks.{blank_block}
+use Rattle.bb_bucket.specs.Blocks.{erased_block}
 use Rattle.bb_bucket.specs.BlockLaws.{block_of}
 use Rattle.bb_bucket.specs.Calls.{Leaves}
 use Rattle.bb_bucket.proofs.BlockCalls.{void_calls}
@@ -20,7 +20,7 @@ returns-in_err-erase_block-clause-calls g c =
 pub returns-clause-done : goal.returns-clause-done
 returns-clause-done g c =
     let held = block_of c.args.block (g.F.Flash.device c.args.flash.now).geometry c.requires.held in
-    subst (λ page. Leaves c.args.block.region (λ (part : Image). blank_block page c.args.block.region.size) (g.F.Flash.device c.args.flash.now) (g.F.Flash.device c.erase_block.new.flash)) held.page
+    subst (λ page. Leaves c.args.block.region (λ (part : Image). erased_block page c.args.block.region.size) (g.F.Flash.device c.args.flash.now) (g.F.Flash.device c.erase_block.new.flash)) held.page
     c.in_ok-erase_block.ensures.done
 
 pub returns-clause-kept : goal.returns-clause-kept

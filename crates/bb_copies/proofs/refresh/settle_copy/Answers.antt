@@ -7,7 +7,7 @@ use Rattle.bb_copies.specs.Buckets.{kinds_of}
 use Rattle.bb_copies.specs.Erasing.{IsBounded}
 use Rattle.bb_copies.specs.Placing.{PlacesCopy}
 use Rattle.bb_copies.specs.Refreshing.{IsSettledAt, IsStuckAt}
-use Rattle.bb_copies.specs.Settling.{IsWritten}
+use Rattle.bb_copies.specs.Settling.{IsRepairWritten}
 use Rattle.bb_copies.proofs.Many.{all_kinds, kind_at, set_agrees, set_kinds, settled_others, settled_refreshes}
 use Rattle.bb_copies.proofs.Placed.{answer_ok, set_places}
 use Rattle.bb_copies.proofs.Settled.{at_copy, settled_at, settled_calm, stuck_at}
@@ -73,7 +73,7 @@ pub returns-clause-exact : goal.returns-clause-exact
 returns-clause-exact g c = λ quiet.
     let there = slice_get_read c.args.buckets.now.items (length c.args.buckets.now.items) c.args.copy _ refl c.requires.inside c.index_mut.ensures.value in
     let here = kind_at g.B.Bucket.holding c.args.buckets.now.items c.args.copy _ there in
-    at_copy (λ kind. IsWritten kind c.args.room.now.record.items (g.F.Flash.device c.args.flash.now) (g.F.Flash.device c.settle-settled.new.flash)) (kinds_of g.B.Bucket.holding c.args.buckets.now.items) c.args.copy _ here (c.settle-settled.ensures.exact quiet)
+    at_copy (λ kind. IsRepairWritten kind c.args.room.now.record.items (g.F.Flash.device c.args.flash.now) (g.F.Flash.device c.settle-settled.new.flash)) (kinds_of g.B.Bucket.holding c.args.buckets.now.items) c.args.copy _ here (c.settle-settled.ensures.exact quiet)
 
 pub returns-clause-kinds : goal.returns-clause-kinds
 returns-clause-kinds g c =

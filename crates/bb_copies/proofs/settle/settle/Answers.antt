@@ -6,7 +6,7 @@ use Rattle.bb_flash.specs.Device.{Device}
 use Rattle.bb_bucket.specs.Kind.{BucketKind}
 use Rattle.bb_flash.proofs.Moments.{later_joined}
 use Rattle.bb_copies.specs.Erasing.{IsBounded}
-use Rattle.bb_copies.specs.Settling.{IsWritten, twice_more}
+use Rattle.bb_copies.specs.Settling.{IsRepairWritten, twice_more}
 use Rattle.bb_copies.proofs.Bounded.{bounded_then, bounded_voided, bounded_written}
 use Rattle.bb_copies.proofs.Ends.{counts_read, ends_read_as, failed_once, no_look, not_failed, ok_gives, one_more_most, read_most, twice_most, twice_rose, voided_dead, written_good_as, written_once}
 use Rattle.bb_copies.proofs.OneCopy.{settles_joined_as, voided_copy, written_copy_as}
@@ -118,7 +118,7 @@ returns-then-is_ok-clause-exact g c = λ quiet.
     let w = c.write.ensures in
     let ok = sym c.is_ok.ensures.value ∙ c.if-is_ok.true in
     let kind : BucketKind = (g.B.Bucket.holding c.args.bucket.now).kind in
-    subst (λ (r : List ℕ). IsWritten kind r from mid) c.deref.ensures.value
+    subst (λ (r : List ℕ). IsRepairWritten kind r from mid) c.deref.ensures.value
     (written_once kind _ c.write.result from mid ok w.done w.erases w.made (not_failed c.write.result from.faults mid.faults ok w.faults) (no_look _ c.write.result from mid c.requires.placed w.read_faults))
 
 pub returns-then-is_ok-2-clause-exact : goal.returns-then-is_ok-2-clause-exact
@@ -147,7 +147,7 @@ returns-then-is_ok-clause-counts g c =
     let w = c.write.ensures in
     let ok = sym c.is_ok.ensures.value ∙ c.if-is_ok.true in
     let kind : BucketKind = (g.B.Bucket.holding c.args.bucket.now).kind in
-    inl (subst (λ (r : List ℕ). IsWritten kind r from mid) c.deref.ensures.value
+    inl (subst (λ (r : List ℕ). IsRepairWritten kind r from mid) c.deref.ensures.value
     (written_once kind _ c.write.result from mid ok w.done w.erases w.made (not_failed c.write.result from.faults mid.faults ok w.faults) (no_look _ c.write.result from mid c.requires.placed w.read_faults)))
 
 pub returns-then-is_ok-2-clause-counts : goal.returns-then-is_ok-2-clause-counts

@@ -3,7 +3,7 @@ use Rattle.bb_chooser.specs.Choosing.{IsBest}
 use Rattle.bb_copies.specs.Loading.{KeepsOutside}
 use Rattle.bb_flash.specs.Cuts.{IsLater}
 use Rattle.bb_flash.specs.Device.{starts}
-use Rattle.bb_state.specs.State.{kept_of, keyed_of, kinds_of, used_of}
+use Rattle.bb_state.specs.State.{last_table_of, keyed_of, kinds_of, used_of}
 use Rattle.bb_shell.proofs.Underway.{IsUnderway}
 use Rattle.bb_shell.specs.Boot.{all_attempts}
 use Rattle.bb_shell.specs.Ends.{IsReady, StaysStored}
@@ -21,10 +21,10 @@ invariant-loop-tries g l =
       spare : l.tries + all_attempts l.chooser l.state.table ≤ l.attempts;
       same_keyed : keyed_of l.state ≡ keyed_of l.fn.state;
       underway :
-          IsUnderway l.chooser l.plans keyed l.fn.state.table (kept_of l.fn.state) (used_of l.fn.state) from
-          l.tries l.state.table (kept_of l.state) (used_of l.state) now;
+          IsUnderway l.chooser l.plans keyed l.fn.state.table (last_table_of l.fn.state) (used_of l.fn.state) from
+          l.tries l.state.table (last_table_of l.state) (used_of l.state) now;
       starts : starts now ≡ starts from;
-      stored : StaysStored keyed (kept_of l.fn.state) (kept_of l.state) from now;
+      stored : StaysStored keyed (last_table_of l.fn.state) (last_table_of l.state) from now;
       outside : KeepsOutside (kinds_of l.fn.state) from now;
       later : IsLater from now;
     }

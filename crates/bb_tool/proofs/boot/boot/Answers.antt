@@ -1,7 +1,7 @@
 use Rattle.std.proofs.Common.{◌∙◌, Result, Ok, Err, ap, refl, sym, subst, inl, inr}
 use Rattle.std.proofs.lemmas.Result.{err_from_is_err_and}
 use Rattle.bb_chooser.specs.declared.cause.Cause.{Cause}
-use Rattle.bb_tool.specs.Ending.{IsGiven}
+use Rattle.bb_tool.specs.SessionAnswer.{IsSessionAnswer}
 use Rattle.bb_tool.specs.Filing.{keyed_as}
 use Rattle.bb_tool.specs.Plan.{Boot}
 use Rattle.bb_tool.specs.Work.{IsWorkedOut}
@@ -24,7 +24,7 @@ returns-in_err-keyed-clause-gives g c = λ words is.
     let read =
     described_as command.file command.name command.key device.geometry c.as_ref-name.ensures.value c.as_ref-key.ensures.value
     c.geometry.ensures.value before after keyed_as (Err refusal) c.in_err-keyed.ensures.read in
-    subst (λ (r : Result Report Refusal). IsGiven words before after device device r) (sym given)
+    subst (λ (r : Result Report Refusal). IsSessionAnswer words before after device device r) (sym given)
     (elim (memory_or_not refusal) [
       | inl memory ↦ given_no_memory words before after device (Err refusal) (ap (λ (e : Refusal). Err e) memory)
       | inr other ↦
@@ -45,7 +45,7 @@ returns-in_err-chooser-clause-gives g c = λ words is.
     described_as command.file command.name command.key device.geometry c.as_ref-name.ensures.value c.as_ref-key.ensures.value
     c.geometry.ensures.value before mid keyed_as (Ok c.in_ok-keyed.keyed) c.in_ok-keyed.ensures.read in
     let settings = c.in_err-chooser.ensures.read in
-    subst (λ (r : Result Report Refusal). IsGiven words before after device device r) (sym given)
+    subst (λ (r : Result Report Refusal). IsSessionAnswer words before after device device r) (sym given)
     (elim (memory_or_not refusal) [
       | inl memory ↦ given_no_memory words before after device (Err refusal) (ap (λ (e : Refusal). Err e) memory)
       | inr other ↦
@@ -70,7 +70,7 @@ returns-in_err-plans-clause-gives g c = λ words is.
     c.geometry.ensures.value before mid keyed_as (Ok c.in_ok-keyed.keyed) c.in_ok-keyed.ensures.read in
     let settings = c.in_ok-chooser.ensures.read in
     let entries = c.in_err-plans.ensures.read in
-    subst (λ (r : Result Report Refusal). IsGiven words before after device device r) (sym given)
+    subst (λ (r : Result Report Refusal). IsSessionAnswer words before after device device r) (sym given)
     (elim (memory_or_not refusal) [
       | inl memory ↦ given_no_memory words before after device (Err refusal) (ap (λ (e : Refusal). Err e) memory)
       | inr other ↦

@@ -3,7 +3,7 @@ use Rattle.bb_copies.proofs.Cutting.{cut_law}
 use Rattle.bb_copies.proofs.History.{blank_stands}
 use Rattle.bb_state.proofs.Blank.{erased_passes_nothing}
 use Rattle.bb_tool.specs.Looking.{passed_in}
-use Rattle.bb_tool.specs.Turns.{first_area}
+use Rattle.bb_tool.specs.SessionTurns.{first_area}
 use Rattle.bb_tool.proofs.law.law_chronicle.Goals as goal
 
 pub returns-clause-kept : goal.returns-clause-kept

@@ -14,7 +14,7 @@ use Rattle.bb_tool.specs.Marking.{good_text}
 use Rattle.bb_tool.specs.Plan.{Good}
 use Rattle.bb_tool.specs.Refusal.{copy_refusal}
 use Rattle.bb_tool.specs.Session.{refusal_by_table, loaded_area}
-use Rattle.bb_tool.specs.Work.{IsFound, area_taken}
+use Rattle.bb_tool.specs.Work.{IsLoadedArea, area_taken}
 use Rattle.bb_tool.specs.declared.refusal.Refusal.TheVariants as refusals
 use Rattle.bb_tool.proofs.Kept.{load_area}
 use Rattle.bb_tool.proofs.Barred.{kept_is_found, lost_is, lost_unchanged}
@@ -236,7 +236,7 @@ returns-clause-gives g c =
     c.in_ok-save.ensures.runs c.in_ok-save.ensures.idle c.in_ok-save.ensures.saved c.in_ok-save.ensures.exact in
     let marks : refusal_by_table (Good targets) first.table ≡ None =
     kept_is_found targets first.table (c.mark_good.ensures.good.0 (cc)) in
-    let found : IsFound keyed first.table loaded from mid =
+    let found : IsLoadedArea keyed first.table loaded from mid =
     record { gives = c.in_ok-load.ensures.gives; defaults = c.in_ok-load.ensures.defaults; exact = c.in_ok-load.ensures.exact } in
     let whole : loaded_area keyed.layout (area_taken first.table loaded) ≡ first.table = load_area keyed first.table loaded from mid found in
     stored_out keyed (Good targets) from mid to first.table loaded refl c.args.state.now.facts.copied.least

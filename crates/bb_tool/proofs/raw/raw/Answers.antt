@@ -3,7 +3,7 @@ use Rattle.std.proofs.lemmas.Result.{err_from_is_err_and}
 use Rattle.bb_flash.specs.declared.geometry.Geometry.{Geometry}
 use Rattle.bb_layout.specs.Layout.{fields_of}
 use Rattle.bb_layout.specs.Thirds.{raw_layout}
-use Rattle.bb_tool.specs.Ending.{IsGiven}
+use Rattle.bb_tool.specs.SessionAnswer.{IsSessionAnswer}
 use Rattle.bb_tool.specs.Plan.{Show, Write, raw_work}
 use Rattle.bb_tool.specs.Work.{IsWorkedOut}
 use Rattle.bb_tool.specs.declared.refusal.Refusal.{Refusal}
@@ -17,7 +17,7 @@ returns-in_err-layout-clause-gives g c = λ words folder is.
     let command = c.args.command in
     let p = err_from_is_err_and c.from_residual.result c.from_residual.ensures.1 in
     let given = p.1 ∙ ap (λ e. Err e) p.2 in
-    subst (λ (r : Result Report Refusal). IsGiven words folder folder device device r) (sym given)
+    subst (λ (r : Result Report Refusal). IsSessionAnswer words folder folder device device r) (sym given)
     (given_layout words folder device command c.in_err-layout.field-0.0 is
     (λ some. ap (λ (geometry : Geometry). raw_layout command.magic command.area_len geometry) (sym c.geometry.ensures.value) ∙ c.in_err-layout.ensures.refused some))
 

@@ -8,7 +8,7 @@ use Rattle.bb_state.specs.State.{keyed_of}
 use Rattle.bb_state.proofs.Fitting.{raw_fits}
 use Rattle.bb_tool.specs.Plan.{Write}
 use Rattle.bb_tool.specs.Refusal.{copy_refusal}
-use Rattle.bb_tool.specs.Work.{IsSaved}
+use Rattle.bb_tool.specs.Work.{IsSaveAnswered}
 use Rattle.bb_tool.proofs.Worked.{load_refused, put_whole, saved_err, saved_ok, stored_out, told_whole}
 use Rattle.bb_tool.proofs.raw.save_on.Goals as goal
 
@@ -51,7 +51,7 @@ returns-in_err-save_always-clause-gives g c =
     let same = c.in_ok-load.ensures.keyed in
     let p = err_from_is_err_and c.from_residual-in_err-save_always.result c.from_residual-in_err-save_always.ensures.1 in
     let new : c.put.new.self ≡ c.args.area.now = c.put.ensures.replaced ∙ put_whole table c.args.area.now (c.requires.sized ∙ sym (table_sized c.load.new.self ∙ ap (λ (l : Keyed). l.layout.area_len) same)) in
-    let done : IsSaved c.load.new.self.backing.keyed c.load.new.self.backing.used c.put.new.self mid to (Err fault) = record {
+    let done : IsSaveAnswered c.load.new.self.backing.keyed c.load.new.self.backing.used c.put.new.self mid to (Err fault) = record {
       now = c.save_always.new.self.backing.used;
       runs = c.in_err-save_always.ensures.runs;
       stored = tt;
@@ -72,9 +72,9 @@ returns-in_err-save_always-clause-gives g c =
     })
     (λ text. Err (copy_refusal fault))
     (saved_err keyed (used_after loaded) c.args.area.now mid to fault
-    (subst (λ (l : Keyed). IsSaved l (used_after loaded) c.args.area.now mid to (Err fault)) same
-    (subst (λ (u : Option ℕ). IsSaved c.load.new.self.backing.keyed u c.args.area.now mid to (Err fault)) c.in_ok-load.ensures.used
-    (subst (λ (a : List ℕ). IsSaved c.load.new.self.backing.keyed c.load.new.self.backing.used a mid to (Err fault)) new done))))
+    (subst (λ (l : Keyed). IsSaveAnswered l (used_after loaded) c.args.area.now mid to (Err fault)) same
+    (subst (λ (u : Option ℕ). IsSaveAnswered c.load.new.self.backing.keyed u c.args.area.now mid to (Err fault)) c.in_ok-load.ensures.used
+    (subst (λ (a : List ℕ). IsSaveAnswered c.load.new.self.backing.keyed c.load.new.self.backing.used a mid to (Err fault)) new done))))
     refl c.from_residual-in_err-save_always.result
     (p.1 ∙ ap (λ e. Err e) p.2)
 
@@ -88,7 +88,7 @@ returns-clause-gives g c =
     let loaded = c.in_ok-load.field-0 in
     let same = c.in_ok-load.ensures.keyed in
     let new : c.put.new.self ≡ c.args.area.now = c.put.ensures.replaced ∙ put_whole table c.args.area.now (c.requires.sized ∙ sym (table_sized c.load.new.self ∙ ap (λ (l : Keyed). l.layout.area_len) same)) in
-    let done : IsSaved c.load.new.self.backing.keyed c.load.new.self.backing.used c.put.new.self mid to (Ok false) = record {
+    let done : IsSaveAnswered c.load.new.self.backing.keyed c.load.new.self.backing.used c.put.new.self mid to (Ok false) = record {
       now = c.save_always.new.self.backing.used;
       runs = c.in_ok-save_always.ensures.runs;
       stored = c.in_ok-save_always.ensures.saved;
@@ -109,9 +109,9 @@ returns-clause-gives g c =
     })
     (λ text. Ok (told_whole text))
     (saved_ok keyed (used_after loaded) c.args.area.now mid to
-    (subst (λ (l : Keyed). IsSaved l (used_after loaded) c.args.area.now mid to (Ok false)) same
-    (subst (λ (u : Option ℕ). IsSaved c.load.new.self.backing.keyed u c.args.area.now mid to (Ok false)) c.in_ok-load.ensures.used
-    (subst (λ (a : List ℕ). IsSaved c.load.new.self.backing.keyed c.load.new.self.backing.used a mid to (Ok false)) new done))))
+    (subst (λ (l : Keyed). IsSaveAnswered l (used_after loaded) c.args.area.now mid to (Ok false)) same
+    (subst (λ (u : Option ℕ). IsSaveAnswered c.load.new.self.backing.keyed u c.args.area.now mid to (Ok false)) c.in_ok-load.ensures.used
+    (subst (λ (a : List ℕ). IsSaveAnswered c.load.new.self.backing.keyed c.load.new.self.backing.used a mid to (Ok false)) new done))))
     refl (Ok c.done.result)
     (ap (λ r. Ok r) c.done.ensures ∙ ap (λ (t : List ℕ). Ok (told_whole t)) c.none.ensures)
 

@@ -11,7 +11,7 @@ use Rattle.bb_state.specs.State.{keyed_of}
 use Rattle.bb_tool.specs.Plan.{Act}
 use Rattle.bb_tool.specs.Refusal.{copy_refusal}
 use Rattle.bb_tool.specs.Session.{loaded_area}
-use Rattle.bb_tool.specs.Work.{IsFound, area_taken}
+use Rattle.bb_tool.specs.Work.{IsLoadedArea, area_taken}
 use Rattle.bb_tool.proofs.Kept.{load_area}
 use Rattle.bb_tool.proofs.Worked.{acted_err, acted_ok, begun_later, begun_starts, load_refused, stored_out, stored_textless, told_whole}
 use Rattle.bb_tool.proofs.state.act_on.Goals as goal
@@ -170,7 +170,7 @@ returns-clause-gives g c =
     c.in_ok-load.ensures.keyed c.in_ok-load.ensures.used c.in_ok-load.ensures.sure c.in_ok-load.ensures.kept
     c.in_ok-save.ensures.runs c.in_ok-save.ensures.idle c.in_ok-save.ensures.saved c.in_ok-save.ensures.exact in
     let same = c.in_ok-load.ensures.keyed in
-    let found : IsFound keyed first.table loaded from mid =
+    let found : IsLoadedArea keyed first.table loaded from mid =
     record { gives = c.in_ok-load.ensures.gives; defaults = c.in_ok-load.ensures.defaults; exact = c.in_ok-load.ensures.exact } in
     let whole : loaded_area keyed.layout (area_taken first.table loaded) ≡ first.table = load_area keyed first.table loaded from mid found in
     stored_out keyed (Act c.args.actions.now) from mid to first.table loaded refl c.args.state.now.facts.copied.least

@@ -4,7 +4,7 @@ use Rattle.std.proofs.lemmas.List.{take_all}
 use Rattle.std.proofs.lemmas.Option.{slice_get-get_or}
 use Rattle.bb_tree.specs.Resolve.{Reference}
 use Rattle.bb_tree.specs.Slots.{props_at}
-use Rattle.bb_tree.specs.SlotValues.{Surveys, is_lost, cell_slot, references_of_props}
+use Rattle.bb_tree.specs.SlotValues.{Surveys, is_dangling, cell_slot, references_of_props}
 use Rattle.bb_tree.specs.Texts.{texts_in}
 use Rattle.bb_tree.proofs.Nodes.{err_gives}
 use Rattle.bb_tree.proofs.Surveying.{Surveyed-more, Surveys-lost, flat_map-map}
@@ -43,4 +43,4 @@ returns c =
     let R : ℕ → List Reference = λ k. references_of_props (props_at slots k) in
     let all : flat_map R (take c.loop-k.k-index order) ≡ flat_map references_of_props (map (props_at slots) order) =
     ap (flat_map R) (take_all c.loop-k.k-index order (omega arith)) ∙ sym (flat_map-map (props_at slots) references_of_props order) in
-    (sym (ap (find (is_lost labels slots)) all) ∙ c.loop-k.invariant.none, c.loop-k.invariant.added ∙ ap (λ rs. c.args.targets.now.items ++ filter_map (cell_slot labels slots) rs) all)
+    (sym (ap (find (is_dangling labels slots)) all) ∙ c.loop-k.invariant.none, c.loop-k.invariant.added ∙ ap (λ rs. c.args.targets.now.items ++ filter_map (cell_slot labels slots) rs) all)

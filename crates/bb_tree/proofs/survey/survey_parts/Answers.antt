@@ -3,7 +3,7 @@ use Rattle.std.specs.List.{flat_map, filter_map, find}
 use Rattle.std.proofs.lemmas.List.{take_all}
 use Rattle.std.proofs.lemmas.Option.{slice_get_read}
 use Rattle.bb_tree.specs.Resolve.{Reference, reference_in}
-use Rattle.bb_tree.specs.SlotValues.{Surveys, is_lost, cell_slot, references_of_part}
+use Rattle.bb_tree.specs.SlotValues.{Surveys, is_dangling, cell_slot, references_of_part}
 use Rattle.bb_tree.specs.Texts.{texts_in}
 use Rattle.bb_tree.proofs.Nodes.{err_gives}
 use Rattle.bb_tree.proofs.Surveying.{Surveyed-more, Surveys-lost, references_of_parts}
@@ -37,4 +37,4 @@ returns c =
     let parts = c.as_slice-part-items.result.now in
     let all : flat_map references_of_part (take c.loop-part.part-index parts) ≡ filter_map reference_in c.args.parts.now =
     ap (flat_map references_of_part) (take_all c.loop-part.part-index parts (omega arith)) ∙ sym (references_of_parts parts) ∙ ap (filter_map reference_in) c.as_slice-part-items.ensures in
-    (sym (ap (find (is_lost labels slots)) all) ∙ c.loop-part.invariant.none, c.loop-part.invariant.added ∙ ap (λ rs. c.args.targets.now.items ++ filter_map (cell_slot labels slots) rs) all)
+    (sym (ap (find (is_dangling labels slots)) all) ∙ c.loop-part.invariant.none, c.loop-part.invariant.added ∙ ap (λ rs. c.args.targets.now.items ++ filter_map (cell_slot labels slots) rs) all)

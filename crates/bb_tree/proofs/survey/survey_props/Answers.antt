@@ -3,7 +3,7 @@ use Rattle.std.specs.List.{flat_map, filter_map, find}
 use Rattle.std.proofs.lemmas.List.{take_all}
 use Rattle.bb_tree.specs.declared.part.Part.{Part}
 use Rattle.bb_tree.specs.Slots.{props_at}
-use Rattle.bb_tree.specs.SlotValues.{is_lost, cell_slot, references_of_prop, references_of_props}
+use Rattle.bb_tree.specs.SlotValues.{is_dangling, cell_slot, references_of_prop, references_of_props}
 use Rattle.bb_tree.specs.Texts.{texts_in}
 use Rattle.bb_tree.proofs.Nodes.{err_gives}
 use Rattle.bb_tree.proofs.Surveying.{Surveyed-more, Surveys-lost}
@@ -34,4 +34,4 @@ returns c =
     let slots = c.args.slots.now in
     let props = props_at slots c.args.k in
     let all : flat_map references_of_prop (take c.loop-i.i props) ≡ references_of_props props = ap (flat_map references_of_prop) (take_all c.loop-i.i props (omega (arith, c.count_props-i-end.ensures))) in
-    (sym (ap (find (is_lost labels slots)) all) ∙ c.loop-i.invariant.none, c.loop-i.invariant.added ∙ ap (λ rs. c.args.targets.now.items ++ filter_map (cell_slot labels slots) rs) all)
+    (sym (ap (find (is_dangling labels slots)) all) ∙ c.loop-i.invariant.none, c.loop-i.invariant.added ∙ ap (λ rs. c.args.targets.now.items ++ filter_map (cell_slot labels slots) rs) all)

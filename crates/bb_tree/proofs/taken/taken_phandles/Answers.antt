@@ -5,7 +5,7 @@ use Rattle.std.proofs.lemmas.Option.{slice_get-get_or}
 use Rattle.bb_tree.specs.declared.tree_error.TreeError.{TreeError}
 use Rattle.bb_tree.specs.Resolve.{is_distinct, phandle_among}
 use Rattle.bb_tree.specs.Slots.{props_at}
-use Rattle.bb_tree.specs.Taking.{Takes, TakesAll}
+use Rattle.bb_tree.specs.Taking.{TakesPhandle, TakesAll}
 use Rattle.bb_tree.proofs.Nodes.{err_gives}
 use Rattle.bb_tree.proofs.Takings.{Takes-next, Takes-twice, filter_map-map}
 use Rattle.bb_tree.proofs.taken.taken_phandles.Goals as goal
@@ -22,7 +22,7 @@ returns-in_err-take_phandle c =
     let e = c.in_err-take_phandle.field-0.0 in
     let new = c.take_phandle.new.taken.keys in
     let err = err_gives c.from_residual-in_err-take_phandle.result e c.from_residual-in_err-take_phandle.ensures.1 in
-    let took = subst (λ (o : Option ℕ). Takes o c.loop-k.taken.keys new (Err e)) c.in_ok-phandle.ensures c.in_err-take_phandle.ensures in
+    let took = subst (λ (o : Option ℕ). TakesPhandle o c.loop-k.taken.keys new (Err e)) c.in_ok-phandle.ensures c.in_err-take_phandle.ensures in
     subst (λ (r : Result (Unit {0}) TreeError). TakesAll (filter_map phandle_among (map (props_at c.args.slots.now) order)) new r) (sym err)
     (λ m.
     let v = Takes-twice f order c.loop-k.k-index k c.loop-k.taken.keys new e at c.loop-k.invariant.keys took m in
@@ -35,7 +35,7 @@ loop-k-preserved c =
     let k = get_or order c.loop-k.k-index 0 in
     let at : slice_get order c.loop-k.k-index ≡ Some k = slice_get-get_or order c.loop-k.k-index 0 (omega arith) in
     let new = c.take_phandle.new.taken.keys in
-    let took = subst (λ (o : Option ℕ). Takes o c.loop-k.taken.keys new (Ok tt)) c.in_ok-phandle.ensures c.in_ok-take_phandle.ensures in
+    let took = subst (λ (o : Option ℕ). TakesPhandle o c.loop-k.taken.keys new (Ok tt)) c.in_ok-phandle.ensures c.in_ok-take_phandle.ensures in
     let v = Takes-next f order c.loop-k.k-index k c.loop-k.taken.keys new tt at c.loop-k.invariant.distinct c.loop-k.invariant.keys took in
     record { distinct = v.0; keys = v.1 }
 

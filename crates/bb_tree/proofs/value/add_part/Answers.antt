@@ -4,7 +4,7 @@ use Rattle.std.specs.Option.{option_and_then}
 use Rattle.std.proofs.lemmas.Result.{IfOk-weaker}
 use Rattle.std.proofs.lemmas.Grind.{common_steps}
 use Rattle.bb_tree.specs.Resolve.{resolved_part, phandle_among}
-use Rattle.bb_tree.specs.Slots.{tree_of, props_at}
+use Rattle.bb_tree.specs.Slots.{slots_tree, props_at}
 use Rattle.bb_tree.specs.SlotValues.{slot_labelled}
 use Rattle.bb_tree.specs.Texts.{texts_in}
 use Rattle.bb_tree.proofs.Cells.{cell_same}
@@ -23,9 +23,9 @@ returns-in-Cell c =
     IfOk-weaker c.with_more-in-Cell.result
     (λ (all : List ℕ). all ≡ c.args.bytes ++ c.in_ok-cell-in-Cell.cell)
     (λ (more : List ℕ). more
-    ≡ c.args.bytes ++ resolved_part labels (tree_of slots) c.args.part.now)
+    ≡ c.args.bytes ++ resolved_part labels (slots_tree slots) c.args.part.now)
     (λ x h. h ∙ ap (λ l. c.args.bytes ++ l) (cell
-    ∙ ap (resolved_part labels (tree_of slots)) (sym c.in-Cell.is))) c.with_more-in-Cell.ensures
+    ∙ ap (resolved_part labels (slots_tree slots)) (sym c.in-Cell.is))) c.with_more-in-Cell.ensures
 
 pub returns-in-Path : goal.returns-in-Path
 returns-in-Path c = grind (arith, common_steps)

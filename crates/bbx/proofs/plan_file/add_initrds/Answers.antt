@@ -4,7 +4,7 @@ use Rattle.std.proofs.lemmas.List.{flat_map_more}
 use Rattle.std.proofs.lemmas.Option.{get_or_from_slice_get, slice_get_within}
 use Rattle.std.specs.List.{flat_map}
 use Rattle.std.specs.Option.{option_copied}
-use Rattle.bbx.specs.PlanFile.{initrd_lines, line_of}
+use Rattle.bbx.specs.PlanFile.{initrd_lines, plan_line_of}
 use Rattle.bbx.proofs.plan_file.add_initrds.Goals as goal
 
 -- one item more
@@ -14,7 +14,7 @@ take_next xs i x h =
 
 pub loop-place-preserved : goal.loop-place-preserved
 loop-place-preserved c =
-    let line = line_of (codes "initrd") in
+    let line = plan_line_of (codes "initrd") in
     let next = take_next c.args.initrds.now c.loop-place.place c.in-Some.initrd.now (sym c.get.ensures ∙ ap option_copied c.in-Some.is) in
     c.in_ok-add_line.ensures
     ∙ ap (λ value. c.loop-place.text ++ line value) c.as_str.ensures

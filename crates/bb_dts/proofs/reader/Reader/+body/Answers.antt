@@ -6,9 +6,9 @@ use Rattle.bb_tree.specs.DraftViews.{drafts_of}
 use Rattle.bb_tree.specs.Node.{Branch, forest}
 use Rattle.bb_tree.proofs.Counting.{count}
 use Rattle.bb_dts.proofs.CountLemmas.{count-push}
-use Rattle.bb_dts.specs.Descent.{labels_walk_from, OnwardLabels, OnwardValue, body_of, count_of, value_walk_from}
+use Rattle.bb_dts.specs.Descent.{labels_walk_from, OnwardLabels, OnwardValue, body_of, nodes_read, value_walk_from}
 use Rattle.bb_dts.specs.Places.{Value}
-use Rattle.bb_dts.specs.Tokens.{Found}
+use Rattle.bb_dts.specs.Tokens.{FoundToken}
 use Rattle.bb_dts.specs.Walk.{Around, Body, state_at, body_at, label_all, node_of}
 use Rattle.bb_dts.specs.Places.{Props}
 use Rattle.bb_dts.proofs.BodyLemmas.{labels_refusal, value_refusal, none_waiting, item_step, item_unexpected, body_with_prop, walk_after_prop_at, named_step, slash_at_seam, node_read, node_refused, body_with_node, close_unexpected}
@@ -60,7 +60,7 @@ read_item-returns-clause-refused t c =
     let labels = c.args.self.now.draft.labels in
     let body = body_of (string_bytes c.args.self.now.path) c.args.level c.args.content.now in
     let reads = ap (λ (w : OnwardLabels). w labels body) c.in_ok-waiting.ensures.ok in
-    let found : Found = record {
+    let found : FoundToken = record {
       kind = c.in_ok-waiting.token.kind;
       word = c.in_ok-waiting.token.word.now;
       at = c.in_ok-waiting.token.at;
@@ -171,7 +171,7 @@ read_node-returns-in_default-clause-refused t c =
     c.enter.new.self.draft.labels c.read_body.new.self.draft.labels read c.in_ok-child.rest.now
     c.in_ok-enter.ensures.ok (omega arith) c.in_ok-child.ensures.ok in
     let joined : Body = record (a.body) { nodes = a.body.nodes ++ node_of a.name read ∷ [] } in
-    let found : Found = record {
+    let found : FoundToken = record {
       kind = c.in_ok-end.end.kind;
       word = c.in_ok-end.end.word.now;
       at = c.in_ok-end.end.at;
@@ -217,6 +217,6 @@ read_node-returns-in-Semicolon-clause-counted t c =
     c.in_ok-add_node.ensures.nodes ∙ count-push (drafts_of c.args.content.now.nodes) child in
     let below : length c.in_ok-end.end.rest.now < length c.in_ok-child.rest.now =
     c.in_ok-end.ensures.shorter (λ k. cc) in
-    let same : count_of c.add_node.new.self
-    ≡ count_of c.args.content.now + (1 + count_of c.in_ok-child.child) = joined in
+    let same : nodes_read c.add_node.new.self
+    ≡ nodes_read c.args.content.now + (1 + nodes_read c.in_ok-child.child) = joined in
     omega (arith, same, below, c.in_ok-child.ensures.counted)

@@ -1,7 +1,7 @@
 use Rattle.std.proofs.Common.{◌≡◌, ◌≤◌, ◌+◌, ◌*◌, [], length}
 use Rattle.std.specs.String.{string_bytes}
 use Rattle.bb_dts.specs.declared.label.Level.TheVariants.{AtProps}
-use Rattle.bb_dts.specs.Descent.{labels_walk_from, items_at, body_of, count_of}
+use Rattle.bb_dts.specs.Descent.{labels_walk_from, items_at, body_of, nodes_read}
 use Rattle.bb_dts.specs.Readers.{LabelsOnly}
 use Rattle.bb_dts.specs.Walk.{body_at}
 use Rattle.bb_dts.proofs.reader.Reader.+body.Given as goal
@@ -25,7 +25,7 @@ invariant-read_body-loop-content l =
     (body_at (string_bytes l.fn.self.path) l.level)
     ≡ labels_walk_from l.fn.self.input.total (items_at l.has_nodes) [] l.rest
     l.self.draft.labels (body_of (string_bytes l.fn.self.path) l.level l.content))
-    × LabelsOnly l.fn.self l.self × (count_of l.content + length l.rest ≤ length l.text)
+    × LabelsOnly l.fn.self l.self × (nodes_read l.content + length l.rest ≤ length l.text)
 
 abbrev pub decreases-read_body-loop-content : goal.decreases-read_body-loop-content
 decreases-read_body-loop-content l = length l.rest

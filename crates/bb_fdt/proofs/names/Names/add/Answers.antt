@@ -2,13 +2,13 @@ use Rattle.std.proofs.Common.{◌≡◌, false, length, ◌+◌, arith}
 use Rattle.std.proofs.lemmas.Grind.{common_steps}
 use Rattle.bb_tree.specs.Blob.{has_name}
 use Rattle.bb_tree.specs.Texts.{texts_in}
-use Rattle.bb_fdt.specs.Names.{names_in}
+use Rattle.bb_fdt.specs.Names.{found_names}
 use Rattle.bb_fdt.proofs.NamesLemmas.{none_lookup, more_placed}
 use Rattle.bb_fdt.proofs.names.Names.add.Goals as goal
 
 pub add_last-requires : goal.add_last-requires
 add_last-requires c =
-    let none : has_name (names_in c.self.inside) c.args.name.now ≡ false = grind (arith, common_steps) in
+    let none : has_name (found_names c.self.inside) c.args.name.now ≡ false = grind (arith, common_steps) in
     none_lookup c.args.name.now (texts_in c.self.inside.places.entries) none
 
 pub invariant_of-self-2 : goal.invariant_of-self-2

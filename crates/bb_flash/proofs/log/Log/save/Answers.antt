@@ -2,7 +2,7 @@ use Rattle.std.proofs.Common.{◌≡◌, ◌+◌, ◌∙◌, ◌∷◌, [], ◌+
 use Rattle.std.proofs.lemmas.Grind.{common_steps}
 use Rattle.std.proofs.lemmas.List.{length-reverse}
 use Rattle.std.specs.Vec.{vec_len}
-use Rattle.bb_flash.specs.Saved.{Saved, saved_of}
+use Rattle.bb_flash.specs.Saved.{SavedCall, saved_of}
 use Rattle.std.specs.Result.{IsOk}
 use Rattle.bb_flash.proofs.Logged.{saved_of-more, length-saved_of}
 use Rattle.bb_flash.proofs.log.Log.save.Goals as goal
@@ -62,7 +62,7 @@ invariant_of-self c =
 
 pub returns : goal.returns
 returns c =
-    let saved : Saved = record { at = c.args.at; before = c.args.before.now; health = c.args.health.now; bytes = c.args.bytes.now } in
+    let saved : SavedCall = record { at = c.args.at; before = c.args.before.now; health = c.args.health.now; bytes = c.args.bytes.now } in
     let more = saved_of-more c.self.inside.spans.items c.self.inside.before.items c.self.inside.health.items c.self.inside.bytes.items saved c.requires.range in
     let sum = length-append c.self.inside.bytes.items c.args.bytes.now in
     let s = spans_items c in

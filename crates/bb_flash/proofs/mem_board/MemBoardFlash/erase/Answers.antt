@@ -1,5 +1,5 @@
 use Rattle.std.proofs.Common.{◌*◌, rules, sym, subst}
-use Rattle.bb_flash.specs.Calls.{ChangesOnly, blank_block}
+use Rattle.bb_flash.specs.Calls.{ChangesOnly, erased_bytes}
 use Rattle.bb_flash.specs.Cuts.{IsLater}
 use Rattle.bb_flash.specs.Device.{IsDevice}
 use Rattle.bb_flash.specs.Memory.{Memory, device_of}
@@ -11,7 +11,7 @@ pub returns-clause-call : goal.returns-clause-call
 returns-clause-call c =
     let geometry = c.args.self.now.geometry in
     let changes =
-    subst (λ (m : Memory). ChangesOnly (c.args.block * geometry.block) (blank_block geometry)
+    subst (λ (m : Memory). ChangesOnly (c.args.block * geometry.block) (erased_bytes geometry)
     (device_of c.args.self.now) (device_of m)) (sym c.erase_call.ensures.after)
     (erase_changes c.args.self.now c.args.block c.erase_call.ensures.whole c.requires) in
     let later =
@@ -20,7 +20,7 @@ returns-clause-call c =
     (erase_later c.args.self.now c.args.block) in
     record {
       changes = changes;
-      images = torn_of_call (c.args.block * geometry.block) (blank_block geometry)
+      images = torn_of_call (c.args.block * geometry.block) (erased_bytes geometry)
           (device_of c.args.self.now) (device_of c.erase_call.new.self) later changes;
       reads = search rules;
       later = later;

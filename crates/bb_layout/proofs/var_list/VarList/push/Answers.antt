@@ -4,7 +4,7 @@ use Rattle.std.specs.Str.{bytes_eq}
 use Rattle.std.specs.String.{string_bytes}
 use Rattle.std.proofs.lemmas.Grind.{common_steps}
 use Rattle.bb_tree.specs.Texts.{texts_in}
-use Rattle.bb_layout.specs.VarNames.{place_of, with_place}
+use Rattle.bb_layout.specs.VarNames.{place_of_var, with_place}
 use Rattle.bb_layout.proofs.Places.{from_ok, places_push}
 use Rattle.bb_layout.proofs.var_list.VarList.push.Goals as goal
 
@@ -19,7 +19,7 @@ invariant_of-self-else-is_err c = λ name.
     let count : c.len-place.result ≡ length vars = search rules in
     ap (lookup (bytes_eq name)) (noted_is ∙ ap (λ (m : List ℕ). with_place places m c.len-place.result) key ∙ ap (with_place places c.args.var.name) count)
     ∙ places_push vars places c.args.var c.self.invariant name
-    ∙ ap (λ vs. place_of vs name) (sym c.in_ok-push.ensures.items)
+    ∙ ap (λ vs. place_of_var vs name) (sym c.in_ok-push.ensures.items)
 
 pub invariant_of-self-then-is_err : goal.invariant_of-self-then-is_err
 invariant_of-self-then-is_err c = grind (arith, common_steps)

@@ -8,7 +8,7 @@ use Rattle.bb_layout.specs.Defaults.{defaults_of}
 use Rattle.bb_layout.specs.Layout.{fields_of}
 use Rattle.bb_state.specs.Backed.{Backed}
 use Rattle.bb_state.specs.Keyed.{Keyed}
-use Rattle.bb_state.specs.Kinds.{any_form, any_holding, key_in, laid_form, laid_kinds}
+use Rattle.bb_state.specs.Kinds.{any_form, any_holding, key_of_format, laid_form, laid_kinds}
 use Rattle.bb_state.specs.declared.any_bucket.AnyBucket.{AnyBucket}
 use Rattle.bb_state.proofs.Fitting.{defaults_fit}
 use Rattle.bb_state.proofs.Handed.{erasing_of, exact_of, gives_of, images_of, outside_of, raised, refused_of, whole_written}
@@ -87,7 +87,7 @@ pub returns-then-eq-clause-fits : goal.returns-then-eq-clause-fits
 returns-then-eq-clause-fits g c =
     let layout = c.self.inside.layout in
     let len = c.self.inside.kept.len in
-    let keyed : Keyed = record { layout = fields_of layout; key = key_in c.self.inside.copies.format } in
+    let keyed : Keyed = record { layout = fields_of layout; key = key_of_format c.self.inside.copies.format } in
     let loaded = take len (c.load.new.area ++ drop (length c.load.new.area) c.self.inside.kept.items) in
     let kept = take len (c.defaults.new.out ++ drop (length c.defaults.new.out) loaded) in
     let same : kept ≡ defaults_of layout.area_len layout.vars = whole_written len c.defaults.new.out loaded (grind arith) (grind arith) ∙ c.defaults.ensures in

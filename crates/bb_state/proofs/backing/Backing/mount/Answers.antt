@@ -2,7 +2,7 @@ use Rattle.std.proofs.Common.{◌≡◌, ℕ, List, Option, arith, ap, subst, sy
 use Rattle.bb_copies.specs.Buckets.{AllAgree, HaveRoom, kinds_of}
 use Rattle.bb_layout.specs.Layout.{fields_of}
 use Rattle.bb_state.specs.Keyed.{Keyed}
-use Rattle.bb_state.specs.Kinds.{any_form, any_holding, format_of, key_in, laid_buckets, laid_form}
+use Rattle.bb_state.specs.Kinds.{any_form, any_holding, format_of, key_of_format, laid_buckets, laid_form}
 use Rattle.bb_state.specs.declared.any_bucket.AnyBucket.{AnyBucket}
 use Rattle.bb_state.proofs.Mounting.{all_agree, all_serve, buckets_len, have_room, key_is}
 use Rattle.bb_state.proofs.backing.Backing.mount.Goals as goal
@@ -31,7 +31,7 @@ invariant_of-result c =
     let keyed : Keyed = record { layout = fields_of c.args.layout; key = c.args.key } in
     let buckets : c.in_ok-copies.copies.buckets ≡ laid_buckets (fields_of c.args.layout) = c.in_ok-copies.ensures.buckets ∙ c.in_ok-buckets.ensures in
     let format : c.in_ok-copies.copies.format ≡ format_of keyed = c.in_ok-copies.ensures.format ∙ c.in_ok-format.ensures in
-    let key : key_in c.in_ok-copies.copies.format ≡ c.args.key = ap key_in format ∙ key_is keyed c.requires in
+    let key : key_of_format c.in_ok-copies.copies.format ≡ c.args.key = ap key_of_format format ∙ key_is keyed c.requires in
     record {
       kinds = ap (kinds_of any_holding) buckets;
       format_is = format ∙ ap (λ key. format_of (record { layout = fields_of c.args.layout; key = key })) (sym key);
@@ -42,7 +42,7 @@ invariant_of-result c =
 pub returns-clause-keyed : goal.returns-clause-keyed
 returns-clause-keyed c =
     let keyed : Keyed = record { layout = fields_of c.args.layout; key = c.args.key } in
-    let key : key_in c.in_ok-copies.copies.format ≡ c.args.key = ap key_in (c.in_ok-copies.ensures.format ∙ c.in_ok-format.ensures) ∙ key_is keyed c.requires in
+    let key : key_of_format c.in_ok-copies.copies.format ≡ c.args.key = ap key_of_format (c.in_ok-copies.ensures.format ∙ c.in_ok-format.ensures) ∙ key_is keyed c.requires in
     ap (λ (key : Option (List ℕ)). record { layout = fields_of c.args.layout; key = key }) key
 
 pub returns-clause-agrees : goal.returns-clause-agrees

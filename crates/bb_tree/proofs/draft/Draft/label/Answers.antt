@@ -3,7 +3,7 @@ use Rattle.std.specs.Prelude.{not, if◌then◌else◌}
 use Rattle.std.specs.Option.{option_copied, option_map_or, is_some}
 use Rattle.std.specs.Str.{bytes_eq}
 use Rattle.bb_tree.specs.Draft.{DraftValue, path_labelled, names_another}
-use Rattle.bb_tree.specs.Slots.{tree_of}
+use Rattle.bb_tree.specs.Slots.{slots_tree}
 use Rattle.std.specs.Prelude.{Result, Err}
 use Rattle.bb_tree.specs.declared.tree_error.TreeError.{TreeError}
 use Rattle.bb_tree.specs.declared.tree_error.TreeError.TheVariants.{NoMemory, DuplicateLabel}
@@ -80,7 +80,7 @@ returns-clause-ok c =
     let d = c.args.self.now in
     let i = c.self.inside in
     let with_labels : List (List ℕ × List ℕ) → DraftValue =
-    λ l. record { tree = tree_of i.slots.items; labels = l; reserved = i.reserved } in
+    λ l. record { tree = slots_tree i.slots.items; labels = l; reserved = i.reserved } in
     ap with_labels c.in_ok-add_label.ensures.ok
     ∙ ap (λ (x : DraftValue). record {
       tree = x.tree;

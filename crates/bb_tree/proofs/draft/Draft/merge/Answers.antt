@@ -5,11 +5,11 @@ use Rattle.bb_tree.specs.declared.slot.Slot.{Slot}
 use Rattle.bb_tree.specs.Node.{Branch}
 use Rattle.bb_tree.specs.Draft.{DraftValue}
 use Rattle.bb_tree.specs.DraftViews.{draft_of}
-use Rattle.bb_tree.specs.Paths.{names_of, found}
+use Rattle.bb_tree.specs.Paths.{path_names, found}
 use Rattle.bb_tree.specs.Merge.{merged}
-use Rattle.bb_tree.specs.Slots.{spine, tree_of}
+use Rattle.bb_tree.specs.Slots.{spine, slots_tree}
 use Rattle.bb_tree.specs.Texts.{texts_in}
-use Rattle.bb_tree.specs.Spine.{walk}
+use Rattle.bb_tree.specs.Spine.{slot_led_to}
 use Rattle.bb_tree.proofs.Finding.{is_some-found, path_within, merged_walk}
 use Rattle.bb_tree.proofs.draft.Draft.merge.Goals as goal
 
@@ -17,8 +17,8 @@ pub unreachable-requires : goal.unreachable-requires
 unreachable-requires c =
     let path = c.args.path.now in
     let rooted = c.with_root.new.slots.items in
-    let none : option_and_then (walk 1 (spine rooted) 0) (names_of path) ≡ None =
-    ap (λ (l : List Slot). option_and_then (walk 1 (spine l) 0) (names_of path))
+    let none : option_and_then (slot_led_to 1 (spine rooted) 0) (path_names path) ≡ None =
+    ap (λ (l : List Slot). option_and_then (slot_led_to 1 (spine l) 0) (path_names path))
     (sym c.deref.ensures.value) ∙ sym c.slot_at.ensures ∙ c.in_default.is in
     let lost : is_some (found path c.args.self.tree) ≡ false =
     ap (λ (d : DraftValue). is_some (found path d.tree)) (sym c.self.view_is)
@@ -30,7 +30,7 @@ pub merge_into-requires-clause-within : goal.merge_into-requires-clause-within
 merge_into-requires-clause-within c =
     let rooted = c.with_root.new.slots.items in
     let led =
-    ap (λ (l : List Slot). option_and_then (walk 1 (spine l) 0) (names_of c.args.path.now))
+    ap (λ (l : List Slot). option_and_then (slot_led_to 1 (spine l) 0) (path_names c.args.path.now))
     (sym c.deref.ensures.value) ∙ sym c.slot_at.ensures ∙ c.in-Some.is in
     omega (
       arith,
@@ -45,9 +45,9 @@ returns-clause-ok c =
     let body = draft_of c.args.node in
     let rooted = c.with_root.new.slots.items in
     let led =
-    ap (λ (l : List Slot). option_and_then (walk 1 (spine l) 0) (names_of path))
+    ap (λ (l : List Slot). option_and_then (slot_led_to 1 (spine l) 0) (path_names path))
     (sym c.deref.ensures.value) ∙ sym c.slot_at.ensures ∙ c.in-Some.is in
-    let tree : tree_of c.merge_into.new.slots.items ≡ merged (tree_of i.slots.items) path body =
+    let tree : slots_tree c.merge_into.new.slots.items ≡ merged (slots_tree i.slots.items) path body =
     merged_walk rooted c.merge_into.new.slots.items path body c.in-Some.k led
     c.in_ok-merge_into.ensures
     ∙ ap (λ (t : Branch (List Part)). merged t path body) c.in_ok-with_root.ensures.same in

@@ -4,7 +4,7 @@ use Rattle.std.proofs.lemmas.Bool.{eqb-false}
 use Rattle.std.proofs.lemmas.Str.Pattern.{strip_prefix_char}
 use Rattle.std.proofs.lemmas.Option.{MatchOption-at_none, MatchOption-at_some}
 use Rattle.bb_tree.specs.NodeViews.{branch_of}
-use Rattle.bb_tree.specs.Paths.{names_of, node_at}
+use Rattle.bb_tree.specs.Paths.{path_names, node_at}
 use Rattle.bb_tree.proofs.Changing.{no_items}
 use Rattle.bb_tree.proofs.Naming.{names_none, names_behind_some}
 use Rattle.bb_tree.proofs.tree.Tree.find.Goals as goal
@@ -23,7 +23,7 @@ returns-then-is_empty c =
     let slash = MatchOption-at_some _ _ c.in_ok-names.names c.in_ok-names.was (strip_prefix_char 47 path c.strip_prefix.result c.strip_prefix.ensures.cases (lit< tt)) in
     let none : c.in_ok-names.names.now ≡ [] = no_items c.in_ok-names.names.now (search rules) in
     let walked = option_and_then (λ ns. node_at ns root) in
-    ap (λ (l : List ℕ). walked (names_of (47 ∷ l))) (sym none) ∙ ap (λ (l : List ℕ). walked (names_of l)) (sym slash)
+    ap (λ (l : List ℕ). walked (path_names (47 ∷ l))) (sym none) ∙ ap (λ (l : List ℕ). walked (path_names l)) (sym slash)
 
 pub returns : goal.returns
 returns c =
@@ -32,4 +32,4 @@ returns c =
     let slash = MatchOption-at_some _ _ c.in_ok-names.names c.in_ok-names.was (strip_prefix_char 47 path c.strip_prefix.result c.strip_prefix.ensures.cases (lit< tt)) in
     let some : c.in_ok-names.names.now ≢ [] = λ e. eqb-false _ _ (sym c.is_empty.ensures ∙ c.if-is_empty.false) (ap length e) in
     let walked = option_and_then (λ ns. node_at ns root) in
-    c.find_behind.ensures ∙ ap (λ ns. node_at ns root) (sym (names_behind_some c.in_ok-names.names.now some)) ∙ ap (λ (l : List ℕ). walked (names_of l)) (sym slash)
+    c.find_behind.ensures ∙ ap (λ ns. node_at ns root) (sym (names_behind_some c.in_ok-names.names.now some)) ∙ ap (λ (l : List ℕ). walked (path_names l)) (sym slash)

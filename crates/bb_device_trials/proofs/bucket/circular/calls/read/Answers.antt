@@ -1,5 +1,0 @@
-use Rattle.bb_device_trials.proofs.Serving.{circular_serves}
-use Rattle.bb_device_trials.proofs.bucket.circular.calls.read.Goals as goal
-
-pub read-requires-clause-serves : goal.read-requires-clause-serves
-read-requires-clause-serves c = circular_serves _ _ c.requires.here c.requires.held

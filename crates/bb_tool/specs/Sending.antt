@@ -1,0 +1,85 @@
+-- How a text was told: what an output was sent of it, and with which status the session ends.
+use Rattle.std.specs.Prelude.{◌≡◌, ◌⊎◌, ℕ, ◌++◌, Bool, true, false, List, Option, Some, None, Result, Ok, Err, String, string_bytes}
+use Rattle.std.specs.declared.alloc.AllocError.{AllocError}
+use Rattle.std.specs.declared.alloc.Global.{Global}
+use Rattle.bb_base.specs.Faults.{Rose}
+use Rattle.bb_base.specs.SinkRecord.{SinkRecord, Sends, SendsFront}
+use Rattle.bb_tool.specs.Refusal.{status_of, line_of}
+use Rattle.bb_tool.specs.declared.refusal.Refusal.{Refusal}
+use Rattle.bb_tool.specs.declared.report.Report.{Report}
+use Rattle.bb_tool.specs.declared.refusal.Refusal.TheVariants as refusals
+use Rattle.bb_tool.specs.declared.status.Status.{Status}
+use Rattle.bb_tool.specs.declared.status.Status.TheVariants as statuses
+
+-- the status where the output failed: 14, which yields to no other than that of refused memory, 20
+abbrev pub status_unsent : Status → Status
+status_unsent statuses.NoMemory = statuses.NoMemory
+status_unsent other = statuses.SinkFault
+
+-- this text was sent whole, and the status is this
+pub record IsSent (text : List ℕ) (ended : Status) (before after : SinkRecord) (status : Status) : Type 0 where
+  pub status_is : status ≡ ended
+  pub sent : Sends text before after
+
+-- the output failed, after some front of the text
+pub record IsTextCut (text : List ℕ) (ended : Status) (before after : SinkRecord) (status : Status) : Type 0 where
+  pub status_is : status ≡ status_unsent ended
+  pub cause : Rose before.faults after.faults
+  pub front : SendsFront text before after
+
+abbrev pub IsSentOrCut : List ℕ → Status → SinkRecord → SinkRecord → Status → Type 0
+IsSentOrCut text ended before after status =
+    IsSent text ended before after status ⊎ IsTextCut text ended before after status
+
+-- the line of a refusal takes memory, unless it is that of a refusal after a call of the device
+-- that names no target, or of refused memory
+abbrev pub takes_memory : Refusal → Bool
+takes_memory (refusals.BadWords place) = true
+takes_memory (refusals.BadTree e) = true
+takes_memory (refusals.BadBlob e) = true
+takes_memory (refusals.BadLayout e) = true
+takes_memory (refusals.BadVariable name cause) = true
+takes_memory (refusals.FileMissing file) = true
+takes_memory (refusals.FileFault file) = true
+takes_memory (refusals.FileTooLong file) = true
+takes_memory refusals.ReadFault = false
+takes_memory (refusals.WriteFault copy) = false
+takes_memory refusals.NoTarget = false
+takes_memory (refusals.StartFailed name) = true
+takes_memory (refusals.BadSettings e) = true
+takes_memory refusals.NoKey = true
+takes_memory (refusals.BadKey e) = true
+takes_memory (refusals.NoGood place) = false
+takes_memory refusals.NoMemory = false
+
+abbrev pub IsSentMemory : SinkRecord → SinkRecord → Status → Type 0
+IsSentMemory before after status =
+    IsSentOrCut (line_of refusals.NoMemory) statuses.NoMemory before after status
+
+-- a line that was made was told, or the memory for it was refused
+abbrev pub IsSentMade : Result (String Global) AllocError → Status → SinkRecord → SinkRecord → Status → Type 0
+IsSentMade (Ok line) ended before after status =
+    IsSentOrCut (string_bytes line) ended before after status
+IsSentMade (Err e) ended before after status = IsSentMemory before after status
+
+-- a text that is known was told, or the memory for it was refused
+abbrev pub IsSentOr : Bool → List ℕ → Status → SinkRecord → SinkRecord → Status → Type 0
+IsSentOr needs text ended before after status =
+    IsSentOrCut text ended before after status
+    ⊎ ((needs ≡ true) × IsSentMemory before after status)
+
+-- a text was told, and after it the line of a refusal, if there is one
+abbrev pub IsSentAfter : List ℕ → Option Refusal → SinkRecord → SinkRecord → Status → Type 0
+IsSentAfter text None before after status = IsSentOrCut text statuses.Done before after status
+IsSentAfter text (Some refusal) before after status =
+    IsSentOr (takes_memory refusal) (text ++ line_of refusal) (status_of refusal) before after status
+
+abbrev pub IsSentReport : Report → SinkRecord → SinkRecord → Status → Type 0
+IsSentReport report before after status =
+    IsSentAfter report.text report.refusal before after status
+
+-- the line of a refusal was told, or the memory for it was refused
+abbrev pub IsSentRefusal : Refusal → SinkRecord → SinkRecord → Status → Type 0
+IsSentRefusal refusal before after status =
+    IsSentOrCut (line_of refusal) (status_of refusal) before after status
+    ⊎ ((takes_memory refusal ≡ true) × IsSentMemory before after status)

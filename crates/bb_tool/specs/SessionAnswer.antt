@@ -1,0 +1,45 @@
+-- What files and a device may have answered to a session, and what it gave before anything was
+-- sent.
+use Rattle.std.specs.Prelude.{◌≡◌, ◌⊎◌, ℕ, List, Result, Ok, Err}
+use Rattle.bb_base.specs.Folder.{Folder}
+use Rattle.bb_flash.specs.Device.{Device}
+use Rattle.bb_tool.specs.Filing.{IsFiled}
+use Rattle.bb_tool.specs.Plan.{SessionPlan, plan_by_words}
+use Rattle.bb_tool.specs.Session.{Answers, session_of}
+use Rattle.bb_tool.specs.Work.{Gives, IsRefusedMemory, IsWork, SendsByMemory}
+use Rattle.bb_tool.specs.declared.report.Report.{Report}
+use Rattle.bb_tool.specs.declared.refusal.Refusal.{Refusal}
+use Rattle.bb_tool.specs.declared.refusal.Refusal.TheVariants as refusals
+
+-- the work of a plan was done; a session that is refused before it makes no call of the device
+abbrev pub IsFollowed : Result SessionPlan Refusal → Device → Device → Answers → Type 0
+IsFollowed (Ok plan) before after answers = IsWork plan before after answers.load answers.saves
+IsFollowed (Err refusal) before after answers = after ≡ before
+
+-- these are what the files and the device answered
+pub record AreAnswers (words : List (List ℕ)) (folder folder' : Folder) (before after : Device)
+    (answers : Answers) : Type 0 where
+  pub filed : IsFiled words before.geometry folder folder' answers.files
+  pub followed : IsFollowed (plan_by_words words before.geometry answers.files) before after answers
+
+-- the session gave its text, or its refusal
+pub record IsAnswer (words : List (List ℕ)) (folder folder' : Folder) (before after : Device)
+    (given : Result Report Refusal) : Type 0 where
+  pub answers : Answers
+  pub answered : AreAnswers words folder folder' before after answers
+  pub gives : Gives (session_of words before.geometry answers) given
+
+-- all its work was done, and then memory was refused for what was to be sent
+pub record IsWithoutText (words : List (List ℕ)) (folder folder' : Folder) (before after : Device)
+    (given : Result Report Refusal) : Type 0 where
+  pub answers : Answers
+  pub answered : AreAnswers words folder folder' before after answers
+  pub whole : SendsByMemory (session_of words before.geometry answers).refusal
+  pub is : given ≡ Err refusals.NoMemory
+
+-- before anything is sent: the answer of a session, or memory was refused
+abbrev pub IsSessionAnswer :
+    List (List ℕ) → Folder → Folder → Device → Device → Result Report Refusal → Type 0
+IsSessionAnswer words folder folder' before after given =
+    IsAnswer words folder folder' before after given
+    ⊎ (IsWithoutText words folder folder' before after given ⊎ IsRefusedMemory before after given)

@@ -1,0 +1,5 @@
+use Rattle.test_devices.proofs.Serving.{circular_serves}
+use Rattle.test_devices.proofs.bucket.circular.calls.void.Goals as goal
+
+pub void-requires-clause-serves : goal.void-requires-clause-serves
+void-requires-clause-serves c = circular_serves _ _ c.requires.here c.requires.held

@@ -1,0 +1,5 @@
+use Rattle.test_devices.proofs.Serving.{one_block_serves}
+use Rattle.test_devices.proofs.bucket.one_block.calls.void.Goals as goal
+
+pub void-requires-clause-serves : goal.void-requires-clause-serves
+void-requires-clause-serves c = one_block_serves _ _ c.requires.here c.requires.held

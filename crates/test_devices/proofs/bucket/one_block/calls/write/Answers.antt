@@ -1,0 +1,5 @@
+use Rattle.test_devices.proofs.Serving.{one_block_serves}
+use Rattle.test_devices.proofs.bucket.one_block.calls.write.Goals as goal
+
+pub write-requires-clause-serves : goal.write-requires-clause-serves
+write-requires-clause-serves c = one_block_serves _ _ c.requires.here c.requires.held
