@@ -105,7 +105,7 @@ fn end_nodes(alloc: Global, pieces: &mut Vec<Piece>, count: usize) -> Result<(),
     Ok(())
 }
 
-#[tactic(auto, using(crate::proofs::Writing::begun_more, crate::proofs::Writing::marked_more, # crate::proofs::Writing::begun_all, crate::proofs::Writing::marked_all))]
+#[tactic(auto, using(crate::proofs::Writing::begun_more, crate::proofs::Writing::marked_more, crate::proofs::Writing::begun_all, crate::proofs::Writing::marked_all))]
 // Begins a node for each name of a path from one of them on, and notes where its properties end.
 fn begin_nodes(
     alloc: Global,

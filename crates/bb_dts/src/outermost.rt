@@ -124,7 +124,7 @@ impl Reader {
     }
 
     // Reads a reserve, after `/memreserve/`, with its `;`.
-    #[tactic(auto, using(crate::proofs::OuterLemmas::address_step, # crate::proofs::OuterLemmas::length_step, crate::proofs::OuterLemmas::reserve_end_step))]
+    #[tactic(auto, using(crate::proofs::OuterLemmas::address_step, crate::proofs::OuterLemmas::length_step, crate::proofs::OuterLemmas::reserve_end_step))]
     fn read_reserve<'a>(&mut self, text: &'a [u8]) -> Result<&'a [u8], DtsError>
         requires { length text.now ≤ self.old.input.total }
         ensures ok { IfOk result (λ rest. source_end_at_address self.old text.now
@@ -153,7 +153,7 @@ impl Reader {
 
     // Reads a body at the outermost level, with its braces and its `;`, and merges it into the node
     // at the path.
-    #[tactic(auto, using(crate::proofs::OuterLemmas::open_step, # crate::proofs::OuterLemmas::outcome_after_body, crate::proofs::OuterLemmas::top_close_step))]
+    #[tactic(auto, using(crate::proofs::OuterLemmas::open_step, crate::proofs::OuterLemmas::outcome_after_body, crate::proofs::OuterLemmas::top_close_step))]
     fn read_top<'a>(
         &mut self,
         level: usize,

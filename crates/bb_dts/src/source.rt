@@ -47,7 +47,7 @@ fn read_text(input: Input, text: &[u8]) -> Result<Tree, DtsError>
 }
 
 // Reads `/dts-v1/;`.
-#[tactic(auto, using(crate::proofs::OuterLemmas::start_step, # crate::proofs::OuterLemmas::version_step))]
+#[tactic(auto, using(crate::proofs::OuterLemmas::start_step, crate::proofs::OuterLemmas::version_step))]
 fn read_version(input: Input, text: &[u8]) -> Result<&[u8], DtsError>
     requires { length text.now ≤ input.total }
     ensures ok { IfOk result (λ rest. walk_from input.total start text.now

@@ -216,7 +216,7 @@ fn is_directive(word: &[u8]) -> bool
         || word == b"#endif".as_slice()
 }
 
-#[tactic(auto, unfolding(crate::specs::Tokens::value_at))]
+#[tactic(auto, unfolding(crate::specs::Tokens::value_token))]
 fn value_at(text: &[u8]) -> Lexed
     ensures value { result ≡ value_token text.now }
     ensures within { IsWithin result (length text.now) }
@@ -240,7 +240,7 @@ fn name_in_value_len(text: &[u8]) -> usize
         .count()
 }
 
-#[tactic(auto, unfolding(crate::specs::Tokens::number_at))]
+#[tactic(auto, unfolding(crate::specs::Tokens::number_token))]
 fn number_at(text: &[u8]) -> Lexed
     ensures value { result ≡ number_token text.now }
     ensures within { IsWithin result (length text.now) }

@@ -80,7 +80,7 @@ fn is_outside(total: u32, at: u32, len: u32) -> bool
 }
 
 /// The big-endian word at a place.
-#[tactic(auto, unfolding(crate::specs::Header::word_at))]
+#[tactic(auto, unfolding(crate::specs::Header::header_word_at))]
 pub(crate) fn word_at(bytes: &[u8], at: usize) -> u32
     requires { at + 4 ≤ length bytes.now }
     ensures { result ≡ header_word_at at bytes.now }

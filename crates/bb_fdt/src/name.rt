@@ -39,7 +39,7 @@ pub(crate) fn is_name(name: &[u8]) -> bool
 }
 
 /// The name that begins there in the strings block.
-#[tactic(auto, unfolding(crate::specs::Tokens::name_in))]
+#[tactic(auto, unfolding(crate::specs::Tokens::string_at))]
 pub(crate) fn name_in(strings: &[u8], at: u32) -> Option<&[u8]>
     ensures name { option_map (λ name. name.now) result ≡ string_at strings.now at }
     ensures fits { IfSome result (λ name. is_name name.now ≡ true) }

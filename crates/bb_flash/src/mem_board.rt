@@ -85,7 +85,7 @@ impl Model for MemBoard {
 }
 
 impl MemBoard {
-    #[tactic(auto, using(crate::proofs::Geometries::whole_pages), # unfolding(crate::specs::Saved::history))]
+    #[tactic(auto, using(crate::proofs::Geometries::whole_pages), unfolding(crate::specs::Saved::history))]
     /// A board that holds these bytes, one for each byte of the geometry's size, in pages that are
     /// Fine. It records at most `calls` flash calls, and at most `room` bytes that they are to
     /// write.

@@ -30,7 +30,7 @@ fn has_colons(text: &[u8]) -> bool
         && text[14] == b':'
 }
 
-#[tactic(auto, unfolding(crate::specs::Mac::pair_of))]
+#[tactic(auto, unfolding(crate::specs::Mac::byte_of_pair))]
 fn pair(high: u8, low: u8) -> Option<u8>
     ensures { result ≡ byte_of_pair high low }
 {
