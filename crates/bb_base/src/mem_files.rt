@@ -71,7 +71,8 @@ impl MemFiles {
         Ok(())
     }
 
-    /// Plans that the call with this number, counted from 0 over all calls of `Files`, meets a fault.
+    /// Plans that the call with this number, counted from 0 over all calls of `Files`, meets a
+    /// fault.
     pub fn fail_call(&mut self, call: u32) -> Result<(), NoMemory>
         ensures ok { OnOk result (self.new
             ≡ record self.old { planned = self.old.planned ++ call ∷ [] }) }

@@ -78,7 +78,8 @@ impl Cells {
         self.set_health(page, at, len, Health::Fine);
     }
 
-    /// Leaves what a call leaves that was to write these bytes, by the fault that was planned for it.
+    /// Leaves what a call leaves that was to write these bytes, by the fault that was planned for
+    /// it.
     pub fn write(&mut self, page: u32, at: u32, bytes: &[u8], fault: Option<Fault>)
         requires { IsInside page self.old at (length bytes.now) }
         ensures { self.new ≡ left_by fault page at bytes.now self.old }

@@ -31,7 +31,8 @@ impl Model for StartMade {
 }
 
 impl MemBoard {
-    /// Plans that a start fails, counted from 0 since the last restart over all that weren't refused.
+    /// Plans that a start fails, counted from 0 since the last restart over all that weren't
+    /// refused.
     pub fn fail_start(&mut self, start: u32) -> Result<(), NoMemory>
         ensures ok { OnOk result (self.new
             ≡ record self.old { failing = self.old.failing ++ start ∷ [] }) }

@@ -147,7 +147,8 @@ fn end_answer(place: usize, value: u8) -> Answer {
         (128..=131, _) => Err(FdtError::BadToken(128)),
         // FDT_END, 9
         (132..=135, _) => Err(FdtError::BadToken(132)),
-        // the strings: the name of the root's property, that of the child's, each with its zero byte
+        // the strings: the name of the root's property, that of the child's, each with its zero
+        // byte
         (136..=137, _) => Err(FdtError::BadName(84)),
         _ => Err(FdtError::BadName(108)),
     }
