@@ -78,7 +78,7 @@ impl Names {
     }
 
     fn add_props(&mut self, props: &PropList) -> Result<(), NoMemory>
-        ensures { OnOk result (self.new ≡ fold with_name self.old (found_names props.now)) }
+        ensures { OnOk result (self.new ≡ fold with_name self.old (names_of_props props.now)) }
     {
         for prop in props.as_slice() {
             self.add(prop.name.as_str())?;
