@@ -160,8 +160,10 @@ stages_refused = refl
 stages_none : stages_reached ((1 ∷ []) ∷ []) 0 [] 0 ≡ record { areas = (1 ∷ []) ∷ []; acked = 0 } ∷ []
 stages_none = refl
 
--- ---- power-ons of a fresh board with two copies: a start, a boot that is cut in its save, a decay of the copy with the
--- older table, and another start, from the table of the save that was cut
+-- ---- power-ons of a fresh board with two copies
+
+-- a start, a boot that is cut in its save, a decay of the copy with the older table, and another
+-- start, from the table of the save that was cut
 
 abbrev b : Binding
 b = bound false false
