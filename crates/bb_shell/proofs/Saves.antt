@@ -5,6 +5,7 @@ use Rattle.std.proofs.lemmas.Slice.Eq.{bytes_eq-Decides}
 use Rattle.std.specs.Option.{IfNone}
 use Rattle.std.specs.Prelude.{is_some}
 use Rattle.std.specs.Str.{bytes_eq}
+use Rattle.bb_copies.specs.Erasing.{ErasesBy}
 use Rattle.bb_copies.specs.Loading.{KeepsOutside}
 use Rattle.bb_copies.specs.Passing.{passings}
 use Rattle.bb_copies.specs.Saving.{EachWritten, SaveFails, SaveRuns}
@@ -47,9 +48,10 @@ pub saved_ok : (state : State) (now : Option ℕ) (from to : Device) → is_sure
     (has_changed state ≡ true → SaveRuns (form_of state) (kinds_of state) (used_of state) state.table from to) →
     (has_changed state ≡ true → IsStored (keyed_of state) state.table now from to) →
     (has_changed state ≡ true → NothingFails from to → EachWritten (kinds_of state) ((form_of state).text state.table) from to) →
+    (has_changed state ≡ true → NothingFails from to → ErasesBy (kinds_of state) ((form_of state).text state.table) from to) →
     (is_kept state ≡ true → now ≡ used_of state) →
     IsSaveRun (keyed_of state) (last_table_of state) (used_of state) now state.table None from to
-saved_ok state now from to sure idle runs stored exact used = record {
+saved_ok state now from to sure idle runs stored exact erases used = record {
   idle = λ same. record { device = idle (changed_is state true sure same); copy = used (kept_is state sure same); done = refl };
   begun = λ other. record {
     runs = runs (changed_is state false sure other);
@@ -57,6 +59,7 @@ saved_ok state now from to sure idle runs stored exact used = record {
     fails = tt;
     sure = tt;
     exact = exact (changed_is state false sure other);
+    erases = erases (changed_is state false sure other);
   };
 }
 
@@ -74,6 +77,7 @@ saved_err state now fault from to sure other known runs fails = record {
     fails = fails;
     sure = known;
     exact = λ _. tt;
+    erases = λ _. tt;
   };
 }
 

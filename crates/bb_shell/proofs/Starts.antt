@@ -12,7 +12,7 @@ use Rattle.bb_flash.specs.declared.geometry.Geometry.{Geometry}
 use Rattle.bb_flash.specs.declared.plan.Plan.{Plan}
 use Rattle.bb_flash.specs.Calls.{told_after_start}
 use Rattle.bb_flash.specs.Cuts.{IsLater}
-use Rattle.bb_flash.specs.Device.{Device, IsDevice, Start, Told, changes, content, starts}
+use Rattle.bb_flash.specs.Device.{Device, IsDevice, Start, Told, changes, content, erases, starts}
 use Rattle.bb_state.specs.Keyed.{Keyed}
 use Rattle.bb_state.specs.Kinds.{laid_kinds}
 use Rattle.bb_shell.proofs.Joins.{outside_joined, outside_refl, some_is, still_outside, stored_joined, stored_refl}
@@ -55,6 +55,9 @@ start_geometry plan outcome from to = by_start from to (λ d. d.geometry ≡ fro
 
 pub start_changes : (plan : Option Plan) (outcome : Outcome) (from to : Device) → IsTried plan outcome from to → changes to ≡ changes from
 start_changes plan outcome from to = by_start from to (λ d. changes d ≡ changes from) refl (λ made runs. runs.keeps.changes) plan outcome
+
+pub start_erases : (plan : Option Plan) (outcome : Outcome) (from to : Device) → IsTried plan outcome from to → erases to ≡ erases from
+start_erases plan outcome from to = by_start from to (λ d. erases d ≡ erases from) refl (λ made runs. runs.keeps.erases) plan outcome
 
 -- what buckets keep is what stands there still
 pub start_agrees : {B : Type 0} (holding : B → Holding) (buckets : List B) (plan : Option Plan) (outcome : Outcome) (from to : Device) →

@@ -2,6 +2,7 @@
 use Rattle.std.specs.Prelude.{◌≡◌, ◌≢◌, ℕ, Bool, true, false, not, List, [], ◌∷◌, Option, Some, None, IfNone, IfSome, IsSomeAnd, is_some, option_map}
 use Rattle.std.specs.Str.{bytes_eq}
 use Rattle.bb_base.specs.Faults.{counted}
+use Rattle.bb_copies.specs.Erasing.{ErasesBy}
 use Rattle.bb_copies.specs.Saving.{EachWritten, SaveFails, SaveRuns}
 use Rattle.bb_copies.specs.Settling.{NothingFails}
 use Rattle.bb_copies.specs.declared.answers.CopyFault.{CopyFault}
@@ -48,6 +49,9 @@ pub record IsBegun
   pub exact :
       NothingFails from to →
       IfNone refusal (EachWritten (laid_kinds keyed.layout) ((laid_form keyed).text table) from to)
+  pub erases :
+      NothingFails from to →
+      IfNone refusal (ErasesBy (laid_kinds keyed.layout) ((laid_form keyed).text table) from to)
 
 -- a table was to be saved where `kept` was last loaded or saved
 pub record IsSaveRun

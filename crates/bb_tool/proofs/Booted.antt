@@ -17,8 +17,7 @@ use Rattle.bb_flash.specs.Device.{Device}
 use Rattle.bb_flash.specs.declared.plan.Plan.{Plan as StartPlan}
 use Rattle.bb_state.specs.Keyed.{Keyed}
 use Rattle.bb_shell.specs.Boot.{AreRounds, Round, all_attempts, boot_end, first_table, is_retried, last_round, table_after}
-use Rattle.bb_copies.specs.Settling.{RoseBy}
-use Rattle.bb_shell.specs.Ends.{AddsStarts, HasEndCause, IsBooted, RaisedBy, StaysStored, failed_starts, is_fault_end}
+use Rattle.bb_shell.specs.Ends.{AddsStarts, HasEndCause, IsBooted, StaysStored, is_fault_end}
 use Rattle.bb_shell.specs.Rounds.{RoundAnswer, answer_of, rounds_by}
 use Rattle.bb_shell.specs.Running.{AreRun}
 use Rattle.bb_shell.specs.Stages.{KeepsATrail, KeepsAtExit}
@@ -178,10 +177,6 @@ pub record BootClauses (targets : Binding) (cause : Cause) (plans : List (Option
   pub later : IsLater from to
   pub sure : is_sure after ≡ not (is_fault_end end)
 
--- a count that rose by exactly so much rose by that much
-raised_rose : (rise before now : ℕ) → RaisedBy rise before now → RoseBy rise before now
-raised_rose rise before now raised = omega arith
-
 run_is : (targets : Binding) (cause : Cause) (plans : List (Option StartPlan)) (before after : State) (from to : Device)
     (end : BootEnd) → last_table_of before ≡ before.table → IsBinding targets → length before.table ≡ targets.area_len →
     (clauses : BootClauses targets cause plans before after from to end) →
@@ -209,7 +204,7 @@ run_is targets cause plans before after from to end kept binding sized clauses =
       outside = clauses.outside;
       later = clauses.later;
       starts = subst (AddsStarts plans from to) boot.end_is clauses.starts;
-      start_faults = raised_rose (failed_starts rounds) from.start_faults to.start_faults boot.start_faults;
+      start_faults = boot.start_faults;
       end_cause = subst (HasEndCause plans from to) boot.end_is clauses.end_cause;
     }
 
@@ -232,7 +227,7 @@ boot_out keyed targets cause plans from mid to loaded before after end given geo
     let plan : SessionPlan = record { keyed = keyed; work = Boot targets cause plans } in
     let same : loaded_area keyed.layout found ≡ before.table =
     load_area keyed before.table loaded from mid
-    (record { gives = clauses.gives; defaults = clauses.defaults; exact = clauses.exact }) in
+    (record { gives = clauses.gives; defaults = clauses.defaults; exact = clauses.exact; erases = clauses.erases }) in
     let rounds = boot.booted.rounds in
     let saves = answers_to rounds in
     let run : IsBootRun keyed targets cause plans (loaded_area keyed.layout found) (used_after loaded) mid to saves =

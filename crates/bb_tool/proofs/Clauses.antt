@@ -7,6 +7,7 @@ use Rattle.bb_tool.specs.Ran.{Ran}
 use Rattle.bb_tool.specs.declared.status.Status.TheVariants as statuses
 use Rattle.bb_tool.proofs.Endings.{at_exit, bad_words_of, beside, comes_alone, comes_planned, copy_of_fault, file_fault_of, front_of, no_memory_of, on_a_trail, read_fault_of, sink_fault_of, unasked_of, write_fault_of}
 use Rattle.bb_tool.proofs.Early.{early_memory_of, early_of}
+use Rattle.bb_tool.proofs.Erases.{called_of, erased_of}
 use Rattle.bb_tool.proofs.Exact.{alike_of, written_of}
 use Rattle.bb_tool.proofs.Faults.{unread_of, write_faults_of}
 use Rattle.bb_tool.proofs.InTurn.{boots_of}
@@ -40,6 +41,8 @@ undisturbed ran session = record {
   undisturbed = undisturbed_of ran session;
   undisturbed_alone = undisturbed_alone_of ran session;
   written = written_of ran session;
+  erased = erased_of ran session;
+  called = called_of ran session;
   passes = alike_of ran session;
 }
 

@@ -56,14 +56,14 @@ use Rattle.bb_tool.proofs.Wholes.{unrefused}
 
 -- ---- one copy
 
-fresh_is : (worn : Bool) (passed : Option (List ℕ)) (area : List ℕ) →
+pub fresh_is : (worn : Bool) (passed : Option (List ℕ)) (area : List ℕ) →
     (not worn && option_map_or (λ p. bytes_eq p area) passed false) ≡ true →
     (passed ≡ Some area) × (worn ≡ false)
 fresh_is true passed area h = absurd cc
 fresh_is false None area h = absurd cc
 fresh_is false (Some other) area h = (ap (λ p. Some p) ((bytes_eq-Decides other area).0 h), refl)
 
-fresh_so : (worn : Bool) (passed : Option (List ℕ)) (area : List ℕ) → passed ≡ Some area →
+pub fresh_so : (worn : Bool) (passed : Option (List ℕ)) (area : List ℕ) → passed ≡ Some area →
     worn ≡ false → (not worn && option_map_or (λ p. bytes_eq p area) passed false) ≡ true
 fresh_so worn passed area is sound =
     ap (λ w. not w && option_map_or (λ p. bytes_eq p area) passed false) sound
@@ -158,10 +158,10 @@ all_kept keyed area used live from to kept calm z f =
 
 module _ (keyed : Keyed) (from mid : Device) (calm : NothingFails from mid) (x y : Image)
     (e : content from ≡ Some x) (f : content mid ≡ Some y) where
-  abbrev page : ℕ
+  abbrev pub page : ℕ
   page = from.geometry.page
 
-  abbrev LeftBy : Option (List ℕ) → Type 0
+  abbrev pub LeftBy : Option (List ℕ) → Type 0
   LeftBy found =
       LeavesRegions (laid_kinds keyed.layout) page (λ kind region. loaded_region (laid_form keyed) kind found region) x y
 
@@ -173,7 +173,7 @@ module _ (keyed : Keyed) (from mid : Device) (calm : NothingFails from mid) (x y
       ap (λ z. part_of page kind.region z)
       (one_content mid y x f (found.gives.content ∙ e))
 
-  loaded_left : (used : Option ℕ) (found : Option (List ℕ)) →
+  pub loaded_left : (used : Option ℕ) (found : Option (List ℕ)) →
       IsLoadedAs keyed used from mid found → LeftBy found
   loaded_left used found gave = subst LeftBy (sym gave.taken) (found_left gave.area gave.loaded gave.gave)
 
@@ -227,7 +227,7 @@ saved_alike keyed used found (area ∷ (other ∷ areas)) (Ok ok ∷ saves) mid 
 -- ---- rounds that were run
 
 module _ (keyed : Keyed) (plans : List (Option StartPlan)) where
-  abbrev RegionsBy : ℕ → List (List ℕ) → Image → Image → Type 0
+  abbrev pub RegionsBy : ℕ → List (List ℕ) → Image → Image → Type 0
   RegionsBy page areas y z =
       LeavesRegions (laid_kinds keyed.layout) page (λ kind region. saved_region (laid_form keyed) kind areas region) y z
 
@@ -249,10 +249,10 @@ module _ (keyed : Keyed) (plans : List (Option StartPlan)) where
     saved_content : content run.middle ≡ Some d
     saved_content = sym started ∙ f
 
-    idle_same : bytes_eq round.table kept ≡ true → d ≡ y
+    pub idle_same : bytes_eq round.table kept ≡ true → d ≡ y
     idle_same same = one_content from d y (ap content (sym (run.saved.idle same).device) ∙ saved_content) e
 
-    begun_left : bytes_eq round.table kept ≡ false → RegionsBy from.geometry.page (round.table ∷ []) y d
+    pub begun_left : bytes_eq round.table kept ≡ false → RegionsBy from.geometry.page (round.table ∷ []) y d
     begun_left other = λ place kind there.
         let exact = (run.saved.begun other).exact save_calm in
         let written = subst

@@ -5,10 +5,9 @@ use Rattle.std.specs.Prelude.{⊤, MatchBool, replicate}
 use Rattle.std.proofs.lemmas.List.Sums.{sum_by-cons}
 use Rattle.bb_base.specs.Faults.{Rose}
 use Rattle.bb_chooser.specs.Binding.{Binding}
-use Rattle.bb_copies.specs.Settling.{RoseBy}
 use Rattle.bb_flash.specs.declared.plan.Plan.{Plan as StartPlan}
 use Rattle.bb_shell.specs.Boot.{AreRounds, IsOutcome, IsRound, Round, end_by, is_retried, last_round, plan_at}
-use Rattle.bb_shell.specs.Ends.{failed_starts, is_failed_start}
+use Rattle.bb_shell.specs.Ends.{RaisedBy, failed_starts, is_failed_start}
 use Rattle.bb_shell.specs.Rounds.{RoundAnswer, best_of, followed_by, outcome_by, round_by, rounds_by}
 use Rattle.bb_shell.specs.Running.{is_refused_save}
 use Rattle.bb_shell.specs.declared.boot_end.BootEnd.TheVariants as ends
@@ -92,11 +91,11 @@ none_counted (round ∷ later) none = (by (is_failed_start round.outcome) refl, 
         absurd (let s : 1 + failed_starts later ≡ 0 = subst (λ f. cond f 1 0 + failed_starts later ≡ 0) e sum in omega (arith, s))
     by false e = e
 
-none_rose : (n before now : ℕ) → RoseBy n before now → (Rose before now → ⊥) → n ≡ 0
+none_rose : (n before now : ℕ) → RaisedBy n before now → (Rose before now → ⊥) → n ≡ 0
 none_rose zero before now rose none = refl
 none_rose (suc n) before now rose none = absurd (none (omega arith))
 
-pub none_failed : (rounds : List Round) (before now : ℕ) → RoseBy (failed_starts rounds) before now → (Rose before now → ⊥) → NoneFailed rounds
+pub none_failed : (rounds : List Round) (before now : ℕ) → RaisedBy (failed_starts rounds) before now → (Rose before now → ⊥) → NoneFailed rounds
 none_failed rounds before now rose none = none_counted rounds (none_rose (failed_starts rounds) before now rose none)
 
 -- ---- answers without a fault

@@ -6,6 +6,7 @@ pub mod Copies
 pub mod Early
 pub mod Endings
 pub mod Entries
+pub mod Erases
 pub mod Exact
 mod Examples
 pub mod Faults
@@ -28,3 +29,4 @@ pub mod Turns
 pub mod Wholes
 pub mod Worked
 pub mod Works
+pub mod WriteSums

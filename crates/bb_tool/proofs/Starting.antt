@@ -6,7 +6,6 @@ use Rattle.std.proofs.lemmas.Option.{same_Some}
 use Rattle.bb_base.specs.Faults.{Rose}
 use Rattle.bb_chooser.specs.Binding.{Binding}
 use Rattle.bb_chooser.specs.declared.cause.Cause.{Cause}
-use Rattle.bb_copies.specs.Settling.{RoseBy}
 use Rattle.bb_copies.specs.StandsFor.{EachPassesOrNothing, first_passed}
 use Rattle.bb_copies.specs.declared.answers.CopyFault.{CopyFault}
 use Rattle.bb_flash.specs.Image.{Image}
@@ -14,7 +13,7 @@ use Rattle.bb_flash.specs.Device.{Device, LeavesStarts, Start, Told, content, st
 use Rattle.bb_flash.specs.declared.plan.Plan.{Plan as StartPlan}
 use Rattle.bb_state.specs.Keyed.{Keyed}
 use Rattle.bb_shell.specs.Boot.{Round, end_by, last_round, plan_at, table_after}
-use Rattle.bb_shell.specs.Ends.{AddsStarts, HasEndCause, StartsOnce, failed_starts, is_fault_end}
+use Rattle.bb_shell.specs.Ends.{AddsStarts, HasEndCause, RaisedBy, StartsOnce, failed_starts, is_fault_end}
 use Rattle.bb_shell.specs.Rounds.{is_started}
 use Rattle.bb_shell.specs.declared.boot_end.BootEnd.TheVariants as ends
 use Rattle.bb_shell.specs.declared.outcome.Outcome.{Outcome}
@@ -153,29 +152,29 @@ work_start (Boot targets cause plans) plan from to (Ok found) saves is done =
 
 work_failed : (work : Work) (plan : SessionPlan) (from to : Device) (load : LoadAnswer) (saves : List SaveAnswer) →
     plan.work ≡ work → IsWorkOf work plan from to load saves →
-    RoseBy (failed_starts (work_session plan load saves).rounds) from.start_faults to.start_faults
+    RaisedBy (failed_starts (work_session plan load saves).rounds) from.start_faults to.start_faults
 work_failed work plan from to load saves is done = by work is done
   where
     no_faults : boots plan.work ≡ false → LeavesStarts from to →
-        RoseBy (failed_starts (work_session plan load saves).rounds) from.start_faults to.start_faults
+        RaisedBy (failed_starts (work_session plan load saves).rounds) from.start_faults to.start_faults
     no_faults store keeps =
         let same = keeps.start_faults in
-        subst (λ (r : List Round). RoseBy (failed_starts r) from.start_faults to.start_faults) (sym (no_rounds plan load saves store))
+        subst (λ (r : List Round). RaisedBy (failed_starts r) from.start_faults to.start_faults) (sym (no_rounds plan load saves store))
         (omega (arith, same))
 
     booted_faults : (load' : LoadAnswer) → (targets : Binding) (cause : Cause) (plans : List (Option StartPlan)) →
         plan.work ≡ Boot targets cause plans → IsBootWork targets cause plans plan from to load' saves →
-        RoseBy (failed_starts (work_session plan load' saves).rounds) from.start_faults to.start_faults
+        RaisedBy (failed_starts (work_session plan load' saves).rounds) from.start_faults to.start_faults
     booted_faults (Err fault) targets cause plans here boot =
         let same : to.start_faults ≡ from.start_faults = ap (λ (d : Device). d.start_faults) boot.booted.1 ∙ boot.loaded.starts.start_faults in
         omega (arith, same)
     booted_faults (Ok found) targets cause plans here boot =
-        subst (λ (r : List Round). RoseBy (failed_starts r) from.start_faults to.start_faults)
+        subst (λ (r : List Round). RaisedBy (failed_starts r) from.start_faults to.start_faults)
         (sym (boot_rounds plan targets cause plans found from to saves here boot))
-        (subst (λ n. RoseBy (failed_starts boot.booted.rounds) n to.start_faults) boot.loaded.starts.start_faults boot.booted.start_faults)
+        (subst (λ n. RaisedBy (failed_starts boot.booted.rounds) n to.start_faults) boot.loaded.starts.start_faults boot.booted.start_faults)
 
     by : (w : Work) → plan.work ≡ w → IsWorkOf w plan from to load saves →
-        RoseBy (failed_starts (work_session plan load saves).rounds) from.start_faults to.start_faults
+        RaisedBy (failed_starts (work_session plan load saves).rounds) from.start_faults to.start_faults
     by Show here d = no_faults (ap boots here) d.looked.quiet.starts
     by (Write area) here d = no_faults (ap boots here) (store_starts plan from to load saves d)
     by (Act actions) here d = no_faults (ap boots here) (store_starts plan from to load saves d)
@@ -382,7 +381,7 @@ module _ (ran : Ran) where
 
   pub start_faults_of : IsSession ran → CountsFailedStarts ran
   start_faults_of s answers plan answered is =
-      subst (λ (s : Session). RoseBy (failed_starts s.rounds) From.start_faults To.start_faults) (followed_is ran answers plan is)
+      subst (λ (s : Session). RaisedBy (failed_starts s.rounds) From.start_faults To.start_faults) (followed_is ran answers plan is)
       (work_failed plan.work plan From To answers.load answers.saves refl (work_of ran answers plan answered is))
 
   pub start_causes_of : IsSession ran → KnowsStartFaults ran

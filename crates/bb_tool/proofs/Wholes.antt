@@ -10,11 +10,10 @@ use Rattle.bb_flash.specs.Device.{Device, content}
 use Rattle.bb_flash.specs.Image.{Image}
 use Rattle.bb_chooser.specs.Binding.{Binding}
 use Rattle.bb_chooser.specs.declared.cause.Cause.{Cause}
-use Rattle.bb_copies.specs.Settling.{RoseBy}
 use Rattle.bb_flash.specs.declared.plan.Plan.{Plan as StartPlan}
 use Rattle.bb_state.specs.Keyed.{Keyed}
 use Rattle.bb_shell.specs.Boot.{AreRounds, Round, all_attempts, first_table}
-use Rattle.bb_shell.specs.Ends.{failed_starts}
+use Rattle.bb_shell.specs.Ends.{RaisedBy, failed_starts}
 use Rattle.bb_shell.specs.Rounds.{best_of, rounds_by}
 use Rattle.bb_shell.proofs.Answering.{best_is, best_none}
 use Rattle.bb_words.specs.Words.{words_of}
@@ -128,7 +127,7 @@ module _ (targets : Binding) (cause : Cause) (plans : List (Option StartPlan)) (
       ap (λ t. unless_barred (if t then Some refusals.NoTarget else None) (boot_session targets table (Ideal n))) (some_target round later are)
 
   boot_same : (from to : Device) (mid : Device) (rounds : List Round) (n : ℕ) → AreRounds targets plans Table rounds → length rounds ≤ n →
-      HasNoFault (boot_session targets table rounds) → mid.start_faults ≡ from.start_faults → RoseBy (failed_starts rounds) mid.start_faults to.start_faults →
+      HasNoFault (boot_session targets table rounds) → mid.start_faults ≡ from.start_faults → RaisedBy (failed_starts rounds) mid.start_faults to.start_faults →
       IsCalm from to (Ends n) → boot_session targets table rounds ≡ Ends n
   boot_same from to mid [] n are few whole same rose calm =
       sym (ap (λ t. unless_barred (if t then Some refusals.NoTarget else None) (boot_session targets table (Ideal n))) (no_target are))

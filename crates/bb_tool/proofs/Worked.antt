@@ -4,7 +4,8 @@ use Rattle.std.specs.Bool.{then_some}
 use Rattle.std.specs.Option.{ForSome}
 use Rattle.std.proofs.lemmas.Grind.{common_steps}
 use Rattle.std.specs.Str.{bytes_eq}
-use Rattle.bb_copies.specs.Loading.{KeepsOutside, LoadGives, LoadImages, LoadsExactly, LookGives}
+use Rattle.bb_copies.specs.Erasing.{ErasesBy}
+use Rattle.bb_copies.specs.Loading.{KeepsOutside, LoadGives, LoadImages, LoadsErasing, LoadsExactly, LookGives}
 use Rattle.bb_copies.specs.Saving.{EachWritten, SaveFails, SaveRuns}
 use Rattle.bb_copies.specs.Settling.{NothingFails}
 use Rattle.bb_copies.specs.Store.{used_after}
@@ -103,6 +104,7 @@ pub record LoadClauses (keyed : Keyed) (area : List ℕ) (from to : Device)
   pub gives : IfOk answer (LoadGives (laid_form keyed) (laid_kinds keyed.layout) area from to)
   pub defaults : IfOk answer (IsDefault keyed.layout area)
   pub exact : IfOk answer (LoadsExactly (laid_form keyed) (laid_kinds keyed.layout) area from to)
+  pub erases : IfOk answer (LoadsErasing (laid_form keyed) (laid_kinds keyed.layout) area from to)
   pub fails : IfErr answer (IsRefused keyed from to)
 
 pub load_ok : (keyed : Keyed) (area : List ℕ) (from to : Device) (loaded : Loaded) →
@@ -116,7 +118,7 @@ load_ok keyed area from to loaded clauses = record {
   gives = record {
     area = area;
     loaded = loaded;
-    gave = record { gives = clauses.gives; defaults = clauses.defaults; exact = clauses.exact };
+    gave = record { gives = clauses.gives; defaults = clauses.defaults; exact = clauses.exact; erases = clauses.erases };
     taken = refl;
     used_is = refl;
   };
@@ -238,7 +240,7 @@ module _ (keyed : Keyed) (work : Work) (from mid to : Device) (area : List ℕ) 
   same_area : loaded_area keyed.layout (area_taken area loaded) ≡ area
   same_area =
       load_area keyed area loaded from mid
-      (record { gives = clauses.gives; defaults = clauses.defaults; exact = clauses.exact })
+      (record { gives = clauses.gives; defaults = clauses.defaults; exact = clauses.exact; erases = clauses.erases })
 
   begun_behind : IsBegun keyed (used_after loaded) (saves_after Whole (Ok (area_taken area loaded)))
       mid to given
@@ -308,7 +310,7 @@ barred_out keyed work from to area loaded refusal stored many clauses bars given
     let found = area_taken area loaded in
     let same : loaded_area keyed.layout found ≡ area =
     load_area keyed area loaded from to
-    (record { gives = clauses.gives; defaults = clauses.defaults; exact = clauses.exact }) in
+    (record { gives = clauses.gives; defaults = clauses.defaults; exact = clauses.exact; erases = clauses.erases }) in
     let here : refusal_by_table work (loaded_area keyed.layout found) ≡ Some refusal = ap (refusal_by_table work) same ∙ bars in
     subst (IsWorkedOut keyed work from to) (sym is)
     (inl (record {
@@ -400,9 +402,11 @@ module _ (first state : State) (keyed : Keyed) (new : List ℕ) (loaded : Loaded
       (has_changed state ≡ true → IsStored (keyed_of state) state.table now mid to) →
       (has_changed state ≡ true → NothingFails mid to →
       EachWritten (laid_kinds (keyed_of state).layout) ((laid_form (keyed_of state)).text state.table) mid to) →
+      (has_changed state ≡ true → NothingFails mid to →
+      ErasesBy (laid_kinds (keyed_of state).layout) ((laid_form (keyed_of state)).text state.table) mid to) →
       IsBegun keyed (used_after loaded) (saved_where (bytes_eq new first.table) new) mid to
       (λ text. Ok (told_whole text))
-  changed_ok stored exact =
+  changed_ok stored exact erases =
       where_ok keyed (used_after loaded) new mid to (bytes_eq new first.table)
       (λ e. idle (changed_so ∙ ap not e))
       (λ e. let changed = changed_so ∙ ap not e in
@@ -413,6 +417,7 @@ module _ (first state : State) (keyed : Keyed) (new : List ℕ) (loaded : Loaded
         fails = tt;
         sure = tt;
         exact = exact changed;
+        erases = erases changed;
       }))
 
   pub changed_err : (fault : CopyFault) → (is_kept state ≡ true → ⊥) → fault ≢ Unsure →
@@ -430,6 +435,7 @@ module _ (first state : State) (keyed : Keyed) (new : List ℕ) (loaded : Loaded
         fails = fails;
         sure = other;
         exact = λ calm. tt;
+        erases = λ calm. tt;
       }))
 
 -- ---- the save after all sets
@@ -451,6 +457,8 @@ module _ (first state : State) (keyed : Keyed) (actions : List Action) (loaded :
       (has_changed state ≡ true → IsStored (keyed_of state) state.table now mid to) →
       (has_changed state ≡ true → NothingFails mid to →
       EachWritten (laid_kinds (keyed_of state).layout) ((laid_form (keyed_of state)).text state.table) mid to) →
+      (has_changed state ≡ true → NothingFails mid to →
+      ErasesBy (laid_kinds (keyed_of state).layout) ((laid_form (keyed_of state)).text state.table) mid to) →
       IsBegun keyed (used_after loaded) (saves_of keyed.layout (Act actions) first.table) mid to
       (λ text. Ok (told_whole text))
   acted_ok =

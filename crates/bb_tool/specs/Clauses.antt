@@ -1,7 +1,7 @@
 -- The clauses of `run`, in the order of its contract: each is a record of named facts about one
 -- call, and none of them names a command.
 use Rattle.bb_tool.specs.Calls.{AsksNothing, ComesByDevice, ComesByFiles, ComesByOutlet, ComesByPlan, ComesByPlanAlone, ComesByReads, ComesByTable, ComesByWords, CutsTheText, IsSession, IsUndisturbed, IsUndisturbedAlone, KeepsFiles, KeepsHistory, LeavesUnnamedFiles, NamesTheCopy, WantsMemory}
-use Rattle.bb_tool.specs.Copying.{KeepsATrail, KeepsAtExit, KeepsOutsideCopies, KnowsWriteFaults, LeavesUnread, MakesAlike, StopsAtFileFault, StopsBetweenSaves, WritesExactly}
+use Rattle.bb_tool.specs.Copying.{KeepsATrail, KeepsAtExit, KeepsOutsideCopies, KnowsWriteFaults, LeavesUnread, MakesAlike, MakesNoOtherCall, StopsAtFileFault, StopsBetweenSaves, WearsExactly, WritesExactly}
 use Rattle.bb_tool.specs.Ran.{Ran}
 use Rattle.bb_tool.specs.Starting.{BootsInTurn, CountsFailedStarts, KnowsStartFaults, NamesTheTarget, RunsRounds, StartsAtMostOne, StartsAfterSave, StartsTheLast}
 use Rattle.bb_tool.specs.declared.status.Status.TheVariants as statuses
@@ -41,6 +41,10 @@ pub record WorksUndisturbed (ran : Ran) : Type 0 where
   pub undisturbed_alone : IsUndisturbedAlone ran
   -- each copy holds, to the byte, what the load and the saves make of it
   pub written : WritesExactly ran
+  -- each block is erased exactly as often as these writes erase it
+  pub erased : WearsExactly ran
+  -- and no other call changes the device
+  pub called : MakesNoOtherCall ran
   -- every copy passes the area that was loaded or saved last
   pub passes : MakesAlike ran
 
@@ -63,7 +67,7 @@ pub record StartsTheBest (ran : Ran) : Type 0 where
   pub starts_once : StartsAtMostOne ran
   -- where one was made, every copy passes the table of its round, or nothing
   pub starts_saved : StartsAfterSave ran
-  -- the count of failed starts rose by the rounds that failed although their target has a plan
+  -- the count of failed starts rose by exactly the rounds whose start failed
   pub start_faults : CountsFailedStarts ran
 
 -- Each answer but `Done` and its cause, in the order of a session. A failing output and refused

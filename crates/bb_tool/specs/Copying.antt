@@ -7,7 +7,7 @@ use Rattle.bb_copies.specs.Settling.{NothingFails}
 use Rattle.bb_flash.specs.Device.{Device, content}
 use Rattle.bb_state.specs.Kinds.{laid_kinds}
 use Rattle.bb_tool.specs.Calls.{MayAnswer, session_plan_for, session_for}
-use Rattle.bb_tool.specs.Exactly.{EndsAlike, LeavesExactly}
+use Rattle.bb_tool.specs.Exactly.{CallsExactly, EndsAlike, ErasesExactly, LeavesExactly}
 use Rattle.bb_tool.specs.Plan.{SessionPlan}
 use Rattle.bb_tool.specs.Ran.{Ran}
 use Rattle.bb_tool.specs.Booting.{SaveAnswer}
@@ -62,6 +62,16 @@ EachCalm ran P =
 -- a load that found none and a session that is refused before its work write nothing.
 abbrev pub WritesExactly : Ran → Type 0
 WritesExactly ran = EachCalm ran LeavesExactly
+
+-- The number of each block is higher by exactly the erases of these writes: a write erases where
+-- its copy's kind says so of what stood there. No other block is erased.
+abbrev pub WearsExactly : Ran → Type 0
+WearsExactly ran = EachCalm ran ErasesExactly
+
+-- Each of these writes is one program, and one erase before it where it erases. No other call
+-- changed the device.
+abbrev pub MakesNoOtherCall : Ran → Type 0
+MakesNoOtherCall ran = EachCalm ran CallsExactly
 
 -- Every copy passes the area that was loaded or saved last; where none was the copies are as at
 -- entry.

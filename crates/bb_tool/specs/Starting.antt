@@ -5,13 +5,12 @@ use Rattle.std.specs.Option.{ForSome}
 use Rattle.bb_base.specs.Faults.{Rose}
 use Rattle.bb_chooser.specs.Binding.{IsBinding}
 use Rattle.bb_copies.specs.Chronicle.{Content, Turn}
-use Rattle.bb_copies.specs.Settling.{RoseBy}
 use Rattle.bb_copies.specs.StandsFor.{EachPassesOrNothing}
 use Rattle.bb_flash.specs.Device.{Device, content, starts}
 use Rattle.bb_flash.specs.declared.plan.Plan.{Plan as StartPlan}
 use Rattle.bb_shell.specs.Boot.{last_round, plan_at, table_after}
 use Rattle.bb_shell.specs.Counting.{IsBootTurn}
-use Rattle.bb_shell.specs.Ends.{StartsOnce, failed_starts}
+use Rattle.bb_shell.specs.Ends.{RaisedBy, StartsOnce, failed_starts}
 use Rattle.bb_tool.specs.Booting.{AreRoundsOf, start_plans_of, start_of}
 use Rattle.bb_tool.specs.Calls.{MayAnswer, SendsText, session_for}
 use Rattle.bb_tool.specs.Copying.{EachWork}
@@ -102,13 +101,13 @@ StartsAfterSave ran =
     EachPassesOrNothing (table_after table (session_for ran answers).rounds)
     (passed_in plan.keyed ran.before.device.geometry.page image)))
 
--- the count of failed starts rose by at least the rounds that failed although their target has a
--- plan
+-- The count of failed starts rose by exactly the rounds whose start failed: their target has a plan.
+-- A session without rounds leaves it. At its greatest value it stands still.
 abbrev pub CountsFailedStarts : Ran → Type 0
 CountsFailedStarts ran =
     EachWork ran
     (λ plan answers.
-    RoseBy (failed_starts (session_for ran answers).rounds) ran.before.device.start_faults
+    RaisedBy (failed_starts (session_for ran answers).rounds) ran.before.device.start_faults
     ran.after.device.start_faults)
 
 -- ---- a start that failed

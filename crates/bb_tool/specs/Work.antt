@@ -4,9 +4,10 @@ use Rattle.std.specs.Prelude.{◌≡◌, ◌≢◌, ◌⊎◌, ℕ, ◌≤◌, L
 use Rattle.std.specs.Option.{ForSome}
 use Rattle.bb_base.specs.Faults.{HasCause}
 use Rattle.bb_bucket.specs.Calls.{IsQuiet}
-use Rattle.bb_copies.specs.Loading.{KeepsOutside, LoadGives, LoadImages, LoadsExactly}
+use Rattle.bb_copies.specs.Erasing.{ErasesBy}
+use Rattle.bb_copies.specs.Loading.{KeepsOutside, LoadGives, LoadImages, LoadsErasing, LoadsExactly}
 use Rattle.bb_copies.specs.Saving.{EachWritten, SaveFails, SaveRuns}
-use Rattle.bb_copies.specs.Settling.{NothingFails, RoseBy}
+use Rattle.bb_copies.specs.Settling.{NothingFails}
 use Rattle.bb_copies.specs.Store.{used_after}
 use Rattle.bb_copies.specs.declared.answers.CopyFault.TheVariants.{ReadFault, Unsure}
 use Rattle.bb_copies.specs.declared.answers.Loaded.{Loaded}
@@ -18,7 +19,7 @@ use Rattle.bb_flash.specs.Device.{Device, LeavesStarts, content}
 use Rattle.bb_flash.specs.declared.plan.Plan.{Plan as StartPlan}
 use Rattle.bb_state.specs.Keyed.{Keyed}
 use Rattle.bb_shell.specs.Boot.{AreRounds, Round, all_attempts, boot_end, first_table, table_after}
-use Rattle.bb_shell.specs.Ends.{AddsStarts, HasEndCause, StaysStored, failed_starts, is_fault_end}
+use Rattle.bb_shell.specs.Ends.{AddsStarts, HasEndCause, RaisedBy, StaysStored, failed_starts, is_fault_end}
 use Rattle.bb_shell.specs.Running.{AreRun}
 use Rattle.bb_shell.specs.Stages.{KeepsATrail, KeepsAtExit}
 use Rattle.bb_state.specs.Kinds.{laid_form, laid_kinds}
@@ -58,6 +59,7 @@ pub record IsLoadedArea (keyed : Keyed) (area : List ℕ) (loaded : Loaded) (fro
   pub gives : LoadGives (laid_form keyed) (laid_kinds keyed.layout) area from to loaded
   pub defaults : IsDefault keyed.layout area loaded
   pub exact : LoadsExactly (laid_form keyed) (laid_kinds keyed.layout) area from to loaded
+  pub erases : LoadsErasing (laid_form keyed) (laid_kinds keyed.layout) area from to loaded
 
 -- it answered Ok, and `used` is the copy that it took, if it took one
 pub record IsLoadedAs (keyed : Keyed) (used : Option ℕ) (from to : Device)
@@ -93,6 +95,10 @@ pub record IsSaveAnswered (keyed : Keyed) (used : Option ℕ) (area : List ℕ) 
       NothingFails from to →
       IfOk answer
       (λ made. EachWritten (laid_kinds keyed.layout) ((laid_form keyed).text area) from to)
+  pub erases :
+      NothingFails from to →
+      IfOk answer
+      (λ made. ErasesBy (laid_kinds keyed.layout) ((laid_form keyed).text area) from to)
 
 -- these saves were begun after a load, one at most so far
 abbrev pub AreSaved : Keyed → Option ℕ → List (List ℕ) → Device → Device → List SaveAnswer → Type 0
@@ -125,7 +131,7 @@ pub record IsBootRun (keyed : Keyed) (targets : Binding) (cause : Cause)
   pub later : IsLater from to
   -- the start that was made, if one was, and those that failed
   pub starts : AddsStarts plans from to (boot_end targets rounds)
-  pub start_faults : RoseBy (failed_starts rounds) from.start_faults to.start_faults
+  pub start_faults : RaisedBy (failed_starts rounds) from.start_faults to.start_faults
   pub end_cause : HasEndCause plans from to (boot_end targets rounds)
 
 -- it comes after a load that answered Ok

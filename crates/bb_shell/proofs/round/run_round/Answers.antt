@@ -21,7 +21,7 @@ returns-in-Ok-clause-run g c =
     c.args.target c.spend.new.table c.save.new.self.table c.try_start.result
     (g.B.Flash.device c.args.board.now) (g.B.Flash.device c.save.new.flash) (g.B.Flash.device c.try_start.new.board)
     (saved_ok state (used_of c.save.new.self) (g.B.Flash.device c.args.board.now) (g.B.Flash.device c.save.new.flash)
-    c.requires.ready.sure saved.idle saved.runs saved.saved saved.exact saved.used)
+    c.requires.ready.sure saved.idle saved.runs saved.saved saved.exact saved.erases saved.used)
     saved.table c.try_start.ensures.saved c.try_start.ensures.tried
 
 pub returns-in-Ok-clause-outside : goal.returns-in-Ok-clause-outside

@@ -24,6 +24,7 @@ returns-in_err-load-clause-gives g c =
       gives = tt;
       defaults = tt;
       exact = tt;
+      erases = tt;
       fails = c.in_err-load.ensures.fails;
     })
     (p.1 ∙ ap (λ e. Err e) p.2)
@@ -55,6 +56,7 @@ returns-clause-gives g c =
       gives = c.in_ok-load.ensures.gives;
       defaults = c.in_ok-load.ensures.defaults;
       exact = c.in_ok-load.ensures.exact;
+      erases = c.in_ok-load.ensures.erases;
       fails = tt;
     })
     c.in_ok-load.ensures.used c.in_ok-load.ensures.kept c.count.ensures.binding

@@ -44,6 +44,7 @@ returns-in_err-load-clause-gives g c =
       gives = tt;
       defaults = tt;
       exact = tt;
+      erases = tt;
       fails = c.in_err-load.ensures.fails;
     })
     (p.1 ∙ ap (λ e. Err e) p.2)
@@ -65,6 +66,7 @@ returns-then-not-mark_good-clause-gives g c =
       gives = c.in_ok-load.ensures.gives;
       defaults = c.in_ok-load.ensures.defaults;
       exact = c.in_ok-load.ensures.exact;
+      erases = c.in_ok-load.ensures.erases;
       fails = tt;
     })
     (lost_is targets first.table not) (Err (refusals.NoGood c.last_chosen.result))
@@ -110,6 +112,7 @@ returns-in_err-save-clause-gives g c =
       gives = c.in_ok-load.ensures.gives;
       defaults = c.in_ok-load.ensures.defaults;
       exact = c.in_ok-load.ensures.exact;
+      erases = c.in_ok-load.ensures.erases;
       fails = tt;
     })
     (λ text. Err (copy_refusal c.in_err-save.field-0.0)) begun marks c.from_residual-in_err-save.result (p.1 ∙ ap (λ e. Err e) p.2)
@@ -168,7 +171,7 @@ returns-in_err-good_text-clause-gives g c =
     let marked : State = record first { table = c.mark_good.new.table; fits = fits } in
     let begun = changed_ok first marked keyed new loaded mid to c.save.new.self.backing.used refl c.mark_good.ensures.marked
     c.in_ok-load.ensures.keyed c.in_ok-load.ensures.used c.in_ok-load.ensures.sure c.in_ok-load.ensures.kept
-    c.in_ok-save.ensures.runs c.in_ok-save.ensures.idle c.in_ok-save.ensures.saved c.in_ok-save.ensures.exact in
+    c.in_ok-save.ensures.runs c.in_ok-save.ensures.idle c.in_ok-save.ensures.saved c.in_ok-save.ensures.exact c.in_ok-save.ensures.erases in
     let p = err_from_is_err_and c.from_residual-in_err-good_text.result c.from_residual-in_err-good_text.ensures.1 in
     let marks : refusal_by_table (Good targets) first.table ≡ None =
     kept_is_found targets first.table (c.mark_good.ensures.good.0 (cc)) in
@@ -181,6 +184,7 @@ returns-in_err-good_text-clause-gives g c =
       gives = c.in_ok-load.ensures.gives;
       defaults = c.in_ok-load.ensures.defaults;
       exact = c.in_ok-load.ensures.exact;
+      erases = c.in_ok-load.ensures.erases;
       fails = tt;
     })
     (λ text. Ok (told_whole text)) begun marks (λ text. refl) c.from_residual-in_err-good_text.result (p.1 ∙ ap (λ e. Err e) p.2)
@@ -199,7 +203,7 @@ returns-in_err-good_text-clause-later g c =
     let marked : State = record first { table = c.mark_good.new.table; fits = fits } in
     let begun = changed_ok first marked keyed new loaded mid to c.save.new.self.backing.used refl c.mark_good.ensures.marked
     c.in_ok-load.ensures.keyed c.in_ok-load.ensures.used c.in_ok-load.ensures.sure c.in_ok-load.ensures.kept
-    c.in_ok-save.ensures.runs c.in_ok-save.ensures.idle c.in_ok-save.ensures.saved c.in_ok-save.ensures.exact in
+    c.in_ok-save.ensures.runs c.in_ok-save.ensures.idle c.in_ok-save.ensures.saved c.in_ok-save.ensures.exact c.in_ok-save.ensures.erases in
     begun_later keyed (used_after loaded) _ begun.saves from mid to begun.are c.in_ok-load.ensures.later
 
 pub returns-in_err-good_text-clause-starts : goal.returns-in_err-good_text-clause-starts
@@ -216,7 +220,7 @@ returns-in_err-good_text-clause-starts g c =
     let marked : State = record first { table = c.mark_good.new.table; fits = fits } in
     let begun = changed_ok first marked keyed new loaded mid to c.save.new.self.backing.used refl c.mark_good.ensures.marked
     c.in_ok-load.ensures.keyed c.in_ok-load.ensures.used c.in_ok-load.ensures.sure c.in_ok-load.ensures.kept
-    c.in_ok-save.ensures.runs c.in_ok-save.ensures.idle c.in_ok-save.ensures.saved c.in_ok-save.ensures.exact in
+    c.in_ok-save.ensures.runs c.in_ok-save.ensures.idle c.in_ok-save.ensures.saved c.in_ok-save.ensures.exact c.in_ok-save.ensures.erases in
     begun_starts keyed (used_after loaded) _ begun.saves from mid to begun.are c.in_ok-load.ensures.starts
 
 pub returns-clause-gives : goal.returns-clause-gives
@@ -233,11 +237,11 @@ returns-clause-gives g c =
     let marked : State = record first { table = c.mark_good.new.table; fits = fits } in
     let begun = changed_ok first marked keyed new loaded mid to c.save.new.self.backing.used refl c.mark_good.ensures.marked
     c.in_ok-load.ensures.keyed c.in_ok-load.ensures.used c.in_ok-load.ensures.sure c.in_ok-load.ensures.kept
-    c.in_ok-save.ensures.runs c.in_ok-save.ensures.idle c.in_ok-save.ensures.saved c.in_ok-save.ensures.exact in
+    c.in_ok-save.ensures.runs c.in_ok-save.ensures.idle c.in_ok-save.ensures.saved c.in_ok-save.ensures.exact c.in_ok-save.ensures.erases in
     let marks : refusal_by_table (Good targets) first.table ≡ None =
     kept_is_found targets first.table (c.mark_good.ensures.good.0 (cc)) in
     let found : IsLoadedArea keyed first.table loaded from mid =
-    record { gives = c.in_ok-load.ensures.gives; defaults = c.in_ok-load.ensures.defaults; exact = c.in_ok-load.ensures.exact } in
+    record { gives = c.in_ok-load.ensures.gives; defaults = c.in_ok-load.ensures.defaults; exact = c.in_ok-load.ensures.exact; erases = c.in_ok-load.ensures.erases } in
     let whole : loaded_area keyed.layout (area_taken first.table loaded) ≡ first.table = load_area keyed first.table loaded from mid found in
     stored_out keyed (Good targets) from mid to first.table loaded refl c.args.state.now.facts.copied.least
     (record {
@@ -248,6 +252,7 @@ returns-clause-gives g c =
       gives = c.in_ok-load.ensures.gives;
       defaults = c.in_ok-load.ensures.defaults;
       exact = c.in_ok-load.ensures.exact;
+      erases = c.in_ok-load.ensures.erases;
       fails = tt;
     })
     (λ text. Ok (told_whole text)) begun marks (Ok c.done.result)
@@ -270,7 +275,7 @@ returns-clause-later g c =
     let marked : State = record first { table = c.mark_good.new.table; fits = fits } in
     let begun = changed_ok first marked keyed new loaded mid to c.save.new.self.backing.used refl c.mark_good.ensures.marked
     c.in_ok-load.ensures.keyed c.in_ok-load.ensures.used c.in_ok-load.ensures.sure c.in_ok-load.ensures.kept
-    c.in_ok-save.ensures.runs c.in_ok-save.ensures.idle c.in_ok-save.ensures.saved c.in_ok-save.ensures.exact in
+    c.in_ok-save.ensures.runs c.in_ok-save.ensures.idle c.in_ok-save.ensures.saved c.in_ok-save.ensures.exact c.in_ok-save.ensures.erases in
     begun_later keyed (used_after loaded) _ begun.saves from mid to begun.are c.in_ok-load.ensures.later
 
 pub returns-clause-starts : goal.returns-clause-starts
@@ -287,5 +292,5 @@ returns-clause-starts g c =
     let marked : State = record first { table = c.mark_good.new.table; fits = fits } in
     let begun = changed_ok first marked keyed new loaded mid to c.save.new.self.backing.used refl c.mark_good.ensures.marked
     c.in_ok-load.ensures.keyed c.in_ok-load.ensures.used c.in_ok-load.ensures.sure c.in_ok-load.ensures.kept
-    c.in_ok-save.ensures.runs c.in_ok-save.ensures.idle c.in_ok-save.ensures.saved c.in_ok-save.ensures.exact in
+    c.in_ok-save.ensures.runs c.in_ok-save.ensures.idle c.in_ok-save.ensures.saved c.in_ok-save.ensures.exact c.in_ok-save.ensures.erases in
     begun_starts keyed (used_after loaded) _ begun.saves from mid to begun.are c.in_ok-load.ensures.starts

@@ -29,6 +29,7 @@ returns-in_err-load-clause-gives g c =
       gives = tt;
       defaults = tt;
       exact = tt;
+      erases = tt;
       fails = c.in_err-load.ensures.fails;
     })
     (p.1 ∙ ap (λ e. Err e) p.2)
@@ -58,6 +59,7 @@ returns-in_err-save_always-clause-gives g c =
       fails = c.in_err-save_always.ensures.fails;
       sure = λ is. (let unsure = c.in_err-save_always.ensures.unsure.0 (ap (λ f. Err f) is) in let sure = c.in_ok-load.ensures.sure in cc);
       exact = λ calm. tt;
+      erases = λ calm. tt;
     } in
     stored_out keyed (Write c.args.area.now) from mid to table loaded refl c.args.state.now.facts.copied.least
     (record {
@@ -68,6 +70,7 @@ returns-in_err-save_always-clause-gives g c =
       gives = c.in_ok-load.ensures.gives;
       defaults = c.in_ok-load.ensures.defaults;
       exact = c.in_ok-load.ensures.exact;
+      erases = c.in_ok-load.ensures.erases;
       fails = tt;
     })
     (λ text. Err (copy_refusal fault))
@@ -95,6 +98,7 @@ returns-clause-gives g c =
       fails = tt;
       sure = tt;
       exact = c.in_ok-save_always.ensures.exact;
+      erases = c.in_ok-save_always.ensures.erases;
     } in
     stored_out keyed (Write c.args.area.now) from mid to table loaded refl c.args.state.now.facts.copied.least
     (record {
@@ -105,6 +109,7 @@ returns-clause-gives g c =
       gives = c.in_ok-load.ensures.gives;
       defaults = c.in_ok-load.ensures.defaults;
       exact = c.in_ok-load.ensures.exact;
+      erases = c.in_ok-load.ensures.erases;
       fails = tt;
     })
     (λ text. Ok (told_whole text))

@@ -33,6 +33,7 @@ returns-in_err-load-clause-gives g c =
       gives = tt;
       defaults = tt;
       exact = tt;
+      erases = tt;
       fails = c.in_err-load.ensures.fails;
     })
     (p.1 ∙ ap (λ e. Err e) p.2)
@@ -71,6 +72,7 @@ returns-in_err-save-clause-gives g c =
       gives = c.in_ok-load.ensures.gives;
       defaults = c.in_ok-load.ensures.defaults;
       exact = c.in_ok-load.ensures.exact;
+      erases = c.in_ok-load.ensures.erases;
       fails = tt;
     })
     (λ text. Err (copy_refusal c.in_err-save.field-0.0)) begun refl c.from_residual-in_err-save.result (p.1 ∙ ap (λ e. Err e) p.2)
@@ -118,7 +120,7 @@ returns-in_err-text-clause-gives g c =
     let p = err_from_is_err_and c.from_residual-in_err-text.result c.from_residual-in_err-text.ensures.1 in
     let begun = acted_ok first c.make_sets.new.state keyed c.args.actions.now loaded mid to c.save.new.self.backing.used c.make_sets.ensures.backing c.make_sets.ensures.table
     c.in_ok-load.ensures.keyed c.in_ok-load.ensures.used c.in_ok-load.ensures.sure c.in_ok-load.ensures.kept
-    c.in_ok-save.ensures.runs c.in_ok-save.ensures.idle c.in_ok-save.ensures.saved c.in_ok-save.ensures.exact in
+    c.in_ok-save.ensures.runs c.in_ok-save.ensures.idle c.in_ok-save.ensures.saved c.in_ok-save.ensures.exact c.in_ok-save.ensures.erases in
     stored_textless keyed (Act c.args.actions.now) from mid to first.table loaded refl c.args.state.now.facts.copied.least
     (record {
       images = c.in_ok-load.ensures.images;
@@ -128,6 +130,7 @@ returns-in_err-text-clause-gives g c =
       gives = c.in_ok-load.ensures.gives;
       defaults = c.in_ok-load.ensures.defaults;
       exact = c.in_ok-load.ensures.exact;
+      erases = c.in_ok-load.ensures.erases;
       fails = tt;
     })
     (λ text. Ok (told_whole text)) begun refl (λ text. refl) c.from_residual-in_err-text.result (p.1 ∙ ap (λ e. Err e) p.2)
@@ -142,7 +145,7 @@ returns-in_err-text-clause-later g c =
     let keyed = keyed_of c.args.state.now in
     let begun = acted_ok first c.make_sets.new.state keyed c.args.actions.now loaded mid to c.save.new.self.backing.used c.make_sets.ensures.backing c.make_sets.ensures.table
     c.in_ok-load.ensures.keyed c.in_ok-load.ensures.used c.in_ok-load.ensures.sure c.in_ok-load.ensures.kept
-    c.in_ok-save.ensures.runs c.in_ok-save.ensures.idle c.in_ok-save.ensures.saved c.in_ok-save.ensures.exact in
+    c.in_ok-save.ensures.runs c.in_ok-save.ensures.idle c.in_ok-save.ensures.saved c.in_ok-save.ensures.exact c.in_ok-save.ensures.erases in
     begun_later keyed (used_after loaded) _ begun.saves from mid to begun.are c.in_ok-load.ensures.later
 
 pub returns-in_err-text-clause-starts : goal.returns-in_err-text-clause-starts
@@ -155,7 +158,7 @@ returns-in_err-text-clause-starts g c =
     let keyed = keyed_of c.args.state.now in
     let begun = acted_ok first c.make_sets.new.state keyed c.args.actions.now loaded mid to c.save.new.self.backing.used c.make_sets.ensures.backing c.make_sets.ensures.table
     c.in_ok-load.ensures.keyed c.in_ok-load.ensures.used c.in_ok-load.ensures.sure c.in_ok-load.ensures.kept
-    c.in_ok-save.ensures.runs c.in_ok-save.ensures.idle c.in_ok-save.ensures.saved c.in_ok-save.ensures.exact in
+    c.in_ok-save.ensures.runs c.in_ok-save.ensures.idle c.in_ok-save.ensures.saved c.in_ok-save.ensures.exact c.in_ok-save.ensures.erases in
     begun_starts keyed (used_after loaded) _ begun.saves from mid to begun.are c.in_ok-load.ensures.starts
 
 pub returns-clause-gives : goal.returns-clause-gives
@@ -168,10 +171,10 @@ returns-clause-gives g c =
     let keyed = keyed_of c.args.state.now in
     let begun = acted_ok first c.make_sets.new.state keyed c.args.actions.now loaded mid to c.save.new.self.backing.used c.make_sets.ensures.backing c.make_sets.ensures.table
     c.in_ok-load.ensures.keyed c.in_ok-load.ensures.used c.in_ok-load.ensures.sure c.in_ok-load.ensures.kept
-    c.in_ok-save.ensures.runs c.in_ok-save.ensures.idle c.in_ok-save.ensures.saved c.in_ok-save.ensures.exact in
+    c.in_ok-save.ensures.runs c.in_ok-save.ensures.idle c.in_ok-save.ensures.saved c.in_ok-save.ensures.exact c.in_ok-save.ensures.erases in
     let same = c.in_ok-load.ensures.keyed in
     let found : IsLoadedArea keyed first.table loaded from mid =
-    record { gives = c.in_ok-load.ensures.gives; defaults = c.in_ok-load.ensures.defaults; exact = c.in_ok-load.ensures.exact } in
+    record { gives = c.in_ok-load.ensures.gives; defaults = c.in_ok-load.ensures.defaults; exact = c.in_ok-load.ensures.exact; erases = c.in_ok-load.ensures.erases } in
     let whole : loaded_area keyed.layout (area_taken first.table loaded) ≡ first.table = load_area keyed first.table loaded from mid found in
     stored_out keyed (Act c.args.actions.now) from mid to first.table loaded refl c.args.state.now.facts.copied.least
     (record {
@@ -182,6 +185,7 @@ returns-clause-gives g c =
       gives = c.in_ok-load.ensures.gives;
       defaults = c.in_ok-load.ensures.defaults;
       exact = c.in_ok-load.ensures.exact;
+      erases = c.in_ok-load.ensures.erases;
       fails = tt;
     })
     (λ text. Ok (told_whole text)) begun refl (Ok c.done.result)
@@ -204,7 +208,7 @@ returns-clause-later g c =
     let keyed = keyed_of c.args.state.now in
     let begun = acted_ok first c.make_sets.new.state keyed c.args.actions.now loaded mid to c.save.new.self.backing.used c.make_sets.ensures.backing c.make_sets.ensures.table
     c.in_ok-load.ensures.keyed c.in_ok-load.ensures.used c.in_ok-load.ensures.sure c.in_ok-load.ensures.kept
-    c.in_ok-save.ensures.runs c.in_ok-save.ensures.idle c.in_ok-save.ensures.saved c.in_ok-save.ensures.exact in
+    c.in_ok-save.ensures.runs c.in_ok-save.ensures.idle c.in_ok-save.ensures.saved c.in_ok-save.ensures.exact c.in_ok-save.ensures.erases in
     begun_later keyed (used_after loaded) _ begun.saves from mid to begun.are c.in_ok-load.ensures.later
 
 pub returns-clause-starts : goal.returns-clause-starts
@@ -217,5 +221,5 @@ returns-clause-starts g c =
     let keyed = keyed_of c.args.state.now in
     let begun = acted_ok first c.make_sets.new.state keyed c.args.actions.now loaded mid to c.save.new.self.backing.used c.make_sets.ensures.backing c.make_sets.ensures.table
     c.in_ok-load.ensures.keyed c.in_ok-load.ensures.used c.in_ok-load.ensures.sure c.in_ok-load.ensures.kept
-    c.in_ok-save.ensures.runs c.in_ok-save.ensures.idle c.in_ok-save.ensures.saved c.in_ok-save.ensures.exact in
+    c.in_ok-save.ensures.runs c.in_ok-save.ensures.idle c.in_ok-save.ensures.saved c.in_ok-save.ensures.exact c.in_ok-save.ensures.erases in
     begun_starts keyed (used_after loaded) _ begun.saves from mid to begun.are c.in_ok-load.ensures.starts
