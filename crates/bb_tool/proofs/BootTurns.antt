@@ -10,7 +10,7 @@ use Rattle.bb_copies.specs.Luck.{IsLucky}
 use Rattle.bb_copies.specs.Passing.{passings}
 use Rattle.bb_copies.specs.Saving.{KeepsUsed}
 use Rattle.bb_copies.specs.StandsFor.{Stands, StandsFor, first_passed, picked}
-use Rattle.bb_copies.specs.Trail.{IsTrail, Milestone, StandsAtOne, milestone_of, next_moment, stages_in, stages_of, trail_of}
+use Rattle.bb_copies.specs.Trail.{IsTrail, Milestone, StandsAtOne, milestone_of, stages_in, stages_of, trail_of}
 use Rattle.bb_copies.proofs.History.{load_last, picked_is_first}
 use Rattle.bb_copies.proofs.Places.{get_take}
 use Rattle.bb_copies.proofs.Trails.{begins_at, first_stands}

@@ -5,7 +5,7 @@ use Rattle.bb_copies.specs.Chronicle.{Content, Finished, Follows, IsStanding, Lo
 use Rattle.bb_copies.specs.Cutting.{turn_stages}
 use Rattle.bb_copies.specs.Luck.{IsLucky}
 use Rattle.bb_copies.specs.StandsFor.{Stands, picked}
-use Rattle.bb_copies.specs.Trail.{IsTrail, Milestone, Stage, milestone_of, session_trail, stages_in}
+use Rattle.bb_copies.specs.Trail.{IsTrail, Milestone, milestone_of, session_trail, stages_in}
 use Rattle.bb_flash.specs.Counted.{Counts, IsFair}
 use Rattle.bb_flash.specs.Device.{Device, Told, moment}
 use Rattle.bb_flash.specs.Image.{Image}
