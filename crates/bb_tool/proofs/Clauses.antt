@@ -46,9 +46,9 @@ undisturbed ran session = record {
   passes = alike_of ran session;
 }
 
-pub ends_early : (ran : Ran) → IsSession ran → LeavesUnnamedFiles ran → EndsEarly ran
-ends_early ran session unread = record {
-  early = early_of ran session unread;
+pub ends_early : (ran : Ran) → IsSession ran → EndsEarly ran
+ends_early ran session = record {
+  early = early_of ran session;
   early_memory = early_memory_of ran session;
 }
 

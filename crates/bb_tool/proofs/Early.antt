@@ -1,21 +1,17 @@
 -- Sessions that end early: a file that met a fault, and refused memory.
-use Rattle.std.proofs.Common.{◌≡◌, ◌⊎◌, ℕ, ◌<◌, is_ok, Bool, true, false, List, [], ◌∷◌, Option, None, Some, Result, Ok, Err, IsErr, refl, sym, ap, subst, ◌∙◌, inl, inr, arith}
+use Rattle.std.proofs.Common.{◌≡◌, ◌⊎◌, ℕ, is_ok, true, false, List, [], ◌∷◌, Option, None, Some, Result, Ok, Err, refl, sym, ap, subst, ◌∙◌, inl, inr}
 use Rattle.std.specs.List.{list_all}
-use Rattle.bb_base.specs.Folder.{Folder}
 use Rattle.bb_flash.specs.Device.{Device}
-use Rattle.bb_flash.specs.declared.geometry.Geometry.{Geometry}
 use Rattle.bb_state.specs.Keyed.{Keyed}
-use Rattle.bb_words.specs.Words.{words_of}
-use Rattle.bb_tool.specs.Calls.{IsSession, geometry_of}
+use Rattle.bb_tool.specs.Calls.{IsSession, MayAnswer, geometry_of}
 use Rattle.bb_tool.specs.Copying.{StopsAtFileFault, StopsBetweenSaves}
 use Rattle.bb_tool.specs.SessionAnswer.{IsFollowed}
-use Rattle.bb_tool.specs.Filing.{IsFiled}
 use Rattle.bb_shell.specs.Boot.{Round, first_table}
 use Rattle.bb_shell.specs.Running.{is_refused_save}
 use Rattle.bb_shell.specs.declared.outcome.Outcome.{Outcome}
 use Rattle.bb_shell.specs.declared.outcome.Outcome.TheVariants as outcomes
 use Rattle.bb_tool.specs.Booting.{SaveAnswer, answer_to, boots}
-use Rattle.bb_tool.specs.Plan.{Act, Boot, FileAnswers, Good, SessionPlan, Show, Work, Write, names_file, plan_by_words}
+use Rattle.bb_tool.specs.Plan.{Act, Boot, Good, SessionPlan, Show, Work, Write, plan_by_words, plan_reading}
 use Rattle.bb_tool.specs.Ran.{Ran}
 use Rattle.bb_tool.specs.Session.{Answers, LoadAnswer, Session, refusal_by_table, session_by, loaded_area, session_of_saves, saves_after, work_text, work_session}
 use Rattle.bb_tool.specs.Refusal.{status_of}
@@ -24,45 +20,24 @@ use Rattle.bb_tool.specs.Work.{AreSaved, IsStoreWork, IsWorkOf, SendsByMemory}
 use Rattle.bb_tool.specs.declared.refusal.Refusal.{Refusal}
 use Rattle.bb_tool.specs.declared.refusal.Refusal.TheVariants as refusals
 use Rattle.bb_tool.proofs.Endings.{no_memory_of, unasked_by}
-use Rattle.bb_tool.proofs.Plans.{plan_needs}
+use Rattle.bb_tool.proofs.Readings.{risen}
 use Rattle.bb_tool.proofs.Barred.{HasNoFault, barred_saves, done_whole, fault_device, is_device_fault, refused_whole, stored_whole}
 use Rattle.bb_tool.proofs.Booted.{answers_to, boot_is}
 use Rattle.bb_tool.proofs.Fine.{AllSaved, all_saved}
 
 -- ---- a file that met a fault
 
-risen : (before after : ℕ) → before < after → after ≡ before → ⊥
-risen before after rose same = omega arith
-
--- where the count of faults rose the plan is refused
-plan_risen : (words : List (List ℕ)) (geometry : Geometry) (before after : Folder)
-    (answers : FileAnswers) → IsFiled words geometry before after answers →
-    (names_file words ≡ false → after ≡ before) → before.faults < after.faults →
-    (named : Bool) → names_file words ≡ named → IsErr (plan_by_words words geometry answers)
-plan_risen words geometry before after answers filed unread rose false e =
-    absurd (risen before.faults after.faults rose (ap (λ (f : Folder). f.faults) (unread e)))
-plan_risen words geometry before after answers filed unread rose true e =
-    plan_needs (words_of words) words refl geometry answers filed.entries.most e
-    (λ all. risen before.faults after.faults rose (filed.calm all.0 all.1))
-
-risen_by : (ran : Ran) (answers : Answers) →
-    IsFiled ran.words (geometry_of ran) ran.before.folder ran.after.folder answers.files →
-    IsFollowed (plan_by_words ran.words (geometry_of ran) answers.files) ran.before.device
-    ran.after.device answers →
-    (names_file ran.words ≡ false → ran.after.folder ≡ ran.before.folder) → StopsAtFileFault ran
-risen_by ran answers filed done unread = λ rose.
+risen_by : (ran : Ran) (answers : Answers) → MayAnswer ran answers → StopsAtFileFault ran
+risen_by ran answers answered = λ rose.
     unasked_by (plan_by_words ran.words (geometry_of ran) answers.files) ran.before.device
-    ran.after.device answers done
-    (plan_risen ran.words (geometry_of ran) ran.before.folder ran.after.folder answers.files filed
-    unread rose (names_file ran.words) refl)
+    ran.after.device answers answered.followed
+    (risen (plan_reading ran.words (geometry_of ran)) ran.before.folder ran.after.folder answers.files answered.filed rose)
 
-pub early_of : (ran : Ran) → IsSession ran →
-    (names_file ran.words ≡ false → ran.after.folder ≡ ran.before.folder) → StopsAtFileFault ran
-early_of ran (inl ending) unread =
-    risen_by ran ending.answers ending.answered.filed ending.answered.followed unread
-early_of ran (inr memory) unread = λ rose. elim (memory.work) [
+pub early_of : (ran : Ran) → IsSession ran → StopsAtFileFault ran
+early_of ran (inl ending) = risen_by ran ending.answers ending.answered
+early_of ran (inr memory) = λ rose. elim (memory.work) [
   | inl same ↦ same
-  | inr text ↦ risen_by ran text.answers text.answered.filed text.answered.followed unread rose
+  | inr text ↦ risen_by ran text.answers text.answered rose
 ]
 
 -- ---- refused memory

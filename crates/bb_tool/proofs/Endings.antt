@@ -40,7 +40,8 @@ use Rattle.bb_tool.specs.Calls.{ComesByDevice, ComesByFiles, ComesByOutlet, Come
 use Rattle.bb_tool.specs.Copying.{KeepsATrail, KeepsAtExit, KeepsOutsideCopies}
 use Rattle.bb_tool.specs.SessionAnswer.{IsFollowed, IsSessionAnswer}
 use Rattle.bb_tool.specs.Booting.{SaveAnswer, boots, end_refusal, rounds_of}
-use Rattle.bb_tool.specs.Plan.{Act, Boot, FileAnswers, Good, SessionPlan, Show, Work, Write, copies_in, files_for, plan_of, plan_by_words}
+use Rattle.bb_tool.specs.Plan.{Act, Boot, FileAnswers, Good, SessionPlan, Show, Work, Write, copies_in, plan_by_words, words_reading}
+use Rattle.bb_tool.specs.FilesRead.{result_by}
 use Rattle.bb_tool.specs.Ran.{Ran}
 use Rattle.bb_tool.specs.Refusal.{copy_refusal, line_of, status_of}
 use Rattle.bb_tool.specs.Session.{Answers, LoadAnswer, Session, refusal_by_table, ended_status, session_by, loaded_area, refused_for, session_of_saves, saves_after, saves_of, sent_of, session_of, saving_session, work_text, unless_barred, work_session, worked_on}
@@ -51,7 +52,7 @@ use Rattle.bb_tool.specs.declared.refusal.Refusal.TheVariants as refusals
 use Rattle.bb_tool.specs.declared.report.Report.{Report}
 use Rattle.bb_tool.specs.declared.status.Status.{Status}
 use Rattle.bb_tool.specs.declared.status.Status.TheVariants as statuses
-use Rattle.bb_tool.proofs.Plans.{alone_plan, faulty_words, plan_refusal, same_plan, words_refused}
+use Rattle.bb_tool.proofs.Plans.{alone_plan, faulty_plan, plan_refusal, same_plan, words_refused}
 use Rattle.bb_tool.proofs.Told.{memory_sink, told_cases, told_front, told_memory, told_other, told_own}
 use Rattle.bb_tool.proofs.Barred.{barred_has, is_device_fault, stored_refusal}
 use Rattle.bb_tool.proofs.Booted.{boot_is, later_last}
@@ -154,7 +155,7 @@ refused_memory a plan is refused = sym (subst (IsRefusedWith a) is refused)
 
 -- ---- words and plans
 
-words_always : (command : Result Command ℕ) (geometry : Geometry) → IsErr command → (answers : Answers) → ended_status (session_by (plan_of command geometry answers.files) answers) ≡ statuses.BadWords
+words_always : (command : Result Command ℕ) (geometry : Geometry) → IsErr command → (answers : Answers) → ended_status (session_by (result_by (words_reading command geometry) answers.files) answers) ≡ statuses.BadWords
 words_always (Err place) geometry refused answers = refl
 words_always (Ok command) geometry refused answers = absurd cc
 
@@ -202,7 +203,7 @@ comes_planned ran s answer other first second third = λ files told. record {
 -- and where the words name no file, over any
 pub comes_alone : (ran : Ran) → IsSession ran → (answer : Status) → is_work answer ≡ false → answer ≢ statuses.SinkFault → answer ≢ statuses.NoMemory → ComesByPlanAlone answer ran
 comes_alone ran s answer other first second = λ none files.
-    let same : (read : FileAnswers) → plan_by_words ran.words (geometry_of ran) read ≡ plan_over ran files = λ read. alone_plan (words_of ran.words) (geometry_of ran) read (files_for ran.words (geometry_of ran) files) none in
+    let same : (read : FileAnswers) → plan_by_words ran.words (geometry_of ran) read ≡ plan_over ran files = λ read. alone_plan ran.words (geometry_of ran) read files none in
     record {
       only = λ e.
           let own = own_answer ran answer s first second e in
@@ -219,11 +220,7 @@ file_fault_of ran s later = record {
       let own = own_answer ran statuses.FileFault s (λ h. cc) (λ h. cc) e in
       let files = own.ending.answers.files in
       let refused = plan_only (plan_by_words ran.words (geometry_of ran) files) own.ending.answers statuses.FileFault refl own.own in
-      let named = faulty_words ran.words (geometry_of ran) files (words_of ran.words) refl refused in
-      elim named [
-        | inl file ↦ own.ending.answered.filed.cause file.role file.name file.named file.fault
-        | inr entry ↦ own.ending.answered.filed.entry_cause entry
-      ];
+      faulty_plan ran.words (geometry_of ran) ran.before.folder ran.after.folder files own.ending.answered.filed refused;
 }
 
 planning_work : (status : Status) → is_work status ≡ true → is_planning status ≡ true → ⊥
@@ -553,7 +550,7 @@ read_fault_of ran s later = record {
   later = later;
   rose = λ e.
       let own = own_answer ran statuses.ReadFault s (λ h. cc) (λ h. cc) e in
-      let fault = faulted ran statuses.ReadFault (λ h. cc) refl own (plan_refusal statuses.ReadFault refl (words_of ran.words) (geometry_of ran) own.ending.answers.files) in
+      let fault = faulted ran statuses.ReadFault (λ h. cc) refl own (plan_refusal statuses.ReadFault refl (λ h. cc) (words_of ran.words) (geometry_of ran) own.ending.answers.files) in
       read_fault_told fault.planned_as.keyed ran.before.device ran.after.device fault.refusal fault.status_is fault.fault;
 }
 
@@ -571,7 +568,7 @@ named_copy keyed from to refusal faults.Unsure is tells h = absurd tells
 
 write_named : (ran : Ran) (own : IsOwn ran statuses.WriteFault) → (fault : IsFaulted (plan_by_words ran.words (geometry_of ran) own.ending.answers.files) ran.before.device ran.after.device (session_for ran own.ending.answers) statuses.WriteFault) × IsNamed fault.planned_as.keyed ran.before.device ran.after.device fault.refusal
 write_named ran own =
-    let fault = faulted ran statuses.WriteFault (λ h. cc) refl own (plan_refusal statuses.WriteFault refl (words_of ran.words) (geometry_of ran) own.ending.answers.files) in
+    let fault = faulted ran statuses.WriteFault (λ h. cc) refl own (plan_refusal statuses.WriteFault refl (λ h. cc) (words_of ran.words) (geometry_of ran) own.ending.answers.files) in
     (fault, named_copy fault.planned_as.keyed ran.before.device ran.after.device fault.refusal fault.fault.fault fault.fault.is fault.fault.tells fault.status_is)
 
 pub write_fault_of : (ran : Ran) → IsSession ran → ran.before.device.faults ≤ ran.after.device.faults → ComesByDevice statuses.WriteFault ran
@@ -660,7 +657,7 @@ plan_sink : (plan : Result SessionPlan Refusal) (answers : Answers) → (IsRefus
 plan_sink plan answers none = λ e. none (plan_only plan answers statuses.SinkFault refl e)
 
 session_sink : (words : List (List ℕ)) (geometry : Geometry) (answers : Answers) → ended_status (session_of words geometry answers) ≢ statuses.SinkFault
-session_sink words geometry answers = plan_sink (plan_by_words words geometry answers.files) answers (plan_refusal statuses.SinkFault refl (words_of words) geometry answers.files)
+session_sink words geometry answers = plan_sink (plan_by_words words geometry answers.files) answers (plan_refusal statuses.SinkFault refl (λ h. cc) (words_of words) geometry answers.files)
 
 cut_off : (ran : Ran) (ending : IsAnswered ran) → ran.status ≡ statuses.SinkFault → IsTextCut (sent_of (session_for ran ending.answers)) (ended_status (session_for ran ending.answers)) ran.before.sink ran.after.sink ran.status
 cut_off ran ending e = told_front _ _ ran.before.sink ran.after.sink ran.status ending.told (session_sink ran.words (geometry_of ran) ending.answers) e

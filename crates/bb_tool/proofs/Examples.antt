@@ -19,7 +19,9 @@ use Rattle.bb_chooser.specs.Counting.{mark_good_of}
 use Rattle.bb_chooser.specs.declared.settings_error.SettingsError.TheVariants as settings_errors
 use Rattle.bb_tool.specs.Looking.{first_found, look_text}
 use Rattle.bb_tool.specs.Marking.{good_text, lost_place}
-use Rattle.bb_tool.specs.Plan.{Boot, FileAnswers, SessionPlan, plans_in}
+use Rattle.bb_tool.specs.FilesRead.{result_by}
+use Rattle.bb_tool.specs.Plan.{Boot, FileAnswers, SessionPlan}
+use Rattle.bb_tool.specs.PlanSteps.{plans_reading}
 use Rattle.bb_tool.specs.Refusal.{line_of}
 use Rattle.bb_tool.specs.Session.{done_with, refused_for, sent_of, session_of, work_session}
 use Rattle.bb_tool.specs.SessionTurns.{boot_turn}
@@ -28,9 +30,9 @@ use Rattle.bb_tool.specs.declared.refusal.Refusal.TheVariants.{BadSettings, BadW
 in_place : Geometry
 in_place = record { page = 1; block = 0; size = 192 }
 
--- no file is there
+-- no file is read
 abbrev no_files : FileAnswers
-no_files = record { named = λ role. Ok None; entries = [] }
+no_files = []
 
 with_blocks : Geometry
 with_blocks = record { page = 256; block = 65536; size = 1048576 }
@@ -106,7 +108,7 @@ line_behind_the_text = refl
 
 -- ---- `mark-good`
 
-no_tree : session_of (codes "mark-good" ∷ codes "-i" ∷ codes "b.dts" ∷ codes "-c" ∷ codes "set.txt" ∷ []) in_place (record { files = no_files; load = Ok None; saves = [] }) ≡ refused_for (FileMissing (codes "b.dts"))
+no_tree : session_of (codes "mark-good" ∷ codes "-i" ∷ codes "b.dts" ∷ codes "-c" ∷ codes "set.txt" ∷ []) in_place (record { files = Ok None ∷ []; load = Ok None; saves = [] }) ≡ refused_for (FileMissing (codes "b.dts"))
 unfolding in_place words_from
 no_tree = refl
 
@@ -167,7 +169,7 @@ place_behind = refl
 
 -- ---- `boot`
 
-no_tree_to_boot : session_of (codes "boot" ∷ codes "-i" ∷ codes "b.dts" ∷ codes "-c" ∷ codes "set.txt" ∷ []) in_place (record { files = no_files; load = Ok None; saves = [] }) ≡ refused_for (FileMissing (codes "b.dts"))
+no_tree_to_boot : session_of (codes "boot" ∷ codes "-i" ∷ codes "b.dts" ∷ codes "-c" ∷ codes "set.txt" ∷ []) in_place (record { files = Ok None ∷ []; load = Ok None; saves = [] }) ≡ refused_for (FileMissing (codes "b.dts"))
 unfolding in_place words_from
 no_tree_to_boot = refl
 
@@ -272,8 +274,8 @@ module _ (keyed : Keyed) where
   nothing_to_save = refl
 
 -- an entry that can't be read is named
-entry_too_long : plans_in (two_targets false false) (Ok None ∷ Err file_fails.TooLong ∷ []) ≡ Err (FileTooLong (codes "b.conf"))
+entry_too_long : result_by (plans_reading (two_targets false false)) (Ok None ∷ Err file_fails.TooLong ∷ []) ≡ Err (FileTooLong (codes "b.conf"))
 entry_too_long = refl
 
-entry_with_a_fault : plans_in (two_targets false false) (Err file_fails.Fault ∷ []) ≡ Err (FileFault (codes "a.conf"))
+entry_with_a_fault : result_by (plans_reading (two_targets false false)) (Err file_fails.Fault ∷ []) ≡ Err (FileFault (codes "a.conf"))
 entry_with_a_fault = refl

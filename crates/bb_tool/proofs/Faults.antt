@@ -487,17 +487,17 @@ read_fault plan from to load answers faults.ReadFault is explains = explains
 read_fault plan from to load answers (faults.WriteFault other) is explains = absurd cc
 read_fault plan from to load answers faults.Unsure is explains = absurd explains
 
-read_by : (plan : Result SessionPlan Refusal) (from to : Device) (answers : Answers) →
+result_by : (plan : Result SessionPlan Refusal) (from to : Device) (answers : Answers) →
     IsFollowed plan from to answers →
     (session_by plan answers).refusal ≡ Some refusals.ReadFault → content to ≡ content from
-read_by (Err refusal) from to answers done h = ap content done
-read_by (Ok plan) from to answers done h =
+result_by (Err refusal) from to answers done h = ap content done
+result_by (Ok plan) from to answers done h =
     let is = work_explains plan.work plan from to answers.load answers.saves refusals.ReadFault refl refl done h in
     read_fault plan from to answers.load answers.saves is.fault is.is is.explains
 
 pub unread_of : (ran : Ran) → IsSession ran → LeavesUnread ran
 unread_of ran session = λ answers answered h.
-    read_by (plan_by_words ran.words (geometry_of ran) answers.files) ran.before.device ran.after.device
+    result_by (plan_by_words ran.words (geometry_of ran) answers.files) ran.before.device ran.after.device
     answers answered.followed h
 
 write_by : (given : Result SessionPlan Refusal) (plan : SessionPlan) (from to : Device) (answers : Answers) →

@@ -5,7 +5,7 @@ pub mod Clauses
 pub mod Copies
 pub mod Early
 pub mod Endings
-pub mod Entries
+pub mod EntryPlans
 pub mod Erases
 pub mod Exact
 mod Examples
@@ -14,11 +14,12 @@ pub mod Fine
 pub mod Given
 pub mod InTurn
 pub mod Kept
-pub mod Keys
 pub mod Lines
+pub mod Planned
 pub mod Plans
 pub mod Quiet
 mod Regions
+pub mod Readings
 pub mod Sizes
 pub mod Sources
 pub mod Starting

@@ -1,6 +1,6 @@
 -- The area of a plan's layout has one length: in its defaults, in what its copies pass, and in what
 -- a boot is bound to; and no two variables to which a boot is bound share a byte of it.
-use Rattle.std.proofs.Common.{◌≡◌, ℕ, suc, ◌+◌, ◌≤◌, Bool, true, false, List, [], ◌∷◌, All, length, Option, Some, None, Result, Ok, Err, IfOk, cond, nat_lt, refl, subst, ◌∙◌, arith}
+use Rattle.std.proofs.Common.{◌≡◌, ℕ, suc, ◌+◌, ◌≤◌, Bool, true, false, List, [], ◌∷◌, All, length, Option, Some, None, Result, Ok, Err, IfErr, IfOk, cond, nat_lt, refl, subst, ◌∙◌, arith}
 use Rattle.std.specs.Prelude.{⊤, fold, map, ok_or, replicate}
 use Rattle.std.specs.Option.{option_and_then}
 use Rattle.std.proofs.lemmas.Bool.Decides.{nat_tests}
@@ -15,11 +15,16 @@ use Rattle.bb_chooser.specs.Settings.{Configuration, settings_of}
 use Rattle.bb_chooser.specs.declared.bound_target.BoundTarget.{BoundTarget}
 use Rattle.bb_copies.specs.Passing.{passing_of, passings}
 use Rattle.bb_copies.specs.StandsFor.{first_passed}
+use Rattle.bb_dts.specs.Source.{source_of}
+use Rattle.bb_fdt.specs.Reading.{blob_of}
 use Rattle.bb_flash.specs.Image.{Image}
 use Rattle.bb_flash.specs.declared.geometry.Geometry.{Geometry}
 use Rattle.bb_flash.specs.declared.plan.Plan.{Plan as StartPlan}
 use Rattle.bb_flash.specs.declared.region.Region.{Region}
+use Rattle.bb_hmac.specs.Hmac.{key_block}
+use Rattle.bb_hmac.specs.Key.{key_of}
 use Rattle.bb_layout.specs.Backend.{backend_of}
+use Rattle.bb_layout.specs.Formats.{takes_key}
 use Rattle.bb_layout.specs.Copies.{copies_of}
 use Rattle.bb_layout.specs.Defaults.{defaults_of}
 use Rattle.bb_layout.specs.Facts.{AreVars}
@@ -39,24 +44,34 @@ use Rattle.bb_layout.specs.declared.var.Var.{Var}
 use Rattle.bb_layout.proofs.Apart.{share_no_byte}
 use Rattle.bb_layout.proofs.RangeFacts.{ends_inside, names_apart, ranges_apart}
 use Rattle.bb_layout.proofs.WellFormed.{all_well_formed}
+use Rattle.bb_shell.specs.Plans.{entries_of, plan_by}
 use Rattle.bb_state.specs.Keyed.{Keyed}
+use Rattle.bb_state.specs.declared.error.StateError.{StateError}
 use Rattle.bb_state.proofs.Fitting.{fits_sized}
 use Rattle.bb_state.specs.Kinds.{any_format_laws, format_of, laid_form, laid_kinds}
+use Rattle.bb_tree.specs.Blob.{Devicetree}
 use Rattle.bb_tree.specs.Node.{Branch}
 use Rattle.bb_vars.specs.Table.{table_with}
 use Rattle.bb_vars.proofs.TableRanges.{length-table_with}
 use Rattle.bb_words.specs.Words.{words_of}
 use Rattle.bb_words.specs.declared.command.Command.{Command}
-use Rattle.bb_words.specs.declared.command.Command.TheVariants.{Raw, State, MarkGood, Boot as BootWords}
+use Rattle.bb_words.specs.declared.command.Command.TheVariants as commands
 use Rattle.bb_words.specs.declared.command.RawAction.{RawAction}
 use Rattle.bb_words.specs.declared.command.RawAction.TheVariants as raw_actions
 use Rattle.bb_words.specs.declared.command.RawCommand.{RawCommand}
+use Rattle.bb_words.specs.declared.command.StateCommand.{StateCommand}
 use Rattle.bb_layout.specs.Thirds.{raw_layout}
 use Rattle.bb_tool.specs.Looking.{passed_in}
-use Rattle.bb_tool.specs.Plan.{Act, Boot, Described, FileAnswer, FileAnswers, Good, Key, SessionPlan, Settings, Show, Tree, Work, Write, binding_in, boot_bound, boot_described, boot_keyed, binding_by, bytes_in, cause_of, fit_by, key_in, keyed_by, keyed_in, laid_by, layout_by, layout_in, mark_described, mark_keyed, plan_of, plan_by_words, plans_in, raw_laid, raw_work, refused_as, state_described, state_keyed, tree_in}
+use Rattle.bb_tool.specs.PlanSteps.{binding_by, binding_reading, blob_root, block_by, block_reading, cause_of, entries_reading, fit_by, is_blob, key_behind, key_reading, keyed_reading, layout_by, layout_reading, named_block, plans_reading, refused_as, source_root, targets_by, tree_in}
+use Rattle.bb_tool.specs.Plan.{Act, Boot, FileAnswers, Good, SessionPlan, Show, Work, Write, boot_behind, boot_planned, command_reading, mark_behind, plan_by_words, raw_laid, raw_work, state_plan, words_reading}
+use Rattle.bb_tool.specs.FilesRead.{EachEnd, Yields, and_then, file_reading, result_by, reading_of}
+use Rattle.bb_tool.specs.Refusal.{status_of}
 use Rattle.bb_tool.specs.SessionTurns.{first_area}
 use Rattle.bb_tool.specs.declared.refusal.Refusal.{Refusal}
 use Rattle.bb_tool.specs.declared.refusal.Refusal.TheVariants as refusals
+use Rattle.bb_tool.specs.declared.status.Status.{Status}
+use Rattle.bb_tool.specs.declared.status.Status.TheVariants as statuses
+use Rattle.bb_tool.proofs.Readings.{each_of, each_then, ends_ok}
 
 -- ---- a step that is refused by another name
 
@@ -190,22 +205,6 @@ layout_sized tree name geometry =
     laid_sized tree found.0 found.1 geometry (props_of found.1) (λ props. props.magic)
     (λ props. props.format) (λ props vars len region. storage_in geometry region props (len_of found.1 props vars len)))
 
-laid_in : (file : List ℕ) (name : Option (List ℕ)) (geometry : Geometry) (answer : FileAnswer) →
-    IfOk (layout_in file name geometry answer) IsSized
-laid_in file name geometry answer =
-    then_ok IsSized (layout_by name geometry) (bytes_in file answer) (λ bytes has_bytes.
-    then_ok IsSized (λ (root : Branch (List ℕ)). refused_as refusals.BadLayout (layout_from root name geometry))
-    (tree_in bytes) (λ root has_root.
-    as_ok IsSized refusals.BadLayout (layout_from root name geometry) (layout_sized root name geometry)))
-
-keyed_sized : (state : Described) (geometry : Geometry) (tree key : FileAnswer) →
-    IfOk (keyed_by state geometry tree key) (λ keyed. IsSized keyed.layout)
-keyed_sized state geometry tree key =
-    then_ok (λ (keyed : Keyed). IsSized keyed.layout) (keyed_in state.key key) (laid_by state geometry tree) (λ layout laid.
-    then_ok (λ (keyed : Keyed). IsSized keyed.layout) (λ (k : Option (List ℕ)). Ok (record { layout = layout; key = k }))
-    (key_in state.key layout.format key) (λ k has_key.
-    if_ok IsSized (laid_by state geometry tree) layout laid (laid_in state.file state.name geometry tree)))
-
 -- ---- what a boot is bound to
 
 abbrev pub IsAsLongAs : Laid → Binding → Type 0
@@ -222,21 +221,21 @@ bind_sized settings layout =
     then_ok (IsAsLongAs layout) (λ place. Ok (binding targets settings.rules place layout.area_len))
     (uint32_at layout.name layout.vars (last_chosen_name settings.prefix)) (λ place has_place. refl))
 
-bound_apart : (file : List ℕ) (layout : Laid) (answer : FileAnswer) → IsSized layout → IfOk (binding_in file layout answer) IsBinding
-bound_apart file layout answer sized =
-    then_ok IsBinding (λ text. refused_as refusals.BadSettings (binding_by layout text)) (bytes_in file answer)
-    (λ text has_bytes.
+bound_apart : (layout : Laid) (text : List ℕ) → IsSized layout → IfOk (targets_by layout text) IsBinding
+bound_apart layout text sized =
     as_ok IsBinding refusals.BadSettings (binding_by layout text)
     (then_ok IsBinding (λ settings. bind_from settings layout.name layout.vars layout.area_len) (settings_of text)
-    (λ settings read. bind_apart text settings layout read sized.vars sized.short)))
+    (λ settings read. bind_apart text settings layout read sized.vars sized.short))
 
-bound_sized : (file : List ℕ) (layout : Laid) (answer : FileAnswer) → IfOk (binding_in file layout answer) (IsAsLongAs layout)
-bound_sized file layout answer =
-    then_ok (IsAsLongAs layout) (λ text. refused_as refusals.BadSettings (binding_by layout text)) (bytes_in file answer)
-    (λ text has_bytes.
+bound_sized : (layout : Laid) (text : List ℕ) → IfOk (targets_by layout text) (IsAsLongAs layout)
+bound_sized layout text =
     as_ok (IsAsLongAs layout) refusals.BadSettings (binding_by layout text)
     (then_ok (IsAsLongAs layout) (λ settings. bind_from settings layout.name layout.vars layout.area_len) (settings_of text)
-    (λ settings read. bind_sized settings layout)))
+    (λ settings read. bind_sized settings layout))
+
+both_ok : {A E : Type 0} (P Q : A → Type 0) (r : Result A E) → IfOk r P → IfOk r Q → IfOk r (λ x. P x × Q x)
+both_ok P Q (Ok x) p q = (p, q)
+both_ok P Q (Err e) p q = tt
 
 -- ---- the plan
 
@@ -256,51 +255,163 @@ IsSizedWork (Boot targets cause plans) layout = IsSizedBoot layout targets
 abbrev pub IsSizedPlan : SessionPlan → Type 0
 IsSizedPlan plan = IsSizedWork plan.work plan.keyed.layout
 
+-- ---- how the reading of a plan ends, whatever the files hold
+
+-- the statuses of what a file holds, or that it is missing
+abbrev pub is_of_text : Status → Bool
+is_of_text statuses.BadTree = true
+is_of_text statuses.BadLayout = true
+is_of_text statuses.BadVariable = true
+is_of_text statuses.FileMissing = true
+is_of_text statuses.BadSettings = true
+is_of_text statuses.BadKey = true
+is_of_text _ = false
+
+abbrev pub IsOfText : Refusal → Type 0
+IsOfText refusal = is_of_text (status_of refusal) ≡ true
+
+then_text : {A B : Type 0} (next : A → Result B Refusal) (r : Result A Refusal) → IfErr r IsOfText →
+    ((x : A) → IfErr (next x) IsOfText) → IfErr (result_and_then next r) IsOfText
+then_text next (Ok x) here behind = behind x
+then_text next (Err e) here behind = here
+
+as_text : {A E : Type 0} (refusal : E → Refusal) (r : Result A E) → ((e : E) → IsOfText (refusal e)) →
+    IfErr (refused_as refusal r) IsOfText
+as_text refusal (Ok x) each = tt
+as_text refusal (Err e) each = each e
+
+-- a step after a file
+file_ends : {A : Type 0} (P : A → Type 0) (next : List ℕ → Result A Refusal) (file : List ℕ) →
+    ((bytes : List ℕ) → IfOk (next bytes) P) → ((bytes : List ℕ) → IfErr (next bytes) IsOfText) →
+    EachEnd P IsOfText (and_then (λ bytes. reading_of (next bytes)) (file_reading file))
+file_ends P next file ok err None = refl
+file_ends P next file ok err (Some bytes) = each_of P IsOfText (next bytes) (ok bytes) (err bytes)
+
+tree_text : (bytes : List ℕ) → IfErr (tree_in bytes) IsOfText
+tree_text bytes = by (is_blob bytes)
+  where
+    by : (blob : Bool) → IfErr (cond blob (blob_root bytes) (source_root bytes)) IsOfText
+    by true =
+        then_text (λ (tree : Devicetree). Ok tree.root) (refused_as refusals.BadBlob (blob_of bytes))
+        (as_text refusals.BadBlob (blob_of bytes) (λ e. refl)) (λ tree. tt)
+    by false =
+        then_text (λ (tree : Devicetree). Ok tree.root) (refused_as refusals.BadTree (source_of bytes))
+        (as_text refusals.BadTree (source_of bytes) (λ e. refl)) (λ tree. tt)
+
+layout_ends : (file : List ℕ) (name : Option (List ℕ)) (geometry : Geometry) →
+    EachEnd IsSized IsOfText (layout_reading file name geometry)
+layout_ends file name geometry =
+    let next : Branch (List ℕ) → Result Laid Refusal = λ root. refused_as refusals.BadLayout (layout_from root name geometry) in
+    file_ends IsSized (layout_by name geometry) file
+    (λ bytes.
+    then_ok IsSized next (tree_in bytes) (λ root has_root.
+    as_ok IsSized refusals.BadLayout (layout_from root name geometry) (layout_sized root name geometry)))
+    (λ bytes.
+    then_text next (tree_in bytes) (tree_text bytes)
+    (λ root. as_text refusals.BadLayout (layout_from root name geometry) (λ e. refl)))
+
+abbrev Any : {A : Type 0} → A → Type 0
+Any x = ⊤
+
+any_ok : {A E : Type 0} (r : Result A E) → IfOk r Any
+any_ok (Ok x) = tt
+any_ok (Err e) = tt
+
+block_ends : (file : List ℕ) → EachEnd Any IsOfText (block_reading file)
+block_ends file =
+    file_ends Any block_by file (λ text. any_ok (block_by text))
+    (λ text.
+    then_text (λ (key : List ℕ). Ok (key_block key)) (refused_as refusals.BadKey (key_of text))
+    (as_text refusals.BadKey (key_of text) (λ e. refl)) (λ key. tt))
+
+named_ends : (file : Option (List ℕ)) → EachEnd Any IsOfText (named_block file)
+named_ends None = refl
+named_ends (Some file) =
+    each_then Any Any IsOfText (λ (block : List ℕ). Yields (Some block)) (block_reading file) (block_ends file) (λ block any. tt)
+
+key_ends : (file : Option (List ℕ)) (format : FormatKind) → EachEnd Any IsOfText (key_reading file format)
+key_ends file format = by (takes_key format)
+  where
+    by : (takes : Bool) → EachEnd Any IsOfText (cond takes (named_block file) (Yields None))
+    by true = named_ends file
+    by false = tt
+
+abbrev HasSize : Keyed → Type 0
+HasSize keyed = IsSized keyed.layout
+
+keyed_ends : (file : List ℕ) (name key : Option (List ℕ)) (geometry : Geometry) →
+    EachEnd HasSize IsOfText (keyed_reading file name key geometry)
+keyed_ends file name key geometry =
+    each_then IsSized HasSize IsOfText (key_behind key) (layout_reading file name geometry) (layout_ends file name geometry)
+    (λ layout sized.
+    each_then Any HasSize IsOfText (λ (block : Option (List ℕ)). Yields (record { layout = layout; key = block }))
+    (key_reading key layout.format) (key_ends key layout.format) (λ block any. sized))
+
+abbrev IsBoundSo : Laid → Binding → Type 0
+IsBoundSo layout targets = IsAsLongAs layout targets × IsBinding targets
+
+binding_ends : (file : List ℕ) (layout : Laid) → IsSized layout → EachEnd (IsBoundSo layout) IsOfText (binding_reading file layout)
+binding_ends file layout sized =
+    file_ends (IsBoundSo layout) (targets_by layout) file
+    (λ text. both_ok (IsAsLongAs layout) IsBinding (targets_by layout text) (bound_sized layout text) (bound_apart layout text sized))
+    (λ text. as_text refusals.BadSettings (binding_by layout text) (λ e. refl))
+
+entries_end : (target : ℕ) (names : List (List ℕ)) → EachEnd Any IsOfText (entries_reading target names)
+entries_end target [] = tt
+entries_end target (name ∷ names) = λ text.
+    each_then Any Any IsOfText (λ (plans : List (Option StartPlan)). Yields (plan_by target text ∷ plans))
+    (entries_reading (target + 1) names) (entries_end (target + 1) names) (λ plans any. tt)
+
 raw_sized : (action : RawAction) (layout : Laid) → IsSizedWork (raw_work action) layout
 raw_sized raw_actions.Look layout = tt
 raw_sized (raw_actions.Write area) layout = tt
 
-raw_plan_sized : (command : RawCommand) (r : Result Laid LayoutError) → IfOk (raw_laid command r) IsSizedPlan
-raw_plan_sized command (Ok layout) = raw_sized command.action layout
-raw_plan_sized command (Err e) = tt
+raw_ends : (command : RawCommand) (r : Result Laid LayoutError) → EachEnd IsSizedPlan IsOfText (reading_of (raw_laid command r))
+raw_ends command (Ok layout) = raw_sized command.action layout
+raw_ends command (Err e) = refl
 
-plan_sized : (command : Result Command ℕ) (geometry : Geometry) (files : FileAnswers) → IfOk (plan_of command geometry files) IsSizedPlan
-plan_sized (Ok (Raw command)) geometry files = raw_plan_sized command (raw_layout command.magic command.area_len geometry)
-plan_sized (Ok (State command)) geometry files =
-    then_ok IsSizedPlan (state_keyed command)
-    (keyed_by (state_described command) geometry (files.named Tree) (files.named Key)) (λ keyed laid.
-    then_ok IsSizedPlan (λ (fit : Unit {0}). Ok (record { keyed = keyed; work = Act command.actions }))
-    (fit_by (misfit_of keyed.layout.vars command.actions)) (λ fit fits. tt))
-plan_sized (Ok (MarkGood command)) geometry files =
-    then_ok IsSizedPlan (mark_keyed command (files.named Settings))
-    (keyed_by (mark_described command) geometry (files.named Tree) (files.named Key)) (λ keyed laid.
-    then_ok IsSizedPlan (λ (targets : Binding). Ok (record { keyed = keyed; work = Good targets }))
-    (binding_in command.settings keyed.layout (files.named Settings)) (λ targets bound. tt))
-plan_sized (Ok (BootWords command)) geometry files =
-    then_ok IsSizedPlan (boot_keyed command (files.named Settings) files.entries)
-    (keyed_by (boot_described command) geometry (files.named Tree) (files.named Key)) (λ keyed laid.
-    then_ok IsSizedPlan (boot_bound command files.entries keyed)
-    (binding_in command.settings keyed.layout (files.named Settings)) (λ targets bound.
-    then_ok IsSizedPlan
+fit_ends : (command : StateCommand) (keyed : Keyed) (misfit : Option (List ℕ × StateError)) →
+    EachEnd IsSizedPlan IsOfText
+    (reading_of (result_and_then (λ fit. Ok (record { keyed = keyed; work = Act command.actions })) (fit_by misfit)))
+fit_ends command keyed None = tt
+fit_ends command keyed (Some misfit) = refl
+
+pub command_ends : (command : Command) (geometry : Geometry) → EachEnd IsSizedPlan IsOfText (command_reading command geometry)
+command_ends (commands.Raw command) geometry = raw_ends command (raw_layout command.magic command.area_len geometry)
+command_ends (commands.State command) geometry =
+    each_then HasSize IsSizedPlan IsOfText (λ keyed. reading_of (state_plan command keyed))
+    (keyed_reading command.file command.name command.key geometry) (keyed_ends command.file command.name command.key geometry)
+    (λ keyed sized. fit_ends command keyed (misfit_of keyed.layout.vars command.actions))
+command_ends (commands.MarkGood command) geometry =
+    each_then HasSize IsSizedPlan IsOfText (mark_behind command)
+    (keyed_reading command.file command.name command.key geometry) (keyed_ends command.file command.name command.key geometry)
+    (λ keyed sized.
+    each_then (IsBoundSo keyed.layout) IsSizedPlan IsOfText
+    (λ (targets : Binding). Yields (record { keyed = keyed; work = Good targets }))
+    (binding_reading command.settings keyed.layout) (binding_ends command.settings keyed.layout sized) (λ targets bound. tt))
+command_ends (commands.Boot command) geometry =
+    each_then HasSize IsSizedPlan IsOfText (boot_behind command)
+    (keyed_reading command.file command.name command.key geometry) (keyed_ends command.file command.name command.key geometry)
+    (λ keyed sized.
+    each_then (IsBoundSo keyed.layout) IsSizedPlan IsOfText (boot_planned command keyed)
+    (binding_reading command.settings keyed.layout) (binding_ends command.settings keyed.layout sized)
+    (λ targets bound.
+    each_then Any IsSizedPlan IsOfText
     (λ (plans : List (Option StartPlan)).
-    Ok (record { keyed = keyed; work = Boot targets (cause_of command.cause) plans }))
-    (plans_in targets files.entries) (λ plans read.
-    let is_bound = binding_in command.settings keyed.layout (files.named Settings) in
-    let sized =
-    if_ok (λ (k : Keyed). IsSized k.layout) (keyed_by (boot_described command) geometry (files.named Tree) (files.named Key)) keyed laid
-    (keyed_sized (boot_described command) geometry (files.named Tree) (files.named Key)) in
-    record {
-      layout_is = sized;
-      bound =
-          if_ok (IsAsLongAs keyed.layout) is_bound targets bound (bound_sized command.settings keyed.layout (files.named Settings));
-      binding = if_ok IsBinding is_bound targets bound (bound_apart command.settings keyed.layout (files.named Settings) sized);
-    })))
-plan_sized (Err place) geometry files = tt
+    Yields (record { keyed = keyed; work = Boot targets (cause_of command.cause) plans }))
+    (plans_reading targets) (entries_end 0 (entries_of targets))
+    (λ plans any. record { layout_is = sized; bound = bound.0; binding = bound.1 })))
+
+sized_of : (command : Result Command ℕ) (geometry : Geometry) (files : FileAnswers) →
+    IfOk (result_by (words_reading command geometry) files) IsSizedPlan
+sized_of (Ok command) geometry files =
+    ends_ok IsSizedPlan IsOfText (command_reading command geometry) (command_ends command geometry) files
+sized_of (Err place) geometry files = tt
 
 pub planned_sized : (words : List (List ℕ)) (geometry : Geometry) (files : FileAnswers) (plan : SessionPlan) →
     plan_by_words words geometry files ≡ Ok plan → IsSizedPlan plan
 planned_sized words geometry files plan is =
-    if_ok IsSizedPlan (plan_by_words words geometry files) plan is (plan_sized (words_of words) geometry files)
+    if_ok IsSizedPlan (plan_by_words words geometry files) plan is (sized_of (words_of words) geometry files)
 
 -- ---- what copies pass
 

@@ -1,6 +1,7 @@
--- What reading a file gives, and what the steps after it make of that.
-use Rattle.std.proofs.Common.{◌≡◌, ◌≢◌, ◌⊎◌, ◌≤◌, ℕ, Bool, true, false, List, Option, None, Result, Ok, Err, ok_or, refl, sym, ap, subst, ◌∙◌, inl, inr, arith}
+-- What reading a file gives, the steps over what it holds, and a layout with its key.
+use Rattle.std.proofs.Common.{◌≡◌, ◌≢◌, ◌≤◌, ℕ, Bool, true, false, List, [], ◌∷◌, cond, Option, None, Some, Result, Ok, Err, ok_or, refl, sym, ap, subst, ◌∙◌, inl, inr, arith}
 use Rattle.std.specs.Option.{ForSome}
+use Rattle.std.specs.Result.{result_map_both}
 use Rattle.bb_base.proofs.Counts.{one_more_later}
 use Rattle.bb_base.specs.Faults.{Rose, counted}
 use Rattle.bb_base.specs.Folder.{Folder, file_of}
@@ -8,13 +9,13 @@ use Rattle.bb_base.specs.declared.files.FileFail.TheVariants as file_fails
 use Rattle.bb_chooser.specs.Binding.{Binding}
 use Rattle.bb_chooser.specs.declared.settings_error.SettingsError.{SettingsError}
 use Rattle.bb_chooser.specs.declared.settings_error.SettingsError.TheVariants as settings_errors
-use Rattle.bb_dts.specs.declared.error.DtsError.{DtsError}
-use Rattle.bb_dts.specs.declared.error.DtsError.TheVariants as tree_errors
-use Rattle.bb_fdt.specs.declared.error.FdtError.{FdtError}
-use Rattle.bb_fdt.specs.declared.error.FdtError.TheVariants as blob_errors
+use Rattle.bb_hmac.specs.Hmac.{key_block}
+use Rattle.bb_hmac.specs.Key.{key_of}
+use Rattle.bb_hmac.specs.declared.error.KeyError.{KeyError}
 use Rattle.bb_flash.specs.declared.geometry.Geometry.{Geometry}
-use Rattle.bb_tree.specs.Blob.{Devicetree}
 use Rattle.bb_tree.specs.Node.{Branch}
+use Rattle.bb_layout.specs.Formats.{takes_key}
+use Rattle.bb_layout.specs.declared.format_kind.FormatKind.{FormatKind}
 use Rattle.bb_layout.specs.Backend.{backend_of}
 use Rattle.bb_layout.specs.Layout.{Laid, layout_at, layout_from, len_of}
 use Rattle.bb_layout.specs.Ranges.{area_len_of}
@@ -26,11 +27,14 @@ use Rattle.bb_layout.specs.Storage.{storage_in}
 use Rattle.bb_layout.specs.Variables.{variables_of}
 use Rattle.bb_layout.specs.declared.layout_error.LayoutError.{LayoutError}
 use Rattle.bb_layout.specs.declared.layout_error.LayoutError.TheVariants as layout_errors
-use Rattle.bb_tool.specs.Filing.{IsExpected, IsFolderLater, IsReadFor}
-use Rattle.bb_tool.specs.Plan.{FileAnswer, bytes_in, layout_in, refused_as}
-use Rattle.bb_tool.specs.Refusal.{blob_refusal, layout_refusal, settings_refusal, tree_refusal}
+use Rattle.bb_tool.specs.PlanSteps.{block_by, key_reading, keyed_reading, named_block, refused_as}
+use Rattle.bb_tool.specs.Plan.{keyed_as}
+use Rattle.bb_tool.specs.FilesRead.{IsFolderLater, IsReadAs, Yields, file_reading}
+use Rattle.bb_tool.specs.declared.described.KeyedLayout.{KeyedLayout}
+use Rattle.bb_tool.specs.Refusal.{layout_refusal, settings_refusal}
 use Rattle.bb_tool.specs.declared.refusal.Refusal.{Refusal}
 use Rattle.bb_tool.specs.declared.refusal.Refusal.TheVariants as refusals
+use Rattle.bb_tool.proofs.Readings.{folder_is, yielded}
 
 -- the files are as before, and their count is one more where the call met a fault
 pub folder_later : (before after : Folder) (fails : Bool) → after.told ≡ before.told → after.faults ≡ counted fails before.faults → IsFolderLater before after
@@ -40,90 +44,45 @@ folder_later before after true told counts = record {
   faults = subst (λ n. before.faults ≤ n) (sym counts) (one_more_later before.faults);
 }
 
--- there is no such file
-pub bytes_missing : (name : List ℕ) (before after : Folder) (copied : List ℕ) → copied ≡ name → ForSome before.told (λ files. file_of files name ≡ Ok None) → after.faults ≡ before.faults → IsReadFor name before after (bytes_in name) (λ (bytes : List ℕ). bytes) (Err (refusals.FileMissing copied))
-bytes_missing name before after copied same told calm = record {
-  answer = Ok None;
-  read = record { told = told; cause = λ e. absurd cc; calm = λ e. calm };
-  follows = λ some. ap (λ n. Err (refusals.FileMissing n)) (sym same);
-}
+module _ (name : List ℕ) (before after : Folder) (told : after.told ≡ before.told) where
+  abbrev AsBytes : Result (List ℕ) Refusal → Type 0
+  AsBytes given = IsReadAs (file_reading name) (λ (bytes : List ℕ). bytes) before after given
 
-pub bytes_fault : (name : List ℕ) (before after : Folder) (copied : List ℕ) → copied ≡ name → Rose before.faults after.faults → IsReadFor name before after (bytes_in name) (λ (bytes : List ℕ). bytes) (Err (refusals.FileFault copied))
-bytes_fault name before after copied same rose = record {
-  answer = Err file_fails.Fault;
-  read = record { told = λ files told. tt; cause = λ e. rose; calm = λ e. absurd cc };
-  follows = λ some. ap (λ n. Err (refusals.FileFault n)) (sym same);
-}
+  -- memory was refused before the file was read, or for its name
+  pub file_short : (fails : Bool) → after.faults ≡ counted fails before.faults → (given : Result (List ℕ) Refusal) →
+      given ≡ Err refusals.NoMemory → AsBytes given
+  file_short fails counts given is = inr (is, record { later = folder_later before after fails told counts; unread = λ none. absurd cc })
 
-pub bytes_long : (name : List ℕ) (before after : Folder) (copied : List ℕ) → copied ≡ name → ForSome before.told (λ files. file_of files name ≡ Err file_fails.TooLong) → IsReadFor name before after (bytes_in name) (λ (bytes : List ℕ). bytes) (Err (refusals.FileTooLong copied))
-bytes_long name before after copied same told = record {
-  answer = Err file_fails.TooLong;
-  read = record { told = told; cause = λ e. absurd cc; calm = λ e. absurd cc };
-  follows = λ some. ap (λ n. Err (refusals.FileTooLong n)) (sym same);
-}
+  pub file_given : (bytes : List ℕ) → ForSome before.told (λ files. file_of files name ≡ Ok (Some bytes)) →
+      after.faults ≡ before.faults → AsBytes (Ok bytes)
+  file_given bytes held calm =
+      inl (record { answers = Ok (Some bytes) ∷ []; are = (held, (refl, folder_is before after told calm)); gives = refl })
 
--- memory was refused before a step gave what is expected
-pub memory_read : {A B : Type 0} (name : List ℕ) (before after : Folder) (expected : FileAnswer → Result B Refusal) (view : A → B) (given : Result A Refusal) → given ≡ Err refusals.NoMemory → IsReadFor name before after expected view given
-memory_read name before after expected view given is =
-    subst (λ r. IsReadFor name before after expected view r) (sym is) (record {
-      answer = Err file_fails.NoMemory;
-      read = record { told = λ files told. tt; cause = λ e. absurd cc; calm = λ e. absurd cc };
-      follows = λ some. absurd (some refl);
-    })
+  pub file_missing : (copied : List ℕ) → copied ≡ name → ForSome before.told (λ files. file_of files name ≡ Ok None) →
+      after.faults ≡ before.faults → AsBytes (Err (refusals.FileMissing copied))
+  file_missing copied same held calm = inl (record {
+    answers = Ok None ∷ [];
+    are = (held, (refl, folder_is before after told calm));
+    gives = ap (λ (n : List ℕ). Err (refusals.FileMissing n)) (sym same);
+  })
 
--- ---- steps after a file's bytes
+  pub file_faulty : (copied : List ℕ) → copied ≡ name → before.faults ≤ after.faults → Rose before.faults after.faults →
+      AsBytes (Err (refusals.FileFault copied))
+  file_faulty copied same later rose = inl (record {
+    answers = Err file_fails.Fault ∷ [];
+    are = (refl, (record { told = told; faults = later }, rose));
+    gives = ap (λ (n : List ℕ). Err (refusals.FileFault n)) (sym same);
+  })
 
--- the file wasn't read
-pub unread_for : {A B : Type 0} (name : List ℕ) (before after : Folder) (next : List ℕ → Result B Refusal) (view : A → B) (e : Refusal) →
-    IsReadFor name before after (bytes_in name) (λ (bytes : List ℕ). bytes) (Err e) →
-    IsReadFor name before after (λ answer. result_and_then next (bytes_in name answer)) view (Err e)
-unread_for name before after next view e read = record {
-  answer = read.answer;
-  read = read.read;
-  follows = λ some. ap (result_and_then next) (read.follows some);
-}
-
--- it was, and the step after it gave this
-pub read_for : {A B : Type 0} (name : List ℕ) (before after : Folder) (next : List ℕ → Result B Refusal) (view : A → B) (bytes : List ℕ) (given : Result A Refusal) →
-    IsReadFor name before after (bytes_in name) (λ (bytes : List ℕ). bytes) (Ok bytes) → IsExpected (next bytes) view given →
-    IsReadFor name before after (λ answer. result_and_then next (bytes_in name answer)) view given
-read_for name before after next view bytes given read follows = record {
-  answer = read.answer;
-  read = read.read;
-  follows =
-      subst (λ r. IsExpected r view given) (sym (ap (result_and_then next) read.follows)) follows;
-}
-
--- the layout that was read, of the name and the geometry that were handed in
-pub laid_as : (file : List ℕ) (given name : Option (List ℕ)) (handed geometry : Geometry) (answer : FileAnswer) (laid : Result Laid Refusal) →
-    given ≡ name → handed ≡ geometry → layout_in file given handed answer ≡ laid → layout_in file name geometry answer ≡ laid
-laid_as file given name handed geometry answer laid same_name same_geometry is =
-    ap (λ (n : Option (List ℕ)). layout_in file n geometry answer) (sym same_name)
-    ∙ ap (λ (g : Geometry). layout_in file given g answer) (sym same_geometry) ∙ is
+  pub file_long : (copied : List ℕ) → copied ≡ name → ForSome before.told (λ files. file_of files name ≡ Err file_fails.TooLong) →
+      after.faults ≡ before.faults → AsBytes (Err (refusals.FileTooLong copied))
+  file_long copied same held calm = inl (record {
+    answers = Err file_fails.TooLong ∷ [];
+    are = (refl, (held, folder_is before after told calm));
+    gives = ap (λ (n : List ℕ). Err (refusals.FileTooLong n)) (sym same);
+  })
 
 -- ---- refusals by the names that they have in a session
-
-pub tree_refused : (read : Result Devicetree DtsError) (e : DtsError) → (e ≢ tree_errors.NoMemory → read ≡ Err e) → tree_refusal e ≢ refusals.NoMemory → refused_as refusals.BadTree read ≡ Err (tree_refusal e)
-tree_refused read (tree_errors.NotText at) refused some = ap (refused_as refusals.BadTree) (refused (λ h. cc))
-tree_refused read (tree_errors.BadToken at) refused some = ap (refused_as refusals.BadTree) (refused (λ h. cc))
-tree_refused read (tree_errors.Unexpected at) refused some = ap (refused_as refusals.BadTree) (refused (λ h. cc))
-tree_refused read (tree_errors.NumberTooLarge at) refused some = ap (refused_as refusals.BadTree) (refused (λ h. cc))
-tree_refused read (tree_errors.LeftOut at) refused some = ap (refused_as refusals.BadTree) (refused (λ h. cc))
-tree_refused read (tree_errors.TooDeep at) refused some = ap (refused_as refusals.BadTree) (refused (λ h. cc))
-tree_refused read (tree_errors.DuplicateLabel at) refused some = ap (refused_as refusals.BadTree) (refused (λ h. cc))
-tree_refused read (tree_errors.DuplicatePhandle at) refused some = ap (refused_as refusals.BadTree) (refused (λ h. cc))
-tree_refused read (tree_errors.NoSuchLabel at) refused some = ap (refused_as refusals.BadTree) (refused (λ h. cc))
-tree_refused read tree_errors.NoMemory refused some = absurd (some refl)
-
-pub blob_refused : (read : Result Devicetree FdtError) (e : FdtError) → (e ≢ blob_errors.NoMemory → read ≡ Err e) → blob_refusal e ≢ refusals.NoMemory →
-    refused_as refusals.BadBlob read ≡ Err (blob_refusal e)
-blob_refused read blob_errors.NotBlob refused some = ap (refused_as refusals.BadBlob) (refused (λ h. cc))
-blob_refused read blob_errors.Version refused some = ap (refused_as refusals.BadBlob) (refused (λ h. cc))
-blob_refused read (blob_errors.OutOfBounds field) refused some = ap (refused_as refusals.BadBlob) (refused (λ h. cc))
-blob_refused read (blob_errors.BadToken at) refused some = ap (refused_as refusals.BadBlob) (refused (λ h. cc))
-blob_refused read (blob_errors.BadName at) refused some = ap (refused_as refusals.BadBlob) (refused (λ h. cc))
-blob_refused read (blob_errors.TooDeep at) refused some = ap (refused_as refusals.BadBlob) (refused (λ h. cc))
-blob_refused read blob_errors.NoMemory refused some = absurd (some refl)
 
 pub layout_refused : (laid : Result Laid LayoutError) (e : LayoutError) → (e ≢ layout_errors.NoMemory → laid ≡ Err e) → layout_refusal e ≢ refusals.NoMemory → refused_as refusals.BadLayout laid ≡ Err (layout_refusal e)
 layout_refused laid layout_errors.NoState refused some = ap (refused_as refusals.BadLayout) (refused (λ h. cc))
@@ -149,26 +108,6 @@ settings_refused bound (settings_errors.BadEvent line) refused some = ap (refuse
 settings_refused bound (settings_errors.NoSuchVariable name) refused some = ap (refused_as refusals.BadSettings) (refused (λ h. cc))
 settings_refused bound (settings_errors.NotUint32 name) refused some = ap (refused_as refusals.BadSettings) (refused (λ h. cc))
 settings_refused bound settings_errors.NoMemory refused some = absurd (some refl)
-
--- whether a refusal is refused memory
-pub memory_or_not : (e : Refusal) → (e ≡ refusals.NoMemory) ⊎ (e ≢ refusals.NoMemory)
-memory_or_not (refusals.BadWords place) = inr (λ h. cc)
-memory_or_not (refusals.BadTree e) = inr (λ h. cc)
-memory_or_not (refusals.BadBlob e) = inr (λ h. cc)
-memory_or_not (refusals.BadLayout e) = inr (λ h. cc)
-memory_or_not (refusals.BadVariable name cause) = inr (λ h. cc)
-memory_or_not (refusals.FileMissing file) = inr (λ h. cc)
-memory_or_not (refusals.FileFault file) = inr (λ h. cc)
-memory_or_not (refusals.FileTooLong file) = inr (λ h. cc)
-memory_or_not refusals.NoTarget = inr (λ h. cc)
-memory_or_not (refusals.StartFailed name) = inr (λ h. cc)
-memory_or_not refusals.ReadFault = inr (λ h. cc)
-memory_or_not (refusals.WriteFault copy) = inr (λ h. cc)
-memory_or_not (refusals.BadSettings e) = inr (λ h. cc)
-memory_or_not refusals.NoKey = inr (λ h. cc)
-memory_or_not (refusals.BadKey e) = inr (λ h. cc)
-memory_or_not (refusals.NoGood place) = inr (λ h. cc)
-memory_or_not refusals.NoMemory = inl refl
 
 -- ---- the geometry of a layout is the one that was handed in
 
@@ -197,3 +136,49 @@ pub laid_geometry : (tree : Branch (List ℕ)) (name : Option (List ℕ)) (geome
 laid_geometry tree name geometry found e =
     let state = step_of (ok_or (state_of tree name) layout_errors.NoState) _ found e in
     layout_geometry tree state.value.0 state.value.1 geometry found state.next_is
+
+-- ---- what a text spells
+
+abbrev read_as : Result (List ℕ) KeyError → Result (List ℕ) Refusal
+read_as r = result_and_then (λ key. Ok (key_block key)) (refused_as refusals.BadKey r)
+
+pub block_refused : (text : List ℕ) (e : KeyError) → Err e ≡ result_map_both key_block (λ e. e) (key_of text) →
+    block_by text ≡ Err (refusals.BadKey e)
+block_refused text e is = by (key_of text) is
+  where
+    by : (r : Result (List ℕ) KeyError) → Err e ≡ result_map_both key_block (λ e. e) r → read_as r ≡ Err (refusals.BadKey e)
+    by (Ok key) h = absurd cc
+    by (Err other) h = let same : e ≡ other = cc in ap (λ x. Err (refusals.BadKey x)) (sym same)
+
+pub block_given : (text block : List ℕ) → Ok block ≡ result_map_both key_block (λ e. e) (key_of text) → block_by text ≡ Ok block
+block_given text block is = by (key_of text) is
+  where
+    by : (r : Result (List ℕ) KeyError) → Ok block ≡ result_map_both key_block (λ e. e) r → read_as r ≡ Ok block
+    by (Ok key) h = let same : block ≡ key_block key = cc in ap (λ b. Ok b) (sym same)
+    by (Err other) h = absurd cc
+
+-- ---- the key of records
+
+module _ {A : Type 0} (file : Option (List ℕ)) (format : FormatKind) (before after : Folder) (view : A → Option (List ℕ))
+    (given : Result A Refusal) where
+  -- they stand under one
+  pub key_asked : takes_key format ≡ true → IsReadAs (named_block file) view before after given →
+      IsReadAs (key_reading file format) view before after given
+  key_asked takes read =
+      subst (λ (t : Bool). IsReadAs (cond t (named_block file) (Yields None)) view before after given) (sym takes) read
+
+-- they stand under none
+pub key_unasked : (file : Option (List ℕ)) (format : FormatKind) (folder : Folder) → takes_key format ≡ false →
+    IsReadAs (key_reading file format) (λ (key : Option (List ℕ)). key) folder folder (Ok None)
+key_unasked file format folder takes =
+    subst (λ (t : Bool). IsReadAs (cond t (named_block file) (Yields None)) (λ (key : Option (List ℕ)). key) folder folder (Ok None))
+    (sym takes) (yielded (λ (key : Option (List ℕ)). key) folder None None refl)
+
+-- what was read by the name and the key that were handed in
+pub described_as : (file : List ℕ) (name key : Option (List ℕ)) {given_name given_key : Option (List ℕ)} → given_name ≡ name →
+    given_key ≡ key → (geometry : Geometry) (before after : Folder) (given : Result KeyedLayout Refusal) →
+    IsReadAs (keyed_reading file given_name given_key geometry) keyed_as before after given →
+    IsReadAs (keyed_reading file name key geometry) keyed_as before after given
+described_as file name key {given_name} {given_key} same_name same_key geometry before after given read =
+    subst (λ k. IsReadAs (keyed_reading file name k geometry) keyed_as before after given) same_key
+    (subst (λ n. IsReadAs (keyed_reading file n given_key geometry) keyed_as before after given) same_name read)

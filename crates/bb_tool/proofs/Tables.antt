@@ -260,9 +260,9 @@ barred_of answer bar first second third unplanned ran s = λ files told image he
 pub no_good_of : (ran : Ran) → IsSession ran → ComesByTable statuses.NoGood ran
 no_good_of =
     barred_of statuses.NoGood refl (λ h. cc) (λ h. cc) (λ h. cc)
-    (λ ran answers. plan_refusal statuses.NoGood refl (words_of ran.words) (geometry_of ran) answers.files)
+    (λ ran answers. plan_refusal statuses.NoGood refl (λ h. cc) (words_of ran.words) (geometry_of ran) answers.files)
 
 pub no_target_of : (ran : Ran) → IsSession ran → ComesByTable statuses.NoTarget ran
 no_target_of =
     barred_of statuses.NoTarget refl (λ h. cc) (λ h. cc) (λ h. cc)
-    (λ ran answers. plan_refusal statuses.NoTarget refl (words_of ran.words) (geometry_of ran) answers.files)
+    (λ ran answers. plan_refusal statuses.NoTarget refl (λ h. cc) (words_of ran.words) (geometry_of ran) answers.files)

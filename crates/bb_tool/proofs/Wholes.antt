@@ -16,7 +16,6 @@ use Rattle.bb_shell.specs.Boot.{AreRounds, Round, all_attempts, first_table}
 use Rattle.bb_shell.specs.Ends.{RaisedBy, failed_starts}
 use Rattle.bb_shell.specs.Rounds.{best_of, rounds_by}
 use Rattle.bb_shell.proofs.Answering.{best_is, best_none}
-use Rattle.bb_words.specs.Words.{words_of}
 use Rattle.bb_tool.specs.Calls.{IsSession, IsUndisturbed, IsUndisturbedAlone, geometry_of, session_for}
 use Rattle.bb_tool.specs.SessionAnswer.{AreAnswers, IsFollowed}
 use Rattle.bb_tool.specs.Looking.{first_found, passed_in}
@@ -32,7 +31,7 @@ use Rattle.bb_tool.specs.declared.refusal.Refusal.TheVariants as refusals
 use Rattle.bb_tool.specs.declared.status.Status.{Status}
 use Rattle.bb_tool.specs.declared.status.Status.TheVariants as statuses
 use Rattle.bb_tool.proofs.Endings.{FaultTells, work_fault}
-use Rattle.bb_tool.proofs.Plans.{alone_plan, faulty_words, same_plan}
+use Rattle.bb_tool.proofs.Plans.{alone_plan, faulty_plan, plan_held, same_plan}
 use Rattle.bb_tool.proofs.Told.{told_whole}
 use Rattle.bb_tool.proofs.Barred.{HasNoFault, barred_session, done_whole, fault_device, is_device_fault, open_session, refused_whole, stored_whole}
 use Rattle.bb_tool.proofs.Booted.{boot_is}
@@ -198,12 +197,9 @@ session_same words folder folder' before after answers answered files same image
 session_told : (words : List (List ℕ)) (folder folder' : Folder) (before after : Device) (answers : Answers) → AreAnswers words folder folder' before after answers → (Rose folder.faults folder'.faults → ⊥) → (files : FileMap) → folder.told ≡ Some files → (image : Image) → content before ≡ Some image → (Rose before.faults after.faults → ⊥) → IsCalm before after (session_of words before.geometry (answers_of words before.geometry files image)) → IsSameOrMemory (session_of words before.geometry answers) (session_of words before.geometry (answers_of words before.geometry files image))
 session_told words folder folder' before after answers answered calm files known image told whole started =
     elim (same_plan words before.geometry folder folder' answers.files answered.filed files known) [
-      | inl same ↦ session_same words folder folder' before after answers answered files same image told whole started
+      | inl same ↦ session_same words folder folder' before after answers answered files (same ∙ sym (plan_held words before.geometry files)) image told whole started
       | inr odd ↦ elim odd [
-        | inl faulty ↦ absurd (calm (elim (faulty_words words before.geometry answers.files (words_of words) refl faulty) [
-          | inl named ↦ answered.filed.cause named.role named.name named.named named.fault
-          | inr entry ↦ answered.filed.entry_cause entry
-        ]))
+        | inl faulty ↦ absurd (calm (faulty_plan words before.geometry folder folder' answers.files answered.filed faulty))
         | inr memory ↦ inr (ap (λ (p : Result SessionPlan Refusal). session_by p answers) memory)
       ]
     ]
@@ -225,4 +221,4 @@ undisturbed_alone_of ran (inr memory) = λ none files image told whole started s
 undisturbed_alone_of ran (inl ending) = λ none files image told whole started sent.
     told_same (session_for ran ending.answers) (session_for ran (answers_of ran.words (geometry_of ran) files image)) ran.before.sink ran.after.sink ran.status ending.told sent
     (session_same ran.words ran.before.folder ran.after.folder ran.before.device ran.after.device ending.answers ending.answered files
-    (alone_plan (words_of ran.words) (geometry_of ran) ending.answers.files (files_for ran.words (geometry_of ran) files) none) image told whole started)
+    (alone_plan ran.words (geometry_of ran) ending.answers.files files none ∙ sym (plan_held ran.words (geometry_of ran) files)) image told whole started)

@@ -10,9 +10,9 @@ use Rattle.bb_flash.specs.Device.{content}
 use Rattle.bb_flash.specs.declared.geometry.Geometry.{Geometry}
 use Rattle.bb_words.specs.Words.{words_of}
 use Rattle.bb_tool.specs.SessionAnswer.{AreAnswers}
-use Rattle.bb_tool.specs.Filing.{IsFolderLater}
-use Rattle.bb_tool.specs.Plan.{SessionPlan, copies_in, files_for, names_file, plan_by_words}
+use Rattle.bb_tool.specs.Plan.{SessionPlan, copies_in, names_file, plan_by_words, plan_over_files}
 use Rattle.bb_tool.specs.Ran.{Ran}
+use Rattle.bb_tool.specs.FilesRead.{IsFolderLater}
 use Rattle.bb_tool.specs.Refusal.{line_of, status_of}
 use Rattle.bb_tool.specs.Session.{Answers, Session, answers_of, barred_after, ended_status, load_for, sent_of, session_of}
 use Rattle.bb_tool.specs.Sending.{IsSent, IsSentOrCut}
@@ -39,8 +39,7 @@ session_for ran answers = session_of ran.words (geometry_of ran) answers
 
 -- the plan, where reading the files that the words name gave what these files hold
 abbrev pub plan_over : Ran → FileMap → Result SessionPlan Refusal
-plan_over ran files =
-    plan_by_words ran.words (geometry_of ran) (files_for ran.words (geometry_of ran) files)
+plan_over ran files = plan_over_files ran.words (geometry_of ran) files
 
 -- the plan for what reading the files answered
 abbrev pub session_plan_for : Ran → Answers → Result SessionPlan Refusal
@@ -48,7 +47,7 @@ session_plan_for ran answers = plan_by_words ran.words (geometry_of ran) answers
 
 -- the words name no file
 abbrev pub NamesNoFile : Ran → Type 0
-NamesNoFile ran = names_file ran.words ≡ false
+NamesNoFile ran = names_file ran.words (geometry_of ran) ≡ false
 
 -- a text was told, and the call ended so
 abbrev pub SendsText : Ran → List ℕ → Status → Type 0

@@ -25,12 +25,12 @@ pub mod Clauses
 pub mod Copying
 pub mod SessionAnswer
 pub mod Exactly
-pub mod Filing
+pub mod FilesRead
 pub mod Looking
 pub mod Marking
 pub mod Plan
+pub mod PlanSteps
 pub mod Ran
-pub mod Reading
 pub mod Refusal
 pub mod Session
 pub mod Starting

@@ -1,49 +1,33 @@
--- What a session is to do on the device, or why it is refused before: a function of its words, of
--- the device's geometry, and of what reading the files gave that the words name.
-use Rattle.std.specs.Prelude.{ℕ, Bool, is_some, List, [], map, Option, Some, None, Result, Ok, Err, option_and_then, option_map}
-use Rattle.std.specs.Option.{option_map_or}
-use Rattle.std.specs.Result.{result_ok}
+-- What a session is to do on the device, or why it is refused before: one reading for each command,
+-- by its words and the device's geometry.
+use Rattle.std.specs.Prelude.{◌≡◌, ℕ, Bool, length, List, ⊤, None, Result, Ok, Err}
 use Rattle.bb_actions.specs.Actions.{misfit_of}
-use Rattle.bb_base.specs.Folder.{FileMap, file_of}
-use Rattle.bb_chooser.specs.Binding.{Binding}
-use Rattle.bb_chooser.specs.declared.cause.Cause.{Cause}
+use Rattle.bb_base.specs.Folder.{FileMap}
+use Rattle.bb_chooser.specs.Binding.{Binding, IsBoundTo}
 use Rattle.bb_flash.specs.declared.geometry.Geometry.{Geometry}
-use Rattle.bb_flash.specs.declared.plan.Plan.{Plan as StartPlan}
-use Rattle.bb_layout.specs.Layout.{Laid}
+use Rattle.bb_layout.specs.Layout.{Laid, fields_of}
 use Rattle.bb_layout.specs.Results.{result_and_then}
 use Rattle.bb_layout.specs.Thirds.{raw_layout}
+use Rattle.bb_layout.specs.declared.format_kind.FormatKind.TheVariants as formats
 use Rattle.bb_layout.specs.declared.layout_error.LayoutError.{LayoutError}
-use Rattle.bb_shell.specs.Plans.{entries_of}
-use Rattle.bb_state.specs.Keyed.{Keyed}
+use Rattle.bb_state.specs.Keyed.{FitsKey, Keyed}
 use Rattle.bb_words.specs.Words.{words_of}
-use Rattle.bb_words.specs.declared.command.Action.{Action}
-use Rattle.bb_words.specs.declared.command.Command.{Command}
 use Rattle.bb_words.specs.declared.command.BootCommand.{BootCommand}
-use Rattle.bb_words.specs.declared.command.Command.TheVariants.{Raw, State, MarkGood, Boot as BootWords}
+use Rattle.bb_words.specs.declared.command.Command.{Command}
+use Rattle.bb_words.specs.declared.command.Command.TheVariants as commands
 use Rattle.bb_words.specs.declared.command.MarkGoodCommand.{MarkGoodCommand}
 use Rattle.bb_words.specs.declared.command.RawAction.{RawAction}
 use Rattle.bb_words.specs.declared.command.RawAction.TheVariants as raw_actions
 use Rattle.bb_words.specs.declared.command.RawCommand.{RawCommand}
 use Rattle.bb_words.specs.declared.command.StateCommand.{StateCommand}
+use Rattle.bb_tool.specs.PlanSteps.{binding_reading, cause_of, fit_by, keyed_reading, plans_reading, refused_as}
+use Rattle.bb_tool.specs.FilesRead.{Fails, FileAnswer, Reading, Yields, and_then, answers_over, result_by, result_over, reading_of, reads_file}
+use Rattle.bb_tool.specs.declared.described.KeyedLayout.{KeyedLayout}
+use Rattle.bb_tool.specs.declared.plan.PlannedWork.{PlannedWork}
 use Rattle.bb_tool.specs.declared.refusal.Refusal.{Refusal}
 use Rattle.bb_tool.specs.declared.refusal.Refusal.TheVariants as refusals
-pub use Rattle.bb_tool.specs.Reading.{Described, FileAnswer, FileAnswers, Key, Role, Settings, Tree, binding_in, blob_root, block_by, block_in, binding_by, bytes_in, cause_of, description_of, entry_name, fit_by, is_blob, key_for, key_in, key_named, key_of_laid, keyed_by, keyed_in, laid_by, layout_by, layout_in, plan_refusal, plans_in, refused_as, source_root, tree_in}
-
--- what is done with the copies of a layout
-pub data Work : Type 0 where
-  -- to look at them, and to send the area of the first that passes in hexadecimal
-  Show : Work
-  -- to load them, and to save this area
-  Write : List ℕ → Work
-  -- to load them, to make the sets among these actions, to save the table that this makes where it
-  -- is another, and to send what is got of it
-  Act : List Action → Work
-  -- to load them, to give the target that was chosen last its default attempts, to save the table
-  -- that this makes where it is another, and to send that target
-  Good : Binding → Work
-  -- to load them, to reset by this cause, and then round by round to spend an attempt of the best
-  -- target, to save the table, and to start the target by its plan, if it has one
-  Boot : Binding → Cause → List (Option StartPlan) → Work
+pub use Rattle.bb_tool.specs.declared.plan.Work.{Work}
+pub use Rattle.bb_tool.specs.declared.plan.Work.TheVariants.{Act, Boot, Good, Show, Write}
 
 -- the layout with the block of its key, if its records stand under one, and the work
 pub record SessionPlan : Type 0 where
@@ -52,154 +36,134 @@ pub record SessionPlan : Type 0 where
 
 -- ---- each command
 
+-- `raw`: no file is read
 abbrev pub raw_work : RawAction → Work
 raw_work raw_actions.Look = Show
 raw_work (raw_actions.Write area) = Write area
 
 abbrev pub raw_laid : RawCommand → Result Laid LayoutError → Result SessionPlan Refusal
-raw_laid command (Ok layout) =
-    Ok (record { keyed = record { layout = layout; key = None }; work = raw_work command.action })
-raw_laid command (Err e) = Err (refusals.BadLayout e)
+raw_laid command laid =
+    result_and_then
+    (λ layout.
+    Ok (record { keyed = record { layout = layout; key = None }; work = raw_work command.action }))
+    (refused_as refusals.BadLayout laid)
 
 abbrev pub raw_plan : RawCommand → Geometry → Result SessionPlan Refusal
 raw_plan command geometry = raw_laid command (raw_layout command.magic command.area_len geometry)
 
 -- `state`: its layout and key, and then the variables that are named
-abbrev pub state_described : StateCommand → Described
-state_described command = description_of command.file command.name command.key
-
-abbrev pub state_keyed : StateCommand → Keyed → Result SessionPlan Refusal
-state_keyed command keyed =
+abbrev pub state_plan : StateCommand → Keyed → Result SessionPlan Refusal
+state_plan command keyed =
     result_and_then (λ fit. Ok (record { keyed = keyed; work = Act command.actions }))
     (fit_by (misfit_of keyed.layout.vars command.actions))
 
-abbrev pub state_plan : StateCommand → Geometry → FileAnswer → FileAnswer → Result SessionPlan Refusal
-state_plan command geometry tree key =
-    result_and_then (state_keyed command) (keyed_by (state_described command) geometry tree key)
+abbrev pub state_reading : StateCommand → Geometry → Reading SessionPlan
+state_reading command geometry =
+    and_then (λ keyed. reading_of (state_plan command keyed))
+    (keyed_reading command.file command.name command.key geometry)
 
 -- `mark-good`: its layout and key, and then its settings
-abbrev pub mark_described : MarkGoodCommand → Described
-mark_described command = description_of command.file command.name command.key
+abbrev pub mark_behind : MarkGoodCommand → Keyed → Reading SessionPlan
+mark_behind command keyed =
+    and_then (λ targets. Yields (record { keyed = keyed; work = Good targets }))
+    (binding_reading command.settings keyed.layout)
 
-abbrev pub mark_keyed : MarkGoodCommand → FileAnswer → Keyed → Result SessionPlan Refusal
-mark_keyed command settings keyed =
-    result_and_then (λ binding. Ok (record { keyed = keyed; work = Good binding }))
-    (binding_in command.settings keyed.layout settings)
-
-abbrev pub mark_plan :
-    MarkGoodCommand → Geometry → FileAnswer → FileAnswer → FileAnswer → Result SessionPlan Refusal
-mark_plan command geometry tree key settings =
-    result_and_then (mark_keyed command settings)
-    (keyed_by (mark_described command) geometry tree key)
+abbrev pub mark_reading : MarkGoodCommand → Geometry → Reading SessionPlan
+mark_reading command geometry =
+    and_then (mark_behind command) (keyed_reading command.file command.name command.key geometry)
 
 -- `boot`: its layout and key, its settings, and then the entries of its targets
-abbrev pub boot_described : BootCommand → Described
-boot_described command = description_of command.file command.name command.key
+abbrev pub boot_planned : BootCommand → Keyed → Binding → Reading SessionPlan
+boot_planned command keyed targets =
+    and_then
+    (λ plans.
+    Yields (record { keyed = keyed; work = Boot targets (cause_of command.cause) plans }))
+    (plans_reading targets)
 
-abbrev pub boot_bound :
-    BootCommand → List FileAnswer → Keyed → Binding → Result SessionPlan Refusal
-boot_bound command entries keyed binding =
-    result_and_then
-    (λ plans. Ok (record { keyed = keyed; work = Boot binding (cause_of command.cause) plans }))
-    (plans_in binding entries)
+abbrev pub boot_behind : BootCommand → Keyed → Reading SessionPlan
+boot_behind command keyed =
+    and_then (boot_planned command keyed) (binding_reading command.settings keyed.layout)
 
-abbrev pub boot_keyed :
-    BootCommand → FileAnswer → List FileAnswer → Keyed → Result SessionPlan Refusal
-boot_keyed command settings entries keyed =
-    result_and_then (boot_bound command entries keyed)
-    (binding_in command.settings keyed.layout settings)
-
-abbrev pub boot_plan :
-    BootCommand → Geometry → FileAnswer → FileAnswer → FileAnswer → List FileAnswer →
-    Result SessionPlan Refusal
-boot_plan command geometry tree key settings entries =
-    result_and_then (boot_keyed command settings entries)
-    (keyed_by (boot_described command) geometry tree key)
+abbrev pub boot_reading : BootCommand → Geometry → Reading SessionPlan
+boot_reading command geometry =
+    and_then (boot_behind command) (keyed_reading command.file command.name command.key geometry)
 
 -- ---- all commands
 
-abbrev pub plan_of : Result Command ℕ → Geometry → FileAnswers → Result SessionPlan Refusal
-plan_of (Ok (Raw command)) geometry files = raw_plan command geometry
-plan_of (Ok (State command)) geometry files =
-    state_plan command geometry (files.named Tree) (files.named Key)
-plan_of (Ok (MarkGood command)) geometry files =
-    mark_plan command geometry (files.named Tree) (files.named Key) (files.named Settings)
-plan_of (Ok (BootWords command)) geometry files =
-    boot_plan command geometry (files.named Tree) (files.named Key) (files.named Settings)
-    files.entries
-plan_of (Err place) geometry files = Err (refusals.BadWords place)
+abbrev pub command_reading : Command → Geometry → Reading SessionPlan
+command_reading (commands.Raw command) geometry = reading_of (raw_plan command geometry)
+command_reading (commands.State command) geometry = state_reading command geometry
+command_reading (commands.MarkGood command) geometry = mark_reading command geometry
+command_reading (commands.Boot command) geometry = boot_reading command geometry
+
+abbrev pub words_reading : Result Command ℕ → Geometry → Reading SessionPlan
+words_reading (Ok command) geometry = command_reading command geometry
+words_reading (Err place) geometry = Fails (refusals.BadWords place)
 
 -- the steps that make no device call, in their order. The first refusal decides.
+abbrev pub plan_reading : List (List ℕ) → Geometry → Reading SessionPlan
+plan_reading words geometry = words_reading (words_of words) geometry
+
+-- ---- what comes of it
+
+-- what reading the files gave, in their order
+abbrev pub FileAnswers : Type 0
+FileAnswers = List FileAnswer
+
 abbrev pub plan_by_words : List (List ℕ) → Geometry → FileAnswers → Result SessionPlan Refusal
-plan_by_words words geometry files = plan_of (words_of words) geometry files
+plan_by_words words geometry answers = result_by (plan_reading words geometry) answers
 
--- what a command says of a state, and the file of the settings that it names
-abbrev pub described_by : Result Command ℕ → Option Described
-described_by (Ok (Raw command)) = None
-described_by (Ok (State command)) = Some (state_described command)
-described_by (Ok (MarkGood command)) = Some (mark_described command)
-described_by (Ok (BootWords command)) = Some (boot_described command)
-described_by (Err place) = None
+-- over these files
+abbrev pub plan_over_files : List (List ℕ) → Geometry → FileMap → Result SessionPlan Refusal
+plan_over_files words geometry files = result_over files (plan_reading words geometry)
 
-abbrev pub settings_named : Result Command ℕ → Option (List ℕ)
-settings_named (Ok (Raw command)) = None
-settings_named (Ok (State command)) = None
-settings_named (Ok (MarkGood command)) = Some command.settings
-settings_named (Ok (BootWords command)) = Some command.settings
-settings_named (Err place) = None
-
--- the file that a command names for this; of the key where it comes to it, by what reading the
--- devicetree's file gave
-abbrev pub name_for : Result Command ℕ → Geometry → FileAnswer → Role → Option (List ℕ)
-name_for command geometry tree Tree = option_map (λ state. state.file) (described_by command)
-name_for command geometry tree Key =
-    option_and_then (λ state. key_named state geometry tree) (described_by command)
-name_for command geometry tree Settings = settings_named command
-
--- a command names a file
-abbrev pub has_file : Result Command ℕ → Bool
-has_file command = is_some (described_by command)
-
-abbrev pub names_file : List (List ℕ) → Bool
-names_file words = has_file (words_of words)
-
--- the targets whose entries a command reads, where it came to them
-abbrev pub bound_by : Result Command ℕ → Geometry → (Role → FileAnswer) → Option Binding
-bound_by (Ok (Raw command)) geometry files = None
-bound_by (Ok (State command)) geometry files = None
-bound_by (Ok (MarkGood command)) geometry files = None
-bound_by (Ok (BootWords command)) geometry files =
-    result_ok
-    (result_and_then (λ keyed. binding_in command.settings keyed.layout (files Settings))
-    (keyed_by (boot_described command) geometry (files Tree) (files Key)))
-bound_by (Err place) geometry files = None
-
--- the names of their entries' files
-abbrev pub entries_for : Result Command ℕ → Geometry → (Role → FileAnswer) → List (List ℕ)
-entries_for command geometry files = option_map_or entries_of (bound_by command geometry files) []
-
--- the files that the words name, among these; where they name none, none is read
-abbrev pub read_named : FileMap → Option (List ℕ) → FileAnswer
-read_named files name = option_map_or (file_of files) name (Ok None)
-
-abbrev pub tree_named : Result Command ℕ → FileMap → FileAnswer
-tree_named command files =
-    read_named files (option_map (λ state. state.file) (described_by command))
-
-abbrev pub file_named : Result Command ℕ → Geometry → FileMap → Role → FileAnswer
-file_named command geometry files role =
-    read_named files (name_for command geometry (tree_named command files) role)
-
--- and with them the entries of the targets
-abbrev pub files_of : Result Command ℕ → Geometry → FileMap → FileAnswers
-files_of command geometry files =
-    let named = file_named command geometry files in
-    record { named = named; entries = map (file_of files) (entries_for command geometry named) }
-
+-- what reading gives where these are the files
 abbrev pub files_for : List (List ℕ) → Geometry → FileMap → FileAnswers
-files_for words geometry files = files_of (words_of words) geometry files
+files_for words geometry files = answers_over files (plan_reading words geometry)
+
+-- a session of these words reads a file: the first thing that it does, if it reads any
+abbrev pub names_file : List (List ℕ) → Geometry → Bool
+names_file words geometry = reads_file (plan_reading words geometry)
 
 -- how many copies the layout of a plan has
 abbrev pub copies_in : Result SessionPlan Refusal → ℕ
 copies_in (Ok plan) = plan.keyed.layout.copies
 copies_in (Err refusal) = 0
+
+-- ---- a plan as the code has it
+
+-- a layout with its key
+abbrev pub keyed_as : KeyedLayout → Keyed
+keyed_as keyed = record { layout = fields_of keyed.layout; key = keyed.key }
+
+abbrev pub plan_as : PlannedWork → SessionPlan
+plan_as plan = record { keyed = keyed_as plan.keyed; work = plan.work }
+
+-- records in the raw format stand under no key
+pub record IsUnkeyedRaw (keyed : Keyed) : Type 0 where
+  pub format : keyed.layout.format ≡ formats.Raw
+  pub unkeyed : keyed.key ≡ None
+
+-- targets are bound to the variables of a layout
+pub record IsBoundAt (layout : Laid) (targets : Binding) : Type 0 where
+  pub sized : targets.area_len ≡ layout.area_len
+  pub bound : IsBoundTo layout.vars targets
+
+-- a layout serves a work: a look and a save of an area are of raw records, and a save is of an area
+-- of the layout's length
+abbrev pub IsServed : Keyed → Work → Type 0
+IsServed keyed Show = IsUnkeyedRaw keyed
+IsServed keyed (Write area) = IsUnkeyedRaw keyed × (length area ≡ keyed.layout.area_len)
+IsServed keyed (Act actions) = ⊤
+IsServed keyed (Good targets) = IsBoundAt keyed.layout targets
+IsServed keyed (Boot targets cause plans) = IsBoundAt keyed.layout targets
+
+-- a layout for a device of this geometry, with a key exactly where its records stand under one
+pub record IsLaidFor (geometry : Geometry) (keyed : Keyed) : Type 0 where
+  pub fits : FitsKey keyed.layout.format keyed.key
+  pub same_geometry : keyed.layout.geometry ≡ geometry
+
+-- and a plan for such a device
+pub record IsPlannedFor (geometry : Geometry) (plan : SessionPlan) : Type 0 where
+  pub laid : IsLaidFor geometry plan.keyed
+  pub served : IsServed plan.keyed plan.work

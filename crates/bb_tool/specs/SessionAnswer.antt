@@ -3,8 +3,8 @@
 use Rattle.std.specs.Prelude.{◌≡◌, ◌⊎◌, ℕ, List, Result, Ok, Err}
 use Rattle.bb_base.specs.Folder.{Folder}
 use Rattle.bb_flash.specs.Device.{Device}
-use Rattle.bb_tool.specs.Filing.{IsFiled}
-use Rattle.bb_tool.specs.Plan.{SessionPlan, plan_by_words}
+use Rattle.bb_tool.specs.Plan.{SessionPlan, plan_by_words, plan_reading}
+use Rattle.bb_tool.specs.FilesRead.{AreRead}
 use Rattle.bb_tool.specs.Session.{Answers, session_of}
 use Rattle.bb_tool.specs.Work.{Gives, IsRefusedMemory, IsWork, SendsByMemory}
 use Rattle.bb_tool.specs.declared.report.Report.{Report}
@@ -19,7 +19,7 @@ IsFollowed (Err refusal) before after answers = after ≡ before
 -- these are what the files and the device answered
 pub record AreAnswers (words : List (List ℕ)) (folder folder' : Folder) (before after : Device)
     (answers : Answers) : Type 0 where
-  pub filed : IsFiled words before.geometry folder folder' answers.files
+  pub filed : AreRead (plan_reading words before.geometry) folder folder' answers.files
   pub followed : IsFollowed (plan_by_words words before.geometry answers.files) before after answers
 
 -- the session gave its text, or its refusal

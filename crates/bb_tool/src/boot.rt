@@ -1,97 +1,26 @@
-ghost use Rattle.std.specs.Prelude.{◌≡◌, ◌<◌, List, ℕ, Ok, IfErr, IfOk, length};
+ghost use Rattle.std.specs.Prelude.{◌≡◌, IfErr, IfOk};
 ghost use Rattle.bb_chooser.specs.Binding.{IsBoundTo};
 ghost use Rattle.bb_flash.specs.Cuts.{IsLater};
 ghost use Rattle.bb_flash.specs.Device.{IsDevice};
 ghost use Rattle.bb_state.specs.Keyed.{FitsKey};
 ghost use Rattle.bb_state.specs.State.{IsOn, keyed_of, laid_of};
-ghost use Rattle.bb_words.specs.Words.{words_of};
-ghost use Rattle.bb_words.specs.declared.command.Command.TheVariants as commands;
 ghost use Rattle.bb_tool.specs.Booting.{start_line, target_name, tries_line};
-ghost use Rattle.bb_tool.specs.SessionAnswer.{IsSessionAnswer};
-ghost use Rattle.bb_tool.specs.Filing.{keyed_as, AreRead, IsFolderLater};
-ghost use Rattle.bb_tool.specs.Plan.{Boot, cause_of, entry_name};
+ghost use Rattle.bb_tool.specs.Plan.{Boot, keyed_as};
 ghost use Rattle.bb_tool.specs.Refusal.{IsSendableRefusal};
 ghost use Rattle.bb_tool.specs.Work.{IsReportOf, IsSendable, IsWorkedOut};
 
-use crate::described::{KeyedLayout, read_keyed};
+use crate::described::KeyedLayout;
 use crate::refusal::Refusal;
 use crate::report::Report;
-use crate::targets::read_targets;
-use bb_base::{AREA_LIMIT, Bytes, Files, NoMemory, Text};
+use bb_base::{AREA_LIMIT, Bytes, NoMemory, Text};
 use bb_chooser::{Cause, Chooser};
 use bb_flash::{Board, PlanList};
-use bb_shell::{BootEnd, PlanFault, boot_run, read_plans};
+use bb_shell::{BootEnd, boot_run};
 use bb_state::State;
-use bb_words::{BootCommand, CauseWord};
 use std::alloc::Global;
 
-/// The command `boot`: the layout that its file describes, the settings' targets, the plans of
-/// their entries, and then the work on the board.
-pub(crate) fn boot<N: Files, B: Board>(
-    alloc: Global,
-    files: &mut N,
-    board: &mut B,
-    command: &BootCommand,
-) -> Result<Report, Refusal>
-    ensures gives { (words : List (List ℕ)) → words_of words ≡ Ok (commands.Boot command.now)
-        → IsSessionAnswer words (N.folder files.old) (N.folder files.new)
-        (B.device board.old) (B.device board.new) result }
-    ensures tellable { IfErr result IsSendableRefusal }
-    ensures sends { IfOk result IsSendable }
-    ensures files { IsFolderLater (N.folder files.old) (N.folder files.new) }
-    ensures later { IsLater (B.device board.old) (B.device board.new) }
-{
-    let name = command.name.as_ref();
-    let key = command.key.as_ref();
-    let keyed = read_keyed(alloc, files, &command.file, name, key, board.geometry())?;
-    let chooser = read_targets(alloc, files, &command.settings, &keyed.layout)?;
-    let plans = read_entries(alloc, files, &chooser)?;
-    let cause = cause_of(command.cause);
-    boot_by(alloc, board, keyed, &chooser, &plans, cause)
-}
-
-fn cause_of(cause: CauseWord) -> Cause
-    ensures { result ≡ cause_of cause }
-{
-    match cause {
-        CauseWord::PowerOn => Cause::PowerOn,
-        CauseWord::Reset => Cause::Reset,
-        CauseWord::Other => Cause::Other,
-    }
-}
-
-// The plan of each target. A file that can't be read is named.
-fn read_entries<N: Files>(
-    alloc: Global,
-    files: &mut N,
-    chooser: &Chooser,
-) -> Result<PlanList, Refusal>
-    ensures read { AreRead chooser.now (N.folder files.old) (N.folder files.new) result }
-    ensures tellable { IfErr result IsSendableRefusal }
-    ensures files { IsFolderLater (N.folder files.old) (N.folder files.new) }
-{
-    match read_plans(alloc, chooser, files) {
-        Ok(plans) => Ok(plans),
-        Err(PlanFault::FileFault(target)) => Err(Refusal::FileFault(entry_name(chooser, target)?)),
-        Err(PlanFault::FileTooLong(target)) => {
-            Err(Refusal::FileTooLong(entry_name(chooser, target)?))
-        }
-        Err(PlanFault::NoMemory) => Err(Refusal::NoMemory),
-    }
-}
-
-fn entry_name(chooser: &Chooser, target: usize) -> Result<Text, NoMemory>
-    requires { target < length chooser.now.targets }
-    ensures { IfOk result (λ name. name ≡ entry_name chooser.now target) }
-{
-    let Some(name) = chooser.entry(target) else {
-        unreachable!()
-    };
-    name.copy()
-}
-
-// Loads the copies of a layout, boots by the plans, and gives what is sent of the boot's end.
-fn boot_by<B: Board>(
+/// Loads the copies of a layout, boots by the plans, and gives what is sent of the boot's end.
+pub(crate) fn boot_by<B: Board>(
     alloc: Global,
     board: &mut B,
     keyed: KeyedLayout,

@@ -2,10 +2,11 @@ ghost use Rattle.std.specs.Prelude.{◌≡◌, ◌≤◌, IfErr, IfOk, length};
 ghost use Rattle.std.specs.Option.{option_copied};
 ghost use Rattle.bb_flash.specs.Geometry.{IsGeometry};
 ghost use Rattle.bb_layout.specs.Layout.{fields_of};
-ghost use Rattle.bb_state.specs.Keyed.{FitsKey};
 ghost use Rattle.bb_tree.specs.NodeViews.{branch_of};
-ghost use Rattle.bb_tool.specs.Filing.{IsExpected, IsFolderLater, IsKeyedFor, IsReadFor, keyed_as};
-ghost use Rattle.bb_tool.specs.Plan.{blob_root, description_of, layout_in, source_root, tree_in};
+ghost use Rattle.bb_tool.specs.PlanSteps.{blob_root, keyed_reading, layout_by, layout_reading};
+ghost use Rattle.bb_tool.specs.PlanSteps.{source_root, tree_in};
+ghost use Rattle.bb_tool.specs.Plan.{IsLaidFor, keyed_as};
+ghost use Rattle.bb_tool.specs.FilesRead.{IsExpected, IsReadAs};
 ghost use Rattle.bb_tool.specs.Refusal.{IsSendableRefusal};
 
 use crate::file::read_file;
@@ -37,13 +38,11 @@ pub(crate) fn read_keyed<N: Files>(
     geometry: Geometry,
 ) -> Result<KeyedLayout, Refusal>
     requires { IsGeometry geometry }
-    ensures read { IsKeyedFor
-        (description_of file.now (option_copied name.entry) (option_copied key.entry)) geometry
-        (N.folder files.old) (N.folder files.new) keyed_as result }
-    ensures fits { IfOk result (λ keyed. FitsKey keyed.layout.format keyed.key) }
-    ensures same_geometry { IfOk result (λ keyed. keyed.layout.geometry ≡ geometry) }
+    ensures read { IsReadAs (keyed_reading file.now (option_copied name.entry)
+        (option_copied key.entry) geometry) keyed_as
+        (N.folder files.old) (N.folder files.new) result }
+    ensures laid { IfOk result (λ keyed. IsLaidFor geometry (keyed_as keyed)) }
     ensures tellable { IfErr result IsSendableRefusal }
-    ensures files { IsFolderLater (N.folder files.old) (N.folder files.new) }
 {
     let layout = read_layout(alloc, files, file, name, geometry)?;
     let key = read_key(alloc, files, key, layout.format)?;
@@ -60,14 +59,30 @@ fn read_layout<N: Files>(
     geometry: Geometry,
 ) -> Result<Layout, Refusal>
     requires { IsGeometry geometry }
-    ensures read { IsReadFor file.now (N.folder files.old) (N.folder files.new)
-        (layout_in file.now (option_copied name.entry) geometry) fields_of result }
-    ensures tellable { IfErr result IsSendableRefusal }
+    ensures read { IsReadAs (layout_reading file.now (option_copied name.entry) geometry) fields_of
+        (N.folder files.old) (N.folder files.new) result }
     ensures same_geometry { IfOk result (λ layout. layout.geometry ≡ geometry) }
-    ensures files { IsFolderLater (N.folder files.old) (N.folder files.new) }
+    ensures tellable { IfErr result IsSendableRefusal }
 {
     let bytes = read_file(alloc, files, file)?;
-    let tree = read_tree(alloc, bytes.as_slice())?;
+    described_layout(alloc, bytes.as_slice(), name, geometry)
+}
+
+// The same of the bytes of the file.
+fn described_layout(
+    alloc: Global,
+    bytes: &[u8],
+    name: Option<&Text>,
+    geometry: Geometry,
+) -> Result<Layout, Refusal>
+    requires geometry { IsGeometry geometry }
+    requires short { length bytes.now ≤ 4294967295 }
+    ensures gives { IsExpected (layout_by (option_copied name.entry) geometry bytes.now)
+        fields_of result }
+    ensures same_geometry { IfOk result (λ layout. layout.geometry ≡ geometry) }
+    ensures tellable { IfErr result IsSendableRefusal }
+{
+    let tree = read_tree(alloc, bytes)?;
     Ok(layout_of(alloc, &tree, text_of(name), geometry)?)
 }
 

@@ -1,7 +1,6 @@
 ghost use Rattle.std.specs.Prelude.{◌≤◌, IfErr, IfOk, length};
 ghost use Rattle.bb_base.specs.Folder.{file_limit};
-ghost use Rattle.bb_tool.specs.Filing.{IsFolderLater, IsReadFor};
-ghost use Rattle.bb_tool.specs.Plan.{bytes_in};
+ghost use Rattle.bb_tool.specs.FilesRead.{IsReadAs, file_reading};
 ghost use Rattle.bb_tool.specs.Refusal.{IsSendableRefusal};
 
 use crate::refusal::Refusal;
@@ -14,11 +13,10 @@ pub(crate) fn read_file<N: Files>(
     files: &mut N,
     name: &Text,
 ) -> Result<Bytes, Refusal>
-    ensures read { IsReadFor name.now (N.folder files.old) (N.folder files.new)
-        (bytes_in name.now) (λ bytes. bytes) result }
+    ensures read { IsReadAs (file_reading name.now) (λ bytes. bytes)
+        (N.folder files.old) (N.folder files.new) result }
     ensures short { IfOk result (λ bytes. length bytes ≤ file_limit) }
     ensures tellable { IfErr result IsSendableRefusal }
-    ensures files { IsFolderLater (N.folder files.old) (N.folder files.new) }
 {
     let mut bytes = Bytes::none(alloc);
     match files.read(name.as_str(), &mut bytes) {

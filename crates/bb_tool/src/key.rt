@@ -1,9 +1,8 @@
 ghost use Rattle.std.specs.Prelude.{IfErr, IfOk};
 ghost use Rattle.std.specs.Option.{option_copied};
 ghost use Rattle.bb_state.specs.Keyed.{FitsKey};
-ghost use Rattle.bb_tool.specs.Filing.{IsFolderLater, IsKeyRead, IsReadFor};
-ghost use Rattle.bb_tool.specs.Plan.{block_by, bytes_in};
-ghost use Rattle.bb_layout.specs.Results.{result_and_then};
+ghost use Rattle.bb_tool.specs.PlanSteps.{block_by, block_reading, key_reading};
+ghost use Rattle.bb_tool.specs.FilesRead.{IsExpected, IsReadAs};
 ghost use Rattle.bb_tool.specs.Refusal.{IsSendableRefusal};
 
 use crate::file::read_file;
@@ -21,11 +20,10 @@ pub(crate) fn read_key<N: Files>(
     file: Option<&Text>,
     format: FormatKind,
 ) -> Result<Option<Key>, Refusal>
-    ensures read { IsKeyRead (option_copied file.entry) format
-        (N.folder files.old) (N.folder files.new) (λ key. key) result }
+    ensures read { IsReadAs (key_reading (option_copied file.entry) format) (λ key. key)
+        (N.folder files.old) (N.folder files.new) result }
     ensures fits { IfOk result (FitsKey format) }
     ensures tellable { IfErr result IsSendableRefusal }
-    ensures files { IsFolderLater (N.folder files.old) (N.folder files.new) }
 {
     if !format.takes_key() {
         return Ok(None);
@@ -38,11 +36,18 @@ pub(crate) fn read_key<N: Files>(
 
 // The key that a file spells.
 fn spelt_key<N: Files>(alloc: Global, files: &mut N, file: &Text) -> Result<Key, Refusal>
-    ensures read { IsReadFor file.now (N.folder files.old) (N.folder files.new)
-        (λ answer. result_and_then block_by (bytes_in file.now answer)) (λ key. key) result }
+    ensures read { IsReadAs (block_reading file.now) (λ key. key)
+        (N.folder files.old) (N.folder files.new) result }
     ensures tellable { IfErr result IsSendableRefusal }
-    ensures files { IsFolderLater (N.folder files.old) (N.folder files.new) }
 {
     let text = read_file(alloc, files, file)?;
-    Ok(Key::from_hex(text.as_slice())?)
+    key_in(text.as_slice())
+}
+
+// The key that a text spells.
+fn key_in(text: &[u8]) -> Result<Key, Refusal>
+    ensures gives { IsExpected (block_by text.now) (λ key. key) result }
+    ensures tellable { IfErr result IsSendableRefusal }
+{
+    Ok(Key::from_hex(text)?)
 }

@@ -4,11 +4,14 @@
 
 mod boot;
 mod described;
+mod entries;
 mod file;
 mod key;
 mod law;
 mod line;
 mod mark_good;
+mod plan;
+mod planning;
 mod raw;
 mod refusal;
 mod report;

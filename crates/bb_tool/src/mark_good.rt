@@ -1,58 +1,28 @@
-ghost use Rattle.std.specs.Prelude.{◌≡◌, List, ℕ, Ok, IfErr, IfOk, length};
+ghost use Rattle.std.specs.Prelude.{◌≡◌, IfErr, IfOk, length};
 ghost use Rattle.std.specs.Option.{option_map};
 ghost use Rattle.bb_chooser.specs.Binding.{IsBoundTo};
 ghost use Rattle.bb_flash.specs.Cuts.{IsLater};
 ghost use Rattle.bb_flash.specs.Device.{IsDevice, LeavesStarts};
 ghost use Rattle.bb_state.specs.Keyed.{FitsKey};
 ghost use Rattle.bb_state.specs.State.{IsOn, keyed_of, laid_of};
-ghost use Rattle.bb_words.specs.Words.{words_of};
-ghost use Rattle.bb_words.specs.declared.command.Command.TheVariants as commands;
-ghost use Rattle.bb_tool.specs.SessionAnswer.{IsSessionAnswer};
-ghost use Rattle.bb_tool.specs.Filing.{keyed_as, IsFolderLater};
 ghost use Rattle.bb_tool.specs.Marking.{chosen_name, good_line, good_text};
-ghost use Rattle.bb_tool.specs.Plan.{Good};
+ghost use Rattle.bb_tool.specs.Plan.{Good, keyed_as};
 ghost use Rattle.bb_tool.specs.Refusal.{IsSendableRefusal};
 ghost use Rattle.bb_tool.specs.Work.{IsSendable, IsWorkedOut};
 
-use crate::described::{KeyedLayout, read_keyed};
+use crate::described::KeyedLayout;
 use crate::refusal::Refusal;
 use crate::report::Report;
-use crate::targets::read_targets;
-use bb_base::{Bytes, Files, NoMemory, Text};
+use bb_base::{Bytes, NoMemory, Text};
 use bb_chooser::Chooser;
 use bb_flash::Flash;
 use bb_state::State;
 use bb_vars::Table;
-use bb_words::MarkGoodCommand;
 use std::alloc::Global;
 
-/// The command `mark-good`: the layout that its file describes, the settings' targets, and then the
-/// work on the device.
-pub(crate) fn mark_good<N: Files, F: Flash>(
-    alloc: Global,
-    files: &mut N,
-    flash: &mut F,
-    command: &MarkGoodCommand,
-) -> Result<Report, Refusal>
-    ensures gives { (words : List (List ℕ)) → words_of words ≡ Ok (commands.MarkGood command.now)
-        → IsSessionAnswer words (N.folder files.old) (N.folder files.new)
-        (F.device flash.old) (F.device flash.new) result }
-    ensures tellable { IfErr result IsSendableRefusal }
-    ensures sends { IfOk result IsSendable }
-    ensures files { IsFolderLater (N.folder files.old) (N.folder files.new) }
-    ensures later { IsLater (F.device flash.old) (F.device flash.new) }
-    ensures starts { LeavesStarts (F.device flash.old) (F.device flash.new) }
-{
-    let name = command.name.as_ref();
-    let key = command.key.as_ref();
-    let keyed = read_keyed(alloc, files, &command.file, name, key, flash.geometry())?;
-    let chooser = read_targets(alloc, files, &command.settings, &keyed.layout)?;
-    mark(alloc, flash, keyed, &chooser)
-}
-
-// Loads the copies of a layout, gives the target that was chosen last its default attempts, saves
-// the table where it is another than the one that was loaded, and gives the target's line.
-fn mark<F: Flash>(
+/// Loads the copies of a layout, gives the target that was chosen last its default attempts, saves
+/// the table where it is another than the one that was loaded, and gives the target's line.
+pub(crate) fn mark<F: Flash>(
     alloc: Global,
     flash: &mut F,
     keyed: KeyedLayout,

@@ -1,14 +1,9 @@
-ghost use Rattle.std.specs.Prelude.{◌≡◌, List, ℕ, None, Ok, IfErr, IfOk, length};
+ghost use Rattle.std.specs.Prelude.{◌≡◌, None, IfErr, IfOk, length};
 ghost use Rattle.std.specs.Prelude.{option_map, vec_len};
-ghost use Rattle.bb_base.specs.Folder.{Folder};
 ghost use Rattle.bb_flash.specs.Cuts.{IsLater};
 ghost use Rattle.bb_flash.specs.Device.{IsDevice, LeavesStarts};
 ghost use Rattle.bb_layout.specs.Layout.{fields_of};
 ghost use Rattle.bb_state.specs.State.{IsOn, keyed_of, laid_of};
-ghost use Rattle.bb_words.specs.Answer.{IsSizedRaw};
-ghost use Rattle.bb_words.specs.Words.{words_of};
-ghost use Rattle.bb_words.specs.declared.command.Command.TheVariants as commands;
-ghost use Rattle.bb_tool.specs.SessionAnswer.{IsSessionAnswer};
 ghost use Rattle.bb_tool.specs.Looking.{look_text};
 ghost use Rattle.bb_tool.specs.Plan.{Show, Write};
 ghost use Rattle.bb_tool.specs.Refusal.{IsSendableRefusal};
@@ -18,35 +13,16 @@ use crate::refusal::Refusal;
 use crate::report::Report;
 use bb_base::{Bytes, NoMemory};
 use bb_flash::Flash;
-use bb_layout::{FormatKind, Layout, raw_layout};
+use bb_layout::{FormatKind, Layout};
 use bb_state::State;
-use bb_words::{RawAction, RawCommand};
 use std::alloc::Global;
 
-/// The command `raw`: its layout, and then a look or a save.
-pub(crate) fn raw<F: Flash>(
+/// Looks at the copies of a layout, and gives the text of the first that passes.
+pub(crate) fn look<F: Flash>(
     alloc: Global,
     flash: &mut F,
-    command: RawCommand,
+    layout: Layout,
 ) -> Result<Report, Refusal>
-    requires sized { IsSizedRaw command }
-    ensures gives { (words : List (List ℕ)) (folder : Folder)
-        → words_of words ≡ Ok (commands.Raw command)
-        → IsSessionAnswer words folder folder (F.device flash.old) (F.device flash.new) result }
-    ensures tellable { IfErr result IsSendableRefusal }
-    ensures sends { IfOk result IsSendable }
-    ensures later { IsLater (F.device flash.old) (F.device flash.new) }
-    ensures starts { LeavesStarts (F.device flash.old) (F.device flash.new) }
-{
-    let layout = raw_layout(alloc, command.magic, command.area_len, flash.geometry())?;
-    match command.action {
-        RawAction::Look => look(alloc, flash, layout),
-        RawAction::Write(area) => save(alloc, flash, layout, area.as_slice()),
-    }
-}
-
-// Looks at the copies of a layout, and gives the text of the first that passes.
-fn look<F: Flash>(alloc: Global, flash: &mut F, layout: Layout) -> Result<Report, Refusal>
     requires unkeyed { layout.format ≡ FormatKind.Raw }
     requires geometry { layout.geometry ≡ (F.device flash.old).geometry }
     requires whole { IsDevice (F.device flash.old) }
@@ -98,8 +74,8 @@ fn look_text(alloc: Global, found: Option<Vec<u8>>) -> Result<Bytes, NoMemory>
     Ok(text)
 }
 
-// Loads the copies of a layout, and saves this area, which has the layout's length.
-fn save<F: Flash>(
+/// Loads the copies of a layout, and saves this area, which has the layout's length.
+pub(crate) fn save<F: Flash>(
     alloc: Global,
     flash: &mut F,
     layout: Layout,

@@ -1,26 +1,28 @@
 ghost use Rattle.std.specs.Prelude.{◌≡◌, ◌≤◌, false, IfErr, IfOk};
 ghost use Rattle.bb_flash.specs.Cuts.{IsLater};
+ghost use Rattle.bb_flash.specs.Device.{IsDevice};
 ghost use Rattle.bb_tool.specs.Calls.{IsSession};
 ghost use Rattle.bb_tool.specs.Clauses.{EndsEarly, KeepsTheCopies, KnowsItsCauses, LeavesTheRest};
 ghost use Rattle.bb_tool.specs.Clauses.{SendsTheSession, StartsTheBest, WorksUndisturbed};
 ghost use Rattle.bb_tool.specs.SessionAnswer.{IsSessionAnswer};
-ghost use Rattle.bb_tool.specs.Filing.{IsFolderLater};
-ghost use Rattle.bb_tool.specs.Plan.{names_file};
+ghost use Rattle.bb_tool.specs.Plan.{IsPlannedFor, names_file, plan_as};
 ghost use Rattle.bb_tool.specs.Ran.{ran_by};
+ghost use Rattle.bb_tool.specs.FilesRead.{IsFolderLater};
 ghost use Rattle.bb_tool.specs.Refusal.{IsSendableRefusal};
-ghost use Rattle.bb_tool.specs.Work.{IsSendable};
+ghost use Rattle.bb_tool.specs.Work.{IsSendable, IsWorkedOut};
 
 use crate::Status;
-use crate::boot::boot;
-use crate::mark_good::mark_good;
-use crate::raw::raw;
+use crate::boot::boot_by;
+use crate::mark_good::mark;
+use crate::plan::{PlannedWork, Work};
+use crate::planning::plan_session;
+use crate::raw::{look, save};
 use crate::refusal::Refusal;
 use crate::report::Report;
 use crate::send::{send_refusal, send_report};
-use crate::state::state;
+use crate::state::act;
 use bb_base::{Files, Sink, TextList};
 use bb_flash::Board;
-use bb_words::{Command, read_words};
 use std::alloc::Global;
 
 /// One session, over files, a device and an output: the words after the device and its geometry,
@@ -69,7 +71,8 @@ fn answer<N: Files, B: Board, K: Sink>(
     ensures session { IsSession (ran_by N.folder B.device K.sink words.now
         files.old files.new board.old board.new sink.old sink.new result) }
     ensures files { IsFolderLater (N.folder files.old) (N.folder files.new) }
-    ensures unread { names_file words.now ≡ false → N.folder files.new ≡ N.folder files.old }
+    ensures unread { names_file words.now (B.device board.old).geometry ≡ false
+        → N.folder files.new ≡ N.folder files.old }
     ensures later { IsLater (B.device board.old) (B.device board.new) }
     ensures faults { (K.sink sink.old).faults ≤ (K.sink sink.new).faults }
 {
@@ -91,13 +94,32 @@ fn session<N: Files, B: Board>(
     ensures tellable { IfErr result IsSendableRefusal }
     ensures sends { IfOk result IsSendable }
     ensures files { IsFolderLater (N.folder files.old) (N.folder files.new) }
-    ensures unread { names_file words.now ≡ false → N.folder files.new ≡ N.folder files.old }
+    ensures unread { names_file words.now (B.device board.old).geometry ≡ false
+        → N.folder files.new ≡ N.folder files.old }
     ensures later { IsLater (B.device board.old) (B.device board.new) }
 {
-    match read_words(alloc, words)? {
-        Command::Raw(command) => raw(alloc, board, command),
-        Command::State(command) => state(alloc, files, board, &command),
-        Command::MarkGood(command) => mark_good(alloc, files, board, &command),
-        Command::Boot(command) => boot(alloc, files, board, &command),
+    let plan = plan_session(alloc, words, files, board.geometry())?;
+    work(alloc, board, plan)
+}
+
+// The work of a plan.
+fn work<B: Board>(alloc: Global, board: &mut B, plan: PlannedWork) -> Result<Report, Refusal>
+    requires plan { IsPlannedFor (B.device board.old).geometry (plan_as plan) }
+    requires whole { IsDevice (B.device board.old) }
+    ensures gives { IsWorkedOut (plan_as plan).keyed plan.work
+        (B.device board.old) (B.device board.new) result }
+    ensures tellable { IfErr result IsSendableRefusal }
+    ensures sends { IfOk result IsSendable }
+    ensures later { IsLater (B.device board.old) (B.device board.new) }
+{
+    let keyed = plan.keyed;
+    match plan.work {
+        Work::Show => look(alloc, board, keyed.layout),
+        Work::Write(area) => save(alloc, board, keyed.layout, area.as_slice()),
+        Work::Act(actions) => act(alloc, board, keyed, &actions),
+        Work::Good(chooser) => mark(alloc, board, keyed, &chooser),
+        Work::Boot(chooser, cause, plans) => {
+            boot_by(alloc, board, keyed, &chooser, &plans, cause)
+        }
     }
 }

@@ -1,8 +1,8 @@
-ghost use Rattle.std.specs.Prelude.{◌≡◌, IfErr, IfOk};
-ghost use Rattle.bb_chooser.specs.Binding.{IsBoundTo};
+ghost use Rattle.std.specs.Prelude.{IfErr, IfOk};
 ghost use Rattle.bb_layout.specs.Layout.{fields_of};
-ghost use Rattle.bb_tool.specs.Filing.{IsFolderLater, IsReadFor};
-ghost use Rattle.bb_tool.specs.Plan.{binding_in};
+ghost use Rattle.bb_tool.specs.PlanSteps.{targets_by, binding_reading};
+ghost use Rattle.bb_tool.specs.Plan.{IsBoundAt};
+ghost use Rattle.bb_tool.specs.FilesRead.{IsExpected, IsReadAs};
 ghost use Rattle.bb_tool.specs.Refusal.{IsSendableRefusal};
 
 use crate::file::read_file;
@@ -19,14 +19,22 @@ pub(crate) fn read_targets<N: Files>(
     file: &Text,
     layout: &Layout,
 ) -> Result<Chooser, Refusal>
-    ensures read { IsReadFor file.now (N.folder files.old) (N.folder files.new)
-        (binding_in file.now (fields_of layout.now)) (λ chooser. chooser) result }
+    ensures read { IsReadAs (binding_reading file.now (fields_of layout.now)) (λ chooser. chooser)
+        (N.folder files.old) (N.folder files.new) result }
+    ensures bound { IfOk result (IsBoundAt (fields_of layout.now)) }
     ensures tellable { IfErr result IsSendableRefusal }
-    ensures sized { IfOk result (λ chooser. chooser.area_len ≡ layout.now.area_len) }
-    ensures bound { IfOk result (IsBoundTo layout.now.vars) }
-    ensures files { IsFolderLater (N.folder files.old) (N.folder files.new) }
 {
     let text = read_file(alloc, files, file)?;
-    let settings = Settings::read(alloc, text.as_slice())?;
+    bound_targets(alloc, text.as_slice(), layout)
+}
+
+// The same of the settings' text.
+fn bound_targets(alloc: Global, text: &[u8], layout: &Layout) -> Result<Chooser, Refusal>
+    ensures gives { IsExpected (targets_by (fields_of layout.now) text.now) (λ chooser. chooser)
+        result }
+    ensures bound { IfOk result (IsBoundAt (fields_of layout.now)) }
+    ensures tellable { IfErr result IsSendableRefusal }
+{
+    let settings = Settings::read(alloc, text)?;
     Ok(Chooser::bind(alloc, settings, layout)?)
 }

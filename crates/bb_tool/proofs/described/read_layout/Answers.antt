@@ -1,59 +1,18 @@
-use Rattle.std.proofs.Common.{◌∙◌, ℕ, List, Option, Result, Err, ap, sym, subst}
+use Rattle.std.proofs.Common.{◌∙◌, Err, ap}
 use Rattle.std.proofs.lemmas.Result.{err_from_is_err_and}
 use Rattle.std.specs.Option.{option_copied}
-use Rattle.bb_layout.specs.Layout.{Laid, fields_of, layout_from}
-use Rattle.bb_layout.specs.Results.{result_and_then}
-use Rattle.bb_tree.specs.Node.{Branch}
-use Rattle.bb_tree.specs.NodeViews.{branch_of}
-use Rattle.bb_tool.specs.Filing.{IsReadFor}
-use Rattle.bb_tool.specs.Plan.{layout_by, layout_in, refused_as, tree_in}
-use Rattle.bb_tool.specs.declared.refusal.Refusal.{Refusal}
-use Rattle.bb_tool.specs.declared.refusal.Refusal.TheVariants as refusals
-use Rattle.bb_tool.proofs.Sources.{laid_geometry, layout_refused, read_for, unread_for}
+use Rattle.bb_layout.specs.Layout.{fields_of}
+use Rattle.bb_tool.specs.PlanSteps.{layout_by}
+use Rattle.bb_tool.proofs.Readings.{file_step, file_stopped}
 use Rattle.bb_tool.proofs.described.read_layout.Goals as goal
 
 pub returns-in_err-bytes-clause-read : goal.returns-in_err-bytes-clause-read
 returns-in_err-bytes-clause-read g c =
     let p = err_from_is_err_and c.from_residual.result c.from_residual.ensures.1 in
-    let name = option_copied c.args.name in
-    subst (IsReadFor c.args.file.now _ _ (layout_in c.args.file.now name c.args.geometry) fields_of) (sym (p.1 ∙ ap (λ e. Err e) p.2))
-    (unread_for c.args.file.now _ _ (layout_by name c.args.geometry) fields_of c.in_err-bytes.field-0.0 c.in_err-bytes.ensures.read)
-
-pub returns-in_err-tree-clause-read : goal.returns-in_err-tree-clause-read
-returns-in_err-tree-clause-read g c =
-    let p = err_from_is_err_and c.from_residual-in_err-tree.result c.from_residual-in_err-tree.ensures.1 in
-    let name = option_copied c.args.name in
-    let next : Branch (List ℕ) → Result Laid Refusal = λ root. refused_as refusals.BadLayout (layout_from root name c.args.geometry) in
-    subst (IsReadFor c.args.file.now _ _ (layout_in c.args.file.now name c.args.geometry) fields_of) (sym (p.1 ∙ ap (λ e. Err e) p.2))
-    (read_for c.args.file.now _ _ (layout_by name c.args.geometry) fields_of c.in_ok-bytes.bytes _ c.in_ok-bytes.ensures.read
-    (λ some. ap (λ bytes. result_and_then next (tree_in bytes)) (sym c.as_slice.ensures)
-    ∙ ap (result_and_then next) (c.in_err-tree.ensures.read some)))
-
-pub returns-in_err-layout_of-clause-read : goal.returns-in_err-layout_of-clause-read
-returns-in_err-layout_of-clause-read g c =
-    let p = err_from_is_err_and c.from_residual-in_err-layout_of.result c.from_residual-in_err-layout_of.ensures.1 in
-    let name = option_copied c.args.name in
-    let tree = c.in_ok-tree.tree in
-    let next : Branch (List ℕ) → Result Laid Refusal = λ root. refused_as refusals.BadLayout (layout_from root name c.args.geometry) in
-    subst (IsReadFor c.args.file.now _ _ (layout_in c.args.file.now name c.args.geometry) fields_of) (sym (p.1 ∙ ap (λ e. Err e) p.2))
-    (read_for c.args.file.now _ _ (layout_by name c.args.geometry) fields_of c.in_ok-bytes.bytes _ c.in_ok-bytes.ensures.read
-    (λ some. ap (λ bytes. result_and_then next (tree_in bytes)) (sym c.as_slice.ensures)
-    ∙ ap (result_and_then next) c.in_ok-tree.ensures.read
-    ∙ layout_refused (layout_from (branch_of tree.root) name c.args.geometry) c.in_err-layout_of.field-0.0
-    (λ known. ap (λ (n : Option (List ℕ)). layout_from (branch_of tree.root) n c.args.geometry) (sym c.text_of.ensures) ∙ c.in_err-layout_of.ensures.refused known) some))
+    file_stopped (layout_by (option_copied c.args.name) c.args.geometry) c.args.file.now fields_of _ _ c.in_err-bytes.field-0.0
+    c.in_err-bytes.ensures.read c.from_residual.result (p.1 ∙ ap (λ e. Err e) p.2)
 
 pub returns-clause-read : goal.returns-clause-read
 returns-clause-read g c =
-    let name = option_copied c.args.name in
-    let tree = c.in_ok-tree.tree in
-    let next : Branch (List ℕ) → Result Laid Refusal = λ root. refused_as refusals.BadLayout (layout_from root name c.args.geometry) in
-    read_for c.args.file.now _ _ (layout_by name c.args.geometry) fields_of c.in_ok-bytes.bytes _ c.in_ok-bytes.ensures.read
-    (ap (λ bytes. result_and_then next (tree_in bytes)) (sym c.as_slice.ensures)
-    ∙ ap (result_and_then next) c.in_ok-tree.ensures.read
-    ∙ ap (refused_as refusals.BadLayout)
-    (ap (λ (n : Option (List ℕ)). layout_from (branch_of tree.root) n c.args.geometry) (sym c.text_of.ensures) ∙ c.in_ok-layout_of.ensures.ok))
-
-pub returns-clause-same_geometry : goal.returns-clause-same_geometry
-returns-clause-same_geometry g c =
-    laid_geometry (branch_of c.in_ok-tree.tree.root) (option_copied c.text_of.result) c.args.geometry
-    (fields_of c.in_ok-layout_of.field-0) c.in_ok-layout_of.ensures.ok
+    file_step (layout_by (option_copied c.args.name) c.args.geometry) c.args.file.now fields_of _ _ c.in_ok-bytes.bytes
+    c.as_slice.result.now c.described_layout.result c.in_ok-bytes.ensures.read c.as_slice.ensures c.described_layout.ensures.gives

@@ -14,7 +14,7 @@ pub returns-clause-undisturbed : goal.returns-clause-undisturbed
 returns-clause-undisturbed g c = undisturbed _ c.answer.ensures.session
 
 pub returns-clause-early : goal.returns-clause-early
-returns-clause-early g c = ends_early _ c.answer.ensures.session c.answer.ensures.unread
+returns-clause-early g c = ends_early _ c.answer.ensures.session
 
 pub returns-clause-starts : goal.returns-clause-starts
 returns-clause-starts g c = starts _ c.answer.ensures.session
