@@ -84,7 +84,8 @@ key_reading file format = if takes_key format then named_block file else Yields 
 -- a layout, and then the key of its records
 abbrev pub key_behind : Option (List ℕ) → Laid → Reading Keyed
 key_behind key layout =
-    and_then (λ block. Yields (record { layout = layout; key = block })) (key_reading key layout.format)
+    and_then (λ block. Yields (record { layout = layout; key = block }))
+    (key_reading key layout.format)
 
 abbrev pub keyed_reading :
     List ℕ → Option (List ℕ) → Option (List ℕ) → Geometry → Reading Keyed
