@@ -1,5 +1,5 @@
 -- Of which words and files a session's plan comes, and with which refusals it can't.
-use Rattle.std.proofs.Common.{◌≡◌, ◌≢◌, ◌⊎◌, ℕ, true, false, List, [], Some, Result, Ok, Err, IsErr, IfErr, refl, sym, ap, subst, ◌∙◌, inl, inr}
+use Rattle.std.proofs.Common.{◌≡◌, ◌≢◌, ◌⊎◌, ◌&&◌, ℕ, Bool, true, false, not, List, [], Some, Result, Ok, Err, IsErr, IfErr, refl, sym, ap, subst, ◌∙◌, inl, inr}
 use Rattle.bb_base.specs.Faults.{Rose}
 use Rattle.bb_base.specs.Folder.{FileMap, Folder}
 use Rattle.bb_base.specs.declared.files.FileFail.{FileFail}
@@ -16,7 +16,7 @@ use Rattle.bb_tool.specs.declared.refusal.Refusal.TheVariants as refusals
 use Rattle.bb_tool.specs.declared.status.Status.{Status}
 use Rattle.bb_tool.specs.declared.status.Status.TheVariants as statuses
 use Rattle.bb_tool.proofs.Readings.{HasErr, IsReadOver, by_over, each_more, ends_err, fault_rose, one_end, same_over}
-use Rattle.bb_tool.proofs.Sizes.{IsOfText, IsSizedPlan, command_ends, is_of_text}
+use Rattle.bb_tool.proofs.Sizes.{is_of_file, IsOfText, IsSizedPlan, command_ends, is_of_text}
 
 -- ---- refusals
 
@@ -43,32 +43,13 @@ command_refusal answer other fails command geometry files =
 not_planning : (a b : Status) → is_planning a ≡ true → is_planning b ≡ false → a ≢ b
 not_planning a b first second e = let h : true ≡ false = sym first ∙ ap is_planning e ∙ second in cc
 
-texts_plan : (status : Status) → is_planning status ≡ false → is_of_text status ≡ false
-texts_plan statuses.Done never = refl
-texts_plan statuses.BadWords never = absurd cc
-texts_plan statuses.BadTree never = absurd cc
-texts_plan statuses.BadLayout never = absurd cc
-texts_plan statuses.BadVariable never = absurd cc
-texts_plan statuses.FileMissing never = absurd cc
-texts_plan statuses.FileFault never = absurd cc
-texts_plan statuses.FileTooLong never = absurd cc
-texts_plan statuses.ReadFault never = refl
-texts_plan statuses.WriteFault never = refl
-texts_plan statuses.NoTarget never = refl
-texts_plan statuses.StartFailed never = refl
-texts_plan statuses.BadSettings never = absurd cc
-texts_plan statuses.NoGood never = refl
-texts_plan statuses.SinkFault never = refl
-texts_plan statuses.BadKey never = absurd cc
-texts_plan statuses.NoMemory never = refl
-
 -- a status that comes after a plan is no refusal of one
 pub plan_refusal : (answer : Status) → is_planning answer ≡ false → answer ≢ statuses.NoMemory → (command : Result Command ℕ)
     (geometry : Geometry) (files : FileAnswers) → IsRefusedWith answer (result_by (words_reading command geometry) files) → ⊥
 plan_refusal answer never other (Err place) geometry files refused =
     not_planning statuses.BadWords answer refl never refused
 plan_refusal answer never other (Ok command) geometry files refused =
-    command_refusal answer (texts_plan answer never) fails command geometry files refused
+    command_refusal answer (ap (λ (planning : Bool). planning && not (is_of_file answer)) never) fails command geometry files refused
   where
     fails : (name : List ℕ) (fail : FileFail) → status_of (file_refusal name fail) ≢ answer
     fails name file_fails.Fault = not_planning statuses.FileFault answer refl never

@@ -1,6 +1,6 @@
 -- The area of a plan's layout has one length: in its defaults, in what its copies pass, and in what
 -- a boot is bound to; and no two variables to which a boot is bound share a byte of it.
-use Rattle.std.proofs.Common.{◌≡◌, ℕ, suc, ◌+◌, ◌≤◌, Bool, true, false, List, [], ◌∷◌, All, length, Option, Some, None, Result, Ok, Err, IfErr, IfOk, cond, nat_lt, refl, subst, ◌∙◌, arith}
+use Rattle.std.proofs.Common.{◌≡◌, ◌&&◌, ℕ, suc, ◌+◌, ◌≤◌, Bool, true, false, not, List, [], ◌∷◌, All, length, Option, Some, None, Result, Ok, Err, IfErr, IfOk, cond, nat_lt, refl, subst, ◌∙◌, arith}
 use Rattle.std.specs.Prelude.{⊤, fold, map, ok_or, replicate}
 use Rattle.std.specs.Option.{option_and_then}
 use Rattle.std.proofs.lemmas.Bool.Decides.{nat_tests}
@@ -61,9 +61,10 @@ use Rattle.bb_words.specs.declared.command.RawAction.TheVariants as raw_actions
 use Rattle.bb_words.specs.declared.command.RawCommand.{RawCommand}
 use Rattle.bb_words.specs.declared.command.StateCommand.{StateCommand}
 use Rattle.bb_layout.specs.Thirds.{raw_layout}
+use Rattle.bb_tool.specs.Calls.{is_planning}
 use Rattle.bb_tool.specs.Looking.{passed_in}
-use Rattle.bb_tool.specs.PlanSteps.{binding_by, binding_reading, blob_root, block_by, block_reading, cause_of, entries_reading, fit_by, is_blob, key_behind, key_reading, keyed_reading, layout_by, layout_reading, named_block, plans_reading, refused_as, source_root, targets_by, tree_in}
-use Rattle.bb_tool.specs.Plan.{Act, Boot, FileAnswers, Good, SessionPlan, Show, Work, Write, boot_behind, boot_planned, command_reading, mark_behind, plan_by_words, raw_laid, raw_work, state_plan, words_reading}
+use Rattle.bb_tool.specs.PlanSteps.{binding_by, binding_reading, blob_root, block_by, block_reading, cause_of, entries_reading, fit_by, is_blob, key_after, key_reading, keyed_reading, layout_by, layout_reading, named_block, plans_reading, refused_as, source_root, targets_by, tree_in}
+use Rattle.bb_tool.specs.Plan.{Act, Boot, FileAnswers, Good, SessionPlan, Show, Work, Write, boot_after, boot_planned, command_reading, mark_after, plan_by_words, raw_laid, raw_work, state_plan, words_reading}
 use Rattle.bb_tool.specs.FilesRead.{EachEnd, Yields, and_then, file_reading, result_by, reading_of}
 use Rattle.bb_tool.specs.Refusal.{status_of}
 use Rattle.bb_tool.specs.SessionTurns.{first_area}
@@ -257,15 +258,16 @@ IsSizedPlan plan = IsSizedWork plan.work plan.keyed.layout
 
 -- ---- how the reading of a plan ends, whatever the files hold
 
--- the statuses of what a file holds, or that it is missing
+-- the statuses of refusals before the device that no text has: of words, and of files that can't be read
+abbrev pub is_of_file : Status → Bool
+is_of_file statuses.BadWords = true
+is_of_file statuses.FileFault = true
+is_of_file statuses.FileTooLong = true
+is_of_file _ = false
+
+-- those of what a file holds, or that it is missing
 abbrev pub is_of_text : Status → Bool
-is_of_text statuses.BadTree = true
-is_of_text statuses.BadLayout = true
-is_of_text statuses.BadVariable = true
-is_of_text statuses.FileMissing = true
-is_of_text statuses.BadSettings = true
-is_of_text statuses.BadKey = true
-is_of_text _ = false
+is_of_text status = is_planning status && not (is_of_file status)
 
 abbrev pub IsOfText : Refusal → Type 0
 IsOfText refusal = is_of_text (status_of refusal) ≡ true
@@ -342,7 +344,7 @@ HasSize keyed = IsSized keyed.layout
 keyed_ends : (file : List ℕ) (name key : Option (List ℕ)) (geometry : Geometry) →
     EachEnd HasSize IsOfText (keyed_reading file name key geometry)
 keyed_ends file name key geometry =
-    each_then IsSized HasSize IsOfText (key_behind key) (layout_reading file name geometry) (layout_ends file name geometry)
+    each_then IsSized HasSize IsOfText (key_after key) (layout_reading file name geometry) (layout_ends file name geometry)
     (λ layout sized.
     each_then Any HasSize IsOfText (λ (block : Option (List ℕ)). Yields (record { layout = layout; key = block }))
     (key_reading key layout.format) (key_ends key layout.format) (λ block any. sized))
@@ -383,14 +385,14 @@ command_ends (commands.State command) geometry =
     (keyed_reading command.file command.name command.key geometry) (keyed_ends command.file command.name command.key geometry)
     (λ keyed sized. fit_ends command keyed (misfit_of keyed.layout.vars command.actions))
 command_ends (commands.MarkGood command) geometry =
-    each_then HasSize IsSizedPlan IsOfText (mark_behind command)
+    each_then HasSize IsSizedPlan IsOfText (mark_after command)
     (keyed_reading command.file command.name command.key geometry) (keyed_ends command.file command.name command.key geometry)
     (λ keyed sized.
     each_then (IsBoundSo keyed.layout) IsSizedPlan IsOfText
     (λ (targets : Binding). Yields (record { keyed = keyed; work = Good targets }))
     (binding_reading command.settings keyed.layout) (binding_ends command.settings keyed.layout sized) (λ targets bound. tt))
 command_ends (commands.Boot command) geometry =
-    each_then HasSize IsSizedPlan IsOfText (boot_behind command)
+    each_then HasSize IsSizedPlan IsOfText (boot_after command)
     (keyed_reading command.file command.name command.key geometry) (keyed_ends command.file command.name command.key geometry)
     (λ keyed sized.
     each_then (IsBoundSo keyed.layout) IsSizedPlan IsOfText (boot_planned command keyed)

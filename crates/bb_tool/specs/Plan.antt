@@ -63,14 +63,14 @@ state_reading command geometry =
     (keyed_reading command.file command.name command.key geometry)
 
 -- `mark-good`: its layout and key, and then its settings
-abbrev pub mark_behind : MarkGoodCommand → Keyed → Reading SessionPlan
-mark_behind command keyed =
+abbrev pub mark_after : MarkGoodCommand → Keyed → Reading SessionPlan
+mark_after command keyed =
     and_then (λ targets. Yields (record { keyed = keyed; work = Good targets }))
     (binding_reading command.settings keyed.layout)
 
 abbrev pub mark_reading : MarkGoodCommand → Geometry → Reading SessionPlan
 mark_reading command geometry =
-    and_then (mark_behind command) (keyed_reading command.file command.name command.key geometry)
+    and_then (mark_after command) (keyed_reading command.file command.name command.key geometry)
 
 -- `boot`: its layout and key, its settings, and then the entries of its targets
 abbrev pub boot_planned : BootCommand → Keyed → Binding → Reading SessionPlan
@@ -80,13 +80,13 @@ boot_planned command keyed targets =
     Yields (record { keyed = keyed; work = Boot targets (cause_of command.cause) plans }))
     (plans_reading targets)
 
-abbrev pub boot_behind : BootCommand → Keyed → Reading SessionPlan
-boot_behind command keyed =
+abbrev pub boot_after : BootCommand → Keyed → Reading SessionPlan
+boot_after command keyed =
     and_then (boot_planned command keyed) (binding_reading command.settings keyed.layout)
 
 abbrev pub boot_reading : BootCommand → Geometry → Reading SessionPlan
 boot_reading command geometry =
-    and_then (boot_behind command) (keyed_reading command.file command.name command.key geometry)
+    and_then (boot_after command) (keyed_reading command.file command.name command.key geometry)
 
 -- ---- all commands
 

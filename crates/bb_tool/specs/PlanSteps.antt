@@ -82,14 +82,14 @@ abbrev pub key_reading : Option (List ℕ) → FormatKind → Reading (Option (L
 key_reading file format = if takes_key format then named_block file else Yields None
 
 -- a layout, and then the key of its records
-abbrev pub key_behind : Option (List ℕ) → Laid → Reading Keyed
-key_behind key layout =
+abbrev pub key_after : Option (List ℕ) → Laid → Reading Keyed
+key_after key layout =
     and_then (λ block. Yields (record { layout = layout; key = block }))
     (key_reading key layout.format)
 
 abbrev pub keyed_reading :
     List ℕ → Option (List ℕ) → Option (List ℕ) → Geometry → Reading Keyed
-keyed_reading file name key geometry = and_then (key_behind key) (layout_reading file name geometry)
+keyed_reading file name key geometry = and_then (key_after key) (layout_reading file name geometry)
 
 -- ---- the settings
 

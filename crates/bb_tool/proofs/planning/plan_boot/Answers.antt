@@ -3,7 +3,7 @@ use Rattle.std.proofs.lemmas.Result.{err_from_is_err_and}
 use Rattle.bb_chooser.specs.Binding.{Binding}
 use Rattle.bb_flash.specs.declared.plan.Plan.{Plan as StartPlan}
 use Rattle.bb_tool.specs.PlanSteps.{binding_reading, cause_of, keyed_reading, plans_reading}
-use Rattle.bb_tool.specs.Plan.{Boot, boot_behind, boot_planned, keyed_as, plan_as}
+use Rattle.bb_tool.specs.Plan.{Boot, boot_after, boot_planned, keyed_as, plan_as}
 use Rattle.bb_tool.specs.FilesRead.{Yields}
 use Rattle.bb_tool.proofs.Readings.{gone_on, stopped, yielded}
 use Rattle.bb_tool.proofs.Sources.{described_as}
@@ -15,7 +15,7 @@ returns-in_err-keyed-clause-read g c =
     let mid = g.N.Files.folder c.read_keyed.new.files in
     let p = err_from_is_err_and c.from_residual.result c.from_residual.ensures.1 in
     let command = c.args.command.now in
-    stopped (boot_behind command) (keyed_reading command.file command.name command.key c.args.geometry) keyed_as plan_as _ _
+    stopped (boot_after command) (keyed_reading command.file command.name command.key c.args.geometry) keyed_as plan_as _ _
     c.in_err-keyed.field-0.0
     (described_as command.file command.name command.key c.as_ref-name.ensures.value c.as_ref-key.ensures.value c.args.geometry before mid (Err c.in_err-keyed.field-0.0)
     c.in_err-keyed.ensures.read)
@@ -29,7 +29,7 @@ returns-in_err-chooser-clause-read g c =
     let command = c.args.command.now in
     let keyed = keyed_as c.in_ok-keyed.keyed in
     let given = c.from_residual-in_err-chooser.result in
-    gone_on (boot_behind command) (keyed_reading command.file command.name command.key c.args.geometry) keyed_as plan_as _ _ _
+    gone_on (boot_after command) (keyed_reading command.file command.name command.key c.args.geometry) keyed_as plan_as _ _ _
     c.in_ok-keyed.keyed given
     (described_as command.file command.name command.key c.as_ref-name.ensures.value c.as_ref-key.ensures.value c.args.geometry before mid (Ok c.in_ok-keyed.keyed)
     c.in_ok-keyed.ensures.read)
@@ -45,7 +45,7 @@ returns-in_err-plans-clause-read g c =
     let keyed = keyed_as c.in_ok-keyed.keyed in
     let targets = c.in_ok-chooser.chooser in
     let given = c.from_residual-in_err-plans.result in
-    gone_on (boot_behind command) (keyed_reading command.file command.name command.key c.args.geometry) keyed_as plan_as _ _ _
+    gone_on (boot_after command) (keyed_reading command.file command.name command.key c.args.geometry) keyed_as plan_as _ _ _
     c.in_ok-keyed.keyed given
     (described_as command.file command.name command.key c.as_ref-name.ensures.value c.as_ref-key.ensures.value c.args.geometry before mid (Ok c.in_ok-keyed.keyed)
     c.in_ok-keyed.ensures.read)
@@ -63,7 +63,7 @@ returns-clause-read g c =
     let keyed = keyed_as c.in_ok-keyed.keyed in
     let targets = c.in_ok-chooser.chooser in
     let plans = c.in_ok-plans.plans in
-    gone_on (boot_behind command) (keyed_reading command.file command.name command.key c.args.geometry) keyed_as plan_as _ _ _
+    gone_on (boot_after command) (keyed_reading command.file command.name command.key c.args.geometry) keyed_as plan_as _ _ _
     c.in_ok-keyed.keyed _
     (described_as command.file command.name command.key c.as_ref-name.ensures.value c.as_ref-key.ensures.value c.args.geometry before mid (Ok c.in_ok-keyed.keyed)
     c.in_ok-keyed.ensures.read)

@@ -2,7 +2,7 @@ use Rattle.std.proofs.Common.{◌∙◌, Ok, Err, ap, refl}
 use Rattle.std.proofs.lemmas.Result.{err_from_is_err_and}
 use Rattle.bb_chooser.specs.Binding.{Binding}
 use Rattle.bb_tool.specs.PlanSteps.{binding_reading, keyed_reading}
-use Rattle.bb_tool.specs.Plan.{Good, keyed_as, mark_behind, plan_as}
+use Rattle.bb_tool.specs.Plan.{Good, keyed_as, mark_after, plan_as}
 use Rattle.bb_tool.specs.FilesRead.{Yields}
 use Rattle.bb_tool.proofs.Readings.{gone_on, stopped, yielded}
 use Rattle.bb_tool.proofs.Sources.{described_as}
@@ -14,7 +14,7 @@ returns-in_err-keyed-clause-read g c =
     let mid = g.N.Files.folder c.read_keyed.new.files in
     let p = err_from_is_err_and c.from_residual.result c.from_residual.ensures.1 in
     let command = c.args.command.now in
-    stopped (mark_behind command) (keyed_reading command.file command.name command.key c.args.geometry) keyed_as plan_as _ _
+    stopped (mark_after command) (keyed_reading command.file command.name command.key c.args.geometry) keyed_as plan_as _ _
     c.in_err-keyed.field-0.0
     (described_as command.file command.name command.key c.as_ref-name.ensures.value c.as_ref-key.ensures.value c.args.geometry before mid (Err c.in_err-keyed.field-0.0)
     c.in_err-keyed.ensures.read)
@@ -28,7 +28,7 @@ returns-in_err-chooser-clause-read g c =
     let command = c.args.command.now in
     let keyed = keyed_as c.in_ok-keyed.keyed in
     let given = c.from_residual-in_err-chooser.result in
-    gone_on (mark_behind command) (keyed_reading command.file command.name command.key c.args.geometry) keyed_as plan_as _ _ _
+    gone_on (mark_after command) (keyed_reading command.file command.name command.key c.args.geometry) keyed_as plan_as _ _ _
     c.in_ok-keyed.keyed given
     (described_as command.file command.name command.key c.as_ref-name.ensures.value c.as_ref-key.ensures.value c.args.geometry before mid (Ok c.in_ok-keyed.keyed)
     c.in_ok-keyed.ensures.read)
@@ -43,7 +43,7 @@ returns-clause-read g c =
     let command = c.args.command.now in
     let keyed = keyed_as c.in_ok-keyed.keyed in
     let targets = c.in_ok-chooser.chooser in
-    gone_on (mark_behind command) (keyed_reading command.file command.name command.key c.args.geometry) keyed_as plan_as _ _ _
+    gone_on (mark_after command) (keyed_reading command.file command.name command.key c.args.geometry) keyed_as plan_as _ _ _
     c.in_ok-keyed.keyed _
     (described_as command.file command.name command.key c.as_ref-name.ensures.value c.as_ref-key.ensures.value c.args.geometry before mid (Ok c.in_ok-keyed.keyed)
     c.in_ok-keyed.ensures.read)
