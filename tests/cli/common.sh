@@ -1,6 +1,6 @@
 # shellcheck shell=bash
-# What devices, faults, starts and pairs share: the program, a folder to work in, and checks that
-# are counted.
+# What devices, faults, starts, pairs and memory share: the program, a folder to work in, and checks
+# that are counted.
 #
 # A check is a function that says what is wrong and is silent where nothing is. Each has one line of
 # output, and what cannot be tried on this machine has one that says so. The last line is `N passed,
@@ -11,7 +11,7 @@ set -u
 work=$(cd "$(mktemp -d)" && pwd -P) || exit 1
 trap 'clear_up' EXIT
 
-# The record of the area `123456789` with the magic 0x12345678, behind its stride's front, as
+# The record of the area `123456789` with the magic 0x12345678, after its stride's front, as
 # docs/FORMATS.md has it.
 record='\xf3\xfd\x54\x23\x19\0\0\0\x78\x56\x34\x12\0\0\x09\0\x26\x39\xf4\xcb\x03\x2e\x3c\xdf123456789'
 # shellcheck disable=SC2034
@@ -44,13 +44,13 @@ finish() {
 }
 
 # expect STATUS TEXT WORD ..: runs the program with these words, and says where status or text are
-# others. It has 20 seconds. What stands in the array `under` runs it, and `sentence` is the line
-# that standard error has, if any.
-under=() sentence=''
+# others. It has 20 seconds, or as many as `seconds` says. What stands in the array `under` runs it,
+# and `sentence` is the line that standard error has, if any.
+under=() sentence='' seconds=20
 expect() {
   local wanted=$1 text=$2 status
   shift 2
-  timeout -k 5 20 "${under[@]}" "${program[@]}" "$@" >text 2>errors
+  timeout -k 5 "$seconds" "${under[@]}" "${program[@]}" "$@" >text 2>errors
   status=$?
   [ "$status" = "$wanted" ] || echo "  status $status, not $wanted"
   printf '%s' "$text" | cmp -s - text || { echo "  printed:"; sed 's/^/    /' text; }

@@ -1,14 +1,18 @@
 # shellcheck shell=bash
-# The machine of run: how it is made, started, heard and cut off. `root`, `work`, `kernel` and `emulate` are those of run,
-# and what the console says goes to model.sh.
+# The machine of run: how it is made, started, heard and cut off. `root`, `work`, `kernel` and
+# `emulate` are those of run, and what the console says goes to model.sh.
 
-# The emulator, and what a kernel is told so that it starts quickly there.
-machine=(qemu-system-x86_64 -accel kvm -cpu host -machine q35 -m 512 -nodefaults -display none -serial stdio)
-quick=''
+# The emulator, and by emulation what a kernel is told so that it starts quickly there. `processor`
+# is what stands for `-accel kvm -cpu host`: the program is built for x86-64-v2, which QEMU's own
+# choice isn't. The kernel's look at its timer is left out: a kernel that is given too little time
+# ends there.
+processor=(-accel kvm -cpu host) quick=''
 if [ -n "$emulate" ]; then
-  machine=(qemu-system-x86_64 -accel tcg -machine q35 -m 512 -nodefaults -display none -serial stdio)
-  quick=' mitigations=off nokaslr cryptomgr.notests tsc=reliable i6300esb.heartbeat=1800'
+  processor=(-accel tcg -cpu Nehalem)
+  quick=' mitigations=off nokaslr cryptomgr.notests tsc=reliable no_timer_check lpj=4000000 audit=0 apparmor=0'
+  quick+=' ipv6.disable=1 numa=off i6300esb.heartbeat=1800'
 fi
+machine=(qemu-system-x86_64 "${processor[@]}" -machine q35 -m 512 -nodefaults -display none -serial stdio)
 
 # The time in milliseconds, in `millis`.
 now() {
@@ -16,8 +20,8 @@ now() {
   millis=$((millis / 1000))
 }
 
-# power_on FOLDER WORD ..: starts the machine that was made in a folder, with these words of the emulator beside its own.
-# Its console is read from `console`.
+# power_on FOLDER WORD ..: starts the machine that was made in a folder, with these words of the
+# emulator beside its own. Its console is read from `console`.
 qemu='' console='' rest='' ended='' log=/dev/null
 power_on() {
   local folder=$1 words=()
@@ -29,7 +33,8 @@ power_on() {
   qemu=$! rest='' ended=''
 }
 
-# listen MILLISECONDS [PATTERN]: hears the console for so long, or until a line is of the pattern; whether one was.
+# listen MILLISECONDS [PATTERN]: hears the console for so long, or until a line is of the pattern;
+# whether one was.
 listen() {
   local until pattern=${2:-} left piece line status
   now
@@ -73,24 +78,22 @@ lose_power() {
   power_is_lost
 }
 
-# a_life MOMENT FOLDER WORD ..: from the switching on of power to its loss, which comes in the first stage's boot, or in
-# the work of the system that it has started.
+# a_life MOMENT FOLDER WORD ..: from the switching on of power to its loss, which comes in the first
+# stage's boot, or in the work of the system that it has started. A machine that doesn't come so far
+# is wrong.
 a_life() {
-  local moment=$1
+  local awaited='first stage: boot, *' within=$((2 * boot_time))
+  [ "$1" = boot ] || awaited='work: table *' within=$((30 * save_time))
   shift
   power_on "$@"
-  if [ "$moment" = boot ]; then
-    listen 300000 'first stage: boot, *' && listen $((1 + RANDOM % (2 * boot_time)))
-  else
-    listen 600000 'work: table *' && listen $((1 + RANDOM % (30 * save_time)))
-  fi
+  if hears 300000 "$awaited"; then listen $((1 + RANDOM % within)); else is_wrong "the machine hasn't come so far"; fi
   [ -z "$ended" ] || is_wrong "the machine has ended by itself"
   lose_power
 }
 
-# hears MILLISECONDS LINE: whether this is said in time.
+# hears MILLISECONDS LINE: whether this is said in time. Emulation is given ten times as long.
 hears() {
-  listen "$1" "$2" || { echo "  this isn't said: $2"; tail -n 5 "$log" | sed 's/^/    /'; return 1; }
+  listen $(($1${emulate:+ * 10})) "$2" || { echo "  this isn't said: $2"; tail -n 5 "$log" | sed 's/^/    /'; return 1; }
 }
 
 # Whether a guest boots on /dev/kvm: a kernel whose /init says a line.
@@ -103,7 +106,8 @@ boots_a_guest() {
     -append 'console=ttyS0 quiet panic=-1' -no-reboot </dev/null 2>&1 | grep -q 'a guest boots'
 }
 
-# make_machine NAME BBX [WORD ..]: a machine in the folder NAME of `work`, by integration/ab/make with these words.
+# make_machine NAME BBX [WORD ..]: a machine in the folder NAME of `work`, by integration/ab/make
+# with these words.
 make_machine() {
   local folder=$work/$1 bbx=$2
   shift 2
@@ -111,16 +115,17 @@ make_machine() {
     >"$work/said" 2>&1 || { cat "$work/said"; return 1; }
 }
 
-# begin_at_init FOLDER WORD ..: by emulation a machine goes on, at each start, from where its first stage begins. There
-# no disk has been looked at yet but for its partitions. What it is then is kept in FOLDER/begun.
+# begin_at_init FOLDER WORD ..: by emulation a machine goes on, at each start, from where its first
+# stage begins. There no disk has been looked at yet but for its partitions. What it is then is kept
+# in FOLDER/begun.
 begin_at_init() {
   local folder=$1 monitor
   [ -n "$emulate" ] && [ ! -e "$folder/begun" ] || return 0
   mkfifo "$folder/monitor.in" "$folder/monitor.out" && exec {monitor}<>"$folder/monitor.in" || return
   power_on "$@" -chardev "pipe,id=monitor,path=$folder/monitor" -mon monitor -global migration.store-global-state=off
-  listen 300000 'first stage: begins'
+  hears 300000 'first stage: begins'
   printf 'stop\nmigrate "exec:cat >%s"\nquit\n' "$folder/begun.new" >&$monitor
-  listen 60000 'first stage: boot, *' && echo "  the first stage had gone on"
+  listen 600000 'first stage: boot, *' && echo "  the first stage had gone on"
   [ -n "$ended" ] && mv "$folder/begun.new" "$folder/begun"
   kill -9 "$qemu" 2>/dev/null
   wait "$qemu" 2>/dev/null
