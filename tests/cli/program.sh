@@ -1,6 +1,6 @@
 # shellcheck shell=bash
-# What run, devices, faults, starts, pairs and memory begin with: `root` is the repository, and the array
-# `program` the command that is tried. That is the proved program, which is built where it is
+# What run, devices, faults, starts, pairs and memory begin with: `root` is the repository, and the
+# array `program` the command that is tried. That is the proved program, which is built where it is
 # missing, or COMMAND of the words `--program COMMAND`, as a build for a board under an emulator is:
 # `qemu-aarch64-static FILE`. FILE is the last word of COMMAND.
 root=$(cd "$(dirname "${BASH_SOURCE[0]}")/../.." && pwd) || exit 1

@@ -1,5 +1,5 @@
--- What a load and a save make of one worked stride of 64 bytes, and how often they erase a block, by
--- computation alone.
+-- What a load and a save make of one worked stride of 64 bytes, and how often they erase a block,
+-- by computation alone.
 use Rattle.std.proofs.Common.{◌≡◌, ℕ, List, [], ◌∷◌, ◌++◌, replicate, refl, codes, sum_by, Some, None}
 use Rattle.bb_base.specs.Crc.{after_bit, after_eight_bits, after_byte}
 use Rattle.bb_base.specs.Form.{Form}

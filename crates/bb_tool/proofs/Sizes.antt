@@ -258,7 +258,8 @@ IsSizedPlan plan = IsSizedWork plan.work plan.keyed.layout
 
 -- ---- how the reading of a plan ends, whatever the files hold
 
--- the statuses of refusals before the device that no text has: of words, and of files that can't be read
+-- the statuses of refusals before the device that no text has: of words, and of files that can't be
+-- read
 abbrev pub is_of_file : Status → Bool
 is_of_file statuses.BadWords = true
 is_of_file statuses.FileFault = true

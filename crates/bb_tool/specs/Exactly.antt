@@ -169,7 +169,8 @@ EndsAlike (Ok plan) answers from to =
     PassAlike plan.keyed from.geometry.page (last_area plan.work plan found answers)
     before after)
 
--- P holds of what the first copy passed at entry that passed, and of what was told at entry and exit
+-- P holds of what the first copy passed at entry that passed, and of what was told at entry and
+-- exit
 abbrev pub EachTold : SessionPlan → Device → Device → (Option (List ℕ) → Told → Told → Type 0) → Type 0
 EachTold plan from to P =
     ForSome from.told

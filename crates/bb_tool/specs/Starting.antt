@@ -101,8 +101,8 @@ StartsAfterSave ran =
     EachPassesOrNothing (table_after table (session_for ran answers).rounds)
     (passed_in plan.keyed ran.before.device.geometry.page image)))
 
--- The count of failed starts rose by exactly the rounds whose start failed: their target has a plan.
--- A session without rounds leaves it. At its greatest value it stands still.
+-- The count of failed starts rose by exactly the rounds whose start failed: their target has a
+-- plan. A session without rounds leaves it. At its greatest value it stands still.
 abbrev pub CountsFailedStarts : Ran → Type 0
 CountsFailedStarts ran =
     EachWork ran
