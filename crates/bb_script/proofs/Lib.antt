@@ -1,3 +1,6 @@
 pub mod WordLemmas
 pub mod TokenLemmas
+pub mod WalkLemmas
+pub mod CommandLemmas
+pub mod TextLemmas
 pub mod Examples

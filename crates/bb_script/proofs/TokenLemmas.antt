@@ -18,7 +18,8 @@ use Rattle.bb_script.specs.Descent.{ahead_in}
 use Rattle.bb_script.specs.Reading.{IsStillWord, step_taken, tokens_seen, word_seen}
 use Rattle.bb_script.specs.Pieces.{begins_with, bare_piece, braced_piece, dollar_piece, ends_word, escaped_piece, named_piece, variable_len, word_piece}
 use Rattle.bb_script.specs.Tokens.{Amid, Between, GoesOn, HasEnded, IsBad, OpenWord, SpeltToken, Within, WordStep, backslash_lexeme, bad_word, doubled_mark, lexeme_at, mark_at, mark_token, tokens, tokens_amid, tokens_at_end, tokens_between, tokens_from_word, tokens_within, word_at_end, word_begun, word_step, word_token}
-use Rattle.bb_script.specs.Walk.{TokenAhead, end_ahead, token_ahead}
+use Rattle.bb_script.specs.Places.{TokenAhead}
+use Rattle.bb_script.specs.Walk.{end_ahead, token_ahead}
 
 -- ---- a word that begins doesn't end at once
 

@@ -6,6 +6,7 @@ pub mod Words
 pub mod Pieces
 pub mod Tokens
 pub mod Tree
+pub mod Places
 pub mod Walk
 pub mod Script
 -- inside: what clauses see of a script, and the same walk in the pieces in which private functions go
@@ -13,3 +14,4 @@ pub mod Script
 pub mod Views
 pub mod Reading
 pub mod Descent
+pub mod TokenWalks

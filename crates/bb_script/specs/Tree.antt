@@ -53,3 +53,9 @@ abbrev pub command_of : List (List Atom) → CommandTree
 command_of [] = call []
 command_of (word ∷ []) = command_of_word word (name_set_len word)
 command_of (word ∷ next ∷ later) = call (word ∷ next ∷ later)
+
+-- how long the name is that these words set, which only one alone does
+abbrev pub name_set_alone_len : List (List Atom) → ℕ
+name_set_alone_len [] = 0
+name_set_alone_len (word ∷ []) = name_set_len word
+name_set_alone_len (word ∷ next ∷ later) = 0

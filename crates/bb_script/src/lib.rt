@@ -2,17 +2,26 @@
 //! What runs scripts may know it; it knows neither variables nor devices.
 #![tactic(auto)]
 
+mod build;
+mod command;
 mod error;
+mod keyword;
 mod lexeme;
+mod loop_start;
+mod misplaced;
 mod next_token;
 mod open_word;
 mod piece;
+mod read;
+mod reader;
 mod script;
 mod token;
 mod token_kind;
 mod word;
 
 pub use error::ScriptError;
+pub use misplaced::NESTING_LIMIT;
+pub use read::{SCRIPT_LIMIT, read_script};
 pub use script::{
     Assignment, Choice, ForLoop, Otherwise, Script, ScriptBranch, ScriptCommand, ScriptStep, When,
 };
