@@ -10,8 +10,8 @@ use Rattle.bb_script.specs.Script.{IsShortNoText, IsShortText, Refuses, script_i
 use Rattle.bb_script.specs.Walk.{ScriptResult}
 
 pub not_utf8 : (text : List ℕ) → (IsUtf8 text → ⊥) → is_utf8 text ≡ false
-not_utf8 text no = elim (cases_Bool (is_utf8 text)) [
-  | inl yes ↦ absurd (no (IsUtf8-from_is_utf8 text yes))
+not_utf8 text never = elim (cases_Bool (is_utf8 text)) [
+  | inl is ↦ absurd (never (IsUtf8-from_is_utf8 text is))
   | inr is_not ↦ is_not
 ]
 

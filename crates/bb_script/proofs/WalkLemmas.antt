@@ -294,6 +294,15 @@ name_next total outside inner [] = refl
 name_next total outside inner (t ∷ later) = λ i. λ body around.
     name_by total outside inner (token_ahead t later) body around (loop_name t.word t.kind) i
 
+pub name_refused : (total : ℕ) (outside inner : Nesting) (tokens : List SpeltToken) (t : TokenAhead)
+    → t ≡ ahead_in total tokens → loop_name t.word t.kind ≡ None
+    → walk_from total inner (LoopName outside) tokens
+    ≡ refusal_walk (misplaced inner t.at t.kind)
+name_refused total outside inner tokens t is none =
+    name_next total outside inner tokens
+    ∙ ap (λ (a : TokenAhead). name_walk total outside inner a (loop_name a.word a.kind)) (sym is)
+    ∙ ap (name_walk total outside inner t) none
+
 in_by : (total : ℕ) (inner : Nesting) (head : LoopHead) (word : List Atom) (at : ℕ)
     (rest : List SpeltToken) (body : StepsSoFar) (around : List Enclosing)
     (kind : ScriptTokenKind)

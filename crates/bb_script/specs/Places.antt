@@ -218,12 +218,16 @@ words_step words nesting body around t (BadWord e) = Refuses e
 words_step words nesting body around t kind =
     closed_step nesting (with_command body (command_of words)) around t.at kind
 
--- the name that a word is: one letter at least, and no other characters than those of names
+-- one letter at least, and no other characters than those of names
+abbrev pub is_variable_name : List ℕ → Bool
+is_variable_name text =
+    nat_lt 0 (variable_len text) && (variable_len text == length text)
+
 abbrev pub name_of_text : Option (List ℕ) → Option (List ℕ)
 name_of_text None = None
-name_of_text (Some text) =
-    if nat_lt 0 (length text) && (variable_len text == length text) then Some text else None
+name_of_text (Some text) = if is_variable_name text then Some text else None
 
+-- the name that a word is
 abbrev pub loop_name : List Atom → ScriptTokenKind → Option (List ℕ)
 loop_name word (Word keyword) = name_of_text (plain_text word)
 loop_name word kind = None

@@ -1,4 +1,4 @@
-ghost use Rattle.std.specs.Prelude.{◌≡◌, ◌≤◌, ◌∷◌, [], IfOk, IfErr, map};
+ghost use Rattle.std.specs.Prelude.{◌≡◌, ◌≤◌, ◌∷◌, ◌++◌, [], IfOk, IfErr, OnOk, map};
 ghost use Rattle.bb_script.specs.Descent.{RefusesWalk, text_walk, tokens_left};
 ghost use Rattle.bb_script.specs.TokenWalks.{token_walk};
 ghost use Rattle.bb_script.specs.Descent.{walk_after};
@@ -79,13 +79,22 @@ fn read_words<'a>(
         let (token, word) = next_token(input, rest)?;
         match token.kind {
             ScriptTokenKind::Word(_) => {
-                words.push(word)?;
+                add_word(words, word)?;
                 rest = token.rest;
             }
             ScriptTokenKind::BadWord(e) => return Err(e),
             _ => return Ok(rest),
         }
     }
+}
+
+fn add_word(words: &mut Vec<Word>, word: Word) -> Result<(), ScriptError>
+    ensures ok { OnOk result (map word_atoms words.new.items
+        ≡ map word_atoms words.old.items ++ word_atoms word ∷ []) }
+    ensures memory { IfErr result (λ e. e ≡ ScriptError.NoMemory) }
+{
+    words.push(word)?;
+    Ok(())
 }
 
 // A command of these words.

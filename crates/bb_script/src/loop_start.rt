@@ -1,14 +1,16 @@
-ghost use Rattle.std.specs.Prelude.{◌≡◌, ◌≤◌, ◌<◌, IfOk, IfErr, OnOk, Some, None, true, false};
+ghost use Rattle.std.specs.Prelude.{◌≡◌, ◌≤◌, ◌<◌, IfOk, IfErr, IfSome, IfNone, OnOk};
+ghost use Rattle.std.specs.Prelude.{Some, None};
 ghost use Rattle.bb_script.specs.Descent.{RefusesWalk, head_seen, loop_body_walk, text_walk};
 ghost use Rattle.bb_script.specs.Descent.{tokens_left};
-ghost use Rattle.bb_script.specs.Places.{LoopDo, LoopIn, LoopName, LoopWords, loop_name, with_loop_word};
+ghost use Rattle.bb_script.specs.Places.{LoopDo, LoopIn, LoopName, LoopWords, is_variable_name};
+ghost use Rattle.bb_script.specs.Places.{loop_name, with_loop_word};
 ghost use Rattle.bb_script.specs.Words.{word_atoms};
 
 use crate::keyword::{is_do, is_in, is_line};
 use crate::misplaced::{misplaced, refused_at};
 use crate::next_token::next_token;
 use crate::piece::variable_len;
-use crate::token::{LoopStart, Nesting, ScriptInput, ScriptToken};
+use crate::token::{LoopStart, Nesting, ScriptInput};
 use crate::token_kind::ScriptTokenKind;
 use crate::{ScriptError, Word};
 
@@ -48,30 +50,40 @@ fn read_name<'a>(
     ensures within { IfOk result (λ r. tokens_left input r.1.now ≤ tokens_left input text.now) }
 {
     let (token, word) = next_token(input, text)?;
-    if !is_loop_name(&token, &word) {
+    let Some(name) = loop_name(token.kind, &word) else {
         return Err(misplaced(inner, &token));
-    }
+    };
     let start = LoopStart {
         outside,
-        name: word.letters,
+        name: name.to_vec(input.alloc)?,
         words: Vec::new(input.alloc),
     };
     Ok((start, token.rest))
 }
 
-fn is_loop_name(token: &ScriptToken<'_>, word: &Word) -> bool
-    ensures named { result ≡ true → loop_name (word_atoms word.now) token.now.kind
-        ≡ Some word.now.letters.items }
-    ensures unnamed { result ≡ false
-        → loop_name (word_atoms word.now) token.now.kind ≡ None }
+fn loop_name(kind: ScriptTokenKind, word: &Word) -> Option<&[u8]>
+    ensures some { IfSome result (λ name. loop_name (word_atoms word.now) kind ≡ Some name.now) }
+    ensures none { IfNone result (loop_name (word_atoms word.now) kind ≡ None) }
 {
-    match token.kind {
+    match kind {
         ScriptTokenKind::Word(_) => match word.plain() {
-            Some(text) => !text.is_empty() && variable_len(text) == text.len(),
-            None => false,
+            Some(text) => {
+                if is_variable_name(text) {
+                    return Some(text);
+                }
+                None
+            }
+            None => None,
         },
-        _ => false,
+        _ => None,
     }
+}
+
+fn is_variable_name(text: &[u8]) -> bool
+    ensures { result ≡ is_variable_name text.now }
+{
+    let n = variable_len(text);
+    n > 0 && n == text.len()
 }
 
 #[tactic(auto, using(crate::proofs::WalkLemmas::in_next))]
