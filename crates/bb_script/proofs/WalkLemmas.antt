@@ -14,16 +14,16 @@ use Rattle.bb_script.specs.declared.token_kind.Keyword.TheVariants.{Plain, If, T
 use Rattle.bb_script.specs.declared.token_kind.ScriptTokenKind.{ScriptTokenKind}
 use Rattle.bb_script.specs.declared.token_kind.ScriptTokenKind.TheVariants.{Word, BadWord, Semi, Line, And, Or, Stray, Cut, End}
 use Rattle.bb_script.specs.Descent.{Onward, OnwardInside, ahead_in, refusal_inside, refusal_walk, unless_memory, walk_close, walk_closed, walk_due, walk_from, walk_fresh, walk_inside, walk_outermost, walk_steps}
-use Rattle.bb_script.specs.Places.{AfterOperator, Begin, BodyOf, Closed, ElseOf, Enclosing, Goes, LoopDo, LoopHead, LoopIn, LoopName, LoopOf, LoopWords, Refuses, StepsSoFar, TestOf, ThenOf, TokenAhead, WalkPoint, WalkStep, Words, begin_step, body_of_steps, close_step, closed_step, closes_script, command_step, deeper, enters, goes_to, inside_step, loop_do_step, loop_in_step, loop_name, loop_name_step, loop_words_step, misplaced, opens, operator_step, place_step, refused_at, with_command, word_begins, words_step}
+use Rattle.bb_script.specs.Places.{AfterOperator, Begin, BodyOf, Closed, ElseOf, Enclosing, Goes, LoopDo, LoopHead, LoopIn, LoopName, LoopOf, LoopWords, Refuses, StepsSoFar, TestOf, ThenOf, TokenAhead, WalkPoint, WalkStep, Words, begin_step, body_of_steps, close_step, closed_step, closes_script, command_step, deeper, enters, goes_to, inside_step, loop_do_step, loop_in_step, loop_name, loop_name_step, loop_words_step, misplaced, opens, operator_step, step_at_place, refused_at, with_command, word_begins, words_step}
 use Rattle.bb_script.specs.Script.{script_in}
-use Rattle.bb_script.specs.TokenWalks.{begin_walk, closed_walk, command_walk, do_walk, else_walk, in_walk, is_done, is_elif, is_else, is_end, is_fi, is_then, loop_walk, loop_words_walk, name_walk, open_walk, operator_walk, outermost_walk, test_walk, then_walk, with_branch, word_walk, words_walk}
+use Rattle.bb_script.specs.TokenWalks.{begin_walk, closed_walk, command_walk, do_walk, else_walk, in_walk, is_done, is_elif, is_else, is_end, is_fi, is_then, loop_walk, loop_words_walk, loop_name_walk, open_walk, operator_walk, outermost_walk, test_walk, then_walk, with_branch, word_walk, words_walk}
 use Rattle.bb_script.specs.Tokens.{SpeltToken, tokens_of}
-use Rattle.bb_script.specs.Tree.{ScriptTree, CommandTree, ChoiceTree, command_of, steps_tree}
+use Rattle.bb_script.specs.Tree.{ScriptTree, CommandTree, ChoiceTree, command_of_words, steps_tree}
 use Rattle.bb_script.specs.Views.{script_tree, seen_branch, seen_choice, seen_command, seen_loop, seen_otherwise, seen_script, seen_step, steps_in}
 use Rattle.bb_script.specs.Walk.{ScriptResult, end_ahead, outermost, token_ahead, walk_on, walk_start, walk_tokens}
 use Rattle.bb_script.specs.Words.{Atom}
 
--- where a walk goes on behind a token
+-- where a walk goes on after a token
 abbrev on : ℕ → List SpeltToken → WalkPoint → List Enclosing → ScriptResult
 on total later = λ point around. walk_tokens total later point around
 
@@ -98,13 +98,13 @@ words_by : (total : ℕ) (nesting : Nesting) (words : List (List Atom)) (t : Spe
 unfolding walk_from walk_closed walk_tokens refusal_walk
 words_by total nesting words t later body around (Word keyword) is = refl
 words_by total nesting words t later body around (BadWord e) is = refl
-words_by total nesting words t later body around Semi is = ap (λ k. walk_on (closed_step nesting (with_command body (command_of words)) around t.at k) (on total later)) (sym is)
-words_by total nesting words t later body around Line is = ap (λ k. walk_on (closed_step nesting (with_command body (command_of words)) around t.at k) (on total later)) (sym is)
-words_by total nesting words t later body around And is = ap (λ k. walk_on (closed_step nesting (with_command body (command_of words)) around t.at k) (on total later)) (sym is)
-words_by total nesting words t later body around Or is = ap (λ k. walk_on (closed_step nesting (with_command body (command_of words)) around t.at k) (on total later)) (sym is)
-words_by total nesting words t later body around Stray is = ap (λ k. walk_on (closed_step nesting (with_command body (command_of words)) around t.at k) (on total later)) (sym is)
-words_by total nesting words t later body around Cut is = ap (λ k. walk_on (closed_step nesting (with_command body (command_of words)) around t.at k) (on total later)) (sym is)
-words_by total nesting words t later body around End is = ap (λ k. walk_on (closed_step nesting (with_command body (command_of words)) around t.at k) (on total later)) (sym is)
+words_by total nesting words t later body around Semi is = ap (λ k. walk_on (closed_step nesting (with_command body (command_of_words words)) around t.at k) (on total later)) (sym is)
+words_by total nesting words t later body around Line is = ap (λ k. walk_on (closed_step nesting (with_command body (command_of_words words)) around t.at k) (on total later)) (sym is)
+words_by total nesting words t later body around And is = ap (λ k. walk_on (closed_step nesting (with_command body (command_of_words words)) around t.at k) (on total later)) (sym is)
+words_by total nesting words t later body around Or is = ap (λ k. walk_on (closed_step nesting (with_command body (command_of_words words)) around t.at k) (on total later)) (sym is)
+words_by total nesting words t later body around Stray is = ap (λ k. walk_on (closed_step nesting (with_command body (command_of_words words)) around t.at k) (on total later)) (sym is)
+words_by total nesting words t later body around Cut is = ap (λ k. walk_on (closed_step nesting (with_command body (command_of_words words)) around t.at k) (on total later)) (sym is)
+words_by total nesting words t later body around End is = ap (λ k. walk_on (closed_step nesting (with_command body (command_of_words words)) around t.at k) (on total later)) (sym is)
 
 pub words_next : (total : ℕ) (nesting : Nesting) (words : List (List Atom))
     (tokens : List SpeltToken)
@@ -280,14 +280,14 @@ loop_next total nesting inner name words steps at kind rest =
 name_by : (total : ℕ) (outside inner : Nesting) (t : TokenAhead) (body : StepsSoFar)
     (around : List Enclosing) (name : Option (List ℕ))
     → walk_on (loop_name_step outside inner body around t name) (on total t.rest)
-    ≡ name_walk total outside inner t name body around
+    ≡ loop_name_walk total outside inner t name body around
 unfolding walk_from refusal_walk
 name_by total outside inner t body around None = refl
 name_by total outside inner t body around (Some name) = refl
 
 pub name_next : (total : ℕ) (outside inner : Nesting) (tokens : List SpeltToken)
     → walk_from total inner (LoopName outside) tokens
-    ≡ name_walk total outside inner (ahead_in total tokens)
+    ≡ loop_name_walk total outside inner (ahead_in total tokens)
     (loop_name (ahead_in total tokens).word (ahead_in total tokens).kind)
 unfolding walk_from walk_tokens ahead_in refusal_walk
 name_next total outside inner [] = refl
@@ -300,8 +300,8 @@ pub name_refused : (total : ℕ) (outside inner : Nesting) (tokens : List SpeltT
     ≡ refusal_walk (misplaced inner t.at t.kind)
 name_refused total outside inner tokens t is none =
     name_next total outside inner tokens
-    ∙ ap (λ (a : TokenAhead). name_walk total outside inner a (loop_name a.word a.kind)) (sym is)
-    ∙ ap (name_walk total outside inner t) none
+    ∙ ap (λ (a : TokenAhead). loop_name_walk total outside inner a (loop_name a.word a.kind)) (sym is)
+    ∙ ap (loop_name_walk total outside inner t) none
 
 in_by : (total : ℕ) (inner : Nesting) (head : LoopHead) (word : List Atom) (at : ℕ)
     (rest : List SpeltToken) (body : StepsSoFar) (around : List Enclosing)

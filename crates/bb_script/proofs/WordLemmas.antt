@@ -6,13 +6,13 @@ use Rattle.bb_script.specs.declared.word.Special.{Special}
 use Rattle.bb_script.specs.declared.word.Special.TheVariants as special
 use Rattle.bb_script.specs.declared.word.Word.{Word}
 use Rattle.bb_script.specs.declared.word.WordPart.{WordPart}
-use Rattle.bb_script.specs.Words.{Atom, Letter, plain_front, plain_text, part_atoms, special_atom, word_atoms}
+use Rattle.bb_script.specs.Words.{Atom, Letter, plain_front, letters_alone, part_atoms, special_atom, word_atoms}
 
 front-letters : (text : List ℕ) → plain_front (map Letter text) ≡ text
 front-letters [] = refl
 front-letters (c ∷ later) = ap (λ l. c ∷ l) (front-letters later)
 
-text-letters : (text : List ℕ) → plain_text (map Letter text) ≡ Some text
+text-letters : (text : List ℕ) → letters_alone (map Letter text) ≡ Some text
 text-letters [] = refl
 text-letters (c ∷ later) = ap (λ o. option_map (λ l. c ∷ l) o) (text-letters later)
 
@@ -25,7 +25,7 @@ front-special [] special.Status more = refl
 front-special (c ∷ later) s more = ap (λ l. c ∷ l) (front-special later s more)
 
 text-special : (text : List ℕ) (s : Special) (more : List Atom)
-    → plain_text (map Letter text ++ special_atom s ∷ more) ≡ None
+    → letters_alone (map Letter text ++ special_atom s ∷ more) ≡ None
 text-special [] special.Quote more = refl
 text-special [] (special.Value name) more = refl
 text-special [] (special.QuotedValue name) more = refl
@@ -50,9 +50,9 @@ front_of_part word part later is =
     ∙ front-special part.letters.items part.special (flat_map part_atoms later ++ map Letter word.letters.items)
 
 pub no_text_of_part : (word : Word) (part : WordPart) (later : List WordPart)
-    → word.parts.items ≡ part ∷ later → plain_text (word_atoms word) ≡ None
+    → word.parts.items ≡ part ∷ later → letters_alone (word_atoms word) ≡ None
 no_text_of_part word part later is =
-    ap plain_text (atoms_of_part word part later is)
+    ap letters_alone (atoms_of_part word part later is)
     ∙ text-special part.letters.items part.special (flat_map part_atoms later ++ map Letter word.letters.items)
 
 no_parts : (parts : List WordPart) → length parts ≡ 0 → parts ≡ []
@@ -69,5 +69,5 @@ pub front_alone : (word : Word) → length word.parts.items ≡ 0
 front_alone word none = ap plain_front (atoms_alone word none) ∙ front-letters word.letters.items
 
 pub text_alone : (word : Word) → length word.parts.items ≡ 0
-    → plain_text (word_atoms word) ≡ Some word.letters.items
-text_alone word none = ap plain_text (atoms_alone word none) ∙ text-letters word.letters.items
+    → letters_alone (word_atoms word) ≡ Some word.letters.items
+text_alone word none = ap letters_alone (atoms_alone word none) ∙ text-letters word.letters.items

@@ -16,7 +16,7 @@ use Rattle.bb_script.specs.declared.token_kind.ScriptTokenKind.{ScriptTokenKind}
 use Rattle.bb_script.specs.declared.token_kind.ScriptTokenKind.TheVariants.{Word, BadWord, Semi, Line, And, Or, Stray, Cut, End}
 use Rattle.bb_script.specs.declared.word.Word.{Word as ReadWord}
 use Rattle.bb_script.specs.Tokens.{SpeltToken, tokens_of}
-use Rattle.bb_script.specs.Tree.{ScriptTree, CommandTree, choose, repeat, steps_tree, choice_tree, command_of}
+use Rattle.bb_script.specs.Tree.{ScriptTree, CommandTree, choose, repeat, steps_tree, choice_tree, command_of_words}
 use Rattle.bb_script.specs.Views.{steps_in}
 use Rattle.bb_script.specs.Places.{Place, Begin, AfterOperator, Words, Closed, LoopName, LoopIn, LoopWords, LoopDo, LoopHead, StepsSoFar, BodyOf, TestOf, ThenOf, ElseOf, LoopOf, Enclosing, TokenAhead, close_step, closes_script, body_of_steps, with_command, with_loop_word, deeper, misplaced, refused_at}
 use Rattle.bb_script.specs.Walk.{ScriptResult, walk_tokens, walk_on, end_ahead, token_ahead}

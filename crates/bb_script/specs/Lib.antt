@@ -9,9 +9,11 @@ pub mod Tree
 pub mod Places
 pub mod Walk
 pub mod Script
+pub mod Fields
 -- inside: what clauses see of a script, and the same walk in the pieces in which private functions go
 -- through it
 pub mod Views
 pub mod Reading
 pub mod Descent
 pub mod TokenWalks
+pub mod FieldsSoFar

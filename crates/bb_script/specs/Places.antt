@@ -12,8 +12,8 @@ use Rattle.bb_script.specs.declared.token_kind.ScriptTokenKind.{ScriptTokenKind}
 use Rattle.bb_script.specs.declared.token_kind.ScriptTokenKind.TheVariants.{Word, BadWord, Semi, Line, And, Or, Stray, Cut, End}
 use Rattle.bb_script.specs.Pieces.{variable_len}
 use Rattle.bb_script.specs.Tokens.{SpeltToken}
-use Rattle.bb_script.specs.Tree.{ScriptTree, CommandTree, choose, repeat, steps_tree, choice_tree, command_of}
-use Rattle.bb_script.specs.Words.{Atom, plain_text}
+use Rattle.bb_script.specs.Tree.{ScriptTree, CommandTree, choose, repeat, steps_tree, choice_tree, command_of_words}
+use Rattle.bb_script.specs.Words.{Atom, letters_alone}
 
 -- ---- where the walk is
 
@@ -216,7 +216,7 @@ words_step words nesting body around t (Word keyword) =
     goes_to (Words (words ++ t.word ∷ [])) body nesting around
 words_step words nesting body around t (BadWord e) = Refuses e
 words_step words nesting body around t kind =
-    closed_step nesting (with_command body (command_of words)) around t.at kind
+    closed_step nesting (with_command body (command_of_words words)) around t.at kind
 
 -- one letter at least, and no other characters than those of names
 abbrev pub is_variable_name : List ℕ → Bool
@@ -229,7 +229,7 @@ name_of_text (Some text) = if is_variable_name text then Some text else None
 
 -- the name that a word is
 abbrev pub loop_name : List Atom → ScriptTokenKind → Option (List ℕ)
-loop_name word (Word keyword) = name_of_text (plain_text word)
+loop_name word (Word keyword) = name_of_text (letters_alone word)
 loop_name word kind = None
 
 abbrev pub loop_name_step :
@@ -263,15 +263,15 @@ loop_do_step head nesting body around t (Word Do) =
 loop_do_step head nesting body around t kind = Refuses (misplaced nesting t.at kind)
 
 -- what a token does at a place
-abbrev pub place_step :
+abbrev pub step_at_place :
     Place → Nesting → StepsSoFar → List Enclosing → TokenAhead → WalkStep
-place_step Begin nesting body around t = begin_step nesting body around t t.kind
-place_step AfterOperator nesting body around t = operator_step nesting body around t t.kind
-place_step (Words words) nesting body around t = words_step words nesting body around t t.kind
-place_step Closed nesting body around t = closed_step nesting body around t.at t.kind
-place_step (LoopName outside) nesting body around t =
+step_at_place Begin nesting body around t = begin_step nesting body around t t.kind
+step_at_place AfterOperator nesting body around t = operator_step nesting body around t t.kind
+step_at_place (Words words) nesting body around t = words_step words nesting body around t t.kind
+step_at_place Closed nesting body around t = closed_step nesting body around t.at t.kind
+step_at_place (LoopName outside) nesting body around t =
     loop_name_step outside nesting body around t (loop_name t.word t.kind)
-place_step (LoopIn head) nesting body around t = loop_in_step head nesting body around t t.kind
-place_step (LoopWords head) nesting body around t =
+step_at_place (LoopIn head) nesting body around t = loop_in_step head nesting body around t t.kind
+step_at_place (LoopWords head) nesting body around t =
     loop_words_step head nesting body around t t.kind
-place_step (LoopDo head) nesting body around t = loop_do_step head nesting body around t t.kind
+step_at_place (LoopDo head) nesting body around t = loop_do_step head nesting body around t t.kind

@@ -15,7 +15,7 @@ use Rattle.bb_script.specs.declared.token_kind.ScriptTokenKind.{ScriptTokenKind}
 use Rattle.bb_script.specs.declared.token_kind.ScriptTokenKind.TheVariants.{Word, BadWord, Semi, Line, And, Or, Stray, Cut, End}
 use Rattle.bb_script.specs.declared.word.Word.{Word as ReadWord}
 use Rattle.bb_script.specs.Tokens.{SpeltToken, tokens_of}
-use Rattle.bb_script.specs.Tree.{ScriptTree, CommandTree, choose, repeat, steps_tree, choice_tree, command_of}
+use Rattle.bb_script.specs.Tree.{ScriptTree, CommandTree, choose, repeat, steps_tree, choice_tree, command_of_words}
 use Rattle.bb_script.specs.Views.{steps_in}
 use Rattle.bb_script.specs.Places.{Place, Begin, AfterOperator, Words, Closed, LoopName, LoopIn, LoopWords, LoopDo, LoopHead, StepsSoFar, BodyOf, TestOf, ThenOf, ElseOf, LoopOf, Enclosing, TokenAhead, close_step, closes_script, body_of_steps, with_command, with_loop_word, deeper, misplaced, refused_at}
 use Rattle.bb_script.specs.Walk.{ScriptResult, walk_tokens, walk_on, end_ahead, token_ahead}
@@ -80,7 +80,7 @@ words_walk total nesting words tokens t (Word keyword) =
     walk_from total nesting (Words (words ++ t.word ∷ [])) t.rest
 words_walk total nesting words tokens t (BadWord e) = refusal_walk e
 words_walk total nesting words tokens t kind =
-    walk_closed total nesting (command_of words) tokens
+    walk_closed total nesting (command_of_words words) tokens
 
 -- ---- by what closes a script inside of another one
 
@@ -167,9 +167,9 @@ loop_walk total nesting inner name words steps at rest kind =
 
 -- ---- before the body of a `for`
 
-abbrev pub name_walk : ℕ → Nesting → Nesting → TokenAhead → Option (List ℕ) → Onward
-name_walk total outside inner t None = refusal_walk (misplaced inner t.at t.kind)
-name_walk total outside inner t (Some name) =
+abbrev pub loop_name_walk : ℕ → Nesting → Nesting → TokenAhead → Option (List ℕ) → Onward
+loop_name_walk total outside inner t None = refusal_walk (misplaced inner t.at t.kind)
+loop_name_walk total outside inner t (Some name) =
     walk_from total inner (LoopIn (record { outside = outside; name = name; words = [] })) t.rest
 
 abbrev pub in_walk : ℕ → Nesting → LoopHead → TokenAhead → Onward

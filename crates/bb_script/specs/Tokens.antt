@@ -15,7 +15,7 @@ use Rattle.bb_script.specs.declared.token_kind.ScriptTokenKind.TheVariants.{Word
 use Rattle.bb_script.specs.declared.token_kind.Lexeme.{Lexeme}
 use Rattle.bb_script.specs.declared.token_kind.Lexeme.TheVariants.{Blank, Mark, CutOff, Begins}
 use Rattle.bb_script.specs.Pieces.{begins_with, ends_word, word_piece}
-use Rattle.bb_script.specs.Words.{Atom, Letter, Quote, Value, QuotedValue, Status, plain_text}
+use Rattle.bb_script.specs.Words.{Atom, Letter, Quote, Value, QuotedValue, Status, letters_alone}
 
 -- ---- what stands between two words
 
@@ -67,7 +67,7 @@ keyword_spelt None = keyword.Plain
 keyword_spelt (Some text) = keyword_of text
 
 abbrev pub keyword_in : List Atom → Keyword
-keyword_in word = keyword_spelt (plain_text word)
+keyword_in word = keyword_spelt (letters_alone word)
 
 -- ---- a word, piece by piece
 

@@ -41,18 +41,18 @@ name_set_len word =
     if begins_with 61 (drop n (plain_front word)) then n else 0
 
 -- the name of this length is set to what follows it and the `=`
-abbrev pub setting_of : ℕ → List Atom → CommandTree
-setting_of n word = set (take n (plain_front word)) (drop (n + 1) word)
+abbrev pub set_command_of : ℕ → List Atom → CommandTree
+set_command_of n word = set (take n (plain_front word)) (drop (n + 1) word)
 
 -- a command of these words. One word may set a variable (IEEE Std 1003.1-2017, Shell Command
 -- Language, 2.9.1 Simple Commands)
 abbrev pub command_of_word : List Atom → ℕ → CommandTree
-command_of_word word n = if nat_lt 0 n then setting_of n word else call (word ∷ [])
+command_of_word word n = if nat_lt 0 n then set_command_of n word else call (word ∷ [])
 
-abbrev pub command_of : List (List Atom) → CommandTree
-command_of [] = call []
-command_of (word ∷ []) = command_of_word word (name_set_len word)
-command_of (word ∷ next ∷ later) = call (word ∷ next ∷ later)
+abbrev pub command_of_words : List (List Atom) → CommandTree
+command_of_words [] = call []
+command_of_words (word ∷ []) = command_of_word word (name_set_len word)
+command_of_words (word ∷ next ∷ later) = call (word ∷ next ∷ later)
 
 -- how long the name is that these words set, which only one alone does
 abbrev pub name_set_alone_len : List (List Atom) → ℕ

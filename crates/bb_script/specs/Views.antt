@@ -11,7 +11,7 @@ use Rattle.bb_script.specs.declared.script.ScriptStep.{ScriptStep}
 use Rattle.bb_script.specs.declared.script.When.{When}
 use Rattle.bb_script.specs.declared.script.Otherwise.TheOpen.{Otherwise-F, ScriptCommand-F, Choice-F, ForLoop-F, Script-F, ScriptBranch-F, ScriptStep-F, Nothing, Else, Call, Set, If, For}
 use Rattle.bb_script.specs.declared.script.Otherwise.TheFolds.{fold-Otherwise, fold-ScriptCommand, fold-Choice, fold-ForLoop, fold-Script, fold-ScriptBranch, fold-ScriptStep}
-use Rattle.bb_script.specs.Tree.{ScriptTree, CommandTree, ChoiceTree, call, choose, repeat, steps_tree, choice_tree, setting_of}
+use Rattle.bb_script.specs.Tree.{ScriptTree, CommandTree, ChoiceTree, call, choose, repeat, steps_tree, choice_tree, set_command_of}
 use Rattle.bb_script.specs.Words.{word_atoms}
 
 -- ---- one of each, with what is in it seen already
@@ -22,7 +22,7 @@ seen_otherwise (Else steps) = Some steps
 
 abbrev pub seen_command : ScriptCommand-F (Option ScriptTree) CommandTree ChoiceTree CommandTree ScriptTree (ScriptTree × ScriptTree) (When × CommandTree) → CommandTree
 seen_command (Call words) = call (map word_atoms words.items)
-seen_command (Set a) = setting_of a.name_len (word_atoms a.word)
+seen_command (Set a) = set_command_of a.name_len (word_atoms a.word)
 seen_command (If choice) = choose choice
 seen_command (For loop) = loop
 

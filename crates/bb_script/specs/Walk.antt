@@ -5,7 +5,7 @@ use Rattle.bb_script.specs.declared.error.ScriptError.{ScriptError}
 use Rattle.bb_script.specs.declared.error.ScriptError.TheVariants.{Unexpected}
 use Rattle.bb_script.specs.declared.token.Nesting.{Nesting}
 use Rattle.bb_script.specs.declared.token_kind.ScriptTokenKind.TheVariants.{End}
-use Rattle.bb_script.specs.Places.{Begin, Enclosing, TokenAhead, WalkPoint, WalkStep, Goes, Ends, Refuses, body_of_steps, place_step}
+use Rattle.bb_script.specs.Places.{Begin, Enclosing, TokenAhead, WalkPoint, WalkStep, Goes, Ends, Refuses, body_of_steps, step_at_place}
 use Rattle.bb_script.specs.Tokens.{SpeltToken}
 use Rattle.bb_script.specs.Tree.{ScriptTree}
 
@@ -26,10 +26,10 @@ token_ahead t later = record { kind = t.kind; word = t.word; at = t.at; rest = l
 -- the walk over the tokens of a text that ends at the offset `total`. The end is the last token
 unfoldable pub walk_tokens : ℕ → List SpeltToken → WalkPoint → List Enclosing → ScriptResult
 walk_tokens total [] point around =
-    walk_on (place_step point.place point.nesting point.body around (end_ahead total))
+    walk_on (step_at_place point.place point.nesting point.body around (end_ahead total))
     (λ point' around'. Err (Unexpected total))
 walk_tokens total (t ∷ later) point around =
-    walk_on (place_step point.place point.nesting point.body around (token_ahead t later))
+    walk_on (step_at_place point.place point.nesting point.body around (token_ahead t later))
     (λ point' around'. walk_tokens total later point' around')
 
 abbrev pub outermost : Nesting

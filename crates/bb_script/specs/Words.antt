@@ -46,10 +46,10 @@ plain_front (QuotedValue name ∷ later) = []
 plain_front (Status ∷ later) = []
 
 -- the letters of a word that has nothing else
-abbrev pub plain_text : List Atom → Option (List ℕ)
-plain_text [] = Some []
-plain_text (Letter c ∷ later) = option_map (λ text. c ∷ text) (plain_text later)
-plain_text (Quote ∷ later) = None
-plain_text (Value name ∷ later) = None
-plain_text (QuotedValue name ∷ later) = None
-plain_text (Status ∷ later) = None
+abbrev pub letters_alone : List Atom → Option (List ℕ)
+letters_alone [] = Some []
+letters_alone (Letter c ∷ later) = option_map (λ text. c ∷ text) (letters_alone later)
+letters_alone (Quote ∷ later) = None
+letters_alone (Value name ∷ later) = None
+letters_alone (QuotedValue name ∷ later) = None
+letters_alone (Status ∷ later) = None

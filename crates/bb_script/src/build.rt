@@ -1,5 +1,5 @@
 ghost use Rattle.std.specs.Prelude.{◌≡◌, ◌++◌, ◌∷◌, [], OnOk, IfErr, Some, None, map};
-ghost use Rattle.bb_script.specs.Tree.{choice_tree, command_of, repeat, steps_tree};
+ghost use Rattle.bb_script.specs.Tree.{choice_tree, command_of_words, repeat, steps_tree};
 ghost use Rattle.bb_script.specs.Views.{branch_pair, command_tree, if_tree, loop_tree, step_pair};
 ghost use Rattle.bb_script.specs.Views.{steps_in};
 ghost use Rattle.bb_script.specs.Words.{word_atoms};

@@ -2,7 +2,7 @@ ghost use Rattle.std.specs.Prelude.{◌≡◌, ◌≤◌, ◌∷◌, ◌++◌, [
 ghost use Rattle.bb_script.specs.Descent.{RefusesWalk, text_walk, tokens_left};
 ghost use Rattle.bb_script.specs.TokenWalks.{token_walk};
 ghost use Rattle.bb_script.specs.Descent.{walk_after};
-ghost use Rattle.bb_script.specs.Tree.{command_of, name_set_alone_len, name_set_len};
+ghost use Rattle.bb_script.specs.Tree.{command_of_words, name_set_alone_len, name_set_len};
 ghost use Rattle.bb_script.specs.Views.{command_tree};
 ghost use Rattle.bb_script.specs.Places.{AfterOperator, Words};
 ghost use Rattle.bb_script.specs.Words.{word_atoms};
@@ -55,7 +55,7 @@ pub(crate) fn read_simple<'a>(
     let mut words = Vec::new(input.alloc);
     words.push(word)?;
     let rest = read_words(input, nesting, &mut words, text)?;
-    Ok((command_of(words), rest))
+    Ok((command_of_words(words), rest))
 }
 
 // The words of a command, of which some were read, to what follows them.
@@ -68,7 +68,7 @@ fn read_words<'a>(
 ) -> Result<&'a [u8], ScriptError>
     ensures ok { IfOk result (λ rest.
         text_walk input nesting (Words (map word_atoms words.old.items)) text.now
-        ≡ walk_after input nesting (command_of (map word_atoms words.new.items)) rest.now) }
+        ≡ walk_after input nesting (command_of_words (map word_atoms words.new.items)) rest.now) }
     ensures refused { IfErr result (RefusesWalk
         (text_walk input nesting (Words (map word_atoms words.old.items)) text.now)) }
     ensures within { IfOk result (λ rest.
@@ -98,8 +98,8 @@ fn add_word(words: &mut Vec<Word>, word: Word) -> Result<(), ScriptError>
 }
 
 // A command of these words.
-fn command_of(mut words: Vec<Word>) -> ScriptCommand
-    ensures { command_tree result ≡ command_of (map word_atoms words.items) }
+fn command_of_words(mut words: Vec<Word>) -> ScriptCommand
+    ensures { command_tree result ≡ command_of_words (map word_atoms words.items) }
 {
     let name_len = name_set_len(words.as_slice());
     if name_len > 0 {

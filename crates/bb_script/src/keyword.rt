@@ -1,6 +1,6 @@
 ghost use Rattle.std.specs.Prelude.{◌≡◌};
-ghost use Rattle.bb_script.specs.TokenWalks.{is_do, is_done, is_elif, is_else, is_end, is_fi, is_in};
-ghost use Rattle.bb_script.specs.TokenWalks.{is_line, is_then};
+ghost use Rattle.bb_script.specs.TokenWalks.{is_do, is_done, is_elif, is_else, is_end, is_fi};
+ghost use Rattle.bb_script.specs.TokenWalks.{is_in, is_line, is_then};
 ghost use Rattle.bb_script.specs.Places.{closes_script};
 
 use crate::token_kind::{Keyword, ScriptTokenKind};

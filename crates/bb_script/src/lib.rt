@@ -5,6 +5,9 @@
 mod build;
 mod command;
 mod error;
+mod expand;
+mod fields;
+mod fields_so_far;
 mod keyword;
 mod lexeme;
 mod loop_start;
@@ -20,6 +23,8 @@ mod token_kind;
 mod word;
 
 pub use error::ScriptError;
+pub use expand::expand_words;
+pub use fields_so_far::{EXPANSION_LIMIT, ScriptVariables};
 pub use misplaced::NESTING_LIMIT;
 pub use read::{SCRIPT_LIMIT, read_script};
 pub use script::{

@@ -93,7 +93,8 @@ fn read_word<'a>(input: ScriptInput, text: &'a [u8]) -> Result<(ScriptToken<'a>,
 
 // The word that the text ends with.
 fn at_end<'a>(input: ScriptInput, so_far: WordSoFar) -> (ScriptToken<'a>, Word)
-    ensures seen { word_seen result.0 result.1 ∷ [] ≡ word_at_end (open_seen so_far) so_far.quoting }
+    ensures seen { word_seen result.0 result.1 ∷ []
+        ≡ word_at_end (open_seen so_far) so_far.quoting }
     ensures rest { result.0.rest.now ≡ [] }
 {
     match so_far.quoting {

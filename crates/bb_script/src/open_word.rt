@@ -41,7 +41,8 @@ impl WordSoFar {
         piece: WordPiece,
     ) -> Result<PieceTaken, NoMemory>
         ensures stepped { IfOk result (λ taken.
-            word_step (open_seen self.old) after.now piece ≡ step_taken taken (open_seen self.new)) }
+            word_step (open_seen self.old) after.now piece
+            ≡ step_taken taken (open_seen self.new)) }
         ensures still { IfOk result (λ taken.
             IsStillWord taken (open_seen self.old) (open_seen self.new)) }
     {

@@ -1,5 +1,5 @@
 ghost use Rattle.std.specs.Prelude.{◌≡◌, ◌++◌, ◌∷◌, [], OnOk, IfSome, IfNone};
-ghost use Rattle.bb_script.specs.Words.{plain_front, plain_text, special_atom, word_atoms};
+ghost use Rattle.bb_script.specs.Words.{plain_front, letters_alone, special_atom, word_atoms};
 ghost use Rattle.bb_script.specs.Words.{Letter};
 
 use bb_base::NoMemory;
@@ -73,8 +73,8 @@ impl Word {
     /// The word's letters, where it has nothing else.
     #[tactic(auto, using(crate::proofs::WordLemmas::text_alone, crate::proofs::WordLemmas::no_text_of_part))]
     pub(crate) fn plain(&self) -> Option<&[u8]>
-        ensures some { IfSome result (λ text. plain_text (word_atoms self.now) ≡ Some text.now) }
-        ensures none { IfNone result (plain_text (word_atoms self.now) ≡ None) }
+        ensures some { IfSome result (λ text. letters_alone (word_atoms self.now) ≡ Some text.now) }
+        ensures none { IfNone result (letters_alone (word_atoms self.now) ≡ None) }
     {
         match self.parts.as_slice().split_first() {
             None => Some(self.letters.as_slice()),
