@@ -113,7 +113,7 @@ not_split : all_fields by_name 0 ((Quote ∷ QuotedValue (codes "b") ∷ []) ∷
 unfolding by_name
 not_split = refl
 
-empty_fields : all_fields by_name 7 ((Value (codes "u") ∷ []) ∷ (Quote ∷ []) ∷ (Status ∷ []) ∷ [])
-    ≡ [] ∷ codes "7" ∷ []
+empty_fields : all_fields by_name 7 ((Value (codes "u") ∷ []) ∷ (Quote ∷ []) ∷ (Letter 97 ∷ []) ∷ [])
+    ≡ [] ∷ codes "a" ∷ []
 unfolding by_name
 empty_fields = refl
