@@ -1,0 +1,4 @@
+mod accepted;
+mod fields;
+mod limits;
+mod refusals;
