@@ -1,5 +1,5 @@
--- The walk in the pieces in which a descent goes through it: from a place on, left open to the script
--- that is read and to those around it.
+-- The walk in the pieces in which a descent goes through it: from a place on, left open to the
+-- script that is read and to those around it.
 use Rattle.std.specs.Prelude.{◌≡◌, ℕ, ◌+◌, ◌++◌, Bool, true, false, List, [], ◌∷◌, length, map, nat_lt, Option, Some, None, Result, Ok, Err, if◌then◌else◌}
 use Rattle.bb_script.specs.declared.error.ScriptError.{ScriptError}
 use Rattle.bb_script.specs.declared.error.ScriptError.TheVariants as refusal

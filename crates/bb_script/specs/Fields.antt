@@ -4,8 +4,8 @@ use Rattle.std.specs.Prelude.{ℕ, ◌==◌, ◌||◌, Bool, true, false, List, 
 use Rattle.std.specs.List.{flat_map}
 use Rattle.bb_script.specs.Words.{Atom, Letter, Quote, Value, QuotedValue, Status}
 
--- what a word is made of after its expansion: a character, a quoted part's beginning, and a blank of
--- an expansion that isn't quoted
+-- what a word is made of after its expansion: a character, a quoted part's beginning, and a blank
+-- of an expansion that isn't quoted
 pub data FieldMark : Type 0 where
   Char : ℕ → FieldMark
   Held : FieldMark

@@ -1,6 +1,6 @@
--- What stands in a word at a character: quoting, escapes and expansions (IEEE Std 1003.1-2017, Shell
--- Command Language, 2.2 Quoting and 2.5 Parameters and Variables). A name may hold `.` too, and in
--- double quotes a `\` before a LF is itself: that is this project's profile.
+-- What stands in a word at a character: quoting, escapes and expansions (IEEE Std 1003.1-2017,
+-- Shell Command Language, 2.2 Quoting and 2.5 Parameters and Variables). A name may hold `.` too,
+-- and in double quotes a `\` before a LF is itself: that is this project's profile.
 use Rattle.std.specs.Prelude.{ℕ, ◌+◌, ◌==◌, ◌||◌, ◌&&◌, Bool, false, List, [], ◌∷◌, codes, drop, nat_lt, if◌then◌else◌}
 use Rattle.std.specs.List.{list_any, prefix_len}
 use Rattle.std.specs.Char.{is_ascii_alphanumeric}
@@ -16,8 +16,8 @@ abbrev pub begins_with : ℕ → List ℕ → Bool
 begins_with c [] = false
 begins_with c (d ∷ later) = d == c
 
--- a word ends before a blank (space, tab, CR), a LF, and what an operator is made of or the language
--- leaves out
+-- a word ends before a blank (space, tab, CR), a LF, and what an operator is made of or the
+-- language leaves out
 abbrev pub ends_word : ℕ → Bool
 ends_word c = c == 32 || c == 9 || c == 13 || c == 10 || is_one_of (codes ";&|()<>`") c
 

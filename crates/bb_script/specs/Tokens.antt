@@ -174,8 +174,8 @@ tokens_amid total (Within word) at c rest on =
     tokens_within total word at c rest on
     (word_step word rest (word_piece word.quoting at c rest))
 
--- The tokens of a text, of which the last may be malformed. The text ends at the offset `total`, and
--- its first `skip` bytes are passed over.
+-- The tokens of a text, of which the last may be malformed. The text ends at the offset `total`,
+-- and its first `skip` bytes are passed over.
 unfoldable pub tokens : ℕ → ℕ → List ℕ → Amid → List SpeltToken
 tokens total skip [] amid = tokens_at_end amid
 tokens total (suc skip) (c ∷ rest) amid = tokens total skip rest amid

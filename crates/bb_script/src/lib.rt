@@ -1,5 +1,5 @@
-//! Scripts of a small shell: the reader of a script's text, and the fields that its words expand to.
-//! What runs scripts may know it; it knows neither variables nor devices.
+//! Scripts of a small shell: the reader of a script's text, and the fields that its words expand
+//! to. What runs scripts may know it; it knows neither variables nor devices.
 #![tactic(auto)]
 
 mod build;

@@ -10,8 +10,8 @@ use crate::token::{ScriptInput, ScriptToken};
 use crate::token_kind::{Lexeme, ScriptTokenKind};
 use crate::{ScriptError, Word};
 
-/// The first token of the text, and what it is made of where it is a word. The text is the end of the
-/// whole one.
+/// The first token of the text, and what it is made of where it is a word. The text is the end of
+/// the whole one.
 pub(crate) fn next_token<'a>(
     input: ScriptInput,
     text: &'a [u8],

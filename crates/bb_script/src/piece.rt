@@ -28,8 +28,8 @@ pub(crate) enum WordPiece {
     Opens(Quoting),
     /// Quotes end.
     Closes,
-    /// A variable's value: how many bytes stand between `$` and its name, how many the name has, and
-    /// how many come after `$` in all.
+    /// A variable's value: how many bytes stand between `$` and its name, how many the name has,
+    /// and how many come after `$` in all.
     Value(usize, usize, usize),
     /// The last status.
     Status,

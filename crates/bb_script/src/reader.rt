@@ -53,7 +53,8 @@ pub(crate) fn read_steps<'a>(
     }
 }
 
-// Commands with operators between them, the first of which begins with this word, and what ends them.
+// Commands with operators between them, the first of which begins with this word, and what ends
+// them.
 #[cycle(read)]
 #[tactic(auto, using(crate::proofs::WalkLemmas::closed_next, crate::proofs::WalkLemmas::due_refusal, crate::proofs::WalkLemmas::due_unless_memory))]
 fn read_chain<'a>(
