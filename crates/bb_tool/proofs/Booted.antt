@@ -1,5 +1,5 @@
 -- A boot after a load: the session that its rounds make, and what its call says of the device.
-use Rattle.std.proofs.Common.{◌≡◌, ℕ, suc, ◌+◌, ◌-◌, ◌<◌, ◌≤◌, ◌==◌, ◌&&◌, Bool, cond, get_or, true, false, not, List, [], ◌∷◌, length, map, Option, Some, None, is_none, Result, Ok, Err, refl, sym, ap, subst, ◌∙◌, if◌then◌else◌, inl, inr, arith}
+use Rattle.std.proofs.Common.{◌≡◌, ℕ, suc, ◌+◌, ◌-◌, ◌<◌, ◌≤◌, ◌==◌, ◌&&◌, Bool, cond, get_or, true, false, not, List, [], ◌∷◌, length, map, Option, Some, None, is_none, Result, Ok, Err, refl, sym, ap, subst, ◌∙◌, if◌then◌else◌, inl, arith}
 use Rattle.std.specs.Prelude.{MatchBool, slice_get}
 use Rattle.bb_chooser.specs.Binding.{Binding, IsBinding}
 use Rattle.bb_chooser.specs.Choosing.{number_at, with_number}
@@ -9,9 +9,7 @@ use Rattle.bb_chooser.specs.declared.bound_target.BoundTarget.{BoundTarget}
 use Rattle.bb_chooser.proofs.Counts.{disabled_keeps, resets_keep, spend_is, spent, spent_keeps}
 use Rattle.bb_chooser.specs.declared.cause.Cause.{Cause}
 use Rattle.bb_copies.specs.Loading.{KeepsOutside}
-use Rattle.bb_copies.specs.Store.{used_after}
 use Rattle.bb_copies.specs.declared.answers.CopyFault.{CopyFault}
-use Rattle.bb_copies.specs.declared.answers.Loaded.{Loaded}
 use Rattle.bb_flash.specs.Cuts.{IsLater}
 use Rattle.bb_flash.specs.Device.{Device}
 use Rattle.bb_flash.specs.declared.plan.Plan.{Plan as StartPlan}
@@ -29,16 +27,15 @@ use Rattle.bb_shell.proofs.Attempts.{best_there, target_at, total_some, total_sp
 use Rattle.bb_state.specs.Kinds.{laid_kinds}
 use Rattle.bb_state.specs.State.{is_sure, last_table_of, keyed_of, used_of}
 use Rattle.bb_state.specs.declared.state.State.{State}
-use Rattle.bb_tool.specs.Booting.{SaveAnswer, answer_to, end_refusal, has_no_target, round_answer, rounds_of}
+use Rattle.bb_tool.specs.Booting.{SaveAnswer, answer_to, has_no_target, round_answer, rounds_of}
 use Rattle.bb_tool.specs.Plan.{Boot, SessionPlan, Work}
 use Rattle.bb_tool.specs.Refusal.{copy_refusal}
 use Rattle.bb_tool.specs.Session.{Session, refusal_by_table, boot_session, loaded_area, unless_barred, work_session, worked_on}
-use Rattle.bb_tool.specs.Work.{Gives, GivesEnd, IsBootRun, IsReportOf, IsWorkedOut, SendsByMemory, area_taken}
+use Rattle.bb_tool.specs.Work.{Gives, GivesEnd, IsBootRun, IsWorkedOut}
 use Rattle.bb_tool.specs.declared.refusal.Refusal.{Refusal}
 use Rattle.bb_tool.specs.declared.refusal.Refusal.TheVariants as refusals
 use Rattle.bb_tool.specs.declared.report.Report.{Report}
-use Rattle.bb_tool.proofs.Kept.{load_area}
-use Rattle.bb_tool.proofs.Worked.{LoadClauses, load_err, load_ok}
+use Rattle.bb_tool.proofs.Worked.{LoadClauses, load_err}
 
 -- ---- the last round
 

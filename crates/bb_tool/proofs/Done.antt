@@ -1,5 +1,5 @@
 -- The work on a table that was loaded, as the work of a plan.
-use Rattle.std.proofs.Common.{◌≡◌, ◌≢◌, ℕ, ◌≤◌, Bool, true, false, not, List, [], ◌∷◌, length, Option, Some, None, Result, Ok, Err, refl, sym, ap, subst, ◌∙◌, inl, inr}
+use Rattle.std.proofs.Common.{◌≡◌, ◌≢◌, ℕ, ◌≤◌, true, false, not, List, [], ◌∷◌, length, Option, Some, Result, Ok, Err, refl, sym, ap, subst, ◌∙◌, inl, inr}
 use Rattle.std.specs.Str.{bytes_eq}
 use Rattle.bb_copies.specs.Erasing.{ErasesBy}
 use Rattle.bb_copies.specs.Saving.{EachWritten, SaveFails, SaveRuns}
@@ -39,48 +39,48 @@ module _ (state : State) (mid to : Device) (now : Option ℕ) (sure : is_sure st
     (idle : has_changed state ≡ false → to ≡ mid)
     (runs : has_changed state ≡ true →
     SaveRuns (laid_form (keyed_of state)) (laid_kinds (keyed_of state).layout) (used_of state) state.table mid to)
-    where
-  changed_so : has_changed state ≡ not (bytes_eq state.table (last_table_of state))
-  changed_so = changed_is (is_sure state) (bytes_eq state.table (last_table_of state)) sure
+  where
+    changed_so : has_changed state ≡ not (bytes_eq state.table (last_table_of state))
+    changed_so = changed_is (is_sure state) (bytes_eq state.table (last_table_of state)) sure
 
-  pub saved_done : {A : Type 0} (done : A) → (has_changed state ≡ true → IsStored (keyed_of state) state.table now mid to) →
-      (has_changed state ≡ true → NothingFails mid to →
-      EachWritten (laid_kinds (keyed_of state).layout) ((laid_form (keyed_of state)).text state.table) mid to) →
-      (has_changed state ≡ true → NothingFails mid to →
-      ErasesBy (laid_kinds (keyed_of state).layout) ((laid_form (keyed_of state)).text state.table) mid to) →
-      IsSavedWhere {A = A} (keyed_of state) (used_of state) (last_table_of state) state.table mid to (Ok done)
-  saved_done done stored exact erases =
-      let begun : IsBegun _ _ _ _ _ _ = where_ok (keyed_of state) (used_of state) state.table mid to (bytes_eq state.table (last_table_of state))
-      (λ e. idle (changed_so ∙ ap not e))
-      (λ e. let changed = changed_so ∙ ap not e in record {
-        now = now;
-        runs = runs changed;
-        stored = stored changed;
-        fails = tt;
-        sure = tt;
-        exact = exact changed;
-        erases = erases changed;
-      }) in
-      record { saves = begun.saves; are = begun.are; gives = begun.gives }
+    pub saved_done : {A : Type 0} (done : A) → (has_changed state ≡ true → IsStored (keyed_of state) state.table now mid to) →
+        (has_changed state ≡ true → NothingFails mid to →
+        EachWritten (laid_kinds (keyed_of state).layout) ((laid_form (keyed_of state)).text state.table) mid to) →
+        (has_changed state ≡ true → NothingFails mid to →
+        ErasesBy (laid_kinds (keyed_of state).layout) ((laid_form (keyed_of state)).text state.table) mid to) →
+        IsSavedWhere {A = A} (keyed_of state) (used_of state) (last_table_of state) state.table mid to (Ok done)
+    saved_done done stored exact erases =
+        let begun : IsBegun _ _ _ _ _ _ = where_ok (keyed_of state) (used_of state) state.table mid to (bytes_eq state.table (last_table_of state))
+        (λ e. idle (changed_so ∙ ap not e))
+        (λ e. let changed = changed_so ∙ ap not e in record {
+          now = now;
+          runs = runs changed;
+          stored = stored changed;
+          fails = tt;
+          sure = tt;
+          exact = exact changed;
+          erases = erases changed;
+        }) in
+        record { saves = begun.saves; are = begun.are; gives = begun.gives }
 
-  pub saved_fault : {A : Type 0} (fault : CopyFault) → (is_kept state ≡ true → ⊥) → fault ≢ Unsure →
-      SaveFails (laid_form (keyed_of state)) (laid_kinds (keyed_of state).layout) (used_of state) state.table mid to fault →
-      (given : Result A Refusal) → given ≡ Err (copy_refusal fault) →
-      IsSavedWhere {A = A} (keyed_of state) (used_of state) (last_table_of state) state.table mid to given
-  saved_fault fault same other fails given is =
-      let begun : IsBegun _ _ _ _ _ _ = where_err (keyed_of state) (used_of state) state.table mid to (bytes_eq state.table (last_table_of state)) fault
-      (λ e. same (kept_is (is_sure state) (bytes_eq state.table (last_table_of state)) sure ∙ e))
-      (λ e. record {
-        now = now;
-        runs = runs (changed_so ∙ ap not e);
-        stored = tt;
-        fails = fails;
-        sure = other;
-        exact = λ calm. tt;
-        erases = λ calm. tt;
-      }) in
-      subst (IsSavedWhere (keyed_of state) (used_of state) (last_table_of state) state.table mid to) (sym is)
-      (record { saves = begun.saves; are = begun.are; gives = begun.gives })
+    pub saved_fault : {A : Type 0} (fault : CopyFault) → (is_kept state ≡ true → ⊥) → fault ≢ Unsure →
+        SaveFails (laid_form (keyed_of state)) (laid_kinds (keyed_of state).layout) (used_of state) state.table mid to fault →
+        (given : Result A Refusal) → given ≡ Err (copy_refusal fault) →
+        IsSavedWhere {A = A} (keyed_of state) (used_of state) (last_table_of state) state.table mid to given
+    saved_fault fault same other fails given is =
+        let begun : IsBegun _ _ _ _ _ _ = where_err (keyed_of state) (used_of state) state.table mid to (bytes_eq state.table (last_table_of state)) fault
+        (λ e. same (kept_is (is_sure state) (bytes_eq state.table (last_table_of state)) sure ∙ e))
+        (λ e. record {
+          now = now;
+          runs = runs (changed_so ∙ ap not e);
+          stored = tt;
+          fails = fails;
+          sure = other;
+          exact = λ calm. tt;
+          erases = λ calm. tt;
+        }) in
+        subst (IsSavedWhere (keyed_of state) (used_of state) (last_table_of state) state.table mid to) (sym is)
+        (record { saves = begun.saves; are = begun.are; gives = begun.gives })
 
 -- ---- work after a load
 

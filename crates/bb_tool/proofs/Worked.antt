@@ -1,41 +1,30 @@
 -- The ways in which the work of a plan ends.
-use Rattle.std.proofs.Common.{◌≡◌, ◌≢◌, ◌&&◌, ℕ, ◌≤◌, Bool, true, false, not, List, [], ◌∷◌, ◌++◌, length, take, Vec, Global, Option, Some, None, Result, Ok, Err, IfOk, IfErr, option_map, arith, refl, sym, ap, subst, ◌∙◌, inl, inr}
+use Rattle.std.proofs.Common.{◌≡◌, ◌&&◌, ℕ, ◌≤◌, Bool, true, false, not, List, [], ◌∷◌, ◌++◌, length, take, Vec, Global, Option, Some, None, Result, Ok, Err, IfOk, IfErr, option_map, arith, refl, sym, ap, subst, inl, inr}
 use Rattle.std.specs.Bool.{then_some}
 use Rattle.std.specs.Option.{ForSome}
 use Rattle.std.proofs.lemmas.Grind.{common_steps}
-use Rattle.std.specs.Str.{bytes_eq}
-use Rattle.bb_copies.specs.Erasing.{ErasesBy}
 use Rattle.bb_copies.specs.Loading.{KeepsOutside, LoadGives, LoadImages, LoadsErasing, LoadsExactly, LookGives}
-use Rattle.bb_copies.specs.Saving.{EachWritten, SaveFails, SaveRuns}
-use Rattle.bb_copies.specs.Settling.{NothingFails}
 use Rattle.bb_copies.specs.Store.{used_after}
 use Rattle.bb_copies.specs.declared.answers.CopyFault.{CopyFault}
-use Rattle.bb_copies.specs.declared.answers.CopyFault.TheVariants.{Unsure}
 use Rattle.bb_copies.specs.declared.answers.Loaded.{Loaded}
 use Rattle.bb_flash.specs.Cuts.{IsLater}
 use Rattle.bb_flash.specs.Device.{Device, LeavesStarts, content}
 use Rattle.bb_flash.proofs.Moments.{later_joined}
-use Rattle.bb_actions.specs.Actions.{after_all}
-use Rattle.bb_words.specs.declared.command.Action.{Action}
 use Rattle.bb_tool.proofs.Quiet.{starts_joined}
-use Rattle.bb_state.specs.Backed.{Backed}
 use Rattle.bb_state.specs.Keyed.{Keyed}
 use Rattle.bb_vars.specs.Table.{table_with}
 use Rattle.bb_state.specs.Kinds.{laid_form, laid_kinds}
-use Rattle.bb_state.specs.State.{IsDefault, IsRefused, has_changed, is_kept, is_sure, last_table_of, keyed_of, used_of}
-use Rattle.bb_state.specs.State.{IsStored}
-use Rattle.bb_state.specs.declared.state.State.{State}
+use Rattle.bb_state.specs.State.{IsDefault, IsRefused}
 use Rattle.bb_tool.specs.Looking.{first_found, look_text, passed_in}
-use Rattle.bb_tool.specs.Booting.{SaveAnswer, boots}
+use Rattle.bb_tool.specs.Booting.{SaveAnswer}
 use Rattle.bb_tool.specs.Plan.{Act, Boot, Good, SessionPlan, Show, Work, Write}
 use Rattle.bb_tool.specs.Refusal.{copy_refusal}
-use Rattle.bb_tool.specs.Session.{LoadAnswer, Session, refusal_by_table, loaded_area, session_of_saves, saved_where, saves_after, saves_of, work_text, work_session}
-use Rattle.bb_tool.specs.Work.{AreSaved, Gives, IsLoaded, IsLooked, IsSaveAnswered, IsStoreWork, IsWorkOf, IsWorkedOut, SendsByMemory, area_taken}
+use Rattle.bb_tool.specs.Session.{LoadAnswer, session_of_saves, saved_where}
+use Rattle.bb_tool.specs.Work.{AreSaved, Gives, IsLoaded, IsLooked, IsSaveAnswered, IsStoreWork, IsWorkOf, IsWorkedOut, area_taken}
 use Rattle.bb_tool.specs.declared.refusal.Refusal.{Refusal}
 use Rattle.bb_tool.specs.declared.refusal.Refusal.TheVariants as refusals
 use Rattle.bb_tool.specs.declared.report.Report.{Report}
-use Rattle.bb_tool.proofs.Kept.{found_first, found_none, load_area}
-use Rattle.bb_tool.proofs.Barred.{barred_saves, barred_session, open_session}
+use Rattle.bb_tool.proofs.Kept.{found_first, found_none}
 
 -- a report of this text alone
 abbrev pub told_whole : List ℕ → Report

@@ -1,4 +1,4 @@
-use Rattle.std.proofs.Common.{◌∙◌, ℕ, Option, Ok, Err, ap, subst, sym}
+use Rattle.std.proofs.Common.{◌∙◌, ℕ, Option, Err, ap, subst}
 use Rattle.std.proofs.lemmas.Result.{err_from_is_err_and}
 use Rattle.bb_state.specs.Keyed.{Keyed}
 use Rattle.bb_copies.specs.Store.{used_after}
