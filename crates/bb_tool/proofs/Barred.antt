@@ -160,11 +160,3 @@ lost_is targets area not =
 -- and marking changes nothing
 pub lost_unchanged : (targets : Binding) (area : List ℕ) → (IsSome (chosen_target targets area) → ⊥) → mark_good_of targets area ≡ area
 lost_unchanged targets area not = unchanged targets area (none_of (chosen_target targets area) not)
-
--- a target has it
-found_is : (target : Option ℕ) (last : ℕ) → IsSome target → option_map NoGood (option_map_or (λ t. None) target (Some last)) ≡ None
-found_is None last some = absurd cc
-found_is (Some t) last some = refl
-
-pub kept_is_found : (targets : Binding) (area : List ℕ) → IsSome (chosen_target targets area) → refusal_by_table (Good targets) area ≡ None
-kept_is_found targets area some = found_is (chosen_target targets area) (last_chosen_of targets area) some

@@ -1,5 +1,5 @@
 -- A boot after a load: the session that its rounds make, and what its call says of the device.
-use Rattle.std.proofs.Common.{◌≡◌, ℕ, suc, ◌+◌, ◌-◌, ◌<◌, ◌≤◌, ◌==◌, ◌&&◌, Bool, cond, get_or, true, false, not, List, [], ◌∷◌, length, map, Option, Some, None, is_none, Result, Ok, Err, refl, sym, ap, subst, ◌∙◌, if◌then◌else◌, inl, inr, arith}
+use Rattle.std.proofs.Common.{◌≡◌, ℕ, suc, ◌+◌, ◌-◌, ◌<◌, ◌≤◌, ◌==◌, ◌&&◌, Bool, cond, get_or, true, false, not, List, [], ◌∷◌, length, map, Option, Some, None, is_none, Result, Ok, Err, refl, sym, ap, subst, ◌∙◌, if◌then◌else◌, inl, arith}
 use Rattle.std.specs.Prelude.{MatchBool, slice_get}
 use Rattle.bb_chooser.specs.Binding.{Binding, IsBinding}
 use Rattle.bb_chooser.specs.Choosing.{number_at, with_number}
@@ -9,9 +9,7 @@ use Rattle.bb_chooser.specs.declared.bound_target.BoundTarget.{BoundTarget}
 use Rattle.bb_chooser.proofs.Counts.{disabled_keeps, resets_keep, spend_is, spent, spent_keeps}
 use Rattle.bb_chooser.specs.declared.cause.Cause.{Cause}
 use Rattle.bb_copies.specs.Loading.{KeepsOutside}
-use Rattle.bb_copies.specs.Store.{used_after}
 use Rattle.bb_copies.specs.declared.answers.CopyFault.{CopyFault}
-use Rattle.bb_copies.specs.declared.answers.Loaded.{Loaded}
 use Rattle.bb_flash.specs.Cuts.{IsLater}
 use Rattle.bb_flash.specs.Device.{Device}
 use Rattle.bb_flash.specs.declared.plan.Plan.{Plan as StartPlan}
@@ -29,16 +27,15 @@ use Rattle.bb_shell.proofs.Attempts.{best_there, target_at, total_some, total_sp
 use Rattle.bb_state.specs.Kinds.{laid_kinds}
 use Rattle.bb_state.specs.State.{is_sure, last_table_of, keyed_of, used_of}
 use Rattle.bb_state.specs.declared.state.State.{State}
-use Rattle.bb_tool.specs.Booting.{SaveAnswer, answer_to, end_refusal, has_no_target, round_answer, rounds_of}
+use Rattle.bb_tool.specs.Booting.{SaveAnswer, answer_to, has_no_target, round_answer, rounds_of}
 use Rattle.bb_tool.specs.Plan.{Boot, SessionPlan, Work}
 use Rattle.bb_tool.specs.Refusal.{copy_refusal}
 use Rattle.bb_tool.specs.Session.{Session, refusal_by_table, boot_session, loaded_area, unless_barred, work_session, worked_on}
-use Rattle.bb_tool.specs.Work.{Gives, GivesEnd, IsBootRun, IsReportOf, IsWorkedOut, SendsByMemory, area_taken}
+use Rattle.bb_tool.specs.Work.{Gives, GivesEnd, IsBootRun, IsWorkedOut}
 use Rattle.bb_tool.specs.declared.refusal.Refusal.{Refusal}
 use Rattle.bb_tool.specs.declared.refusal.Refusal.TheVariants as refusals
 use Rattle.bb_tool.specs.declared.report.Report.{Report}
-use Rattle.bb_tool.proofs.Kept.{load_area}
-use Rattle.bb_tool.proofs.Worked.{LoadClauses, load_err, load_ok}
+use Rattle.bb_tool.proofs.Worked.{LoadClauses, load_err}
 
 -- ---- the last round
 
@@ -177,7 +174,7 @@ pub record BootClauses (targets : Binding) (cause : Cause) (plans : List (Option
   pub later : IsLater from to
   pub sure : is_sure after ≡ not (is_fault_end end)
 
-run_is : (targets : Binding) (cause : Cause) (plans : List (Option StartPlan)) (before after : State) (from to : Device)
+pub run_is : (targets : Binding) (cause : Cause) (plans : List (Option StartPlan)) (before after : State) (from to : Device)
     (end : BootEnd) → last_table_of before ≡ before.table → IsBinding targets → length before.table ≡ targets.area_len →
     (clauses : BootClauses targets cause plans before after from to end) →
     IsBootRun (keyed_of before) targets cause plans before.table (used_of before) from to (answers_to clauses.booted.rounds)
@@ -208,70 +205,12 @@ run_is targets cause plans before after from to end kept binding sized clauses =
       end_cause = subst (HasEndCause plans from to) boot.end_is clauses.end_cause;
     }
 
--- ---- the work after a load that answered Ok
+-- ---- the work after a load
 
-end_gives : (targets : Binding) (table : List ℕ) (rounds : List Round) (given : Result Report Refusal) →
+pub end_gives : (targets : Binding) (table : List ℕ) (rounds : List Round) (given : Result Report Refusal) →
     GivesEnd targets (boot_end targets rounds) given → Gives (boot_session targets table rounds) given
 end_gives targets table rounds (Ok report) gives = gives
 end_gives targets table rounds (Err refusal) gives = gives
-
--- the table that the load left was booted from
-pub boot_out : (keyed : Keyed) (targets : Binding) (cause : Cause) (plans : List (Option StartPlan))
-    (from mid to : Device) (loaded : Loaded) (before after : State) (end : BootEnd) (given : Result Report Refusal) →
-    from.geometry ≡ keyed.layout.geometry → 2 ≤ keyed.layout.copies → keyed_of before ≡ keyed → LoadClauses keyed before.table from mid (Ok loaded) →
-    used_of before ≡ used_after loaded → last_table_of before ≡ before.table → IsBinding targets → length before.table ≡ targets.area_len →
-    BootClauses targets cause plans before after mid to end → IsReportOf targets end given →
-    IsWorkedOut keyed (Boot targets cause plans) from to given
-boot_out keyed targets cause plans from mid to loaded before after end given geometry many laid clauses used kept binding sized boot report =
-    let found = area_taken before.table loaded in
-    let plan : SessionPlan = record { keyed = keyed; work = Boot targets cause plans } in
-    let same : loaded_area keyed.layout found ≡ before.table =
-    load_area keyed before.table loaded from mid
-    (record { gives = clauses.gives; defaults = clauses.defaults; exact = clauses.exact; erases = clauses.erases }) in
-    let rounds = boot.booted.rounds in
-    let saves = answers_to rounds in
-    let run : IsBootRun keyed targets cause plans (loaded_area keyed.layout found) (used_after loaded) mid to saves =
-    subst (λ t. IsBootRun keyed targets cause plans t (used_after loaded) mid to saves) (sym same)
-    (subst (λ l. IsBootRun l targets cause plans before.table (used_after loaded) mid to saves) laid
-    (subst (λ u. IsBootRun (keyed_of before) targets cause plans before.table u mid to saves) used
-    (run_is targets cause plans before after mid to end kept binding sized boot))) in
-    let are = subst (λ t. AreRounds targets plans (first_table targets cause true t) rounds) (sym same) boot.booted.are in
-    let session : work_session plan (Ok found) saves ≡ boot_session targets (loaded_area keyed.layout found) rounds =
-    as_boot_session plan targets cause plans found rounds refl are in
-    elim report [
-      | inl gives ↦ inl (record {
-        load = Ok found;
-        saves = saves;
-        work = record {
-          middle = mid;
-          used = used_after loaded;
-          geometry = geometry;
-          many = many;
-          loaded = load_ok keyed before.table from mid loaded clauses;
-          booted = run;
-        };
-        gives =
-            subst (λ (s : Session). Gives s given) (sym session)
-            (end_gives targets (loaded_area keyed.layout found) rounds given
-            (subst (λ e. GivesEnd targets e given) boot.booted.end_is gives));
-      })
-      | inr memory ↦ inr (inl (record {
-        load = Ok found;
-        saves = saves;
-        work = record {
-          middle = mid;
-          used = used_after loaded;
-          geometry = geometry;
-          many = many;
-          loaded = load_ok keyed before.table from mid loaded clauses;
-          booted = run;
-        };
-        whole =
-            subst (λ (s : Session). SendsByMemory s.refusal) (sym session)
-            (subst (λ e. SendsByMemory (end_refusal targets e)) boot.booted.end_is memory.1);
-        is = memory.0;
-      }))
-    ]
 
 -- the load was refused
 pub boot_unloaded : (keyed : Keyed) (targets : Binding) (cause : Cause) (plans : List (Option StartPlan)) (area : List ℕ)

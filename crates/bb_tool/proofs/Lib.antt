@@ -3,6 +3,7 @@ pub mod BootTurns
 pub mod Booted
 pub mod Clauses
 pub mod Copies
+pub mod Done
 pub mod Early
 pub mod Endings
 pub mod EntryPlans

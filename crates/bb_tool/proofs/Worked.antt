@@ -1,51 +1,34 @@
 -- The ways in which the work of a plan ends.
-use Rattle.std.proofs.Common.{◌≡◌, ◌≢◌, ◌&&◌, ℕ, ◌≤◌, Bool, true, false, not, List, [], ◌∷◌, ◌++◌, length, take, Vec, Global, Option, Some, None, Result, Ok, Err, IfOk, IfErr, option_map, arith, refl, sym, ap, subst, ◌∙◌, inl, inr}
+use Rattle.std.proofs.Common.{◌≡◌, ◌&&◌, ℕ, ◌≤◌, Bool, true, false, not, List, [], ◌∷◌, ◌++◌, length, take, Vec, Global, Option, Some, None, Result, Ok, Err, IfOk, IfErr, option_map, arith, refl, sym, ap, subst, inl, inr}
 use Rattle.std.specs.Bool.{then_some}
 use Rattle.std.specs.Option.{ForSome}
 use Rattle.std.proofs.lemmas.Grind.{common_steps}
-use Rattle.std.specs.Str.{bytes_eq}
-use Rattle.bb_copies.specs.Erasing.{ErasesBy}
 use Rattle.bb_copies.specs.Loading.{KeepsOutside, LoadGives, LoadImages, LoadsErasing, LoadsExactly, LookGives}
-use Rattle.bb_copies.specs.Saving.{EachWritten, SaveFails, SaveRuns}
-use Rattle.bb_copies.specs.Settling.{NothingFails}
 use Rattle.bb_copies.specs.Store.{used_after}
 use Rattle.bb_copies.specs.declared.answers.CopyFault.{CopyFault}
-use Rattle.bb_copies.specs.declared.answers.CopyFault.TheVariants.{Unsure}
 use Rattle.bb_copies.specs.declared.answers.Loaded.{Loaded}
 use Rattle.bb_flash.specs.Cuts.{IsLater}
 use Rattle.bb_flash.specs.Device.{Device, LeavesStarts, content}
 use Rattle.bb_flash.proofs.Moments.{later_joined}
-use Rattle.bb_actions.specs.Actions.{after_all}
-use Rattle.bb_words.specs.declared.command.Action.{Action}
 use Rattle.bb_tool.proofs.Quiet.{starts_joined}
-use Rattle.bb_state.specs.Backed.{Backed}
 use Rattle.bb_state.specs.Keyed.{Keyed}
 use Rattle.bb_vars.specs.Table.{table_with}
 use Rattle.bb_state.specs.Kinds.{laid_form, laid_kinds}
-use Rattle.bb_state.specs.State.{IsDefault, IsRefused, has_changed, is_kept, is_sure, last_table_of, keyed_of, used_of}
-use Rattle.bb_state.specs.State.{IsStored}
-use Rattle.bb_state.specs.declared.state.State.{State}
+use Rattle.bb_state.specs.State.{IsDefault, IsRefused}
 use Rattle.bb_tool.specs.Looking.{first_found, look_text, passed_in}
-use Rattle.bb_tool.specs.Booting.{SaveAnswer, boots}
+use Rattle.bb_tool.specs.Booting.{SaveAnswer}
 use Rattle.bb_tool.specs.Plan.{Act, Boot, Good, SessionPlan, Show, Work, Write}
 use Rattle.bb_tool.specs.Refusal.{copy_refusal}
-use Rattle.bb_tool.specs.Session.{LoadAnswer, Session, refusal_by_table, loaded_area, session_of_saves, saved_where, saves_after, saves_of, work_text, work_session}
-use Rattle.bb_tool.specs.Work.{AreSaved, Gives, IsLoaded, IsLooked, IsSaveAnswered, IsStoreWork, IsWorkOf, IsWorkedOut, SendsByMemory, area_taken}
+use Rattle.bb_tool.specs.Session.{LoadAnswer, session_of_saves, saved_where}
+use Rattle.bb_tool.specs.Work.{AreSaved, Gives, IsLoaded, IsLooked, IsSaveAnswered, IsStoreWork, IsWorkOf, IsWorkedOut, area_taken}
 use Rattle.bb_tool.specs.declared.refusal.Refusal.{Refusal}
 use Rattle.bb_tool.specs.declared.refusal.Refusal.TheVariants as refusals
 use Rattle.bb_tool.specs.declared.report.Report.{Report}
-use Rattle.bb_tool.proofs.Kept.{found_first, found_none, load_area}
-use Rattle.bb_tool.proofs.Barred.{barred_saves, barred_session, open_session}
+use Rattle.bb_tool.proofs.Kept.{found_first, found_none}
 
 -- a report of this text alone
 abbrev pub told_whole : List ℕ → Report
 told_whole text = record { text = text; refusal = None }
-
--- ---- memory was refused before the device was asked
-
-pub unasked_out : (keyed : Keyed) (work : Work) (device : Device) (given : Result Report Refusal) →
-    given ≡ Err refusals.NoMemory → IsWorkedOut keyed work device device given
-unasked_out keyed work device given is = inr (inr (record { is = is; unasked = refl }))
 
 -- ---- a look
 
@@ -144,13 +127,6 @@ is_store (Act actions) = true
 is_store (Good targets) = true
 is_store (Boot targets cause plans) = false
 
-store_boots : (work : Work) → is_store work ≡ true → boots work ≡ false
-store_boots Show stored = refl
-store_boots (Write area) stored = refl
-store_boots (Act actions) stored = refl
-store_boots (Good targets) stored = refl
-store_boots (Boot targets cause plans) stored = absurd cc
-
 store_work : (work : Work) (plan : SessionPlan) (from to : Device) (load : LoadAnswer)
     (saves : List SaveAnswer) → is_store work ≡ true → IsStoreWork plan from to load saves →
     IsWorkOf work plan from to load saves
@@ -226,110 +202,6 @@ where_err keyed used area mid to true fault idle saves = absurd (idle refl)
 where_err keyed used area mid to false fault idle saves =
     saved_err keyed used area mid to fault (saves refl)
 
--- ---- the work after a load that answered Ok
-
-module _ (keyed : Keyed) (work : Work) (from mid to : Device) (area : List ℕ) (loaded : Loaded)
-    (stored : is_store work ≡ true) (many : 2 ≤ keyed.layout.copies)
-    (clauses : LoadClauses keyed area from mid (Ok loaded))
-    (given : List ℕ → Result Report Refusal)
-    (begun : IsBegun keyed (used_after loaded) (saves_of keyed.layout work area) mid to given)
-    (free : refusal_by_table work area ≡ None) where
-  abbrev Whole : SessionPlan
-  Whole = record { keyed = keyed; work = work }
-
-  same_area : loaded_area keyed.layout (area_taken area loaded) ≡ area
-  same_area =
-      load_area keyed area loaded from mid
-      (record { gives = clauses.gives; defaults = clauses.defaults; exact = clauses.exact; erases = clauses.erases })
-
-  begun_behind : IsBegun keyed (used_after loaded) (saves_after Whole (Ok (area_taken area loaded)))
-      mid to given
-  begun_behind =
-      subst (λ a. IsBegun keyed (used_after loaded) (saves_of keyed.layout work a) mid to given)
-      (sym same_area) begun
-
-  session_is : work_session Whole (Ok (area_taken area loaded)) begun_behind.saves
-      ≡ session_of_saves (work_text keyed.layout work (area_taken area loaded))
-      (saves_after Whole (Ok (area_taken area loaded))) begun_behind.saves
-  session_is =
-      open_session Whole (area_taken area loaded) begun_behind.saves (store_boots work stored)
-      (ap (refusal_by_table work) same_area ∙ free)
-
-  store_done : IsWorkOf work Whole from to (Ok (area_taken area loaded)) begun_behind.saves
-  store_done =
-      store_work work Whole from to (Ok (area_taken area loaded)) begun_behind.saves stored (record {
-        middle = mid;
-        used = used_after loaded;
-        many = many;
-        loaded = load_ok keyed area from mid loaded clauses;
-        saved = begun_behind.are;
-      })
-
-  -- the session answers this
-  pub stored_out : (answer : Result Report Refusal) →
-      answer ≡ given (work_text keyed.layout work (area_taken area loaded)) →
-      IsWorkedOut keyed work from to answer
-  stored_out answer is =
-      subst (IsWorkedOut keyed work from to) (sym is)
-      (inl (record {
-        load = Ok (area_taken area loaded);
-        saves = begun_behind.saves;
-        work = store_done;
-        gives =
-            subst (λ (s : Session). Gives s (given (work_text keyed.layout work (area_taken area loaded))))
-            (sym session_is) (begun_behind.gives (work_text keyed.layout work (area_taken area loaded)));
-      }))
-
-  -- or memory was refused for its text
-  pub stored_textless : ((text : List ℕ) → given text ≡ Ok (told_whole text)) →
-      (answer : Result Report Refusal) → answer ≡ Err refusals.NoMemory →
-      IsWorkedOut keyed work from to answer
-  stored_textless whole answer is =
-      let text = work_text keyed.layout work (area_taken area loaded) in
-      let gives = subst
-      (Gives (session_of_saves text (saves_after Whole (Ok (area_taken area loaded))) begun_behind.saves))
-      (whole text) (begun_behind.gives text) in
-      inr (inl (record {
-        load = Ok (area_taken area loaded);
-        saves = begun_behind.saves;
-        work = store_done;
-        whole =
-            subst SendsByMemory (sym (ap (λ (s : Session). s.refusal) session_is ∙ gives.1)) tt;
-        is = is;
-      }))
-
--- ---- a load that gave a table which ends the session
-
-pub barred_out : (keyed : Keyed) (work : Work) (from to : Device) (area : List ℕ)
-    (loaded : Loaded) (refusal : Refusal) → is_store work ≡ true → 2 ≤ keyed.layout.copies →
-    LoadClauses keyed area from to (Ok loaded) → refusal_by_table work area ≡ Some refusal →
-    (given : Result Report Refusal) → given ≡ Err refusal →
-    IsWorkedOut keyed work from to given
-barred_out keyed work from to area loaded refusal stored many clauses bars given is =
-    let plan : SessionPlan = record { keyed = keyed; work = work } in
-    let found = area_taken area loaded in
-    let same : loaded_area keyed.layout found ≡ area =
-    load_area keyed area loaded from to
-    (record { gives = clauses.gives; defaults = clauses.defaults; exact = clauses.exact; erases = clauses.erases }) in
-    let here : refusal_by_table work (loaded_area keyed.layout found) ≡ Some refusal = ap (refusal_by_table work) same ∙ bars in
-    subst (IsWorkedOut keyed work from to) (sym is)
-    (inl (record {
-      load = Ok found;
-      saves = [];
-      work = store_work work plan from to (Ok found) [] stored (record {
-        middle = to;
-        used = used_after loaded;
-        many = many;
-        loaded = load_ok keyed area from to loaded clauses;
-        saved =
-            subst (λ areas. AreSaved keyed (used_after loaded) areas to to [])
-            (sym (barred_saves keyed.layout work (loaded_area keyed.layout found) refusal here)) (refl, refl);
-      });
-      gives =
-          subst (λ (s : Session). Gives s (Err refusal))
-          (sym (barred_session plan found [] refusal here)) (refl, refl);
-    }))
-
 -- ---- a vector that was filled anew
 
 -- it holds what it was filled with
@@ -348,131 +220,13 @@ put_whole table area whole = grind (arith, common_steps)
 
 -- ---- a table that may have changed
 
-changed_is : (sure same : Bool) → sure ≡ true → (sure && not same) ≡ not same
+pub changed_is : (sure same : Bool) → sure ≡ true → (sure && not same) ≡ not same
 changed_is true same is = refl
 changed_is false same is = absurd cc
 
-kept_is : (sure same : Bool) → sure ≡ true → (sure && same) ≡ same
+pub kept_is : (sure same : Bool) → sure ≡ true → (sure && same) ≡ same
 kept_is true same is = refl
 kept_is false same is = absurd cc
-
-pub has_changed_is : (state : State) (area new : List ℕ) → is_sure state ≡ true →
-    state.table ≡ new → last_table_of state ≡ area → has_changed state ≡ not (bytes_eq new area)
-has_changed_is state area new sure table kept =
-    changed_is (is_sure state) (bytes_eq state.table (last_table_of state)) sure
-    ∙ ap (λ t. not (bytes_eq t (last_table_of state))) table ∙ ap (λ k. not (bytes_eq new k)) kept
-
-pub is_kept_is : (state : State) (area new : List ℕ) → is_sure state ≡ true →
-    state.table ≡ new → last_table_of state ≡ area → is_kept state ≡ bytes_eq new area
-is_kept_is state area new sure table kept =
-    kept_is (is_sure state) (bytes_eq state.table (last_table_of state)) sure
-    ∙ ap (λ t. bytes_eq t (last_table_of state)) table ∙ ap (λ k. bytes_eq new k) kept
-
--- ---- the save of a table that was changed
-
-module _ (first state : State) (keyed : Keyed) (new : List ℕ) (loaded : Loaded)
-    (mid to : Device) (now : Option ℕ)
-    (backing : state.backing ≡ first.backing)
-    (new_is : state.table ≡ new)
-    (layout_is : keyed_of first ≡ keyed) (used : used_of first ≡ used_after loaded)
-    (sure : is_sure first ≡ true) (kept : last_table_of first ≡ first.table)
-    (runs : has_changed state ≡ true →
-    SaveRuns (laid_form (keyed_of state)) (laid_kinds (keyed_of state).layout) (used_of state) state.table mid
-    to)
-    (idle : has_changed state ≡ false → to ≡ mid) where
-  sure_is : is_sure state ≡ true
-  sure_is = ap (λ (b : Backed). b.sure) backing ∙ sure
-
-  kept_so : last_table_of state ≡ first.table
-  kept_so = ap (λ (b : Backed). b.kept) backing ∙ kept
-
-  changed_so : has_changed state ≡ not (bytes_eq new first.table)
-  changed_so = has_changed_is state first.table new sure_is new_is kept_so
-
-  moved : (answer : SaveAnswer) → IsSaveAnswered (keyed_of state) (used_of state) state.table mid to answer →
-      IsSaveAnswered keyed (used_after loaded) new mid to answer
-  moved answer done =
-      subst (λ (l : Keyed). IsSaveAnswered l (used_after loaded) new mid to answer)
-      (ap (λ (b : Backed). b.keyed) backing ∙ layout_is)
-      (subst (λ (u : Option ℕ). IsSaveAnswered (keyed_of state) u new mid to answer)
-      (ap (λ (b : Backed). b.used) backing ∙ used)
-      (subst (λ (a : List ℕ). IsSaveAnswered (keyed_of state) (used_of state) a mid to answer) new_is done))
-
-  pub changed_ok :
-      (has_changed state ≡ true → IsStored (keyed_of state) state.table now mid to) →
-      (has_changed state ≡ true → NothingFails mid to →
-      EachWritten (laid_kinds (keyed_of state).layout) ((laid_form (keyed_of state)).text state.table) mid to) →
-      (has_changed state ≡ true → NothingFails mid to →
-      ErasesBy (laid_kinds (keyed_of state).layout) ((laid_form (keyed_of state)).text state.table) mid to) →
-      IsBegun keyed (used_after loaded) (saved_where (bytes_eq new first.table) new) mid to
-      (λ text. Ok (told_whole text))
-  changed_ok stored exact erases =
-      where_ok keyed (used_after loaded) new mid to (bytes_eq new first.table)
-      (λ e. idle (changed_so ∙ ap not e))
-      (λ e. let changed = changed_so ∙ ap not e in
-      moved (Ok false) (record {
-        now = now;
-        runs = runs changed;
-        stored = stored changed;
-        fails = tt;
-        sure = tt;
-        exact = exact changed;
-        erases = erases changed;
-      }))
-
-  pub changed_err : (fault : CopyFault) → (is_kept state ≡ true → ⊥) → fault ≢ Unsure →
-      SaveFails (laid_form (keyed_of state)) (laid_kinds (keyed_of state).layout) (used_of state) state.table
-      mid to fault →
-      IsBegun keyed (used_after loaded) (saved_where (bytes_eq new first.table) new) mid to
-      (λ text. Err (copy_refusal fault))
-  changed_err fault same other fails =
-      where_err keyed (used_after loaded) new mid to (bytes_eq new first.table) fault
-      (λ e. same (is_kept_is state first.table new sure_is new_is kept_so ∙ e))
-      (λ e. moved (Err fault) (record {
-        now = now;
-        runs = runs (changed_so ∙ ap not e);
-        stored = tt;
-        fails = fails;
-        sure = other;
-        exact = λ calm. tt;
-        erases = λ calm. tt;
-      }))
-
--- ---- the save after all sets
-
-module _ (first state : State) (keyed : Keyed) (actions : List Action) (loaded : Loaded)
-    (mid to : Device) (now : Option ℕ)
-    (backing : state.backing ≡ first.backing)
-    (table : state.table ≡ after_all (keyed_of first).layout.vars first.table actions)
-    (layout_is : keyed_of first ≡ keyed) (used : used_of first ≡ used_after loaded)
-    (sure : is_sure first ≡ true) (kept : last_table_of first ≡ first.table)
-    (runs : has_changed state ≡ true →
-    SaveRuns (laid_form (keyed_of state)) (laid_kinds (keyed_of state).layout) (used_of state) state.table mid
-    to)
-    (idle : has_changed state ≡ false → to ≡ mid) where
-  made_is : state.table ≡ after_all keyed.layout.vars first.table actions
-  made_is = table ∙ ap (λ (l : Keyed). after_all l.layout.vars first.table actions) layout_is
-
-  pub acted_ok :
-      (has_changed state ≡ true → IsStored (keyed_of state) state.table now mid to) →
-      (has_changed state ≡ true → NothingFails mid to →
-      EachWritten (laid_kinds (keyed_of state).layout) ((laid_form (keyed_of state)).text state.table) mid to) →
-      (has_changed state ≡ true → NothingFails mid to →
-      ErasesBy (laid_kinds (keyed_of state).layout) ((laid_form (keyed_of state)).text state.table) mid to) →
-      IsBegun keyed (used_after loaded) (saves_of keyed.layout (Act actions) first.table) mid to
-      (λ text. Ok (told_whole text))
-  acted_ok =
-      changed_ok first state keyed (after_all keyed.layout.vars first.table actions) loaded mid to now
-      backing made_is layout_is used sure kept runs idle
-
-  pub acted_err : (fault : CopyFault) → (is_kept state ≡ true → ⊥) → fault ≢ Unsure →
-      SaveFails (laid_form (keyed_of state)) (laid_kinds (keyed_of state).layout) (used_of state) state.table
-      mid to fault →
-      IsBegun keyed (used_after loaded) (saves_of keyed.layout (Act actions) first.table) mid to
-      (λ text. Err (copy_refusal fault))
-  acted_err =
-      changed_err first state keyed (after_all keyed.layout.vars first.table actions) loaded mid to now
-      backing made_is layout_is used sure kept runs idle
 
 pub begun_later : (keyed : Keyed) (used : Option ℕ) (areas : List (List ℕ)) (saves : List SaveAnswer)
     (from mid to : Device) → AreSaved keyed used areas mid to saves → IsLater from mid →

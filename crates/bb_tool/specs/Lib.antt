@@ -23,6 +23,7 @@ pub mod Booting
 pub mod Calls
 pub mod Clauses
 pub mod Copying
+pub mod Doing
 pub mod SessionAnswer
 pub mod Exactly
 pub mod FilesRead

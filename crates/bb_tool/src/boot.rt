@@ -1,15 +1,10 @@
-ghost use Rattle.std.specs.Prelude.{◌≡◌, IfErr, IfOk};
-ghost use Rattle.bb_chooser.specs.Binding.{IsBoundTo};
-ghost use Rattle.bb_flash.specs.Cuts.{IsLater};
-ghost use Rattle.bb_flash.specs.Device.{IsDevice};
-ghost use Rattle.bb_state.specs.Keyed.{FitsKey};
-ghost use Rattle.bb_state.specs.State.{IsOn, keyed_of, laid_of};
+ghost use Rattle.std.specs.Prelude.{◌≡◌, IfOk};
+ghost use Rattle.bb_state.specs.State.{keyed_of, used_of};
 ghost use Rattle.bb_tool.specs.Booting.{start_line, target_name, tries_line};
-ghost use Rattle.bb_tool.specs.Plan.{Boot, keyed_as};
-ghost use Rattle.bb_tool.specs.Refusal.{IsSendableRefusal};
-ghost use Rattle.bb_tool.specs.Work.{IsReportOf, IsSendable, IsWorkedOut};
+ghost use Rattle.bb_tool.specs.Doing.{IsAtHand, IsDone};
+ghost use Rattle.bb_tool.specs.Plan.{Boot, IsServed};
+ghost use Rattle.bb_tool.specs.Work.{IsReportOf, IsSendable};
 
-use crate::described::KeyedLayout;
 use crate::refusal::Refusal;
 use crate::report::Report;
 use bb_base::{AREA_LIMIT, Bytes, NoMemory, Text};
@@ -19,33 +14,8 @@ use bb_shell::{BootEnd, boot_run};
 use bb_state::State;
 use std::alloc::Global;
 
-/// Loads the copies of a layout, boots by the plans, and gives what is sent of the boot's end.
-pub(crate) fn boot_by<B: Board>(
-    alloc: Global,
-    board: &mut B,
-    keyed: KeyedLayout,
-    chooser: &Chooser,
-    plans: &PlanList,
-    cause: Cause,
-) -> Result<Report, Refusal>
-    requires fits { FitsKey keyed.layout.format keyed.key }
-    requires geometry { keyed.layout.geometry ≡ (B.device board.old).geometry }
-    requires whole { IsDevice (B.device board.old) }
-    requires sized { chooser.now.area_len ≡ keyed.layout.area_len }
-    requires bound { IsBoundTo keyed.layout.vars chooser.now }
-    ensures gives { IsWorkedOut (keyed_as keyed)
-        (Boot chooser.now cause plans.now)
-        (B.device board.old) (B.device board.new) result }
-    ensures tellable { IfErr result IsSendableRefusal }
-    ensures sends { IfOk result IsSendable }
-    ensures later { IsLater (B.device board.old) (B.device board.new) }
-{
-    let mut state = State::mount(alloc, keyed.layout, keyed.key)?;
-    boot_on(alloc, board, &mut state, chooser, plans, cause)
-}
-
-// The same over a state that is mounted.
-fn boot_on<B: Board>(
+/// Boots by the plans from the table that was loaded, and gives what is sent of the boot's end.
+pub(crate) fn boot<B: Board>(
     alloc: Global,
     board: &mut B,
     state: &mut State,
@@ -53,16 +23,13 @@ fn boot_on<B: Board>(
     plans: &PlanList,
     cause: Cause,
 ) -> Result<Report, Refusal>
-    requires sized { chooser.now.area_len ≡ (laid_of state.old).area_len }
-    requires bound { IsBoundTo (laid_of state.old).vars chooser.now }
-    requires on { IsOn state.old (B.device board.old) }
-    ensures gives { IsWorkedOut (keyed_of state.old) (Boot chooser.now cause plans.now)
-        (B.device board.old) (B.device board.new) result }
+    requires served { IsServed (keyed_of state.old) (Boot chooser.now cause plans.now) }
+    requires hand { IsAtHand state.old (B.device board.old) }
+    ensures did { IsDone (keyed_of state.old) (used_of state.old) state.old.table
+        (Boot chooser.now cause plans.now) (B.device board.old) (B.device board.new) result }
     ensures sends { IfOk result IsSendable }
-    ensures later { IsLater (B.device board.old) (B.device board.new) }
 {
     prove!(chooser.count() <= AREA_LIMIT as usize);
-    state.load(board)?;
     let end = boot_run(state, chooser, plans, cause, true, board);
     report(alloc, chooser, end)
 }

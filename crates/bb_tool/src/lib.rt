@@ -20,6 +20,7 @@ mod session;
 mod state;
 mod status;
 mod targets;
+mod work;
 
 pub use law::{law_attempts, law_chronicle, law_wear};
 pub use send::{send_fault, send_text};

@@ -1,18 +1,15 @@
-ghost use Rattle.std.specs.Prelude.{◌≡◌, IfErr, IfOk, length};
+ghost use Rattle.std.specs.Prelude.{◌≡◌, ◌↔◌, IfOk, IsSome, IsTrue, length};
 ghost use Rattle.std.specs.Option.{option_map};
-ghost use Rattle.bb_chooser.specs.Binding.{IsBoundTo};
-ghost use Rattle.bb_flash.specs.Cuts.{IsLater};
-ghost use Rattle.bb_flash.specs.Device.{IsDevice, LeavesStarts};
-ghost use Rattle.bb_state.specs.Keyed.{FitsKey};
-ghost use Rattle.bb_state.specs.State.{IsOn, keyed_of, laid_of};
+ghost use Rattle.bb_chooser.specs.Counting.{chosen_target, mark_good_of};
+ghost use Rattle.bb_state.specs.State.{keyed_of, used_of};
+ghost use Rattle.bb_tool.specs.Doing.{IsAtHand, IsDone};
 ghost use Rattle.bb_tool.specs.Marking.{chosen_name, good_line, good_text};
-ghost use Rattle.bb_tool.specs.Plan.{Good, keyed_as};
-ghost use Rattle.bb_tool.specs.Refusal.{IsSendableRefusal};
-ghost use Rattle.bb_tool.specs.Work.{IsSendable, IsWorkedOut};
+ghost use Rattle.bb_tool.specs.Plan.{Good, IsServed};
+ghost use Rattle.bb_tool.specs.Work.{IsSendable};
 
-use crate::described::KeyedLayout;
 use crate::refusal::Refusal;
 use crate::report::Report;
+use crate::state::save_table;
 use bb_base::{Bytes, NoMemory, Text};
 use bb_chooser::Chooser;
 use bb_flash::Flash;
@@ -20,53 +17,35 @@ use bb_state::State;
 use bb_vars::Table;
 use std::alloc::Global;
 
-/// Loads the copies of a layout, gives the target that was chosen last its default attempts, saves
-/// the table where it is another than the one that was loaded, and gives the target's line.
+/// Gives the target that was chosen last its default attempts, saves the table where it is another
+/// than the one that was loaded, and gives the target's line.
 pub(crate) fn mark<F: Flash>(
-    alloc: Global,
-    flash: &mut F,
-    keyed: KeyedLayout,
-    chooser: &Chooser,
-) -> Result<Report, Refusal>
-    requires fits { FitsKey keyed.layout.format keyed.key }
-    requires geometry { keyed.layout.geometry ≡ (F.device flash.old).geometry }
-    requires whole { IsDevice (F.device flash.old) }
-    requires sized { chooser.now.area_len ≡ keyed.layout.area_len }
-    requires bound { IsBoundTo keyed.layout.vars chooser.now }
-    ensures gives { IsWorkedOut (keyed_as keyed)
-        (Good chooser.now)
-        (F.device flash.old) (F.device flash.new) result }
-    ensures tellable { IfErr result IsSendableRefusal }
-    ensures sends { IfOk result IsSendable }
-    ensures later { IsLater (F.device flash.old) (F.device flash.new) }
-    ensures starts { LeavesStarts (F.device flash.old) (F.device flash.new) }
-{
-    let mut state = State::mount(alloc, keyed.layout, keyed.key)?;
-    mark_on(alloc, flash, &mut state, chooser)
-}
-
-// The same over a state that is mounted.
-fn mark_on<F: Flash>(
     alloc: Global,
     flash: &mut F,
     state: &mut State,
     chooser: &Chooser,
 ) -> Result<Report, Refusal>
-    requires sized { chooser.now.area_len ≡ (laid_of state.old).area_len }
-    requires bound { IsBoundTo (laid_of state.old).vars chooser.now }
-    requires on { IsOn state.old (F.device flash.old) }
-    ensures gives { IsWorkedOut (keyed_of state.old) (Good chooser.now)
+    requires served { IsServed (keyed_of state.old) (Good chooser.now) }
+    requires hand { IsAtHand state.old (F.device flash.old) }
+    ensures did { IsDone (keyed_of state.old) (used_of state.old) state.old.table (Good chooser.now)
         (F.device flash.old) (F.device flash.new) result }
     ensures sends { IfOk result IsSendable }
-    ensures later { IsLater (F.device flash.old) (F.device flash.new) }
-    ensures starts { LeavesStarts (F.device flash.old) (F.device flash.new) }
 {
-    state.load(flash)?;
-    if !chooser.mark_good(&mut state.table) {
+    if !mark_table(state, chooser) {
         return Err(Refusal::NoGood(chooser.last_chosen(&state.table)));
     }
-    state.save(flash)?;
+    save_table(flash, state)?;
     Ok(Report::done(good_text(alloc, chooser, &state.table)?))
+}
+
+// Gives the target that was chosen last its default attempts, in the table alone.
+fn mark_table(state: &mut State, chooser: &Chooser) -> bool
+    requires served { IsServed (keyed_of state.old) (Good chooser.now) }
+    ensures good { IsTrue result ↔ IsSome (chosen_target chooser.now state.old.table) }
+    ensures marked { state.new.table ≡ mark_good_of chooser.now state.old.table }
+    ensures backing { state.new.backing ≡ state.old.backing }
+{
+    chooser.mark_good(&mut state.table)
 }
 
 fn good_text(alloc: Global, chooser: &Chooser, table: &Table) -> Result<Bytes, NoMemory>

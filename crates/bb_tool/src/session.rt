@@ -1,26 +1,21 @@
 ghost use Rattle.std.specs.Prelude.{◌≡◌, ◌≤◌, false, IfErr, IfOk};
 ghost use Rattle.bb_flash.specs.Cuts.{IsLater};
-ghost use Rattle.bb_flash.specs.Device.{IsDevice};
 ghost use Rattle.bb_tool.specs.Calls.{IsSession};
 ghost use Rattle.bb_tool.specs.Clauses.{EndsEarly, KeepsTheCopies, KnowsItsCauses, LeavesTheRest};
 ghost use Rattle.bb_tool.specs.Clauses.{SendsTheSession, StartsTheBest, WorksUndisturbed};
 ghost use Rattle.bb_tool.specs.SessionAnswer.{IsSessionAnswer};
-ghost use Rattle.bb_tool.specs.Plan.{IsPlannedFor, names_file, plan_as};
+ghost use Rattle.bb_tool.specs.Plan.{names_file};
 ghost use Rattle.bb_tool.specs.Ran.{ran_by};
 ghost use Rattle.bb_tool.specs.FilesRead.{IsFolderLater};
 ghost use Rattle.bb_tool.specs.Refusal.{IsSendableRefusal};
-ghost use Rattle.bb_tool.specs.Work.{IsSendable, IsWorkedOut};
+ghost use Rattle.bb_tool.specs.Work.{IsSendable};
 
 use crate::Status;
-use crate::boot::boot_by;
-use crate::mark_good::mark;
-use crate::plan::{PlannedWork, Work};
 use crate::planning::plan_session;
-use crate::raw::{look, save};
 use crate::refusal::Refusal;
 use crate::report::Report;
 use crate::send::{send_refusal, send_report};
-use crate::state::act;
+use crate::work::do_work;
 use bb_base::{Files, Sink, TextList};
 use bb_flash::Board;
 use std::alloc::Global;
@@ -99,27 +94,5 @@ fn session<N: Files, B: Board>(
     ensures later { IsLater (B.device board.old) (B.device board.new) }
 {
     let plan = plan_session(alloc, words, files, board.geometry())?;
-    work(alloc, board, plan)
-}
-
-// The work of a plan.
-fn work<B: Board>(alloc: Global, board: &mut B, plan: PlannedWork) -> Result<Report, Refusal>
-    requires plan { IsPlannedFor (B.device board.old).geometry (plan_as plan) }
-    requires whole { IsDevice (B.device board.old) }
-    ensures gives { IsWorkedOut (plan_as plan).keyed plan.work
-        (B.device board.old) (B.device board.new) result }
-    ensures tellable { IfErr result IsSendableRefusal }
-    ensures sends { IfOk result IsSendable }
-    ensures later { IsLater (B.device board.old) (B.device board.new) }
-{
-    let keyed = plan.keyed;
-    match plan.work {
-        Work::Show => look(alloc, board, keyed.layout),
-        Work::Write(area) => save(alloc, board, keyed.layout, area.as_slice()),
-        Work::Act(actions) => act(alloc, board, keyed, &actions),
-        Work::Good(chooser) => mark(alloc, board, keyed, &chooser),
-        Work::Boot(chooser, cause, plans) => {
-            boot_by(alloc, board, keyed, &chooser, &plans, cause)
-        }
-    }
+    do_work(alloc, board, plan)
 }

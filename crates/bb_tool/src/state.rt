@@ -1,13 +1,9 @@
-ghost use Rattle.std.specs.Prelude.{◌≡◌, IfErr, IfOk};
-ghost use Rattle.bb_flash.specs.Cuts.{IsLater};
-ghost use Rattle.bb_flash.specs.Device.{IsDevice, LeavesStarts};
-ghost use Rattle.bb_state.specs.Keyed.{FitsKey};
-ghost use Rattle.bb_state.specs.State.{IsOn, keyed_of};
-ghost use Rattle.bb_tool.specs.Plan.{Act, keyed_as};
-ghost use Rattle.bb_tool.specs.Refusal.{IsSendableRefusal};
-ghost use Rattle.bb_tool.specs.Work.{IsSendable, IsWorkedOut};
+ghost use Rattle.std.specs.Prelude.{◌≡◌, IfOk, true};
+ghost use Rattle.bb_state.specs.State.{IsOn, is_sure, keyed_of, last_table_of, used_of};
+ghost use Rattle.bb_tool.specs.Doing.{IsAtHand, IsDone, IsSavedWhere};
+ghost use Rattle.bb_tool.specs.Plan.{Act};
+ghost use Rattle.bb_tool.specs.Work.{IsSendable};
 
-use crate::described::KeyedLayout;
 use crate::refusal::Refusal;
 use crate::report::Report;
 use bb_actions::{actions_text, make_sets};
@@ -16,46 +12,33 @@ use bb_state::State;
 use bb_words::ActionList;
 use std::alloc::Global;
 
-/// Loads the copies of a layout, makes all sets, saves the table where it is another than the one
-/// that was loaded, and gives the text of what is got.
+/// Makes all sets, saves the table where it is another than the one that was loaded, and gives the
+/// text of what is got.
 pub(crate) fn act<F: Flash>(
-    alloc: Global,
-    flash: &mut F,
-    keyed: KeyedLayout,
-    actions: &ActionList,
-) -> Result<Report, Refusal>
-    requires fits { FitsKey keyed.layout.format keyed.key }
-    requires geometry { keyed.layout.geometry ≡ (F.device flash.old).geometry }
-    requires whole { IsDevice (F.device flash.old) }
-    ensures gives { IsWorkedOut (keyed_as keyed)
-        (Act actions.now)
-        (F.device flash.old) (F.device flash.new) result }
-    ensures tellable { IfErr result IsSendableRefusal }
-    ensures sends { IfOk result IsSendable }
-    ensures later { IsLater (F.device flash.old) (F.device flash.new) }
-    ensures starts { LeavesStarts (F.device flash.old) (F.device flash.new) }
-{
-    let mut state = State::mount(alloc, keyed.layout, keyed.key)?;
-    act_on(alloc, flash, &mut state, actions)
-}
-
-// The same over a state that is mounted.
-fn act_on<F: Flash>(
     alloc: Global,
     flash: &mut F,
     state: &mut State,
     actions: &ActionList,
 ) -> Result<Report, Refusal>
-    requires { IsOn state.old (F.device flash.old) }
-    ensures gives { IsWorkedOut (keyed_of state.old) (Act actions.now)
+    requires hand { IsAtHand state.old (F.device flash.old) }
+    ensures did { IsDone (keyed_of state.old) (used_of state.old) state.old.table (Act actions.now)
         (F.device flash.old) (F.device flash.new) result }
     ensures sends { IfOk result IsSendable }
-    ensures later { IsLater (F.device flash.old) (F.device flash.new) }
-    ensures starts { LeavesStarts (F.device flash.old) (F.device flash.new) }
 {
-    state.load(flash)?;
     make_sets(state, actions);
-    state.save(flash)?;
+    save_table(flash, state)?;
     let text = actions_text(alloc, state.layout(), state.table.bytes(), actions)?;
     Ok(Report::done(text))
+}
+
+/// Saves the table, where it is another than the one that was loaded.
+pub(crate) fn save_table<F: Flash>(flash: &mut F, state: &mut State) -> Result<(), Refusal>
+    requires on { IsOn state.old (F.device flash.old) }
+    requires sure { is_sure state.old ≡ true }
+    ensures saved { IsSavedWhere (keyed_of state.old) (used_of state.old) (last_table_of state.old)
+        state.old.table (F.device flash.old) (F.device flash.new) result }
+    ensures table { state.new.table ≡ state.old.table }
+    ensures keyed { keyed_of state.new ≡ keyed_of state.old }
+{
+    Ok(state.save(flash)?)
 }

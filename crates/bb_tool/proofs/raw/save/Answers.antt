@@ -1,33 +1,45 @@
-use Rattle.std.proofs.Common.{◌≡◌, ◌∙◌, ◌≤◌, length, ap, sym, subst}
-use Rattle.bb_state.specs.Keyed.{Keyed}
-use Rattle.bb_tool.specs.Plan.{Write}
-use Rattle.bb_tool.specs.Work.{IsWorkedOut}
-use Rattle.bb_tool.proofs.Tellable.{tellable_of}
+use Rattle.std.proofs.Common.{◌∙◌, ℕ, List, false, Ok, Err, ap}
+use Rattle.std.proofs.lemmas.Result.{err_from_is_err_and}
+use Rattle.bb_state.specs.Backed.{Backed}
+use Rattle.bb_tool.proofs.Done.{done_saved, done_unsaved, saved_as}
+use Rattle.bb_tool.proofs.Worked.{told_whole}
 use Rattle.bb_tool.proofs.raw.save.Goals as goal
 
-pub save_on-requires-clause-sized : goal.save_on-requires-clause-sized
-save_on-requires-clause-sized g c =
-    subst (λ (k : Keyed). length c.args.area.now ≡ k.layout.area_len) (sym c.in_ok-state.ensures.keyed)
-    c.requires.sized
+pub returns-in_err-save_always-clause-did : goal.returns-in_err-save_always-clause-did
+returns-in_err-save_always-clause-did g c =
+    let from = g.F.Flash.device c.args.flash.now in
+    let to = g.F.Flash.device c.save_always.new.flash in
+    let put = c.put_area.new.state in
+    let fault = c.in_err-save_always.field-0.0 in
+    let p = err_from_is_err_and c.from_residual.result c.from_residual.ensures.1 in
+    let sure = ap (λ (b : Backed). b.sure) c.put_area.ensures.backing ∙ c.requires.hand.sure in
+    done_unsaved _ _ _ c.args.area.now from to fault
+    (saved_as put c.args.state.now c.args.area.now from to (Err fault) c.put_area.ensures.backing c.put_area.ensures.table
+    (record {
+      now = c.save_always.new.self.backing.used;
+      runs = c.in_err-save_always.ensures.runs;
+      stored = tt;
+      fails = c.in_err-save_always.ensures.fails;
+      sure = λ is. (let unsure = c.in_err-save_always.ensures.unsure.0 (ap (λ f. Err f) is) in cc);
+      exact = λ calm. tt;
+      erases = λ calm. tt;
+    }))
+    c.from_residual.result (p.1 ∙ ap (λ e. Err e) p.2)
 
-pub save_on-requires-clause-unkeyed : goal.save_on-requires-clause-unkeyed
-save_on-requires-clause-unkeyed g c = ap (λ (k : Keyed). k.layout.format) c.in_ok-state.ensures.keyed ∙ c.requires.unkeyed
-
-pub save_on-requires-clause-on : goal.save_on-requires-clause-on
-save_on-requires-clause-on g c =
-    c.in_ok-state.ensures.fresh (g.F.Flash.device c.args.flash.now)
-    (sym c.requires.geometry ∙ ap (λ (k : Keyed). k.layout.geometry) (sym c.in_ok-state.ensures.keyed)) c.requires.whole
-
-pub returns-clause-gives : goal.returns-clause-gives
-returns-clause-gives g c =
-    subst
-    (λ (k : Keyed). IsWorkedOut k (Write c.args.area.now) (g.F.Flash.device c.args.flash.now)
-    (g.F.Flash.device c.save_on.new.flash) c.save_on.result)
-    c.in_ok-state.ensures.keyed c.save_on.ensures.gives
-
-pub returns-clause-tellable : goal.returns-clause-tellable
-returns-clause-tellable g c =
-    tellable_of _ (Write c.args.area.now) (g.F.Flash.device c.args.flash.now) (g.F.Flash.device c.save_on.new.flash)
-    c.save_on.result
-    (subst (λ (k : Keyed). k.layout.copies ≤ 3) (sym c.in_ok-state.ensures.keyed) c.args.layout.facts.copied.most)
-    c.save_on.ensures.gives
+pub returns-clause-did : goal.returns-clause-did
+returns-clause-did g c =
+    let from = g.F.Flash.device c.args.flash.now in
+    let to = g.F.Flash.device c.save_always.new.flash in
+    let put = c.put_area.new.state in
+    done_saved _ _ c.args.state.now.table c.args.area.now from to
+    (saved_as put c.args.state.now c.args.area.now from to (Ok false) c.put_area.ensures.backing c.put_area.ensures.table
+    (record {
+      now = c.save_always.new.self.backing.used;
+      runs = c.in_ok-save_always.ensures.runs;
+      stored = c.in_ok-save_always.ensures.saved;
+      fails = tt;
+      sure = tt;
+      exact = c.in_ok-save_always.ensures.exact;
+      erases = c.in_ok-save_always.ensures.erases;
+    }))
+    (Ok c.done.result) (ap (λ r. Ok r) c.done.ensures ∙ ap (λ (t : List ℕ). Ok (told_whole t)) c.none.ensures)

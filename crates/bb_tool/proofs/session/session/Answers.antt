@@ -40,10 +40,10 @@ returns-clause-gives g c =
     let words = c.args.words.now in
     let before = g.N.Files.folder c.args.files.now in
     let after = g.N.Files.folder c.plan_session.new.files in
-    planned_worked words before after (g.B.Flash.device c.args.board.now) (g.B.Flash.device c.work.new.board) c.in_ok-plan.plan
+    planned_worked words before after (g.B.Flash.device c.args.board.now) (g.B.Flash.device c.do_work.new.board) c.in_ok-plan.plan
     (subst (λ (d : Geometry). IsReadAs (plan_reading words d) plan_as before after (Ok c.in_ok-plan.plan)) c.geometry.ensures.value
     c.in_ok-plan.ensures.read)
-    c.work.result c.work.ensures.gives
+    c.do_work.result c.do_work.ensures.gives
 
 pub returns-clause-files : goal.returns-clause-files
 returns-clause-files g c =
