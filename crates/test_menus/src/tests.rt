@@ -1,0 +1,6 @@
+mod faults;
+mod folders;
+mod made;
+mod order;
+mod published;
+mod rig;
