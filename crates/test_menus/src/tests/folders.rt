@@ -27,42 +27,12 @@ fn files_of(alloc: Global, rows: &[FileRow]) -> Result<MemFiles, Fail> {
 // The worked folder: five entries, one of which has a sort key, and a file with another ending.
 fn worked_folder() -> &'static [FileRow] {
     &[
-        (
-            "m/a.conf",
-            "title Board\nlinux /zImage\noptions rw\n",
-            ' ',
-            0,
-        ),
-        (
-            "m/b-1.2.conf",
-            "title Board\nlinux /zImage\noptions rw\n",
-            ' ',
-            0,
-        ),
-        (
-            "m/b-1.10.conf",
-            "title Board\nlinux /zImage\noptions rw\n",
-            ' ',
-            0,
-        ),
-        (
-            "m/b-1.2~rc.conf",
-            "title Board\nlinux /zImage\noptions rw\n",
-            ' ',
-            0,
-        ),
-        (
-            "m/z.conf",
-            "title Board\nlinux /zImage\noptions rw\nsort-key m\n",
-            ' ',
-            0,
-        ),
-        (
-            "m/x.txt",
-            "title Board\nlinux /zImage\noptions rw\n",
-            ' ',
-            0,
-        ),
+        ("m/a.conf", "title Board\nlinux /z", ' ', 0),
+        ("m/b-1.2.conf", "title Board\nlinux /z", ' ', 0),
+        ("m/b-1.10.conf", "title Board\nlinux /z", ' ', 0),
+        ("m/b-1.2~rc.conf", "title Board\nlinux /z", ' ', 0),
+        ("m/z.conf", "title Board\nlinux /z\nsort-key m", ' ', 0),
+        ("m/x.txt", "title Board\nlinux /z", ' ', 0),
         ("m2/f.conf", "linux /z", ' ', 0),
     ]
 }
@@ -191,7 +161,7 @@ fn the_first_entry(rt: HostRuntime) -> Result<(), Fail> {
     let first = menu.entry(0).ok_or("an entry")?;
     assert_eq!(rt; first.title.as_str(), "Board");
     assert_eq!(rt; first.sort_key.as_str(), "m");
-    assert_eq!(rt; first.options.as_str(), "rw");
+    assert_eq!(rt; first.linux.as_str(), "/z");
     Ok(())
 }
 
@@ -238,73 +208,5 @@ fn bytes_that_are_no_text(rt: HostRuntime) -> Result<(), Fail> {
     files.add("m/b.conf", b"linux /z\n")?;
     let menu = read_menu(rt.alloc(), "m", &mut files)?;
     stands(&rt, &menu, &["b.conf"]);
-    Ok(())
-}
-
-fn names_of_255_bytes() -> &'static [FileRow] {
-    &[
-        (
-            "m/aaaaaaaaaaaaaaaaaaaaaaaaaaaaaaaaaaaaaaaaaaaaaaaaaaaaaaaaaaaaaaaaaaaaaa\
-             aaaaaaaaaaaaaaaaaaaaaaaaaaaaaaaaaaaaaaaaaaaaaaaaaaaaaaaaaaaaaaaaaaaaaa\
-             aaaaaaaaaaaaaaaaaaaaaaaaaaaaaaaaaaaaaaaaaaaaaaaaaaaaaaaaaaaaaaaaaaaaaa\
-             aaaaaaaaaaaaaaaaaaaaaaaaaaaaaaaaaaaaaaab.conf",
-            "linux /z",
-            ' ',
-            0,
-        ),
-        (
-            "m/aaaaaaaaaaaaaaaaaaaaaaaaaaaaaaaaaaaaaaaaaaaaaaaaaaaaaaaaaaaaaaaaaaaaaa\
-             aaaaaaaaaaaaaaaaaaaaaaaaaaaaaaaaaaaaaaaaaaaaaaaaaaaaaaaaaaaaaaaaaaaaaa\
-             aaaaaaaaaaaaaaaaaaaaaaaaaaaaaaaaaaaaaaaaaaaaaaaaaaaaaaaaaaaaaaaaaaaaaa\
-             aaaaaaaaaaaaaaaaaaaaaaaaaaaaaaaaaaaaaaac.conf",
-            "linux /z",
-            ' ',
-            0,
-        ),
-    ]
-}
-
-// Of two names of 255 bytes that differ in the last letter alone the greater stands in front.
-#[test]
-fn long_names(rt: HostRuntime) -> Result<(), Fail> {
-    let mut files = files_of(rt.alloc(), names_of_255_bytes())?;
-    let menu = read_menu(rt.alloc(), "m", &mut files)?;
-    let first = menu.name(0).ok_or("a name")?;
-    assert_eq!(rt; first.as_str().len(), 255);
-    assert!(rt; first.as_str().ends_with("ac.conf"));
-    assert_eq!(rt; menu.len(), 2);
-    Ok(())
-}
-
-fn many_files(alloc: Global) -> Result<MemFiles, Fail> {
-    let mut files = MemFiles::none(alloc);
-    for number in 0..1000 {
-        let path = format!(in alloc; "m/b-{number}.conf")?;
-        files.add(path.as_str(), b"linux /z\n")?;
-    }
-    Ok(files)
-}
-
-fn is_numbered(rt: &impl Abort, alloc: Global, name: &str, number: usize) -> Result<(), Fail> {
-    let wanted = format!(in alloc; "b-{number}.conf")?;
-    assert_eq!(rt; name, wanted.as_str());
-    Ok(())
-}
-
-// A thousand entries, the greatest of which stands in front, and the others as they fall.
-#[test]
-fn a_thousand_entries(rt: HostRuntime) -> Result<(), Fail> {
-    let mut files = many_files(rt.alloc())?;
-    let menu = read_menu(rt.alloc(), "m", &mut files)?;
-    assert_eq!(rt; menu.len(), 1000);
-    for place in 0..1000usize {
-        let name = menu.name(place).ok_or("a name")?;
-        is_numbered(
-            &rt,
-            rt.alloc(),
-            name.as_str(),
-            999usize.saturating_sub(place),
-        )?;
-    }
     Ok(())
 }
