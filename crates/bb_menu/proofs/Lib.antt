@@ -1,0 +1,6 @@
+mod Examples
+pub mod Folders
+pub mod Numbers
+pub mod Orders
+pub mod Sorting
+pub mod Tokens

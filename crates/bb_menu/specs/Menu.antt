@@ -1,0 +1,92 @@
+-- The menu of a folder: which of its files are read, which of these are entries, and in which order
+-- they stand.
+use Rattle.std.specs.Prelude.{◌≡◌, ℕ, ◌+◌, ◌<◌, ⊤, Bool, true, false, IsTrue, List, [], ◌∷◌, ◌++◌, All, filter, filter_map, length, option_map, Option, Some, None, Result, Ok, Err, if◌then◌else◌}
+use Rattle.std.specs.List.{AllAdjacentBelow}
+use Rattle.std.specs.List.Sorted.{IsPermutation}
+use Rattle.std.specs.Option.{option_and_then}
+use Rattle.std.specs.Path.{slash}
+use Rattle.std.specs.Result.{result_ok}
+use Rattle.bb_base.specs.Folder.{FileMap, file_of, has_folder, names_in}
+use Rattle.bb_base.specs.declared.files.FileFail.{FileFail}
+use Rattle.bb_base.specs.declared.files.FileFail.TheVariants as file_fails
+use Rattle.bb_bls.specs.Entry.{entry_of}
+use Rattle.bb_menu.specs.Order.{MenuBefore, is_menu_name, named_entry}
+use Rattle.bb_menu.specs.declared.fault.MenuFault.{MenuFault}
+use Rattle.bb_menu.specs.declared.fault.MenuFault.TheVariants.{NoFolder, FileFault, FileTooLong, NoMemory}
+use Rattle.bb_menu.specs.declared.item.MenuItem.{MenuItem}
+
+-- ---- one file
+
+-- under which name a file of a folder is read
+abbrev pub path_in_folder : List ℕ → List ℕ → List ℕ
+path_in_folder dir name = dir ++ slash ∷ name
+
+-- the item of a file by its text: none where there is no text, or where that is no entry
+abbrev pub item_of_text : List ℕ → Option (List ℕ) → Option MenuItem
+item_of_text name text =
+    option_map (named_entry name) (option_and_then (λ bytes. result_ok (entry_of bytes)) text)
+
+-- the same by what reading the file gave, or why there is no menu
+abbrev pub item_by : List ℕ → Result (Option (List ℕ)) FileFail → Result (Option MenuItem) MenuFault
+item_by name (Ok text) = Ok (item_of_text name text)
+item_by name (Err file_fails.Fault) = Err FileFault
+item_by name (Err file_fails.TooLong) = Err FileTooLong
+item_by name (Err file_fails.NoMemory) = Err NoMemory
+
+-- ---- all files
+
+-- in front of other items. What is no menu stays none
+abbrev pub item_onto :
+    Result (Option MenuItem) MenuFault → Result (List MenuItem) MenuFault → Result (List MenuItem) MenuFault
+item_onto (Ok (Some item)) (Ok items) = Ok (item ∷ items)
+item_onto (Ok (Some item)) (Err fault) = Err fault
+item_onto (Ok None) items = items
+item_onto (Err fault) items = Err fault
+
+-- the items of the files with these names in a folder; the first that can't be read decides
+abbrev pub items_in : FileMap → List ℕ → List (List ℕ) → Result (List MenuItem) MenuFault
+items_in files dir [] = Ok []
+items_in files dir (name ∷ names) =
+    item_onto (item_by name (file_of files (path_in_folder dir name))) (items_in files dir names)
+
+-- the items of a folder's menu, in the order of their names, or why there is no menu
+abbrev pub items_of_folder : FileMap → List ℕ → Result (List MenuItem) MenuFault
+items_of_folder files dir =
+    if has_folder files dir
+    then items_in files dir (filter is_menu_name (names_in files dir))
+    else Err NoFolder
+
+-- ---- the menu
+
+-- each of the items that were found stands in the menu once and nothing else does, and each stands
+-- in front of the next
+pub record IsMenuOf (found menu : List MenuItem) : Type 0 where
+  pub each_once : IsPermutation found menu
+  pub ordered : AllAdjacentBelow MenuBefore menu (length menu)
+
+-- none stands in front of the one before it
+abbrev pub IsArranged : List MenuItem → Type 0
+IsArranged menu = AllAdjacentBelow (λ item next. ¬ MenuBefore next item) menu (length menu)
+
+-- the name of a file that was read, and its text, if there is such a file
+abbrev pub FileRead : Type 0
+FileRead = List ℕ × Option (List ℕ)
+
+-- the items of what was read
+abbrev pub items_read : List FileRead → List MenuItem
+items_read reads = filter_map (λ r. item_of_text r.0 r.1) reads
+
+-- Whatever the files are, a menu has what was read, each under a name that a menu takes in.
+pub record IsMenuRead (menu : List MenuItem) : Type 0 where
+  pub reads : List FileRead
+  pub named : All (λ r. IsTrue (is_menu_name r.0)) reads
+  pub each_once : IsPermutation (items_read reads) menu
+  pub arranged : IsArranged menu
+
+-- the answer says that a call of the files met a fault
+abbrev pub is_menu_fault : {X : Type 0} → Result X MenuFault → Bool
+is_menu_fault (Ok menu) = false
+is_menu_fault (Err NoFolder) = false
+is_menu_fault (Err FileFault) = true
+is_menu_fault (Err FileTooLong) = false
+is_menu_fault (Err NoMemory) = false

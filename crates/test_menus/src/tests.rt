@@ -1,0 +1,7 @@
+mod faults;
+mod folders;
+mod made;
+mod many;
+mod order;
+mod published;
+mod rig;

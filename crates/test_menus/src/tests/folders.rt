@@ -1,0 +1,212 @@
+// The menus of folders in memory.
+use super::rig::stands;
+use bb_base::MemFiles;
+use bb_menu::{MenuFault, read_menu};
+use std::alloc::Global;
+use std::process::Abort;
+use std::test::Fail;
+
+// A file: its name, the front of its text, and as many of a character after it.
+type FileRow = (&'static str, &'static str, char, usize);
+
+// Files, the folder that is asked for, and the names of its menu in their order.
+type MenuRow = (&'static [FileRow], &'static str, &'static [&'static str]);
+
+fn files_of(alloc: Global, rows: &[FileRow]) -> Result<MemFiles, Fail> {
+    let mut files = MemFiles::none(alloc);
+    for (name, front, character, count) in rows {
+        let mut text = String::from_str(alloc, front)?;
+        for _ in 0..*count {
+            text.push(*character)?;
+        }
+        files.add(name, text.as_str().as_bytes())?;
+    }
+    Ok(files)
+}
+
+// The worked folder: five entries, one of which has a sort key, and a file with another ending.
+fn worked_folder() -> &'static [FileRow] {
+    &[
+        ("m/a.conf", "title Board\nlinux /z", ' ', 0),
+        ("m/b-1.2.conf", "title Board\nlinux /z", ' ', 0),
+        ("m/b-1.10.conf", "title Board\nlinux /z", ' ', 0),
+        ("m/b-1.2~rc.conf", "title Board\nlinux /z", ' ', 0),
+        ("m/z.conf", "title Board\nlinux /z\nsort-key m", ' ', 0),
+        ("m/x.txt", "title Board\nlinux /z", ' ', 0),
+        ("m2/f.conf", "linux /z", ' ', 0),
+    ]
+}
+
+// A folder in which no file is taken, and one deeper.
+fn without_entries() -> &'static [FileRow] {
+    &[
+        ("m/deep/a.conf", "linux /z", ' ', 0),
+        ("m/a.txt", "linux /z", ' ', 0),
+        ("m/.conf", "linux /z", ' ', 0),
+        ("m/a.CONF", "linux /z", ' ', 0),
+        ("m/conf", "linux /z", ' ', 0),
+        ("m/b.conf", "title Board", ' ', 0),
+        ("m/c.conf", "", ' ', 0),
+    ]
+}
+
+// Names with blanks and line ends, and names that begin with a `/`.
+fn odd_names() -> &'static [FileRow] {
+    &[
+        ("m/a b.conf", "linux /z", ' ', 0),
+        ("m/a\nb.conf", "linux /z", ' ', 0),
+        ("m/..conf", "linux /z", ' ', 0),
+        ("/a.conf", "linux /z", ' ', 0),
+    ]
+}
+
+// Entries of 65,536 bytes, of one more and of 1,048,576 bytes, and a longer file that none takes.
+fn long_files() -> &'static [FileRow] {
+    &[
+        ("m/a.conf", "linux /z\n", '#', 65_527),
+        ("m/b.conf", "linux /z\n", '#', 65_528),
+        ("m/c.conf", "linux /z\n", '#', 1_048_567),
+        ("m/d.txt", "linux /z\n", '#', 1_048_568),
+    ]
+}
+
+// Versions of 65,000 digits: c has a zero more and the same number as b, and a has a greater one.
+fn long_versions() -> &'static [FileRow] {
+    &[
+        ("m/b.conf", "linux /z\nsort-key s\nversion ", '1', 65_000),
+        ("m/c.conf", "linux /z\nsort-key s\nversion 0", '1', 65_000),
+        ("m/a.conf", "linux /z\nsort-key s\nversion 2", '1', 64_999),
+        ("m/d.conf", "linux /z\nsort-key s\nversion ", '.', 65_000),
+        ("m/e.conf", "linux /z\nsort-key s\n", ' ', 0),
+    ]
+}
+
+// Machines and versions beside a sort key, and without one.
+fn sorted() -> &'static [FileRow] {
+    &[
+        (
+            "m/a.conf",
+            "linux /z\nsort-key s\nmachine-id 2\nversion 9\n",
+            ' ',
+            0,
+        ),
+        (
+            "m/b.conf",
+            "linux /z\nsort-key s\nmachine-id 1\nversion 1\n",
+            ' ',
+            0,
+        ),
+        (
+            "m/c.conf",
+            "linux /z\nsort-key r\nmachine-id 9\nversion 0\n",
+            ' ',
+            0,
+        ),
+        ("m/d.conf", "linux /z\nmachine-id 1\nversion 99\n", ' ', 0),
+        (
+            "m/e.conf",
+            "linux /z\nsort-key s\nmachine-id 1\nversion 2\n",
+            ' ',
+            0,
+        ),
+    ]
+}
+
+fn menus() -> [MenuRow; 8] {
+    [
+        (
+            worked_folder(),
+            "m",
+            &[
+                "z.conf",
+                "b-1.10.conf",
+                "b-1.2.conf",
+                "b-1.2~rc.conf",
+                "a.conf",
+            ],
+        ),
+        (worked_folder(), "m2", &["f.conf"]),
+        (without_entries(), "m", &[]),
+        (odd_names(), "m", &["a\nb.conf", "a b.conf", "..conf"]),
+        (odd_names(), "", &["a.conf"]),
+        (long_files(), "m", &["a.conf"]),
+        (
+            long_versions(),
+            "m",
+            &["a.conf", "c.conf", "b.conf", "d.conf", "e.conf"],
+        ),
+        (
+            sorted(),
+            "m",
+            &["c.conf", "e.conf", "b.conf", "a.conf", "d.conf"],
+        ),
+    ]
+}
+
+#[test]
+fn menus_of_folders(rt: HostRuntime) -> Result<(), Fail> {
+    for (rows, dir, wanted) in menus() {
+        let mut files = files_of(rt.alloc(), rows)?;
+        let menu = read_menu(rt.alloc(), dir, &mut files)?;
+        stands(&rt, &menu, wanted);
+    }
+    Ok(())
+}
+
+// What an entry has in a menu is what its file says.
+#[test]
+fn the_first_entry(rt: HostRuntime) -> Result<(), Fail> {
+    let mut files = files_of(rt.alloc(), worked_folder())?;
+    let menu = read_menu(rt.alloc(), "m", &mut files)?;
+    let first = menu.entry(0).ok_or("an entry")?;
+    assert_eq!(rt; first.title.as_str(), "Board");
+    assert_eq!(rt; first.sort_key.as_str(), "m");
+    assert_eq!(rt; first.linux.as_str(), "/z");
+    Ok(())
+}
+
+// A file of 1,048,577 bytes that a menu takes in.
+fn too_long() -> &'static [FileRow] {
+    &[
+        ("m/a.conf", "linux /z", ' ', 0),
+        ("m/b.conf", "linux /z\n", '#', 1_048_568),
+    ]
+}
+
+// Folders without a menu. A file is no folder, and neither is the front of a folder's name.
+fn refused() -> [(&'static [FileRow], &'static str, MenuFault); 4] {
+    [
+        (worked_folder(), "none", MenuFault::NoFolder),
+        (worked_folder(), "m/a.conf", MenuFault::NoFolder),
+        (worked_folder(), "m2/f", MenuFault::NoFolder),
+        (too_long(), "m", MenuFault::FileTooLong),
+    ]
+}
+
+fn refuses(rt: &impl Abort, alloc: Global, files: &mut MemFiles, dir: &str, wanted: MenuFault) {
+    assert_eq!(rt;
+        read_menu(alloc, dir, files).err(),
+        Some(wanted),
+        "at {dir:?}"
+    );
+}
+
+#[test]
+fn folders_without_a_menu(rt: HostRuntime) -> Result<(), Fail> {
+    for (rows, dir, wanted) in refused() {
+        let mut files = files_of(rt.alloc(), rows)?;
+        refuses(&rt, rt.alloc(), &mut files, dir, wanted);
+    }
+    Ok(())
+}
+
+// A text that isn't UTF-8 is no entry.
+#[test]
+fn bytes_that_are_no_text(rt: HostRuntime) -> Result<(), Fail> {
+    let mut files = MemFiles::none(rt.alloc());
+    files.add("m/a.conf", b"linux /\xff\n")?;
+    files.add("m/b.conf", b"linux /z\n")?;
+    let menu = read_menu(rt.alloc(), "m", &mut files)?;
+    stands(&rt, &menu, &["b.conf"]);
+    Ok(())
+}

@@ -1,0 +1,68 @@
+// Folders of many entries, and entries with long names.
+use bb_base::MemFiles;
+use bb_menu::read_menu;
+use std::alloc::Global;
+use std::process::Abort;
+use std::test::Fail;
+
+// Two names of 255 bytes that differ in the last letter alone.
+fn names_of_255_bytes() -> [&'static str; 2] {
+    [
+        "m/aaaaaaaaaaaaaaaaaaaaaaaaaaaaaaaaaaaaaaaaaaaaaaaaaaaaaaaaaaaaaaaaaaaaaa\
+         aaaaaaaaaaaaaaaaaaaaaaaaaaaaaaaaaaaaaaaaaaaaaaaaaaaaaaaaaaaaaaaaaaaaaa\
+         aaaaaaaaaaaaaaaaaaaaaaaaaaaaaaaaaaaaaaaaaaaaaaaaaaaaaaaaaaaaaaaaaaaaaa\
+         aaaaaaaaaaaaaaaaaaaaaaaaaaaaaaaaaaaaaaab.conf",
+        "m/aaaaaaaaaaaaaaaaaaaaaaaaaaaaaaaaaaaaaaaaaaaaaaaaaaaaaaaaaaaaaaaaaaaaaa\
+         aaaaaaaaaaaaaaaaaaaaaaaaaaaaaaaaaaaaaaaaaaaaaaaaaaaaaaaaaaaaaaaaaaaaaa\
+         aaaaaaaaaaaaaaaaaaaaaaaaaaaaaaaaaaaaaaaaaaaaaaaaaaaaaaaaaaaaaaaaaaaaaa\
+         aaaaaaaaaaaaaaaaaaaaaaaaaaaaaaaaaaaaaaac.conf",
+    ]
+}
+
+// The greater of two long names stands in front.
+#[test]
+fn long_names(rt: HostRuntime) -> Result<(), Fail> {
+    let mut files = MemFiles::none(rt.alloc());
+    for name in names_of_255_bytes() {
+        files.add(name, b"linux /z\n")?;
+    }
+    let menu = read_menu(rt.alloc(), "m", &mut files)?;
+    let first = menu.name(0).ok_or("a name")?;
+    assert_eq!(rt; first.as_str().len(), 255);
+    assert!(rt; first.as_str().ends_with("ac.conf"));
+    assert_eq!(rt; menu.len(), 2);
+    Ok(())
+}
+
+fn many_files(alloc: Global) -> Result<MemFiles, Fail> {
+    let mut files = MemFiles::none(alloc);
+    for number in 0..1000 {
+        let path = format!(in alloc; "m/b-{number}.conf")?;
+        files.add(path.as_str(), b"linux /z\n")?;
+    }
+    Ok(files)
+}
+
+fn is_numbered(rt: &impl Abort, alloc: Global, name: &str, number: usize) -> Result<(), Fail> {
+    let wanted = format!(in alloc; "b-{number}.conf")?;
+    assert_eq!(rt; name, wanted.as_str());
+    Ok(())
+}
+
+// A thousand entries, the greatest of which stands in front, and the others as they fall.
+#[test]
+fn a_thousand_entries(rt: HostRuntime) -> Result<(), Fail> {
+    let mut files = many_files(rt.alloc())?;
+    let menu = read_menu(rt.alloc(), "m", &mut files)?;
+    assert_eq!(rt; menu.len(), 1000);
+    for place in 0..1000usize {
+        let name = menu.name(place).ok_or("a name")?;
+        is_numbered(
+            &rt,
+            rt.alloc(),
+            name.as_str(),
+            999usize.saturating_sub(place),
+        )?;
+    }
+    Ok(())
+}

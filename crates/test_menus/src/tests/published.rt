@@ -1,0 +1,107 @@
+// The comparisons that the Version Format Specification (UAPI.10) publishes.
+use super::rig::entry;
+use bb_menu::before;
+use std::alloc::Global;
+use std::process::Abort;
+use std::test::Fail;
+
+// The versions as they rise.
+fn rising() -> [(&'static str, &'static str); 25] {
+    [
+        ("bar-123", "foo-123"),
+        ("123", "123a"),
+        ("123", "123.a"),
+        ("123.a", "123.b"),
+        ("123.a", "123a"),
+        ("B", "a"),
+        ("", "0"),
+        ("0", "0."),
+        ("0", "0.0"),
+        ("~", "0"),
+        ("~", ""),
+        ("1_", "1.2"),
+        ("1.3.3", "1_2_3"),
+        ("1+", "1.2"),
+        ("1.3.3", "1+2+3"),
+        ("122.1", "123~rc1-1"),
+        ("123~rc1-1", "123"),
+        ("123", "123-a"),
+        ("123-a", "123-a.1"),
+        ("123-a.1", "123-1"),
+        ("123-1", "123-1.1"),
+        ("123-1.1", "123^post1"),
+        ("123^post1", "123.a-1"),
+        ("123.1-1", "123a-1"),
+        ("123a-1", "124-1"),
+    ]
+}
+
+// Versions that are equal.
+fn equal() -> [(&'static str, &'static str); 8] {
+    [
+        ("11", "11"),
+        ("systemd-123", "systemd-123"),
+        ("11\u{3b1}", "11\u{3b2}"),
+        ("1_", "1"),
+        ("_1", "1"),
+        ("1+", "1"),
+        ("+1", "1"),
+        ("01", "1"),
+    ]
+}
+
+// Whether the first version is the greater, and so stands in front.
+fn is_greater(alloc: Global, version: &str, other: &str) -> Result<bool, Fail> {
+    let a = entry(alloc, "s", "", version)?;
+    let b = entry(alloc, "s", "", other)?;
+    Ok(before(&a, "n.conf", &b, "n.conf"))
+}
+
+fn compares(rt: &impl Abort, alloc: Global, less: &str, more: &str) -> Result<(), Fail> {
+    assert!(rt;
+        is_greater(alloc, more, less)?,
+        "{more:?} is no greater than {less:?}"
+    );
+    assert!(rt;
+        !is_greater(alloc, less, more)?,
+        "{less:?} is greater than {more:?}"
+    );
+    Ok(())
+}
+
+fn ties(rt: &impl Abort, alloc: Global, version: &str, other: &str) -> Result<(), Fail> {
+    assert!(rt;
+        !is_greater(alloc, version, other)?,
+        "{version:?} is greater than {other:?}"
+    );
+    assert!(rt;
+        !is_greater(alloc, other, version)?,
+        "{other:?} is greater than {version:?}"
+    );
+    Ok(())
+}
+
+#[test]
+fn versions_that_rise(rt: HostRuntime) -> Result<(), Fail> {
+    for (less, more) in rising() {
+        compares(&rt, rt.alloc(), less, more)?;
+    }
+    Ok(())
+}
+
+#[test]
+fn versions_that_are_equal(rt: HostRuntime) -> Result<(), Fail> {
+    for (version, other) in equal() {
+        ties(&rt, rt.alloc(), version, other)?;
+    }
+    Ok(())
+}
+
+// Where marks follow one another this project's rule is that of its documents.
+#[test]
+fn marks_one_after_another(rt: HostRuntime) -> Result<(), Fail> {
+    compares(&rt, rt.alloc(), "a^-", "a^.~")?;
+    compares(&rt, rt.alloc(), "a^", "a^..")?;
+    compares(&rt, rt.alloc(), "a-~", "a-")?;
+    ties(&rt, rt.alloc(), "~_", "~")
+}
