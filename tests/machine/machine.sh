@@ -74,23 +74,20 @@ lose_power() {
 }
 
 # a_life MOMENT FOLDER WORD ..: from the switching on of power to its loss, which comes in the first stage's boot, or in
-# the work of the system that it has started.
+# the work of the system that it has started. A machine that doesn't come so far is wrong.
 a_life() {
-  local moment=$1
+  local awaited='first stage: boot, *' within=$((2 * boot_time))
+  [ "$1" = boot ] || awaited='work: table *' within=$((30 * save_time))
   shift
   power_on "$@"
-  if [ "$moment" = boot ]; then
-    listen 300000 'first stage: boot, *' && listen $((1 + RANDOM % (2 * boot_time)))
-  else
-    listen 600000 'work: table *' && listen $((1 + RANDOM % (30 * save_time)))
-  fi
+  if hears 300000 "$awaited"; then listen $((1 + RANDOM % within)); else is_wrong "the machine hasn't come so far"; fi
   [ -z "$ended" ] || is_wrong "the machine has ended by itself"
   lose_power
 }
 
-# hears MILLISECONDS LINE: whether this is said in time.
+# hears MILLISECONDS LINE: whether this is said in time. Emulation is given ten times as long.
 hears() {
-  listen "$1" "$2" || { echo "  this isn't said: $2"; tail -n 5 "$log" | sed 's/^/    /'; return 1; }
+  listen $(($1${emulate:+ * 10})) "$2" || { echo "  this isn't said: $2"; tail -n 5 "$log" | sed 's/^/    /'; return 1; }
 }
 
 # Whether a guest boots on /dev/kvm: a kernel whose /init says a line.
