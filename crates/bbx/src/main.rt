@@ -53,6 +53,9 @@ fn texts() -> EarlyTexts<'static> {
 fn answer<W: Write>(rt: &HostRuntime, line: &CommandLine, out: &mut Out<W>) -> Status {
     let mut begun = begin(rt, line);
     let mut files = RealFiles::new(rt);
+    if line.options.explain {
+        out.keep_line();
+    }
     let status = act(
         rt.alloc(),
         &line.words,

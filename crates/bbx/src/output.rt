@@ -1,4 +1,4 @@
-ghost use Rattle.std.specs.Prelude.{None};
+ghost use Rattle.std.specs.Prelude.{◌≡◌, None};
 
 use bb_base::{Bytes, Failed, Sink};
 use std::alloc::Global;
@@ -11,7 +11,9 @@ pub struct Out<W: Write> {
     writer: W,
     faults: u64,
     error: Option<io::Error>,
-    // The last line that was sent, as far as memory was found for it.
+    // Whether a fault line that is sent is kept.
+    keeps_line: bool,
+    // The fault line that was sent last while it was, as far as memory was found for it.
     line: Bytes,
 }
 
@@ -21,8 +23,17 @@ impl<W: Write> Out<W> {
             writer,
             faults: 0,
             error: None,
+            keeps_line: false,
             line: Bytes::none(alloc),
         }
+    }
+
+    /// From now on the fault line that is sent is kept for `fault_words`. Without it no text is
+    /// looked through.
+    pub fn keep_line(&mut self)
+        ensures { self.new.faults ≡ self.old.faults }
+    {
+        self.keeps_line = true;
     }
 
     /// The system's error at the write that failed last.
@@ -32,7 +43,7 @@ impl<W: Write> Out<W> {
 }
 
 impl<W: Write> Out<W> {
-    /// What stands after the third word of the fault line that was sent, if one was.
+    /// What stands after the third word of the fault line that was kept, if one was.
     pub fn fault_words(&self) -> &str {
         let line = str::from_utf8(self.line.as_slice()).unwrap_or("");
         line.splitn(4, ' ').nth(3).unwrap_or("")
@@ -48,7 +59,9 @@ impl<W: Write> Sink for Out<W> {
             self.faults = self.faults.saturating_add(1);
             return Err(Failed);
         }
-        keep_fault(&mut self.line, last_line(piece));
+        if self.keeps_line {
+            keep_fault(&mut self.line, last_line(piece));
+        }
         Ok(())
     }
 }
