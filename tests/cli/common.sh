@@ -1,6 +1,6 @@
 # shellcheck shell=bash
-# What devices, faults, starts and pairs share: the program, a folder to work in, and checks that
-# are counted.
+# What devices, faults, starts, pairs and memory share: the program, a folder to work in, and checks
+# that are counted.
 #
 # A check is a function that says what is wrong and is silent where nothing is. Each has one line of
 # output, and what cannot be tried on this machine has one that says so. The last line is `N passed,
@@ -44,13 +44,13 @@ finish() {
 }
 
 # expect STATUS TEXT WORD ..: runs the program with these words, and says where status or text are
-# others. It has 20 seconds. What stands in the array `under` runs it, and `sentence` is the line
-# that standard error has, if any.
-under=() sentence=''
+# others. It has 20 seconds, or as many as `seconds` says. What stands in the array `under` runs it,
+# and `sentence` is the line that standard error has, if any.
+under=() sentence='' seconds=20
 expect() {
   local wanted=$1 text=$2 status
   shift 2
-  timeout -k 5 20 "${under[@]}" "${program[@]}" "$@" >text 2>errors
+  timeout -k 5 "$seconds" "${under[@]}" "${program[@]}" "$@" >text 2>errors
   status=$?
   [ "$status" = "$wanted" ] || echo "  status $status, not $wanted"
   printf '%s' "$text" | cmp -s - text || { echo "  printed:"; sed 's/^/    /' text; }
