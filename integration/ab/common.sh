@@ -32,7 +32,8 @@ name_partitions() {
   done
 }
 
-# wait_for PATH: whether it is there, within ten seconds. Disks are found some time after their driver was loaded.
+# wait_for PATH: whether it is there, within ten seconds. Disks are found some time after their
+# driver was loaded.
 wait_for() {
   local left=100
   name_partitions
@@ -44,7 +45,7 @@ wait_for() {
   done
 }
 
-# The device behind the root= of a kernel's options.
+# The device that root= names in a kernel's options.
 root_of() {
   local word
   for word in $1; do

@@ -11,7 +11,7 @@ set -u
 work=$(cd "$(mktemp -d)" && pwd -P) || exit 1
 trap 'clear_up' EXIT
 
-# The record of the area `123456789` with the magic 0x12345678, behind its stride's front, as
+# The record of the area `123456789` with the magic 0x12345678, after its stride's front, as
 # docs/FORMATS.md has it.
 record='\xf3\xfd\x54\x23\x19\0\0\0\x78\x56\x34\x12\0\0\x09\0\x26\x39\xf4\xcb\x03\x2e\x3c\xdf123456789'
 # shellcheck disable=SC2034

@@ -1,5 +1,6 @@
-# The application that kills bbx on an EEPROM, in a machine that goes on running, until as many of its sessions were ended
-# by SIGKILL as are handed over. What is lost is the process alone, so this is no loss of power.
+# The application that kills bbx on an EEPROM, in a machine that goes on running, until as many of
+# its sessions were ended by SIGKILL as are handed over. What is lost is the process alone, so this
+# is no loss of power.
 handed=/sys/firmware/qemu_fw_cfg/by_name/opt
 while read -r module options; do
   modprobe "$module" $options
@@ -39,8 +40,9 @@ session() {
   exec bbx --plan=/run/bbx.plan "$device" "$geometry" "$@" -i board.dts >said
 }
 
-# killed WORD ..: a session that gets SIGKILL after a time up to `most`, in microseconds, if it hasn't ended before. Where
-# it has, the next one is given less time, and else more, so that half of them are killed.
+# killed WORD ..: a session that gets SIGKILL after a time up to `most`, in microseconds, if it
+# hasn't ended before. Where it has, the next one is given less time, and else more, so that half of
+# them are killed.
 most=100000
 killed() {
   session "$@" &

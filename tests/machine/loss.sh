@@ -1,6 +1,6 @@
-# The application of a machine that loses power: it saves values one after another, and says of each on the console that
-# it is about to be saved, and then, once bbx has ended, that it was. It holds the device open, so that the closing of
-# the device by bbx alone brings nothing to the disk.
+# The application of a machine that loses power: it saves values one after another, and says of each
+# on the console that it is about to be saved, and then, once bbx has ended, that it was. It holds
+# the device open, so that the closing of the device by bbx alone brings nothing to the disk.
 setting() {
   sed -n "s/^$1=//p" /etc/bbx.conf
 }

@@ -1,6 +1,6 @@
 # shellcheck shell=bash
-# The machine of run: how it is made, started, heard and cut off. `root`, `work`, `kernel` and `emulate` are those of run,
-# and what the console says goes to model.sh.
+# The machine of run: how it is made, started, heard and cut off. `root`, `work`, `kernel` and
+# `emulate` are those of run, and what the console says goes to model.sh.
 
 # The emulator, and what a kernel is told so that it starts quickly there.
 machine=(qemu-system-x86_64 -accel kvm -cpu host -machine q35 -m 512 -nodefaults -display none -serial stdio)
@@ -16,8 +16,8 @@ now() {
   millis=$((millis / 1000))
 }
 
-# power_on FOLDER WORD ..: starts the machine that was made in a folder, with these words of the emulator beside its own.
-# Its console is read from `console`.
+# power_on FOLDER WORD ..: starts the machine that was made in a folder, with these words of the
+# emulator beside its own. Its console is read from `console`.
 qemu='' console='' rest='' ended='' log=/dev/null
 power_on() {
   local folder=$1 words=()
@@ -29,7 +29,8 @@ power_on() {
   qemu=$! rest='' ended=''
 }
 
-# listen MILLISECONDS [PATTERN]: hears the console for so long, or until a line is of the pattern; whether one was.
+# listen MILLISECONDS [PATTERN]: hears the console for so long, or until a line is of the pattern;
+# whether one was.
 listen() {
   local until pattern=${2:-} left piece line status
   now
@@ -73,8 +74,9 @@ lose_power() {
   power_is_lost
 }
 
-# a_life MOMENT FOLDER WORD ..: from the switching on of power to its loss, which comes in the first stage's boot, or in
-# the work of the system that it has started. A machine that doesn't come so far is wrong.
+# a_life MOMENT FOLDER WORD ..: from the switching on of power to its loss, which comes in the first
+# stage's boot, or in the work of the system that it has started. A machine that doesn't come so far
+# is wrong.
 a_life() {
   local awaited='first stage: boot, *' within=$((2 * boot_time))
   [ "$1" = boot ] || awaited='work: table *' within=$((30 * save_time))
@@ -100,7 +102,8 @@ boots_a_guest() {
     -append 'console=ttyS0 quiet panic=-1' -no-reboot </dev/null 2>&1 | grep -q 'a guest boots'
 }
 
-# make_machine NAME BBX [WORD ..]: a machine in the folder NAME of `work`, by integration/ab/make with these words.
+# make_machine NAME BBX [WORD ..]: a machine in the folder NAME of `work`, by integration/ab/make
+# with these words.
 make_machine() {
   local folder=$work/$1 bbx=$2
   shift 2
@@ -108,8 +111,9 @@ make_machine() {
     >"$work/said" 2>&1 || { cat "$work/said"; return 1; }
 }
 
-# begin_at_init FOLDER WORD ..: by emulation a machine goes on, at each start, from where its first stage begins. There
-# no disk has been looked at yet but for its partitions. What it is then is kept in FOLDER/begun.
+# begin_at_init FOLDER WORD ..: by emulation a machine goes on, at each start, from where its first
+# stage begins. There no disk has been looked at yet but for its partitions. What it is then is kept
+# in FOLDER/begun.
 begin_at_init() {
   local folder=$1 monitor
   [ -n "$emulate" ] && [ ! -e "$folder/begun" ] || return 0

@@ -1,8 +1,9 @@
 # shellcheck shell=bash
-# What a machine's state may be, from what its console has said. A table is the text `A P A P LAST COUNT`: attempts and
-# priority of system0 and of system1, the system that was chosen last, and the application's number. `may` has each table
-# that the device may hold: the last one that was acknowledged, and that of a save which was begun since. What differs
-# from that is wrong. Boots are those of integration/ab/bbx.set, whose systems have 3 attempts by default.
+# What a machine's state may be, from what its console has said. A table is the text `A P A P LAST
+# COUNT`: attempts and priority of system0 and of system1, the system that was chosen last, and the
+# application's number. `may` has each table that the device may hold: the last one that was
+# acknowledged, and that of a save which was begun since. What differs from that is wrong. Boots are
+# those of integration/ab/bbx.set, whose systems have 3 attempts by default.
 declare -A may=()
 fresh='3 20 3 10 0 0'
 known='' begun='' seen_boot='' before=() planned='' happened=''
@@ -30,8 +31,8 @@ is_wrong() {
   printf '    there may be: %s\n' "${!may[@]}"
 }
 
-# after_save SAVE TABLE: the table that a save leaves, in `table`. A boot's target and the attempts that it has left then
-# are in `target`; that is empty where no target qualifies.
+# after_save SAVE TABLE: the table that a save leaves, in `table`. A boot's target and the attempts
+# that it has left then are in `target`; that is empty where no target qualifies.
 after_save() {
   local left rank best=-1 i last count
   read -r "left[0]" "rank[0]" "left[1]" "rank[1]" last count <<<"$2"
@@ -126,7 +127,8 @@ is_done() {
   done_with
 }
 
-# count_attempt TABLE: of a boot by `work`, whether its attempt is spent in this table. A plan that is there wants it so.
+# count_attempt TABLE: of a boot by `work`, whether its attempt is spent in this table. A plan that
+# is there wants it so.
 count_attempt() {
   local old table target
   for old in "${before[@]}"; do
@@ -147,8 +149,8 @@ is_planned() {
   starts=$((starts + 1)) planned=system$(($1 - 1))
 }
 
-# power_is_lost: what was begun may have been saved or not, and nothing of it was acknowledged. A boot may have begun
-# whose line was lost, too.
+# power_is_lost: what was begun may have been saved or not, and nothing of it was acknowledged. A
+# boot may have begun whose line was lost, too.
 power_is_lost() {
   [ -z "$begun" ] || interrupted=$((interrupted + 1))
   [ -n "$seen_boot" ] || begin boot
