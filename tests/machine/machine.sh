@@ -119,9 +119,9 @@ begin_at_init() {
   [ -n "$emulate" ] && [ ! -e "$folder/begun" ] || return 0
   mkfifo "$folder/monitor.in" "$folder/monitor.out" && exec {monitor}<>"$folder/monitor.in" || return
   power_on "$@" -chardev "pipe,id=monitor,path=$folder/monitor" -mon monitor -global migration.store-global-state=off
-  listen 300000 'first stage: begins'
+  hears 300000 'first stage: begins'
   printf 'stop\nmigrate "exec:cat >%s"\nquit\n' "$folder/begun.new" >&$monitor
-  listen 60000 'first stage: boot, *' && echo "  the first stage had gone on"
+  listen 600000 'first stage: boot, *' && echo "  the first stage had gone on"
   [ -n "$ended" ] && mv "$folder/begun.new" "$folder/begun"
   kill -9 "$qemu" 2>/dev/null
   wait "$qemu" 2>/dev/null
