@@ -3,12 +3,14 @@
 # `emulate` are those of run, and what the console says goes to model.sh.
 
 # The emulator, and what a kernel is told so that it starts quickly there.
-machine=(qemu-system-x86_64 -accel kvm -cpu host -machine q35 -m 512 -nodefaults -display none -serial stdio)
-quick=''
+# `processor` is what stands for `-accel kvm -cpu host` by emulation: the program is built for
+# x86-64-v2, which QEMU's own choice isn't.
+processor=(-accel kvm -cpu host) quick=''
 if [ -n "$emulate" ]; then
-  machine=(qemu-system-x86_64 -accel tcg -machine q35 -m 512 -nodefaults -display none -serial stdio)
+  processor=(-accel tcg -cpu Nehalem)
   quick=' mitigations=off nokaslr cryptomgr.notests tsc=reliable i6300esb.heartbeat=1800'
 fi
+machine=(qemu-system-x86_64 "${processor[@]}" -machine q35 -m 512 -nodefaults -display none -serial stdio)
 
 # The time in milliseconds, in `millis`.
 now() {
