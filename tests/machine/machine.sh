@@ -2,13 +2,15 @@
 # The machine of run: how it is made, started, heard and cut off. `root`, `work`, `kernel` and
 # `emulate` are those of run, and what the console says goes to model.sh.
 
-# The emulator, and what a kernel is told so that it starts quickly there.
-# `processor` is what stands for `-accel kvm -cpu host` by emulation: the program is built for
-# x86-64-v2, which QEMU's own choice isn't.
+# The emulator, and by emulation what a kernel is told so that it starts quickly there. `processor`
+# is what stands for `-accel kvm -cpu host`: the program is built for x86-64-v2, which QEMU's own
+# choice isn't. The kernel's look at its timer is left out: a kernel that is given too little time
+# ends there.
 processor=(-accel kvm -cpu host) quick=''
 if [ -n "$emulate" ]; then
   processor=(-accel tcg -cpu Nehalem)
-  quick=' mitigations=off nokaslr cryptomgr.notests tsc=reliable i6300esb.heartbeat=1800'
+  quick=' mitigations=off nokaslr cryptomgr.notests tsc=reliable no_timer_check lpj=4000000 audit=0 apparmor=0'
+  quick+=' ipv6.disable=1 numa=off i6300esb.heartbeat=1800'
 fi
 machine=(qemu-system-x86_64 "${processor[@]}" -machine q35 -m 512 -nodefaults -display none -serial stdio)
 
