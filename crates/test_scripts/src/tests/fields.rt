@@ -5,6 +5,7 @@ use std::alloc::Global;
 use std::process::Abort;
 use std::test::Fail;
 
+#[derive(Drop)]
 struct Everywhere<'a> {
     value: &'a [u8],
 }
