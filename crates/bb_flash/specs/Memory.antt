@@ -18,6 +18,9 @@ pub record Memory : Type 0 where
   pub faults : ℕ
   pub read_faults : ℕ
   pub start_faults : ℕ
+  -- what the counts of failed calls and of failed starts were at the last restart
+  pub faults_before : ℕ
+  pub start_faults_before : ℕ
   -- how many calls it records, and how many bytes
   pub most_calls : ℕ
   pub most_bytes : ℕ
@@ -60,6 +63,8 @@ fresh_memory geometry bytes most_calls most_bytes = record {
   faults = 0;
   read_faults = 0;
   start_faults = 0;
+  faults_before = 0;
+  start_faults_before = 0;
   most_calls = most_calls;
   most_bytes = most_bytes;
   calls = 0;
@@ -240,6 +245,8 @@ abbrev pub after_restart : Memory → Memory
 after_restart memory =
     record memory {
       told = record memory.told { changes = [] };
+      faults_before = memory.faults;
+      start_faults_before = memory.start_faults;
       calls = 0;
       used = 0;
       plan = [];
@@ -247,3 +254,9 @@ after_restart memory =
       failing = [];
       was_cut = false;
     }
+
+-- a call or a start failed since the last restart, or since the board was made where there was none
+abbrev pub has_faulted : Memory → Bool
+has_faulted memory =
+    nat_lt memory.faults_before memory.faults
+    || nat_lt memory.start_faults_before memory.start_faults

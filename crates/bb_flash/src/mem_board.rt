@@ -44,6 +44,8 @@ pub struct MemBoard {
     erase_count: u64,
     starts: Vec<StartMade>,
     start_faults: u64,
+    faults_before: u64,
+    start_faults_before: u64,
     tried: u64,
     failing: Vec<u32>,
 }
@@ -67,6 +69,8 @@ impl Model for MemBoard {
           faults = board.faults;
           read_faults = board.read_faults;
           start_faults = board.start_faults;
+          faults_before = board.faults_before;
+          start_faults_before = board.start_faults_before;
           most_calls = board.log.most_calls;
           most_bytes = board.log.most_bytes;
           calls = board.calls;
@@ -121,6 +125,8 @@ impl MemBoard {
             erase_count: 0,
             starts: Vec::new(alloc),
             start_faults: 0,
+            faults_before: 0,
+            start_faults_before: 0,
             tried: 0,
             failing: Vec::new(alloc),
         })
@@ -140,16 +146,26 @@ impl MemBoard {
     #[tactic(auto, unfolding(crate::specs::Saved::history))]
     /// Starts the board anew after a cut, or without one: what it holds stays, and so do the starts
     /// and the counts of faults, reads, programs and erases. The record of calls and the planned
-    /// faults go.
+    /// faults go, and `faulted` counts from here.
     pub fn restart(&mut self)
         ensures { self.new ≡ memory.after_restart self.old }
     {
         self.log.clear();
         self.plan.clear();
         self.failing.clear();
+        self.faults_before = self.faults;
+        self.start_faults_before = self.start_faults;
         self.calls = 0;
         self.tried = 0;
         self.was_cut = false;
+    }
+
+    /// Whether a call or a start failed since the last restart, or since the board was made where
+    /// there was none: its count rose, which one at 2^64 - 1 does no more.
+    pub fn faulted(&self) -> bool
+        ensures { result ≡ memory.has_faulted self.now }
+    {
+        self.faults_before < self.faults || self.start_faults_before < self.start_faults
     }
 
     #[tactic(auto, unfolding(crate::specs::Saved::history))]

@@ -10,7 +10,7 @@ use bb_layout::Layout;
 use bb_vars::Table;
 
 /// Appends the text of the value that the variable of that name has in an area of the layout.
-/// NoSuchVariable where there is none, and NoMemory.
+/// NoSuchVariable where there is none, and NoMemory; `out` is then as before.
 pub fn get_value(
     layout: &Layout,
     area: &[u8],
@@ -21,6 +21,7 @@ pub fn get_value(
     ensures got { OnOk result (result_map_both (λ text. out.old ++ text) (λ e. e)
         (text_for layout.now.vars name.now area.now) ≡ Ok out.new) }
     ensures refused { IfErr result (Refuses (text_for layout.now.vars name.now area.now)) }
+    ensures unchanged { OnErr result (out.new ≡ out.old) }
 {
     let var = var_of(layout, name)?;
     add_value(area, var, out)?;

@@ -204,12 +204,13 @@ impl State {
     }
 
     /// Appends the text of the value of the variable of that name. NoSuchVariable where there is
-    /// none, and NoMemory.
+    /// none, and NoMemory; `out` is then as before.
     pub fn get(&self, name: &str, out: &mut Bytes) -> Result<(), StateError>
         ensures got { OnOk result (result_map_both (λ text. out.old ++ text) (λ e. e)
             (text_for (laid_of self.now).vars name.now self.now.table) ≡ Ok out.new) }
         ensures refused { IfErr result
             (Refuses (text_for (laid_of self.now).vars name.now self.now.table)) }
+        ensures unchanged { OnErr result (out.new ≡ out.old) }
     {
         get_value(self.layout(), self.table.bytes(), name, out)
     }

@@ -1,4 +1,5 @@
-ghost use Rattle.std.specs.Prelude.{◌≡◌, ◌<◌, ◌++◌, OnOk, IfOk, IfErr, Some, None, length};
+ghost use Rattle.std.specs.Prelude.{◌≡◌, ◌<◌, ◌++◌, OnErr, OnOk, IfOk, IfErr};
+ghost use Rattle.std.specs.Prelude.{Some, None, length};
 ghost use Rattle.std.specs.Prelude.{slice_get};
 ghost use Rattle.bb_state.specs.Lines.{printed_value};
 ghost use Rattle.bb_state.specs.Named.{var_of};
@@ -36,10 +37,11 @@ pub(crate) fn var_of<'a>(layout: &'a Layout, name: &str) -> Result<&'a Var, Stat
     }
 }
 
-/// Appends the text of a variable's value in an area.
+/// Appends the text of a variable's value in an area. Without memory `out` is as before.
 pub(crate) fn add_value(area: &[u8], var: &Var, out: &mut Bytes) -> Result<(), NoMemory>
     requires { VarHasRoom (length area.now) var.now }
-    ensures { OnOk result (out.new ≡ out.old ++ printed_value area.now var.now) }
+    ensures printed { OnOk result (out.new ≡ out.old ++ printed_value area.now var.now) }
+    ensures unchanged { OnErr result (out.new ≡ out.old) }
 {
     let at = var.at as usize;
     print_value(&var.kind, &area[at..at + var.size as usize], out)

@@ -230,6 +230,9 @@ fn a_planned_start_fails(rt: HostRuntime) -> Result<(), Fail> {
     board.fail_start(1)?;
     start_twice(&rt, rt.alloc(), &mut board)?;
     counts(&rt, u64::from(board.start_count()), 1);
+    assert!(rt; board.faulted());
+    board.restart();
+    assert!(rt; !board.faulted());
     Ok(())
 }
 
