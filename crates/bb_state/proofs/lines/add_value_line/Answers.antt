@@ -16,6 +16,6 @@ returns c =
     let line = line_of_some c.args.area.now c.args.name.now c.args.layout.now.vars c.in-Some.place c.var_at.result.now (sym c.in-Some.ensures) c.var_at.ensures.var in
     on_ok_weaker c.add.result (λ (ended : c.add.new.self ≡ c.add_value.new.out ++ codes "\n").
     ended
-    ∙ ap (λ text. text ++ codes "\n") c.in_ok-add_value.ensures
+    ∙ ap (λ text. text ++ codes "\n") c.in_ok-add_value.ensures.printed
     ∙ append_assoc c.args.out.now value (codes "\n")
     ∙ ap (λ text. c.args.out.now ++ text) (sym line)) c.add.ensures.ok
