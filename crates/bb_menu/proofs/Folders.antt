@@ -18,9 +18,9 @@ use Rattle.bb_base.specs.declared.files.FileFail.TheVariants.{TooLong}
 use Rattle.bb_bls.specs.Entry.{entry_of}
 use Rattle.bb_bls.specs.declared.entry.Entry.{Entry}
 use Rattle.bb_menu.proofs.Orders.{menu_total, tied_names}
-use Rattle.bb_menu.specs.Menu.{FileRead, IsArranged, IsMenuOf, IsMenuRead, item_by, item_of_text, item_onto, items_in, items_of_folder, items_read, path_in_folder}
+use Rattle.bb_menu.specs.Menu.{FileRead, IsArranged, IsMenuOf, IsMenuRead, IsReadOf, item_by, item_of_text, item_onto, items_in, items_of_folder, items_read, path_in_folder}
 use Rattle.bb_menu.specs.Order.{MenuBefore, is_menu_name, menu_cmp, named_entry}
-use Rattle.bb_menu.specs.Reading.{AreItemsRead, AreNamesOf, IsItemRead, IsLongFile, IsNameRead, IsReadOf}
+use Rattle.bb_menu.specs.Reading.{AreItemsRead, AreNamesOf, IsItemRead, IsLongFile, IsNameRead}
 use Rattle.bb_menu.specs.Version.{text_cmp}
 use Rattle.bb_menu.specs.declared.fault.MenuFault.{MenuFault}
 use Rattle.bb_menu.specs.declared.fault.MenuFault.TheVariants.{FileTooLong, NoFolder}
@@ -241,10 +241,11 @@ module _ (folder : Folder) (dir : List ℕ) (names : List (List ℕ)) (items men
         ordered = each_before items menu (subst (IsStrictlySortedBy name_cmp) (sym are.gives) (items_rise are.reads rise)) moved arranged;
       })
 
-  pub menu_of_reads : IsMenuRead menu
+  pub menu_of_reads : IsMenuRead folder dir menu
   menu_of_reads = record {
     reads = are.reads;
     named = unmapped are.reads (subst (All (λ n. IsTrue (is_menu_name n))) (sym are.named) (filter_passes is_menu_name names));
+    told = are.told;
     each_once = subst (λ l. IsPermutation l menu) are.gives moved;
     arranged = arranged;
   }

@@ -1,4 +1,5 @@
 mod Examples
+pub mod First
 pub mod Folders
 pub mod Numbers
 pub mod Orders

@@ -1,16 +1,17 @@
 -- The menu of a folder: which of its files are read, which of these are entries, and in which order
 -- they stand.
 use Rattle.std.specs.Prelude.{◌≡◌, ℕ, ◌+◌, ◌<◌, ⊤, Bool, true, false, IsTrue, List, [], ◌∷◌, ◌++◌, All, filter, filter_map, length, option_map, Option, Some, None, Result, Ok, Err, if◌then◌else◌}
-use Rattle.std.specs.List.{AllAdjacentBelow}
+use Rattle.std.specs.List.{AllAdjacentBelow, reduce}
 use Rattle.std.specs.List.Sorted.{IsPermutation}
-use Rattle.std.specs.Option.{option_and_then}
+use Rattle.std.specs.Option.{ForSome, option_and_then}
+use Rattle.std.specs.Ordering.{is_lt}
 use Rattle.std.specs.Path.{slash}
 use Rattle.std.specs.Result.{result_ok}
-use Rattle.bb_base.specs.Folder.{FileMap, file_of, has_folder, names_in}
+use Rattle.bb_base.specs.Folder.{FileMap, Folder, file_of, has_folder, names_in}
 use Rattle.bb_base.specs.declared.files.FileFail.{FileFail}
 use Rattle.bb_base.specs.declared.files.FileFail.TheVariants as file_fails
 use Rattle.bb_bls.specs.Entry.{entry_of}
-use Rattle.bb_menu.specs.Order.{MenuBefore, is_menu_name, named_entry}
+use Rattle.bb_menu.specs.Order.{MenuBefore, is_menu_name, menu_cmp, named_entry}
 use Rattle.bb_menu.specs.declared.fault.MenuFault.{MenuFault}
 use Rattle.bb_menu.specs.declared.fault.MenuFault.TheVariants.{NoFolder, FileFault, FileTooLong, NoMemory}
 use Rattle.bb_menu.specs.declared.item.MenuItem.{MenuItem}
@@ -64,6 +65,13 @@ pub record IsMenuOf (found menu : List MenuItem) : Type 0 where
   pub each_once : IsPermutation found menu
   pub ordered : AllAdjacentBelow MenuBefore menu (length menu)
 
+-- that of two items which stands in front, and that of all items, if there is one
+abbrev pub foremost : MenuItem → MenuItem → MenuItem
+foremost a b = if is_lt (menu_cmp b a) then b else a
+
+abbrev pub first_item : List MenuItem → Option MenuItem
+first_item = reduce foremost
+
 -- none stands in front of the one before it
 abbrev pub IsArranged : List MenuItem → Type 0
 IsArranged menu = AllAdjacentBelow (λ item next. ¬ MenuBefore next item) menu (length menu)
@@ -76,10 +84,15 @@ FileRead = List ℕ × Option (List ℕ)
 abbrev pub items_read : List FileRead → List MenuItem
 items_read reads = filter_map (λ r. item_of_text r.0 r.1) reads
 
+-- where the files are told, this is one of the folder's
+abbrev pub IsReadOf : Folder → List ℕ → FileRead → Type 0
+IsReadOf folder dir r = ForSome folder.told (λ files. file_of files (path_in_folder dir r.0) ≡ Ok r.1)
+
 -- Whatever the files are, a menu has what was read, each under a name that a menu takes in.
-pub record IsMenuRead (menu : List MenuItem) : Type 0 where
+pub record IsMenuRead (folder : Folder) (dir : List ℕ) (menu : List MenuItem) : Type 0 where
   pub reads : List FileRead
   pub named : All (λ r. IsTrue (is_menu_name r.0)) reads
+  pub told : All (IsReadOf folder dir) reads
   pub each_once : IsPermutation (items_read reads) menu
   pub arranged : IsArranged menu
 

@@ -4,13 +4,9 @@ use Rattle.std.specs.Bool.{MatchBool}
 use Rattle.std.specs.Option.{ForSome}
 use Rattle.bb_base.specs.Folder.{Folder, file_of, has_folder, names_in}
 use Rattle.bb_base.specs.declared.files.FileFail.TheVariants.{TooLong}
-use Rattle.bb_menu.specs.Menu.{FileRead, item_of_text, items_read, path_in_folder}
+use Rattle.bb_menu.specs.Menu.{FileRead, IsReadOf, item_of_text, items_read, path_in_folder}
 use Rattle.bb_menu.specs.Order.{is_menu_name}
 use Rattle.bb_menu.specs.declared.item.MenuItem.{MenuItem}
-
--- where the files are told, this is one of the folder's
-abbrev pub IsReadOf : Folder → List ℕ → FileRead → Type 0
-IsReadOf folder dir r = ForSome folder.told (λ files. file_of files (path_in_folder dir r.0) ≡ Ok r.1)
 
 -- an item, or none, comes of reading the file of this name
 pub record IsItemRead (folder : Folder) (dir name : List ℕ) (item : Option MenuItem) : Type 0 where

@@ -54,6 +54,13 @@ impl Menu {
         self.items.sort_unstable_by(|a, b| compare_items(a, b));
     }
 
+    /// The entry that stands first, if there is one.
+    pub fn into_first(self) -> Option<MenuItem>
+        ensures { result ≡ slice_get self 0 }
+    {
+        self.items.into_iter().next()
+    }
+
     pub fn len(&self) -> usize
         ensures { result ≡ length self.now }
     {

@@ -33,7 +33,7 @@ pub fn read_menu<F: Files>(alloc: Global, dir: &str, files: &mut F) -> Result<Me
         items_of_folder told dir.now ≡ Err MenuFault.FileTooLong) }
 
     // Told or not, a menu has what was read, in order.
-    ensures read { IfOk result IsMenuRead }
+    ensures read { IfOk result (IsMenuRead (F.folder files.old) dir.now) }
 
     // A fault is counted, and no other answer changes the count.
     ensures told { (F.folder files.new).told ≡ (F.folder files.old).told }

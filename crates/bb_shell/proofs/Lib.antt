@@ -7,6 +7,7 @@ pub mod Cutting
 pub mod Ends
 mod Examples
 pub mod Falling
+pub mod FolderPlans
 pub mod Joins
 pub mod Reached
 pub mod Reading

@@ -1,17 +1,17 @@
 -- Plans that are read one after another.
-use Rattle.std.proofs.Common.{◌≡◌, ◌≢◌, ◌<◌, ◌≤◌, ℕ, zero, suc, ◌+◌, List, [], ◌∷◌, ◌++◌, Option, Some, Result, Ok, Err, true, ap, arith, drop, length, length-append, map, refl, slice_get, sym, subst, take, ◌∙◌}
+use Rattle.std.proofs.Common.{◌≡◌, ◌≢◌, ◌<◌, ◌≤◌, ℕ, zero, suc, ◌+◌, List, [], ◌∷◌, ◌++◌, Option, Some, Result, Ok, Err, IfErr, true, ap, arith, drop, length, length-append, map, refl, slice_get, sym, subst, take, ◌∙◌}
 use Rattle.std.proofs.lemmas.List.{length-map, map-append, take-append-drop, take_all}
 use Rattle.std.proofs.lemmas.List.Elements.{AllZip-push}
 use Rattle.std.proofs.lemmas.Option.{slice_get-map}
 use Rattle.std.specs.List.{AllZip, enumerate_from}
 use Rattle.std.specs.Option.{ForSome, option_map}
-use Rattle.bb_base.specs.Folder.{Folder, file_of, file_read}
+use Rattle.bb_base.specs.Folder.{FileMap, Folder, file_read}
 use Rattle.bb_base.specs.declared.files.FileFail.TheVariants as file_fails
 use Rattle.bb_chooser.specs.Binding.{Binding}
 use Rattle.bb_flash.specs.declared.plan.Plan.{Plan}
 use Rattle.bb_layout.specs.Results.{all_ok, result_and_then}
 use Rattle.bb_state.proofs.Lists.{take_next}
-use Rattle.bb_shell.specs.Plans.{AreAnswersOf, EntryAnswer, IsAnswerOf, IsPlanOf, IsPlanned, entries_of, plan_by, start_plan_for, plans_by, plans_of}
+use Rattle.bb_shell.specs.Plans.{AreAnswersOf, EntryAnswer, IsAnswerOf, IsPlanOf, IsPlanRead, IsPlanned, NamesTarget, entries_of, entry_answer, plan_by, start_plan_for, plans_by, plans_of}
 use Rattle.bb_shell.specs.declared.plan_fault.PlanFault.{PlanFault}
 use Rattle.bb_shell.specs.declared.plan_fault.PlanFault.TheVariants.{FileFault, FileTooLong, NoMemory}
 
@@ -84,18 +84,18 @@ read_len texts = length-map texts (λ text. Ok text)
 -- the answers of the first targets, and one more
 pub answered_more : (b : Binding) (before : Folder) (answers : List EntryAnswer) (target : ℕ) (answer : EntryAnswer) →
     length answers ≡ target → target < length b.targets → AreAnswersOf before b answers →
-    ForSome before.told (λ files. ForSome (slice_get (entries_of b) target) (λ name. IsAnswerOf answer (file_of files name))) →
+    ForSome before.told (λ files. ForSome (slice_get (entries_of b) target) (λ name. IsAnswerOf answer (entry_answer files name))) →
     AreAnswersOf before b (answers ++ answer ∷ [])
 answered_more b before answers target answer len inside earlier here files told =
     let names = entries_of b in
-    let all = map (file_of files) names in
+    let all = map (entry_answer files) names in
     let one = name_at names target (omega (arith, inside, length-map b.targets (λ t. t.target.entry))) in
-    let got : slice_get all target ≡ Some (file_of files one.0) = slice_get-map (file_of files) names target ∙ ap (option_map (file_of files)) one.1 in
-    let next : take (target + 1) all ≡ take target all ++ file_of files one.0 ∷ [] = take_next all target (file_of files one.0) got in
+    let got : slice_get all target ≡ Some (entry_answer files one.0) = slice_get-map (entry_answer files) names target ∙ ap (option_map (entry_answer files)) one.1 in
+    let next : take (target + 1) all ≡ take target all ++ entry_answer files one.0 ∷ [] = take_next all target (entry_answer files one.0) got in
     let longer : length (answers ++ answer ∷ []) ≡ target + 1 = length-append answers (answer ∷ []) ∙ ap (λ n. n + 1) len in
     let before_all : AllZip IsAnswerOf answers (take target all) = subst (λ n. AllZip IsAnswerOf answers (take n all)) len (earlier files told) in
     subst (λ l. AllZip IsAnswerOf (answers ++ answer ∷ []) l) (sym (ap (λ n. take n all) longer ∙ next))
-    (AllZip-push IsAnswerOf answers (take target all) answer (file_of files one.0) before_all (here files told one.0 one.1))
+    (AllZip-push IsAnswerOf answers (take target all) answer (entry_answer files one.0) before_all (here files told one.0 one.1))
   where
     name_at : (xs : List (List ℕ)) (i : ℕ) → i < length xs → (x : List ℕ) × (slice_get xs i ≡ Some x)
     name_at [] i within = absurd (omega arith)
@@ -119,20 +119,47 @@ entry_name b target found name is there = slice_get-map (λ t. t.target.entry) b
 some_is : {X : Type 0} (x y : X) → Some x ≡ Some y → x ≡ y
 some_is x y h = cc
 
-pub plan_read : (b : Binding) (target : ℕ) (before : Folder) (name : List ℕ) (answer : EntryAnswer) (given : Result (Option Plan) PlanFault) →
-    slice_get (entries_of b) target ≡ Some name → ForSome before.told (λ files. IsAnswerOf answer (file_of files name)) →
-    (given ≢ Err NoMemory → given ≡ start_plan_for target answer) → IsPlanOf b target before given
-plan_read b target before name answer given there told gives = record {
-  answer = answer;
-  answered = λ files h other got. subst (λ n. IsAnswerOf answer (file_of files n)) (some_is name other (sym there ∙ got)) (told files h);
-  gives = gives;
+pub plan_read : (b : Binding) (target : ℕ) (before : Folder) (setting : List ℕ) (given : Result (Option Plan) PlanFault) →
+    slice_get (entries_of b) target ≡ Some setting → IsPlanRead target (λ files. entry_answer files setting) before given →
+    IsPlanOf b target before given
+plan_read b target before setting given there read = record {
+  answer = read.answer;
+  answered = λ files h other got.
+      subst (λ n. IsAnswerOf read.answer (entry_answer files n)) (some_is setting other (sym there ∙ got)) (read.answered files h);
+  gives = read.gives;
 }
 
--- memory was refused
-pub plan_refused : (b : Binding) (target : ℕ) (before : Folder) (given : Result (Option Plan) PlanFault) → given ≡ Err NoMemory → IsPlanOf b target before given
-plan_refused b target before given is = record {
+-- it names the target
+pub plan_names : (b : Binding) (target : ℕ) (over : FileMap → EntryAnswer) (before : Folder) (given : Result (Option Plan) PlanFault) →
+    target < length b.targets → IsPlanRead target over before given → IfErr given (NamesTarget b)
+plan_names b target over before given inside read = by given read.gives
+  where
+    of_answer : (answer : EntryAnswer) → IfErr (start_plan_for target answer) (NamesTarget b)
+    of_answer (Ok text) = tt
+    of_answer (Err file_fails.Fault) = inside
+    of_answer (Err file_fails.TooLong) = inside
+    of_answer (Err file_fails.NoMemory) = tt
+
+    named : (given : Result (Option Plan) PlanFault) → given ≡ start_plan_for target read.answer → IfErr given (NamesTarget b)
+    named given is = subst (λ (r : Result (Option Plan) PlanFault). IfErr r (NamesTarget b)) (sym is) (of_answer read.answer)
+
+    by : (given : Result (Option Plan) PlanFault) → (given ≢ Err NoMemory → given ≡ start_plan_for target read.answer) → IfErr given (NamesTarget b)
+    by (Ok plan) gives = tt
+    by (Err (FileFault other)) gives = named (Err (FileFault other)) (gives (λ e. cc))
+    by (Err (FileTooLong other)) gives = named (Err (FileTooLong other)) (gives (λ e. cc))
+    by (Err NoMemory) gives = tt
+
+-- it was read of a file or a folder, or memory was refused
+pub read_so : (target : ℕ) (over : FileMap → EntryAnswer) (before : Folder) (answer : EntryAnswer) (given : Result (Option Plan) PlanFault) →
+    ForSome before.told (λ files. IsAnswerOf answer (over files)) → given ≡ start_plan_for target answer →
+    IsPlanRead target over before given
+read_so target over before answer given told gives = record { answer = answer; answered = told; gives = λ _. gives }
+
+pub read_refused : (target : ℕ) (over : FileMap → EntryAnswer) (before : Folder) (given : Result (Option Plan) PlanFault) →
+    given ≡ Err NoMemory → IsPlanRead target over before given
+read_refused target over before given is = record {
   answer = Err file_fails.NoMemory;
-  answered = λ files h other got. tt;
+  answered = λ files h. tt;
   gives = λ other. absurd (other is);
 }
 
@@ -146,9 +173,9 @@ added_text old text none = ap (λ l. Some (drop (length l) text)) none
 pub read_all : (b : Binding) (before : Folder) (done : ℕ) (plans : List (Option Plan)) → done ≡ length b.targets → AreRead b before done plans →
     ForSome before.told (λ files. plans_of files b ≡ Ok plans)
 read_all b before done plans all read files told =
-    let whole = map (file_of files) (entries_of b) in
+    let whole = map (entry_answer files) (entries_of b) in
     let len : length (all_read read.texts) ≡ length whole =
-    read_len read.texts ∙ read.many ∙ all ∙ sym (length-map (entries_of b) (file_of files) ∙ length-map b.targets (λ t. t.target.entry)) in
+    read_len read.texts ∙ read.many ∙ all ∙ sym (length-map (entries_of b) (entry_answer files) ∙ length-map b.targets (λ t. t.target.entry)) in
     let zip : AllZip IsAnswerOf (all_read read.texts) whole =
     subst (λ l. AllZip IsAnswerOf (all_read read.texts) l) (take_whole whole (length (all_read read.texts)) len) (read.answered files told) in
     ap plans_by (read_files read.texts whole zip) ∙ read.planned
@@ -290,7 +317,7 @@ module _ (b : Binding) (before : Folder) (done : ℕ) (plans : List (Option Plan
 
   pub ended_long : ForSome before.told (λ files. plans_of files b ≡ Err (FileTooLong target))
   ended_long files told =
-      let whole = map (file_of files) (entries_of b) in
+      let whole = map (entry_answer files) (entries_of b) in
       let all = all_read read.texts ++ of.answer ∷ [] in
       let long = answer_long of.answer refl in
       let zip = answers_are b before done plans given inside read of files told in

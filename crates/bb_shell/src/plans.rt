@@ -1,10 +1,12 @@
 ghost use Rattle.std.specs.Prelude.{◌≡◌, ◌<◌, ◌+◌, ℕ, IfErr, IfOk, IsTrue, Ok, Err};
-ghost use Rattle.std.specs.Prelude.{length};
+ghost use Rattle.std.specs.Prelude.{length, slice_get};
 ghost use Rattle.std.specs.Bool.{OnFalse};
-ghost use Rattle.std.specs.Option.{ForSome};
+ghost use Rattle.std.specs.Option.{ForSome, option_copied, option_map};
 ghost use Rattle.bb_base.specs.Form.{area_limit};
 ghost use Rattle.bb_base.specs.Faults.{HasCause};
-ghost use Rattle.bb_shell.specs.Plans.{IsPlanOf, IsPlanned, NamesTarget, is_file_fault, plan_by};
+ghost use Rattle.bb_base.specs.Folder.{file_of};
+ghost use Rattle.bb_shell.specs.Plans.{IsPlanOf, IsPlanRead, IsPlanned, NamesTarget, entry_answer};
+ghost use Rattle.bb_shell.specs.Plans.{folder_answer, folder_named, is_file_fault, plan_by};
 ghost use Rattle.bb_shell.specs.Plans.{plan_with, plans_of};
 
 use crate::PlanFault;
@@ -12,11 +14,13 @@ use bb_base::{Bytes, FileFail, Files, NoMemory};
 use bb_bls::{Entry, EntryError, read_entry};
 use bb_chooser::Chooser;
 use bb_flash::{Plan, PlanList};
+use bb_menu::{Menu, MenuFault, read_menu};
 use std::alloc::Global;
 
-/// The plan of each target, from its entry's file, in order. A target whose file isn't there, or is
-/// no entry, has no plan. The first file that can't be read decides: FileFault where a fault was
-/// counted, and FileTooLong exactly where the file has more than 1,048,576 bytes.
+/// The plan of each target, from its entry's file, in order. A setting that ends in `/` names a
+/// folder, and its entry is the first of the folder's menu. A target whose file or folder isn't
+/// there, or has no entry, has no plan. The first file that can't be read decides: FileFault where
+/// a fault was counted, and FileTooLong exactly where the file has more than 1,048,576 bytes.
 pub fn read_plans<F: Files>(
     alloc: Global,
     chooser: &Chooser,
@@ -64,11 +68,92 @@ fn read_plan<F: Files>(
     ensures calm { OnFalse (is_file_fault result)
         ((F.folder files.new).faults ≡ (F.folder files.old).faults) }
 {
-    let Some(name) = chooser.entry(target) else {
+    let Some(setting) = chooser.entry(target) else {
         unreachable!()
     };
+    plan_of_setting(alloc, target, setting.as_str(), files)
+}
+
+// The plan of a target by its setting: that of a folder where it ends in `/`, else of a file.
+fn plan_of_setting<F: Files>(
+    alloc: Global,
+    target: usize,
+    setting: &str,
+    files: &mut F,
+) -> Result<Option<Plan>, PlanFault>
+    requires { target < area_limit }
+    ensures read { IsPlanRead target (λ told. entry_answer told setting.now)
+        (F.folder files.old) result }
+    ensures told { (F.folder files.new).told ≡ (F.folder files.old).told }
+    ensures cause { HasCause (F.folder files.old).faults (F.folder files.new).faults
+        (IsTrue (is_file_fault result)) }
+    ensures calm { OnFalse (is_file_fault result)
+        ((F.folder files.new).faults ≡ (F.folder files.old).faults) }
+{
+    match folder_named(setting) {
+        Some(dir) => plan_of_folder(alloc, target, dir, files),
+        None => plan_of_file(alloc, target, setting, files),
+    }
+}
+
+// The folder that a setting names, if it ends in `/`.
+fn folder_named(setting: &str) -> Option<&str>
+    ensures { option_copied result ≡ folder_named setting.now }
+{
+    setting.strip_suffix('/')
+}
+
+// The plan of a target by the first entry of a folder.
+fn plan_of_folder<F: Files>(
+    alloc: Global,
+    target: usize,
+    dir: &str,
+    files: &mut F,
+) -> Result<Option<Plan>, PlanFault>
+    requires { target < area_limit }
+    ensures read { IsPlanRead target (λ told. folder_answer told dir.now)
+        (F.folder files.old) result }
+    ensures told { (F.folder files.new).told ≡ (F.folder files.old).told }
+    ensures cause { HasCause (F.folder files.old).faults (F.folder files.new).faults
+        (IsTrue (is_file_fault result)) }
+    ensures calm { OnFalse (is_file_fault result)
+        ((F.folder files.new).faults ≡ (F.folder files.old).faults) }
+{
+    match read_menu(alloc, dir, files) {
+        Ok(menu) => Ok(first_plan(target, menu)),
+        Err(MenuFault::NoFolder) => Ok(None),
+        Err(MenuFault::FileFault) => Err(PlanFault::FileFault(target)),
+        Err(MenuFault::FileTooLong) => Err(PlanFault::FileTooLong(target)),
+        Err(MenuFault::NoMemory) => Err(PlanFault::NoMemory),
+    }
+}
+
+// The plan of a target by the first entry of a menu, if it has one.
+fn first_plan(target: usize, menu: Menu) -> Option<Plan>
+    requires { target < area_limit }
+    ensures { result ≡ option_map (λ item. plan_with target item.entry) (slice_get menu 0) }
+{
+    let item = menu.into_first()?;
+    Some(plan_with(target, item.entry))
+}
+
+// The plan of a target by its entry's file.
+fn plan_of_file<F: Files>(
+    alloc: Global,
+    target: usize,
+    name: &str,
+    files: &mut F,
+) -> Result<Option<Plan>, PlanFault>
+    requires { target < area_limit }
+    ensures read { IsPlanRead target (λ told. file_of told name.now) (F.folder files.old) result }
+    ensures told { (F.folder files.new).told ≡ (F.folder files.old).told }
+    ensures cause { HasCause (F.folder files.old).faults (F.folder files.new).faults
+        (IsTrue (is_file_fault result)) }
+    ensures calm { OnFalse (is_file_fault result)
+        ((F.folder files.new).faults ≡ (F.folder files.old).faults) }
+{
     let mut text = Bytes::none(alloc);
-    match files.read(name.as_str(), &mut text) {
+    match files.read(name, &mut text) {
         Ok(true) => Ok(plan_of(alloc, target, text.as_slice())?),
         Ok(false) => Ok(None),
         Err(FileFail::Fault) => Err(PlanFault::FileFault(target)),

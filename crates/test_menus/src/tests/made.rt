@@ -1,10 +1,9 @@
 // Two hundred versions that a generator makes.
 use super::rig::entry;
-use bb_base::{Bytes, NoMemory, Text, TextList};
+use bb_base::{Bytes, NoMemory};
 use bb_bls::Entry;
 use bb_menu::before;
 use std::alloc::Global;
-use std::process::Abort;
 use std::test::Fail;
 
 const COUNT: usize = 200;
@@ -20,7 +19,7 @@ fn drawn(state: u64, most: u64) -> (u64, u64) {
 }
 
 // A version of up to 8 characters, and the state after it.
-fn version(alloc: Global, state: u64) -> Result<(u64, Text), Fail> {
+fn version(alloc: Global, state: u64) -> Result<(u64, String), Fail> {
     let mut text = String::new(alloc);
     let (mut state, len) = drawn(state, 9);
     for _ in 0..len {
@@ -28,18 +27,7 @@ fn version(alloc: Global, state: u64) -> Result<(u64, Text), Fail> {
         state = next;
         text.push(CHARACTERS[character as usize % 12])?;
     }
-    Ok((state, Text::of(alloc, text.as_str())?))
-}
-
-fn versions(alloc: Global) -> Result<TextList, Fail> {
-    let mut all = TextList::none(alloc);
-    let mut state = 20;
-    for _ in 0..COUNT {
-        let (next, text) = version(alloc, state)?;
-        state = next;
-        all.push(text)?;
-    }
-    Ok(all)
+    Ok((state, text))
 }
 
 // What a key is in the midst of.
@@ -107,110 +95,47 @@ fn begin_run(key: &mut Bytes, c: u8) -> Result<Run, NoMemory> {
     Ok(Run::Nothing)
 }
 
-// Entries with the versions, and nothing else to compare.
-fn entries_of(alloc: Global, versions: &TextList) -> Result<Vec<Entry>, Fail> {
-    let mut entries = Vec::new(alloc);
-    for place in 0..versions.len() {
-        let version = versions.get(place).ok_or("a version")?;
-        entries.push(entry(alloc, "s", "", version.as_str())?)?;
-    }
-    Ok(entries)
+// An entry with a made version and nothing else to compare, the version's key, and a file's name.
+#[derive(Drop)]
+struct Made {
+    entry: Entry,
+    key: Bytes,
+    name: String,
 }
 
-fn keys_of(alloc: Global, versions: &TextList) -> Result<Vec<Bytes>, Fail> {
-    let mut keys = Vec::new(alloc);
-    for place in 0..versions.len() {
-        let version = versions.get(place).ok_or("a version")?;
-        keys.push(key_of(alloc, version.as_str())?)?;
-    }
-    Ok(keys)
-}
-
-fn names(alloc: Global) -> Result<TextList, Fail> {
-    let mut names = TextList::none(alloc);
+fn made_entries(alloc: Global) -> Result<Vec<Made>, Fail> {
+    let mut all = Vec::new(alloc);
+    let mut state = 20;
     for place in 0..COUNT {
-        let name = format!(in alloc; "n{place}.conf")?;
-        names.push(Text::of(alloc, name.as_str())?)?;
+        let (next, text) = version(alloc, state)?;
+        state = next;
+        all.push(Made {
+            entry: entry(alloc, "s", "", text.as_str())?,
+            key: key_of(alloc, text.as_str())?,
+            name: format!(in alloc; "n{place}.conf")?,
+        })?;
     }
-    Ok(names)
+    Ok(all)
 }
 
-// Under one name only the version decides, and the greater stands in front.
+// Of each two the one with the greater key stands in front, and of equal ones the later one, whose
+// name is the greater. So the order is that of pairs of a key and a place, which is total and
+// passes on.
 #[test]
 fn the_order_is_that_of_the_keys(rt: HostRuntime) -> Result<(), Fail> {
-    let versions = versions(rt.alloc())?;
-    let entries = entries_of(rt.alloc(), &versions)?;
-    let keys = keys_of(rt.alloc(), &versions)?;
+    let all = made_entries(rt.alloc())?;
     let mut greater = 0u32;
-    for (a, key) in entries.iter().zip(keys.iter()) {
-        for (b, other) in entries.iter().zip(keys.iter()) {
-            let wanted = key.as_slice() > other.as_slice();
-            assert_eq!(rt; before(a, "n.conf", b, "n.conf"), wanted);
-            if wanted {
+    for (place, a) in all.iter().enumerate() {
+        for (other, b) in all.iter().enumerate() {
+            let wanted = (a.key.as_slice(), place) > (b.key.as_slice(), other);
+            let stands = before(&a.entry, a.name.as_str(), &b.entry, b.name.as_str());
+            assert_eq!(rt; stands, wanted, "{place} and {other}");
+            if a.key.as_slice() > b.key.as_slice() {
                 greater = greater.saturating_add(1);
             }
         }
     }
-    // Most of the 19,900 pairs differ.
+    // Most of the 19,900 pairs differ in their versions.
     assert!(rt; greater > 19_000);
-    Ok(())
-}
-
-// For each entry and each other whether it stands in front.
-fn pairs(entries: &[Entry], names: &TextList, alloc: Global) -> Result<Vec<bool>, Fail> {
-    let mut pairs = Vec::new(alloc);
-    for (place, a) in entries.iter().enumerate() {
-        let name = names.get(place).ok_or("a name")?;
-        for (other, b) in entries.iter().enumerate() {
-            let other_name = names.get(other).ok_or("a name")?;
-            pairs.push(before(a, name.as_str(), b, other_name.as_str()))?;
-        }
-    }
-    Ok(pairs)
-}
-
-fn at(pairs: &[bool], a: usize, b: usize) -> bool {
-    let row = a.wrapping_mul(COUNT);
-    pairs.get(row.wrapping_add(b)).copied().unwrap_or(false)
-}
-
-// Under names of their own one of each two stands in front of the other, and none of itself.
-#[test]
-fn of_two_one_stands_in_front(rt: HostRuntime) -> Result<(), Fail> {
-    let entries = entries_of(rt.alloc(), &versions(rt.alloc())?)?;
-    let names = names(rt.alloc())?;
-    let pairs = pairs(entries.as_slice(), &names, rt.alloc())?;
-    assert_eq!(rt; pairs.len(), COUNT * COUNT);
-    for a in 0..COUNT {
-        assert!(rt; !at(pairs.as_slice(), a, a));
-        for b in 0..a {
-            let one_way = at(pairs.as_slice(), a, b);
-            assert_eq!(rt; at(pairs.as_slice(), b, a), !one_way);
-        }
-    }
-    Ok(())
-}
-
-fn passes_on(rt: &impl Abort, pairs: &[bool], a: usize, b: usize) {
-    for c in 0..COUNT {
-        if at(pairs, b, c) {
-            assert!(rt; at(pairs, a, c), "{a} before {b} before {c}");
-        }
-    }
-}
-
-// What stands in front of another does so of all that this one stands in front of.
-#[test]
-fn the_order_passes_on(rt: HostRuntime) -> Result<(), Fail> {
-    let entries = entries_of(rt.alloc(), &versions(rt.alloc())?)?;
-    let names = names(rt.alloc())?;
-    let pairs = pairs(entries.as_slice(), &names, rt.alloc())?;
-    for a in 0..COUNT {
-        for b in 0..COUNT {
-            if at(pairs.as_slice(), a, b) {
-                passes_on(&rt, pairs.as_slice(), a, b);
-            }
-        }
-    }
     Ok(())
 }

@@ -1,38 +1,9 @@
-// Folders of many entries, and entries with long names.
+// A folder of many entries.
 use bb_base::MemFiles;
 use bb_menu::read_menu;
 use std::alloc::Global;
 use std::process::Abort;
 use std::test::Fail;
-
-// Two names of 255 bytes that differ in the last letter alone.
-fn names_of_255_bytes() -> [&'static str; 2] {
-    [
-        "m/aaaaaaaaaaaaaaaaaaaaaaaaaaaaaaaaaaaaaaaaaaaaaaaaaaaaaaaaaaaaaaaaaaaaaa\
-         aaaaaaaaaaaaaaaaaaaaaaaaaaaaaaaaaaaaaaaaaaaaaaaaaaaaaaaaaaaaaaaaaaaaaa\
-         aaaaaaaaaaaaaaaaaaaaaaaaaaaaaaaaaaaaaaaaaaaaaaaaaaaaaaaaaaaaaaaaaaaaaa\
-         aaaaaaaaaaaaaaaaaaaaaaaaaaaaaaaaaaaaaaab.conf",
-        "m/aaaaaaaaaaaaaaaaaaaaaaaaaaaaaaaaaaaaaaaaaaaaaaaaaaaaaaaaaaaaaaaaaaaaaa\
-         aaaaaaaaaaaaaaaaaaaaaaaaaaaaaaaaaaaaaaaaaaaaaaaaaaaaaaaaaaaaaaaaaaaaaa\
-         aaaaaaaaaaaaaaaaaaaaaaaaaaaaaaaaaaaaaaaaaaaaaaaaaaaaaaaaaaaaaaaaaaaaaa\
-         aaaaaaaaaaaaaaaaaaaaaaaaaaaaaaaaaaaaaaac.conf",
-    ]
-}
-
-// The greater of two long names stands in front.
-#[test]
-fn long_names(rt: HostRuntime) -> Result<(), Fail> {
-    let mut files = MemFiles::none(rt.alloc());
-    for name in names_of_255_bytes() {
-        files.add(name, b"linux /z\n")?;
-    }
-    let menu = read_menu(rt.alloc(), "m", &mut files)?;
-    let first = menu.name(0).ok_or("a name")?;
-    assert_eq!(rt; first.as_str().len(), 255);
-    assert!(rt; first.as_str().ends_with("ac.conf"));
-    assert_eq!(rt; menu.len(), 2);
-    Ok(())
-}
 
 fn many_files(alloc: Global) -> Result<MemFiles, Fail> {
     let mut files = MemFiles::none(alloc);

@@ -36,8 +36,13 @@ fn rising() -> [(&'static str, &'static str); 25] {
     ]
 }
 
+// Where marks follow one another the rule is this project's own.
+fn rising_by_marks() -> [(&'static str, &'static str); 3] {
+    [("a^-", "a^.~"), ("a^", "a^.."), ("a-~", "a-")]
+}
+
 // Versions that are equal.
-fn equal() -> [(&'static str, &'static str); 8] {
+fn equal() -> [(&'static str, &'static str); 9] {
     [
         ("11", "11"),
         ("systemd-123", "systemd-123"),
@@ -47,6 +52,7 @@ fn equal() -> [(&'static str, &'static str); 8] {
         ("1+", "1"),
         ("+1", "1"),
         ("01", "1"),
+        ("~_", "~"),
     ]
 }
 
@@ -81,12 +87,22 @@ fn ties(rt: &impl Abort, alloc: Global, version: &str, other: &str) -> Result<()
     Ok(())
 }
 
-#[test]
-fn versions_that_rise(rt: HostRuntime) -> Result<(), Fail> {
-    for (less, more) in rising() {
-        compares(&rt, rt.alloc(), less, more)?;
+// In each pair the second version is the greater.
+fn rise(rt: &impl Abort, alloc: Global, pairs: &[(&str, &str)]) -> Result<(), Fail> {
+    for (less, more) in pairs {
+        compares(rt, alloc, less, more)?;
     }
     Ok(())
+}
+
+#[test]
+fn versions_that_rise(rt: HostRuntime) -> Result<(), Fail> {
+    rise(&rt, rt.alloc(), &rising())
+}
+
+#[test]
+fn versions_that_rise_by_marks(rt: HostRuntime) -> Result<(), Fail> {
+    rise(&rt, rt.alloc(), &rising_by_marks())
 }
 
 #[test]
@@ -95,13 +111,4 @@ fn versions_that_are_equal(rt: HostRuntime) -> Result<(), Fail> {
         ties(&rt, rt.alloc(), version, other)?;
     }
     Ok(())
-}
-
-// Where marks follow one another this project's rule is that of its documents.
-#[test]
-fn marks_one_after_another(rt: HostRuntime) -> Result<(), Fail> {
-    compares(&rt, rt.alloc(), "a^-", "a^.~")?;
-    compares(&rt, rt.alloc(), "a^", "a^..")?;
-    compares(&rt, rt.alloc(), "a-~", "a-")?;
-    ties(&rt, rt.alloc(), "~_", "~")
 }

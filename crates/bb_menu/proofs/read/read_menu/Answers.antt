@@ -12,6 +12,9 @@ returns-clause-ok g c =
 
 pub returns-clause-read : goal.returns-clause-read
 returns-clause-read g c =
+    let before = g.F.Files.folder c.args.files.now in
     let later = g.F.Files.folder c.read_names.new.files in
-    menu_of_reads later c.args.dir.now c.in_ok-names.names c.in_ok-menu.menu c.arrange.new.self c.in_ok-menu.ensures.ok
-    c.arrange.ensures.each_once c.arrange.ensures.arranged
+    let dir = c.args.dir.now in
+    let names = c.in_ok-names.names in
+    let are = are_before before later c.read_names.ensures.told dir names c.in_ok-menu.menu c.in_ok-menu.ensures.ok in
+    menu_of_reads before dir names c.in_ok-menu.menu c.arrange.new.self are c.arrange.ensures.each_once c.arrange.ensures.arranged
