@@ -4,12 +4,12 @@ use Rattle.std.specs.Prelude.{◌≤◌}
 use Rattle.bb_tool.specs.Calls.{IsSession, KeepsFiles, KeepsHistory, LeavesUnnamedFiles}
 use Rattle.bb_tool.specs.Clauses.{EndsEarly, KeepsTheCopies, KnowsItsCauses, LeavesTheRest, SendsTheSession, StartsTheBest, WorksUndisturbed}
 use Rattle.bb_tool.specs.Ran.{Ran}
-use Rattle.bb_tool.specs.declared.status.Status.TheVariants as statuses
+use Rattle.bb_plan.specs.declared.status.Status.TheVariants as statuses
 use Rattle.bb_tool.proofs.Endings.{at_exit, bad_words_of, beside, comes_alone, comes_planned, copy_of_fault, file_fault_of, front_of, no_memory_of, on_a_trail, read_fault_of, sink_fault_of, unasked_of, write_fault_of}
 use Rattle.bb_tool.proofs.Early.{early_memory_of, early_of}
-use Rattle.bb_tool.proofs.Erases.{called_of, erased_of}
-use Rattle.bb_tool.proofs.Exact.{alike_of, written_of}
-use Rattle.bb_tool.proofs.Faults.{unread_of, write_faults_of}
+use Rattle.bb_tool.proofs.Undisturbed.{called_of, erased_of}
+use Rattle.bb_tool.proofs.Undisturbed.{alike_of, written_of}
+use Rattle.bb_tool.proofs.Undisturbed.{unread_of, write_faults_of}
 use Rattle.bb_tool.proofs.InTurn.{boots_of}
 use Rattle.bb_tool.proofs.Starting.{rounds_of, start_causes_of, start_failed_of, start_faults_of, starts_of, starts_once_of, starts_saved_of}
 use Rattle.bb_tool.proofs.Tables.{no_good_of, no_target_of}

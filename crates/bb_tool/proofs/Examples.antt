@@ -17,15 +17,17 @@ use Rattle.bb_state.specs.Keyed.{Keyed}
 use Rattle.bb_shell.specs.Rounds.{rounds_by}
 use Rattle.bb_chooser.specs.Counting.{mark_good_of}
 use Rattle.bb_chooser.specs.declared.settings_error.SettingsError.TheVariants as settings_errors
-use Rattle.bb_tool.specs.Looking.{first_found, look_text}
-use Rattle.bb_tool.specs.Marking.{good_text, lost_place}
-use Rattle.bb_tool.specs.FilesRead.{result_by}
-use Rattle.bb_tool.specs.Plan.{Boot, FileAnswers, SessionPlan}
-use Rattle.bb_tool.specs.PlanSteps.{plans_reading}
-use Rattle.bb_tool.specs.Refusal.{line_of}
-use Rattle.bb_tool.specs.Session.{done_with, refused_for, sent_of, session_of, work_session}
-use Rattle.bb_tool.specs.SessionTurns.{boot_turn}
-use Rattle.bb_tool.specs.declared.refusal.Refusal.TheVariants.{BadSettings, BadWords, BadLayout, BadVariable, FileFault, FileMissing, FileTooLong, NoGood, NoTarget, ReadFault, StartFailed, WriteFault}
+use Rattle.bb_session.specs.Looking.{first_found, look_text}
+use Rattle.bb_session.specs.Marking.{good_text, lost_place}
+use Rattle.bb_plan.specs.FilesRead.{result_by}
+use Rattle.bb_plan.specs.Plan.{FileAnswers, SessionPlan}
+use Rattle.bb_plan.specs.declared.plan.Work.TheVariants.{Boot}
+use Rattle.bb_plan.specs.PlanSteps.{plans_reading}
+use Rattle.bb_tool.specs.Lines.{line_of}
+use Rattle.bb_session.specs.Session.{done_with, refused_for, session_of, work_session}
+use Rattle.bb_tool.specs.Sending.{sent_of}
+use Rattle.bb_session.specs.SessionTurns.{boot_turn}
+use Rattle.bb_plan.specs.declared.refusal.Refusal.TheVariants.{BadSettings, BadWords, BadLayout, BadVariable, FileFault, FileMissing, FileTooLong, NoGood, NoTarget, ReadFault, StartFailed, WriteFault}
 
 in_place : Geometry
 in_place = record { page = 1; block = 0; size = 192 }

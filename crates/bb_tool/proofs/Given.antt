@@ -4,14 +4,16 @@ use Rattle.bb_base.specs.Folder.{Folder}
 use Rattle.bb_flash.specs.Device.{Device}
 use Rattle.bb_state.specs.Keyed.{Keyed}
 use Rattle.bb_tool.specs.SessionAnswer.{IsAnswer, IsFollowed, IsSessionAnswer}
-use Rattle.bb_tool.specs.Plan.{FileAnswers, SessionPlan, Work, plan_as, plan_by_words, plan_reading}
-use Rattle.bb_tool.specs.FilesRead.{AreRead, IsReadAs}
-use Rattle.bb_tool.specs.Session.{Answers, session_by}
-use Rattle.bb_tool.specs.Work.{Gives, IsWorkedOut, SendsByMemory}
-use Rattle.bb_tool.specs.declared.plan.PlannedWork.{PlannedWork}
-use Rattle.bb_tool.specs.declared.refusal.Refusal.{Refusal}
-use Rattle.bb_tool.specs.declared.refusal.Refusal.TheVariants as refusals
-use Rattle.bb_tool.specs.declared.report.Report.{Report}
+use Rattle.bb_plan.specs.Plan.{EarlyEnd, Printed, Refused, planned, task_as, FileAnswers, SessionPlan, plan_as, plan_by_words, plan_reading}
+use Rattle.bb_plan.specs.declared.plan.Work.{Work}
+use Rattle.bb_plan.specs.FilesRead.{AreRead, IsReadAs}
+use Rattle.bb_session.specs.Session.{Answers, session_by}
+use Rattle.bb_session.specs.Work.{Gives, IsWorkedOut, SendsByMemory}
+use Rattle.bb_plan.specs.declared.plan.PlannedTask.TheVariants as tasks
+use Rattle.bb_plan.specs.declared.plan.PlannedWork.{PlannedWork}
+use Rattle.bb_plan.specs.declared.refusal.Refusal.{Refusal}
+use Rattle.bb_plan.specs.declared.refusal.Refusal.TheVariants as refusals
+use Rattle.bb_session.specs.declared.report.Report.{Report}
 
 no_answers : FileAnswers → Answers
 no_answers files = record { files = files; load = Ok None; saves = [] }
@@ -19,7 +21,7 @@ no_answers files = record { files = files; load = Ok None; saves = [] }
 -- nothing was asked of the device, since the plan was refused
 given_refused : (words : List (List ℕ)) (folder folder' : Folder) (files : FileAnswers) (device : Device)
     (refusal : Refusal) → AreRead (plan_reading words device.geometry) folder folder' files →
-    plan_by_words words device.geometry files ≡ Err refusal →
+    plan_by_words words device.geometry files ≡ Err (Refused refusal) →
     IsAnswer words folder folder' device device (Err refusal)
 unfolding no_answers
 given_refused words folder folder' files device refusal filed refused =
@@ -29,23 +31,23 @@ given_refused words folder folder' files device refusal filed refused =
       answered = record {
         filed = filed;
         followed =
-            subst (λ (p : Result SessionPlan Refusal). IsFollowed p device device answers) (sym refused)
+            subst (λ (p : Result SessionPlan EarlyEnd). IsFollowed p device device answers) (sym refused)
             refl;
       };
       gives =
-          subst (λ (p : Result SessionPlan Refusal). Gives (session_by p answers) (Err refusal))
+          subst (λ (p : Result SessionPlan EarlyEnd). Gives (session_by p answers) (Err refusal))
           (sym refused) (refl, refl);
     }
 
 pub planned_refused : (words : List (List ℕ)) (folder folder' : Folder) (device : Device) (refusal : Refusal) →
-    IsReadAs (plan_reading words device.geometry) plan_as folder folder' (Err refusal) →
+    IsReadAs (plan_reading words device.geometry) task_as folder folder' (Err refusal) →
     (given : Result Report Refusal) → given ≡ Err refusal → IsSessionAnswer words folder folder' device device given
 planned_refused words folder folder' device refusal read given is =
     subst (IsSessionAnswer words folder folder' device device) (sym is) (by read)
   where
-    by : IsReadAs (plan_reading words device.geometry) plan_as folder folder' (Err refusal) →
+    by : IsReadAs (plan_reading words device.geometry) task_as folder folder' (Err refusal) →
         IsSessionAnswer words folder folder' device device (Err refusal)
-    by (inl read) = inl (given_refused words folder folder' read.answers device refusal read.are read.gives)
+    by (inl read) = inl (given_refused words folder folder' read.answers device refusal read.are (ap planned read.gives))
     by (inr (memory, short)) =
         let same : refusal ≡ refusals.NoMemory = cc in
         inr (inr (record { is = ap (λ (r : Refusal). Err r) same; unasked = refl }))
@@ -63,11 +65,11 @@ given_worked words folder folder' files before after keyed work given filed is (
       answered = record {
         filed = filed;
         followed =
-            subst (λ (p : Result SessionPlan Refusal). IsFollowed p before after answers) (sym is)
+            subst (λ (p : Result SessionPlan EarlyEnd). IsFollowed p before after answers) (sym is)
             done.work;
       };
       gives =
-          subst (λ (p : Result SessionPlan Refusal). Gives (session_by p answers) given) (sym is) done.gives;
+          subst (λ (p : Result SessionPlan EarlyEnd). Gives (session_by p answers) given) (sym is) done.gives;
     })
 given_worked words folder folder' files before after keyed work given filed is (inr (inl text)) =
     let answers : Answers = record { files = files; load = text.load; saves = text.saves } in
@@ -76,20 +78,50 @@ given_worked words folder folder' files before after keyed work given filed is (
       answered = record {
         filed = filed;
         followed =
-            subst (λ (p : Result SessionPlan Refusal). IsFollowed p before after answers) (sym is)
+            subst (λ (p : Result SessionPlan EarlyEnd). IsFollowed p before after answers) (sym is)
             text.work;
       };
       whole =
-          subst (λ (p : Result SessionPlan Refusal). SendsByMemory (session_by p answers).refusal) (sym is) text.whole;
+          subst (λ (p : Result SessionPlan EarlyEnd). SendsByMemory (session_by p answers).refusal) (sym is) text.whole;
       is = text.is;
     }))
 given_worked words folder folder' files before after keyed work given filed is (inr (inr memory)) =
     inr (inr memory)
 
 pub planned_worked : (words : List (List ℕ)) (folder folder' : Folder) (before after : Device) (plan : PlannedWork) →
-    IsReadAs (plan_reading words before.geometry) plan_as folder folder' (Ok plan) →
+    IsReadAs (plan_reading words before.geometry) task_as folder folder' (Ok (tasks.OnCopies plan)) →
     (given : Result Report Refusal) → IsWorkedOut (plan_as plan).keyed plan.work before after given →
     IsSessionAnswer words folder folder' before after given
 planned_worked words folder folder' before after plan (inl read) given worked =
-    given_worked words folder folder' read.answers before after (plan_as plan).keyed plan.work given read.are read.gives worked
+    given_worked words folder folder' read.answers before after (plan_as plan).keyed plan.work given read.are (ap planned read.gives) worked
 planned_worked words folder folder' before after plan (inr (memory, short)) given worked = absurd cc
+
+-- a text is sent, and nothing was asked of the device
+given_printed : (words : List (List ℕ)) (folder folder' : Folder) (files : FileAnswers) (device : Device)
+    (report : Report) → report.refusal ≡ None → AreRead (plan_reading words device.geometry) folder folder' files →
+    plan_by_words words device.geometry files ≡ Err (Printed report.text) →
+    IsAnswer words folder folder' device device (Ok report)
+unfolding no_answers
+given_printed words folder folder' files device report none filed is =
+    let answers = no_answers files in
+    record {
+      answers = answers;
+      answered = record {
+        filed = filed;
+        followed =
+            subst (λ (p : Result SessionPlan EarlyEnd). IsFollowed p device device answers) (sym is) refl;
+      };
+      gives =
+          subst (λ (p : Result SessionPlan EarlyEnd). Gives (session_by p answers) (Ok report)) (sym is)
+          (refl, sym none);
+    }
+
+pub planned_printed : (words : List (List ℕ)) (folder folder' : Folder) (device : Device) (text : List ℕ) →
+    IsReadAs (plan_reading words device.geometry) task_as folder folder' (Ok (tasks.Prints text)) →
+    (given : Result Report Refusal) → given ≡ Ok (record { text = text; refusal = None }) →
+    IsSessionAnswer words folder folder' device device given
+planned_printed words folder folder' device text (inl read) given is =
+    subst (IsSessionAnswer words folder folder' device device) (sym is)
+    (inl (given_printed words folder folder' read.answers device (record { text = text; refusal = None }) refl read.are
+    (ap planned read.gives)))
+planned_printed words folder folder' device text (inr (memory, short)) given is = absurd cc

@@ -12,21 +12,24 @@ use Rattle.bb_shell.specs.Boot.{first_table}
 use Rattle.bb_shell.specs.Counting.{IsBootTurn, turn_of_rounds}
 use Rattle.bb_shell.specs.Rounds.{answer_of}
 use Rattle.bb_shell.proofs.Answering.{rounds_are}
-use Rattle.bb_tool.specs.Booting.{SaveAnswer}
+use Rattle.bb_session.specs.Booting.{SaveAnswer}
 use Rattle.bb_tool.specs.Calls.{IsSession, geometry_of}
 use Rattle.bb_tool.specs.SessionAnswer.{IsFollowed}
-use Rattle.bb_tool.specs.Looking.{passed_in}
-use Rattle.bb_tool.specs.Plan.{Act, Boot, Good, SessionPlan, Show, Work, Write}
+use Rattle.bb_session.specs.Looking.{passed_in}
+use Rattle.bb_plan.specs.Plan.{EarlyEnd, SessionPlan}
+use Rattle.bb_plan.specs.declared.plan.Work.{Work}
+use Rattle.bb_plan.specs.declared.plan.Work.TheVariants.{Act, Boot, Good, Show, Write}
 use Rattle.bb_tool.specs.Ran.{Ran}
-use Rattle.bb_tool.specs.Session.{LoadAnswer, Session, loaded_area}
+use Rattle.bb_session.specs.Session.{LoadAnswer, Session, loaded_area}
 use Rattle.bb_tool.specs.Starting.{BootsInTurn, IsBoundWork, IsTurnOf}
-use Rattle.bb_tool.specs.SessionTurns.{EachStanding, boot_turn, first_area, work_turn}
-use Rattle.bb_tool.specs.Work.{IsBootWork, IsLoadedAs, IsWorkOf}
-use Rattle.bb_tool.specs.declared.refusal.Refusal.{Refusal}
-use Rattle.bb_tool.proofs.Booted.{boot_is}
-use Rattle.bb_tool.proofs.Kept.{found_or, load_found}
-use Rattle.bb_tool.proofs.Sizes.{IsSizedWork, passed_sized, planned_sized}
-use Rattle.bb_tool.proofs.Turns.{standing_at, told_content}
+use Rattle.bb_session.specs.SessionTurns.{EachStanding, boot_turn, work_turn}
+use Rattle.bb_plan.specs.Plan.{first_area}
+use Rattle.bb_session.specs.Work.{IsBootWork, IsLoadedAs, IsWorkOf}
+use Rattle.bb_session.proofs.Booted.{boot_is}
+use Rattle.bb_session.proofs.Kept.{found_or, load_found}
+use Rattle.bb_plan.proofs.Sizes.{IsSizedWork, planned_sized}
+use Rattle.bb_session.proofs.Passed.{passed_sized}
+use Rattle.bb_session.proofs.Turns.{standing_at, told_content}
 
 -- the table that a load gave is the area of the first copy that passes, or the one of an empty
 -- device
@@ -92,5 +95,5 @@ boots_of ran s answers plan answered is =
       binding = bound_work plan.work plan.keyed sized;
       turns =
           work_in_turn plan.work plan from to answers.load answers.saves refl sized
-          (subst (λ (p : Result SessionPlan Refusal). IsFollowed p from to answers) is answered.followed);
+          (subst (λ (p : Result SessionPlan EarlyEnd). IsFollowed p from to answers) is answered.followed);
     }

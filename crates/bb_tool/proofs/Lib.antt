@@ -1,34 +1,12 @@
-pub mod Barred
-pub mod BootTurns
-pub mod Booted
 pub mod Clauses
-pub mod Copies
-pub mod Done
 pub mod Early
 pub mod Endings
-pub mod EntryPlans
-pub mod Erases
-pub mod Exact
 mod Examples
-pub mod Faults
-pub mod Fine
 pub mod Given
 pub mod InTurn
-pub mod Kept
 pub mod Lines
-pub mod Planned
-pub mod Plans
-pub mod Quiet
-mod Regions
-pub mod Readings
-pub mod Sizes
-pub mod Sources
 pub mod Starting
 pub mod Tables
-pub mod Tellable
 pub mod Told
-pub mod Turns
+pub mod Undisturbed
 pub mod Wholes
-pub mod Worked
-pub mod Works
-pub mod WriteSums

@@ -20,26 +20,30 @@ use Rattle.bb_shell.specs.declared.outcome.Outcome.{Outcome}
 use Rattle.bb_shell.specs.declared.outcome.Outcome.TheVariants as outcomes
 use Rattle.bb_shell.proofs.Joins.{there}
 use Rattle.bb_state.specs.Kinds.{laid_passings}
-use Rattle.bb_tool.specs.Booting.{AreRoundsOf, SaveAnswer, boots, end_refusal, start_plans_of, start_in, start_of}
+use Rattle.bb_session.specs.Booting.{AreRoundsOf, SaveAnswer, boots, end_refusal, start_plans_of, start_in, start_of}
 use Rattle.bb_tool.specs.Calls.{IsSession, MayAnswer, SendsText, session_plan_for, session_for}
 use Rattle.bb_tool.specs.SessionAnswer.{IsFollowed}
-use Rattle.bb_tool.specs.Looking.{passed_in}
-use Rattle.bb_tool.specs.Plan.{Act, Boot, Good, SessionPlan, Show, Work, Write}
+use Rattle.bb_session.specs.Looking.{passed_in}
+use Rattle.bb_plan.specs.Plan.{EarlyEnd, SessionPlan}
+use Rattle.bb_plan.specs.declared.plan.Work.{Work}
+use Rattle.bb_plan.specs.declared.plan.Work.TheVariants.{Act, Boot, Good, Show, Write}
 use Rattle.bb_tool.specs.Ran.{Ran}
-use Rattle.bb_tool.specs.Refusal.{copy_refusal, status_of}
-use Rattle.bb_tool.specs.Session.{Answers, LoadAnswer, Session, refusal_by_table, session_by, loaded_area, session_of_saves, saves_after, sent_of, work_text, unless_barred, work_session, worked_on}
+use Rattle.bb_plan.specs.Refusal.{copy_refusal, status_of}
+use Rattle.bb_session.specs.Session.{Answers, LoadAnswer, Session, refusal_by_table, session_by, loaded_area, session_of_saves, saves_after, work_text, unless_barred, work_session, worked_on}
+use Rattle.bb_tool.specs.Sending.{sent_of}
 use Rattle.bb_tool.specs.Starting.{AddsStart, CountsFailedStarts, KnowsStartFaults, NamesTheTarget, RunsRounds, StartsAtMostOne, StartsAfterSave, StartsTheLast}
-use Rattle.bb_tool.specs.SessionTurns.{first_area}
-use Rattle.bb_tool.specs.Work.{IsBootWork, IsLoadedAs, IsStoreWork, IsWork, IsWorkOf}
-use Rattle.bb_tool.specs.declared.refusal.Refusal.{Refusal}
-use Rattle.bb_tool.specs.declared.refusal.Refusal.TheVariants as refusals
-use Rattle.bb_tool.specs.declared.status.Status.{Status}
-use Rattle.bb_tool.specs.declared.status.Status.TheVariants as statuses
-use Rattle.bb_tool.proofs.Barred.{barred_has, fault_device, is_device_fault, stored_on}
-use Rattle.bb_tool.proofs.Booted.{boot_is}
-use Rattle.bb_tool.proofs.Endings.{none_some, own_answer}
-use Rattle.bb_tool.proofs.Kept.{found_or, load_found, load_left}
-use Rattle.bb_tool.proofs.Worked.{begun_starts}
+use Rattle.bb_plan.specs.Plan.{first_area}
+use Rattle.bb_session.specs.Work.{IsBootWork, IsLoadedAs, IsStoreWork, IsWork, IsWorkOf}
+use Rattle.bb_plan.specs.declared.refusal.Refusal.{Refusal}
+use Rattle.bb_plan.specs.declared.refusal.Refusal.TheVariants as refusals
+use Rattle.bb_plan.specs.declared.status.Status.{Status}
+use Rattle.bb_plan.specs.declared.status.Status.TheVariants as statuses
+use Rattle.bb_session.proofs.Barred.{barred_has, fault_device, is_device_fault, stored_on}
+use Rattle.bb_session.proofs.Booted.{boot_is}
+use Rattle.bb_session.proofs.Faulting.{none_some}
+use Rattle.bb_tool.proofs.Endings.{own_answer}
+use Rattle.bb_session.proofs.Kept.{found_or, load_found, load_left}
+use Rattle.bb_session.proofs.Worked.{begun_starts}
 
 -- ---- the rounds of a session
 
@@ -331,12 +335,12 @@ work_cause (Boot targets cause plans) plan from to (Ok found) saves is done refu
 
 followed_is : (ran : Ran) (answers : Answers) (plan : SessionPlan) → session_plan_for ran answers ≡ Ok plan →
     work_session plan answers.load answers.saves ≡ session_for ran answers
-followed_is ran answers plan is = sym (ap (λ (p : Result SessionPlan Refusal). session_by p answers) is)
+followed_is ran answers plan is = sym (ap (λ (p : Result SessionPlan EarlyEnd). session_by p answers) is)
 
 work_of : (ran : Ran) (answers : Answers) (plan : SessionPlan) → MayAnswer ran answers → session_plan_for ran answers ≡ Ok plan →
     IsWork plan ran.before.device ran.after.device answers.load answers.saves
 work_of ran answers plan answered is =
-    subst (λ (p : Result SessionPlan Refusal). IsFollowed p ran.before.device ran.after.device answers) is answered.followed
+    subst (λ (p : Result SessionPlan EarlyEnd). IsFollowed p ran.before.device ran.after.device answers) is answered.followed
 
 module _ (ran : Ran) where
   abbrev From : Device
@@ -397,12 +401,12 @@ module _ (ran : Ran) where
   one_or_none None h = inl h
   one_or_none (Some plan) h = inr (plan, h)
 
-  answered_once : (answers : Answers) → MayAnswer ran answers → (plan : Result SessionPlan Refusal) → session_plan_for ran answers ≡ plan →
+  answered_once : (answers : Answers) → MayAnswer ran answers → (plan : Result SessionPlan EarlyEnd) → session_plan_for ran answers ≡ plan →
       (starts To ≡ starts From) ⊎ ((plan : StartPlan) × StartsOnce From To plan)
   answered_once answers answered (Ok plan) is =
       one_or_none (start_of plan.work (session_for ran answers).rounds) (started answers plan answered is)
-  answered_once answers answered (Err refusal) is =
-      inl (ap starts (subst (λ (p : Result SessionPlan Refusal). IsFollowed p From To answers) is answered.followed))
+  answered_once answers answered (Err end) is =
+      inl (ap starts (subst (λ (p : Result SessionPlan EarlyEnd). IsFollowed p From To answers) is answered.followed))
 
   pub starts_once_of : IsSession ran → StartsAtMostOne ran
   starts_once_of (inl ending) = answered_once ending.answers ending.answered (session_plan_for ran ending.answers) refl

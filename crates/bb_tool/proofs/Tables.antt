@@ -11,32 +11,33 @@ use Rattle.bb_copies.specs.declared.answers.CopyFault.TheVariants as faults
 use Rattle.bb_flash.specs.Device.{Device, content}
 use Rattle.bb_flash.specs.Image.{Image}
 use Rattle.bb_flash.specs.declared.plan.Plan.{Plan as StartPlan}
-use Rattle.bb_state.specs.Keyed.{Keyed}
 use Rattle.bb_shell.specs.Boot.{AreRounds, Round, end_by, boot_end, first_table, last_round}
 use Rattle.bb_shell.specs.declared.boot_end.BootEnd.TheVariants as ends
 use Rattle.bb_shell.specs.declared.outcome.Outcome.{Outcome}
 use Rattle.bb_shell.specs.declared.outcome.Outcome.TheVariants as outcomes
 use Rattle.bb_shell.proofs.Answering.{best_none}
 use Rattle.bb_words.specs.Words.{words_of}
-use Rattle.bb_tool.specs.Booting.{SaveAnswer, boots, end_refusal, has_no_target}
-use Rattle.bb_tool.specs.Calls.{ComesByTable, IsRefusedWith, IsSession, geometry_of, is_fault_status, session_for}
+use Rattle.bb_session.specs.Booting.{SaveAnswer, boots, end_refusal, has_no_target}
+use Rattle.bb_tool.specs.Calls.{ComesByTable, IsSession, geometry_of, is_fault_status, session_for}
+use Rattle.bb_plan.specs.Plan.{EarlyEnd, Printed, Refused, IsRefusedWith}
 use Rattle.bb_tool.specs.SessionAnswer.{IsFollowed}
-use Rattle.bb_tool.specs.Looking.{first_found, passed_in}
-use Rattle.bb_tool.specs.Plan.{Act, Boot, Good, SessionPlan, Show, Work, Write, plan_by_words}
+use Rattle.bb_plan.specs.Plan.{SessionPlan, plan_by_words}
+use Rattle.bb_plan.specs.declared.plan.Work.{Work}
+use Rattle.bb_plan.specs.declared.plan.Work.TheVariants.{Act, Boot, Good, Show, Write}
 use Rattle.bb_tool.specs.Ran.{Ran}
-use Rattle.bb_tool.specs.Refusal.{copy_refusal, status_of}
-use Rattle.bb_tool.specs.Session.{Answers, LoadAnswer, Session, refusal_by_table, barred_after, ended_status, session_by, load_for, loaded_area, session_of_saves, saves_after, work_text, unless_barred, work_session, worked_on}
-use Rattle.bb_tool.specs.Work.{IsLoadedAs, IsWork, IsWorkOf}
-use Rattle.bb_tool.specs.declared.refusal.Refusal.{Refusal}
-use Rattle.bb_tool.specs.declared.refusal.Refusal.TheVariants as refusals
-use Rattle.bb_tool.specs.declared.status.Status.{Status}
-use Rattle.bb_tool.specs.declared.status.Status.TheVariants as statuses
-use Rattle.bb_tool.proofs.Barred.{barred_session, stored_on}
-use Rattle.bb_tool.proofs.Booted.{boot_is, later_last}
+use Rattle.bb_plan.specs.Refusal.{copy_refusal, status_of}
+use Rattle.bb_session.specs.Session.{Answers, LoadAnswer, Session, refusal_by_table, barred_after, ended_status, session_by, load_for, loaded_area, session_of_saves, saves_after, work_text, unless_barred, work_session, worked_on}
+use Rattle.bb_session.specs.Work.{IsWork, IsWorkOf}
+use Rattle.bb_plan.specs.declared.refusal.Refusal.{Refusal}
+use Rattle.bb_plan.specs.declared.refusal.Refusal.TheVariants as refusals
+use Rattle.bb_plan.specs.declared.status.Status.{Status}
+use Rattle.bb_plan.specs.declared.status.Status.TheVariants as statuses
+use Rattle.bb_session.proofs.Barred.{barred_session, stored_on}
+use Rattle.bb_session.proofs.Booted.{boot_is, later_last}
 use Rattle.bb_tool.proofs.Endings.{own_answer, plan_ends}
-use Rattle.bb_tool.proofs.Kept.{load_found}
-use Rattle.bb_tool.proofs.Plans.{plan_refusal, same_plan}
+use Rattle.bb_plan.proofs.Plans.{plan_refusal, same_plan}
 use Rattle.bb_tool.proofs.Told.{told_cases}
+use Rattle.bb_session.proofs.Unrefused.{work_gives}
 
 -- the two answers
 abbrev is_bar : Status → Bool
@@ -141,31 +142,20 @@ bars_work plan from to (Ok found) saves done answer bar e =
     bars_behind plan from to found saves done answer bar (refusal_by_table plan.work (loaded_area plan.keyed.layout found)) refl e
 bars_work plan from to (Err fault) saves done answer bar e = not_bar (status_of (copy_refusal fault)) answer bar (fault_else fault) e
 
-bars_plan : (plan : Result SessionPlan Refusal) (from to : Device) (answers : Answers) → IsFollowed plan from to answers → (answer : Status) →
+bars_plan : (plan : Result SessionPlan EarlyEnd) (from to : Device) (answers : Answers) → IsFollowed plan from to answers → (answer : Status) →
     is_bar answer ≡ true → (IsRefusedWith answer plan → ⊥) → ended_status (session_by plan answers) ≡ answer →
     option_map status_of (barred_after plan answers.load) ≡ Some answer
 bars_plan (Ok plan) from to answers done answer bar none e = bars_work plan from to answers.load answers.saves done answer bar e
-bars_plan (Err refusal) from to answers done answer bar none e = absurd (none e)
+bars_plan (Err (Printed text)) from to answers done answer bar none e = not_bar statuses.Done answer bar refl e
+bars_plan (Err (Refused refusal)) from to answers done answer bar none e = absurd (none e)
 
--- ---- what a load gives is what the device holds
-
-loaded_gives : (keyed : Keyed) (used : Option ℕ) (from mid : Device) (found : Option (List ℕ)) → IsLoadedAs keyed used from mid found →
-    (image : Image) → content from ≡ Some image → found ≡ first_found (passed_in keyed from.geometry.page image)
-loaded_gives keyed used from mid found gave image held =
-    gave.taken ∙ load_found keyed gave.area gave.loaded from mid image gave.gave held
-
-pub work_gives : (work : Work) (plan : SessionPlan) (from to : Device) (found : Option (List ℕ)) (saves : List SaveAnswer) → IsWorkOf work plan from to (Ok found) saves → (image : Image) → content from ≡ Some image → found ≡ first_found (passed_in plan.keyed from.geometry.page image)
-work_gives Show plan from to found saves done image held = done.looked.told image held
-work_gives (Write area) plan from to found saves done image held = loaded_gives plan.keyed done.used from done.middle found done.loaded.gives image held
-work_gives (Act actions) plan from to found saves done image held = loaded_gives plan.keyed done.used from done.middle found done.loaded.gives image held
-work_gives (Good targets) plan from to found saves done image held = loaded_gives plan.keyed done.used from done.middle found done.loaded.gives image held
-work_gives (Boot targets cause plans) plan from to found saves done image held = loaded_gives plan.keyed done.used from done.middle found done.loaded.gives image held
+-- ---- what bars a session over a content
 
 -- what bars a session over this content ends it so
 abbrev BarsWith : Status → Option Refusal → Type 0
 BarsWith answer bars = option_map status_of bars ≡ Some answer
 
-abbrev bars_in : Result SessionPlan Refusal → Device → Image → Option Refusal
+abbrev bars_in : Result SessionPlan EarlyEnd → Device → Image → Option Refusal
 bars_in plan device image = barred_after plan (load_for plan device.geometry image)
 
 work_place : (answer : Status) (plan : SessionPlan) (from to : Device) (load : LoadAnswer) (saves : List SaveAnswer) → IsWork plan from to load saves → (image : Image) → content from ≡ Some image →
@@ -174,10 +164,10 @@ work_place answer plan from to (Ok found) saves done image held some =
     subst (λ f. BarsWith answer (refusal_by_table plan.work (loaded_area plan.keyed.layout f))) (work_gives plan.work plan from to found saves done image held) some
 work_place answer plan from to (Err fault) saves done image held some = absurd cc
 
-plan_place : (answer : Status) (plan : Result SessionPlan Refusal) (from to : Device) (answers : Answers) → IsFollowed plan from to answers → (image : Image) → content from ≡ Some image →
+plan_place : (answer : Status) (plan : Result SessionPlan EarlyEnd) (from to : Device) (answers : Answers) → IsFollowed plan from to answers → (image : Image) → content from ≡ Some image →
     BarsWith answer (barred_after plan answers.load) → BarsWith answer (bars_in plan from image)
 plan_place answer (Ok plan) from to answers done image held some = work_place answer plan from to answers.load answers.saves done image held some
-plan_place answer (Err refusal) from to answers done image held some = absurd cc
+plan_place answer (Err end) from to answers done image held some = absurd cc
 
 -- ---- where the table bars the session, that is the answer, or a fault
 
@@ -202,10 +192,10 @@ work_ends answer plan from to (Ok found) saves done image held some =
     inl (found_ends answer plan found saves (refusal_by_table plan.work (loaded_area plan.keyed.layout found)) refl
     (subst (λ f. BarsWith answer (refusal_by_table plan.work (loaded_area plan.keyed.layout f))) (sym (work_gives plan.work plan from to found saves done image held)) some))
 
-lost_ends : (answer : Status) (plan : Result SessionPlan Refusal) (from to : Device) (answers : Answers) → IsFollowed plan from to answers → (image : Image) → content from ≡ Some image →
+lost_ends : (answer : Status) (plan : Result SessionPlan EarlyEnd) (from to : Device) (answers : Answers) → IsFollowed plan from to answers → (image : Image) → content from ≡ Some image →
     BarsWith answer (bars_in plan from image) → IsBarOrFault answer (ended_status (session_by plan answers))
 lost_ends answer (Ok plan) from to answers done image held some = work_ends answer plan from to answers.load answers.saves done image held some
-lost_ends answer (Err refusal) from to answers done image held some = absurd cc
+lost_ends answer (Err end) from to answers done image held some = absurd cc
 
 -- ---- in the words of a call
 
@@ -232,10 +222,10 @@ barred_of answer bar first second third unplanned ran s = λ files told image he
       let here = plan_place answer plan ran.before.device ran.after.device answers own.ending.answered.followed image held
       (bars_plan plan ran.before.device ran.after.device answers own.ending.answered.followed answer bar none own.own) in
       elim (same_plan ran.words (geometry_of ran) ran.before.folder ran.after.folder answers.files own.ending.answered.filed files told) [
-        | inl same ↦ subst (λ (p : Result SessionPlan Refusal). BarsWith answer (bars_in p ran.before.device image)) same here
+        | inl same ↦ subst (λ (p : Result SessionPlan EarlyEnd). BarsWith answer (bars_in p ran.before.device image)) same here
         | inr odd ↦ elim odd [
           | inl fault ↦ absurd (third (sym own.own ∙ plan_ends plan answers statuses.FileFault fault))
-          | inr memory ↦ absurd (second (sym own.own ∙ ap (λ (p : Result SessionPlan Refusal). ended_status (session_by p answers)) memory))
+          | inr memory ↦ absurd (second (sym own.own ∙ ap (λ (p : Result SessionPlan EarlyEnd). ended_status (session_by p answers)) memory))
         ]
       ];
   always = λ some. elim s [
@@ -248,10 +238,10 @@ barred_of answer bar first second third unplanned ran s = λ files told image he
         (elim (same_plan ran.words (geometry_of ran) ran.before.folder ran.after.folder answers.files ending.answered.filed files told) [
           | inl same ↦
               inr (lost_ends answer plan ran.before.device ran.after.device answers ending.answered.followed image held
-              (subst (λ (p : Result SessionPlan Refusal). BarsWith answer (bars_in p ran.before.device image)) (sym same) some))
+              (subst (λ (p : Result SessionPlan EarlyEnd). BarsWith answer (bars_in p ran.before.device image)) (sym same) some))
           | inr odd ↦ elim odd [
             | inl fault ↦ inr (inr (ap is_fault_status (plan_ends plan answers statuses.FileFault fault)))
-            | inr memory ↦ inl (ap (λ (p : Result SessionPlan Refusal). ended_status (session_by p answers)) memory)
+            | inr memory ↦ inl (ap (λ (p : Result SessionPlan EarlyEnd). ended_status (session_by p answers)) memory)
           ]
         ])
   ];

@@ -2,11 +2,11 @@
 use Rattle.std.proofs.Common.{◌≡◌, ◌≢◌, ◌⊎◌, ℕ, List, refl, sym, ◌∙◌, inl, inr}
 use Rattle.bb_base.specs.Faults.{Rose}
 use Rattle.bb_base.specs.SinkRecord.{SinkRecord}
-use Rattle.bb_tool.specs.Refusal.{line_of}
+use Rattle.bb_tool.specs.Lines.{line_of}
 use Rattle.bb_tool.specs.Sending.{IsTextCut, IsSent, IsSentOrCut, IsSentMemory, status_unsent}
-use Rattle.bb_tool.specs.declared.refusal.Refusal.TheVariants as refusals
-use Rattle.bb_tool.specs.declared.status.Status.{Status}
-use Rattle.bb_tool.specs.declared.status.Status.TheVariants as statuses
+use Rattle.bb_plan.specs.declared.refusal.Refusal.TheVariants as refusals
+use Rattle.bb_plan.specs.declared.status.Status.{Status}
+use Rattle.bb_plan.specs.declared.status.Status.TheVariants as statuses
 
 -- a session's own status is that of its refusal, and isn't that of a failing output
 overrule_cases : (ended : Status) → (status_unsent ended ≡ statuses.SinkFault) ⊎ (status_unsent ended ≡ statuses.NoMemory)

@@ -1,11 +1,9 @@
 -- A session where nothing failed: what was answered is what the files and the device hold.
-use Rattle.std.proofs.Common.{◌≡◌, ◌⊎◌, ℕ, ◌≤◌, Bool, true, false, List, [], ◌∷◌, length, Option, Some, None, is_none, Result, Ok, Err, if◌then◌else◌, refl, sym, ap, subst, ◌∙◌, inl, inr, arith}
+use Rattle.std.proofs.Common.{◌≡◌, ◌⊎◌, ℕ, ◌≤◌, true, false, List, [], ◌∷◌, length, Option, Some, None, is_none, Result, Ok, Err, if◌then◌else◌, refl, sym, ap, subst, ◌∙◌, inl, inr, arith}
 use Rattle.std.specs.Prelude.{replicate}
 use Rattle.bb_base.specs.Faults.{Rose}
 use Rattle.bb_base.specs.Folder.{FileMap, Folder}
 use Rattle.bb_base.specs.SinkRecord.{SinkRecord}
-use Rattle.bb_copies.specs.declared.answers.CopyFault.{CopyFault}
-use Rattle.bb_copies.specs.declared.answers.CopyFault.TheVariants as faults
 use Rattle.bb_flash.specs.Device.{Device, content}
 use Rattle.bb_flash.specs.Image.{Image}
 use Rattle.bb_chooser.specs.Binding.{Binding}
@@ -18,46 +16,30 @@ use Rattle.bb_shell.specs.Rounds.{best_of, rounds_by}
 use Rattle.bb_shell.proofs.Answering.{best_is, best_none}
 use Rattle.bb_tool.specs.Calls.{IsSession, IsUndisturbed, IsUndisturbedAlone, geometry_of, session_for}
 use Rattle.bb_tool.specs.SessionAnswer.{AreAnswers, IsFollowed}
-use Rattle.bb_tool.specs.Looking.{first_found, passed_in}
-use Rattle.bb_tool.specs.Booting.{SaveAnswer, boots, has_no_target, rounds_of}
-use Rattle.bb_tool.specs.Plan.{Act, Boot, FileAnswers, Good, SessionPlan, Show, Work, Write, files_for, plan_by_words}
+use Rattle.bb_session.specs.Looking.{first_found, passed_in}
+use Rattle.bb_session.specs.Booting.{SaveAnswer, boots, has_no_target, rounds_of}
+use Rattle.bb_plan.specs.Plan.{EarlyEnd, FileAnswers, SessionPlan, files_for, plan_by_words}
+use Rattle.bb_plan.specs.declared.plan.Work.{Work}
+use Rattle.bb_plan.specs.declared.plan.Work.TheVariants.{Act, Boot, Good, Show, Write}
 use Rattle.bb_tool.specs.Ran.{Ran}
-use Rattle.bb_tool.specs.Refusal.{status_of}
-use Rattle.bb_tool.specs.Session.{Answers, LoadAnswer, Session, all_made, answers_after, answers_of, answers_to, refusal_by_table, boot_session, ended_status, session_by, loaded_area, refused_for, session_of_saves, saves_after, saves_of, sent_of, session_of, work_text, unless_barred, work_session, worked_on}
+use Rattle.bb_session.specs.Session.{Answers, LoadAnswer, Session, all_made, answers_after, answers_of, answers_to, refusal_by_table, boot_session, ended_status, session_by, loaded_area, refused_for, session_of_saves, saves_after, saves_of, session_of, work_text, unless_barred, work_session, worked_on}
+use Rattle.bb_tool.specs.Sending.{sent_of}
 use Rattle.bb_tool.specs.Sending.{IsSent, IsSentOrCut}
-use Rattle.bb_tool.specs.Work.{AreSaved, IsStoreWork, IsWorkOf}
-use Rattle.bb_tool.specs.declared.refusal.Refusal.{Refusal}
-use Rattle.bb_tool.specs.declared.refusal.Refusal.TheVariants as refusals
-use Rattle.bb_tool.specs.declared.status.Status.{Status}
-use Rattle.bb_tool.specs.declared.status.Status.TheVariants as statuses
-use Rattle.bb_tool.proofs.Endings.{FaultTells, work_fault}
-use Rattle.bb_tool.proofs.Plans.{alone_plan, faulty_plan, plan_held, same_plan}
+use Rattle.bb_session.specs.Work.{AreSaved, IsStoreWork, IsWorkOf}
+use Rattle.bb_plan.specs.declared.refusal.Refusal.{Refusal}
+use Rattle.bb_plan.specs.declared.refusal.Refusal.TheVariants as refusals
+use Rattle.bb_plan.specs.declared.status.Status.{Status}
+use Rattle.bb_plan.specs.declared.status.Status.TheVariants as statuses
+use Rattle.bb_plan.proofs.Plans.{alone_plan, faulty_plan, plan_held, same_plan}
 use Rattle.bb_tool.proofs.Told.{told_whole}
-use Rattle.bb_tool.proofs.Barred.{HasNoFault, barred_session, done_whole, fault_device, is_device_fault, open_session, refused_whole, stored_whole}
-use Rattle.bb_tool.proofs.Booted.{boot_is}
-use Rattle.bb_tool.proofs.Fine.{all_saved, good_rounds, goods, goods_are, none_failed, round_there}
-use Rattle.bb_tool.proofs.Tables.{work_gives}
+use Rattle.bb_session.proofs.Barred.{HasNoFault, barred_session, fault_device, open_session, stored_whole}
+use Rattle.bb_session.proofs.Booted.{boot_is}
+use Rattle.bb_session.proofs.Fine.{all_saved, good_rounds, goods, goods_are, none_failed, round_there}
+use Rattle.bb_session.proofs.Unrefused.{unrefused, work_gives}
 
 -- one session is the other, or that of refused memory
 abbrev IsSameOrMemory : Session → Session → Type 0
 IsSameOrMemory given other = (given ≡ other) ⊎ (given ≡ refused_for refusals.NoMemory)
-
-fault_rose : (keyed : Keyed) (from to : Device) (fault : CopyFault) → FaultTells keyed from to fault → Rose from.faults to.faults
-fault_rose keyed from to faults.ReadFault tells = tells.0
-fault_rose keyed from to (faults.WriteFault copy) tells = tells.0
-fault_rose keyed from to faults.Unsure tells = absurd tells
-
--- where no call of the device failed no part of the work was refused
-no_fault_by : (plan : SessionPlan) (from to : Device) (load : LoadAnswer) (saves : List SaveAnswer) → IsWorkOf plan.work plan from to load saves → (Rose from.faults to.faults → ⊥) → (refusal : Refusal) → (work_session plan load saves).refusal ≡ Some refusal → (fault : Bool) → is_device_fault (status_of refusal) ≡ fault → HasNoFault (work_session plan load saves)
-no_fault_by plan from to load saves work whole refusal is false e = refused_whole (work_session plan load saves) refusal is e
-no_fault_by plan from to load saves work whole refusal is true e =
-    let fault = work_fault plan.work plan from to load saves refusal e refl work is in
-    absurd (whole (fault_rose plan.keyed from to fault.fault fault.tells))
-
-pub unrefused : (plan : SessionPlan) (from to : Device) (load : LoadAnswer) (saves : List SaveAnswer) → IsWorkOf plan.work plan from to load saves → (Rose from.faults to.faults → ⊥) → (refusal : Option Refusal) → (work_session plan load saves).refusal ≡ refusal → HasNoFault (work_session plan load saves)
-unrefused plan from to load saves work whole None is = done_whole (work_session plan load saves) is
-unrefused plan from to load saves work whole (Some refusal) is =
-    no_fault_by plan from to load saves work whole refusal is (is_device_fault (status_of refusal)) refl
 
 -- so each save that is to be made was made
 saved_same : (keyed : Keyed) (used : Option ℕ) (text : List ℕ) (areas : List (List ℕ)) (saves : List SaveAnswer) (from to : Device) → AreSaved keyed used areas from to saves → HasNoFault (session_of_saves text areas saves) → session_of_saves text areas saves ≡ session_of_saves text areas (all_made areas)
@@ -180,8 +162,8 @@ load_same plan from to (Ok found) saves done none image told calm =
     (subst (λ f. IsCalm from to (work_session plan (Ok f) (answers_after plan.work plan (Ok f)))) (sym same) calm)
     ∙ ap (λ f. work_session plan (Ok f) (answers_after plan.work plan (Ok f))) same
 
-plan_same : (plan : Result SessionPlan Refusal) (before after : Device) (answers : Answers) (files : FileAnswers) → IsFollowed plan before after answers → (Rose before.faults after.faults → ⊥) → (image : Image) → content before ≡ Some image → IsCalm before after (session_by plan (answers_to files plan before.geometry image)) → session_by plan answers ≡ session_by plan (answers_to files plan before.geometry image)
-plan_same (Err refusal) before after answers files done whole image told calm = refl
+plan_same : (plan : Result SessionPlan EarlyEnd) (before after : Device) (answers : Answers) (files : FileAnswers) → IsFollowed plan before after answers → (Rose before.faults after.faults → ⊥) → (image : Image) → content before ≡ Some image → IsCalm before after (session_by plan (answers_to files plan before.geometry image)) → session_by plan answers ≡ session_by plan (answers_to files plan before.geometry image)
+plan_same (Err end) before after answers files done whole image told calm = refl
 plan_same (Ok plan) before after answers files done whole image told calm =
     load_same plan before after answers.load answers.saves done
     (unrefused plan before after answers.load answers.saves done whole (work_session plan answers.load answers.saves).refusal refl) image told calm
@@ -191,8 +173,8 @@ session_same : (words : List (List ℕ)) (folder folder' : Folder) (before after
 session_same words folder folder' before after answers answered files same image told whole calm =
     let read = files_for words before.geometry files in
     inl (plan_same (plan_by_words words before.geometry answers.files) before after answers read answered.followed whole image told
-    (subst (λ (p : Result SessionPlan Refusal). IsCalm before after (session_by p (answers_to read p before.geometry image))) (sym same) calm)
-    ∙ ap (λ (p : Result SessionPlan Refusal). session_by p (answers_to read p before.geometry image)) same)
+    (subst (λ (p : Result SessionPlan EarlyEnd). IsCalm before after (session_by p (answers_to read p before.geometry image))) (sym same) calm)
+    ∙ ap (λ (p : Result SessionPlan EarlyEnd). session_by p (answers_to read p before.geometry image)) same)
 
 session_told : (words : List (List ℕ)) (folder folder' : Folder) (before after : Device) (answers : Answers) → AreAnswers words folder folder' before after answers → (Rose folder.faults folder'.faults → ⊥) → (files : FileMap) → folder.told ≡ Some files → (image : Image) → content before ≡ Some image → (Rose before.faults after.faults → ⊥) → IsCalm before after (session_of words before.geometry (answers_of words before.geometry files image)) → IsSameOrMemory (session_of words before.geometry answers) (session_of words before.geometry (answers_of words before.geometry files image))
 session_told words folder folder' before after answers answered calm files known image told whole started =
@@ -200,7 +182,7 @@ session_told words folder folder' before after answers answered calm files known
       | inl same ↦ session_same words folder folder' before after answers answered files (same ∙ sym (plan_held words before.geometry files)) image told whole started
       | inr odd ↦ elim odd [
         | inl faulty ↦ absurd (calm (faulty_plan words before.geometry folder folder' answers.files answered.filed faulty))
-        | inr memory ↦ inr (ap (λ (p : Result SessionPlan Refusal). session_by p answers) memory)
+        | inr memory ↦ inr (ap (λ (p : Result SessionPlan EarlyEnd). session_by p answers) memory)
       ]
     ]
 

@@ -10,17 +10,20 @@ use Rattle.bb_flash.specs.Device.{content}
 use Rattle.bb_flash.specs.declared.geometry.Geometry.{Geometry}
 use Rattle.bb_words.specs.Words.{words_of}
 use Rattle.bb_tool.specs.SessionAnswer.{AreAnswers}
-use Rattle.bb_tool.specs.Plan.{SessionPlan, copies_in, names_file, plan_by_words, plan_over_files}
+use Rattle.bb_plan.specs.Plan.{IsRefusedWith, EarlyEnd, SessionPlan, copies_in, names_file, plan_by_words, plan_over_files}
 use Rattle.bb_tool.specs.Ran.{Ran}
-use Rattle.bb_tool.specs.FilesRead.{IsFolderLater}
-use Rattle.bb_tool.specs.Refusal.{line_of, status_of}
-use Rattle.bb_tool.specs.Session.{Answers, Session, answers_of, barred_after, ended_status, load_for, sent_of, session_of}
+use Rattle.bb_plan.specs.FilesRead.{IsFolderLater}
+use Rattle.bb_tool.specs.Lines.{line_of}
+use Rattle.bb_plan.specs.Refusal.{status_of}
+use Rattle.bb_session.specs.Session.{Answers, Session, answers_of, barred_after, ended_status, load_for, session_of}
+use Rattle.bb_tool.specs.Sending.{sent_of}
 use Rattle.bb_tool.specs.Sending.{IsSent, IsSentOrCut}
-use Rattle.bb_tool.specs.Work.{SendsByMemory}
-use Rattle.bb_tool.specs.declared.refusal.Refusal.{Refusal}
-use Rattle.bb_tool.specs.declared.refusal.Refusal.TheVariants as refusals
-use Rattle.bb_tool.specs.declared.status.Status.{Status}
-use Rattle.bb_tool.specs.declared.status.Status.TheVariants as statuses
+use Rattle.bb_session.specs.Work.{SendsByMemory}
+use Rattle.bb_plan.specs.declared.refusal.Refusal.{Refusal}
+use Rattle.bb_plan.specs.declared.refusal.Refusal.TheVariants as refusals
+use Rattle.bb_plan.specs.declared.status.Status.{Status}
+use Rattle.bb_plan.specs.declared.status.Status.TheVariants as statuses
+use Rattle.bb_plan.specs.Status.{is_planning}
 
 -- ---- a call and its session
 
@@ -38,11 +41,11 @@ abbrev pub session_for : Ran → Answers → Session
 session_for ran answers = session_of ran.words (geometry_of ran) answers
 
 -- the plan, where reading the files that the words name gave what these files hold
-abbrev pub plan_over : Ran → FileMap → Result SessionPlan Refusal
+abbrev pub plan_over : Ran → FileMap → Result SessionPlan EarlyEnd
 plan_over ran files = plan_over_files ran.words (geometry_of ran) files
 
 -- the plan for what reading the files answered
-abbrev pub session_plan_for : Ran → Answers → Result SessionPlan Refusal
+abbrev pub session_plan_for : Ran → Answers → Result SessionPlan EarlyEnd
 session_plan_for ran answers = plan_by_words ran.words (geometry_of ran) answers.files
 
 -- the words name no file
@@ -122,26 +125,6 @@ KeepsFiles ran = IsFolderLater ran.before.folder ran.after.folder
 abbrev pub KeepsHistory : Ran → Type 0
 KeepsHistory ran = IsLater ran.before.device ran.after.device
 
--- the statuses of refusals that come before the work on the device
-abbrev pub is_planning : Status → Bool
-is_planning statuses.Done = false
-is_planning statuses.BadWords = true
-is_planning statuses.BadTree = true
-is_planning statuses.BadLayout = true
-is_planning statuses.BadVariable = true
-is_planning statuses.FileMissing = true
-is_planning statuses.FileFault = true
-is_planning statuses.FileTooLong = true
-is_planning statuses.ReadFault = false
-is_planning statuses.WriteFault = false
-is_planning statuses.NoTarget = false
-is_planning statuses.StartFailed = false
-is_planning statuses.BadSettings = true
-is_planning statuses.NoGood = false
-is_planning statuses.SinkFault = false
-is_planning statuses.BadKey = true
-is_planning statuses.NoMemory = false
-
 -- such a refusal comes without any call of the device
 abbrev pub AsksNothing : Ran → Type 0
 AsksNothing ran = is_planning ran.status ≡ true → ran.after.device ≡ ran.before.device
@@ -167,13 +150,8 @@ pub record AnswersExactly (ran : Ran) (answer : Status) (fact : Type 0) : Type 0
 abbrev pub ComesByWords : Status → Ran → Type 0
 ComesByWords answer ran = AnswersExactly ran answer (IsErr (words_of ran.words))
 
--- a plan is refused with this status
-abbrev pub IsRefusedWith : Status → Result SessionPlan Refusal → Type 0
-IsRefusedWith answer (Ok plan) = ⊥
-IsRefusedWith answer (Err refusal) = status_of refusal ≡ answer
-
 -- an answer comes exactly where the plan is so refused; a fault of the files comes before it too
-pub record ComesPlanned (ran : Ran) (answer : Status) (plan : Result SessionPlan Refusal) : Type 0 where
+pub record ComesPlanned (ran : Ran) (answer : Status) (plan : Result SessionPlan EarlyEnd) : Type 0 where
   pub only : ran.status ≡ answer → IsRefusedWith answer plan
   pub always : IsRefusedWith answer plan
       → (ran.status ≡ answer)

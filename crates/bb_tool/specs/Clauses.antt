@@ -4,7 +4,7 @@ use Rattle.bb_tool.specs.Calls.{AsksNothing, ComesByDevice, ComesByFiles, ComesB
 use Rattle.bb_tool.specs.Copying.{KeepsATrail, KeepsAtExit, KeepsOutsideCopies, KnowsWriteFaults, LeavesUnread, MakesAlike, MakesNoOtherCall, StopsAtFileFault, StopsBetweenSaves, WearsExactly, WritesExactly}
 use Rattle.bb_tool.specs.Ran.{Ran}
 use Rattle.bb_tool.specs.Starting.{BootsInTurn, CountsFailedStarts, KnowsStartFaults, NamesTheTarget, RunsRounds, StartsAtMostOne, StartsAfterSave, StartsTheLast}
-use Rattle.bb_tool.specs.declared.status.Status.TheVariants as statuses
+use Rattle.bb_plan.specs.declared.status.Status.TheVariants as statuses
 
 -- what is sent, and the status
 pub record SendsTheSession (ran : Ran) : Type 0 where

@@ -7,16 +7,16 @@ use Rattle.bb_copies.specs.Settling.{NothingFails}
 use Rattle.bb_flash.specs.Device.{Device, content}
 use Rattle.bb_state.specs.Kinds.{laid_kinds}
 use Rattle.bb_tool.specs.Calls.{MayAnswer, session_plan_for, session_for}
-use Rattle.bb_tool.specs.Exactly.{CallsExactly, EndsAlike, ErasesExactly, LeavesExactly}
-use Rattle.bb_tool.specs.Plan.{SessionPlan}
+use Rattle.bb_session.specs.Exactly.{CallsExactly, EndsAlike, ErasesExactly, LeavesExactly}
+use Rattle.bb_plan.specs.Plan.{EarlyEnd, SessionPlan}
 use Rattle.bb_tool.specs.Ran.{Ran}
-use Rattle.bb_tool.specs.Booting.{SaveAnswer}
-use Rattle.bb_tool.specs.Session.{Answers}
-use Rattle.bb_tool.specs.SessionTurns.{HasTrails, LeadsOn}
-use Rattle.bb_tool.specs.WriteFault.{IsWriteFault}
-use Rattle.bb_tool.specs.declared.refusal.Refusal.{Refusal}
-use Rattle.bb_tool.specs.declared.refusal.Refusal.TheVariants as refusals
-use Rattle.bb_tool.specs.declared.status.Status.TheVariants as statuses
+use Rattle.bb_session.specs.Booting.{SaveAnswer}
+use Rattle.bb_session.specs.Session.{Answers}
+use Rattle.bb_session.specs.SessionTurns.{HasTrails, LeadsOn}
+use Rattle.bb_session.specs.WriteFault.{IsWriteFault}
+use Rattle.bb_plan.specs.declared.refusal.Refusal.{Refusal}
+use Rattle.bb_plan.specs.declared.refusal.Refusal.TheVariants as refusals
+use Rattle.bb_plan.specs.declared.status.Status.TheVariants as statuses
 
 -- ---- whatever happened
 
@@ -52,7 +52,7 @@ KeepsOutsideCopies ran =
 
 -- a fact about what was left, for whatever answers the session is told
 abbrev pub EachCalm :
-    Ran → (Result SessionPlan Refusal → List SaveAnswer → Device → Device → Type 0) → Type 0
+    Ran → (Result SessionPlan EarlyEnd → List SaveAnswer → Device → Device → Type 0) → Type 0
 EachCalm ran P =
     NothingFails ran.before.device ran.after.device → (answers : Answers) → MayAnswer ran answers →
     P (session_plan_for ran answers) answers.saves ran.before.device ran.after.device

@@ -3,7 +3,7 @@ use Rattle.std.specs.Prelude.{ℕ, List}
 use Rattle.bb_base.specs.Folder.{Folder}
 use Rattle.bb_base.specs.SinkRecord.{SinkRecord}
 use Rattle.bb_flash.specs.Device.{Device}
-use Rattle.bb_tool.specs.declared.status.Status.{Status}
+use Rattle.bb_plan.specs.declared.status.Status.{Status}
 
 -- what stands outside of a session at one moment
 pub record World : Type 0 where

@@ -1,15 +1,19 @@
 -- How a text was told: what an output was sent of it, and with which status the session ends.
+use Rattle.std.specs.Option.{option_map_or}
 use Rattle.std.specs.Prelude.{◌≡◌, ◌⊎◌, ℕ, ◌++◌, Bool, true, false, List, Option, Some, None, Result, Ok, Err, String, string_bytes}
 use Rattle.std.specs.declared.alloc.AllocError.{AllocError}
 use Rattle.std.specs.declared.alloc.Global.{Global}
 use Rattle.bb_base.specs.Faults.{Rose}
 use Rattle.bb_base.specs.SinkRecord.{SinkRecord, Sends, SendsFront}
-use Rattle.bb_tool.specs.Refusal.{status_of, line_of}
-use Rattle.bb_tool.specs.declared.refusal.Refusal.{Refusal}
-use Rattle.bb_tool.specs.declared.report.Report.{Report}
-use Rattle.bb_tool.specs.declared.refusal.Refusal.TheVariants as refusals
-use Rattle.bb_tool.specs.declared.status.Status.{Status}
-use Rattle.bb_tool.specs.declared.status.Status.TheVariants as statuses
+use Rattle.bb_plan.specs.Refusal.{status_of}
+use Rattle.bb_tool.specs.Lines.{line_of}
+use Rattle.bb_plan.specs.declared.refusal.Refusal.{Refusal}
+use Rattle.bb_session.specs.declared.report.Report.{Report}
+use Rattle.bb_plan.specs.declared.refusal.Refusal.TheVariants as refusals
+use Rattle.bb_plan.specs.declared.status.Status.{Status}
+use Rattle.bb_plan.specs.declared.status.Status.TheVariants as statuses
+use Rattle.bb_session.specs.Session.{Session}
+use Rattle.bb_plan.specs.Refusal.{takes_memory}
 
 -- the status where the output failed: 14, which yields to no other than that of refused memory, 20
 abbrev pub status_unsent : Status → Status
@@ -30,27 +34,6 @@ pub record IsTextCut (text : List ℕ) (ended : Status) (before after : SinkReco
 abbrev pub IsSentOrCut : List ℕ → Status → SinkRecord → SinkRecord → Status → Type 0
 IsSentOrCut text ended before after status =
     IsSent text ended before after status ⊎ IsTextCut text ended before after status
-
--- the line of a refusal takes memory, unless it is that of a refusal after a call of the device
--- that names no target, or of refused memory
-abbrev pub takes_memory : Refusal → Bool
-takes_memory (refusals.BadWords place) = true
-takes_memory (refusals.BadTree e) = true
-takes_memory (refusals.BadBlob e) = true
-takes_memory (refusals.BadLayout e) = true
-takes_memory (refusals.BadVariable name cause) = true
-takes_memory (refusals.FileMissing file) = true
-takes_memory (refusals.FileFault file) = true
-takes_memory (refusals.FileTooLong file) = true
-takes_memory refusals.ReadFault = false
-takes_memory (refusals.WriteFault copy) = false
-takes_memory refusals.NoTarget = false
-takes_memory (refusals.StartFailed name) = true
-takes_memory (refusals.BadSettings e) = true
-takes_memory refusals.NoKey = true
-takes_memory (refusals.BadKey e) = true
-takes_memory (refusals.NoGood place) = false
-takes_memory refusals.NoMemory = false
 
 abbrev pub IsSentMemory : SinkRecord → SinkRecord → Status → Type 0
 IsSentMemory before after status =
@@ -83,3 +66,8 @@ abbrev pub IsSentRefusal : Refusal → SinkRecord → SinkRecord → Status → 
 IsSentRefusal refusal before after status =
     IsSentOrCut (line_of refusal) (status_of refusal) before after status
     ⊎ ((takes_memory refusal ≡ true) × IsSentMemory before after status)
+
+-- all that is sent: the text, and the line of the refusal after it
+abbrev pub sent_of : Session → List ℕ
+sent_of session =
+    option_map_or (λ refusal. session.text ++ line_of refusal) session.refusal session.text

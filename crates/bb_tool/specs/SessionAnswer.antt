@@ -3,18 +3,18 @@
 use Rattle.std.specs.Prelude.{◌≡◌, ◌⊎◌, ℕ, List, Result, Ok, Err}
 use Rattle.bb_base.specs.Folder.{Folder}
 use Rattle.bb_flash.specs.Device.{Device}
-use Rattle.bb_tool.specs.Plan.{SessionPlan, plan_by_words, plan_reading}
-use Rattle.bb_tool.specs.FilesRead.{AreRead}
-use Rattle.bb_tool.specs.Session.{Answers, session_of}
-use Rattle.bb_tool.specs.Work.{Gives, IsRefusedMemory, IsWork, SendsByMemory}
-use Rattle.bb_tool.specs.declared.report.Report.{Report}
-use Rattle.bb_tool.specs.declared.refusal.Refusal.{Refusal}
-use Rattle.bb_tool.specs.declared.refusal.Refusal.TheVariants as refusals
+use Rattle.bb_plan.specs.Plan.{EarlyEnd, SessionPlan, plan_by_words, plan_reading}
+use Rattle.bb_plan.specs.FilesRead.{AreRead}
+use Rattle.bb_session.specs.Session.{Answers, session_of}
+use Rattle.bb_session.specs.Work.{Gives, IsRefusedMemory, IsWork, SendsByMemory}
+use Rattle.bb_session.specs.declared.report.Report.{Report}
+use Rattle.bb_plan.specs.declared.refusal.Refusal.{Refusal}
+use Rattle.bb_plan.specs.declared.refusal.Refusal.TheVariants as refusals
 
 -- the work of a plan was done; a session that is refused before it makes no call of the device
-abbrev pub IsFollowed : Result SessionPlan Refusal → Device → Device → Answers → Type 0
+abbrev pub IsFollowed : Result SessionPlan EarlyEnd → Device → Device → Answers → Type 0
 IsFollowed (Ok plan) before after answers = IsWork plan before after answers.load answers.saves
-IsFollowed (Err refusal) before after answers = after ≡ before
+IsFollowed (Err end) before after answers = after ≡ before
 
 -- these are what the files and the device answered
 pub record AreAnswers (words : List (List ℕ)) (folder folder' : Folder) (before after : Device)

@@ -11,16 +11,19 @@ use Rattle.bb_flash.specs.declared.plan.Plan.{Plan as StartPlan}
 use Rattle.bb_shell.specs.Boot.{last_round, plan_at, table_after}
 use Rattle.bb_shell.specs.Counting.{IsBootTurn}
 use Rattle.bb_shell.specs.Ends.{RaisedBy, StartsOnce, failed_starts}
-use Rattle.bb_tool.specs.Booting.{AreRoundsOf, start_plans_of, start_of}
+use Rattle.bb_session.specs.Booting.{AreRoundsOf, start_plans_of, start_of}
 use Rattle.bb_tool.specs.Calls.{MayAnswer, SendsText, session_for}
 use Rattle.bb_tool.specs.Copying.{EachWork}
-use Rattle.bb_tool.specs.Looking.{passed_in}
-use Rattle.bb_tool.specs.Plan.{Act, Boot, Good, SessionPlan, Show, Work, Write}
+use Rattle.bb_session.specs.Looking.{passed_in}
+use Rattle.bb_plan.specs.Plan.{SessionPlan}
+use Rattle.bb_plan.specs.declared.plan.Work.{Work}
+use Rattle.bb_plan.specs.declared.plan.Work.TheVariants.{Act, Boot, Good, Show, Write}
 use Rattle.bb_tool.specs.Ran.{Ran}
-use Rattle.bb_tool.specs.Session.{Answers, loaded_area, sent_of}
-use Rattle.bb_tool.specs.SessionTurns.{EachStanding, turn_of}
-use Rattle.bb_tool.specs.declared.refusal.Refusal.TheVariants as refusals
-use Rattle.bb_tool.specs.declared.status.Status.TheVariants as statuses
+use Rattle.bb_session.specs.Session.{Answers, loaded_area}
+use Rattle.bb_tool.specs.Sending.{sent_of}
+use Rattle.bb_session.specs.SessionTurns.{EachStanding, turn_of}
+use Rattle.bb_plan.specs.declared.refusal.Refusal.TheVariants as refusals
+use Rattle.bb_plan.specs.declared.status.Status.TheVariants as statuses
 
 -- ---- rounds
 

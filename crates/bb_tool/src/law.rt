@@ -3,7 +3,7 @@ ghost use Rattle.bb_copies.specs.Chronicle.{ChronicleLaw};
 ghost use Rattle.bb_copies.specs.Cutting.{CutLaw};
 ghost use Rattle.bb_shell.specs.Counting.{AttemptsLaw, NoLoadLaw};
 ghost use Rattle.bb_shell.specs.Cutting.{BootCutLaw};
-ghost use Rattle.bb_tool.specs.SessionTurns.{BlankLaw};
+ghost use Rattle.bb_session.specs.SessionTurns.{BlankLaw};
 
 /// Over every list of sessions, of sessions that were cut and of decays: the number of the area
 /// that is acknowledged never falls, all that was acknowledged stays, and each load that answers Ok

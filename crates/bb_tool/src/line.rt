@@ -1,29 +1,30 @@
 ghost use Rattle.std.specs.Prelude.{◌≡◌, ◌≤◌, ◌++◌, true, IfOk, IfSome, None, codes, decimal};
 ghost use Rattle.std.specs.Prelude.{length, string_bytes};
-ghost use Rattle.bb_tool.specs.Refusal.{blob_words, fault_text, field_name, key_words};
-ghost use Rattle.bb_tool.specs.Refusal.{layout_words, line_of, refusal_words, settings_words};
-ghost use Rattle.bb_tool.specs.Refusal.{tree_words, value_words, variable_words};
-ghost use Rattle.bb_tool.specs.Sending.{takes_memory};
+ghost use Rattle.bb_tool.specs.Lines.{blob_words, fault_text, field_name, key_words};
+ghost use Rattle.bb_tool.specs.Lines.{detail_of, layout_words, line_of, settings_words, spaced};
+ghost use Rattle.bb_tool.specs.Lines.{tree_words, value_words, variable_words};
+ghost use Rattle.bb_plan.specs.Refusal.{takes_memory};
+ghost use Rattle.bb_plan.specs.Status.{status_name};
 
-use crate::Status;
-use crate::refusal::Refusal;
 use arrayvec::ArrayString;
 use bb_chooser::SettingsError;
 use bb_dts::DtsError;
 use bb_fdt::{FdtError, Field};
 use bb_hmac::KeyError;
 use bb_layout::LayoutError;
+use bb_plan::{Refusal, Status};
 use bb_state::StateError;
 use bb_vars::ValueError;
 use itoa::Buffer;
 use std::alloc::{AllocError, Global};
 
-/// The line that is sent of a refusal: the number of its status, and what the refusal is.
+/// The line that is sent of a refusal: the number of its status, its name, and what more it says.
 pub(crate) fn line(alloc: Global, refusal: &Refusal) -> Result<String, AllocError>
     ensures { IfOk result (λ line. string_bytes line ≡ line_of refusal.now) }
 {
-    let words = words(alloc, refusal)?;
-    format!(in alloc; "fault {} {words}\n", refusal.status().code())
+    let detail = detail(alloc, refusal)?;
+    let status = refusal.status();
+    format!(in alloc; "fault {} {}{detail}\n", status.code(), status.name())
 }
 
 /// A line of at most 32 bytes, which takes no memory.
@@ -36,11 +37,11 @@ pub(crate) fn fixed_line(refusal: &Refusal) -> Option<ShortLine>
 {
     let status = refusal.status();
     match refusal {
-        Refusal::ReadFault => Some(fault_line(status, "ReadFault")),
-        Refusal::WriteFault(copy) => Some(numbered_line(status, "WriteFault ", *copy)),
-        Refusal::NoTarget => Some(fault_line(status, "NoTarget")),
-        Refusal::NoGood(place) => Some(numbered_line(status, "NoGood ", *place)),
-        Refusal::NoMemory => Some(fault_line(status, "NoMemory")),
+        Refusal::ReadFault => Some(fault_line(status, status.name())),
+        Refusal::WriteFault(copy) => Some(numbered_line(status, *copy)),
+        Refusal::NoTarget => Some(fault_line(status, status.name())),
+        Refusal::NoGood(place) => Some(numbered_line(status, *place)),
+        Refusal::NoMemory => Some(fault_line(status, status.name())),
         Refusal::BadWords(_) | Refusal::BadTree(_) | Refusal::BadBlob(_) => None,
         Refusal::BadLayout(_) => None,
         Refusal::BadVariable(_, _) => None,
@@ -65,43 +66,42 @@ pub(crate) fn fault_line(status: Status, words: &str) -> ShortLine
     line
 }
 
-fn numbered_line(status: Status, word: &str, number: u32) -> ShortLine
-    requires { length word.now ≤ 11 }
-    ensures { result.bytes ≡ fault_text status (word.now ++ decimal number) }
+fn numbered_line(status: Status, number: u32) -> ShortLine
+    requires { length (status_name status) ≤ 10 }
+    ensures { result.bytes ≡ fault_text status (status_name status ++ spaced (decimal number)) }
 {
     let mut digits = Buffer::new();
     let mut words = ShortLine::new();
-    words.push_str(word);
+    words.push_str(status.name());
+    words.push_str(" ");
     words.push_str(digits.format(number));
     fault_line(status, words.as_str())
 }
 
-// What a refusal is, as its line says it.
-fn words(alloc: Global, refusal: &Refusal) -> Result<String, AllocError>
-    ensures { IfOk result (λ words. string_bytes words ≡ refusal_words refusal.now) }
+// What the line of a refusal says after its name.
+fn detail(alloc: Global, refusal: &Refusal) -> Result<String, AllocError>
+    ensures { IfOk result (λ words. string_bytes words ≡ detail_of refusal.now) }
 {
     match refusal {
-        Refusal::BadWords(place) => format!(in alloc; "BadWords {}", *place as u128 + 1),
+        Refusal::BadWords(place) => format!(in alloc; " {}", *place as u128 + 1),
+        Refusal::FileMissing(file) => format!(in alloc; " {}", file.as_str()),
+        Refusal::FileFault(file) => format!(in alloc; " {}", file.as_str()),
+        Refusal::FileTooLong(file) => format!(in alloc; " {}", file.as_str()),
         Refusal::BadTree(error) => tree_words(alloc, *error),
         Refusal::BadBlob(error) => blob_words(alloc, *error),
         Refusal::BadLayout(error) => layout_words(alloc, error),
+        Refusal::NoKey => String::from_str(alloc, " None"),
+        Refusal::BadKey(error) => key_words(alloc, *error),
         Refusal::BadVariable(name, cause) => format!(in alloc;
-            "BadVariable {} {}",
+            " {} {}",
             name.as_str(),
             variable_words(*cause)
         ),
-        Refusal::FileMissing(file) => format!(in alloc; "FileMissing {}", file.as_str()),
-        Refusal::FileFault(file) => format!(in alloc; "FileFault {}", file.as_str()),
-        Refusal::FileTooLong(file) => format!(in alloc; "FileTooLong {}", file.as_str()),
-        Refusal::ReadFault => String::from_str(alloc, "ReadFault"),
-        Refusal::WriteFault(copy) => format!(in alloc; "WriteFault {copy}"),
-        Refusal::NoTarget => String::from_str(alloc, "NoTarget"),
-        Refusal::StartFailed(name) => format!(in alloc; "StartFailed {}", name.as_str()),
         Refusal::BadSettings(error) => settings_words(alloc, error),
-        Refusal::NoKey => String::from_str(alloc, "BadKey None"),
-        Refusal::BadKey(error) => key_words(alloc, *error),
-        Refusal::NoGood(place) => format!(in alloc; "NoGood {place}"),
-        Refusal::NoMemory => String::from_str(alloc, "NoMemory"),
+        Refusal::WriteFault(number) => format!(in alloc; " {number}"),
+        Refusal::NoGood(number) => format!(in alloc; " {number}"),
+        Refusal::StartFailed(name) => format!(in alloc; " {}", name.as_str()),
+        Refusal::ReadFault | Refusal::NoTarget | Refusal::NoMemory => String::from_str(alloc, ""),
     }
 }
 
@@ -130,35 +130,33 @@ fn value_words(cause: ValueError) -> &'static str
 }
 
 fn tree_words(alloc: Global, error: DtsError) -> Result<String, AllocError>
-    ensures { IfOk result (λ words. string_bytes words ≡ codes "BadTree " ++ tree_words error) }
+    ensures { IfOk result (λ words. string_bytes words ≡ spaced (tree_words error)) }
 {
     match error {
-        DtsError::NotText(at) => format!(in alloc; "BadTree NotText {at}"),
-        DtsError::BadToken(at) => format!(in alloc; "BadTree BadToken {at}"),
-        DtsError::Unexpected(at) => format!(in alloc; "BadTree Unexpected {at}"),
-        DtsError::NumberTooLarge(at) => format!(in alloc; "BadTree NumberTooLarge {at}"),
-        DtsError::LeftOut(at) => format!(in alloc; "BadTree LeftOut {at}"),
-        DtsError::TooDeep(at) => format!(in alloc; "BadTree TooDeep {at}"),
-        DtsError::DuplicateLabel(at) => format!(in alloc; "BadTree DuplicateLabel {at}"),
-        DtsError::DuplicatePhandle(at) => format!(in alloc; "BadTree DuplicatePhandle {at}"),
-        DtsError::NoSuchLabel(at) => format!(in alloc; "BadTree NoSuchLabel {at}"),
-        DtsError::NoMemory => String::from_str(alloc, "BadTree NoMemory"),
+        DtsError::NotText(at) => format!(in alloc; " NotText {at}"),
+        DtsError::BadToken(at) => format!(in alloc; " BadToken {at}"),
+        DtsError::Unexpected(at) => format!(in alloc; " Unexpected {at}"),
+        DtsError::NumberTooLarge(at) => format!(in alloc; " NumberTooLarge {at}"),
+        DtsError::LeftOut(at) => format!(in alloc; " LeftOut {at}"),
+        DtsError::TooDeep(at) => format!(in alloc; " TooDeep {at}"),
+        DtsError::DuplicateLabel(at) => format!(in alloc; " DuplicateLabel {at}"),
+        DtsError::DuplicatePhandle(at) => format!(in alloc; " DuplicatePhandle {at}"),
+        DtsError::NoSuchLabel(at) => format!(in alloc; " NoSuchLabel {at}"),
+        DtsError::NoMemory => String::from_str(alloc, " NoMemory"),
     }
 }
 
 fn blob_words(alloc: Global, error: FdtError) -> Result<String, AllocError>
-    ensures { IfOk result (λ words. string_bytes words ≡ codes "BadTree " ++ blob_words error) }
+    ensures { IfOk result (λ words. string_bytes words ≡ codes " " ++ blob_words error) }
 {
     match error {
-        FdtError::NotBlob => String::from_str(alloc, "BadTree NotBlob"),
-        FdtError::Version => String::from_str(alloc, "BadTree Version"),
-        FdtError::OutOfBounds(field) => {
-            format!(in alloc; "BadTree OutOfBounds {}", field_name(field))
-        }
-        FdtError::BadToken(at) => format!(in alloc; "BadTree BadToken {at}"),
-        FdtError::BadName(at) => format!(in alloc; "BadTree BadName {at}"),
-        FdtError::TooDeep(at) => format!(in alloc; "BadTree TooDeep {at}"),
-        FdtError::NoMemory => String::from_str(alloc, "BadTree NoMemory"),
+        FdtError::NotBlob => String::from_str(alloc, " NotBlob"),
+        FdtError::Version => String::from_str(alloc, " Version"),
+        FdtError::OutOfBounds(field) => { format!(in alloc; " OutOfBounds {}", field_name(field)) }
+        FdtError::BadToken(at) => format!(in alloc; " BadToken {at}"),
+        FdtError::BadName(at) => format!(in alloc; " BadName {at}"),
+        FdtError::TooDeep(at) => format!(in alloc; " TooDeep {at}"),
+        FdtError::NoMemory => String::from_str(alloc, " NoMemory"),
     }
 }
 
@@ -175,52 +173,49 @@ fn field_name(field: Field) -> &'static str
 
 fn layout_words(alloc: Global, error: &LayoutError) -> Result<String, AllocError>
     ensures { IfOk result (λ words.
-        string_bytes words ≡ codes "BadLayout " ++ layout_words error.now) }
+        string_bytes words ≡ spaced (layout_words error.now)) }
 {
     match error {
-        LayoutError::NoState => String::from_str(alloc, "BadLayout NoState"),
-        LayoutError::Missing(prop) => format!(in alloc; "BadLayout Missing {}", prop.as_str()),
-        LayoutError::BadProp(prop) => format!(in alloc; "BadLayout BadProp {}", prop.as_str()),
-        LayoutError::BadType => String::from_str(alloc, "BadLayout BadType"),
-        LayoutError::BadReg => String::from_str(alloc, "BadLayout BadReg"),
-        LayoutError::Overlap => String::from_str(alloc, "BadLayout Overlap"),
-        LayoutError::NoBackend => String::from_str(alloc, "BadLayout NoBackend"),
-        LayoutError::TooSmall => String::from_str(alloc, "BadLayout TooSmall"),
-        LayoutError::Unaligned => String::from_str(alloc, "BadLayout Unaligned"),
-        LayoutError::OutOfDevice => String::from_str(alloc, "BadLayout OutOfDevice"),
-        LayoutError::AreaTooLong => String::from_str(alloc, "BadLayout AreaTooLong"),
-        LayoutError::NameTwice => String::from_str(alloc, "BadLayout NameTwice"),
-        LayoutError::NoMemory => String::from_str(alloc, "BadLayout NoMemory"),
+        LayoutError::NoState => String::from_str(alloc, " NoState"),
+        LayoutError::Missing(prop) => format!(in alloc; " Missing {}", prop.as_str()),
+        LayoutError::BadProp(prop) => format!(in alloc; " BadProp {}", prop.as_str()),
+        LayoutError::BadType => String::from_str(alloc, " BadType"),
+        LayoutError::BadReg => String::from_str(alloc, " BadReg"),
+        LayoutError::Overlap => String::from_str(alloc, " Overlap"),
+        LayoutError::NoBackend => String::from_str(alloc, " NoBackend"),
+        LayoutError::TooSmall => String::from_str(alloc, " TooSmall"),
+        LayoutError::Unaligned => String::from_str(alloc, " Unaligned"),
+        LayoutError::OutOfDevice => String::from_str(alloc, " OutOfDevice"),
+        LayoutError::AreaTooLong => String::from_str(alloc, " AreaTooLong"),
+        LayoutError::NameTwice => String::from_str(alloc, " NameTwice"),
+        LayoutError::NoMemory => String::from_str(alloc, " NoMemory"),
     }
 }
 
 fn settings_words(alloc: Global, error: &SettingsError) -> Result<String, AllocError>
     ensures { IfOk result (λ words.
-        string_bytes words ≡ codes "BadSettings " ++ settings_words error.now) }
+        string_bytes words ≡ spaced (settings_words error.now)) }
 {
     match error {
-        SettingsError::BadLine(line) => format!(in alloc; "BadSettings BadLine {line}"),
-        SettingsError::NoTargets => String::from_str(alloc, "BadSettings NoTargets"),
-        SettingsError::TargetTwice(line) => format!(in alloc; "BadSettings TargetTwice {line}"),
-        SettingsError::BadNumber(line) => format!(in alloc; "BadSettings BadNumber {line}"),
-        SettingsError::BadEvent(line) => format!(in alloc; "BadSettings BadEvent {line}"),
+        SettingsError::BadLine(line) => format!(in alloc; " BadLine {line}"),
+        SettingsError::NoTargets => String::from_str(alloc, " NoTargets"),
+        SettingsError::TargetTwice(line) => format!(in alloc; " TargetTwice {line}"),
+        SettingsError::BadNumber(line) => format!(in alloc; " BadNumber {line}"),
+        SettingsError::BadEvent(line) => format!(in alloc; " BadEvent {line}"),
         SettingsError::NoSuchVariable(name) => format!(in alloc;
-            "BadSettings NoSuchVariable {}",
+            " NoSuchVariable {}",
             name.as_str()
         ),
-        SettingsError::NotUint32(name) => format!(in alloc;
-            "BadSettings NotUint32 {}",
-            name.as_str()
-        ),
-        SettingsError::NoMemory => String::from_str(alloc, "BadSettings NoMemory"),
+        SettingsError::NotUint32(name) => format!(in alloc; " NotUint32 {}", name.as_str()),
+        SettingsError::NoMemory => String::from_str(alloc, " NoMemory"),
     }
 }
 
 fn key_words(alloc: Global, error: KeyError) -> Result<String, AllocError>
-    ensures { IfOk result (λ words. string_bytes words ≡ codes "BadKey " ++ key_words error) }
+    ensures { IfOk result (λ words. string_bytes words ≡ spaced (key_words error)) }
 {
     match error {
-        KeyError::Empty => String::from_str(alloc, "BadKey Empty"),
-        KeyError::BadHex(_) => String::from_str(alloc, "BadKey BadHex"),
+        KeyError::Empty => String::from_str(alloc, " Empty"),
+        KeyError::BadHex(_) => String::from_str(alloc, " BadHex"),
     }
 }

@@ -1,15 +1,16 @@
 ghost use Rattle.std.specs.Prelude.{◌≡◌, ◌≤◌, ◌++◌, OnOk, length, true};
-ghost use Rattle.bb_tool.specs.Refusal.{IsSendableRefusal, fault_text, line_of, status_of};
+ghost use Rattle.bb_plan.specs.Refusal.{IsSendableRefusal, status_of};
+ghost use Rattle.bb_tool.specs.Lines.{fault_text, line_of};
 ghost use Rattle.bb_tool.specs.Sending.{IsSentOrCut, IsSentMade, IsSentMemory, IsSentOr};
 ghost use Rattle.bb_tool.specs.Sending.{IsSentRefusal};
-ghost use Rattle.bb_tool.specs.Sending.{IsSentReport, status_unsent, takes_memory};
-ghost use Rattle.bb_tool.specs.Work.{IsSendable};
+ghost use Rattle.bb_tool.specs.Sending.{IsSentReport, status_unsent};
+ghost use Rattle.bb_plan.specs.Refusal.{takes_memory};
+ghost use Rattle.bb_session.specs.Work.{IsSendable};
 
-use crate::Status;
 use crate::line::{fault_line, fixed_line, line};
-use crate::refusal::Refusal;
-use crate::report::Report;
 use bb_base::{Bytes, NoMemory, Sink};
+use bb_plan::{Refusal, Status};
+use bb_session::Report;
 use std::alloc::{AllocError, Global};
 
 /// Sends a text, and gives the status with which the program ends: `ended` where the text was sent

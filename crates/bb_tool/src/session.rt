@@ -4,20 +4,17 @@ ghost use Rattle.bb_tool.specs.Calls.{IsSession};
 ghost use Rattle.bb_tool.specs.Clauses.{EndsEarly, KeepsTheCopies, KnowsItsCauses, LeavesTheRest};
 ghost use Rattle.bb_tool.specs.Clauses.{SendsTheSession, StartsTheBest, WorksUndisturbed};
 ghost use Rattle.bb_tool.specs.SessionAnswer.{IsSessionAnswer};
-ghost use Rattle.bb_tool.specs.Plan.{names_file};
+ghost use Rattle.bb_plan.specs.Plan.{names_file};
 ghost use Rattle.bb_tool.specs.Ran.{ran_by};
-ghost use Rattle.bb_tool.specs.FilesRead.{IsFolderLater};
-ghost use Rattle.bb_tool.specs.Refusal.{IsSendableRefusal};
-ghost use Rattle.bb_tool.specs.Work.{IsSendable};
+ghost use Rattle.bb_plan.specs.FilesRead.{IsFolderLater};
+ghost use Rattle.bb_plan.specs.Refusal.{IsSendableRefusal};
+ghost use Rattle.bb_session.specs.Work.{IsSendable};
 
-use crate::Status;
-use crate::planning::plan_session;
-use crate::refusal::Refusal;
-use crate::report::Report;
 use crate::send::{send_refusal, send_report};
-use crate::work::do_work;
 use bb_base::{Files, Sink, TextList};
 use bb_flash::Board;
+use bb_plan::{PlannedTask, Refusal, Status, plan_session};
+use bb_session::{Report, do_work};
 use std::alloc::Global;
 
 /// One session, over files, a device and an output: the words after the device and its geometry,
@@ -93,6 +90,9 @@ fn session<N: Files, B: Board>(
         → N.folder files.new ≡ N.folder files.old }
     ensures later { IsLater (B.device board.old) (B.device board.new) }
 {
-    let plan = plan_session(alloc, words, files, board.geometry())?;
-    do_work(alloc, board, plan)
+    let task = plan_session(alloc, words, files, board.geometry())?;
+    match task {
+        PlannedTask::OnCopies(plan) => do_work(alloc, board, plan),
+        PlannedTask::Prints(text) => Ok(Report::done(text)),
+    }
 }

@@ -6,10 +6,10 @@ use Rattle.bb_base.specs.SinkRecord.{SinkRecord}
 use Rattle.bb_tool.specs.Clauses.{EndsEarly, KeepsTheCopies, KnowsItsCauses, LeavesTheRest}
 use Rattle.bb_tool.specs.Clauses.{SendsTheSession, StartsTheBest, WorksUndisturbed}
 use Rattle.bb_tool.specs.Ran.{Ran}
-use Rattle.bb_tool.specs.Refusal.{fault_text}
+use Rattle.bb_tool.specs.Lines.{fault_text}
 use Rattle.bb_tool.specs.Sending.{IsSentOrCut}
-use Rattle.bb_tool.specs.declared.status.Status.{Status}
-use Rattle.bb_tool.specs.declared.status.Status.TheVariants as statuses
+use Rattle.bb_plan.specs.declared.status.Status.{Status}
+use Rattle.bb_plan.specs.declared.status.Status.TheVariants as statuses
 use Rattle.bbx.specs.declared.early.Early.{Early}
 use Rattle.bbx.specs.declared.early.Early.TheVariants as earlies
 

@@ -1,7 +1,7 @@
 ghost use Rattle.std.specs.Prelude.{◌≡◌};
 ghost use Rattle.std.specs.Process.{exit_status};
 ghost use Rattle.bb_tool.specs.Ran.{ran_by};
-ghost use Rattle.bb_tool.specs.Status.{code_of};
+ghost use Rattle.bb_plan.specs.Status.{code_of};
 ghost use Rattle.bb_tool.specs.Sending.{IsSentOrCut};
 ghost use Rattle.bbx.specs.Act.{ByOpening, IsInPlace, IsOneSession, early_status, early_text};
 

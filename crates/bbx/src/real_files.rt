@@ -96,10 +96,12 @@ fn read_front(rt: &HostRuntime, name: &str) -> io::Result<Vec<u8>> {
     Ok(bytes)
 }
 
-// The names of the files in a folder, in rising order of their bytes.
+// The names of the files in a folder, in rising order of their bytes. It is opened by its name with
+// a `/` behind it, so that no name stands for the root. A name that isn't UTF-8 is an error.
 fn list(rt: &HostRuntime, dir: &str) -> io::Result<Vec<String>> {
+    let folder = format!(in rt.alloc(); "{dir}/")?;
     let mut names = Vec::new(rt.alloc());
-    for entry in fs::read_dir(rt, dir)? {
+    for entry in fs::read_dir(rt, folder.as_str())? {
         let entry = entry?;
         if is_file(rt, &entry)? {
             names.push(String::from_str(rt.alloc(), entry.file_name())?)?;

@@ -2,8 +2,8 @@ use Rattle.bb_copies.proofs.Chronicle.{nothing_lost}
 use Rattle.bb_copies.proofs.Cutting.{cut_law}
 use Rattle.bb_copies.proofs.History.{blank_stands}
 use Rattle.bb_state.proofs.Blank.{erased_passes_nothing}
-use Rattle.bb_tool.specs.Looking.{passed_in}
-use Rattle.bb_tool.specs.SessionTurns.{first_area}
+use Rattle.bb_session.specs.Looking.{passed_in}
+use Rattle.bb_plan.specs.Plan.{first_area}
 use Rattle.bb_tool.proofs.law.law_chronicle.Goals as goal
 
 pub returns-clause-kept : goal.returns-clause-kept

@@ -1,6 +1,6 @@
 use Rattle.std.proofs.Common.{subst}
 use Rattle.bb_tool.specs.Sending.{IsSentMade}
-use Rattle.bb_tool.specs.declared.status.Status.{Status}
+use Rattle.bb_plan.specs.declared.status.Status.{Status}
 use Rattle.bb_tool.proofs.Lines.{told_made}
 use Rattle.bb_tool.proofs.send.send_refusal.Goals as goal
 

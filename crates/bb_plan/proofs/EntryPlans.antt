@@ -1,0 +1,227 @@
+-- The plans of targets as they were read, one entry's file after the other.
+use Rattle.std.proofs.Common.{◌≡◌, ◌<◌, ◌≤◌, ℕ, suc, ◌+◌, false, List, [], ◌∷◌, length, map, take, Result, Ok, Err, refl, sym, ap, subst, ◌∙◌, inl, inr, arith}
+use Rattle.std.specs.Prelude.{IsTrue, Option, slice_get, unwrap_or}
+use Rattle.std.specs.Bool.{OnFalse}
+use Rattle.std.specs.List.{AllZip, enumerate_from}
+use Rattle.std.specs.Option.{ForSome}
+use Rattle.std.proofs.lemmas.List.{length-map}
+use Rattle.bb_base.specs.Faults.{HasCause, Rose}
+use Rattle.bb_base.specs.Folder.{Folder}
+use Rattle.bb_base.specs.declared.files.FileFail.TheVariants.{Fault, TooLong, NoMemory}
+use Rattle.bb_chooser.specs.Binding.{Binding}
+use Rattle.bb_chooser.specs.declared.bound_target.BoundTarget.{BoundTarget}
+use Rattle.bb_flash.specs.declared.plan.Plan.{Plan as StartPlan}
+use Rattle.bb_layout.specs.Results.{all_ok, result_and_then}
+use Rattle.bb_shell.specs.Plans.{IsAnswerOf, IsPlanned, NamesTarget, entries_of, entry_answer, is_file_fault, plan_by, start_plan_for}
+use Rattle.bb_shell.specs.declared.plan_fault.PlanFault.{PlanFault}
+use Rattle.bb_shell.specs.declared.plan_fault.PlanFault.TheVariants as plan_faults
+use Rattle.bb_plan.specs.PlanSteps.{entries_reading, entry_fault, entry_name, plans_reading}
+use Rattle.bb_plan.specs.FilesRead.{FileAnswer, IsFolderLater, IsRead, IsReadAs, Yields, reads_file}
+use Rattle.bb_plan.specs.declared.refusal.Refusal.{Refusal}
+use Rattle.bb_plan.specs.declared.refusal.Refusal.TheVariants as refusals
+use Rattle.bb_plan.proofs.Readings.{folder_is, read_stopped, read_then}
+
+-- the plans from a target on
+abbrev plans_from : ℕ → List FileAnswer → Result (List (Option StartPlan)) PlanFault
+plans_from n answers = all_ok (map (λ entry. start_plan_for entry.0 entry.1) (enumerate_from n answers))
+
+-- after the plan of one
+abbrev next_of : Option StartPlan → Result (List (Option StartPlan)) PlanFault → Result (List (Option StartPlan)) PlanFault
+next_of plan r = result_and_then (λ plans. Ok (plan ∷ plans)) r
+
+-- these are what reading the first of the names gave
+abbrev AreToldOf : Folder → List (List ℕ) → List FileAnswer → Type 0
+AreToldOf folder names answers =
+    ForSome folder.told (λ files. AllZip IsAnswerOf answers (take (length answers) (map (entry_answer files) names)))
+
+module _ (before : Folder) where
+  -- where there are plans each was read
+  given_from : (n : ℕ) (names : List (List ℕ)) (answers : List FileAnswer) (plans : List (Option StartPlan)) →
+      AreToldOf before names answers → length answers ≡ length names → plans_from n answers ≡ Ok plans →
+      IsRead (entries_reading n names) before before (Ok plans)
+  given_from n [] [] plans told many is =
+      let same : [] ≡ plans = cc in
+      record { answers = []; are = (refl, refl); gives = ap (λ (p : List (Option StartPlan)). Ok p) same }
+  given_from n [] (answer ∷ answers) plans told many is = absurd (omega (arith, many))
+  given_from n (name ∷ names) [] plans told many is = absurd (omega (arith, many))
+  given_from n (name ∷ names) (Ok text ∷ answers) plans told many is =
+      by (plans_from (n + 1) answers)
+      (λ behind rest.
+      given_from (n + 1) names answers behind (λ files some. (told files some).1) (omega (arith, many)) rest) is
+    where
+      by : (r : Result (List (Option StartPlan)) PlanFault) →
+          ((behind : List (Option StartPlan)) → r ≡ Ok behind → IsRead (entries_reading (n + 1) names) before before (Ok behind)) →
+          next_of (plan_by n text) r ≡ Ok plans → IsRead (entries_reading n (name ∷ names)) before before (Ok plans)
+      by (Ok behind) each e =
+          let next : List (Option StartPlan) → _ = λ rest. Yields (plan_by n text ∷ rest) in
+          let same : plan_by n text ∷ behind ≡ plans = cc in
+          let read = read_then next (entries_reading (n + 1) names) before before before behind (Ok plans)
+          (each behind refl) (record { answers = []; are = (refl, refl); gives = ap (λ (p : List (Option StartPlan)). Ok p) same }) in
+          record {
+            answers = Ok text ∷ read.answers;
+            are = ((λ files some. (told files some).0), read.are);
+            gives = read.gives;
+          }
+      by (Err fault) each e = absurd cc
+  given_from n (name ∷ names) (Err Fault ∷ answers) plans told many is = absurd cc
+  given_from n (name ∷ names) (Err TooLong ∷ answers) plans told many is = absurd cc
+  given_from n (name ∷ names) (Err NoMemory ∷ answers) plans told many is = absurd cc
+
+  -- the entry of a place
+  abbrev name_at : List (List ℕ) → ℕ → List ℕ
+  name_at names k = unwrap_or (slice_get names k) []
+
+  module _ (after : Folder) where
+    record IsStoppedAt (n : ℕ) (names : List (List ℕ)) (target : ℕ) (refusal : List ℕ → Refusal) : Type 0 where
+      place : ℕ
+      place_is : target ≡ n + place
+      read : IsRead (entries_reading n names) before after (Err (refusal (name_at names place)))
+
+    -- an entry after one that was read
+    stopped_later : (n : ℕ) (name : List ℕ) (names : List (List ℕ)) (target : ℕ) (refusal : List ℕ → Refusal)
+        (text : Option (List ℕ)) → ForSome before.told (λ files. entry_answer files name ≡ Ok text) →
+        IsStoppedAt (n + 1) names target refusal → IsStoppedAt n (name ∷ names) target refusal
+    stopped_later n name names target refusal text told at =
+        let next : List (Option StartPlan) → _ = λ rest. Yields (plan_by n text ∷ rest) in
+        let read = read_stopped next (entries_reading (n + 1) names) before after (refusal (name_at names at.place)) at.read in
+        let place = at.place_is in
+        record {
+          place = suc at.place;
+          place_is = omega (arith, place);
+          read = record { answers = Ok text ∷ read.answers; are = (told, read.are); gives = read.gives };
+        }
+
+    -- a fault was met
+    fault_from : IsFolderLater before after → Rose before.faults after.faults → (n : ℕ) (names : List (List ℕ))
+        (answers : List FileAnswer) (target : ℕ) → AreToldOf before names answers → length answers ≤ length names →
+        plans_from n answers ≡ Err (plan_faults.FileFault target) → IsStoppedAt n names target refusals.FileFault
+    fault_from later rose n names [] target told most is = absurd cc
+    fault_from later rose n [] (answer ∷ answers) target told most is = absurd (omega (arith, most))
+    fault_from later rose n (name ∷ names) (Ok text ∷ answers) target told most is =
+        stopped_later n name names target refusals.FileFault text (λ files some. (told files some).0)
+        (by (plans_from (n + 1) answers)
+        (λ rest.
+        fault_from later rose (n + 1) names answers target (λ files some. (told files some).1) (omega (arith, most)) rest) is)
+      where
+        by : (r : Result (List (Option StartPlan)) PlanFault) →
+            (r ≡ Err (plan_faults.FileFault target) → IsStoppedAt (n + 1) names target refusals.FileFault) →
+            next_of (plan_by n text) r ≡ Err (plan_faults.FileFault target) → IsStoppedAt (n + 1) names target refusals.FileFault
+        by (Ok behind) each e = absurd cc
+        by (Err fault) each e = each e
+    fault_from later rose n (name ∷ names) (Err Fault ∷ answers) target told most is =
+        let same : n ≡ target = cc in
+        record {
+          place = 0;
+          place_is = omega (arith, same);
+          read = record { answers = Err Fault ∷ []; are = (refl, (later, rose)); gives = refl };
+        }
+    fault_from later rose n (name ∷ names) (Err TooLong ∷ answers) target told most is = absurd cc
+    fault_from later rose n (name ∷ names) (Err NoMemory ∷ answers) target told most is = absurd cc
+
+    -- a file was too long
+    long_from : after ≡ before → (n : ℕ) (names : List (List ℕ)) (answers : List FileAnswer) (target : ℕ) →
+        AreToldOf before names answers → length answers ≤ length names →
+        plans_from n answers ≡ Err (plan_faults.FileTooLong target) → IsStoppedAt n names target refusals.FileTooLong
+    long_from same n names [] target told most is = absurd cc
+    long_from same n [] (answer ∷ answers) target told most is = absurd (omega (arith, most))
+    long_from same n (name ∷ names) (Ok text ∷ answers) target told most is =
+        stopped_later n name names target refusals.FileTooLong text (λ files some. (told files some).0)
+        (by (plans_from (n + 1) answers)
+        (λ rest.
+        long_from same (n + 1) names answers target (λ files some. (told files some).1) (omega (arith, most)) rest) is)
+      where
+        by : (r : Result (List (Option StartPlan)) PlanFault) →
+            (r ≡ Err (plan_faults.FileTooLong target) → IsStoppedAt (n + 1) names target refusals.FileTooLong) →
+            next_of (plan_by n text) r ≡ Err (plan_faults.FileTooLong target) → IsStoppedAt (n + 1) names target refusals.FileTooLong
+        by (Ok behind) each e = absurd cc
+        by (Err fault) each e = each e
+    long_from same n (name ∷ names) (Err Fault ∷ answers) target told most is = absurd cc
+    long_from same n (name ∷ names) (Err TooLong ∷ answers) target told most is =
+        let here : n ≡ target = cc in
+        record {
+          place = 0;
+          place_is = omega (arith, here);
+          read = record {
+            answers = Err TooLong ∷ [];
+            are = (refl, ((λ files some. (told files some).0), same));
+            gives = refl;
+          };
+        }
+    long_from same n (name ∷ names) (Err NoMemory ∷ answers) target told most is = absurd cc
+
+-- ---- what was read
+
+-- a target that is named has an entry, whose file is read
+entry_read : {X : Type 0} (targets : List BoundTarget) (target : ℕ) → target < length targets →
+    reads_file (entries_reading 0 (map (λ t. t.target.entry) targets)) ≡ false → X
+entry_read [] target inside none = absurd (omega (arith, inside))
+entry_read (t ∷ targets) target inside none = absurd cc
+
+module _ (b : Binding) (before after : Folder) (told : after.told ≡ before.told) where
+  abbrev AsPlans : Result (List (Option StartPlan)) Refusal → Type 0
+  AsPlans given = IsReadAs (plans_reading b) (λ plans. plans) before after given
+
+  names_many : length (entries_of b) ≡ length b.targets
+  names_many = length-map b.targets (λ t. t.target.entry)
+
+  pub entries_given : (plans : List (Option StartPlan)) → IsPlanned b before (Ok plans) → after.faults ≡ before.faults →
+      AsPlans (Ok plans)
+  entries_given plans planned calm =
+      inl
+      (subst (λ (f : Folder). IsRead (plans_reading b) before f (Ok plans)) (sym (folder_is before after told calm))
+      (given_from before 0 (entries_of b) planned.answers plans planned.answered (planned.whole ∙ sym names_many)
+      (sym (planned.gives (λ e. cc)))))
+
+  abbrev given_fault : PlanFault → Result (List (Option StartPlan)) PlanFault
+  given_fault fault = Err fault
+
+  -- memory was refused for the name of a file, or before
+  pub entries_short : (fault : PlanFault) → NamesTarget b fault →
+      HasCause before.faults after.faults (IsTrue (is_file_fault (given_fault fault))) →
+      OnFalse (is_file_fault (given_fault fault)) (after.faults ≡ before.faults) →
+      (given : Result (List (Option StartPlan)) Refusal) → given ≡ Err refusals.NoMemory → AsPlans given
+  entries_short fault names cause calm given is = inr (
+    is,
+    record {
+      later = record { told = told; faults = cause.later };
+      unread = by fault names calm;
+    },
+  )
+    where
+      by : (fault : PlanFault) → NamesTarget b fault →
+          OnFalse (is_file_fault (given_fault fault)) (after.faults ≡ before.faults) →
+          reads_file (plans_reading b) ≡ false → after ≡ before
+      by (plan_faults.FileFault target) names calm none = entry_read b.targets target names none
+      by (plan_faults.FileTooLong target) names calm none = folder_is before after told calm
+      by plan_faults.NoMemory names calm none = folder_is before after told calm
+
+  pub entries_refused : (fault : PlanFault) → IsPlanned b before (Err fault) → NamesTarget b fault →
+      HasCause before.faults after.faults (IsTrue (is_file_fault (given_fault fault))) →
+      OnFalse (is_file_fault (given_fault fault)) (after.faults ≡ before.faults) →
+      (refusal : Refusal) → refusal ≡ entry_fault b fault → AsPlans (Err refusal)
+  entries_refused fault planned names cause calm refusal is =
+      subst (λ (r : Refusal). AsPlans (Err r)) (sym is) (by fault planned names cause calm)
+    where
+      most : (answers : List FileAnswer) → length answers ≤ length b.targets → length answers ≤ length (entries_of b)
+      most answers few = subst (λ n. length answers ≤ n) (sym names_many) few
+
+      stopped_so : (target : ℕ) (refusal : List ℕ → Refusal) → IsStoppedAt before after 0 (entries_of b) target refusal →
+          AsPlans (Err (refusal (entry_name b target)))
+      stopped_so target refusal at =
+          let place = at.place_is in
+          let same : at.place ≡ target = omega (arith, place) in
+          subst (λ k. AsPlans (Err (refusal (entry_name b k)))) same (inl at.read)
+
+      by : (fault : PlanFault) → IsPlanned b before (Err fault) → NamesTarget b fault →
+          HasCause before.faults after.faults (IsTrue (is_file_fault (given_fault fault))) →
+          OnFalse (is_file_fault (given_fault fault)) (after.faults ≡ before.faults) → AsPlans (Err (entry_fault b fault))
+      by (plan_faults.FileFault target) planned names cause calm =
+          stopped_so target refusals.FileFault
+          (fault_from before after (record { told = told; faults = cause.later }) (cause.rose refl) 0 (entries_of b)
+          planned.answers target planned.answered (most planned.answers planned.most) (sym (planned.gives (λ e. cc))))
+      by (plan_faults.FileTooLong target) planned names cause calm =
+          stopped_so target refusals.FileTooLong
+          (long_from before after (folder_is before after told calm) 0 (entries_of b) planned.answers target
+          planned.answered (most planned.answers planned.most) (sym (planned.gives (λ e. cc))))
+      by plan_faults.NoMemory planned names cause calm =
+          entries_short plan_faults.NoMemory names cause calm (Err refusals.NoMemory) refl

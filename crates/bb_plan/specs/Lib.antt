@@ -1,0 +1,6 @@
+-- Definitions that contracts cite. A reader has to believe all of them.
+pub mod FilesRead
+pub mod Plan
+pub mod PlanSteps
+pub mod Refusal
+pub mod Status

@@ -1,0 +1,20 @@
+//! What a session does before the device: its words, the files that they name, and the plan of what
+//! it is to do, or why it is refused. The session on the device stands on it; it makes no call of a
+//! device.
+#![tactic(auto)]
+
+mod described;
+mod entries;
+mod file;
+mod key;
+mod plan;
+mod planning;
+mod refusal;
+mod status;
+mod targets;
+
+pub use described::KeyedLayout;
+pub use plan::{PlannedTask, PlannedWork, Work};
+pub use planning::plan_session;
+pub use refusal::Refusal;
+pub use status::Status;

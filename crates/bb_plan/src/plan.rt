@@ -1,0 +1,39 @@
+use crate::described::KeyedLayout;
+use bb_base::Bytes;
+use bb_chooser::{Cause, Chooser};
+use bb_flash::PlanList;
+use bb_words::ActionList;
+
+/// What is done with the copies of a layout.
+#[derive(Drop)]
+pub enum Work {
+    /// To look at them, and to send the area of the first that passes in hexadecimal.
+    Show,
+    /// To load them, and to save this area.
+    Write(Bytes),
+    /// To load them, to make the sets among these actions, to save the table that this makes where
+    /// it is another, and to send what is got of it.
+    Act(ActionList),
+    /// To load them, to give the target that was chosen last its default attempts, to save the
+    /// table that this makes where it is another, and to send that target.
+    Good(Chooser),
+    /// To load them, to reset by this cause, and then round by round to spend an attempt of the
+    /// best target, to save the table, and to start the target by its plan, if it has one.
+    Boot(Chooser, Cause, PlanList),
+}
+
+/// What a session is to do.
+#[derive(Drop)]
+pub enum PlannedTask {
+    /// A work on the copies of a layout.
+    OnCopies(PlannedWork),
+    /// To send this text, without a call of the device.
+    Prints(Bytes),
+}
+
+/// A work, and the layout of the copies on which it is done.
+#[derive(Drop)]
+pub struct PlannedWork {
+    pub keyed: KeyedLayout,
+    pub work: Work,
+}

@@ -1,0 +1,10 @@
+-- Definitions that contracts cite. A reader has to believe all of them.
+pub mod Booting
+pub mod Doing
+pub mod Exactly
+pub mod Looking
+pub mod Marking
+pub mod Session
+pub mod SessionTurns
+pub mod Work
+pub mod WriteFault

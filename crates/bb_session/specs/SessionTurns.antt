@@ -1,0 +1,151 @@
+-- What a session did with the copies, as a turn of a chronicle, and what its images stand for.
+use Rattle.std.specs.Prelude.{◌≡◌, ℕ, List, [], ◌∷◌, Option, None, Ok, Err, is_ok, count_by}
+use Rattle.std.specs.Option.{ForSome}
+use Rattle.bb_copies.specs.Chronicle.{Content, Finished, Follows, IsStanding, Loaded, Looked, Turn, Unloaded, Untouched}
+use Rattle.bb_copies.specs.Cutting.{turn_stages}
+use Rattle.bb_copies.specs.Luck.{IsLucky}
+use Rattle.bb_copies.specs.StandsFor.{Stands, picked}
+use Rattle.bb_copies.specs.Trail.{IsTrail, Milestone, milestone_of, session_trail, stages_in}
+use Rattle.bb_flash.specs.Counted.{Counts, IsFair}
+use Rattle.bb_flash.specs.Device.{Device, Told, moment}
+use Rattle.bb_flash.specs.Image.{Image}
+use Rattle.bb_layout.specs.Layout.{Laid}
+use Rattle.bb_state.specs.Blank.{IsErased}
+use Rattle.bb_state.specs.Keyed.{Keyed}
+use Rattle.bb_session.specs.Looking.{passed_in}
+use Rattle.bb_shell.specs.Counting.{turn_of_rounds}
+use Rattle.bb_shell.specs.Stages.{AreAnswered}
+use Rattle.bb_session.specs.Booting.{SaveAnswer}
+use Rattle.bb_plan.specs.Plan.{first_area, SessionPlan}
+use Rattle.bb_plan.specs.declared.plan.Work.{Work}
+use Rattle.bb_plan.specs.declared.plan.Work.TheVariants.{Act, Boot, Good, Show, Write}
+use Rattle.bb_session.specs.Session.{LoadAnswer, loaded_area, work_session}
+use Rattle.bb_session.specs.Work.{IsLoaded}
+
+-- a device that holds 0xFF alone, in pages of any health, stands for that area alone, for every
+-- layout, key and format
+abbrev pub BlankLaw : Type 0
+BlankLaw =
+    (keyed : Keyed) (page : ℕ) (image : Image) → IsErased image →
+    Stands (first_area keyed.layout) (passed_in keyed page image)
+    (first_area keyed.layout ∷ []) 0
+
+-- ---- the turn of a session
+
+-- how many of the saves answered Ok
+abbrev pub made_of : List SaveAnswer → ℕ
+made_of saves = count_by is_ok saves
+
+abbrev pub load_turn : SessionPlan → LoadAnswer → List SaveAnswer → List (Option ℕ) → Turn
+load_turn plan (Ok found) saves marks =
+    Loaded (picked marks) (work_session plan (Ok found) saves).saves (made_of saves) None
+load_turn plan (Err fault) saves marks = Unloaded
+
+-- of a boot, in which a save is begun only where a round has another table than the one before
+abbrev pub boot_turn : SessionPlan → LoadAnswer → List SaveAnswer → List (Option ℕ) → Turn
+boot_turn plan (Ok found) saves marks =
+    turn_of_rounds (picked marks) (loaded_area plan.keyed.layout found) (work_session plan (Ok found) saves).rounds
+boot_turn plan (Err fault) saves marks = Unloaded
+
+abbrev pub work_turn : Work → SessionPlan → LoadAnswer → List SaveAnswer → List (Option ℕ) → Turn
+work_turn Show plan load saves marks = Looked
+work_turn (Write area) plan load saves marks = load_turn plan load saves marks
+work_turn (Act actions) plan load saves marks = load_turn plan load saves marks
+work_turn (Good targets) plan load saves marks = load_turn plan load saves marks
+work_turn (Boot targets cause plans) plan load saves marks = boot_turn plan load saves marks
+
+-- of a plan, at copies with these marks
+abbrev pub turn_of : SessionPlan → LoadAnswer → List SaveAnswer → List (Option ℕ) → Turn
+turn_of plan load saves marks = work_turn plan.work plan load saves marks
+
+-- ---- what it leaves
+
+-- of an image that the copies have at the end, or that a cut left since a moment: what they pass as
+pub record IsCounted (keyed : Keyed) (page : ℕ) (told : Told) (since : ℕ)
+    (passed : List (Option (List ℕ))) : Type 0 where
+  pub image : Image
+  pub counts : Counts (IsLucky (passed_in keyed page)) page told since image
+  pub passes : passed ≡ passed_in keyed page image
+
+-- the turn leads from a content to the one at the end
+pub record LeadsTo (first : List ℕ) (before : Content) (turn : Turn)
+    (passed : List (Option (List ℕ))) : Type 0 where
+  pub after : Content
+  pub passed_is : after.passed ≡ passed
+  pub follows : Follows first before (Finished turn) after
+
+-- each image that counts since a milestone's moment stands for its stage, or for a later one
+abbrev pub IsTrailOf : Keyed → ℕ → Told → List Milestone → Type 0
+IsTrailOf keyed page last milestones =
+    IsTrail (IsCounted keyed page last) (moment last) (first_area keyed.layout) milestones
+
+-- where no load answered Ok, each image since entry stands for the list at entry
+abbrev pub HasEntryTrail : Keyed → ℕ → Told → Told → Content → Type 0
+HasEntryTrail keyed page first last before =
+    IsTrailOf keyed page last (milestone_of before.areas before.acked (moment first) ∷ [])
+
+-- The trail of a turn whose load answered Ok, from the moment of entry on. The load and the saves
+-- that answered Ok did so at these moments, as `IsLoaded` and `IsStored` know them.
+pub record HasLoadTrail (keyed : Keyed) (page : ℕ) (from to : Device) (first last : Told)
+    (before : Content) (turn : Turn) (place : ℕ) (saves : List (List ℕ)) : Type 0 where
+  -- what the load left, when it answered
+  pub middle : Device
+  pub used : Option ℕ
+  pub found : Option (List ℕ)
+  pub loaded : IsLoaded keyed used from middle (Ok found)
+  pub when : ℕ
+  pub at : ForSome middle.told (λ told. moment told ≡ when)
+  -- when saves answered
+  pub answered : List ℕ
+  pub stored : AreAnswered keyed middle to saves answered
+  pub stages :
+      stages_in (session_trail before.areas before.acked (moment first) place when saves answered)
+      ≡ turn_stages before turn
+  pub trail :
+      IsTrailOf keyed page last
+      (session_trail before.areas before.acked (moment first) place when saves answered)
+
+abbrev pub HasTrail : Keyed → ℕ → Device → Device → Told → Told → Content → Turn → Type 0
+HasTrail keyed page from to first last before Untouched =
+    HasEntryTrail keyed page first last before
+HasTrail keyed page from to first last before Looked =
+    HasEntryTrail keyed page first last before
+HasTrail keyed page from to first last before Unloaded =
+    HasEntryTrail keyed page first last before
+HasTrail keyed page from to first last before (Loaded place saves ok started) =
+    HasLoadTrail keyed page from to first last before (Loaded place saves ok started) place saves
+
+-- P holds of what a device told and tells, and of each content of its copies at entry that stands
+-- for a list of areas
+abbrev pub EachStanding : Keyed → Device → Device → (Told → Told → Content → Type 0) → Type 0
+EachStanding keyed from to P =
+    ForSome from.told
+    (λ first.
+    ForSome to.told
+    (λ last.
+    (before : Content) →
+    before.passed ≡ passed_in keyed from.geometry.page first.image →
+    IsStanding (first_area keyed.layout) before →
+    P first last before))
+
+-- no call that failed left a copy that passes by luck
+abbrev pub IsFairRun : Keyed → ℕ → Told → Told → Type 0
+IsFairRun keyed page first last =
+    IsFair (IsLucky (passed_in keyed page)) last (moment first) (moment last)
+
+-- at exit, in a fair run, the copies stand for what the session's turn makes of the list
+abbrev pub LeadsOn : SessionPlan → Device → Device → LoadAnswer → List SaveAnswer → Type 0
+LeadsOn plan from to load saves =
+    EachStanding plan.keyed from to
+    (λ first last before.
+    IsFairRun plan.keyed from.geometry.page first last →
+    LeadsTo (first_area plan.keyed.layout) before (turn_of plan load saves before.marks)
+    (passed_in plan.keyed from.geometry.page last.image))
+
+-- each image on the way that counts stands for the stage that it reached, or for a later one
+abbrev pub HasTrails : SessionPlan → Device → Device → LoadAnswer → List SaveAnswer → Type 0
+HasTrails plan from to load saves =
+    EachStanding plan.keyed from to
+    (λ first last before.
+    HasTrail plan.keyed from.geometry.page from to first last before
+    (turn_of plan load saves before.marks))

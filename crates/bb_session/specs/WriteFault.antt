@@ -1,0 +1,89 @@
+-- Why a session names a copy that it couldn't write. The counts are those of the whole session.
+use Rattle.std.specs.Prelude.{◌≡◌, ◌≢◌, ◌⊎◌, ℕ, ◌+◌, ◌-◌, false, List, [], Contains, Option, Some, None, Ok, Err}
+use Rattle.std.specs.Option.{ForSome}
+use Rattle.bb_copies.specs.Buckets.{EachCopy}
+use Rattle.bb_copies.specs.Passing.{passes_at}
+use Rattle.bb_copies.specs.Refreshing.{IsUntouched}
+use Rattle.bb_copies.specs.Settling.{IsUnread, PassesAnother, RoseBy}
+use Rattle.bb_flash.specs.Cuts.{IsLater}
+use Rattle.bb_flash.specs.Device.{Device, content}
+use Rattle.bb_state.specs.Kinds.{laid_kinds}
+use Rattle.bb_session.specs.Looking.{first_found, passed_in}
+use Rattle.bb_shell.specs.Boot.{Round}
+use Rattle.bb_shell.specs.Running.{AreRun}
+use Rattle.bb_session.specs.Booting.{SaveAnswer, boots, start_plans_of}
+use Rattle.bb_session.specs.Exactly.{saves_made}
+use Rattle.bb_plan.specs.Plan.{SessionPlan}
+use Rattle.bb_session.specs.Session.{LoadAnswer, loaded_area}
+use Rattle.bb_session.specs.Work.{IsLoaded}
+
+-- the area that the copies were to take: one that was saved, or in a load that was refused that of
+-- the first copy that passed at entry
+abbrev pub IsWanted : SessionPlan → Device → LoadAnswer → List SaveAnswer → List ℕ → Type 0
+IsWanted plan from (Ok found) answers area = Contains (saves_made plan.work plan found answers) area
+IsWanted plan from (Err fault) answers area =
+    ForSome (content from)
+    (λ image. first_found (passed_in plan.keyed from.geometry.page image) ≡ Some area)
+
+-- the copy passes another area than the copies were to take, and two calls failed
+pub record IsLeftStale (plan : SessionPlan) (from to : Device) (load : LoadAnswer)
+    (answers : List SaveAnswer) (copy : ℕ) : Type 0 where
+  pub area : List ℕ
+  pub wanted : IsWanted plan from load answers area
+  pub passes :
+      ForSome (content to)
+      (λ image.
+      PassesAnother area (passes_at (passed_in plan.keyed from.geometry.page image) copy))
+  pub cause : RoseBy 2 from.faults to.faults
+
+-- the copy is the one that the load took, or in a boot one that a save after it left as the first
+-- that passes
+pub record IsUsed (plan : SessionPlan) (from middle : Device) (load : LoadAnswer) (copy : ℕ)
+    : Type 0 where
+  -- after the load
+  pub first : Device
+  pub used : Option ℕ
+  pub loaded : IsLoaded plan.keyed used from first load
+  pub found : Option (List ℕ)
+  pub found_is : load ≡ Ok found
+  pub earlier : List Round
+  pub run :
+      AreRun plan.keyed (start_plans_of plan.work) (loaded_area plan.keyed.layout found) used (Some copy)
+      earlier first middle
+  pub none : boots plan.work ≡ false → earlier ≡ []
+
+-- The copy is the one that is used, and the save left it as it was, in every image. No other copy
+-- passes anything, and for each of them a call failed.
+pub record IsLeftAlone (plan : SessionPlan) (from to : Device) (load : LoadAnswer) (copy : ℕ)
+    : Type 0 where
+  -- before the save
+  pub middle : Device
+  pub used : IsUsed plan from middle load copy
+  pub later : IsLater middle to
+  pub untouched :
+      EachCopy (laid_kinds plan.keyed.layout) (λ place kind. place ≡ copy → IsUntouched kind middle to)
+  pub others :
+      ForSome (content to)
+      (λ image.
+      (place : ℕ) → place ≢ copy →
+      passes_at (passed_in plan.keyed from.geometry.page image) place ≡ None)
+  pub cause : RoseBy (plan.keyed.layout.copies - 1) from.faults to.faults
+
+-- The load took no copy, and the copy is the last. None passes anything, and for each of them a
+-- call failed.
+pub record AreAllLost (plan : SessionPlan) (from to : Device) (load : LoadAnswer) (copy : ℕ)
+    : Type 0 where
+  pub found : load ≡ Ok None
+  pub last : copy + 1 ≡ plan.keyed.layout.copies
+  pub none :
+      ForSome (content to)
+      (λ image. first_found (passed_in plan.keyed from.geometry.page image) ≡ None)
+  pub cause : RoseBy plan.keyed.layout.copies from.faults to.faults
+
+-- one of these holds of a copy that is named; or it couldn't be read back, and three calls failed,
+-- of which one is a read
+abbrev pub IsWriteFault :
+    SessionPlan → Device → Device → LoadAnswer → List SaveAnswer → ℕ → Type 0
+IsWriteFault plan from to load answers copy =
+    IsLeftStale plan from to load answers copy
+    ⊎ (IsUnread from to ⊎ (IsLeftAlone plan from to load copy ⊎ AreAllLost plan from to load copy))

@@ -1,0 +1,13 @@
+//! The session on the device: the work of a plan, over a layout that is mounted once and copies
+//! that are loaded once. The program's one call stands on it; it reads no words and no files.
+#![tactic(auto)]
+
+mod boot;
+mod mark_good;
+mod raw;
+mod report;
+mod state;
+mod work;
+
+pub use report::Report;
+pub use work::do_work;

@@ -1,0 +1,80 @@
+ghost use Rattle.std.specs.Prelude.{◌≡◌, ◌↔◌, IfOk, IsSome, IsTrue, length};
+ghost use Rattle.std.specs.Option.{option_map};
+ghost use Rattle.bb_chooser.specs.Counting.{chosen_target, mark_good_of};
+ghost use Rattle.bb_state.specs.State.{keyed_of, used_of};
+ghost use Rattle.bb_session.specs.Doing.{IsAtHand, IsDone};
+ghost use Rattle.bb_session.specs.Marking.{chosen_name, good_line, good_text};
+ghost use Rattle.bb_plan.specs.Plan.{IsServed};
+ghost use Rattle.bb_plan.specs.declared.plan.Work.TheVariants.{Good};
+ghost use Rattle.bb_session.specs.Work.{IsSendable};
+
+use crate::report::Report;
+use crate::state::save_table;
+use bb_base::{Bytes, NoMemory, Text};
+use bb_chooser::Chooser;
+use bb_flash::Flash;
+use bb_plan::Refusal;
+use bb_state::State;
+use bb_vars::Table;
+use std::alloc::Global;
+
+/// Gives the target that was chosen last its default attempts, saves the table where it is another
+/// than the one that was loaded, and gives the target's line.
+pub(crate) fn mark<F: Flash>(
+    alloc: Global,
+    flash: &mut F,
+    state: &mut State,
+    chooser: &Chooser,
+) -> Result<Report, Refusal>
+    requires served { IsServed (keyed_of state.old) (Good chooser.now) }
+    requires hand { IsAtHand state.old (F.device flash.old) }
+    ensures did { IsDone (keyed_of state.old) (used_of state.old) state.old.table (Good chooser.now)
+        (F.device flash.old) (F.device flash.new) result }
+    ensures sends { IfOk result IsSendable }
+{
+    if !mark_table(state, chooser) {
+        return Err(Refusal::NoGood(chooser.last_chosen(&state.table)));
+    }
+    save_table(flash, state)?;
+    Ok(Report::done(good_text(alloc, chooser, &state.table)?))
+}
+
+// Gives the target that was chosen last its default attempts, in the table alone.
+fn mark_table(state: &mut State, chooser: &Chooser) -> bool
+    requires served { IsServed (keyed_of state.old) (Good chooser.now) }
+    ensures good { IsTrue result ↔ IsSome (chosen_target chooser.now state.old.table) }
+    ensures marked { state.new.table ≡ mark_good_of chooser.now state.old.table }
+    ensures backing { state.new.backing ≡ state.old.backing }
+{
+    chooser.mark_good(&mut state.table)
+}
+
+fn good_text(alloc: Global, chooser: &Chooser, table: &Table) -> Result<Bytes, NoMemory>
+    requires { length table.now ≡ chooser.now.area_len }
+    ensures { IfOk result (λ text. text ≡ good_text chooser.now table.now) }
+{
+    match chosen_name(chooser, table) {
+        Some((name, attempts)) => good_line(alloc, name, attempts),
+        None => Ok(Bytes::none(alloc)),
+    }
+}
+
+fn good_line(alloc: Global, name: &Text, attempts: u32) -> Result<Bytes, NoMemory>
+    ensures { IfOk result (λ line. line ≡ good_line name.now attempts) }
+{
+    let mut line = Bytes::none(alloc);
+    let words = format!(in alloc; "good {} {attempts}\n", name.as_str())?;
+    line.add(words.as_bytes())?;
+    Ok(line)
+}
+
+// The name of the target that was chosen last, and the attempts that it has.
+fn chosen_name<'a>(chooser: &'a Chooser, table: &Table) -> Option<(&'a Text, u32)>
+    requires { length table.now ≡ chooser.now.area_len }
+    ensures { option_map (λ c. (c.0.now, c.1)) result ≡ chosen_name chooser.now table.now }
+{
+    let place = chooser.last_chosen(table) as usize;
+    let target = place.checked_sub(1)?;
+    let name = chooser.name(target)?;
+    Some((name, chooser.attempts(table, target)))
+}
