@@ -1,6 +1,6 @@
-ghost use Rattle.std.specs.Prelude.{◌≡◌};
+ghost use Rattle.std.specs.Prelude.{◌≡◌, slice_get};
 
-use crate::MemBoard;
+use crate::{Health, MemBoard};
 
 impl MemBoard {
     /// The device's bytes, those of Lost pages too.
@@ -8,6 +8,13 @@ impl MemBoard {
         ensures { result.now ≡ self.now.told.image.bytes }
     {
         &self.cells.bytes
+    }
+
+    /// The health of a page, counted from 0; `None` exactly from their number on.
+    pub fn health(&self, page: u32) -> Option<Health>
+        ensures { result ≡ slice_get self.now.told.image.health page }
+    {
+        self.cells.health.get(page as usize).copied()
     }
 
     /// How many reads answered Ok.
@@ -29,6 +36,27 @@ impl MemBoard {
         ensures { result ≡ self.now.erase_count }
     {
         self.erase_count
+    }
+
+    /// How many erases of each block answered Ok, the lowest block first.
+    pub fn erases(&self) -> &[u64]
+        ensures { result.now ≡ self.now.told.erases }
+    {
+        &self.erases
+    }
+
+    /// How many calls of the flash failed, but at most 2^64 - 1. A restart keeps it.
+    pub fn faults(&self) -> u64
+        ensures { result ≡ self.now.faults }
+    {
+        self.faults
+    }
+
+    /// How many starts failed, but at most 2^64 - 1. A restart keeps it.
+    pub fn start_faults(&self) -> u64
+        ensures { result ≡ self.now.start_faults }
+    {
+        self.start_faults
     }
 
     /// A planned cut was met since the last restart.
