@@ -4,7 +4,7 @@ use Rattle.hex.specs.Hex.{decode_pairs}
 use Rattle.bb_words.specs.declared.command.CauseWord.{CauseWord}
 use Rattle.bb_words.specs.declared.command.CauseWord.TheVariants.{PowerOn, Reset, Other}
 use Rattle.bb_words.specs.declared.command.Command.{Command}
-use Rattle.bb_words.specs.declared.command.Command.TheVariants.{State, MarkGood, Boot}
+use Rattle.bb_words.specs.declared.command.Command.TheVariants.{State, MarkGood, Boot, Menu}
 use Rattle.bb_words.specs.declared.command.Action.{Action}
 use Rattle.bb_words.specs.declared.command.Action.TheVariants.{Set, Get, Dump, DumpShell}
 use Rattle.bb_words.specs.declared.command.RawAction.TheVariants.{Look, Write}
@@ -69,7 +69,7 @@ no_long_form = refl
 -- ---- `state`
 
 abbrev state : List ℕ → Option (List ℕ) → List Action → Command
-state file name actions = State (record { file = file; name = name; key = None; actions = actions })
+state file name actions = State (record { described = record { file = file; name = name; key = None }; actions = actions })
 
 all_options : words_of (codes "state" ∷ codes "-d" ∷ codes "-n" ∷ codes "boot" ∷ codes "--get=a" ∷ codes "--input" ∷ codes "x.dts" ∷ codes "--dump-shell" ∷ codes "-g" ∷ codes "-d" ∷ codes "--dump" ∷ [])
     ≡ Ok (state (codes "x.dts") (Some (codes "boot")) (Dump ∷ Get (codes "a") ∷ DumpShell ∷ Get (codes "-d") ∷ Dump ∷ []))
@@ -130,7 +130,7 @@ unfolding words_from
 long_set_without_sign = refl
 
 state_key : words_of (codes "state" ∷ codes "-k" ∷ codes "a=b" ∷ codes "-i" ∷ codes "-k" ∷ [])
-    ≡ Ok (State (record { file = codes "-k"; name = None; key = Some (codes "a=b"); actions = [] }))
+    ≡ Ok (State (record { described = record { file = codes "-k"; name = None; key = Some (codes "a=b") }; actions = [] }))
 unfolding words_from
 state_key = refl
 
@@ -157,7 +157,7 @@ long_key = refl
 -- ---- `mark-good`
 
 abbrev mark : List ℕ → List ℕ → Option (List ℕ) → Command
-mark file settings name = MarkGood (record { file = file; settings = settings; name = name; key = None })
+mark file settings name = MarkGood (record { described = record { file = file; name = name; key = None }; settings = settings })
 
 good : words_of (codes "mark-good" ∷ codes "-i" ∷ codes "b.dts" ∷ codes "-c" ∷ codes "set.txt" ∷ [])
     ≡ Ok (mark (codes "b.dts") (codes "set.txt") None)
@@ -170,7 +170,7 @@ unfolding words_from
 good_any_order = refl
 
 good_key : words_of (codes "mark-good" ∷ codes "-k" ∷ codes "-c" ∷ codes "-c" ∷ codes "-k" ∷ codes "-i" ∷ codes "f" ∷ [])
-    ≡ Ok (MarkGood (record { file = codes "f"; settings = codes "-k"; name = None; key = Some (codes "-c") }))
+    ≡ Ok (MarkGood (record { described = record { file = codes "f"; name = None; key = Some (codes "-c") }; settings = codes "-k" }))
 unfolding words_from
 good_key = refl
 
@@ -205,7 +205,7 @@ good_dumps_nothing = refl
 -- ---- `boot`
 
 abbrev boot : List ℕ → List ℕ → Option (List ℕ) → CauseWord → Command
-boot file settings name cause = Boot (record { file = file; settings = settings; name = name; key = None; cause = cause })
+boot file settings name cause = Boot (record { described = record { file = file; name = name; key = None }; settings = settings; cause = cause })
 
 boot_alone : words_of (codes "boot" ∷ codes "-i" ∷ codes "b.dts" ∷ codes "-c" ∷ codes "set.txt" ∷ [])
     ≡ Ok (boot (codes "b.dts") (codes "set.txt") None Other)
@@ -228,7 +228,7 @@ unfolding words_from
 boot_other = refl
 
 boot_key : words_of (codes "boot" ∷ codes "-c" ∷ codes "a" ∷ codes "-i" ∷ codes "b" ∷ codes "-k" ∷ codes "c" ∷ [])
-    ≡ Ok (Boot (record { file = codes "b"; settings = codes "a"; name = None; key = Some (codes "c"); cause = Other }))
+    ≡ Ok (Boot (record { described = record { file = codes "b"; name = None; key = Some (codes "c") }; settings = codes "a"; cause = Other }))
 unfolding words_from
 boot_key = refl
 
@@ -267,3 +267,33 @@ cause_of_good = refl
 boot_dumps_nothing : words_of (codes "boot" ∷ codes "-d" ∷ []) ≡ Err 1
 unfolding words_from
 boot_dumps_nothing = refl
+
+-- ---- `menu`
+
+menu_of : words_of (codes "menu" ∷ codes "--dir" ∷ codes "m" ∷ []) ≡ Ok (Menu (record { dir = codes "m" }))
+unfolding words_from
+menu_of = refl
+
+menu_of_none : words_of (codes "menu" ∷ codes "--dir" ∷ [] ∷ []) ≡ Ok (Menu (record { dir = [] }))
+unfolding words_from
+menu_of_none = refl
+
+menu_alone : words_of (codes "menu" ∷ []) ≡ Err 1
+unfolding words_from
+menu_alone = refl
+
+menu_without_folder : words_of (codes "menu" ∷ codes "--dir" ∷ []) ≡ Err 2
+unfolding words_from
+menu_without_folder = refl
+
+menu_joined : words_of (codes "menu" ∷ codes "--dir=m" ∷ []) ≡ Err 1
+unfolding words_from
+menu_joined = refl
+
+menu_fourth : words_of (codes "menu" ∷ codes "--dir" ∷ codes "m" ∷ codes "x" ∷ []) ≡ Err 3
+unfolding words_from
+menu_fourth = refl
+
+menu_twice : words_of (codes "menu" ∷ codes "--dir" ∷ codes "m" ∷ codes "--dir" ∷ codes "n" ∷ []) ≡ Err 3
+unfolding words_from
+menu_twice = refl

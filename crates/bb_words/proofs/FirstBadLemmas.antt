@@ -11,7 +11,7 @@ use Rattle.bb_words.specs.declared.command.Action.TheVariants.{Set, Get}
 use Rattle.bb_words.specs.declared.command.CauseWord.{CauseWord}
 use Rattle.bb_words.specs.declared.command.CauseWord.TheVariants.{Other}
 use Rattle.bb_words.specs.declared.command.Command.{Command}
-use Rattle.bb_words.specs.declared.command.Command.TheVariants.{State, MarkGood, Boot}
+use Rattle.bb_words.specs.declared.command.Command.TheVariants.{State, MarkGood, Boot, Menu}
 use Rattle.bb_words.specs.declared.command.RawAction.TheVariants.{Look, Write}
 use Rattle.bb_words.specs.declared.given.Given.{Given}
 use Rattle.bb_words.specs.declared.option.Valued.{Valued}
@@ -20,7 +20,7 @@ use Rattle.bb_words.specs.declared.row.Row.{Row}
 use Rattle.bb_words.specs.declared.row.Row.TheVariants.{State as StateRow, MarkGood as MarkGoodRow, Boot as BootRow}
 use Rattle.bb_words.specs.FirstBad.{Begins}
 use Rattle.bb_words.specs.Options.{with_action}
-use Rattle.bb_words.specs.Words.{WordStage, Start, Magic, Length, Mode, Area, Options, Whole, raw_of, next, command_at, words_from, words_of}
+use Rattle.bb_words.specs.Words.{WordStage, Start, Magic, Length, Mode, Area, DirOption, DirValue, Options, Whole, raw_of, next, command_at, words_from, words_of}
 
 -- some words after these make a command, from a stage on
 abbrev pub Continues : ℕ → WordStage → List (List ℕ) → Type 0
@@ -55,24 +55,24 @@ area_completed start magic len =
 state_completed : (start : ℕ) (file name settings key : Option (List ℕ)) (cause : Option CauseWord) (actions : List Action) →
     Continues start (Options StateRow None (record { file = file; name = name; settings = settings; key = key; cause = cause; actions = actions })) []
 unfolding words_from
-state_completed start None name settings key cause actions = (codes "-i" ∷ [] ∷ [], State (record { file = []; name = name; key = key; actions = actions }), refl)
-state_completed start (Some file) name settings key cause actions = ([], State (record { file = file; name = name; key = key; actions = actions }), refl)
+state_completed start None name settings key cause actions = (codes "-i" ∷ [] ∷ [], State (record { described = record { file = []; name = name; key = key }; actions = actions }), refl)
+state_completed start (Some file) name settings key cause actions = ([], State (record { described = record { file = file; name = name; key = key }; actions = actions }), refl)
 
 mark_completed : (start : ℕ) (file name settings key : Option (List ℕ)) (cause : Option CauseWord) (actions : List Action) →
     Continues start (Options MarkGoodRow None (record { file = file; name = name; settings = settings; key = key; cause = cause; actions = actions })) []
 unfolding words_from
 mark_completed start None name None key cause actions =
-    (codes "-i" ∷ [] ∷ codes "-c" ∷ [] ∷ [], MarkGood (record { file = []; settings = []; name = name; key = key }), refl)
+    (codes "-i" ∷ [] ∷ codes "-c" ∷ [] ∷ [], MarkGood (record { described = record { file = []; name = name; key = key }; settings = [] }), refl)
 mark_completed start None name (Some settings) key cause actions =
-    (codes "-i" ∷ [] ∷ [], MarkGood (record { file = []; settings = settings; name = name; key = key }), refl)
+    (codes "-i" ∷ [] ∷ [], MarkGood (record { described = record { file = []; name = name; key = key }; settings = settings }), refl)
 mark_completed start (Some file) name None key cause actions =
-    (codes "-c" ∷ [] ∷ [], MarkGood (record { file = file; settings = []; name = name; key = key }), refl)
+    (codes "-c" ∷ [] ∷ [], MarkGood (record { described = record { file = file; name = name; key = key }; settings = [] }), refl)
 mark_completed start (Some file) name (Some settings) key cause actions =
-    ([], MarkGood (record { file = file; settings = settings; name = name; key = key }), refl)
+    ([], MarkGood (record { described = record { file = file; name = name; key = key }; settings = settings }), refl)
 
 -- what is given, after a file and settings, makes a boot
 abbrev boot_of : List ℕ → List ℕ → Option (List ℕ) → Option (List ℕ) → Option CauseWord → Command
-boot_of file settings name key cause = Boot (record { file = file; settings = settings; name = name; key = key; cause = unwrap_or cause Other })
+boot_of file settings name key cause = Boot (record { described = record { file = file; name = name; key = key }; settings = settings; cause = unwrap_or cause Other })
 
 boot_completed : (start : ℕ) (file name settings key : Option (List ℕ)) (cause : Option CauseWord) (actions : List Action) →
     Continues start (Options BootRow None (record { file = file; name = name; settings = settings; key = key; cause = cause; actions = actions })) []
@@ -120,6 +120,8 @@ completed start Magic = (codes "0" ∷ codes "0" ∷ codes "-g" ∷ [], raw_of 0
 completed start (Length magic) = (codes "0" ∷ codes "-g" ∷ [], raw_of magic 0 Look, refl)
 completed start (Mode magic len) = (codes "-g" ∷ [], raw_of magic len Look, refl)
 completed start (Area magic len) = area_completed start magic len
+completed start DirOption = (codes "--dir" ∷ [] ∷ [], Menu (record { dir = [] }), refl)
+completed start DirValue = ([] ∷ [], Menu (record { dir = [] }), refl)
 completed start (Options row None given) = options_completed start row given
 completed start (Options row (Some valued) given) = value_completed start row valued given
 completed start (Whole command) = ([], command, refl)

@@ -10,7 +10,7 @@ use Rattle.bb_words.specs.declared.command.Action.{Action}
 use Rattle.bb_words.specs.declared.command.Action.TheVariants.{Set, Get, Dump, DumpShell}
 use Rattle.bb_words.specs.declared.command.CauseWord.{CauseWord}
 use Rattle.bb_words.specs.declared.command.Command.{Command}
-use Rattle.bb_words.specs.declared.command.Command.TheVariants.{Raw, State, MarkGood, Boot}
+use Rattle.bb_words.specs.declared.command.Command.TheVariants.{Raw, State, MarkGood, Boot, Menu}
 use Rattle.bb_words.specs.declared.command.RawAction.{RawAction}
 use Rattle.bb_words.specs.declared.command.RawAction.TheVariants.{Look, Write}
 use Rattle.bb_words.specs.declared.command.RawCommand.{RawCommand}
@@ -21,8 +21,8 @@ use Rattle.bb_words.specs.declared.row.Row.{Row}
 use Rattle.bb_words.specs.declared.row.Row.TheVariants.{State as StateRow, MarkGood as MarkGoodRow, Boot as BootRow}
 use Rattle.bb_words.specs.Grammar.{IsAction, IsRaw, IsSpelt, Spells, OptionForm, Own, Long, Joined, Item, Takes, ShortDump, LongDump, ShellDump, own_form, long_form, item_words, has_long, has_form, is_value, has_item, file_in, state_name_in, settings_in, key_file_in, cause_in, action_in}
 use Rattle.bb_words.specs.Options.{cause_word_of, dump_of, long_of, valued_of, joined_value_in, has_sign, set_in, with_option, with_action, none_given}
-use Rattle.bb_words.specs.Table.{command_name_of, row_of, has_option, has_dumps, may_come, cause_given, command_of}
-use Rattle.bb_words.specs.Words.{WordStage, Magic, Length, Mode, Area, Options, Whole, raw_of, number_up_to, area_spelt, after_dump, before_value, after_value, after_joined, after_option, next, words_from, words_of}
+use Rattle.bb_words.specs.Table.{command_name_of, row_of, has_option, has_dumps, may_come, cause_given, command_of, described_in}
+use Rattle.bb_words.specs.Words.{WordStage, Magic, Length, Mode, Area, DirOption, DirValue, Options, Whole, raw_of, number_up_to, area_spelt, after_dump, before_value, after_value, after_joined, after_option, next, words_from, words_of}
 
 -- ---- what is spelt is accepted
 
@@ -326,11 +326,16 @@ raw_accepted rest raw is =
     ∙ ap (λ o. option_map_or (λ behind. words_from 3 behind is.action) (option_map (λ n. Mode raw.magic n) o) (Err 2)) is.len_is
     ∙ action_accepted raw.magic raw.area_len raw.action is.action is.action_is
 
+menu_accepted : (dir : List ℕ) → words_of (codes "menu" ∷ codes "--dir" ∷ dir ∷ []) ≡ Ok (Menu (record { dir = dir }))
+unfolding words_from
+menu_accepted dir = refl
+
 pub accepted : (words : List (List ℕ)) (command : Command) → Spells words command → words_of words ≡ Ok command
 accepted words (Raw raw) is = ap words_of is.1 ∙ raw_accepted is.0 raw is.2
 accepted words (State state) is = options_accepted StateRow words (State state) is
 accepted words (MarkGood mark) is = options_accepted MarkGoodRow words (MarkGood mark) is
 accepted words (Boot boot) is = options_accepted BootRow words (Boot boot) is
+accepted words (Menu menu) is = ap words_of is ∙ menu_accepted menu.dir
 
 -- ---- what is accepted was spelt so
 
@@ -424,6 +429,30 @@ raw_spelt (magic ∷ ws) command h =
       action.1,
       record { magic = magic; len = rest.1; action = rest.2; spelt = ap (λ ws. magic ∷ ws) rest.3; magic_is = m.1; len_is = rest.4; action_is = action.2 },
     )
+
+-- `menu`
+
+from_dir_value : (words : List (List ℕ)) (command : Command) → words_from 2 DirValue words ≡ Ok command →
+    (dir : List ℕ) × (words ≡ dir ∷ []) × (command ≡ Menu (record { dir = dir }))
+unfolding words_from
+from_dir_value [] command h = absurd (cc)
+from_dir_value (dir ∷ ws) command h =
+    let whole = from_whole (Menu (record { dir = dir })) 3 ws command h in
+    (dir, ap (λ ws. dir ∷ ws) whole.0, whole.1)
+
+dir_spelt : (w : List ℕ) (ws : List (List ℕ)) (command : Command) (b : Bool) → bytes_eq w (codes "--dir") ≡ b →
+    option_map_or (λ behind. words_from 2 behind ws) (if b then Some DirValue else None) (Err 1) ≡ Ok command →
+    (dir : List ℕ) × (w ∷ ws ≡ codes "--dir" ∷ dir ∷ []) × (command ≡ Menu (record { dir = dir }))
+dir_spelt w ws command true is h =
+    let value = from_dir_value ws command h in
+    (value.0, ap (λ w. w ∷ ws) (same_bytes w (codes "--dir") is) ∙ ap (λ ws. codes "--dir" ∷ ws) value.1, value.2)
+dir_spelt w ws command false is h = absurd (cc)
+
+from_dir_option : (words : List (List ℕ)) (command : Command) → words_from 1 DirOption words ≡ Ok command →
+    (dir : List ℕ) × (words ≡ codes "--dir" ∷ dir ∷ []) × (command ≡ Menu (record { dir = dir }))
+unfolding words_from
+from_dir_option [] command h = absurd (cc)
+from_dir_option (w ∷ ws) command h = dir_spelt w ws command (bytes_eq w (codes "--dir")) refl h
 
 -- what words of options say
 
@@ -721,22 +750,26 @@ raw_of_words w rest command is h =
     let raw = raw_spelt rest command h in
     subst (Spells (w ∷ rest)) (sym raw.1) (rest, ap (λ w. w ∷ rest) (same_bytes w (codes "raw") is), raw.2)
 
+menu_of_words : (w : List ℕ) (rest : List (List ℕ)) (command : Command) → bytes_eq w (codes "menu") ≡ true → words_from 1 DirOption rest ≡ Ok command → Spells (w ∷ rest) command
+menu_of_words w rest command is h =
+    let menu = from_dir_option rest command h in
+    subst (Spells (w ∷ rest)) (sym menu.2) (ap (λ w. w ∷ rest) (same_bytes w (codes "menu") is) ∙ ap (λ rest. codes "menu" ∷ rest) menu.1)
+
 -- the command that a row makes
 row_made : (row : Row) (given : Given) (words : List (List ℕ)) (command : Command) → command_of row given ≡ Some command → IsSpelt row words command → Spells words command
 row_made MarkGoodRow given words command made is =
-    let file = on_then
-    (λ file. option_map (λ settings. MarkGood (record { file = file; settings = settings; name = given.name; key = given.key })) given.settings)
-    given.file command made in
-    let mark = on_map (λ settings. MarkGood (record { file = file.0; settings = settings; name = given.name; key = given.key })) given.settings command file.2 in
+    let described = on_then (λ d. option_map (λ settings. MarkGood (record { described = d; settings = settings })) given.settings)
+    (described_in given) command made in
+    let mark = on_map (λ settings. MarkGood (record { described = described.0; settings = settings })) given.settings command described.2 in
     subst (λ command. IsSpelt MarkGoodRow words command → Spells words command) mark.2 (λ is. is) is
 row_made BootRow given words command made is =
-    let file = on_then
-    (λ file. option_map (λ settings. Boot (record { file = file; settings = settings; name = given.name; key = given.key; cause = cause_given given })) given.settings)
-    given.file command made in
-    let boot = on_map (λ settings. Boot (record { file = file.0; settings = settings; name = given.name; key = given.key; cause = cause_given given })) given.settings command file.2 in
+    let described = on_then
+    (λ d. option_map (λ settings. Boot (record { described = d; settings = settings; cause = cause_given given })) given.settings)
+    (described_in given) command made in
+    let boot = on_map (λ settings. Boot (record { described = described.0; settings = settings; cause = cause_given given })) given.settings command described.2 in
     subst (λ command. IsSpelt BootRow words command → Spells words command) boot.2 (λ is. is) is
 row_made StateRow given words command made is =
-    let state = on_map (λ file. State (record { file = file; name = given.name; key = given.key; actions = given.actions })) given.file command made in
+    let state = on_map (λ d. State (record { described = d; actions = given.actions })) (described_in given) command made in
     subst (λ command. IsSpelt StateRow words command → Spells words command) state.2 (λ is. is) is
 
 row_cases : (w : List ℕ) (row : Row) (a b c : Bool) → bytes_eq w (command_name_of StateRow) ≡ a → bytes_eq w (command_name_of MarkGoodRow) ≡ b → bytes_eq w (command_name_of BootRow) ≡ c →
@@ -768,14 +801,15 @@ options_of_words row w rest command named h =
       made = r.made;
     })
 
-command_spelt : (w : List ℕ) (rest : List (List ℕ)) (command : Command) (a : Bool) (o : Option Row) → bytes_eq w (codes "raw") ≡ a → row_of w ≡ o →
-    option_map_or (λ behind. words_from 1 behind rest) (if a then Some Magic else option_map (λ row. Options row None none_given) o) (Err 0) ≡ Ok command →
+command_spelt : (w : List ℕ) (rest : List (List ℕ)) (command : Command) (a b : Bool) (o : Option Row) → bytes_eq w (codes "raw") ≡ a → bytes_eq w (codes "menu") ≡ b → row_of w ≡ o →
+    option_map_or (λ behind. words_from 1 behind rest) (if a then Some Magic else if b then Some DirOption else option_map (λ row. Options row None none_given) o) (Err 0) ≡ Ok command →
     Spells (w ∷ rest) command
-command_spelt w rest command true o ea eo h = raw_of_words w rest command ea h
-command_spelt w rest command false (Some row) ea eo h = options_of_words row w rest command eo h
-command_spelt w rest command false None ea eo h = absurd (cc)
+command_spelt w rest command true b o ea eb eo h = raw_of_words w rest command ea h
+command_spelt w rest command false true o ea eb eo h = menu_of_words w rest command eb h
+command_spelt w rest command false false (Some row) ea eb eo h = options_of_words row w rest command eo h
+command_spelt w rest command false false None ea eb eo h = absurd (cc)
 
 pub spelt : (words : List (List ℕ)) (command : Command) → words_of words ≡ Ok command → Spells words command
 unfolding words_from
 spelt [] command h = absurd (cc)
-spelt (w ∷ ws) command h = command_spelt w ws command (bytes_eq w (codes "raw")) (row_of w) refl refl h
+spelt (w ∷ ws) command h = command_spelt w ws command (bytes_eq w (codes "raw")) (bytes_eq w (codes "menu")) (row_of w) refl refl refl h

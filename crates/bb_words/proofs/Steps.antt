@@ -7,6 +7,8 @@ use Rattle.std.specs.Result.{IsErrAnd}
 use Rattle.std.specs.Str.{bytes_eq}
 use Rattle.bb_words.specs.Answer.{Refuses}
 use Rattle.bb_words.specs.declared.command.Command.{Command}
+use Rattle.bb_words.specs.declared.command.Command.TheVariants.{Menu}
+use Rattle.bb_words.specs.declared.command.MenuCommand.{MenuCommand}
 use Rattle.bb_words.specs.declared.command.RawAction.TheVariants.{Look, Write}
 use Rattle.bb_words.specs.declared.given.Given.{Given}
 use Rattle.bb_words.specs.declared.option.Valued.{Valued}
@@ -15,7 +17,7 @@ use Rattle.bb_words.specs.declared.error.WordsError.TheVariants.{BadWord, NoMemo
 use Rattle.bb_words.specs.declared.row.Row.{Row}
 use Rattle.bb_words.specs.Options.{none_given}
 use Rattle.bb_words.specs.Table.{row_of}
-use Rattle.bb_words.specs.Words.{WordStage, Start, Magic, Length, Mode, Area, Options, Whole, raw_of, number_up_to, area_spelt, next, command_at, words_from, words_of}
+use Rattle.bb_words.specs.Words.{WordStage, Start, Magic, Length, Mode, Area, DirOption, DirValue, Options, Whole, raw_of, number_up_to, area_spelt, next, command_at, words_from, words_of}
 
 -- ---- answers
 
@@ -30,7 +32,10 @@ moved x y cause e h = subst (λ x. Refuses x cause) (sym e) h
 pub ok_moved : (r : Result Command WordsError) (x y : Result Command ℕ) → x ≡ y → IfOk r (λ command. y ≡ Ok command) → IfOk r (λ command. x ≡ Ok command)
 ok_moved r x y e h = subst (λ x. IfOk r (λ command. x ≡ Ok command)) (sym e) h
 
-pub err_moved : (r : Result Command WordsError) (x y : Result Command ℕ) → x ≡ y → IfErr r (Refuses y) → IfErr r (Refuses x)
+pub menu_moved : (r : Result MenuCommand WordsError) (x y : Result Command ℕ) → x ≡ y → IfOk r (λ menu. y ≡ Ok (Menu menu)) → IfOk r (λ menu. x ≡ Ok (Menu menu))
+menu_moved r x y e h = subst (λ x. IfOk r (λ menu. x ≡ Ok (Menu menu))) (sym e) h
+
+pub err_moved : {A : Type 0} (r : Result A WordsError) (x y : Result Command ℕ) → x ≡ y → IfErr r (Refuses y) → IfErr r (Refuses x)
 err_moved r x y e h = subst (λ x. IfErr r (Refuses x)) (sym e) h
 
 -- where a value is read, and where none is
@@ -156,15 +161,33 @@ pub raw_command : (words : List (List ℕ)) (word : List ℕ) → slice_get word
     words_of words ≡ words_from 1 Magic (drop 1 words)
 raw_command words word found raw = step_on 0 Start _ words word found (is_test _ _ _ raw)
 
-pub option_command : (row : Row) (words : List (List ℕ)) (word : List ℕ) → slice_get words 0 ≡ Some word → bytes_eq word (codes "raw") ≡ false → row_of word ≡ Some row →
-    words_of words ≡ words_from 1 (Options row None none_given) (drop 1 words)
-option_command row words word found raw is =
-    step_on 0 Start _ words word found (not_test _ _ _ raw ∙ ap (option_map (λ row. Options row None none_given)) is)
+pub menu_command : (words : List (List ℕ)) (word : List ℕ) → slice_get words 0 ≡ Some word → bytes_eq word (codes "raw") ≡ false → bytes_eq word (codes "menu") ≡ true →
+    words_of words ≡ words_from 1 DirOption (drop 1 words)
+menu_command words word found raw menu = step_on 0 Start _ words word found (not_test _ _ _ raw ∙ is_test _ _ _ menu)
 
-pub no_command : (words : List (List ℕ)) (word : List ℕ) → slice_get words 0 ≡ Some word → bytes_eq word (codes "raw") ≡ false → row_of word ≡ None →
-    words_of words ≡ Err 0
-no_command words word found raw is =
-    step_bad 0 Start words word found (not_test _ _ _ raw ∙ ap (option_map (λ row. Options row None none_given)) is)
+pub option_command : (row : Row) (words : List (List ℕ)) (word : List ℕ) → slice_get words 0 ≡ Some word → bytes_eq word (codes "raw") ≡ false →
+    bytes_eq word (codes "menu") ≡ false → row_of word ≡ Some row → words_of words ≡ words_from 1 (Options row None none_given) (drop 1 words)
+option_command row words word found raw menu is =
+    step_on 0 Start _ words word found (not_test _ _ _ raw ∙ not_test _ _ _ menu ∙ ap (option_map (λ row. Options row None none_given)) is)
+
+pub no_command : (words : List (List ℕ)) (word : List ℕ) → slice_get words 0 ≡ Some word → bytes_eq word (codes "raw") ≡ false →
+    bytes_eq word (codes "menu") ≡ false → row_of word ≡ None → words_of words ≡ Err 0
+no_command words word found raw menu is =
+    step_bad 0 Start words word found (not_test _ _ _ raw ∙ not_test _ _ _ menu ∙ ap (option_map (λ row. Options row None none_given)) is)
+
+-- ---- `menu`
+
+pub dir_option : (words : List (List ℕ)) (word : List ℕ) → slice_get words 1 ≡ Some word → bytes_eq word (codes "--dir") ≡ true →
+    words_from 1 DirOption (drop 1 words) ≡ words_from 2 DirValue (drop 2 words)
+dir_option words word found dir = step_on 1 DirOption DirValue words word found (is_test _ _ _ dir)
+
+pub no_dir_option : (words : List (List ℕ)) (word : List ℕ) → slice_get words 1 ≡ Some word → bytes_eq word (codes "--dir") ≡ false →
+    words_from 1 DirOption (drop 1 words) ≡ Err 1
+no_dir_option words word found other = step_bad 1 DirOption words word found (not_test _ _ _ other)
+
+pub dir_value : (words : List (List ℕ)) (word : List ℕ) → slice_get words 2 ≡ Some word →
+    words_from 2 DirValue (drop 2 words) ≡ words_from 3 (Whole (Menu (record { dir = word }))) (drop 3 words)
+dir_value words word found = step_on 2 DirValue (Whole (Menu (record { dir = word }))) words word found refl
 
 -- ---- the end of the options
 

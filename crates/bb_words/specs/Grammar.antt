@@ -7,7 +7,7 @@ use Rattle.bb_words.specs.declared.command.Action.{Action}
 use Rattle.bb_words.specs.declared.command.Action.TheVariants.{Get, Dump, DumpShell}
 use Rattle.bb_words.specs.declared.command.CauseWord.{CauseWord}
 use Rattle.bb_words.specs.declared.command.Command.{Command}
-use Rattle.bb_words.specs.declared.command.Command.TheVariants.{Raw, State, MarkGood, Boot}
+use Rattle.bb_words.specs.declared.command.Command.TheVariants.{Raw, State, MarkGood, Boot, Menu}
 use Rattle.bb_words.specs.declared.command.RawAction.{RawAction}
 use Rattle.bb_words.specs.declared.command.RawAction.TheVariants.{Look, Write}
 use Rattle.bb_words.specs.declared.command.RawCommand.{RawCommand}
@@ -164,3 +164,4 @@ Spells words (Raw raw) = (rest : List (List ℕ)) × (words ≡ codes "raw" ∷ 
 Spells words (State state) = IsSpelt StateRow words (State state)
 Spells words (MarkGood mark) = IsSpelt MarkGoodRow words (MarkGood mark)
 Spells words (Boot boot) = IsSpelt BootRow words (Boot boot)
+Spells words (Menu menu) = words ≡ codes "menu" ∷ codes "--dir" ∷ menu.dir ∷ []

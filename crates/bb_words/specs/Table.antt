@@ -7,6 +7,7 @@ use Rattle.bb_words.specs.declared.command.CauseWord.{CauseWord}
 use Rattle.bb_words.specs.declared.command.CauseWord.TheVariants.{Other}
 use Rattle.bb_words.specs.declared.command.Command.{Command}
 use Rattle.bb_words.specs.declared.command.Command.TheVariants.{State, MarkGood, Boot}
+use Rattle.bb_words.specs.declared.command.Described.{Described}
 use Rattle.bb_words.specs.declared.given.Given.{Given}
 use Rattle.bb_words.specs.declared.option.Valued.{Valued}
 use Rattle.bb_words.specs.declared.option.Valued.TheVariants.{Input, Name, Get as GetOption, Set as SetOption, Settings, Key, Cause}
@@ -62,43 +63,35 @@ has_dumps BootRow = false
 abbrev pub cause_given : Given → CauseWord
 cause_given given = unwrap_or given.cause Other
 
+-- the state that is named, where its file is given
+abbrev pub described_in : Given → Option Described
+described_in given =
+    option_map (λ file. record { file = file; name = given.name; key = given.key }) given.file
+
 -- the command that its options make, where those are given that must be: of `state` the file, of
 -- `mark-good` and `boot` that of the settings too
 abbrev pub command_of : Row → Given → Option Command
 command_of StateRow given =
     option_map
-    (λ file. State (record {
-      file = file;
-      name = given.name;
-      key = given.key;
-      actions = given.actions;
-    }))
-    given.file
+    (λ described. State (record { described = described; actions = given.actions }))
+    (described_in given)
 command_of MarkGoodRow given =
     option_and_then
-    (λ file.
-    option_map
-    (λ settings. MarkGood (record {
-      file = file;
-      settings = settings;
-      name = given.name;
-      key = given.key;
-    }))
+    (λ described.
+    option_map (λ settings. MarkGood (record { described = described; settings = settings }))
     given.settings)
-    given.file
+    (described_in given)
 command_of BootRow given =
     option_and_then
-    (λ file.
+    (λ described.
     option_map
     (λ settings. Boot (record {
-      file = file;
+      described = described;
       settings = settings;
-      name = given.name;
-      key = given.key;
       cause = cause_given given;
     }))
     given.settings)
-    given.file
+    (described_in given)
 
 -- whether an option may come: the command has it, and it wasn't given before if it comes once
 abbrev pub may_come : Row → Valued → Given → Bool

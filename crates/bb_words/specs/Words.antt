@@ -8,7 +8,7 @@ use Rattle.bb_base.specs.Form.{area_limit}
 use Rattle.bb_base.specs.Number.{number_of}
 use Rattle.bb_words.specs.declared.command.Command.{Command}
 use Rattle.bb_words.specs.declared.command.Action.{Action}
-use Rattle.bb_words.specs.declared.command.Command.TheVariants.{Raw}
+use Rattle.bb_words.specs.declared.command.Command.TheVariants.{Menu, Raw}
 use Rattle.bb_words.specs.declared.command.RawAction.{RawAction}
 use Rattle.bb_words.specs.declared.command.RawAction.TheVariants.{Look, Write}
 use Rattle.bb_words.specs.declared.given.Given.{Given}
@@ -37,6 +37,9 @@ pub data WordStage : Type 0 where
   Length : ℕ → WordStage
   Mode : ℕ → ℕ → WordStage
   Area : ℕ → ℕ → WordStage
+  -- `menu`, then `--dir`
+  DirOption : WordStage
+  DirValue : WordStage
   -- a command with options and some of them, with the option whose value comes next, if one does
   Options : Row → Option Valued → Given → WordStage
   -- a command to which no word can be added
@@ -75,6 +78,7 @@ after_option row given word =
 abbrev pub next : WordStage → List ℕ → Option WordStage
 next Start word =
     if bytes_eq word (codes "raw") then Some Magic
+    else if bytes_eq word (codes "menu") then Some DirOption
     else option_map (λ row. Options row None none_given) (row_of word)
 next Magic word = option_map (λ n. Length n) (number_up_to 4294967295 word)
 next (Length magic) word = option_map (λ n. Mode magic n) (number_up_to area_limit word)
@@ -84,6 +88,8 @@ next (Mode magic len) word =
     else None
 next (Area magic len) word =
     option_map (λ area. Whole (raw_of magic len (Write area))) (area_spelt len word)
+next DirOption word = if bytes_eq word (codes "--dir") then Some DirValue else None
+next DirValue word = Some (Whole (Menu (record { dir = word })))
 next (Options row None given) word = after_option row given word
 next (Options row (Some valued) given) word = after_value row given valued word
 next (Whole command) word = None

@@ -8,6 +8,18 @@ pub enum Command {
     State(StateCommand),
     MarkGood(MarkGoodCommand),
     Boot(BootCommand),
+    Menu(MenuCommand),
+}
+
+/// The state that words name, and how its file describes it.
+#[derive(Debug, Drop)]
+pub struct Described {
+    /// `-i`: the file that describes the state.
+    pub file: Text,
+    /// `-n`: which state of the file, if that is said.
+    pub name: Option<Text>,
+    /// `-k`: the file with the key, if that is said.
+    pub key: Option<Text>,
 }
 
 /// `raw`: a raw record in three strides of a device.
@@ -32,12 +44,7 @@ pub enum RawAction {
 /// `state`: the variables that a file describes.
 #[derive(Debug, Drop)]
 pub struct StateCommand {
-    /// `-i`: the file that describes the state.
-    pub file: Text,
-    /// `-n`: which state of the file, if that is said.
-    pub name: Option<Text>,
-    /// `-k`: the file with the key, if that is said.
-    pub key: Option<Text>,
+    pub described: Described,
     /// What is done, in the order of the words.
     pub actions: ActionList,
 }
@@ -45,29 +52,26 @@ pub struct StateCommand {
 /// `mark-good`: the target that was started last is good.
 #[derive(Debug, Drop)]
 pub struct MarkGoodCommand {
-    /// `-i`: the file that describes the state.
-    pub file: Text,
+    pub described: Described,
     /// `-c`: the file with the bootchooser's settings.
     pub settings: Text,
-    /// `-n`: which state of the file, if that is said.
-    pub name: Option<Text>,
-    /// `-k`: the file with the key, if that is said.
-    pub key: Option<Text>,
 }
 
 /// `boot`: the best target is started.
 #[derive(Debug, Drop)]
 pub struct BootCommand {
-    /// `-i`: the file that describes the state.
-    pub file: Text,
+    pub described: Described,
     /// `-c`: the file with the bootchooser's settings.
     pub settings: Text,
-    /// `-n`: which state of the file, if that is said.
-    pub name: Option<Text>,
-    /// `-k`: the file with the key, if that is said.
-    pub key: Option<Text>,
     /// `--cause`: why the machine starts, `other` if that isn't said.
     pub cause: CauseWord,
+}
+
+/// `menu`: the order of the boot entries in a folder.
+#[derive(Debug, Drop)]
+pub struct MenuCommand {
+    /// `--dir`: the folder, without a `/` at its end.
+    pub dir: Text,
 }
 
 /// Why the machine starts. (barebox User Manual, Bootchooser: attempts may be reset at `power-on`

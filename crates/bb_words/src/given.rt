@@ -11,7 +11,8 @@ ghost use Rattle.bb_words.specs.Words.{before_value, command_at, next};
 use crate::option::{Valued, cause_of, cut_at_sign, dump_of, value_in, valued_of};
 use crate::row::Row;
 use crate::{
-    Action, ActionList, BootCommand, CauseWord, Command, MarkGoodCommand, StateCommand, WordsError,
+    Action, ActionList, BootCommand, CauseWord, Command, Described, MarkGoodCommand, StateCommand,
+    WordsError,
 };
 use bb_base::{NoMemory, Text};
 use std::alloc::Global;
@@ -168,26 +169,26 @@ impl Given {
         ensures refused { IfErr result (λ cause.
             (cause ≡ WordsError.BadWord place) × (command_at (Options row due self) ≡ None)) }
     {
-        match (row, due, self.file, self.settings) {
-            (Row::State, None, Some(file), _) => Ok(Command::State(StateCommand {
-                file,
-                name: self.name,
-                key: self.key,
+        let (Some(file), None) = (self.file, due) else {
+            return Err(WordsError::BadWord(place));
+        };
+        let described = Described {
+            file,
+            name: self.name,
+            key: self.key,
+        };
+        match (row, self.settings) {
+            (Row::State, _) => Ok(Command::State(StateCommand {
+                described,
                 actions: self.actions,
             })),
-            (Row::MarkGood, None, Some(file), Some(settings)) => {
-                Ok(Command::MarkGood(MarkGoodCommand {
-                    file,
-                    settings,
-                    name: self.name,
-                    key: self.key,
-                }))
-            }
-            (Row::Boot, None, Some(file), Some(settings)) => Ok(Command::Boot(BootCommand {
-                file,
+            (Row::MarkGood, Some(settings)) => Ok(Command::MarkGood(MarkGoodCommand {
+                described,
                 settings,
-                name: self.name,
-                key: self.key,
+            })),
+            (Row::Boot, Some(settings)) => Ok(Command::Boot(BootCommand {
+                described,
+                settings,
                 cause: self.cause.unwrap_or(CauseWord::Other),
             })),
             _ => Err(WordsError::BadWord(place)),

@@ -7,6 +7,7 @@ mod command;
 mod error;
 mod given;
 mod law;
+mod menu;
 mod option;
 mod options;
 mod raw;
@@ -16,7 +17,8 @@ mod word;
 
 pub use action_list::ActionList;
 pub use command::{
-    Action, BootCommand, CauseWord, Command, MarkGoodCommand, RawAction, RawCommand, StateCommand,
+    Action, BootCommand, CauseWord, Command, Described, MarkGoodCommand, MenuCommand, RawAction,
+    RawCommand, StateCommand,
 };
 pub use error::WordsError;
 pub use law::{law_accepted_words, law_first_bad_word};

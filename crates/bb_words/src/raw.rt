@@ -1,13 +1,13 @@
-ghost use Rattle.std.specs.Prelude.{◌≡◌, ◌≤◌, ℕ, IfOk, IfErr, IfSome, OnOk, drop, length};
+ghost use Rattle.std.specs.Prelude.{◌≡◌, ◌≤◌, ℕ, IfOk, IfErr, IfSome, drop, length};
 ghost use Rattle.std.specs.Prelude.{option_and_then, slice_get};
 ghost use Rattle.std.specs.Option.{ok_or};
 ghost use Rattle.bb_words.specs.Answer.{IsSizedFor, IsSizedRaw, Refuses};
 ghost use Rattle.bb_words.specs.declared.command.Command.{Command};
 ghost use Rattle.bb_words.specs.declared.command.Command.TheVariants.{Raw};
-ghost use Rattle.bb_words.specs.Words.{Magic, Mode, Whole, raw_of, number_up_to, area_spelt};
+ghost use Rattle.bb_words.specs.Words.{Magic, Mode, raw_of, number_up_to, area_spelt};
 ghost use Rattle.bb_words.specs.Words.{words_from};
 
-use crate::word::word_at;
+use crate::word::{ends_at, word_at};
 use crate::{RawAction, RawCommand, WordsError};
 use bb_base::{AREA_LIMIT, Bytes, TextList, read_number};
 use hex::FromHexError;
@@ -91,18 +91,4 @@ fn area_at(alloc: Global, words: &TextList, place: usize, len: u32) -> Result<By
     let mut area = Bytes::none(alloc);
     area.add(decoded.as_slice())?;
     Ok(area)
-}
-
-// No word stands at this place.
-#[tactic(auto, using(crate::proofs::Steps::at_end))]
-fn ends_at(words: &TextList, place: usize) -> Result<(), WordsError>
-    ensures ok { OnOk result ((command : Command)
-        → words_from place (Whole command) (drop place words.now) ≡ Ok command) }
-    ensures refused { IfErr result (λ cause. (command : Command)
-        → Refuses (words_from place (Whole command) (drop place words.now)) cause) }
-{
-    match words.get(place) {
-        None => Ok(()),
-        Some(_) => Err(WordsError::BadWord(place)),
-    }
 }

@@ -2,6 +2,7 @@ ghost use Rattle.std.specs.Prelude.{◌≡◌, IfOk, IfErr};
 ghost use Rattle.bb_words.specs.Answer.{IsSized, Refuses};
 ghost use Rattle.bb_words.specs.Words.{words_of};
 
+use crate::menu::read_menu;
 use crate::options::read_options;
 use crate::raw::read_raw;
 use crate::row::Row;
@@ -20,6 +21,9 @@ pub fn read_words(alloc: Global, words: &TextList) -> Result<Command, WordsError
     let name = word_at(words, 0)?;
     if name == "raw" {
         return Ok(Command::Raw(read_raw(alloc, words)?));
+    }
+    if name == "menu" {
+        return Ok(Command::Menu(read_menu(alloc, words)?));
     }
     match Row::of(name) {
         Some(row) => read_options(alloc, row, words),
