@@ -1,7 +1,7 @@
 -- The menu of a folder: which of its files are read, which of these are entries, and in which order
 -- they stand.
-use Rattle.std.specs.Prelude.{◌≡◌, ℕ, ◌+◌, ◌<◌, ⊤, Bool, true, false, IsTrue, List, [], ◌∷◌, ◌++◌, All, filter, filter_map, length, option_map, Option, Some, None, Result, Ok, Err, if◌then◌else◌}
-use Rattle.std.specs.List.{AllAdjacentBelow, reduce}
+use Rattle.std.specs.Prelude.{◌≡◌, ℕ, ◌+◌, ◌<◌, ◌==◌, ⊤, Bool, true, false, IsTrue, List, [], ◌∷◌, ◌++◌, All, filter, filter_map, length, option_map, Option, Some, None, Result, Ok, Err, if◌then◌else◌}
+use Rattle.std.specs.List.{AllAdjacentBelow, flat_map, reduce}
 use Rattle.std.specs.List.Sorted.{IsPermutation}
 use Rattle.std.specs.Option.{ForSome, option_and_then}
 use Rattle.std.specs.Ordering.{is_lt}
@@ -11,6 +11,7 @@ use Rattle.bb_base.specs.Folder.{FileMap, Folder, file_of, has_folder, names_in}
 use Rattle.bb_base.specs.declared.files.FileFail.{FileFail}
 use Rattle.bb_base.specs.declared.files.FileFail.TheVariants as file_fails
 use Rattle.bb_bls.specs.Entry.{entry_of}
+use Rattle.bb_bls.specs.declared.entry.Entry.{Entry}
 use Rattle.bb_menu.specs.Order.{MenuBefore, is_menu_name, menu_cmp, named_entry}
 use Rattle.bb_menu.specs.declared.fault.MenuFault.{MenuFault}
 use Rattle.bb_menu.specs.declared.fault.MenuFault.TheVariants.{NoFolder, FileFault, FileTooLong, NoMemory}
@@ -76,6 +77,17 @@ first_item = reduce foremost
 abbrev pub IsArranged : List MenuItem → Type 0
 IsArranged menu = AllAdjacentBelow (λ item next. ¬ MenuBefore next item) menu (length menu)
 
+-- the menu with one item more, in front of the first that it stands in front of
+abbrev pub menu_with : MenuItem → List MenuItem → List MenuItem
+menu_with item [] = item ∷ []
+menu_with item (next ∷ menu) =
+    if is_lt (menu_cmp item next) then item ∷ next ∷ menu else next ∷ menu_with item menu
+
+-- the menu of the items that were found: each is put in its place
+abbrev pub menu_of : List MenuItem → List MenuItem
+menu_of [] = []
+menu_of (item ∷ found) = menu_with item (menu_of found)
+
 -- the name of a file that was read, and its text, if there is such a file
 abbrev pub FileRead : Type 0
 FileRead = List ℕ × Option (List ℕ)
@@ -103,3 +115,36 @@ is_menu_fault (Err NoFolder) = false
 is_menu_fault (Err FileFault) = true
 is_menu_fault (Err FileTooLong) = false
 is_menu_fault (Err NoMemory) = false
+
+-- ---- the text of a menu
+
+-- what an entry is called: its title, or its kernel's file where the title is empty
+abbrev pub menu_label : Entry → List ℕ
+menu_label entry = if length entry.title == 0 then entry.linux else entry.title
+
+-- a file's name, a space, what its entry is called, and LF
+abbrev pub menu_line : MenuItem → List ℕ
+menu_line item = item.name ++ 32 ∷ (menu_label item.entry ++ 10 ∷ [])
+
+-- a line for each item, in order
+abbrev pub menu_text : List MenuItem → List ℕ
+menu_text menu = flat_map menu_line menu
+
+-- the text of the menu of these items, or why there is none: a folder that isn't there has none
+abbrev pub menu_answer_by :
+    Result (List MenuItem) MenuFault → Result (Option (List ℕ)) FileFail
+menu_answer_by (Ok found) = Ok (Some (menu_text (menu_of found)))
+menu_answer_by (Err NoFolder) = Ok None
+menu_answer_by (Err FileFault) = Err file_fails.Fault
+menu_answer_by (Err FileTooLong) = Err file_fails.TooLong
+menu_answer_by (Err NoMemory) = Err file_fails.NoMemory
+
+-- the text of a folder's menu, none where there is no such folder, or why a file isn't read
+abbrev pub menu_answer : FileMap → List ℕ → Result (Option (List ℕ)) FileFail
+menu_answer files dir = menu_answer_by (items_of_folder files dir)
+
+-- whatever the files are, a text is that of a menu that was read
+pub record IsMenuTextRead (folder : Folder) (dir text : List ℕ) : Type 0 where
+  pub menu : List MenuItem
+  pub read : IsMenuRead folder dir menu
+  pub gives : text ≡ menu_text menu

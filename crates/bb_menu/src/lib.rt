@@ -16,4 +16,4 @@ pub use item::MenuItem;
 pub use law::law_menu_order;
 pub use menu::Menu;
 pub use order::before;
-pub use read::read_menu;
+pub use read::{read_menu, read_menu_text};

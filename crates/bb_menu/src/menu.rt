@@ -1,12 +1,13 @@
-ghost use Rattle.std.specs.Prelude.{◌≡◌, ◌==◌, ◌++◌, ◌∷◌, [], OnErr, OnOk, length, slice_get};
+ghost use Rattle.std.specs.Prelude.{◌≡◌, ◌==◌, ◌++◌, ◌∷◌, [], IfOk, OnErr, OnOk, length};
+ghost use Rattle.std.specs.Prelude.{slice_get};
 ghost use Rattle.std.specs.List.Sorted.{IsPermutation};
 ghost use Rattle.std.specs.Option.{option_copied, option_map};
-ghost use Rattle.bb_menu.specs.Menu.{IsArranged};
+ghost use Rattle.bb_menu.specs.Menu.{IsArranged, menu_label, menu_line, menu_text};
 ghost use Rattle.bb_menu.specs.Order.{menu_cmp};
 
 use crate::MenuItem;
 use crate::order::compare_named;
-use bb_base::{NoMemory, Text};
+use bb_base::{Bytes, NoMemory, Text};
 use bb_bls::Entry;
 use std::alloc::Global;
 use std::cmp::Ordering;
@@ -85,6 +86,38 @@ impl Menu {
         ensures { option_copied result ≡ option_map (λ i. i.entry) (slice_get self.now place) }
     {
         self.items.get(place).map(|item| &item.entry)
+    }
+
+    /// A line for each entry, in order: its file's name, a space, and its title, or its `linux`
+    /// where the title is empty. LF ends each line.
+    pub fn text(&self, alloc: Global) -> Result<Bytes, NoMemory>
+        ensures { IfOk result (λ text. text ≡ menu_text self.now) }
+    {
+        let mut text = Bytes::none(alloc);
+        for place in 0..self.items.len() {
+            add_line(&self.items[place], &mut text)?;
+        }
+        Ok(text)
+    }
+}
+
+fn add_line(item: &MenuItem, text: &mut Bytes) -> Result<(), NoMemory>
+    ensures { OnOk result (text.new ≡ text.old ++ menu_line item.now) }
+{
+    text.add(item.name.as_str().as_bytes())?;
+    text.add(b" ")?;
+    text.add(menu_label(&item.entry).as_bytes())?;
+    text.add(b"\n")
+}
+
+// What an entry is called.
+fn menu_label(entry: &Entry) -> &str
+    ensures { result.now ≡ menu_label entry.now }
+{
+    if entry.title.as_str().is_empty() {
+        entry.linux.as_str()
+    } else {
+        entry.title.as_str()
     }
 }
 

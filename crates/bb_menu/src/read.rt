@@ -1,12 +1,13 @@
-ghost use Rattle.std.specs.Prelude.{◌≡◌, ◌≢◌, false, true, Err, IfOk, IsOkAnd, IsTrue, Some};
-ghost use Rattle.std.specs.Prelude.{filter};
+ghost use Rattle.std.specs.Prelude.{◌≡◌, ◌≢◌, false, true, Err, IfOk, IsOkAnd, IsTrue, None};
+ghost use Rattle.std.specs.Prelude.{Ok, Some, filter};
 ghost use Rattle.std.specs.Bool.{OnFalse};
 ghost use Rattle.std.specs.Option.{ForSome};
 ghost use Rattle.std.specs.String.{string_bytes};
 ghost use Rattle.bb_base.specs.Faults.{HasCause};
 ghost use Rattle.bb_base.specs.Folder.{has_folder};
-ghost use Rattle.bb_menu.specs.Menu.{IsMenuOf, IsMenuRead, is_menu_fault};
-ghost use Rattle.bb_menu.specs.Menu.{item_of_text, items_in, items_of_folder, path_in_folder};
+ghost use Rattle.bb_menu.specs.Menu.{IsMenuOf, IsMenuRead, IsMenuTextRead, is_menu_fault};
+ghost use Rattle.bb_menu.specs.Menu.{item_of_text, items_in, items_of_folder, menu_answer};
+ghost use Rattle.bb_menu.specs.Menu.{path_in_folder};
 ghost use Rattle.bb_menu.specs.Order.{is_menu_name};
 ghost use Rattle.bb_menu.specs.Reading.{AreItemsRead, AreNamesOf, IsItemRead, IsLongFile};
 ghost use Rattle.bb_menu.specs.Reading.{IsNameRead};
@@ -46,6 +47,32 @@ pub fn read_menu<F: Files>(alloc: Global, dir: &str, files: &mut F) -> Result<Me
     let mut menu = read_items(alloc, dir, &names, files)?;
     menu.arrange();
     Ok(menu)
+}
+
+/// The text of a folder's menu: a line for each entry, in their order, as `Menu::text` has it. The
+/// folder and the faults are as for `read_menu`.
+pub fn read_menu_text<F: Files>(alloc: Global, dir: &str, files: &mut F) -> Result<Bytes, MenuFault>
+    // Where the files are told, the text is that of the definition, and so is why there is none.
+    ensures ok { IfOk result (λ text. ForSome (F.folder files.old).told (λ told.
+        menu_answer told dir.now ≡ Ok (Some text))) }
+    ensures no_folder { result ≡ Err MenuFault.NoFolder
+        → ForSome (F.folder files.old).told (λ told. menu_answer told dir.now ≡ Ok None) }
+    ensures too_long { result ≡ Err MenuFault.FileTooLong
+        → ForSome (F.folder files.old).told (λ told.
+        menu_answer told dir.now ≡ Err FileFail.TooLong) }
+
+    // Told or not, the text is that of a menu that was read.
+    ensures read { IfOk result (IsMenuTextRead (F.folder files.old) dir.now) }
+
+    // A fault is counted, and no other answer changes the count.
+    ensures told { (F.folder files.new).told ≡ (F.folder files.old).told }
+    ensures cause { HasCause (F.folder files.old).faults (F.folder files.new).faults
+        (IsTrue (is_menu_fault result)) }
+    ensures calm { OnFalse (is_menu_fault result)
+        ((F.folder files.new).faults ≡ (F.folder files.old).faults) }
+{
+    let menu = read_menu(alloc, dir, files)?;
+    Ok(menu.text(alloc)?)
 }
 
 // The names in a folder.
