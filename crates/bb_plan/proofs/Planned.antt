@@ -1,5 +1,5 @@
 -- A plan as the code made it.
-use Rattle.std.proofs.Common.{◌≡◌, ◌≢◌, ℕ, ◌==◌, Bool, true, false, List, [], cond, length, codes, None, Result, Ok, Err, refl, sym, ap, subst, ◌∙◌, inl}
+use Rattle.std.proofs.Common.{◌≡◌, ◌≢◌, ℕ, ◌==◌, Bool, true, false, List, [], cond, length, codes, None, Result, Ok, Err, IfOk, refl, sym, ap, subst, ◌∙◌, inl}
 use Rattle.bb_actions.specs.Actions.{misfit_of}
 use Rattle.bb_base.specs.Folder.{Folder}
 use Rattle.bb_flash.specs.declared.geometry.Geometry.{Geometry}
@@ -23,7 +23,7 @@ use Rattle.bb_words.specs.declared.command.StateCommand.{StateCommand}
 use Rattle.bb_words.specs.declared.error.WordsError.{WordsError}
 use Rattle.bb_words.specs.declared.error.WordsError.TheVariants.{BadWord, NoMemory}
 use Rattle.bb_plan.specs.PlanSteps.{fit_by}
-use Rattle.bb_plan.specs.Plan.{Act, IsPlannedFor, IsServed, OnCopies, SessionPlan, Task, Work, Write, on_copies, plan_as, plan_reading, raw_laid, raw_plan, raw_work, state_plan, task_as, words_reading}
+use Rattle.bb_plan.specs.Plan.{Act, IsPlannedFor, IsServed, IsTaskFor, OnCopies, Prints, SessionPlan, Task, Work, Write, on_copies, plan_as, plan_reading, prints, raw_laid, raw_plan, raw_work, state_plan, task_as, words_reading}
 use Rattle.bb_plan.specs.FilesRead.{IsExpected, IsReadAs, Reading, Yields}
 use Rattle.bb_plan.specs.Refusal.{layout_refusal, words_refusal}
 use Rattle.bb_plan.specs.declared.plan.PlannedTask.{PlannedTask}
@@ -56,6 +56,24 @@ copied reading before after (Ok plan) read task is =
     (yielded task_as after (tasks.OnCopies plan) (OnCopies (plan_as plan)) refl))
 copied reading before after (Err refusal) read task is =
     stopped (λ (p : SessionPlan). Yields (OnCopies p)) reading plan_as task_as before after refusal read task is
+
+-- the task of a text, as it was read
+pub printed : (reading : Reading (List ℕ)) (before after : Folder) (given : Result (List ℕ) Refusal) →
+    IsReadAs reading (λ (text : List ℕ). text) before after given → (task : Result PlannedTask Refusal) →
+    task ≡ result_and_then (λ text. Ok (tasks.Prints text)) given →
+    IsReadAs (prints reading) task_as before after task
+printed reading before after (Ok text) read task is =
+    gone_on (λ (text : List ℕ). Yields (Prints text)) reading (λ (text : List ℕ). text) task_as before after after text task read
+    (subst (IsReadAs (Yields (Prints text)) task_as after after) (sym is)
+    (yielded task_as after (tasks.Prints text) (Prints text) refl))
+printed reading before after (Err refusal) read task is =
+    stopped (λ (text : List ℕ). Yields (Prints text)) reading (λ (text : List ℕ). text) task_as before after refusal read task is
+
+-- it is for every device, and its refusals can be sent where those of the text can
+pub printed_for : (geometry : Geometry) (given : Result (List ℕ) Refusal) (task : Result PlannedTask Refusal) →
+    task ≡ result_and_then (λ text. Ok (tasks.Prints text)) given → IfOk task (λ task. IsTaskFor geometry (task_as task))
+printed_for geometry (Ok text) task is = subst (λ t. IfOk t (λ task. IsTaskFor geometry (task_as task))) (sym is) tt
+printed_for geometry (Err refusal) task is = subst (λ t. IfOk t (λ task. IsTaskFor geometry (task_as task))) (sym is) tt
 
 -- a variable that is named doesn't fit
 pub unfit : (command : StateCommand) (keyed : Keyed) (e : Refusal) →

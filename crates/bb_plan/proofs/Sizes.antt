@@ -1,6 +1,6 @@
 -- The area of a plan's layout has one length: in its defaults, in what its copies pass, and in what
 -- a boot is bound to; and no two variables to which a boot is bound share a byte of it.
-use Rattle.std.proofs.Common.{◌≡◌, ◌&&◌, ℕ, suc, ◌+◌, ◌≤◌, Bool, true, false, not, List, [], ◌∷◌, All, length, Option, Some, None, Result, Ok, Err, IfErr, IfOk, cond, nat_lt, refl, subst, ◌∙◌, arith}
+use Rattle.std.proofs.Common.{◌≡◌, ◌&&◌, ℕ, suc, ◌+◌, ◌≤◌, Bool, true, false, not, List, [], ◌∷◌, All, length, Option, Some, None, Result, Ok, Err, IfErr, IfOk, cond, nat_lt, ok_or, refl, subst, ◌∙◌, arith}
 use Rattle.std.specs.Prelude.{⊤, fold, map, ok_or, replicate}
 use Rattle.std.specs.Option.{option_and_then}
 use Rattle.std.proofs.lemmas.Bool.Decides.{nat_tests}
@@ -58,6 +58,7 @@ use Rattle.bb_words.specs.declared.command.Command.{Command}
 use Rattle.bb_words.specs.declared.command.Command.TheVariants as commands
 use Rattle.bb_words.specs.declared.command.RawAction.{RawAction}
 use Rattle.bb_words.specs.declared.command.RawAction.TheVariants as raw_actions
+use Rattle.bb_words.specs.declared.command.Described.{Described}
 use Rattle.bb_words.specs.declared.command.RawCommand.{RawCommand}
 use Rattle.bb_words.specs.declared.command.StateCommand.{StateCommand}
 use Rattle.bb_layout.specs.Thirds.{raw_layout}
@@ -341,10 +342,11 @@ key_ends file format = by (takes_key format)
 abbrev HasSize : Keyed → Type 0
 HasSize keyed = IsSized keyed.layout
 
-keyed_ends : (file : List ℕ) (name key : Option (List ℕ)) (geometry : Geometry) →
-    EachEnd HasSize IsOfText (keyed_reading file name key geometry)
-keyed_ends file name key geometry =
-    each_then IsSized HasSize IsOfText (key_after key) (layout_reading file name geometry) (layout_ends file name geometry)
+keyed_ends : (described : Described) (geometry : Geometry) → EachEnd HasSize IsOfText (keyed_reading described geometry)
+keyed_ends described geometry =
+    let key = described.key in
+    each_then IsSized HasSize IsOfText (key_after key) (layout_reading described.file described.name geometry)
+    (layout_ends described.file described.name geometry)
     (λ layout sized.
     each_then Any HasSize IsOfText (λ (block : Option (List ℕ)). Yields (record { layout = layout; key = block }))
     (key_reading key layout.format) (key_ends key layout.format) (λ block any. sized))
@@ -386,18 +388,24 @@ on_ends : (reading : Reading SessionPlan) → EachEnd IsSizedPlan IsOfText readi
 on_ends reading each =
     each_then IsSizedPlan IsSizedTask IsOfText (λ plan. Yields (OnCopies plan)) reading each (λ plan sized. sized)
 
+-- a menu's text, or that there is no such folder
+menu_ends : (dir : List ℕ) (found : Option (List ℕ)) →
+    EachEnd IsSizedTask IsOfText (and_then (λ text. Yields (Prints text)) (reading_of (ok_or found (refusals.FileMissing dir))))
+menu_ends dir None = refl
+menu_ends dir (Some text) = tt
+
 pub command_ends : (command : Command) (geometry : Geometry) → EachEnd IsSizedTask IsOfText (command_reading command geometry)
 command_ends (commands.Raw command) geometry =
     on_ends (reading_of (raw_plan command geometry)) (raw_ends command (raw_layout command.magic command.area_len geometry))
 command_ends (commands.State command) geometry =
     on_ends (state_reading command geometry) (
     each_then HasSize IsSizedPlan IsOfText (λ keyed. reading_of (state_plan command keyed))
-    (keyed_reading command.file command.name command.key geometry) (keyed_ends command.file command.name command.key geometry)
+    (keyed_reading command.described geometry) (keyed_ends command.described geometry)
     (λ keyed sized. fit_ends command keyed (misfit_of keyed.layout.vars command.actions)))
 command_ends (commands.MarkGood command) geometry =
     on_ends (mark_reading command geometry) (
     each_then HasSize IsSizedPlan IsOfText (mark_after command)
-    (keyed_reading command.file command.name command.key geometry) (keyed_ends command.file command.name command.key geometry)
+    (keyed_reading command.described geometry) (keyed_ends command.described geometry)
     (λ keyed sized.
     each_then (IsBoundSo keyed.layout) IsSizedPlan IsOfText
     (λ (targets : Binding). Yields (record { keyed = keyed; work = Good targets }))
@@ -405,7 +413,7 @@ command_ends (commands.MarkGood command) geometry =
 command_ends (commands.Boot command) geometry =
     on_ends (boot_reading command geometry) (
     each_then HasSize IsSizedPlan IsOfText (boot_after command)
-    (keyed_reading command.file command.name command.key geometry) (keyed_ends command.file command.name command.key geometry)
+    (keyed_reading command.described geometry) (keyed_ends command.described geometry)
     (λ keyed sized.
     each_then (IsBoundSo keyed.layout) IsSizedPlan IsOfText (boot_planned command keyed)
     (binding_reading command.settings keyed.layout) (binding_ends command.settings keyed.layout sized)
@@ -415,6 +423,7 @@ command_ends (commands.Boot command) geometry =
     Yields (record { keyed = keyed; work = Boot targets (cause_of command.cause) plans }))
     (plans_reading targets) (entries_end 0 (entries_of targets))
     (λ plans any. record { layout_is = sized; bound = bound.0; binding = bound.1 }))))
+command_ends (commands.Menu command) geometry = λ found. menu_ends command.dir found
 
 sized_of : (command : Result Command ℕ) (geometry : Geometry) (files : FileAnswers) →
     IfOk (result_by (words_reading command geometry) files) IsSizedTask

@@ -4,7 +4,7 @@ use Rattle.std.specs.Option.{ForSome}
 use Rattle.std.specs.Result.{result_map_both}
 use Rattle.bb_base.proofs.Counts.{one_more_later}
 use Rattle.bb_base.specs.Faults.{Rose, counted}
-use Rattle.bb_base.specs.Folder.{Folder, file_of}
+use Rattle.bb_base.specs.Folder.{Folder}
 use Rattle.bb_base.specs.declared.files.FileFail.TheVariants as file_fails
 use Rattle.bb_chooser.specs.Binding.{Binding}
 use Rattle.bb_chooser.specs.declared.settings_error.SettingsError.{SettingsError}
@@ -17,7 +17,8 @@ use Rattle.bb_tree.specs.Node.{Branch}
 use Rattle.bb_layout.specs.Formats.{takes_key}
 use Rattle.bb_layout.specs.declared.format_kind.FormatKind.{FormatKind}
 use Rattle.bb_layout.specs.Backend.{backend_of}
-use Rattle.bb_layout.specs.Layout.{Laid, layout_at, layout_from, len_of}
+use Rattle.bb_layout.specs.Layout.{Laid, fields_of, layout_at, layout_from, len_of}
+use Rattle.bb_layout.specs.declared.layout.Layout.{Layout}
 use Rattle.bb_layout.specs.Ranges.{area_len_of}
 use Rattle.bb_layout.specs.Results.{result_and_then}
 use Rattle.bb_layout.specs.StateNode.{state_of}
@@ -27,38 +28,32 @@ use Rattle.bb_layout.specs.Storage.{storage_in}
 use Rattle.bb_layout.specs.Variables.{variables_of}
 use Rattle.bb_layout.specs.declared.layout_error.LayoutError.{LayoutError}
 use Rattle.bb_layout.specs.declared.layout_error.LayoutError.TheVariants as layout_errors
-use Rattle.bb_plan.specs.PlanSteps.{block_by, key_reading, keyed_reading, named_block, refused_as}
-use Rattle.bb_plan.specs.Plan.{keyed_as}
-use Rattle.bb_plan.specs.FilesRead.{IsFolderLater, IsReadAs, Yields, file_reading}
-use Rattle.bb_plan.specs.declared.described.KeyedLayout.{KeyedLayout}
+use Rattle.bb_plan.specs.PlanSteps.{block_by, key_reading, layout_reading, named_block, refused_as}
+use Rattle.bb_plan.specs.FilesRead.{Asked, IsReadAs, Yields, asked_name, files_answer, needed}
 use Rattle.bb_plan.specs.Refusal.{layout_refusal, settings_refusal}
 use Rattle.bb_plan.specs.declared.refusal.Refusal.{Refusal}
 use Rattle.bb_plan.specs.declared.refusal.Refusal.TheVariants as refusals
 use Rattle.bb_plan.proofs.Readings.{folder_is, yielded}
 
--- the files are as before, and their count is one more where the call met a fault
-pub folder_later : (before after : Folder) (fails : Bool) → after.told ≡ before.told → after.faults ≡ counted fails before.faults → IsFolderLater before after
-folder_later before after false told counts = record { told = told; faults = omega (arith, counts) }
-folder_later before after true told counts = record {
-  told = told;
-  faults = subst (λ n. before.faults ≤ n) (sym counts) (one_more_later before.faults);
-}
+-- a call counts at most one fault
+pub counted_later : (fails : Bool) (before after : ℕ) → after ≡ counted fails before → before ≤ after
+counted_later false before after counts = omega (arith, counts)
+counted_later true before after counts = subst (λ n. before ≤ n) (sym counts) (one_more_later before)
 
-module _ (name : List ℕ) (before after : Folder) (told : after.told ≡ before.told) where
+module _ (asked : Asked) (before after : Folder) (told : after.told ≡ before.told) where
   abbrev AsBytes : Result (List ℕ) Refusal → Type 0
-  AsBytes given = IsReadAs (file_reading name) (λ (bytes : List ℕ). bytes) before after given
+  AsBytes given = IsReadAs (needed asked) (λ (bytes : List ℕ). bytes) before after given
 
-  -- memory was refused before the file was read, or for its name
-  pub file_short : (fails : Bool) → after.faults ≡ counted fails before.faults → (given : Result (List ℕ) Refusal) →
-      given ≡ Err refusals.NoMemory → AsBytes given
-  file_short fails counts given is = inr (is, record { later = folder_later before after fails told counts; unread = λ none. absurd cc })
+  -- memory was refused before it was read, or for its name
+  pub file_short : before.faults ≤ after.faults → (given : Result (List ℕ) Refusal) → given ≡ Err refusals.NoMemory → AsBytes given
+  file_short later given is = inr (is, record { later = record { told = told; faults = later }; unread = λ none. absurd cc })
 
-  pub file_given : (bytes : List ℕ) → ForSome before.told (λ files. file_of files name ≡ Ok (Some bytes)) →
+  pub file_given : (bytes : List ℕ) → ForSome before.told (λ files. files_answer files asked ≡ Ok (Some bytes)) →
       after.faults ≡ before.faults → AsBytes (Ok bytes)
   file_given bytes held calm =
       inl (record { answers = Ok (Some bytes) ∷ []; are = (held, (refl, folder_is before after told calm)); gives = refl })
 
-  pub file_missing : (copied : List ℕ) → copied ≡ name → ForSome before.told (λ files. file_of files name ≡ Ok None) →
+  pub file_missing : (copied : List ℕ) → copied ≡ asked_name asked → ForSome before.told (λ files. files_answer files asked ≡ Ok None) →
       after.faults ≡ before.faults → AsBytes (Err (refusals.FileMissing copied))
   file_missing copied same held calm = inl (record {
     answers = Ok None ∷ [];
@@ -66,7 +61,7 @@ module _ (name : List ℕ) (before after : Folder) (told : after.told ≡ before
     gives = ap (λ (n : List ℕ). Err (refusals.FileMissing n)) (sym same);
   })
 
-  pub file_faulty : (copied : List ℕ) → copied ≡ name → before.faults ≤ after.faults → Rose before.faults after.faults →
+  pub file_faulty : (copied : List ℕ) → copied ≡ asked_name asked → before.faults ≤ after.faults → Rose before.faults after.faults →
       AsBytes (Err (refusals.FileFault copied))
   file_faulty copied same later rose = inl (record {
     answers = Err file_fails.Fault ∷ [];
@@ -74,7 +69,7 @@ module _ (name : List ℕ) (before after : Folder) (told : after.told ≡ before
     gives = ap (λ (n : List ℕ). Err (refusals.FileFault n)) (sym same);
   })
 
-  pub file_long : (copied : List ℕ) → copied ≡ name → ForSome before.told (λ files. file_of files name ≡ Err file_fails.TooLong) →
+  pub file_long : (copied : List ℕ) → copied ≡ asked_name asked → ForSome before.told (λ files. files_answer files asked ≡ Err file_fails.TooLong) →
       after.faults ≡ before.faults → AsBytes (Err (refusals.FileTooLong copied))
   file_long copied same held calm = inl (record {
     answers = Err file_fails.TooLong ∷ [];
@@ -174,11 +169,16 @@ key_unasked file format folder takes =
     subst (λ (t : Bool). IsReadAs (cond t (named_block file) (Yields None)) (λ (key : Option (List ℕ)). key) folder folder (Ok None))
     (sym takes) (yielded (λ (key : Option (List ℕ)). key) folder None None refl)
 
--- what was read by the name and the key that were handed in
-pub described_as : (file : List ℕ) (name key : Option (List ℕ)) {given_name given_key : Option (List ℕ)} → given_name ≡ name →
-    given_key ≡ key → (geometry : Geometry) (before after : Folder) (given : Result KeyedLayout Refusal) →
-    IsReadAs (keyed_reading file given_name given_key geometry) keyed_as before after given →
-    IsReadAs (keyed_reading file name key geometry) keyed_as before after given
-described_as file name key {given_name} {given_key} same_name same_key geometry before after given read =
-    subst (λ k. IsReadAs (keyed_reading file name k geometry) keyed_as before after given) same_key
-    (subst (λ n. IsReadAs (keyed_reading file n given_key geometry) keyed_as before after given) same_name read)
+-- what was read by the name of a state, and by that of a key's file, as they were handed in
+pub layout_as : (file : List ℕ) {name given_name : Option (List ℕ)} → given_name ≡ name → (geometry : Geometry) (before after : Folder)
+    (given : Result Layout Refusal) → IsReadAs (layout_reading file given_name geometry) fields_of before after given →
+    IsReadAs (layout_reading file name geometry) fields_of before after given
+layout_as file same geometry before after given read =
+    subst (λ name. IsReadAs (layout_reading file name geometry) fields_of before after given) same read
+
+pub key_as : {file given_file : Option (List ℕ)} → given_file ≡ file → (format : FormatKind) (before after : Folder)
+    (given : Result (Option (List ℕ)) Refusal) →
+    IsReadAs (key_reading given_file format) (λ (key : Option (List ℕ)). key) before after given →
+    IsReadAs (key_reading file format) (λ (key : Option (List ℕ)). key) before after given
+key_as same format before after given read =
+    subst (λ file. IsReadAs (key_reading file format) (λ (key : Option (List ℕ)). key) before after given) same read

@@ -6,6 +6,7 @@ use Rattle.bb_base.specs.Faults.{Rose}
 use Rattle.bb_base.specs.Folder.{FileMap, Folder, file_of}
 use Rattle.bb_base.specs.declared.files.FileFail.{FileFail}
 use Rattle.bb_base.specs.declared.files.FileFail.TheVariants as file_fails
+use Rattle.bb_menu.specs.Menu.{menu_answer}
 use Rattle.bb_shell.specs.Plans.{entry_answer}
 use Rattle.bb_plan.specs.declared.refusal.Refusal.{Refusal}
 use Rattle.bb_plan.specs.declared.refusal.Refusal.TheVariants as refusals
@@ -14,20 +15,24 @@ use Rattle.bb_plan.specs.declared.refusal.Refusal.TheVariants as refusals
 abbrev pub FileAnswer : Type 0
 FileAnswer = Result (Option (List ℕ)) FileFail
 
--- what is asked: the file of this name, or that of the entry for which a target's setting stands
+-- what is asked: the file of this name, that of the entry for which a target's setting stands, or
+-- the text of this folder's menu
 pub data Asked : Type 0 where
   AskedFile : List ℕ → Asked
   AskedEntry : List ℕ → Asked
+  AskedMenu : List ℕ → Asked
 
 -- the name by which a refusal knows it
 abbrev pub asked_name : Asked → List ℕ
 asked_name (AskedFile name) = name
 asked_name (AskedEntry setting) = setting
+asked_name (AskedMenu dir) = dir
 
 -- what these files answer
 abbrev pub files_answer : FileMap → Asked → FileAnswer
 files_answer files (AskedFile name) = file_of files name
 files_answer files (AskedEntry setting) = entry_answer files setting
+files_answer files (AskedMenu dir) = menu_answer files dir
 
 -- a reading that gives a value of type A, or a refusal
 pub data Reading (A : Type 0) : Type 0 where
@@ -50,10 +55,16 @@ abbrev pub reading_of : {A : Type 0} → Result A Refusal → Reading A
 reading_of (Ok x) = Yields x
 reading_of (Err refusal) = Fails refusal
 
--- a file that has to be there
+-- what has to be there: a file, or a folder with its menu
+abbrev pub needed : Asked → Reading (List ℕ)
+needed asked =
+    Reads asked (λ found. reading_of (ok_or found (refusals.FileMissing (asked_name asked))))
+
 abbrev pub file_reading : List ℕ → Reading (List ℕ)
-file_reading name =
-    Reads (AskedFile name) (λ found. reading_of (ok_or found (refusals.FileMissing name)))
+file_reading name = needed (AskedFile name)
+
+abbrev pub menu_reading : List ℕ → Reading (List ℕ)
+menu_reading dir = needed (AskedMenu dir)
 
 -- it begins with a file
 abbrev pub reads_file : {A : Type 0} → Reading A → Bool

@@ -22,7 +22,7 @@ use Rattle.bb_words.specs.declared.command.RawAction.TheVariants as raw_actions
 use Rattle.bb_words.specs.declared.command.RawCommand.{RawCommand}
 use Rattle.bb_words.specs.declared.command.StateCommand.{StateCommand}
 use Rattle.bb_plan.specs.PlanSteps.{binding_reading, cause_of, fit_by, keyed_reading, plans_reading, refused_as}
-use Rattle.bb_plan.specs.FilesRead.{Fails, FileAnswer, Reading, Yields, and_then, answers_over, result_by, result_over, reading_of, reads_file}
+use Rattle.bb_plan.specs.FilesRead.{Fails, FileAnswer, Reading, Yields, and_then, answers_over, menu_reading, result_by, result_over, reading_of, reads_file}
 use Rattle.bb_plan.specs.declared.described.KeyedLayout.{KeyedLayout}
 use Rattle.bb_plan.specs.declared.plan.PlannedTask.{PlannedTask}
 use Rattle.bb_plan.specs.declared.plan.PlannedTask.TheVariants as tasks
@@ -76,7 +76,7 @@ state_plan command keyed =
 abbrev pub state_reading : StateCommand → Geometry → Reading SessionPlan
 state_reading command geometry =
     and_then (λ keyed. reading_of (state_plan command keyed))
-    (keyed_reading command.file command.name command.key geometry)
+    (keyed_reading command.described geometry)
 
 -- `mark-good`: its layout and key, and then its settings
 abbrev pub mark_after : MarkGoodCommand → Keyed → Reading SessionPlan
@@ -86,7 +86,7 @@ mark_after command keyed =
 
 abbrev pub mark_reading : MarkGoodCommand → Geometry → Reading SessionPlan
 mark_reading command geometry =
-    and_then (mark_after command) (keyed_reading command.file command.name command.key geometry)
+    and_then (mark_after command) (keyed_reading command.described geometry)
 
 -- `boot`: its layout and key, its settings, and then the entries of its targets
 abbrev pub boot_planned : BootCommand → Keyed → Binding → Reading SessionPlan
@@ -102,18 +102,23 @@ boot_after command keyed =
 
 abbrev pub boot_reading : BootCommand → Geometry → Reading SessionPlan
 boot_reading command geometry =
-    and_then (boot_after command) (keyed_reading command.file command.name command.key geometry)
+    and_then (boot_after command) (keyed_reading command.described geometry)
 
 -- ---- all commands
 
 abbrev pub on_copies : Reading SessionPlan → Reading Task
 on_copies reading = and_then (λ plan. Yields (OnCopies plan)) reading
 
+-- a text, which takes no layout
+abbrev pub prints : Reading (List ℕ) → Reading Task
+prints reading = and_then (λ text. Yields (Prints text)) reading
+
 abbrev pub command_reading : Command → Geometry → Reading Task
 command_reading (commands.Raw command) geometry = on_copies (reading_of (raw_plan command geometry))
 command_reading (commands.State command) geometry = on_copies (state_reading command geometry)
 command_reading (commands.MarkGood command) geometry = on_copies (mark_reading command geometry)
 command_reading (commands.Boot command) geometry = on_copies (boot_reading command geometry)
+command_reading (commands.Menu command) geometry = prints (menu_reading command.dir)
 
 abbrev pub words_reading : Result Command ℕ → Geometry → Reading Task
 words_reading (Ok command) geometry = command_reading command geometry

@@ -24,6 +24,7 @@ use Rattle.bb_state.specs.Keyed.{Keyed}
 use Rattle.bb_state.specs.declared.error.StateError.{StateError}
 use Rattle.bb_tree.specs.Node.{Branch}
 use Rattle.bb_words.specs.declared.command.CauseWord.{CauseWord}
+use Rattle.bb_words.specs.declared.command.Described.{Described}
 use Rattle.bb_words.specs.declared.command.CauseWord.TheVariants as words_for
 use Rattle.bb_plan.specs.FilesRead.{AskedEntry, Fails, Reading, Reads, Yields, and_then, file_reading, reading_of}
 use Rattle.bb_plan.specs.declared.refusal.Refusal.{Refusal}
@@ -87,9 +88,9 @@ key_after key layout =
     and_then (λ block. Yields (record { layout = layout; key = block }))
     (key_reading key layout.format)
 
-abbrev pub keyed_reading :
-    List ℕ → Option (List ℕ) → Option (List ℕ) → Geometry → Reading Keyed
-keyed_reading file name key geometry = and_then (key_after key) (layout_reading file name geometry)
+abbrev pub keyed_reading : Described → Geometry → Reading Keyed
+keyed_reading described geometry =
+    and_then (key_after described.key) (layout_reading described.file described.name geometry)
 
 -- ---- the settings
 

@@ -19,6 +19,7 @@ use bb_flash::Geometry;
 use bb_hmac::Key;
 use bb_layout::{Layout, layout_of};
 use bb_tree::Tree;
+use bb_words::Described;
 use std::alloc::Global;
 
 /// A layout, and the key of its records, if they stand under one. It is never printed or copied.
@@ -28,24 +29,24 @@ pub struct KeyedLayout {
     pub key: Option<Key>,
 }
 
-/// The layout that words describe, with the key of its records, where they stand under one.
+/// The layout of the state that words name, with the key of its records, where they stand under
+/// one.
 pub(crate) fn read_keyed<N: Files>(
     alloc: Global,
     files: &mut N,
-    file: &Text,
-    name: Option<&Text>,
-    key: Option<&Text>,
+    described: &Described,
     geometry: Geometry,
 ) -> Result<KeyedLayout, Refusal>
     requires { IsGeometry geometry }
-    ensures read { IsReadAs (keyed_reading file.now (option_copied name.entry)
-        (option_copied key.entry) geometry) keyed_as
+    ensures read { IsReadAs (keyed_reading described.now geometry) keyed_as
         (N.folder files.old) (N.folder files.new) result }
     ensures laid { IfOk result (λ keyed. IsLaidFor geometry (keyed_as keyed)) }
     ensures tellable { IfErr result IsSendableRefusal }
 {
-    let layout = read_layout(alloc, files, file, name, geometry)?;
-    let key = read_key(alloc, files, key, layout.format)?;
+    let name = described.name.as_ref();
+    let layout = read_layout(alloc, files, &described.file, name, geometry)?;
+    let key_file = described.key.as_ref();
+    let key = read_key(alloc, files, key_file, layout.format)?;
     Ok(KeyedLayout { layout, key })
 }
 

@@ -7,6 +7,7 @@ mod described;
 mod entries;
 mod file;
 mod key;
+mod menu;
 mod plan;
 mod planning;
 mod refusal;

@@ -4,8 +4,8 @@ ghost use Rattle.bb_flash.specs.Geometry.{IsGeometry};
 ghost use Rattle.bb_words.specs.Answer.{IsSized, IsSizedRaw};
 ghost use Rattle.bb_plan.specs.PlanSteps.{cause_of, fit_by};
 ghost use Rattle.bb_plan.specs.Plan.{IsPlannedFor, IsTaskFor, boot_reading, command_reading};
-ghost use Rattle.bb_plan.specs.Plan.{mark_reading, plan_as, plan_reading, raw_plan, raw_work};
-ghost use Rattle.bb_plan.specs.Plan.{state_reading, task_as};
+ghost use Rattle.bb_plan.specs.Plan.{mark_reading, plan_as, plan_reading, raw_plan};
+ghost use Rattle.bb_plan.specs.Plan.{raw_work, state_reading, task_as};
 ghost use Rattle.bb_plan.specs.declared.plan.PlannedTask.TheVariants as tasks;
 ghost use Rattle.bb_layout.specs.Results.{result_and_then};
 ghost use Rattle.bb_plan.specs.FilesRead.{IsExpected, IsReadAs};
@@ -13,11 +13,12 @@ ghost use Rattle.bb_plan.specs.Refusal.{IsSendableRefusal};
 
 use crate::described::{KeyedLayout, read_keyed};
 use crate::entries::read_entries;
+use crate::menu::read_menu;
 use crate::plan::{PlannedTask, PlannedWork, Work};
 use crate::refusal::Refusal;
 use crate::targets::read_targets;
 use bb_actions::first_misfit;
-use bb_base::{Files, TextList};
+use bb_base::{Bytes, Files, TextList};
 use bb_chooser::Cause;
 use bb_flash::Geometry;
 use bb_layout::{Layout, raw_layout};
@@ -63,6 +64,7 @@ fn plan_command<N: Files>(
         Command::State(command) => on_copies(plan_state(alloc, command, files, geometry)),
         Command::MarkGood(command) => on_copies(plan_mark(alloc, &command, files, geometry)),
         Command::Boot(command) => on_copies(plan_boot(alloc, &command, files, geometry)),
+        Command::Menu(command) => prints(read_menu(alloc, files, &command.dir)),
     }
 }
 
@@ -71,6 +73,13 @@ fn on_copies(planned: Result<PlannedWork, Refusal>) -> Result<PlannedTask, Refus
     ensures { result ≡ result_and_then (λ plan. Ok (tasks.OnCopies plan)) planned }
 {
     Ok(PlannedTask::OnCopies(planned?))
+}
+
+// The task of a text.
+fn prints(text: Result<Bytes, Refusal>) -> Result<PlannedTask, Refusal>
+    ensures { result ≡ result_and_then (λ text. Ok (tasks.Prints text)) text }
+{
+    Ok(PlannedTask::Prints(text?))
 }
 
 // `raw`: its layout, and a look or a save.
@@ -108,9 +117,7 @@ fn plan_state<N: Files>(
     ensures planned { IfOk result (λ plan. IsPlannedFor geometry (plan_as plan)) }
     ensures tellable { IfErr result IsSendableRefusal }
 {
-    let name = command.name.as_ref();
-    let key = command.key.as_ref();
-    let keyed = read_keyed(alloc, files, &command.file, name, key, geometry)?;
+    let keyed = read_keyed(alloc, files, &command.described, geometry)?;
     check_actions(&keyed.layout, &command.actions)?;
     Ok(PlannedWork {
         keyed,
@@ -142,9 +149,7 @@ fn plan_mark<N: Files>(
     ensures planned { IfOk result (λ plan. IsPlannedFor geometry (plan_as plan)) }
     ensures tellable { IfErr result IsSendableRefusal }
 {
-    let name = command.name.as_ref();
-    let key = command.key.as_ref();
-    let keyed = read_keyed(alloc, files, &command.file, name, key, geometry)?;
+    let keyed = read_keyed(alloc, files, &command.described, geometry)?;
     let chooser = read_targets(alloc, files, &command.settings, &keyed.layout)?;
     Ok(PlannedWork {
         keyed,
@@ -166,9 +171,7 @@ fn plan_boot<N: Files>(
     ensures planned { IfOk result (λ plan. IsPlannedFor geometry (plan_as plan)) }
     ensures tellable { IfErr result IsSendableRefusal }
 {
-    let name = command.name.as_ref();
-    let key = command.key.as_ref();
-    let keyed = read_keyed(alloc, files, &command.file, name, key, geometry)?;
+    let keyed = read_keyed(alloc, files, &command.described, geometry)?;
     let chooser = read_targets(alloc, files, &command.settings, &keyed.layout)?;
     let plans = read_entries(alloc, files, &chooser)?;
     Ok(PlannedWork {

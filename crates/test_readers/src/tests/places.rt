@@ -42,6 +42,21 @@ fn a_boot_has_its_bad_words(rt: HostRuntime) -> Result<(), Fail> {
     are_bad(&rt, rt.alloc(), &boots())
 }
 
+fn menus() -> [(&'static str, usize); 5] {
+    [
+        ("menu", 1),
+        ("menu --dir", 2),
+        ("menu --dir=m", 1),
+        ("menu --dir m x", 3),
+        ("menu --dir m --dir n", 3),
+    ]
+}
+
+#[test]
+fn a_menu_has_its_bad_words(rt: HostRuntime) -> Result<(), Fail> {
+    are_bad(&rt, rt.alloc(), &menus())
+}
+
 fn raws() -> [(&'static str, usize); 6] {
     [
         ("raw 1", 2),

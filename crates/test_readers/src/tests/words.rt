@@ -2,8 +2,8 @@
 use super::lists::words_in;
 use bb_base::Text;
 use bb_words::{
-    Action, BootCommand, CauseWord, Command, MarkGoodCommand, RawAction, RawCommand, StateCommand,
-    read_words,
+    Action, BootCommand, CauseWord, Command, MarkGoodCommand, MenuCommand, RawAction, RawCommand,
+    StateCommand, read_words,
 };
 use std::alloc::Global;
 use std::process::Abort;
@@ -42,6 +42,13 @@ fn mark_good(alloc: Global, line: &str) -> Result<MarkGoodCommand, Fail> {
 fn boot(alloc: Global, line: &str) -> Result<BootCommand, Fail> {
     match command(alloc, line)? {
         Command::Boot(boot) => Ok(boot),
+        _ => Err(Fail::from("another command")),
+    }
+}
+
+fn menu(alloc: Global, line: &str) -> Result<MenuCommand, Fail> {
+    match command(alloc, line)? {
+        Command::Menu(menu) => Ok(menu),
         _ => Err(Fail::from("another command")),
     }
 }
@@ -110,9 +117,9 @@ fn is_dump_shell(action: Option<&Action>) -> bool {
 fn options_come_in_any_order(rt: HostRuntime) -> Result<(), Fail> {
     let line = "state -d --get=a -i x.dts --set=a=b=1 --dump-shell -k key.hex -n -n";
     let state = state(rt.alloc(), line)?;
-    has_text(&rt, &state.file, "x.dts");
-    says(&rt, &state.name, "-n");
-    says(&rt, &state.key, "key.hex");
+    has_text(&rt, &state.described.file, "x.dts");
+    says(&rt, &state.described.name, "-n");
+    says(&rt, &state.described.key, "key.hex");
     has_four_actions(&rt, &state);
     Ok(())
 }
@@ -132,10 +139,10 @@ fn has_four_actions(rt: &impl Abort, state: &StateCommand) {
 fn settings_are_named(rt: HostRuntime) -> Result<(), Fail> {
     let line = "mark-good -c set.txt --input=b.dts -n a -k -c";
     let mark = mark_good(rt.alloc(), line)?;
-    has_text(&rt, &mark.file, "b.dts");
+    has_text(&rt, &mark.described.file, "b.dts");
     has_text(&rt, &mark.settings, "set.txt");
-    says(&rt, &mark.name, "a");
-    says(&rt, &mark.key, "-c");
+    says(&rt, &mark.described.name, "a");
+    says(&rt, &mark.described.key, "-c");
     Ok(())
 }
 
@@ -143,10 +150,17 @@ fn settings_are_named(rt: HostRuntime) -> Result<(), Fail> {
 fn a_cause_is_said(rt: HostRuntime) -> Result<(), Fail> {
     let line = "boot --cause power-on --name=--cause -k key.hex -c set.txt --input b.dts";
     let boot = boot(rt.alloc(), line)?;
-    has_text(&rt, &boot.file, "b.dts");
+    has_text(&rt, &boot.described.file, "b.dts");
     has_text(&rt, &boot.settings, "set.txt");
-    says(&rt, &boot.name, "--cause");
-    says(&rt, &boot.key, "key.hex");
+    says(&rt, &boot.described.name, "--cause");
+    says(&rt, &boot.described.key, "key.hex");
     assert_eq!(rt; boot.cause, CauseWord::PowerOn);
+    Ok(())
+}
+
+#[test]
+fn a_menu_names_its_folder(rt: HostRuntime) -> Result<(), Fail> {
+    let menu = menu(rt.alloc(), "menu --dir --dir")?;
+    has_text(&rt, &menu.dir, "--dir");
     Ok(())
 }

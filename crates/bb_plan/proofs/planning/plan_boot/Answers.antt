@@ -6,49 +6,39 @@ use Rattle.bb_plan.specs.PlanSteps.{binding_reading, cause_of, keyed_reading, pl
 use Rattle.bb_plan.specs.Plan.{Boot, boot_after, boot_planned, keyed_as, plan_as}
 use Rattle.bb_plan.specs.FilesRead.{Yields}
 use Rattle.bb_plan.proofs.Readings.{gone_on, stopped, yielded}
-use Rattle.bb_plan.proofs.Sources.{described_as}
 use Rattle.bb_plan.proofs.planning.plan_boot.Goals as goal
 
 pub returns-in_err-keyed-clause-read : goal.returns-in_err-keyed-clause-read
 returns-in_err-keyed-clause-read g c =
-    let before = g.N.Files.folder c.args.files.now in
-    let mid = g.N.Files.folder c.read_keyed.new.files in
     let p = err_from_is_err_and c.from_residual.result c.from_residual.ensures.1 in
     let command = c.args.command.now in
-    stopped (boot_after command) (keyed_reading command.file command.name command.key c.args.geometry) keyed_as plan_as _ _
+    stopped (boot_after command) (keyed_reading command.described c.args.geometry) keyed_as plan_as _ _
     c.in_err-keyed.field-0.0
-    (described_as command.file command.name command.key c.as_ref-name.ensures.value c.as_ref-key.ensures.value c.args.geometry before mid (Err c.in_err-keyed.field-0.0)
-    c.in_err-keyed.ensures.read)
+    c.in_err-keyed.ensures.read
     c.from_residual.result (p.1 ∙ ap (λ e. Err e) p.2)
 
 pub returns-in_err-chooser-clause-read : goal.returns-in_err-chooser-clause-read
 returns-in_err-chooser-clause-read g c =
-    let before = g.N.Files.folder c.args.files.now in
-    let mid = g.N.Files.folder c.read_keyed.new.files in
     let p = err_from_is_err_and c.from_residual-in_err-chooser.result c.from_residual-in_err-chooser.ensures.1 in
     let command = c.args.command.now in
     let keyed = keyed_as c.in_ok-keyed.keyed in
     let given = c.from_residual-in_err-chooser.result in
-    gone_on (boot_after command) (keyed_reading command.file command.name command.key c.args.geometry) keyed_as plan_as _ _ _
+    gone_on (boot_after command) (keyed_reading command.described c.args.geometry) keyed_as plan_as _ _ _
     c.in_ok-keyed.keyed given
-    (described_as command.file command.name command.key c.as_ref-name.ensures.value c.as_ref-key.ensures.value c.args.geometry before mid (Ok c.in_ok-keyed.keyed)
-    c.in_ok-keyed.ensures.read)
+    c.in_ok-keyed.ensures.read
     (stopped (boot_planned command keyed) (binding_reading command.settings keyed.layout) (λ (b : Binding). b) plan_as _ _
     c.in_err-chooser.field-0.0 c.in_err-chooser.ensures.read given (p.1 ∙ ap (λ e. Err e) p.2))
 
 pub returns-in_err-plans-clause-read : goal.returns-in_err-plans-clause-read
 returns-in_err-plans-clause-read g c =
-    let before = g.N.Files.folder c.args.files.now in
-    let mid = g.N.Files.folder c.read_keyed.new.files in
     let p = err_from_is_err_and c.from_residual-in_err-plans.result c.from_residual-in_err-plans.ensures.1 in
     let command = c.args.command.now in
     let keyed = keyed_as c.in_ok-keyed.keyed in
     let targets = c.in_ok-chooser.chooser in
     let given = c.from_residual-in_err-plans.result in
-    gone_on (boot_after command) (keyed_reading command.file command.name command.key c.args.geometry) keyed_as plan_as _ _ _
+    gone_on (boot_after command) (keyed_reading command.described c.args.geometry) keyed_as plan_as _ _ _
     c.in_ok-keyed.keyed given
-    (described_as command.file command.name command.key c.as_ref-name.ensures.value c.as_ref-key.ensures.value c.args.geometry before mid (Ok c.in_ok-keyed.keyed)
-    c.in_ok-keyed.ensures.read)
+    c.in_ok-keyed.ensures.read
     (gone_on (boot_planned command keyed) (binding_reading command.settings keyed.layout) (λ (b : Binding). b) plan_as _ _ _
     targets given c.in_ok-chooser.ensures.read
     (stopped (λ (plans : List (Option StartPlan)). Yields (record { keyed = keyed; work = Boot targets (cause_of command.cause) plans }))
@@ -57,16 +47,13 @@ returns-in_err-plans-clause-read g c =
 
 pub returns-clause-read : goal.returns-clause-read
 returns-clause-read g c =
-    let before = g.N.Files.folder c.args.files.now in
-    let mid = g.N.Files.folder c.read_keyed.new.files in
     let command = c.args.command.now in
     let keyed = keyed_as c.in_ok-keyed.keyed in
     let targets = c.in_ok-chooser.chooser in
     let plans = c.in_ok-plans.plans in
-    gone_on (boot_after command) (keyed_reading command.file command.name command.key c.args.geometry) keyed_as plan_as _ _ _
+    gone_on (boot_after command) (keyed_reading command.described c.args.geometry) keyed_as plan_as _ _ _
     c.in_ok-keyed.keyed _
-    (described_as command.file command.name command.key c.as_ref-name.ensures.value c.as_ref-key.ensures.value c.args.geometry before mid (Ok c.in_ok-keyed.keyed)
-    c.in_ok-keyed.ensures.read)
+    c.in_ok-keyed.ensures.read
     (gone_on (boot_planned command keyed) (binding_reading command.settings keyed.layout) (λ (b : Binding). b) plan_as _ _ _
     targets _ c.in_ok-chooser.ensures.read
     (gone_on (λ (plans : List (Option StartPlan)). Yields (record { keyed = keyed; work = Boot targets (cause_of command.cause) plans }))

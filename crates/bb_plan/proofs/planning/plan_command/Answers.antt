@@ -1,7 +1,7 @@
 use Rattle.std.proofs.Common.{sym, subst}
 use Rattle.bb_plan.specs.Plan.{boot_reading, command_reading, mark_reading, plan_as, raw_plan, state_reading, task_as}
-use Rattle.bb_plan.specs.FilesRead.{IsReadAs, reading_of}
-use Rattle.bb_plan.proofs.Planned.{copied}
+use Rattle.bb_plan.specs.FilesRead.{IsReadAs, menu_reading, reading_of}
+use Rattle.bb_plan.proofs.Planned.{copied, printed, printed_for}
 use Rattle.bb_plan.proofs.Readings.{step}
 use Rattle.bb_plan.proofs.planning.plan_command.Goals as goal
 
@@ -36,3 +36,14 @@ returns-in-Boot-clause-read g c =
     subst (λ w. IsReadAs (command_reading w c.args.geometry) task_as before after c.on_copies-in-Boot.result) (sym c.in-Boot.is)
     (copied (boot_reading c.in-Boot.command c.args.geometry) before after c.plan_boot.result c.plan_boot.ensures.read
     c.on_copies-in-Boot.result c.on_copies-in-Boot.ensures)
+
+pub returns-in-Menu-clause-read : goal.returns-in-Menu-clause-read
+returns-in-Menu-clause-read g c =
+    let before = g.N.Files.folder c.args.files.now in
+    let after = g.N.Files.folder c.read_menu.new.files in
+    subst (λ w. IsReadAs (command_reading w c.args.geometry) task_as before after c.prints.result) (sym c.in-Menu.is)
+    (printed (menu_reading c.in-Menu.command.dir) before after c.read_menu.result c.read_menu.ensures.read c.prints.result
+    c.prints.ensures)
+
+pub returns-in-Menu-clause-planned : goal.returns-in-Menu-clause-planned
+returns-in-Menu-clause-planned g c = printed_for c.args.geometry c.read_menu.result c.prints.result c.prints.ensures

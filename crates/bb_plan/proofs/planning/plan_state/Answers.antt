@@ -6,45 +6,35 @@ use Rattle.bb_plan.specs.Plan.{Act, keyed_as, plan_as, state_plan}
 use Rattle.bb_plan.specs.FilesRead.{reading_of}
 use Rattle.bb_plan.proofs.Readings.{gone_on, step, stopped}
 use Rattle.bb_plan.proofs.Planned.{unfit}
-use Rattle.bb_plan.proofs.Sources.{described_as}
 use Rattle.bb_plan.proofs.planning.plan_state.Goals as goal
 
 pub returns-in_err-keyed-clause-read : goal.returns-in_err-keyed-clause-read
 returns-in_err-keyed-clause-read g c =
-    let before = g.N.Files.folder c.args.files.now in
-    let mid = g.N.Files.folder c.read_keyed.new.files in
     let p = err_from_is_err_and c.from_residual.result c.from_residual.ensures.1 in
     let command = c.args.command in
-    stopped (λ keyed. reading_of (state_plan command keyed)) (keyed_reading command.file command.name command.key c.args.geometry)
+    stopped (λ keyed. reading_of (state_plan command keyed)) (keyed_reading command.described c.args.geometry)
     keyed_as plan_as _ _ c.in_err-keyed.field-0.0
-    (described_as command.file command.name command.key c.as_ref-name.ensures.value c.as_ref-key.ensures.value c.args.geometry before mid (Err c.in_err-keyed.field-0.0)
-    c.in_err-keyed.ensures.read)
+    c.in_err-keyed.ensures.read
     c.from_residual.result (p.1 ∙ ap (λ e. Err e) p.2)
 
 pub returns-in_err-check_actions-clause-read : goal.returns-in_err-check_actions-clause-read
 returns-in_err-check_actions-clause-read g c =
-    let before = g.N.Files.folder c.args.files.now in
-    let mid = g.N.Files.folder c.read_keyed.new.files in
     let p = err_from_is_err_and c.from_residual-in_err-check_actions.result c.from_residual-in_err-check_actions.ensures.1 in
     let command = c.args.command in
     let keyed = c.in_ok-keyed.keyed in
     let given = c.from_residual-in_err-check_actions.result in
-    gone_on (λ keyed. reading_of (state_plan command keyed)) (keyed_reading command.file command.name command.key c.args.geometry)
+    gone_on (λ keyed. reading_of (state_plan command keyed)) (keyed_reading command.described c.args.geometry)
     keyed_as plan_as _ _ _ keyed given
-    (described_as command.file command.name command.key c.as_ref-name.ensures.value c.as_ref-key.ensures.value c.args.geometry before mid (Ok c.in_ok-keyed.keyed)
-    c.in_ok-keyed.ensures.read)
+    c.in_ok-keyed.ensures.read
     (step (state_plan command (keyed_as keyed)) plan_as _ given
     (unfit command (keyed_as keyed) c.in_err-check_actions.field-0.0 c.in_err-check_actions.ensures.fit given (p.1 ∙ ap (λ e. Err e) p.2)))
 
 pub returns-clause-read : goal.returns-clause-read
 returns-clause-read g c =
-    let before = g.N.Files.folder c.args.files.now in
-    let mid = g.N.Files.folder c.read_keyed.new.files in
     let command = c.args.command in
     let keyed = c.in_ok-keyed.keyed in
-    gone_on (λ keyed. reading_of (state_plan command keyed)) (keyed_reading command.file command.name command.key c.args.geometry)
+    gone_on (λ keyed. reading_of (state_plan command keyed)) (keyed_reading command.described c.args.geometry)
     keyed_as plan_as _ _ _ keyed _
-    (described_as command.file command.name command.key c.as_ref-name.ensures.value c.as_ref-key.ensures.value c.args.geometry before mid (Ok c.in_ok-keyed.keyed)
-    c.in_ok-keyed.ensures.read)
+    c.in_ok-keyed.ensures.read
     (step (state_plan command (keyed_as keyed)) plan_as _ _
     (ap (result_and_then (λ fit. Ok (record { keyed = keyed_as keyed; work = Act command.actions }))) c.in_ok-check_actions.ensures.fit))

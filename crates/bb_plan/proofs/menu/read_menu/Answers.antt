@@ -1,0 +1,29 @@
+use Rattle.std.proofs.Common.{◌≡◌, ◌∙◌, List, ℕ, None, Some, Ok, Err, ap, subst, refl}
+use Rattle.std.proofs.lemmas.Result.{err_from_is_err_and}
+use Rattle.bb_base.specs.declared.files.FileFail.TheVariants.{TooLong}
+use Rattle.bb_menu.specs.Menu.{menu_answer}
+use Rattle.bb_plan.proofs.Sources.{file_faulty, file_given, file_long, file_missing, file_short}
+use Rattle.bb_plan.specs.FilesRead.{AskedMenu}
+use Rattle.bb_plan.proofs.menu.read_menu.Goals as goal
+
+pub returns-in-Ok-clause-read : goal.returns-in-Ok-clause-read
+returns-in-Ok-clause-read g c =
+    file_given (AskedMenu c.args.dir.now) _ _ c.in-Ok.ensures.told c.in-Ok.text
+    (λ files told.
+    subst (λ (dir : List ℕ). menu_answer files dir ≡ Ok (Some c.in-Ok.text)) c.as_str.ensures (c.in-Ok.ensures.ok files told))
+    c.in-Ok.ensures.calm
+
+pub returns-in_err-copy-in-Err-NoFolder-clause-read : goal.returns-in_err-copy-in-Err-NoFolder-clause-read
+returns-in_err-copy-in-Err-NoFolder-clause-read g c =
+    let p = err_from_is_err_and c.from_residual.result c.from_residual.ensures.1 in
+    file_short (AskedMenu c.args.dir.now) _ _ c.in-Err-NoFolder.ensures.told c.in-Err-NoFolder.ensures.cause.later
+    c.from_residual.result (p.1 ∙ ap (λ e. Err e) p.2)
+
+pub returns-in_ok-copy-in-Err-NoFolder-clause-read : goal.returns-in_ok-copy-in-Err-NoFolder-clause-read
+returns-in_ok-copy-in-Err-NoFolder-clause-read g c =
+    file_missing (AskedMenu c.args.dir.now) _ _ c.in-Err-NoFolder.ensures.told c.in_ok-copy-in-Err-NoFolder.field-0
+    c.in_ok-copy-in-Err-NoFolder.ensures
+    (λ files told.
+    subst (λ (dir : List ℕ). menu_answer files dir ≡ Ok None) c.as_str.ensures
+    (c.in-Err-NoFolder.ensures.no_folder (ap (λ e. Err e) c.in-Err-NoFolder.field-0-is) files told))
+    c.in-Err-NoFolder.ensures.calm
