@@ -19,11 +19,41 @@ returns-in_err-copy-in-Err-NoFolder-clause-read g c =
     file_short (AskedMenu c.args.dir.now) _ _ c.in-Err-NoFolder.ensures.told c.in-Err-NoFolder.ensures.cause.later
     c.from_residual.result (p.1 ∙ ap (λ e. Err e) p.2)
 
-pub returns-in_ok-copy-in-Err-NoFolder-clause-read : goal.returns-in_ok-copy-in-Err-NoFolder-clause-read
-returns-in_ok-copy-in-Err-NoFolder-clause-read g c =
+pub returns-in-Err-NoFolder-clause-read : goal.returns-in-Err-NoFolder-clause-read
+returns-in-Err-NoFolder-clause-read g c =
     file_missing (AskedMenu c.args.dir.now) _ _ c.in-Err-NoFolder.ensures.told c.in_ok-copy-in-Err-NoFolder.field-0
     c.in_ok-copy-in-Err-NoFolder.ensures
     (λ files told.
     subst (λ (dir : List ℕ). menu_answer files dir ≡ Ok None) c.as_str.ensures
     (c.in-Err-NoFolder.ensures.no_folder (ap (λ e. Err e) c.in-Err-NoFolder.field-0-is) files told))
     c.in-Err-NoFolder.ensures.calm
+
+pub returns-in_err-copy-in-Err-FileFault-clause-read : goal.returns-in_err-copy-in-Err-FileFault-clause-read
+returns-in_err-copy-in-Err-FileFault-clause-read g c =
+    let p = err_from_is_err_and c.from_residual-in_err-copy-in-Err-FileFault.result c.from_residual-in_err-copy-in-Err-FileFault.ensures.1 in
+    file_short (AskedMenu c.args.dir.now) _ _ c.in-Err-FileFault.ensures.told c.in-Err-FileFault.ensures.cause.later
+    c.from_residual-in_err-copy-in-Err-FileFault.result (p.1 ∙ ap (λ e. Err e) p.2)
+
+pub returns-in-Err-FileFault-clause-read : goal.returns-in-Err-FileFault-clause-read
+returns-in-Err-FileFault-clause-read g c =
+    file_faulty (AskedMenu c.args.dir.now) _ _ c.in-Err-FileFault.ensures.told c.in_ok-copy-in-Err-FileFault.field-0
+    c.in_ok-copy-in-Err-FileFault.ensures c.in-Err-FileFault.ensures.cause.later (c.in-Err-FileFault.ensures.cause.rose refl)
+
+pub returns-in_err-copy-in-Err-FileTooLong-clause-read : goal.returns-in_err-copy-in-Err-FileTooLong-clause-read
+returns-in_err-copy-in-Err-FileTooLong-clause-read g c =
+    let p = err_from_is_err_and c.from_residual-in_err-copy-in-Err-FileTooLong.result c.from_residual-in_err-copy-in-Err-FileTooLong.ensures.1 in
+    file_short (AskedMenu c.args.dir.now) _ _ c.in-Err-FileTooLong.ensures.told c.in-Err-FileTooLong.ensures.cause.later
+    c.from_residual-in_err-copy-in-Err-FileTooLong.result (p.1 ∙ ap (λ e. Err e) p.2)
+
+pub returns-in-Err-FileTooLong-clause-read : goal.returns-in-Err-FileTooLong-clause-read
+returns-in-Err-FileTooLong-clause-read g c =
+    file_long (AskedMenu c.args.dir.now) _ _ c.in-Err-FileTooLong.ensures.told c.in_ok-copy-in-Err-FileTooLong.field-0
+    c.in_ok-copy-in-Err-FileTooLong.ensures
+    (λ files told.
+    subst (λ (dir : List ℕ). menu_answer files dir ≡ Err TooLong) c.as_str.ensures
+    (c.in-Err-FileTooLong.ensures.too_long (ap (λ e. Err e) c.in-Err-FileTooLong.field-0-is) files told))
+    c.in-Err-FileTooLong.ensures.calm
+
+pub returns-clause-read : goal.returns-clause-read
+returns-clause-read g c =
+    file_short (AskedMenu c.args.dir.now) _ _ c.in-Err-NoMemory.ensures.told c.in-Err-NoMemory.ensures.cause.later _ refl
