@@ -1,19 +1,19 @@
 -- What was read of a folder, and the menu that is made of it.
-use Rattle.std.proofs.Common.{◌≡◌, ◌≢◌, ℕ, zero, suc, ◌+◌, ◌<◌, ◌≤◌, Bool, true, false, cond, if◌then◌else◌, IsTrue, List, [], ◌∷◌, ◌++◌, All, filter, filter_map, get_or, length, map, take, drop, Option, Some, None, Result, Ok, Err, IsOkAnd, Ordering, Less, Equal, Greater, refl, sym, ap, ap₂, subst, ◌∙◌, arith, take-append-drop, slice_get}
-use Rattle.std.proofs.lemmas.List.{append-nil, map-append, take_all}
+use Rattle.std.proofs.Common.{◌≡◌, ℕ, zero, suc, ◌+◌, Bool, true, false, cond, if◌then◌else◌, IsTrue, List, [], ◌∷◌, ◌++◌, All, filter, get_or, length, map, take, Option, Some, None, Result, Ok, Err, IsOkAnd, Ordering, Less, Equal, Greater, refl, sym, ap, ap₂, subst, ◌∙◌, arith, slice_get}
+use Rattle.std.proofs.lemmas.List.{append-nil, map-append}
 use Rattle.std.proofs.lemmas.List.Elements.{All-append, All-cons, All-head, All-nil, All-tail, filter-append, filter_map-append, filter_passes}
 use Rattle.std.proofs.lemmas.List.Kept.{IsStrictlySortedBy-filter}
 use Rattle.std.proofs.lemmas.Map.Keys.{IsDistinct-IsPermutation, IsDistinct-from_sorted, apart_from_distinct}
 use Rattle.std.specs.Bool.{MatchBool}
 use Rattle.std.specs.Cmp.{IsTotalOrder, eq_by_cmp_equiv, on_total}
 use Rattle.std.specs.Cmp.Lexicographic.{nat_list_cmp_total}
-use Rattle.std.specs.List.{AllAdjacentBelow, AllByRecursion, IsDistinct, cons_option}
+use Rattle.std.specs.List.{AllAdjacentBelow, AllByRecursion, cons_option}
 use Rattle.std.specs.List.Sorted.{IsPermutation, IsStrictlySortedBy}
 use Rattle.std.specs.Option.{ForSome, option_and_then, option_map}
 use Rattle.std.specs.Ordering.{eq_by_cmp, is_eq, on, ordering_reverse}
 use Rattle.std.specs.Result.{result_ok}
 use Rattle.bb_base.proofs.Names.{names_rise}
-use Rattle.bb_base.specs.Folder.{FileMap, Folder, file_of, has_folder, names_in}
+use Rattle.bb_base.specs.Folder.{FileMap, Folder, file_of, names_in}
 use Rattle.bb_base.specs.declared.files.FileFail.TheVariants.{TooLong}
 use Rattle.bb_bls.specs.Entry.{entry_of}
 use Rattle.bb_bls.specs.declared.entry.Entry.{Entry}

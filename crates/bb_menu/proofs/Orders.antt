@@ -1,12 +1,12 @@
 -- The order of a menu is a total one.
-use Rattle.std.proofs.Common.{◌≡◌, ◌≢◌, ◌⊎◌, ℕ, Bool, true, false, List, [], ◌∷◌, length, ap₂, arith, if◌then◌else◌, inl, inr, refl, sym, ap, ◌∙◌, Ordering, Less, Equal, Greater}
+use Rattle.std.proofs.Common.{◌≡◌, ◌⊎◌, ℕ, Bool, true, List, [], ◌∷◌, length, ap₂, arith, if◌then◌else◌, inl, inr, refl, sym, ◌∙◌, Ordering, Less, Equal, Greater}
 use Rattle.std.specs.Cmp.{IsTotalOrder, back_total, bool_cmp_total, nat_cmp_total, on_total, then_total, tied_itself}
-use Rattle.std.specs.Cmp.Lexicographic.{lists_total, nat_list_cmp_total, slice_cmp}
+use Rattle.std.specs.Cmp.Lexicographic.{lists_total, nat_list_cmp_total}
 use Rattle.std.specs.FinMap.{nat_cmp-IsAntisymmetric, slice_cmp-IsAntisymmetric}
 use Rattle.std.proofs.lemmas.Bool.Decides.{nat_tests}
 use Rattle.std.specs.Prelude.{◌==◌}
 use Rattle.bb_bls.specs.declared.entry.Entry.{Entry}
-use Rattle.std.specs.Ordering.{bool_cmp, flip_args, nat_cmp, on, ordering_reverse, ordering_then, then_cmp}
+use Rattle.std.specs.Ordering.{bool_cmp, ordering_reverse, ordering_then}
 use Rattle.bb_menu.specs.Version.{letters_in_token, number_in_token, rank_of_token, text_cmp, token_cmp, version_cmp, version_tokens}
 use Rattle.bb_menu.specs.Order.{BeforePassesOn, MenuBefore, NoneBeforeItself, OneBeforeOther, entry_cmp, lacks_sort_key, machine_sorted, menu_cmp, menu_stem, version_sorted}
 use Rattle.bb_menu.specs.declared.item.MenuItem.{MenuItem}

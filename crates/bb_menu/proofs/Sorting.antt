@@ -1,5 +1,5 @@
 -- What std's sort leaves, by a closure that compares two entries of a menu.
-use Rattle.std.proofs.Common.{◌≡◌, ◌<◌, ◌≤◌, ℕ, ◌+◌, Bool, true, false, List, Ordering, Less, Bor, ap, sym, ◌∙◌, arith, get_or, length}
+use Rattle.std.proofs.Common.{◌≡◌, ◌+◌, true, false, List, Ordering, Bor, ap, sym, ◌∙◌, arith, get_or}
 use Rattle.std.proofs.lemmas.List.MinMax.{ranks_by}
 use Rattle.std.proofs.lemmas.List.Sorted.{answers_always}
 use Rattle.std.specs.Fn.{Called}

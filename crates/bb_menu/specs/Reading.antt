@@ -1,5 +1,5 @@
 -- What was read of a folder so far. Only private contracts and proofs cite it.
-use Rattle.std.specs.Prelude.{◌≡◌, ℕ, true, List, All, filter, map, Option, None, Ok, Err}
+use Rattle.std.specs.Prelude.{◌≡◌, ℕ, true, List, All, filter, map, Option, None, Err}
 use Rattle.std.specs.Bool.{MatchBool}
 use Rattle.std.specs.Option.{ForSome}
 use Rattle.bb_base.specs.Folder.{Folder, file_of, has_folder, names_in}

@@ -1,6 +1,4 @@
-use Rattle.std.proofs.Common.{◌≡◌, Ok, Some, ap, drop, subst, sym, rules, ◌∙◌, List, ℕ}
-use Rattle.bb_base.specs.Folder.{file_of, file_read}
-use Rattle.bb_menu.specs.Menu.{path_in_folder}
+use Rattle.std.proofs.Common.{Some, rules}
 use Rattle.bb_menu.proofs.read.read_item.Goals as goal
 
 pub returns-in-Ok-true-clause-ok : goal.returns-in-Ok-true-clause-ok

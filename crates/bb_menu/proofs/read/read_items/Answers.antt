@@ -1,4 +1,4 @@
-use Rattle.std.proofs.Common.{◌≡◌, ◌+◌, ◌++◌, ◌∷◌, [], Ok, Err, Some, None, rules, slice_get, subst, sym, take, ◌∙◌}
+use Rattle.std.proofs.Common.{◌≡◌, ◌+◌, ◌++◌, ◌∷◌, [], Err, Some, None, rules, slice_get, subst, sym, take, ◌∙◌}
 use Rattle.bb_menu.proofs.Folders.{item_added, item_missing, item_too_long}
 use Rattle.bb_menu.specs.Reading.{AreItemsRead, IsNameRead}
 use Rattle.bb_menu.specs.declared.fault.MenuFault.TheVariants.{FileTooLong}

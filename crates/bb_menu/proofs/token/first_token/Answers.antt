@@ -1,6 +1,5 @@
-use Rattle.std.proofs.Common.{◌≡◌, List, ℕ, ◌∷◌, Some, None, rules, arith, ap, ap₂, subst, sym, take, drop, ◌∙◌, length}
-use Rattle.bb_menu.specs.Ranks.{IsRun, more_tokens, rank_begun, run_length, token_of}
-use Rattle.bb_menu.specs.Version.{version_tokens}
+use Rattle.std.proofs.Common.{◌≡◌, ◌∷◌, Some, None, rules, ap, ap₂, subst, sym, take, drop, ◌∙◌}
+use Rattle.bb_menu.specs.Ranks.{IsRun, more_tokens, rank_begun, token_of}
 use Rattle.bb_menu.proofs.Tokens.{run_found, token_end, token_found, token_none}
 use Rattle.bb_menu.proofs.token.first_token.Goals as goal
 

@@ -1,4 +1,4 @@
-use Rattle.std.proofs.Common.{rules, ◌∙◌, sym}
+use Rattle.std.proofs.Common.{rules, ◌∙◌}
 use Rattle.bb_menu.proofs.Numbers.{bytes_decide, length_decides}
 use Rattle.bb_menu.proofs.version.compare_numbers.Goals as goal
 

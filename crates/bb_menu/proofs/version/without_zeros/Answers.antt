@@ -1,7 +1,6 @@
 use Rattle.std.proofs.Common.{drop, subst, sym, ap, ◌∙◌}
-use Rattle.std.specs.List.{prefix_len}
 use Rattle.std.specs.Str.Parse.{AllDigits, digits_value}
-use Rattle.bb_menu.specs.Ranks.{LeadsWell, is_zero_digit}
+use Rattle.bb_menu.specs.Ranks.{LeadsWell}
 use Rattle.bb_menu.proofs.Numbers.{zeros_digits, zeros_lead, zeros_value}
 use Rattle.bb_menu.proofs.version.without_zeros.Goals as goal
 
