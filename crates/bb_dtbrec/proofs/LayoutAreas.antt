@@ -1,5 +1,5 @@
 -- The areas that fit the records of a layout: those whose bytes outside the variables are 0.
-use Rattle.std.proofs.Common.{◌≡◌, ℕ, ◌<◌, ◌≤◌, ◌⊎◌, true, List, [], ◌∷◌, length, map, refl, ◌∙◌, subst}
+use Rattle.std.proofs.Common.{◌≡◌, ℕ, ◌<◌, ◌≤◌, ◌⊎◌, true, List, [], ◌∷◌, length, map, refl, sym, ◌∙◌, subst}
 use Rattle.std.specs.List.{AllByRecursion}
 use Rattle.std.proofs.lemmas.List.Elements.{All-from_recursion, recursion_from_All}
 use Rattle.bb_tree.specs.Node.{Forest, empty, grow}
@@ -20,7 +20,7 @@ use Rattle.bb_dtbrec.specs.Layouts.{IsPatternOf, field_for, layout_pattern, temp
 use Rattle.bb_dtbrec.specs.Trees.{pieces_behind_crc, pieces_of, root_with_crc, tree_values, values_among}
 use Rattle.bb_dtbrec.proofs.Fillings.{IsOutsidePiece, fits_where, zero_outside}
 use Rattle.bb_dtbrec.proofs.GrownValues.{values_of_template}
-use Rattle.bb_dtbrec.proofs.Insertions.{all_inserted}
+use Rattle.bb_dtbrec.proofs.Insertions.{all_inserted, all_put}
 use Rattle.bb_dtbrec.proofs.LayoutRecords.{layout_is_pattern, layout_length, layout_text}
 use Rattle.bb_dtbrec.proofs.TreeValues.{values_of_pieces}
 use Rattle.bb_dtbrec.proofs.VarPlaces.{vars_led}
@@ -66,6 +66,42 @@ outside_vars layout k vars all =
     (tree_values (grow (template_of recorded) empty)) (values_of_template recorded led)
     (all_of_template (IsOutsidePiece k) recorded all)))
 
+-- ---- and the other way round
+
+of_values : (k : ℕ) (pieces : List Piece) → AllByRecursion (IsOutsidePiece k) (values_among pieces) →
+    AllByRecursion (IsOutsidePiece k) pieces
+of_values k [] all = tt
+of_values k (Fixed bytes ∷ pieces) all = (tt, of_values k pieces all)
+of_values k (Value place ∷ pieces) all = (all.0, of_values k pieces all.1)
+
+of_template : (k : ℕ) (recorded : Recorded) →
+    AllByRecursion (IsOutsidePiece k) (tree_values (grow (template_of recorded) empty)) →
+    AllByRecursion (IsOutsidePiece k) (pieces_behind_crc (template_of recorded))
+of_template k recorded all =
+    of_values k (pieces_behind_crc (template_of recorded))
+    (subst (AllByRecursion (IsOutsidePiece k))
+    (sym
+    (same_values [] (grow (state_by (λ bytes. Fixed bytes) field_for recorded) empty)
+    ∙ values_of_pieces (template_of recorded)))
+    all)
+
+of_vars : (k : ℕ) (vars : List Var) → AllByRecursion (λ v. (k < v.at) ⊎ (end_of v ≤ k)) vars →
+    AllByRecursion (IsOutsidePiece k) (map field_for vars)
+of_vars k [] all = tt
+of_vars k (v ∷ vs) all = (all.0, of_vars k vs all.1)
+
+outside_pieces : (layout : Laid) (k : ℕ) → AreVars layout.area_len layout.vars →
+    IsOutside layout.vars k → AllByRecursion (IsOutsidePiece k) (layout_pattern layout).pieces
+outside_pieces layout k vars outside =
+    let recorded : Recorded = recorded_of layout in
+    let led =
+    vars_led layout.vars (recursion_from_All IsWellFormed layout.vars vars.each) in
+    of_template k recorded
+    (all_put (IsOutsidePiece k) [] (map field_for layout.vars)
+    (tree_values (grow (template_of recorded) empty)) (values_of_template recorded led) tt
+    (of_vars k layout.vars
+    (recursion_from_All (λ v. (k < v.at) ⊎ (end_of v ≤ k)) layout.vars outside)))
+
 -- ---- areas
 
 -- an area that holds variables alone fits
@@ -75,6 +111,12 @@ pub holding_fits : (layout : Laid) (area : List ℕ) → layout.format ≡ Dtb �
 holding_fits layout area e laid whole holds =
     fits_where (layout_pattern layout) area (layout_is_pattern layout e laid) whole
     (λ k within outside. holds k within (outside_vars layout k laid.vars_are outside))
+
+-- and no other does
+fits_hold : (layout : Laid) (area : List ℕ) → AreVars layout.area_len layout.vars →
+    dtb_fits (layout_pattern layout) area ≡ true → HoldsVarsAlone layout.vars area
+fits_hold layout area vars h k within outside =
+    zero_outside (layout_pattern layout) area k h (outside_pieces layout k vars outside)
 
 -- one that fits still does so when variables alone change
 pub changed_fits : (layout : Laid) (before after : List ℕ) →
@@ -94,4 +136,5 @@ layout_blobs layout e laid = record {
   len = layout_length layout e laid.vars_are;
   text = λ area whole. layout_text layout area e laid whole;
   fits = λ area whole holds. holding_fits layout area e laid whole holds;
+  only = λ area h. fits_hold layout area laid.vars_are h;
 }

@@ -42,7 +42,8 @@ abbrev pub layout_pattern : Laid → Pattern
 layout_pattern layout = pattern_of (template_of (recorded_of layout)) layout.area_len
 
 -- what a pattern of a layout's records means: each record is the blob of the area's tree, with its
--- CRC, and each area of the right length fits whose bytes outside the variables are 0
+-- CRC, and of the areas of the right length those fit whose bytes outside the variables are 0, and
+-- no others
 pub record IsPatternOf (layout : Laid) (pattern : Pattern) : Type 0 where
   pub len : dtb_length pattern ≡ laid_len layout
   pub text : (area : List ℕ) → length area ≡ layout.area_len →
@@ -51,3 +52,4 @@ pub record IsPatternOf (layout : Laid) (pattern : Pattern) : Type 0 where
       (blob_text (record { root = record_tree_of (recorded_of layout) area; reserved = [] }))
   pub fits : (area : List ℕ) → length area ≡ layout.area_len →
       HoldsVarsAlone layout.vars area → IsTrue (dtb_fits pattern area)
+  pub only : (area : List ℕ) → IsTrue (dtb_fits pattern area) → HoldsVarsAlone layout.vars area
