@@ -9,6 +9,7 @@ use std::test::Fail;
 
 mod bad_words;
 mod faults;
+mod menus;
 mod raw;
 mod states;
 
