@@ -1,7 +1,9 @@
 use Rattle.std.proofs.Common.{◌≡◌, ◌∙◌, List, ℕ, None, Some, Ok, Err, ap, subst, refl}
 use Rattle.std.proofs.lemmas.Result.{err_from_is_err_and}
+use Rattle.std.specs.Bool.{OnFalse}
 use Rattle.bb_base.specs.declared.files.FileFail.TheVariants.{TooLong}
-use Rattle.bb_menu.specs.Menu.{menu_answer}
+use Rattle.bb_menu.specs.Menu.{is_menu_fault, menu_answer}
+use Rattle.bb_menu.specs.declared.fault.MenuFault.{MenuFault}
 use Rattle.bb_plan.proofs.Sources.{file_faulty, file_given, file_long, file_missing, file_short}
 use Rattle.bb_plan.specs.FilesRead.{AskedMenu}
 use Rattle.bb_plan.proofs.menu.read_menu.Goals as goal
@@ -19,14 +21,17 @@ returns-in_err-copy-in-Err-NoFolder-clause-read g c =
     file_short (AskedMenu c.args.dir.now) _ _ c.in-Err-NoFolder.ensures.told c.in-Err-NoFolder.ensures.cause.later
     c.from_residual.result (p.1 ∙ ap (λ e. Err e) p.2)
 
-pub returns-in-Err-NoFolder-clause-read : goal.returns-in-Err-NoFolder-clause-read
-returns-in-Err-NoFolder-clause-read g c =
+pub returns-in_ok-copy-in-Err-NoFolder-clause-read : goal.returns-in_ok-copy-in-Err-NoFolder-clause-read
+returns-in_ok-copy-in-Err-NoFolder-clause-read g c =
+    let before = g.N.Files.folder c.args.files.now in
+    let after = g.N.Files.folder c.read_menu_text.new.files in
     file_missing (AskedMenu c.args.dir.now) _ _ c.in-Err-NoFolder.ensures.told c.in_ok-copy-in-Err-NoFolder.field-0
     c.in_ok-copy-in-Err-NoFolder.ensures
     (λ files told.
     subst (λ (dir : List ℕ). menu_answer files dir ≡ Ok None) c.as_str.ensures
     (c.in-Err-NoFolder.ensures.no_folder (ap (λ e. Err e) c.in-Err-NoFolder.field-0-is) files told))
-    c.in-Err-NoFolder.ensures.calm
+    (subst (λ (e : MenuFault). OnFalse (is_menu_fault {X = List ℕ} (Err e)) (after.faults ≡ before.faults))
+    c.in-Err-NoFolder.field-0-is c.in-Err-NoFolder.ensures.calm)
 
 pub returns-in_err-copy-in-Err-FileFault-clause-read : goal.returns-in_err-copy-in-Err-FileFault-clause-read
 returns-in_err-copy-in-Err-FileFault-clause-read g c =
@@ -34,10 +39,11 @@ returns-in_err-copy-in-Err-FileFault-clause-read g c =
     file_short (AskedMenu c.args.dir.now) _ _ c.in-Err-FileFault.ensures.told c.in-Err-FileFault.ensures.cause.later
     c.from_residual-in_err-copy-in-Err-FileFault.result (p.1 ∙ ap (λ e. Err e) p.2)
 
-pub returns-in-Err-FileFault-clause-read : goal.returns-in-Err-FileFault-clause-read
-returns-in-Err-FileFault-clause-read g c =
+pub returns-in_ok-copy-in-Err-FileFault-clause-read : goal.returns-in_ok-copy-in-Err-FileFault-clause-read
+returns-in_ok-copy-in-Err-FileFault-clause-read g c =
     file_faulty (AskedMenu c.args.dir.now) _ _ c.in-Err-FileFault.ensures.told c.in_ok-copy-in-Err-FileFault.field-0
-    c.in_ok-copy-in-Err-FileFault.ensures c.in-Err-FileFault.ensures.cause.later (c.in-Err-FileFault.ensures.cause.rose refl)
+    c.in_ok-copy-in-Err-FileFault.ensures c.in-Err-FileFault.ensures.cause.later
+    (c.in-Err-FileFault.ensures.cause.rose (ap (λ (e : MenuFault). is_menu_fault {X = List ℕ} (Err e)) c.in-Err-FileFault.field-0-is))
 
 pub returns-in_err-copy-in-Err-FileTooLong-clause-read : goal.returns-in_err-copy-in-Err-FileTooLong-clause-read
 returns-in_err-copy-in-Err-FileTooLong-clause-read g c =
@@ -45,15 +51,14 @@ returns-in_err-copy-in-Err-FileTooLong-clause-read g c =
     file_short (AskedMenu c.args.dir.now) _ _ c.in-Err-FileTooLong.ensures.told c.in-Err-FileTooLong.ensures.cause.later
     c.from_residual-in_err-copy-in-Err-FileTooLong.result (p.1 ∙ ap (λ e. Err e) p.2)
 
-pub returns-in-Err-FileTooLong-clause-read : goal.returns-in-Err-FileTooLong-clause-read
-returns-in-Err-FileTooLong-clause-read g c =
+pub returns-in_ok-copy-in-Err-FileTooLong-clause-read : goal.returns-in_ok-copy-in-Err-FileTooLong-clause-read
+returns-in_ok-copy-in-Err-FileTooLong-clause-read g c =
+    let before = g.N.Files.folder c.args.files.now in
+    let after = g.N.Files.folder c.read_menu_text.new.files in
     file_long (AskedMenu c.args.dir.now) _ _ c.in-Err-FileTooLong.ensures.told c.in_ok-copy-in-Err-FileTooLong.field-0
     c.in_ok-copy-in-Err-FileTooLong.ensures
     (λ files told.
     subst (λ (dir : List ℕ). menu_answer files dir ≡ Err TooLong) c.as_str.ensures
     (c.in-Err-FileTooLong.ensures.too_long (ap (λ e. Err e) c.in-Err-FileTooLong.field-0-is) files told))
-    c.in-Err-FileTooLong.ensures.calm
-
-pub returns-clause-read : goal.returns-clause-read
-returns-clause-read g c =
-    file_short (AskedMenu c.args.dir.now) _ _ c.in-Err-NoMemory.ensures.told c.in-Err-NoMemory.ensures.cause.later _ refl
+    (subst (λ (e : MenuFault). OnFalse (is_menu_fault {X = List ℕ} (Err e)) (after.faults ≡ before.faults))
+    c.in-Err-FileTooLong.field-0-is c.in-Err-FileTooLong.ensures.calm)
