@@ -54,6 +54,11 @@ COMMAND
                        attempts left, and the rounds tried.
      --cause WORD      why the machine starts: power-on, reset or other, which it is without the
                        option
+  menu --dir DIR       prints a line for each boot entry of the folder DIR: its file's name, a
+                       space and its title. Where the title is empty, `linux` stands in its
+                       place. The first is the one that starts a target whose setting names the
+                       folder. The device is opened, and nothing of it is read.
+     --dir DIR         the folder. An empty word is the folder `/`.
 
 Numbers are decimal, or hexadecimal after 0x.
 
@@ -66,9 +71,11 @@ STATUS
    3 BadLayout   the copies can't stand on such a device, or FILE gives no layout for it
    4 BadVariable a variable isn't in the layout, or VALUE isn't one that it can have. The line
                  has its name and the cause.
-   5 FileMissing a file isn't there. The line has its name, as for 6 and 7.
-   6 FileFault   a file can't be read
-   7 FileTooLong a file is longer than 1048576 bytes
+   5 FileMissing a file isn't there, or the folder of a menu. The line has its name, as for 6
+                 and 7.
+   6 FileFault   a file can't be read, or the folder of a menu
+   7 FileTooLong a file is longer than 1048576 bytes. For a file of a menu's folder the line has
+                 the folder.
    8 ReadFault   the device can't be opened or read, or is no device, or a boot's plan has no
                  place
    9 WriteFault  a copy can't be written. The line has its number, from 0.
