@@ -5,3 +5,4 @@ mod many;
 mod order;
 mod published;
 mod rig;
+mod texts;

@@ -7,12 +7,12 @@ use std::process::Abort;
 use std::test::Fail;
 
 // A file: its name, the front of its text, and as many of a byte after it.
-type FileRow = (&'static str, &'static [u8], u8, usize);
+pub type FileRow = (&'static str, &'static [u8], u8, usize);
 
 // Files, the folder that is asked for, and the names of its menu in their order.
 type MenuRow = (&'static [FileRow], &'static str, &'static [&'static str]);
 
-fn files_of(alloc: Global, rows: &[FileRow]) -> Result<MemFiles, Fail> {
+pub fn files_of(alloc: Global, rows: &[FileRow]) -> Result<MemFiles, Fail> {
     let mut files = MemFiles::none(alloc);
     for (name, front, byte, count) in rows {
         let mut text = Vec::new(alloc);
@@ -24,7 +24,7 @@ fn files_of(alloc: Global, rows: &[FileRow]) -> Result<MemFiles, Fail> {
 }
 
 // The worked folder: five entries, one of which has a sort key, and a file with another ending.
-fn worked_folder() -> &'static [FileRow] {
+pub fn worked_folder() -> &'static [FileRow] {
     &[
         ("m/a.conf", b"title Board\nlinux /z", b' ', 0),
         ("m/b-1.2.conf", b"title Board\nlinux /z", b' ', 0),
@@ -37,7 +37,7 @@ fn worked_folder() -> &'static [FileRow] {
 }
 
 // A folder in which no file is taken, and one deeper.
-fn without_entries() -> &'static [FileRow] {
+pub fn without_entries() -> &'static [FileRow] {
     &[
         ("m/deep/a.conf", b"linux /z", b' ', 0),
         ("m/a.txt", b"linux /z", b' ', 0),
@@ -50,7 +50,7 @@ fn without_entries() -> &'static [FileRow] {
 }
 
 // Names with blanks and line ends, and names that begin with a `/`.
-fn odd_names() -> &'static [FileRow] {
+pub fn odd_names() -> &'static [FileRow] {
     &[
         ("m/a b.conf", b"linux /z", b' ', 0),
         ("m/a\nb.conf", b"linux /z", b' ', 0),
@@ -224,57 +224,6 @@ fn the_first_entry(rt: HostRuntime) -> Result<(), Fail> {
     assert_eq!(rt; first.entry.title.as_str(), "Board");
     assert_eq!(rt; first.entry.sort_key.as_str(), "m");
     assert_eq!(rt; first.entry.linux.as_str(), "/z");
-    Ok(())
-}
-
-// Entries with an empty title, without one and with one of blanks, which is none.
-fn without_titles() -> &'static [FileRow] {
-    &[
-        ("m/a b.conf", b"linux /boot/z image", b' ', 0),
-        ("m/b.conf", b"title\nlinux /z", b' ', 0),
-        ("m/c.conf", b"title \t \nlinux /y", b' ', 0),
-        ("m/d.conf", b"title A  title\nlinux /x", b' ', 0),
-    ]
-}
-
-// Files, the folder that is asked for, and the text of its menu.
-fn texts() -> [(&'static [FileRow], &'static str, &'static [u8]); 5] {
-    [
-        (
-            worked_folder(),
-            "m",
-            b"z.conf Board\nb-1.10.conf Board\nb-1.2.conf Board\nb-1.2~rc.conf Board\n\
-              a.conf Board\n",
-        ),
-        (worked_folder(), "m2", b"f.conf /z\n"),
-        (without_entries(), "m", b""),
-        (odd_names(), "m", b"a\nb.conf /z\na b.conf /z\n..conf /z\n"),
-        (
-            without_titles(),
-            "m",
-            b"d.conf A  title\nc.conf /y\nb.conf /z\na b.conf /boot/z image\n",
-        ),
-    ]
-}
-
-fn tells(
-    rt: &impl Abort,
-    alloc: Global,
-    rows: &[FileRow],
-    dir: &str,
-    wanted: &[u8],
-) -> Result<(), Fail> {
-    let mut files = files_of(alloc, rows)?;
-    let text = read_menu_text(alloc, dir, &mut files)?;
-    assert_eq!(rt; text.as_slice(), wanted);
-    Ok(())
-}
-
-#[test]
-fn the_texts_of_menus(rt: HostRuntime) -> Result<(), Fail> {
-    for (rows, dir, wanted) in texts() {
-        tells(&rt, rt.alloc(), rows, dir, wanted)?;
-    }
     Ok(())
 }
 

@@ -1,4 +1,5 @@
-// Menus of folders: their texts, and that the device isn't asked. Its first call is planned to fail.
+// Menus of folders: their texts, and that the device isn't asked: its first call is planned to
+// fail.
 use super::{answers, board, fresh, holds, sent, words};
 use bb_base::{MemFiles, MemSink};
 use bb_flash::{Fault, Fill, MemBoard};
