@@ -1,10 +1,9 @@
 -- What an assignment's word expands to, by its parts.
-use Rattle.std.proofs.Common.{Bool, Option, Some, None, cond, true, false, nat_lt, inl, inr, ◌≡◌, ◌<◌, ◌≤◌, ℕ, ◌+◌, ◌-◌, List, [], ◌∷◌, ◌++◌, ap, append-nil, append_assoc, arith, drop, length, map, refl, suc, sym, zero, ◌∙◌}
+use Rattle.std.proofs.Common.{Some, None, cond, nat_lt, inl, inr, ◌≡◌, ◌<◌, ◌≤◌, ℕ, ◌+◌, ◌-◌, List, [], ◌∷◌, ◌++◌, ap, append-nil, append_assoc, arith, drop, length, map, refl, suc, sym, zero, ◌∙◌}
 use Rattle.std.specs.List.{flat_map}
 use Rattle.std.proofs.lemmas.Bool.{cases_Bool, le-ltb, lt-ltb, ltb-false, ltb-true}
 use Rattle.std.proofs.lemmas.Grind.{flat_map-append}
 use Rattle.std.proofs.lemmas.List.{drop-map, drop_all, length-append}
-use Rattle.bb_script.specs.declared.word.Special.{Special}
 use Rattle.bb_script.specs.declared.word.Word.{Word}
 use Rattle.bb_script.specs.declared.word.WordPart.{WordPart}
 use Rattle.bb_script.specs.Words.{Atom, Letter, part_atoms, plain_front, special_atom, word_atoms}

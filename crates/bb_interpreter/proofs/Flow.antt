@@ -1,14 +1,13 @@
 -- What the flow of a script makes of one part of a run after another.
-use Rattle.std.proofs.Common.{◌≡◌, ℕ, ◌+◌, ◌==◌, Bool, true, false, List, [], ◌∷◌, ◌++◌, map, Option, Some, None, ap, arith, nat_lt, refl, sym, subst, ◌∙◌, ◌<◌, ◌≤◌, ◌-◌, le-leb, cond, append-nil}
+use Rattle.std.proofs.Common.{◌≡◌, ℕ, ◌+◌, ◌==◌, Bool, true, false, List, [], ◌∷◌, Option, Some, None, ap, arith, refl, sym, subst, ◌∙◌, ◌<◌, ◌≤◌, ◌-◌, le-leb, cond, append-nil}
 use Rattle.std.proofs.lemmas.Bool.{lt-leb, lt-ltb}
 use Rattle.bb_script.specs.declared.script.When.{When}
-use Rattle.bb_script.specs.Tree.{ScriptTree, CommandTree, ChoiceTree, choice_tree, steps_tree}
+use Rattle.bb_script.specs.Tree.{ScriptTree, CommandTree, choice_tree, steps_tree}
 use Rattle.bb_interpreter.specs.declared.run.ScriptRun.{ScriptRun}
-use Rattle.bb_interpreter.specs.declared.stop.ScriptStop.{ScriptStop}
 use Rattle.bb_interpreter.specs.declared.stop.ScriptStop.TheVariants as stop
 use Rattle.bb_interpreter.specs.Means.{by_success, is_due, means_choice, means_command, means_steps, puts, rounds, when_due}
 use Rattle.bb_interpreter.specs.Outside.{Outside}
-use Rattle.bb_interpreter.specs.Standing.{Act, Answer, Standing, Course, GoesOn, Stops, Meaning, counts_one, either, followed, granted, granted_by}
+use Rattle.bb_interpreter.specs.Standing.{Act, Answer, Standing, GoesOn, Stops, Meaning, counts_one, either, followed, granted, granted_by}
 use Rattle.bb_interpreter.specs.Runs.{CallGives, LeftAt, Leads, more_grants, standing_of}
 use Rattle.bb_interpreter.proofs.Joins.{Whatever, leads_as, leads_on, leads_so, leads_then, leads_to}
 

@@ -1,8 +1,8 @@
 -- One part of a run after another.
-use Rattle.std.proofs.Common.{◌≡◌, ℕ, ◌+◌, Bool, true, false, List, [], ◌∷◌, ◌++◌, map, Option, Some, None, add_assoc, ap, append_assoc, append-nil, arith, refl, sym, subst, ◌∙◌}
+use Rattle.std.proofs.Common.{◌≡◌, ℕ, ◌+◌, List, [], ◌∷◌, ◌++◌, map, Option, Some, None, add_assoc, ap, append_assoc, append-nil, arith, refl, sym, subst, ◌∙◌}
 use Rattle.std.specs.List.{AllByRecursion}
 use Rattle.bb_interpreter.specs.declared.run.ScriptRun.{ScriptRun}
-use Rattle.bb_interpreter.specs.Standing.{Act, Answer, Standing, Course, GoesOn, Stops, Meaning, followed}
+use Rattle.bb_interpreter.specs.Standing.{Act, Answer, Meaning, followed}
 use Rattle.bb_interpreter.specs.Runs.{CallGives, IsAct, Leads, act_answer, more_grants, standing_of}
 
 -- whatever is left of memory

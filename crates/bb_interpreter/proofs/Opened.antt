@@ -1,5 +1,5 @@
 -- One level of a script.
-use Rattle.std.proofs.Common.{◌≡◌, ℕ, ◌+◌, ◌<◌, ◌≤◌, List, [], ◌∷◌, map, Option, Some, None, add-one, ap, drop, drop-cons, get_or, length, refl, suc, sym, ◌∙◌}
+use Rattle.std.proofs.Common.{◌≡◌, ℕ, ◌+◌, ◌<◌, ◌≤◌, List, [], ◌∷◌, map, Option, Some, None, add-one, ap, drop, drop-cons, get_or, length, suc, sym, ◌∙◌}
 use Rattle.std.proofs.lemmas.List.{drop_all}
 use Rattle.bb_script.specs.declared.script.Choice.{Choice, out-Choice}
 use Rattle.bb_script.specs.declared.script.ForLoop.{ForLoop, out-ForLoop}
@@ -13,7 +13,6 @@ use Rattle.bb_script.specs.declared.script.ScriptCommand.{ScriptCommand}
 use Rattle.bb_script.specs.declared.script.ScriptCommand.TheVariants.{Call, Set, If, For, rolls-Call, rolls-Set, rolls-If, rolls-For}
 use Rattle.bb_script.specs.declared.script.ScriptStep.{ScriptStep, out-ScriptStep}
 use Rattle.bb_script.specs.declared.script.When.{When}
-use Rattle.bb_script.specs.declared.word.Word.{Word}
 use Rattle.bb_script.specs.Tree.{ScriptTree, CommandTree, ChoiceTree, call, choose, repeat, no_else, otherwise, choice_tree, set_command_of, steps_tree}
 use Rattle.bb_script.specs.Views.{branch_pair, command_tree, if_tree, loop_tree, otherwise_tree, script_tree, seen_branch, seen_choice, seen_command, seen_loop, seen_otherwise, seen_script, seen_step, step_pair}
 use Rattle.bb_script.specs.Words.{word_atoms}

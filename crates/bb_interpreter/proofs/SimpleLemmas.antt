@@ -1,5 +1,5 @@
 -- Simple commands, and what a `for` does before its rounds.
-use Rattle.std.proofs.Common.{◌≡◌, ℕ, ◌<◌, Bool, true, false, List, [], ◌∷◌, ◌++◌, map, Option, Some, None, ap, arith, length, refl, sym, subst, ◌∙◌}
+use Rattle.std.proofs.Common.{◌≡◌, ℕ, ◌<◌, true, false, List, [], ◌∷◌, ◌++◌, map, Option, Some, None, ap, arith, length, refl, sym, subst, ◌∙◌}
 use Rattle.bb_script.specs.Fields.{expansion_of}
 use Rattle.bb_interpreter.specs.Assigned.{assigned_value}
 use Rattle.bb_script.specs.Words.{Atom}
@@ -15,7 +15,7 @@ use Rattle.bb_interpreter.specs.declared.stop.ScriptStop.{ScriptStop}
 use Rattle.bb_interpreter.specs.declared.stop.ScriptStop.TheVariants as stop
 use Rattle.bb_interpreter.specs.Means.{answered, assigns, assigns_value, built_in_of, calls, does_built_in, does_expanded, does_fields, does_named, does_outside, loops, loops_over, put_by, puts, replied, rounds, sends, values_at}
 use Rattle.bb_interpreter.specs.Outside.{Outside, set_status, set_reply_of}
-use Rattle.bb_interpreter.specs.Standing.{Act, Answer, Standing, Course, GoesOn, Stops, Meaning, counts_one, either, followed, granted, with_status}
+use Rattle.bb_interpreter.specs.Standing.{Act, Answer, Standing, GoesOn, Stops, Meaning, counts_one, either, followed, with_status}
 use Rattle.bb_interpreter.specs.Runs.{CallGives, LeftAt, Leads, more_grants, standing_of, script_values}
 use Rattle.bb_interpreter.specs.Variables.{own_set, variable_pair}
 use Rattle.bb_interpreter.proofs.Flow.{has_then, lacks_then}

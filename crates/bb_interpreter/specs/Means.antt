@@ -1,7 +1,7 @@
 -- What a script does: one case for each construct of the language (IEEE Std 1003.1-2017, Shell
 -- Command Language, 2.8.2 Exit Status for Commands, 2.9.1 Simple Commands, 2.9.3 Lists and 2.9.4
 -- Compound Commands).
-use Rattle.std.specs.Prelude.{ℕ, ◌==◌, Bool, true, false, not, List, [], ◌∷◌, ◌++◌, codes, Option, Some, None, if◌then◌else◌}
+use Rattle.std.specs.Prelude.{ℕ, ◌==◌, Bool, true, not, List, [], ◌∷◌, ◌++◌, codes, Option, Some, None, if◌then◌else◌}
 use Rattle.std.specs.Str.{bytes_eq}
 use Rattle.bb_script.specs.declared.script.When.{When}
 use Rattle.bb_script.specs.declared.script.When.TheVariants.{Always, OnSuccess, OnFailure}
@@ -16,7 +16,7 @@ use Rattle.bb_interpreter.specs.declared.commands.Reply.TheVariants as reply
 use Rattle.bb_interpreter.specs.declared.stop.ScriptStop.TheVariants as stop
 use Rattle.bb_interpreter.specs.Echo.{echo_text}
 use Rattle.bb_interpreter.specs.Outside.{Outside, set_status, known_value}
-use Rattle.bb_interpreter.specs.Standing.{Act, Answer, Standing, Course, GoesOn, Stops, Meaning, counts_one, either, followed, granted, with_status}
+use Rattle.bb_interpreter.specs.Standing.{Answer, Standing, GoesOn, Stops, Meaning, counts_one, either, followed, granted, with_status}
 use Rattle.bb_interpreter.specs.Test.{brackets_status, test_status}
 use Rattle.bb_interpreter.specs.Variables.{own_set}
 

@@ -1,6 +1,6 @@
 -- What stands outside of a script's language: variables that have values and take some, and
 -- commands.
-use Rattle.std.specs.Prelude.{ℕ, Bool, true, false, List, [], ◌∷◌, Option, Some, None}
+use Rattle.std.specs.Prelude.{ℕ, Bool, true, false, List, Option, Some, None}
 use Rattle.std.specs.Option.{unwrap_or}
 use Rattle.bb_interpreter.specs.declared.commands.Reply.{Reply}
 use Rattle.bb_interpreter.specs.declared.commands.Reply.TheVariants.{Done, Started, Fault, NoMemory}

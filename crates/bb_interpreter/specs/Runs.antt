@@ -10,7 +10,7 @@ use Rattle.bb_interpreter.specs.declared.stop.ScriptStop.{ScriptStop}
 use Rattle.bb_interpreter.specs.declared.stop.ScriptStop.TheVariants.{Started, StepLimit, Fault, NoMemory}
 use Rattle.bb_interpreter.specs.Means.{means_steps}
 use Rattle.bb_interpreter.specs.Outside.{Outside, known_value}
-use Rattle.bb_interpreter.specs.Standing.{Act, Answer, Standing, Course, GoesOn, Stops, Meaning, with_status}
+use Rattle.bb_interpreter.specs.Standing.{Act, Answer, Standing, GoesOn, Stops, Meaning, with_status}
 use Rattle.bb_interpreter.specs.Variables.{variable_pair}
 
 -- where a run stands, with the acts so far, the answers still to come, and what is left of memory

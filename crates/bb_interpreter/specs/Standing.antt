@@ -1,5 +1,5 @@
 -- Where a run of a script stands, and how it goes on.
-use Rattle.std.specs.Prelude.{ℕ, ◌+◌, ◌-◌, Bool, true, false, List, [], ◌∷◌, ◌++◌, nat_le, nat_lt, Option, Some, None, if◌then◌else◌}
+use Rattle.std.specs.Prelude.{ℕ, ◌+◌, ◌-◌, Bool, true, false, List, nat_le, nat_lt, Option, Some, None, if◌then◌else◌}
 use Rattle.bb_interpreter.specs.declared.commands.Reply.{Reply}
 use Rattle.bb_interpreter.specs.declared.stop.ScriptStop.{ScriptStop}
 use Rattle.bb_interpreter.specs.declared.stop.ScriptStop.TheVariants.{StepLimit, NoMemory}

@@ -1,4 +1,4 @@
-use Rattle.std.proofs.Common.{IfErr, ◌≡◌, ◌++◌, ap, append_assoc, arith, drop, subst, sym, ◌∙◌}
+use Rattle.std.proofs.Common.{IfErr, ◌++◌, ap, arith, drop, subst, ◌∙◌}
 use Rattle.std.proofs.lemmas.Result.{err_from_is_err_and, on_ok_weaker}
 use Rattle.bb_script.specs.Words.{part_atoms, special_atom}
 use Rattle.bb_interpreter.specs.Assigned.{StopsOver, atom_text, uncut_text}

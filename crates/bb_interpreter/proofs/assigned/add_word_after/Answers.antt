@@ -1,4 +1,4 @@
-use Rattle.std.proofs.Common.{IfErr, ◌≡◌, ◌+◌, ◌-◌, ◌++◌, ap, arith, drop, length, map, refl, subst, sym, ◌∙◌}
+use Rattle.std.proofs.Common.{IfErr, ◌+◌, ◌-◌, ◌++◌, ap, arith, drop, length, map, refl, subst, sym, ◌∙◌}
 use Rattle.std.specs.List.{flat_map}
 use Rattle.std.proofs.lemmas.Result.{err_from_is_err_and, on_ok_weaker}
 use Rattle.bb_script.specs.Words.{Letter, part_atoms, word_atoms}

@@ -1,4 +1,3 @@
-use Rattle.std.proofs.Common.{◌≡◌}
 use Rattle.std.proofs.lemmas.Result.{err_from_is_err_and}
 use Rattle.bb_interpreter.proofs.SimpleLemmas.{put_own_starved, put_refused, put_set, put_starved, put_unknown}
 use Rattle.bb_interpreter.proofs.simple.put.Goals as goal

@@ -1,10 +1,10 @@
-use Rattle.std.proofs.Common.{◌≡◌, ap, map, sym, ◌∙◌}
+use Rattle.std.proofs.Common.{ap, map, sym, ◌∙◌}
 use Rattle.std.proofs.lemmas.Result.{err_from_is_err_and}
 use Rattle.std.specs.Option.{option_map}
 use Rattle.bb_script.specs.Words.{word_atoms}
 use Rattle.bb_interpreter.specs.declared.stop.ScriptStop.TheVariants as stop
 use Rattle.bb_interpreter.specs.Means.{calls, does_fields}
-use Rattle.bb_interpreter.specs.Runs.{LeftAt, LeftBy, ending}
+use Rattle.bb_interpreter.specs.Runs.{LeftAt}
 use Rattle.bb_interpreter.specs.Standing.{GoesOn, Stops, counts_one}
 use Rattle.bb_interpreter.proofs.Joins.{Whatever, leads_from, leads_then}
 use Rattle.bb_interpreter.proofs.SimpleLemmas.{call_starved, called_none, called_some, counted_then, with_new_status}

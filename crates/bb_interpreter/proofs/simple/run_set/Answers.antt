@@ -1,4 +1,4 @@
-use Rattle.std.proofs.Common.{◌≡◌, ap, sym, ◌∙◌}
+use Rattle.std.proofs.Common.{sym, ◌∙◌}
 use Rattle.std.proofs.lemmas.Result.{err_from_is_err_and}
 use Rattle.bb_interpreter.specs.declared.stop.ScriptStop.TheVariants as stop
 use Rattle.bb_interpreter.specs.Assigned.{assigned_name, assigned_rest}

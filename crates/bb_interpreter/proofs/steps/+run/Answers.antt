@@ -1,10 +1,8 @@
-use Rattle.std.proofs.Common.{rules, ◌≡◌, ℕ, ◌+◌, ◌==◌, Bool, true, false, List, [], ◌∷◌, map, drop, ap, arith, get_or, refl, sym, ◌∙◌}
+use Rattle.std.proofs.Common.{rules, ◌+◌, true, false, ◌∷◌, map, drop, ap, arith, refl, sym, ◌∙◌}
 use Rattle.std.proofs.lemmas.Result.{err_from_is_err_and}
 use Rattle.bb_script.specs.declared.script.Choice.{out-Choice}
 use Rattle.bb_script.specs.declared.script.ForLoop.{out-ForLoop}
-use Rattle.bb_script.specs.declared.script.Script.{out-Script}
 use Rattle.bb_script.specs.declared.script.ScriptBranch.{out-ScriptBranch}
-use Rattle.bb_script.specs.declared.script.ScriptStep.{out-ScriptStep}
 use Rattle.bb_script.specs.declared.script.When.{When}
 use Rattle.bb_script.specs.Tree.{CommandTree, ScriptTree, choice_tree, steps_tree}
 use Rattle.bb_script.specs.Fields.{expansion_of}
