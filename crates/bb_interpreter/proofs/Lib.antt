@@ -1,0 +1,7 @@
+pub mod Joins
+pub mod Opened
+pub mod Flow
+pub mod VariableLemmas
+pub mod SimpleLemmas
+pub mod RunLemmas
+pub mod AssignedLemmas

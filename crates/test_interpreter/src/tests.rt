@@ -1,0 +1,4 @@
+mod flow;
+mod outside;
+mod rows;
+mod words;
