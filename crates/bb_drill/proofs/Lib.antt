@@ -1,0 +1,4 @@
+pub mod Drawing
+pub mod Blocks
+pub mod Tallying
+pub mod Meeting
