@@ -5,7 +5,7 @@ use Rattle.bb_flash.specs.declared.health.Health.{Health}
 use Rattle.bb_flash.specs.declared.health.Health.TheVariants.{Lost}
 use Rattle.bb_flash.specs.Image.{Image}
 use Rattle.bb_flash.specs.Memory.{Memory, fresh_memory}
-use Rattle.bb_drill.specs.Board.{BoardState, OnlyLooks, board_geometry, fresh_bytes, fresh_image, fresh_state, state_of, with_lost, with_pages}
+use Rattle.bb_drill.specs.Board.{BoardState, OnlyLooks, board_geometry, fresh_bytes, fresh_image, fresh_state, board_state_of, with_lost, with_pages}
 use Rattle.bb_drill.specs.Running.{Decays}
 use Rattle.bb_drill.specs.Tables.{TableRules}
 
@@ -15,12 +15,12 @@ pub fresh_bytes_are : replicate 768 255 ≡ fresh_bytes
 unfolding fresh_bytes
 fresh_bytes_are = refl
 
-fresh_state_is : (calls room : ℕ) → state_of (fresh_memory board_geometry fresh_bytes calls room) ≡ fresh_state
+fresh_state_is : (calls room : ℕ) → board_state_of (fresh_memory board_geometry fresh_bytes calls room) ≡ fresh_state
 unfolding fresh_image
 fresh_state_is calls room = refl
 
-pub fresh_state_of : (board : Memory) (calls room : ℕ) → board ≡ fresh_memory board_geometry fresh_bytes calls room → state_of board ≡ fresh_state
-fresh_state_of board calls room is = ap state_of is ∙ fresh_state_is calls room
+pub fresh_state_of : (board : Memory) (calls room : ℕ) → board ≡ fresh_memory board_geometry fresh_bytes calls room → board_state_of board ≡ fresh_state
+fresh_state_of board calls room is = ap board_state_of is ∙ fresh_state_is calls room
 
 -- ---- four pages
 
@@ -66,7 +66,7 @@ restored_by first p q r s pages h p_is q_is r_is s_is =
     ∙ restored first Lost Lost Lost Lost pages h
 
 -- no other copy passed, so the pages are as before
-pub not_decayed : (rules : TableRules) (copy : ℕ) (old lost seen back : Memory) (p q r s : Health) (passes : Bool) (found : Option (List ℕ)) → copy < 3 → length old.told.image.health * 64 ≡ 768 → p ≡ page_at old.told.image.health (copy * 4) → q ≡ page_at old.told.image.health (copy * 4 + 1) → r ≡ page_at old.told.image.health (copy * 4 + 2) → s ≡ page_at old.told.image.health (copy * 4 + 3) → lost.geometry ≡ old.geometry → state_of lost ≡ record (state_of old) { image = with_lost copy old.told.image } → OnlyLooks lost seen → back.geometry ≡ seen.geometry → state_of back ≡ record (state_of seen) { image = record seen.told.image { health = with_pages (copy * 4) p q r s seen.told.image.health } } → found ≡ rules.found lost.told.image → passes ≡ is_some found → passes ≡ false → Decays rules copy old back passes
+pub not_decayed : (rules : TableRules) (copy : ℕ) (old lost seen back : Memory) (p q r s : Health) (passes : Bool) (found : Option (List ℕ)) → copy < 3 → length old.told.image.health * 64 ≡ 768 → p ≡ page_at old.told.image.health (copy * 4) → q ≡ page_at old.told.image.health (copy * 4 + 1) → r ≡ page_at old.told.image.health (copy * 4 + 2) → s ≡ page_at old.told.image.health (copy * 4 + 3) → lost.geometry ≡ old.geometry → board_state_of lost ≡ record (board_state_of old) { image = with_lost copy old.told.image } → OnlyLooks lost seen → back.geometry ≡ seen.geometry → board_state_of back ≡ record (board_state_of seen) { image = record seen.told.image { health = with_pages (copy * 4) p q r s seen.told.image.health } } → found ≡ rules.found lost.told.image → passes ≡ is_some found → passes ≡ false → Decays rules copy old back passes
 not_decayed rules copy old lost seen back p q r s passes found inside long p_is q_is r_is s_is lost_geometry lost_state looks back_geometry back_state found_is passes_is none =
     let image = old.told.image in
     let seen_image : seen.told.image ≡ with_lost copy image =

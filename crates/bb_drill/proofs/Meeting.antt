@@ -6,9 +6,9 @@ use Rattle.bb_drill.specs.declared.command.DrillCommand.{DrillCommand}
 use Rattle.bb_drill.specs.declared.drawn.DrawnSession.{DrawnSession}
 use Rattle.bb_drill.specs.declared.sessions.SessionEnd.{SessionEnd}
 use Rattle.bb_drill.specs.declared.sessions.SessionEnd.TheVariants.{Whole, Unread, Unwritten, NoMemory}
-use Rattle.bb_drill.specs.Board.{BoardState, EndsSound, IsWholeSession, OnlyLooks, state_of}
-use Rattle.bb_drill.specs.Running.{Decays, IsCalm, IsDecayed, IsMet, IsSoundMet, IsTried, Runs}
-use Rattle.bb_drill.specs.Tables.{TableRules, allowed_after, has_table, table_in}
+use Rattle.bb_drill.specs.Board.{BoardState, EndsSound, IsWholeSession, OnlyLooks, board_state_of}
+use Rattle.bb_drill.specs.Running.{Decays, IsCalm, IsDecayed, IsMet, IsSoundMet, IsTriedSession, Runs}
+use Rattle.bb_drill.specs.Tables.{TableRules, allowed_after, has_table, table_given}
 
 -- a decay, or none, leaves the geometry and the starts
 pub record Stays (before after : Memory) : Type 0 where
@@ -40,21 +40,21 @@ whole_of rules runs command before after Unread made allowed allowed' sound ende
 whole_of rules runs command before after Unwritten made allowed allowed' sound ended is = absurd sound
 whole_of rules runs command before after NoMemory made allowed allowed' sound ended is = absurd (ended refl)
 
-sound_met : (rules : TableRules) (runs : Runs) (drawn : DrawnSession) (old seen tried : Memory) (table made : List ℕ) (allowed allowed' : List (List ℕ)) (end : SessionEnd) (reached : Bool) → OnlyLooks old seen → seen.faults ≡ old.faults → table ≡ table_in rules old.told.image → made ≡ rules.made drawn.command table → IsTried rules runs drawn seen tried end reached → allowed' ≡ allowed_after end made allowed → end ≢ NoMemory → drawn.cut ≡ None → IsCalm old → IsSoundMet rules runs drawn.command old tried allowed'
+sound_met : (rules : TableRules) (runs : Runs) (drawn : DrawnSession) (old seen tried : Memory) (table made : List ℕ) (allowed allowed' : List (List ℕ)) (end : SessionEnd) (reached : Bool) → OnlyLooks old seen → seen.faults ≡ old.faults → table ≡ table_given rules old.told.image → made ≡ rules.made drawn.command table → IsTriedSession rules runs drawn seen tried end reached → allowed' ≡ allowed_after end made allowed → end ≢ NoMemory → drawn.cut ≡ None → IsCalm old → IsSoundMet rules runs drawn.command old tried allowed'
 sound_met rules runs drawn old seen tried table made allowed allowed' end reached looks faults table_is made_is is follows ended none calm =
     let before : IsCalm seen = record { faults = faults ∙ calm.faults; start_faults = looks.start_faults ∙ calm.start_faults } in
-    let whole = whole_of rules runs drawn.command (state_of seen) (state_of tried) end made allowed allowed' (is.sound none before) ended follows in
+    let whole = whole_of rules runs drawn.command (board_state_of seen) (board_state_of tried) end made allowed allowed' (is.sound none before) ended follows in
     record {
       calm = is.calm none before;
-      ran = subst (λ (state : BoardState). runs drawn.command state (state_of tried)) looks.state whole.0.ran;
+      ran = subst (λ (state : BoardState). runs drawn.command state (board_state_of tried)) looks.state whole.0.ran;
       allowed =
           whole.1
           ∙ ap (λ (one : List ℕ). one ∷ [])
           (made_is ∙ ap (rules.made drawn.command) table_is
-          ∙ sym (whole.0.table ∙ ap (λ (state : BoardState). rules.made drawn.command (table_in rules state.image)) looks.state));
+          ∙ sym (whole.0.table ∙ ap (λ (state : BoardState). rules.made drawn.command (table_given rules state.image)) looks.state));
     }
 
-pub met_of : (rules : TableRules) (runs : Runs) (drawn : DrawnSession) (old seen tried left : Memory) (table made : List ℕ) (allowed allowed' : List (List ℕ)) (among : Bool) (end : SessionEnd) (reached decays : Bool) → OnlyLooks old seen → seen.faults ≡ old.faults → table ≡ table_in rules old.told.image → among ≡ has_table table allowed → made ≡ rules.made drawn.command table → IsTried rules runs drawn seen tried end reached → allowed' ≡ allowed_after end made allowed → end ≢ NoMemory → IsDecayed rules drawn.decay tried left decays → IsMet rules runs drawn old left allowed allowed' (record { wrong = not among; cut = reached; decay = decays })
+pub met_of : (rules : TableRules) (runs : Runs) (drawn : DrawnSession) (old seen tried left : Memory) (table made : List ℕ) (allowed allowed' : List (List ℕ)) (among : Bool) (end : SessionEnd) (reached decays : Bool) → OnlyLooks old seen → seen.faults ≡ old.faults → table ≡ table_given rules old.told.image → among ≡ has_table table allowed → made ≡ rules.made drawn.command table → IsTriedSession rules runs drawn seen tried end reached → allowed' ≡ allowed_after end made allowed → end ≢ NoMemory → IsDecayed rules drawn.decay tried left decays → IsMet rules runs drawn old left allowed allowed' (record { wrong = not among; cut = reached; decay = decays })
 met_of rules runs drawn old seen tried left table made allowed allowed' among end reached decays looks faults table_is among_is made_is is follows ended decayed =
     let kept = stays rules drawn.decay tried left decays decayed in
     let left_starts : length left.told.starts ≡ length tried.told.starts = ap length kept.starts in

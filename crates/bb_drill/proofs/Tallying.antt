@@ -9,11 +9,11 @@ use Rattle.bb_drill.specs.declared.counts.DrillCounts.{DrillCounts}
 use Rattle.bb_drill.specs.declared.drawn.DrawnSession.{DrawnSession}
 use Rattle.bb_drill.specs.declared.met.Met.{Met}
 use Rattle.bb_drill.specs.declared.tally.Tally.{Tally}
-use Rattle.bb_drill.specs.Board.{BoardState, board_geometry, fresh_state, state_of}
+use Rattle.bb_drill.specs.Board.{BoardState, board_geometry, fresh_state, board_state_of}
 use Rattle.bb_drill.specs.Draws.{may_start}
 use Rattle.bb_drill.specs.Drill.{CountsDraws, RanInOrder, commands_of}
 use Rattle.bb_drill.specs.Running.{IsCalm, IsMet, Runs, RunsSoFar, RunsSoundSoFar, one_where, with_met}
-use Rattle.bb_drill.specs.Tables.{TableRules, has_table, table_in}
+use Rattle.bb_drill.specs.Tables.{TableRules, has_table, table_given}
 
 -- the first of a list is counted where it passes
 counted_first : (p : DrawnSession → Bool) (x : DrawnSession) (xs : List DrawnSession) → count_by p (x ∷ xs) ≡ one_where (p x) + count_by p xs
@@ -45,7 +45,7 @@ not_wrong : (b : Bool) (table : List ℕ) (tables : List (List ℕ)) → tables 
 not_wrong b table tables is e = ap one_where (e ∙ ap (λ (more : List (List ℕ)). not (has_table table more)) is ∙ ap not (has_itself table))
 
 -- before the first session
-pub runs_begin : (rules : TableRules) (runs : Runs) (all : List DrawnSession) (now : Memory) (tally : Tally) (tables : List (List ℕ)) → tally ≡ record { cuts = 0; decays = 0; wrong = 0 } → now.geometry ≡ board_geometry → state_of now ≡ fresh_state → IsCalm now → tables ≡ table_in rules now.told.image ∷ [] → RunsSoFar rules runs all all 0 now tally tables
+pub runs_begin : (rules : TableRules) (runs : Runs) (all : List DrawnSession) (now : Memory) (tally : Tally) (tables : List (List ℕ)) → tally ≡ record { cuts = 0; decays = 0; wrong = 0 } → now.geometry ≡ board_geometry → board_state_of now ≡ fresh_state → IsCalm now → tables ≡ table_given rules now.told.image ∷ [] → RunsSoFar rules runs all all 0 now tally tables
 runs_begin rules runs all now tally tables none geometry fresh calm allowed =
     let no_cuts : tally.cuts ≡ 0 = ap (λ (t : Tally). t.cuts) none in
     let no_decays : tally.decays ≡ 0 = ap (λ (t : Tally). t.decays) none in
@@ -76,14 +76,14 @@ runs_on_sound rules runs all drawn rest now after wrongs tables tables' met so i
     let no_cut : one_where (is_some drawn.cut) ≡ 0 = omega (arith, cuts, so.cuts) in
     let no_decay : one_where (is_some drawn.decay) ≡ 0 = omega (arith, decays, so.decays) in
     let sound = is.sound (is_none_of drawn.cut (none_where _ no_cut)) (is_none_of drawn.decay (none_where _ no_decay)) so.calm in
-    let right = not_wrong met.wrong (table_in rules now.told.image) tables so.allowed is.wrong in
+    let right = not_wrong met.wrong (table_given rules now.told.image) tables so.allowed is.wrong in
     record {
       cuts = omega (arith, cuts, so.cuts);
       decays = omega (arith, decays, so.decays);
       wrong = omega (arith, right, so.wrong);
       calm = sound.calm;
       allowed = sound.allowed;
-      ran = λ last ran. so.ran last (state_of after, sound.ran, ran);
+      ran = λ last ran. so.ran last (board_state_of after, sound.ran, ran);
     }
 
 -- after one session more
@@ -126,8 +126,8 @@ runs_end rules runs all done now tally tables counts so sessions cuts decays wro
   undisturbed = λ no_cuts no_decays.
       let sound = so.sound no_cuts no_decays in
       record {
-        last = state_of now;
-        ran = sound.ran (state_of now) refl;
+        last = board_state_of now;
+        ran = sound.ran (board_state_of now) refl;
         erases = erases;
         starts = starts;
         cuts = omega (arith, cuts, so.cuts, no_cuts);

@@ -11,7 +11,7 @@ use Rattle.bb_drill.specs.declared.command.DrillCommand.{DrillCommand}
 use Rattle.bb_drill.specs.declared.sessions.SessionEnd.{SessionEnd}
 use Rattle.bb_drill.specs.declared.sessions.SessionEnd.TheVariants.{Whole, Unread, Unwritten, NoMemory}
 use Rattle.bb_drill.specs.Draws.{may_start}
-use Rattle.bb_drill.specs.Tables.{TableRules, table_in}
+use Rattle.bb_drill.specs.Tables.{TableRules, table_given}
 
 -- three blocks of four pages, one block for each copy
 abbrev pub board_geometry : Geometry
@@ -42,8 +42,8 @@ pub record BoardState : Type 0 where
   pub starts : List Start
   pub erases : List ℕ
 
-abbrev pub state_of : Memory → BoardState
-state_of memory = record {
+abbrev pub board_state_of : Memory → BoardState
+board_state_of memory = record {
   image = memory.told.image;
   starts = memory.told.starts;
   erases = memory.told.erases;
@@ -56,7 +56,7 @@ fresh_state = record { image = fresh_image; starts = []; erases = replicate 3 0 
 -- a look leaves what a board holds, its starts and its erases
 pub record OnlyLooks (before after : Memory) : Type 0 where
   pub geometry : after.geometry ≡ before.geometry
-  pub state : state_of after ≡ state_of before
+  pub state : board_state_of after ≡ board_state_of before
   pub start_faults : after.start_faults ≡ before.start_faults
 
 -- no flash call and no start failed
@@ -64,12 +64,12 @@ pub record NothingFailed (before after : Memory) : Type 0 where
   pub calls : Rose before.faults after.faults → ⊥
   pub starts : Rose before.start_faults after.start_faults → ⊥
 
--- a session that was whole: it ran as the program says, and the table that it leaves is the one that
--- it was to make
+-- a session that was whole: it ran as the program says, and the table that it leaves is the one
+-- that it was to make
 pub record IsWholeSession (rules : TableRules) (runs : DrillCommand → BoardState → BoardState → Type 0)
     (command : DrillCommand) (before after : BoardState) : Type 0 where
   pub ran : runs command before after
-  pub table : table_in rules after.image ≡ rules.made command (table_in rules before.image)
+  pub table : table_given rules after.image ≡ rules.made command (table_given rules before.image)
 
 -- how a session ends in which nothing failed: whole, unless memory was refused
 abbrev pub EndsSound : TableRules → (DrillCommand → BoardState → BoardState → Type 0) → DrillCommand

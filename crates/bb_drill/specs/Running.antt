@@ -10,10 +10,10 @@ use Rattle.bb_drill.specs.declared.drawn.PlannedCut.{PlannedCut}
 use Rattle.bb_drill.specs.declared.tally.Tally.{Tally}
 use Rattle.bb_drill.specs.declared.met.Met.{Met}
 use Rattle.bb_drill.specs.declared.sessions.SessionEnd.{SessionEnd}
-use Rattle.bb_drill.specs.Board.{BoardState, EndsSound, IsSessionOn, board_geometry, fresh_state, state_of, with_lost}
+use Rattle.bb_drill.specs.Board.{BoardState, EndsSound, IsSessionOn, board_geometry, fresh_state, board_state_of, with_lost}
 use Rattle.bb_drill.specs.Draws.{boots_in, cuts_in, decays_in}
 use Rattle.bb_drill.specs.Drill.{RanInOrder, commands_of}
-use Rattle.bb_drill.specs.Tables.{TableRules, allowed_after, has_table, table_in}
+use Rattle.bb_drill.specs.Tables.{TableRules, allowed_after, has_table, table_given}
 
 -- what the runs of a program's sessions are
 abbrev pub Runs : Type 1
@@ -42,14 +42,14 @@ pub record IsCalm (memory : Memory) : Type 0 where
   pub start_faults : memory.start_faults ≡ 0
 
 -- a session that was run, and whether its planned cut was reached
-pub record IsTried (rules : TableRules) (runs : Runs) (drawn : DrawnSession) (before after : Memory)
+pub record IsTriedSession (rules : TableRules) (runs : Runs) (drawn : DrawnSession) (before after : Memory)
     (end : SessionEnd) (reached : Bool) : Type 0 where
   pub on : IsSessionOn drawn.command before after
   pub cut : reached ≡ true → is_some drawn.cut ≡ true
   pub calm : drawn.cut ≡ None → IsCalm before → IsCalm after
   pub sound :
       drawn.cut ≡ None → IsCalm before →
-      EndsSound rules runs drawn.command (state_of before) (state_of after) end
+      EndsSound rules runs drawn.command (board_state_of before) (board_state_of after) end
 
 -- whether a copy decays, and what the board holds then: it does where a copy passes without it
 pub record Decays (rules : TableRules) (copy : ℕ) (before after : Memory) (decays : Bool) : Type 0 where
@@ -67,12 +67,13 @@ IsDecayed rules (Some copy) before after decays =
     MatchBool (nat_lt copy 3) (Decays rules copy before after decays)
     ((decays ≡ false) × (after ≡ before))
 
--- what was met in a session where neither a cut nor a decay was drawn, and nothing had failed before
+-- what was met in a session where neither a cut nor a decay was drawn, and nothing had failed
+-- before
 pub record IsSoundMet (rules : TableRules) (runs : Runs) (command : DrillCommand)
     (before after : Memory) (tables : List (List ℕ)) : Type 0 where
   pub calm : IsCalm after
-  pub ran : runs command (state_of before) (state_of after)
-  pub allowed : tables ≡ table_in rules after.told.image ∷ []
+  pub ran : runs command (board_state_of before) (board_state_of after)
+  pub allowed : tables ≡ table_given rules after.told.image ∷ []
 
 -- what was met in a session, and after it: the board and the tables that are allowed before it and
 -- after it
@@ -81,11 +82,11 @@ pub record IsMet (rules : TableRules) (runs : Runs) (drawn : DrawnSession) (befo
   pub on : IsSessionOn drawn.command before after
   pub cut : met.cut ≡ true → is_some drawn.cut ≡ true
   pub decay : met.decay ≡ true → is_some drawn.decay ≡ true
-  pub wrong : met.wrong ≡ not (has_table (table_in rules before.told.image) allowed)
+  pub wrong : met.wrong ≡ not (has_table (table_given rules before.told.image) allowed)
   pub end : SessionEnd
   pub followed :
       allowed'
-      ≡ allowed_after end (rules.made drawn.command (table_in rules before.told.image)) allowed
+      ≡ allowed_after end (rules.made drawn.command (table_given rules before.told.image)) allowed
   pub sound :
       drawn.cut ≡ None → drawn.decay ≡ None → IsCalm before →
       IsSoundMet rules runs drawn.command before after allowed'
@@ -97,9 +98,9 @@ pub record RunsSoundSoFar (rules : TableRules) (runs : Runs) (all rest : List Dr
   pub decays : decays_in rest ≡ 0
   pub wrong : wrongs ≡ 0
   pub calm : IsCalm now
-  pub allowed : tables ≡ table_in rules now.told.image ∷ []
+  pub allowed : tables ≡ table_given rules now.told.image ∷ []
   pub ran :
-      (last : BoardState) → RanInOrder runs (commands_of rest) (state_of now) last →
+      (last : BoardState) → RanInOrder runs (commands_of rest) (board_state_of now) last →
       RanInOrder runs (commands_of all) fresh_state last
 
 -- the sessions so far of a drill: so many of all are done, and the rest is to come

@@ -17,8 +17,8 @@ pub record TableRules : Type 0 where
   pub made : DrillCommand → List ℕ → List ℕ
 
 -- the table that a load gives
-abbrev pub table_in : TableRules → Image → List ℕ
-table_in rules image = unwrap_or (rules.found image) rules.defaults
+abbrev pub table_given : TableRules → Image → List ℕ
+table_given rules image = unwrap_or (rules.found image) rules.defaults
 
 -- The tables that a load may give after a session that was to make this one. They are the table of
 -- the last save that was acknowledged, and those of later saves that were begun.

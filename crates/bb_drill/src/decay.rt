@@ -1,6 +1,6 @@
 ghost use Rattle.std.specs.Prelude.{◌≡◌, ◌+◌, ◌<◌, ◌≤◌, IfOk, slice_get, unwrap_or};
 ghost use Rattle.bb_flash.specs.declared.health.Health.TheVariants.{Lost};
-ghost use Rattle.bb_drill.specs.Board.{board_geometry, state_of, with_pages};
+ghost use Rattle.bb_drill.specs.Board.{board_geometry, board_state_of, with_pages};
 ghost use Rattle.bb_drill.specs.Running.{Decays};
 
 use crate::Sessions;
@@ -69,7 +69,7 @@ fn set_pages(board: &mut MemBoard, page: u32, pages: Pages)
     requires geometry { board.old.geometry ≡ board_geometry }
     requires inside { page + 4 ≤ 12 }
     ensures geometry { board.new.geometry ≡ board.old.geometry }
-    ensures state { state_of board.new ≡ record (state_of board.old) {
+    ensures state { board_state_of board.new ≡ record (board_state_of board.old) {
       image = record board.old.told.image {
         health = with_pages page pages.first pages.second pages.third pages.last
             board.old.told.image.health;

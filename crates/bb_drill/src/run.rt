@@ -1,10 +1,10 @@
 ghost use Rattle.std.specs.Prelude.{◌≡◌, ◌-◌, ◌^◌, ◌≤◌, [], ◌∷◌, IfOk, length, min};
 ghost use Rattle.std.specs.List.{sum};
-ghost use Rattle.bb_drill.specs.Board.{board_geometry, fresh_state, state_of};
+ghost use Rattle.bb_drill.specs.Board.{board_geometry, fresh_state, board_state_of};
 ghost use Rattle.bb_drill.specs.Draws.{draws_of};
 ghost use Rattle.bb_drill.specs.Drill.{CountsDraws};
 ghost use Rattle.bb_drill.specs.Running.{IsCalm, RunsSoFar};
-ghost use Rattle.bb_drill.specs.Tables.{table_in};
+ghost use Rattle.bb_drill.specs.Tables.{table_given};
 
 use crate::allowed::Allowed;
 use crate::board::fresh_board;
@@ -55,9 +55,9 @@ fn run_each<S: Sessions>(
 ) -> Result<Tally, NoMemory>
     requires few { length drawn.now ≤ 65535 }
     requires geometry { board.old.geometry ≡ board_geometry }
-    requires fresh { state_of board.old ≡ fresh_state }
+    requires fresh { board_state_of board.old ≡ fresh_state }
     requires calm { IsCalm board.old }
-    requires allowed { allowed.old ≡ table_in S.rules board.old.told.image ∷ [] }
+    requires allowed { allowed.old ≡ table_given S.rules board.old.told.image ∷ [] }
     ensures { IfOk result (λ tally.
         RunsSoFar S.rules S.runs drawn.now [] (length drawn.now) board.new tally allowed.new) }
 {

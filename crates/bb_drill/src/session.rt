@@ -1,7 +1,7 @@
 ghost use Rattle.std.specs.Prelude.{◌≡◌, ◌++◌, IfOk, OnOk};
 ghost use Rattle.bb_drill.specs.Board.{OnlyLooks, board_geometry};
-ghost use Rattle.bb_drill.specs.Running.{IsDecayed, IsMet, IsTried, plan_of};
-ghost use Rattle.bb_drill.specs.Tables.{table_in};
+ghost use Rattle.bb_drill.specs.Running.{IsDecayed, IsMet, IsTriedSession, plan_of};
+ghost use Rattle.bb_drill.specs.Tables.{table_given};
 
 use crate::allowed::Allowed;
 use crate::decay::decay;
@@ -39,7 +39,7 @@ fn table_on<S: Sessions>(
     board: &mut MemBoard,
 ) -> Result<Bytes, NoMemory>
     requires { board.old.geometry ≡ board_geometry }
-    ensures table { IfOk result (λ table. table ≡ table_in S.rules board.old.told.image) }
+    ensures table { IfOk result (λ table. table ≡ table_given S.rules board.old.told.image) }
     ensures only { OnlyLooks board.old board.new }
     ensures calm { OnOk result (board.new.faults ≡ board.old.faults) }
 {
@@ -59,7 +59,7 @@ fn try_session<S: Sessions>(
 ) -> Result<(SessionEnd, bool), NoMemory>
     requires { board.old.geometry ≡ board_geometry }
     ensures { IfOk result (λ tried.
-        IsTried S.rules S.runs drawn board.old board.new tried.0 tried.1) }
+        IsTriedSession S.rules S.runs drawn board.old board.new tried.0 tried.1) }
 {
     board.restart();
     plan_cut(board, drawn.cut)?;

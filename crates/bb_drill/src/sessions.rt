@@ -22,7 +22,7 @@ pub enum SessionEnd {
 pub trait Sessions {
     ghost use Rattle.std.specs.Prelude.{◌≡◌, IfOk, None, OnOk};
     ghost use Rattle.bb_drill.specs.Board.{BoardState, EndsSound, IsSessionOn, NothingFailed};
-    ghost use Rattle.bb_drill.specs.Board.{OnlyLooks, board_geometry, fresh_image, state_of};
+    ghost use Rattle.bb_drill.specs.Board.{OnlyLooks, board_geometry, fresh_image, board_state_of};
     ghost use Rattle.bb_drill.specs.Tables.{TableRules};
     ghost use Rattle.bb_drill.specs.declared.command.DrillCommand.{DrillCommand};
 
@@ -53,7 +53,8 @@ pub trait Sessions {
         requires { board.old.geometry ≡ board_geometry }
         ensures on { IsSessionOn command board.old board.new }
         ensures sound { NothingFailed board.old board.new
-            → EndsSound rules runs command (state_of board.old) (state_of board.new) result };
+            → EndsSound rules runs command (board_state_of board.old) (board_state_of board.new)
+            result };
 
     /// No copy passes on a fresh board.
     ghost fresh: { rules.found fresh_image ≡ None };

@@ -1,5 +1,7 @@
-ghost use Rattle.std.specs.Prelude.{◌≡◌, ◌++◌, IfOk, IfErr, OnOk, None, Some, drop, length, nat_lt, if◌then◌else◌};
-ghost use Rattle.bb_interpreter.specs.Assigned.{StopsOver, assigned_name, assigned_rest, assigned_value};
+ghost use Rattle.std.specs.Prelude.{◌≡◌, ◌++◌, IfOk, IfErr, OnOk, None, Some, drop, length};
+ghost use Rattle.std.specs.Prelude.{nat_lt, if◌then◌else◌};
+ghost use Rattle.bb_interpreter.specs.Assigned.{StopsOver, assigned_name, assigned_rest};
+ghost use Rattle.bb_interpreter.specs.Assigned.{assigned_value};
 ghost use Rattle.bb_interpreter.specs.Assigned.{atom_text, uncut_text};
 ghost use Rattle.bb_script.specs.Words.{part_atoms, plain_front, special_atom, word_atoms};
 

@@ -4,8 +4,8 @@ ghost use Rattle.bb_script.specs.Fields.{expansion_of};
 ghost use Rattle.bb_script.specs.Tree.{call, set_command_of};
 ghost use Rattle.bb_script.specs.Words.{word_atoms};
 ghost use Rattle.bb_interpreter.specs.Echo.{echo_text};
-ghost use Rattle.bb_interpreter.specs.Means.{does_built_in, does_fields, does_outside, means_command};
-ghost use Rattle.bb_interpreter.specs.Means.{puts, replied, sends};
+ghost use Rattle.bb_interpreter.specs.Means.{does_built_in, does_fields, does_outside};
+ghost use Rattle.bb_interpreter.specs.Means.{means_command, puts, replied, sends};
 ghost use Rattle.bb_interpreter.specs.Outside.{is_done_reply, set_status};
 ghost use Rattle.bb_interpreter.specs.Standing.{counts_one};
 ghost use Rattle.bb_interpreter.specs.Runs.{Leads, ending, LeftBy, script_values};
@@ -26,8 +26,8 @@ const STEP_LIMIT: u32 = 10_000;
 
 /// Counts a command or a round more.
 pub(crate) fn count<C: Commands>(run: &mut ScriptRun<C>) -> Result<(), ScriptStop>
-    ensures leads { (device : C.Device) → Leads C.call_gives (LeftBy result) counts_one (ending result)
-        run.old run.new device device }
+    ensures leads { (device : C.Device) → Leads C.call_gives (LeftBy result) counts_one
+        (ending result) run.old run.new device device }
     ensures commands { run.new.commands ≡ run.old.commands }
 {
     if run.count >= STEP_LIMIT {
@@ -43,7 +43,8 @@ pub(crate) fn expanded<C: Commands>(
     run: &ScriptRun<C>,
 ) -> Result<Option<Vec<Bytes>>, ScriptStop>
     ensures fields { IfOk result (λ fields. option_map (λ f. f.items) fields
-        ≡ expansion_of (script_values C.outside run.now) run.now.status (map word_atoms words.now)) }
+        ≡ expansion_of (script_values C.outside run.now) run.now.status
+        (map word_atoms words.now)) }
     ensures memory { IfErr result (λ e. e ≡ ScriptStop.NoMemory) }
 {
     Ok(expand_words(run.alloc, words, run, run.status)?)

@@ -22,7 +22,8 @@ impl Commands for Shelf {
       set_by = λ shelf name value. if bytes_eq name (codes "kept.it")
           then Some (if is_ok (number_of value) then Some (record { kept = value }) else None)
           else None;
-      is_command = λ name. bytes_eq name (codes "save") || bytes_eq name (codes "start") || bytes_eq name (codes "break");
+      is_command = λ name. bytes_eq name (codes "save")
+          || (bytes_eq name (codes "start") || bytes_eq name (codes "break"));
     } };
 
     ghost can_call = { λ _ _. Unit };

@@ -1,7 +1,7 @@
 use Rattle.std.proofs.Common.{◌≡◌, ◌∷◌, [], List, ℕ, Option, unwrap_or, ap, rules, sym, ◌∙◌}
 use Rattle.bb_flash.specs.Image.{Image}
 use Rattle.bb_drill.specs.Board.{BoardState, fresh_image}
-use Rattle.bb_drill.specs.Tables.{table_in}
+use Rattle.bb_drill.specs.Tables.{table_given}
 use Rattle.bb_drill.proofs.Blocks.{fresh_state_of}
 use Rattle.bb_drill.proofs.Tallying.{runs_end}
 use Rattle.bb_drill.proofs.run.run_in_order.Goals as goal
@@ -15,7 +15,7 @@ run_each-requires-clause-allowed g c =
     c.in_ok-allowed.ensures
     ∙ ap (λ (table : List ℕ). table ∷ [])
     (c.in_ok-defaults.ensures
-    ∙ sym (ap (λ (image : Image). table_in g.S.Sessions.rules image) fresh
+    ∙ sym (ap (λ (image : Image). table_given g.S.Sessions.rules image) fresh
     ∙ ap (λ (found : Option (List ℕ)). unwrap_or found g.S.Sessions.rules.defaults) g.met.S.Sessions.fresh))
 
 pub returns : goal.returns
