@@ -1,6 +1,6 @@
 // Commands from outside: `save` sends how often it was called, `start` starts, `break` is a fault
 // of the device. The variable `kept.it` takes numbers alone.
-ghost use Rattle.std.specs.Prelude.{◌||◌, codes, Some, None, Unit, if◌then◌else◌};
+ghost use Rattle.std.specs.Prelude.{◌||◌, codes, Some, None, if◌then◌else◌};
 ghost use Rattle.std.specs.Result.{is_ok};
 ghost use Rattle.std.specs.Str.{bytes_eq};
 ghost use Rattle.bb_base.specs.Number.{number_of};
