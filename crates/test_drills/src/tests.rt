@@ -1,3 +1,4 @@
+mod boots;
 mod counted;
 mod drawn;
 mod store;

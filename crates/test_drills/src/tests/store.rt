@@ -10,9 +10,10 @@ ghost use Rattle.bb_drill.specs.Draws.{may_start};
 ghost use Rattle.test_drills.specs.Store as store;
 ghost use Rattle.test_drills.specs.Store.{EndsWith, StartsAtMost};
 
-use bb_base::{Bytes, Failed, NoMemory, Text, TextList};
+use super::boots::starts;
+use bb_base::{Bytes, Failed, NoMemory};
 use bb_drill::{DrillCommand, SessionEnd, Sessions};
-use bb_flash::{Board, Flash, Health, MemBoard, Plan};
+use bb_flash::{Flash, Health, MemBoard};
 use std::alloc::Global;
 
 /// The store. One that is made wrong saves copy 0 alone.
@@ -289,30 +290,4 @@ fn is_blank(board: &mut MemBoard, at: u32, page: &mut [u8]) -> Result<bool, Fail
         return Ok(false);
     }
     Ok(are_all(page, 0xFF))
-}
-
-fn starts(alloc: Global, board: &mut MemBoard, command: DrillCommand, number: u8) -> SessionEnd
-    requires { board.old.geometry ≡ board_geometry }
-    ensures { StartsAtMost (if may_start command then 1 else 0) board.old board.new }
-{
-    if command != DrillCommand::Boot || number == 0 {
-        return SessionEnd::Whole;
-    }
-    let Ok(plan) = plan(alloc) else {
-        return SessionEnd::NoMemory;
-    };
-    if board.start(&plan).is_err() {
-        return SessionEnd::NoMemory;
-    }
-    SessionEnd::Whole
-}
-
-fn plan(alloc: Global) -> Result<Plan, NoMemory> {
-    Ok(Plan {
-        place: 1,
-        linux: Text::of(alloc, "/zImage")?,
-        initrds: TextList::none(alloc),
-        options: Text::of(alloc, "")?,
-        devicetree: Text::of(alloc, "")?,
-    })
 }
