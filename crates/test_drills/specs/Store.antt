@@ -11,11 +11,11 @@ use Rattle.bb_drill.specs.declared.sessions.SessionEnd.{SessionEnd}
 use Rattle.bb_drill.specs.declared.sessions.SessionEnd.TheVariants.{Whole, Unread, Unwritten, NoMemory}
 use Rattle.bb_drill.specs.Tables.{TableRules}
 
-abbrev pub is_lost : Option Health → Bool
-is_lost None = false
-is_lost (Some Fine) = false
-is_lost (Some Worn) = false
-is_lost (Some Lost) = true
+abbrev pub is_page_lost : Option Health → Bool
+is_page_lost None = false
+is_page_lost (Some Fine) = false
+is_page_lost (Some Worn) = false
+is_page_lost (Some Lost) = true
 
 -- the number that a page has in each of its bytes, if it is below 100
 abbrev pub number_of_page : List ℕ → Option ℕ
@@ -26,7 +26,7 @@ number_of_page (number ∷ more) =
 -- what a copy passes as
 unfoldable pub passed_by : ℕ → Image → Option ℕ
 passed_by copy image =
-    if is_lost (slice_get image.health (copy * 4))
+    if is_page_lost (slice_get image.health (copy * 4))
     then None
     else number_of_page (take 64 (drop (copy * 256) image.bytes))
 
@@ -35,12 +35,12 @@ or_else None other = other
 or_else (Some number) other = Some number
 
 -- the number of the first copy that passes
-abbrev pub number_in : Image → Option ℕ
-number_in image = or_else (passed_by 0 image) (or_else (passed_by 1 image) (passed_by 2 image))
+abbrev pub number_stored : Image → Option ℕ
+number_stored image = or_else (passed_by 0 image) (or_else (passed_by 1 image) (passed_by 2 image))
 
 -- the number that a load gives
 abbrev pub number_on : Image → ℕ
-number_on image = unwrap_or (number_in image) 10
+number_on image = unwrap_or (number_stored image) 10
 
 abbrev pub number_of_table : List ℕ → ℕ
 number_of_table [] = 10
@@ -54,7 +54,7 @@ number_made Show number = number
 
 abbrev pub store_rules : TableRules
 store_rules = record {
-  found = λ image. option_map (λ number. number ∷ []) (number_in image);
+  found = λ image. option_map (λ number. number ∷ []) (number_stored image);
   defaults = 10 ∷ [];
   made = λ command table. number_made command (number_of_table table) ∷ [];
 }
@@ -65,8 +65,8 @@ pub record StartsAtMost (most : ℕ) (before after : Memory) : Type 0 where
   pub starts : length after.told.starts ≤ length before.told.starts + most
 
 -- how a session ends in which nothing failed, by the number that it was to make
-abbrev pub EndsWith : ℕ → Image → SessionEnd → Type 0
-EndsWith made image Whole = number_on image ≡ made
-EndsWith made image Unread = ⊥
-EndsWith made image Unwritten = ⊥
-EndsWith made image NoMemory = ⊤
+abbrev pub EndsAsMade : ℕ → Image → SessionEnd → Type 0
+EndsAsMade made image Whole = number_on image ≡ made
+EndsAsMade made image Unread = ⊥
+EndsAsMade made image Unwritten = ⊥
+EndsAsMade made image NoMemory = ⊤

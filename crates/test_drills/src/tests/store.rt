@@ -8,7 +8,7 @@ ghost use Rattle.bb_flash.specs.Image.{IsBlank};
 ghost use Rattle.bb_drill.specs.Board.{board_geometry};
 ghost use Rattle.bb_drill.specs.Draws.{may_start};
 ghost use Rattle.test_drills.specs.Store as store;
-ghost use Rattle.test_drills.specs.Store.{EndsWith, StartsAtMost};
+ghost use Rattle.test_drills.specs.Store.{EndsAsMade, StartsAtMost};
 
 use super::boots::starts;
 use bb_base::{Bytes, Failed, NoMemory};
@@ -41,7 +41,7 @@ impl Sessions for Store {
     }
 
     fn look(&mut self, alloc: Global, board: &mut MemBoard) -> Result<Option<Bytes>, NoMemory> {
-        match number_in(board) {
+        match number_stored(board) {
             Some(number) => Ok(Some(bytes_of(alloc, number)?)),
             None => Ok(None),
         }
@@ -97,9 +97,9 @@ fn number_made(command: DrillCommand, number: u8) -> u8
 }
 
 // The number of the first copy that passes.
-fn number_in(board: &MemBoard) -> Option<u8>
+fn number_stored(board: &MemBoard) -> Option<u8>
     requires { board.now.geometry ≡ board_geometry }
-    ensures { result ≡ store.number_in board.now.told.image }
+    ensures { result ≡ store.number_stored board.now.told.image }
 {
     if let Some(number) = passed_by(board, 0) {
         return Some(number);
@@ -114,7 +114,7 @@ fn number_on(board: &MemBoard) -> u8
     requires { board.now.geometry ≡ board_geometry }
     ensures { result ≡ store.number_on board.now.told.image }
 {
-    match number_in(board) {
+    match number_stored(board) {
         Some(number) => number,
         None => DEFAULT,
     }
@@ -127,15 +127,15 @@ fn passed_by(board: &MemBoard, copy: u32) -> Option<u8>
     ensures { result ≡ store.passed_by copy board.now.told.image }
 {
     let _whole = board.geometry();
-    if is_lost(board.health(copy * 4)) {
+    if is_page_lost(board.health(copy * 4)) {
         return None;
     }
     let first = (copy * 256) as usize;
     number_of_page(&board.bytes()[first..first + PAGE])
 }
 
-fn is_lost(health: Option<Health>) -> bool
-    ensures { result ≡ store.is_lost health }
+fn is_page_lost(health: Option<Health>) -> bool
+    ensures { result ≡ store.is_page_lost health }
 {
     matches!(health, Some(Health::Lost))
 }
@@ -162,7 +162,7 @@ fn are_all(bytes: &[u8], number: u8) -> bool
 fn end_of(board: &MemBoard, faults: u64, start_faults: u64, end: SessionEnd, made: u8) -> SessionEnd
     requires { board.now.geometry ≡ board_geometry }
     ensures { (Rose faults board.now.faults → ⊥) → (Rose start_faults board.now.start_faults → ⊥)
-        → EndsWith made board.now.told.image result }
+        → EndsAsMade made board.now.told.image result }
 {
     if faults < board.faults() {
         return end;
@@ -227,7 +227,7 @@ fn refreshes(board: &mut MemBoard, number: u8, page: &mut [u8]) -> Result<(), Fa
     requires page { length page.old ≡ 64 }
     ensures { StartsAtMost 0 board.old board.new }
 {
-    if number_in(board).is_none() {
+    if number_stored(board).is_none() {
         return Ok(());
     }
     refresh(board, 0, number, page)?;
