@@ -38,6 +38,21 @@ def fill(most, item):
     return ''.join(items)
 
 
+# Names of 32 characters that the toolchain's tables, whose hash has a fixed seed, can't tell apart
+# but by comparing them. The hash of 32 bytes is that of their last 16, two numbers of 64 bits that
+# are multiplied. The first of these two is taken so that it becomes 0.
+def one_hash():
+    word_signs = (signs + '_').encode()
+    for i in range(1 << 24):
+        front = b'a%015d' % i
+        first = int.from_bytes(front[:8], 'little') ^ (0x243f6a8885a308d3 + 32)
+        product = first * (int.from_bytes(front[8:], 'little') ^ 0x9e3779b97f4a7c15)
+        state = ((product ^ product >> 64) & (1 << 64) - 1).to_bytes(8, 'little')
+        if all(sign in word_signs for sign in state):
+            return (front + state).decode() + '%08x'
+    sys.exit('shapes.py: there are no names of one hash')
+
+
 # A shape: its kind, what it is called, its words and its files by name. `read` is how many bytes of
 # input there are, without it those of the files.
 def shape(kind, title, words, files, read=None, asked=0, dtc='-', memory=100, medium=device, writes=False):
@@ -72,6 +87,11 @@ def sources(n):
     yield of_source('labels in a node of a long name',
                     inside(long + '{' + fill(room - len(long), lambda i: 'l%05x:n%05x{};' % (i, i)) + '};'))
     yield of_source('labels of one node', inside(fill(room, lambda i: 'l%05x:' % i) + 'n{};'))
+    yield of_source('one label of a long name, again and again',
+                    inside('l:' * ((room - len(long)) // 2) + long + '{};'))
+    yield of_source('labels of one hash', inside(fill(room, lambda i: equal % i + ':') + 'n{};'))
+    yield of_source('nodes of one hash', inside(fill(room, lambda i: equal % i + '{};')))
+    yield of_source('properties of one hash', inside('x{%s};' % fill(room, lambda i: equal % i + ';')))
     yield of_source('references outside < >, of one value', **outside(room // 3, 'y'))
     yield of_source('references outside < >, a property each',
                     inside('x{%s};l:y{};' % fill(room, lambda i: 'p%05x=&l;' % i)), asked=room // 10 * 3)
@@ -109,13 +129,15 @@ def states(n):
     def as_blob(text):
         text = text.replace('<0x20000 0x30000>', '<0 0x%x>' % (3 * stride))
         return text.replace('<0x10000>', '<0x%x>' % stride).replace('"raw"', '"dtb"')
-    long = 'x' * (room // 3)
+    long, last = 'x' * (room // 3), 'v{reg=<0xff00 1>;type="uint8";};'
     yield of_source('variables without reg', state_of(fill(room, lambda i: 'v%05x{type="uint8";};' % i)))
     yield of_source('variables whose ranges touch', state_of(touching(room)), name='v00000')
     yield of_source('the same, of a record that is a blob', as_blob(state_of(touching(room))), name='v00000',
                     medium=b'\xff' * 3 * stride)
+    equals = fill(room, lambda i: equal % i + '{reg=<%d 1>;type="uint8";};' % i)
+    yield of_source('variables of one hash', state_of(equals + last), name='v')
     yield of_source('variables in a node of a long name',
-                    state_of('%s{%s};v{reg=<0xffff 1>;type="uint8";};' % (long, touching(room - len(long)))), name='v')
+                    state_of('%s{%s};' % (long, touching(room - len(long))) + last), name='v')
     names = fill(room, lambda i: '"n%05x",' % i)[:-1]
     yield of_source('names of one enum', state_of('mode{reg=<0 4>;type="enum32";names=%s;};' % names), name='mode')
 
@@ -159,6 +181,7 @@ def setting_files(n):
     yield of_settings('targets of many names', targets + fill(room, name) + '\n')
     yield of_settings('targets with a line each',
                       '\n'.join([targets + ''.join(map(name, range(count))), *map(line, range(count))]))
+    yield of_settings('targets of one hash', targets + fill(room, lambda i: equal % i + ' ') + '\n')
     yield of_settings('lines of one key', retry * (room // len(retry)) + settings)
     yield of_settings('empty lines', '\n' * room + settings)
 
@@ -208,6 +231,8 @@ def folders(n):
         return shape('folders', title, [*on_device, 'menu', '--dir', 'm'], files, read=n // each * each)
     yield of_folder('entries', 'board-%05x.conf', 'title Board\n' + entry)
     yield of_folder('entries of long names', 'x' * 240 + '%05x.conf', entry)
+    version = 'sort-key a\nversion ' + 400 * '1.2-'
+    yield of_folder('entries of long versions', '%05x.conf', version + '\n' + entry)
     yield of_folder('files that are no entries', 'x' * 40 + '%05x', '')
 
 
@@ -252,6 +277,7 @@ def put(folder, files):
             out.write(content if isinstance(content, bytes) else content.encode())
 
 
+equal = one_hash()
 for small in starts():
     put('start/' + small['kind'], small['files'])
 for folder, times in ('one', 1), ('two', 2):
