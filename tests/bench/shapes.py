@@ -177,12 +177,12 @@ def setting_files(n):
         return 'global.bootchooser.t%05x.default_attempts=1' % i
     targets, retry = 'global.bootchooser.targets=', 'global.bootchooser.retry=0\n'
     count = (n - len(targets)) // len(name(0) + line(0))
+    yield of_settings('lines of one key', retry * (room // len(retry)) + settings)
     yield of_settings('targets of one name', targets + 'a ' * (room // 2) + '\n')
     yield of_settings('targets of many names', targets + fill(room, name) + '\n')
     yield of_settings('targets with a line each',
                       '\n'.join([targets + ''.join(map(name, range(count))), *map(line, range(count))]))
     yield of_settings('targets of one hash', targets + fill(room, lambda i: equal % i + ' ') + '\n')
-    yield of_settings('lines of one key', retry * (room // len(retry)) + settings)
     yield of_settings('empty lines', '\n' * room + settings)
 
 
@@ -216,8 +216,8 @@ def words(n, most):
         return shape('words', title, [*on_device, *words], {'board.dts': source}, **more)
     board_state = ['state', '-i', 'board.dts']
     area = most // 2
-    yield of_words('a variable of -g', *board_state, '-g', 'x' * most)
     yield of_words('a value of -s', *board_state, '-s', (get[1] + '=').ljust(most, '0'))
+    yield of_words('a variable of -g', *board_state, '-g', 'x' * most)
     yield of_words('a file of -i', 'state', '-i', 'x' * most)
     yield of_words('an area of raw', 'raw', '1', str(area), '-s', '4a' * area, asked=3 * (area + 24), writes=True)
     yield of_words('many words', *board_state, *(get * (n // 25)), read=n // 25 * 25)
