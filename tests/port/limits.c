@@ -1,6 +1,6 @@
 /*
- * Calls each function of port/rattle.c at its limits. It is called with the words `abc` and an empty one, or with none.
- * It ends with 0, or with the number of the line that fails.
+ * Calls each function of port/rattle.c at its limits. It is called with the words `abc` and an
+ * empty one, or with none. It ends with 0, or with the number of the line that fails.
  */
 #include <limits.h>
 #include <malloc.h>

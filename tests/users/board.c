@@ -1,9 +1,9 @@
 /*
- * Stands under the barebox-state of dt-utils in place of a board, by LD_PRELOAD: that tool looks its
- * device up by udev otherwise, which knows none on a machine without a devicetree. The device is the
- * file that BOARD_FILE names. Where BOARD_FLASH has the bytes of a page and of a block, the file
- * answers as a flash's MTD character device does: an erase fills a block with 0xFF, and a write only
- * clears bits.
+ * Stands under the barebox-state of dt-utils in place of a board, by LD_PRELOAD: that tool looks
+ * its device up by udev otherwise, which knows none on a machine without a devicetree. The device
+ * is the file that BOARD_FILE names. Where BOARD_FLASH has the bytes of a page and of a block, the
+ * file answers as a flash's MTD character device does: an erase fills a block with 0xFF, and a
+ * write only clears bits.
  */
 #define _GNU_SOURCE
 #include <arpa/inet.h>
@@ -22,7 +22,9 @@
 /* Of libdt-utils: a property of a node, and its length in bytes. */
 const void *of_get_property(const void *node, const char *name, int *length);
 
-/* In place of that of libdt-utils: a partition's file, and its place there by two cells of `reg`. */
+/*
+ * In place of that of libdt-utils: a partition's file, and its place there by two cells of `reg`.
+ */
 int of_get_devicepath(void *node, char **path, off_t *offset, size_t *size)
 {
 	const char *file = getenv("BOARD_FILE");
