@@ -1,18 +1,19 @@
-"""Looks whether what is foreseen of each case of tests/cli/cases is what the case has: cases.py ROOT
-FOLDER, where FOLDER is one to work in. Says each case that differs. Left out are those with a disk that
-is full and those whose memory is refused."""
+"""Looks whether what is wanted of each case of tests/cli/cases is what the case has: cases.py ROOT
+FOLDER, where FOLDER is one to work in. Says each case that differs. Left out are those with a disk
+that is full and those whose memory is refused."""
 import os
 import sys
 
 from corpus import Corpus
-from fuzz import Got, content, furnish, prepare
-from judge import judge
+from folder import content, furnish
+from judge import Got, judge, prepare
 from make import Run
 
 
 def differs(case):
     run = Run()
-    run.files, run.bytes, run.argv, run.output = dict(case.files), case.before, case.words, case.output
+    run.files, run.bytes, run.argv = dict(case.files), case.before, case.words
+    run.output = case.output
     furnish(run)
     wanted, places = prepare(run)
     before, plan_before = map(content, places)

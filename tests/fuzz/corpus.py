@@ -1,11 +1,12 @@
-"""The examples of the repository from which runs are made: examples/, tests/cli/cases, integration/ab."""
+"""The examples of the repository from which runs are made: those of examples/, tests/cli/cases and
+integration/ab."""
 import os
 
-from layout import Layout, geometry_of
-from tree import Refused, Unsure, read_tree
+from layout import Layout
+from source import read_tree
+from tree import Refused, Unsure
+from values import geometry_of
 from words import BadSettings, Settings
-
-FOLDER = object()
 
 
 def read(path):
@@ -48,14 +49,18 @@ class Case:
             self.files[name] = text
         self.before, self.after = [read_image(f'{folder}/{name}') for name in ('before', 'after')]
         self.status, self.text = int(read(f'{folder}/status')), read(f'{folder}/text')
-        self.errors, self.plan = [read(f'{folder}/{name}') if os.path.exists(f'{folder}/{name}') else None
-                                  for name in ('errors', 'plan')]
-        self.output = read(f'{folder}/output').decode().strip() if os.path.exists(f'{folder}/output') else 'kept'
+        others = [read_if(f'{folder}/{name}') for name in ('errors', 'plan', 'output')]
+        self.errors, self.plan, output = others
+        self.output = output.decode().strip() if output else 'kept'
         self.is_limited = os.path.exists(f'{folder}/limit')
         if os.path.exists(f'{folder}/grow'):
             name, size, *byte = read(f'{folder}/grow').split()
-            there = self.files.get(name, b'')
-            self.files[name] = there + bytes([int(byte[0], 16) if byte else 0]) * (int(size) - len(there))
+            byte = bytes([int(byte[0], 16)]) if byte else b'\0'
+            self.files[name] = self.files.get(name, b'').ljust(int(size), byte)
+
+
+def read_if(path):
+    return read(path) if os.path.exists(path) else None
 
 
 def read_image(path):
@@ -88,11 +93,12 @@ class Corpus:
         pools = {b'dts': {}, b'dtb': {}, b'txt': {}, b'conf': {}, b'hex': {}}
         for files in [examples, ab] + [case.files for case in self.cases]:
             for name, text in files.items():
-                kind = {b'set': b'txt'}.get(name.rpartition(b'.')[2], name.rpartition(b'.')[2])
+                kind = name.rpartition(b'.')[2].replace(b'set', b'txt')
                 if kind in pools and 0 < len(text) <= 24000:
                     pools[kind][text] = None
         self.pools = {kind: list(texts) for kind, texts in pools.items()}
-        self.words = sorted({word for case in self.cases for word in case.words if not word.startswith(b'/')})
+        words = {word for case in self.cases for word in case.words}
+        self.words = sorted(word for word in words if not word.startswith(b'/'))
         self.devices = [case.before for case in self.cases if case.before]
         self.boards = list(self.find_boards(examples, ab))
         self.booting = [board for board in self.boards if board.boots()]
@@ -104,9 +110,10 @@ class Corpus:
             if name.endswith(b'.dts'):
                 pairs[text, b'ov:1048576'] = examples
         for case in self.cases:
-            if len(case.words) > 4 and case.words[2] in (b'state', b'boot', b'mark-good') and b'-i' in case.words[3:-1]:
-                tree = case.files.get(case.words[case.words.index(b'-i', 3) + 1], b'')
-                pairs.setdefault((tree, case.words[1]), case.files)
+            words = case.words
+            if words[2:3] in ([b'state'], [b'boot'], [b'mark-good']) and b'-i' in words[3:-1]:
+                tree = case.files.get(words[words.index(b'-i', 3) + 1], b'')
+                pairs.setdefault((tree, words[1]), case.files)
         for (tree, word), files in pairs.items():
             if geometry_of(word.decode(errors='replace')) and len(tree) <= 24000:
                 try:

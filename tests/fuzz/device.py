@@ -1,12 +1,11 @@
-"""What copies on a device pass, and what a session makes of the table that it loads, by docs/FORMATS.md
-and written apart from the program."""
-import hashlib
-import hmac
+"""What copies on a device pass, and what a session makes of the table that it loads, by
+docs/FORMATS.md and written apart from the program."""
 import struct
 import zlib
 
-from layout import number, raw_record
+from layout import LOG_WORD, STRIDE_HEADER, code, raw_record
 from tree import Refused, read_blob
+from values import number
 
 
 # A boot with `retry` has as many rounds as there are attempts, which are up to 4,294,967,295.
@@ -22,7 +21,8 @@ class Strides:
     storage, copies, at, type, keyed, vars = 'stride', 3, 0, b'raw', False, []
 
     def __init__(self, command, geometry):
-        self.magic, self.area, self.unit, self.geometry = command.magic, command.len, geometry[2] // 3, geometry
+        self.magic, self.area, self.unit = command.magic, command.len, geometry[2] // 3
+        self.geometry = geometry
 
     def region(self, copy):
         return copy * self.unit, (copy + 1) * self.unit
@@ -31,20 +31,21 @@ class Strides:
         return raw_record(self.magic, area)
 
     def image(self, record):
-        return struct.pack('<II', 0x2354fdf3, len(record)) + record
+        return struct.pack('<II', STRIDE_HEADER, len(record)) + record
 
 
 def candidate(layout, region):
     """The bytes that count as the record of a copy's region, None for none."""
     if layout.storage != 'log':
         magic, length = struct.unpack('<II', region[:8])
-        return region[8:8 + length] if magic == 0x2354fdf3 and 8 + length <= len(region) else None
+        is_one = magic == STRIDE_HEADER and 8 + length <= len(region)
+        return region[8:8 + length] if is_one else None
     page = layout.geometry[0]
     end = (len(region.rstrip(b'\xff')) + page - 1) // page * page
     if not end:
         return None
     magic, length = struct.unpack('<II', region[end - 8:end])
-    if magic != 0x14fa2d02 or length == 0 or length % page or length > end:
+    if magic != LOG_WORD or length == 0 or length % page or length > end:
         return None
     return region[end - length:end - 8]
 
@@ -55,20 +56,13 @@ def passes(layout, record, key):
         return passes_as_blob(layout, record)
     if len(record) < 16 + layout.area:
         return None
-    magic, _, length, _, header_crc = struct.unpack('<IHHII', record[:16])
+    magic, _, length, data_crc, header_crc = struct.unpack('<IHHII', record[:16])
     area = record[16:16 + layout.area]
     if magic != layout.magic or length != layout.area or header_crc != zlib.crc32(record[:12]):
         return None
-    whole = layout.record(area, key)
-    return area if record[8:12] == whole[8:12] and coded(layout, record, key) else None
-
-
-def coded(layout, record, key):
-    """Whether the code of a record under a key agrees; its reserved bytes may have any value."""
-    if not layout.keyed:
-        return True
     end = 16 + layout.area
-    return record[end:end + 32] == hmac.new(key, record[:end], hashlib.sha256).digest()
+    is_coded = not layout.keyed or record[end:end + 32] == code(key, record[:end])
+    return area if data_crc == zlib.crc32(area) and is_coded else None
 
 
 def passes_as_blob(layout, record):
@@ -164,23 +158,26 @@ class Targets:
 
     def worth(self, kind, target=None):
         values = self.settings.values
-        general = values.get(kind, {'default_attempts': '3', 'default_priority': '1'}.get(kind, '0'))
-        return number(values.get(f'{target}.{kind}', general))
+        otherwise = {'default_attempts': '3', 'default_priority': '1'}.get(kind, '0')
+        return number(values.get(f'{target}.{kind}', values.get(kind, otherwise)))
 
     def reset(self, cause):
         events = self.settings.values.get('reset_attempts', '').split(' ')
-        if self.settings.values.get('reset_priorities') == 'all-zero' and not any(self.all('priority')):
+        resets = self.settings.values.get('reset_priorities') == 'all-zero'
+        if resets and not any(self.all('priority')):
             for target in self.settings.targets:
                 self.put(f'{target}.priority', self.worth('default_priority', target))
         ranks, left = self.all('priority'), self.all('remaining_attempts')
         used_up = any(ranks) and not any(rank and more for rank, more in zip(ranks, left))
-        if (cause in events and cause in ('power-on', 'reset')) or ('all-zero' in events and used_up):
+        by_cause = cause in ('power-on', 'reset') and cause in events
+        if by_cause or ('all-zero' in events and used_up):
             for target in self.settings.targets:
                 self.put(f'{target}.remaining_attempts', self.worth('default_attempts', target))
 
     def best(self):
         """The place of the best target, from 0; None where none qualifies."""
-        ranks = [rank if left else 0 for rank, left in zip(self.all('priority'), self.all('remaining_attempts'))]
+        both = zip(self.all('priority'), self.all('remaining_attempts'))
+        ranks = [rank if left else 0 for rank, left in both]
         return ranks.index(max(ranks)) if max(ranks) else None
 
     def boot(self, cause, plans):

@@ -1,10 +1,12 @@
-"""What a session does up to its device, by docs/FORMATS.md: the refusal that it ends with, or what it
-then knows. It reads the files of the folder that the program runs in."""
+"""What a session does up to its device, by docs/FORMATS.md: the refusal that it ends with, or what
+it then knows. It reads the files of the folder that the program runs in."""
 import os
 import stat
 
-from layout import Layout, is_utf8
-from tree import MAGIC, Refused, Unsure, read_tree
+from layout import Layout
+from source import read_tree
+from tree import Refused, Unsure
+from values import is_utf8
 from words import Bad, BadSettings, Command, Entry, Settings, key_of
 
 LIMIT = 1048576
@@ -21,13 +23,15 @@ class Ends(Exception):
 
 
 class Foreseen:
-    """`ends` is the refusal that comes before the device's first call; None where there is none. `opened`
-    says whether the device was, `sure` whether all of it is known."""
+    """`ends` is the refusal that comes before the device's first call; None where there is none.
+    `opened` says whether the device was, `cleared` whether way was made for a plan, and `sure`
+    whether all of it is known."""
 
     def __init__(self, call):
-        self.call, self.ends, self.sure, self.opened, self.cleared = call, None, True, False, False
+        self.call, self.ends, self.sure = call, None, True
+        self.opened = self.cleared = False
         self.command = self.layout = self.settings = self.key = self.menu = None
-        self.plans, self.unread = {}, False
+        self.plans = {}
         try:
             self.run()
         except Ends as ends:
@@ -62,14 +66,15 @@ class Foreseen:
             if not stat.S_ISREG(found.st_mode) or (call.read_only and found.st_size < size):
                 raise Ends(8, 'ReadFault')
         except FileNotFoundError:
-            folder = os.path.dirname(call.device) or '.'
-            if call.read_only or not call.device or call.device.endswith('/') or not os.path.isdir(folder):
+            if call.read_only or not has_place(call.device):
                 raise Ends(8, 'ReadFault') from None
         except OSError:
             raise Ends(8, 'ReadFault') from None
         self.opened = True
 
     def plan_path(self):
+        if self.call.device is None:
+            return 'dev.img.plan'
         return self.call.device + '.plan' if self.call.plan is None else self.call.plan
 
     def make_way(self):
@@ -77,10 +82,8 @@ class Foreseen:
         if self.call.plan is not None:
             if any(same(name, self.call.device) for name in (path, path + '.new')):
                 raise Ends(8, 'ReadFault')
-            folder = os.path.dirname(path) or '.'
-            there = os.path.lexists(path) and not is_file(path)
-            if there or path.endswith('/') or not os.path.isdir(folder) or os.path.isdir(path + '.new') or any(
-                    len(os.fsencode(part)) > 255 for part in (path + '.new').split('/')) or len(path) > 4000:
+            is_taken = os.path.lexists(path) and not is_file(path)
+            if is_taken or is_folder(path + '.new') or not has_place(path + '.new'):
                 raise Ends(8, 'ReadFault')
         self.cleared = True
 
@@ -119,7 +122,8 @@ class Foreseen:
         entries = []
         for name in names:
             path = f'{folder}/{name.decode()}'
-            if os.path.isdir(path) or not os.path.exists(path) or not name.endswith(b'.conf') or len(name) < 6:
+            is_taken = name.endswith(b'.conf') and len(name) > 5
+            if not is_taken or not os.path.exists(path) or os.path.isdir(path):
                 continue
             text = self.read_file(path, shown)
             if text is not None and Entry(text).is_entry:
@@ -175,9 +179,11 @@ class Foreseen:
             self.settings.bind(self.layout)
         except BadSettings as bad:
             raise Ends(13, f'BadSettings {bad.args[0]}') from None
-        for place, target in enumerate(self.settings.targets if self.command.name == 'boot' else [], 1):
+        targets = self.settings.targets if self.command.name == 'boot' else []
+        for place, target in enumerate(targets, 1):
             self.plans[target] = self.plans_of(self.settings.boot(target), place)
-        if any(os.path.isdir(path) and not os.path.islink(path) for path in (self.plan_path(), self.plan_path() + '.new')):
+        path = self.plan_path()
+        if is_folder(path) or is_folder(path + '.new') or not has_place(path + '.new'):
             self.plans = dict.fromkeys(self.plans, [])
 
     def plans_of(self, setting, place):
@@ -192,6 +198,18 @@ class Foreseen:
         text = self.read_file(setting)
         entry = Entry(text or b'')
         return [entry.plan(place)] if entry.is_entry else []
+
+
+def is_folder(path):
+    return os.path.isdir(path) and not os.path.islink(path)
+
+
+def has_place(path):
+    """Whether a file can be made at a path."""
+    parts = path.split('/')
+    is_short = len(os.fsencode(path)) < 4096 and all(len(os.fsencode(part)) < 256 for part in parts)
+    is_name = parts[-1] not in ('', '.', '..')
+    return is_short and is_name and os.path.isdir('/'.join(parts[:-1]) or '.')
 
 
 def is_file(path):

@@ -3,25 +3,81 @@ import re
 import struct
 
 MASK = (1 << 64) - 1
-NUMBERS = [b'0', b'1', b'255', b'256', b'65535', b'65536', b'2147483648', b'4294967295', b'4294967296',
-           b'18446744073709551615', b'18446744073709551616', b'340282366920938463463374607431768211456', b'-1',
-           b'007', b'08', b'0x', b'0xffffffff', b'0x100000000', b'0xFFFFFFFFFFFFFFFF', b'1U', b'1LLL', b'']
-WORDS = [0, 1, 2, 3, 4, 7, 8, 9, 15, 16, 17, 18, 39, 40, 41, 255, 0x7fffffff, 0x80000000, 0xfffffffc, 0xffffffff]
-BYTES = [b'\0', b'\xff', b'\xfe\xff', b'\xc3', b'\xed\xa0\x80', b'\xf4\x90\x80\x80', b'\xc0\x80', b'\r\n', b'\n',
-         b'"', b'\\', b'/*', b'*/', b'//', b'{', b'}', b';', b'&', b'<', b'>', b'[', b']', b'=', b'#', b' ', b'\t', b"'"]
+NUMBERS = [b'0', b'1', b'255', b'256', b'65535', b'65536', b'2147483648', b'4294967295', b'-1',
+           b'4294967296', b'18446744073709551615', b'18446744073709551616', b'9' * 39, b'007',
+           b'08', b'0x', b'0xffffffff', b'0x100000000', b'0xFFFFFFFFFFFFFFFF', b'1U', b'1LLL', b'']
+WORDS = [0, 1, 2, 3, 4, 7, 8, 9, 15, 16, 17, 18, 39, 40, 41, 255, 0x7fffffff, 0x80000000,
+         0xfffffffc, 0xffffffff]
+BYTES = [b'\0', b'\xff', b'\xfe\xff', b'\xc3', b'\xed\xa0\x80', b'\xf4\x90\x80\x80', b'\xc0\x80',
+         b'\r\n', b'\n', b'"', b'\\', b'/*', b'*/', b'//', b'{', b'}', b';', b'&', b'<', b'>', b'[',
+         b']', b'=', b'#', b' ', b'\t', b"'"]
 # What the grammars have besides, or leave out.
+DTS = b"""/include/ "a"
+/bits/ 8
+(1)
+'a'
+&{/state}
+#include
+#if
+x:
+state:
+&state
+&x
+&state { };
+/memreserve/ 0 1;
+/delete-property/ a;
+/delete-node/ state;
+/ { };
+phandle = <1>;
+reg = <0 4>;
+type = "uint8";
+compatible = "barebox,state";
+algo = "hmac(sha256)";
+algo;
+backend-type = "dtb";
+backend-storage-type = "noncircular";
+backend = "/flash@0";
+backend = <&state>;
+default = <5>;
+names = "a", "b";
+state = "/";
+v@40 { type = "uint8"; reg = <0x40 1>; };"""
+SETTINGS = b"""targets=system0
+targets=a a
+targets=
+state_prefix=state
+state_prefix=a..b
+default_attempts=0
+default_priority=0
+reset_attempts=noon
+reset_priorities=all-zero
+retry=2
+retry=1
+x.boot=a
+retry.boot=a
+system0.boot=
+system0.boot="m/"
+system1.default_attempts=x
+x=1
+"""
+ENTRIES = b"""linux
+linux /b
+title T
+sort-key s
+version 1.2~rc1
+machine-id 0
+initrd /i
+initrd /j
+options o
+devicetree /d
+architecture x64
+efi /e
+#linux /c
+	linux	/e	"""
 PHRASES = {
-    b'dts': [b'/include/ "a"', b'/bits/ 8', b'(1)', b"'a'", b'&{/state}', b'#include', b'#if', b'x:', b'state:', b'&state', b'&x',
-             b'&state { };', b'/memreserve/ 0 1;', b'/delete-property/ a;', b'/delete-node/ state;', b'/ { };', b'phandle = <1>;',
-             b'reg = <0 4>;', b'type = "uint8";', b'compatible = "barebox,state";', b'algo = "hmac(sha256)";', b'algo;',
-             b'backend-type = "dtb";', b'backend-storage-type = "noncircular";', b'backend = "/flash@0";', b'default = <5>;',
-             b'backend = <&state>;', b'names = "a", "b";', b'state = "/";', b'v@40 { type = "uint8"; reg = <0x40 1>; };'],
-    b'txt': [b'global.bootchooser.' + line for line in (
-        b'targets=system0', b'targets=a a', b'targets=', b'state_prefix=state', b'state_prefix=a..b', b'default_attempts=0',
-        b'default_priority=0', b'reset_attempts=noon', b'reset_priorities=all-zero', b'retry=2', b'retry=1', b'x.boot=a',
-        b'retry.boot=a', b'system0.boot=', b'system0.boot="m/"', b'system1.default_attempts=x', b'x=1', b'')],
-    b'conf': [b'linux', b'linux /b', b'title T', b'sort-key s', b'version 1.2~rc1', b'machine-id 0', b'initrd /i', b'initrd /j',
-              b'options o', b'devicetree /d', b'architecture x64', b'efi /e', b'#linux /c', b'\tlinux\t/e\t'],
+    b'dts': DTS.split(b'\n'),
+    b'txt': [b'global.bootchooser.' + line for line in SETTINGS.split(b'\n')],
+    b'conf': ENTRIES.split(b'\n'),
 }
 TOKEN = re.compile(rb'"[^"\n]*"|<[^>\n]*>|[A-Za-z0-9,._+*#?@-]+|[^\sA-Za-z0-9]', re.S)
 
@@ -30,7 +86,7 @@ class Dice:
     """Numbers that follow from a seed and a run's number: splitmix64."""
 
     def __init__(self, seed, number):
-        self.state = (seed * 0x9e3779b97f4a7c15 + number * 0xd1b54a32d192ed03 + 0x2545f4914f6cdd1d) & MASK
+        self.state = (seed * 0x9e3779b97f4a7c15 + number * 0xd1b54a32d192ed03 + 1) & MASK
 
     def draw(self):
         self.state = (self.state + 0x9e3779b97f4a7c15) & MASK
@@ -117,7 +173,9 @@ def splice(dice, text, pool):
     last = min(len(other) - 1, first + dice.below(1 << dice.among(0, 5)))
     piece = other[first].string[other[first].start():other[last].end()]
     at = dice.below(len(here))
-    end = here[min(len(here) - 1, at + dice.below(4))].end() if dice.once_in(2) else here[at].start()
+    end = here[at].start()
+    if dice.once_in(2):
+        end = here[min(len(here) - 1, at + dice.below(4))].end()
     return text[:here[at].start()] + piece + text[end:]
 
 
@@ -129,16 +187,22 @@ def tokens(dice, text, _):
     first = dice.below(len(there) - 1)
     one, other = there[first], there[dice.among(first + 1, min(len(there) - 1, first + 8))]
     between = text[one.end():other.start()]
-    middle = [other[0] + between + one[0], one[0] + b' ' + one[0] + between + other[0], between + other[0]]
-    return text[:one.start()] + dice.pick(middle) + text[other.end():]
+    rest = between + other[0]
+    middle = dice.pick([other[0] + between + one[0], one[0] + b' ' + one[0] + rest, rest])
+    return text[:one.start()] + middle + text[other.end():]
 
 
 def phrase(kind):
     """One of the grammar's phrases comes in, at a line's beginning or between tokens."""
+    form, ending = (rb'[;{]|$', b' ') if kind == b'dts' else (rb'^|\n', b'\n')
+
     def hurts(dice, text, _):
-        ends = [found.end() for found in (re.finditer(rb'[;{]|$', text) if kind == b'dts' else re.finditer(rb'^|\n', text))]
-        at = dice.pick(ends) if dice.below(4) else dice.pick([found.start() for found in TOKEN.finditer(text)] or [0])
-        return text[:at] + dice.pick(PHRASES[kind]) + (b' ' if kind == b'dts' else b'\n') + text[at:]
+        ends = [found.end() for found in re.finditer(form, text)]
+        if dice.once_in(4):
+            ends = [found.start() for found in TOKEN.finditer(text)] or ends
+        at = dice.pick(ends)
+        return text[:at] + dice.pick(PHRASES[kind]) + ending + text[at:]
+
     return hurts
 
 
@@ -159,14 +223,17 @@ def lengthen(dice, text, _):
     return text[:at.start()] + (at[0] * (size // len(at[0]) + 1))[:size] + text[at.end():]
 
 
+def put(blob, at, word):
+    return blob[:at] + struct.pack('>I', word & 0xffffffff) + blob[at + 4:]
+
+
 def header(dice, blob, _):
     """A word of a blob's header, off by a few or extreme."""
     at = 4 * dice.below(10)
     if len(blob) < 40:
         return flip(dice, blob, _)
-    there = struct.unpack('>I', blob[at:at + 4])[0]
-    near = there + dice.among(-9, 9)
-    return blob[:at] + struct.pack('>I', dice.pick([near, near, dice.pick(WORDS), dice.below(len(blob) + 9)]) & 0xffffffff) + blob[at + 4:]
+    near = struct.unpack('>I', blob[at:at + 4])[0] + dice.among(-9, 9)
+    return put(blob, at, dice.pick([near, near, dice.pick(WORDS), dice.below(len(blob) + 9)]))
 
 
 def word(dice, blob, _):
@@ -174,8 +241,8 @@ def word(dice, blob, _):
     if len(blob) < 48:
         return flip(dice, blob, _)
     at = 40 + 4 * dice.below((len(blob) - 40) // 4)
-    there = struct.unpack('>I', blob[at:at + 4])[0]
-    return blob[:at] + struct.pack('>I', dice.pick([there + dice.among(-5, 5), dice.pick(WORDS)]) & 0xffffffff) + blob[at + 4:]
+    near = struct.unpack('>I', blob[at:at + 4])[0] + dice.among(-5, 5)
+    return put(blob, at, dice.pick([near, dice.pick(WORDS)]))
 
 
 def words_moved(dice, blob, _):
@@ -188,9 +255,13 @@ def words_moved(dice, blob, _):
 
 BINARY = [flip, flip, delete, insert, repeat, cut]
 TEXT = BINARY + [lines, lines, numbers, numbers, splice, splice, splice, tokens, tokens]
-WAYS = {b'dts': TEXT + [nest, lengthen] + [phrase(b'dts')] * 4, b'dtb': BINARY + [header] * 4 + [word] * 4 + [words_moved],
-        b'txt': TEXT + [lengthen] + [phrase(b'txt')] * 4,
-        b'conf': TEXT + [phrase(b'conf')] * 4, b'hex': BINARY}
+WAYS = {
+    b'dts': TEXT + [nest, lengthen] + [phrase(b'dts')] * 4,
+    b'dtb': BINARY + [header] * 4 + [word] * 4 + [words_moved],
+    b'txt': TEXT + [lengthen] + [phrase(b'txt')] * 4,
+    b'conf': TEXT + [phrase(b'conf')] * 4,
+    b'hex': BINARY,
+}
 
 
 def hurt(dice, text, kind, pool):

@@ -1,15 +1,19 @@
-"""Says what is wrong with what a run of the program left, beside what is foreseen of it."""
+"""Says what is wrong with what a run of the program left, beside what is wanted of it."""
 import re
 
 from device import Strides, Table, Targets, passing
+from folder import content
+from foresee import Foreseen
+from words import Call
 
 # Each fault line, where no more is known of it than its form.
 FAULTS = {
     1: rb'BadWords [0-9]+',
-    2: rb'BadTree (NotBlob|Version|OutOfBounds (Total|Struct|Strings|Reserve)|(NotText|BadToken|BadName|LeftOut'
-       rb'|Unexpected|NumberTooLarge|TooDeep|DuplicateLabel|NoSuchLabel|DuplicatePhandle) [0-9]+)',
-    3: rb'BadLayout (NoState|(Missing|BadProp) [a-z-]+|BadType|BadReg|Overlap|NoBackend|TooSmall|Unaligned'
-       rb'|OutOfDevice|AreaTooLong|NameTwice)',
+    2: rb'BadTree (NotBlob|Version|OutOfBounds (Total|Struct|Strings|Reserve)|(NotText|BadToken'
+       rb'|BadName|LeftOut|Unexpected|NumberTooLarge|TooDeep|DuplicateLabel|NoSuchLabel'
+       rb'|DuplicatePhandle) [0-9]+)',
+    3: rb'BadLayout (NoState|(Missing|BadProp) [a-z-]+|BadType|BadReg|Overlap|NoBackend|TooSmall'
+       rb'|Unaligned|OutOfDevice|AreaTooLong|NameTwice)',
     4: rb'BadVariable .* (NoSuchVariable|NotNumber|TooLarge|NoSuchName|NotMac|TooLong)',
     5: rb'FileMissing .*',
     6: rb'FileFault .*',
@@ -18,7 +22,8 @@ FAULTS = {
     9: rb'WriteFault [0-2]',
     10: rb'NoTarget',
     11: rb'StartFailed [A-Za-z0-9_-]+',
-    13: rb'BadSettings ((BadLine|TargetTwice|BadNumber|BadEvent) [0-9]+|NoTargets|(NoSuchVariable|NotUint32) .+)',
+    13: rb'BadSettings ((BadLine|TargetTwice|BadNumber|BadEvent) [0-9]+|NoTargets'
+        rb'|(NoSuchVariable|NotUint32) .+)',
     17: rb'BadKey (None|Empty|BadHex)',
     18: rb'NoGood [0-9]+',
     20: rb'NoMemory',
@@ -36,10 +41,33 @@ DONE = {
 STATUSES = {0, 14, *FAULTS}
 
 
+class Got:
+    """What a run left: its status, or else in `fault` why it has none; what it sent, the device
+    and the plan."""
+
+    def __init__(self):
+        self.status = self.fault = self.device = self.plan = None
+        self.text = self.errors = b''
+
+    def facts(self):
+        return self.status, self.text, self.errors, self.device, self.plan
+
+
+def prepare(run):
+    """What is wanted of a run, and where its device and its plan are."""
+    call = Call(run.argv)
+    foreseen = Foreseen(call)
+    device = 'dev.img' if call.device is None else call.device
+    base = content(device)
+    if foreseen.opened and not call.read_only:
+        base = (base or b'').ljust(call.geometry[2], b'\xff')
+    return Wanted(foreseen, base), (device, foreseen.plan_path())
+
+
 class Wanted:
-    """What is wanted of a run on a device with the bytes `base`: one of `answers`, each a status and a text,
-    and one of `plans`. None stands for what isn't known. `writes` says whether copies have to be written,
-    `saves` whether for a save, and `area` is what all of them pass then."""
+    """What is wanted of a run on a device with the bytes `base`: one of `answers`, each a status
+    and a text, and one of `plans`. None stands for what isn't known. `writes` says whether copies
+    have to be written, `saves` whether for a save, and `area` is what all of them pass then."""
 
     def __init__(self, foreseen, base):
         self.foreseen, self.base, self.layout = foreseen, base, foreseen.layout
@@ -74,7 +102,8 @@ class Wanted:
             status, text = 0, table.act(command.actions)
         elif command.name == 'boot':
             targets = Targets(foreseen.settings, table)
-            status, text, self.plans = targets.boot(command.given.get('cause'), foreseen.plans)
+            cause = command.given.get('cause')
+            status, text, self.plans = targets.boot(cause, foreseen.plans)
         else:
             status, text = Targets(foreseen.settings, table).mark_good()
         self.answers = [(status, text if isinstance(text, bytes) else text.encode())]
@@ -112,7 +141,7 @@ def judge_answer(run, wanted, got):
         answers = answers + [(9, line) if run.output == 'kept' else (14, b'') for line in lines]
     if answers is None:
         yield from judge_form(run, call, got)
-    elif not any(got.status == status and same_text(wanted, got.text, text) for status, text in answers):
+    elif not any(got.status == one and same_text(wanted, got.text, text) for one, text in answers):
         there = ' or '.join(f'{status} and {shown(text)}' for status, text in answers)
         yield f'it ends with {got.status} and sends {shown(got.text)}, and not {there}'
 
@@ -131,7 +160,8 @@ def judge_form(run, call, got):
     if got.status == 14:
         form = b''
     elif got.status:
-        form = (rb'tries [0-9]+\n' if got.status == 11 else b'') + rb'fault %d ' % got.status + FAULTS[got.status] + rb'\n'
+        front = rb'tries [0-9]+\n' if got.status == 11 else b''
+        form = front + rb'fault %d (?:%s)\n' % (got.status, FAULTS[got.status])
     if not re.fullmatch(form if run.output == 'kept' else b'', got.text, re.S):
         yield f'it ends with {got.status} and sends {shown(got.text)}'
     if got.status == 0 and not got.text and name == 'state' and run.output == 'kept' and asks(call):
@@ -189,17 +219,20 @@ def judge_plan(wanted, got, before):
     if not foreseen.cleared:
         if got.plan != before:
             yield 'the plan of an earlier start was changed'
-    elif got.status in (0, 14) and (wanted.plans or not foreseen.sure):
-        if got.plan is None if wanted.plans is None else got.plan not in wanted.plans:
-            yield f'the plan is {shown(got.plan or b"")}, and not {shown((wanted.plans or [b""])[0])}'
+    elif not foreseen.sure:
+        if (got.plan is None) != (got.status != 0) and got.status not in (14, 20):
+            yield f'there is {"no" if got.plan is None else "a"} plan after status {got.status}'
+    elif wanted.plans and got.status in (0, 14):
+        if got.plan not in wanted.plans:
+            yield f'the plan is {shown(got.plan or b"")}, and not {shown(wanted.plans[0])}'
     elif got.plan is not None and got.status != 20:
         yield f'there is a plan after status {got.status}'
 
 
 def judge(run, wanted, got, before, plan_before):
     """What is wrong with a run, a line each."""
-    if got.signal:
-        return [got.signal]
+    if got.fault:
+        return [got.fault]
     found = list(judge_answer(run, wanted, got))
     found += judge_errors(wanted.foreseen.call, got)
     found += judge_device(wanted, got, before)

@@ -1,43 +1,21 @@
-"""From a devicetree to a layout as docs/FORMATS.md has it, written apart from the program; the values
-of variables, and the copies' records."""
+"""From a devicetree to a layout as docs/FORMATS.md has it, and the records of its copies, written
+apart from the program."""
 import hashlib
 import hmac
-import re
 import struct
 import zlib
 
-from tree import Node, Refused, Unsure, worth, write_blob
+from tree import Node, Refused, Unsure, write_blob
+from values import Var, is_utf8
 
 SIZES = {b'uint8': 1, b'uint32': 4, b'enum32': 4, b'mac': 6}
-NUMBER = re.compile(r'0[xX][0-9a-fA-F]+|[0-9]+')
-MAC = re.compile(r'[0-9a-fA-F]{2}(:[0-9a-fA-F]{2}){5}')
-
-
-def number(text):
-    """What a number among the words is worth: NotNumber or TooLarge as a text for none."""
-    if not NUMBER.fullmatch(text) or not text.isascii():
-        return 'NotNumber'
-    value = worth(text[2:].encode(), 16) if text[:2] in ('0x', '0X') else worth(text.encode(), 10)
-    return value if value < 1 << 32 else 'TooLarge'
-
-
-def geometry_of(word):
-    """(page, block, size) of a geometry, None for none. The block is 0 where there are no blocks."""
-    kind, *parts = word.split(':')
-    parts = [number(part) for part in parts]
-    if any(isinstance(part, str) for part in parts):
-        return None
-    if kind == 'ov' and len(parts) == 1 and 1 <= parts[0] <= 1 << 28:
-        return 1, 0, parts[0]
-    if kind == 'er' and len(parts) == 3:
-        page, block, size = parts
-        if 16 <= page <= 16384 and 0 < block <= 1 << 22 and block % page == 0 and 0 < size <= 1 << 28:
-            return (page, block, size) if size % block == 0 else None
-    return None
+STORAGES = (b'circular', b'noncircular', b'direct')
+STRIDE_HEADER = 0x2354fdf3
+LOG_WORD = 0x14fa2d02
 
 
 def refuse(*words):
-    raise Refused(' '.join(w.decode() if isinstance(w, bytes) else w for w in words))
+    raise Refused(' '.join(words))
 
 
 def strings_of(value):
@@ -46,35 +24,26 @@ def strings_of(value):
 
 
 def string_of(value):
-    found = strings_of(value) if value is not None else None
-    return found[0] if found and len(found) == 1 else None
+    found = strings_of(value) or []
+    return found[0] if len(found) == 1 else None
 
 
 def cells_of(value):
+    """The cells of a value, none where it is missing or has another length."""
     if value is None or len(value) % 4:
-        return None
+        return []
     return list(struct.unpack(f'>{len(value) // 4}I', value))
 
 
 def cell_of(value):
     cells = cells_of(value)
-    return cells[0] if cells and len(cells) == 1 else None
-
-
-def is_utf8(text):
-    try:
-        text.decode()
-    except UnicodeDecodeError:
-        return False
-    return True
+    return cells[0] if len(cells) == 1 else None
 
 
 def node_at(root, path):
     """The node of a path of full names, None for none."""
-    if path == b'/':
-        return root
     node = root
-    for name in path.split(b'/')[1:]:
+    for name in path.split(b'/')[1:] if path != b'/' else []:
         found = [child for child in node.nodes if child.name == name]
         if len(found) > 1:
             raise Unsure('two nodes of one path')
@@ -84,65 +53,34 @@ def node_at(root, path):
     return node
 
 
-class Var:
-    def __init__(self, name, path, kind, at, size, names, default):
-        self.name, self.path, self.kind, self.at, self.size = name, path, kind, at, size
-        self.names, self.default = names, default
-
-    def read(self, text):
-        """The bytes that a text stands for; the refusal's name as a text for none."""
-        if self.kind == b'enum32':
-            names = [name.decode() for name in self.names]
-            return struct.pack('<I', names.index(text)) if text in names else 'NoSuchName'
-        if self.kind == b'mac':
-            return bytes.fromhex(text.replace(':', '')) if MAC.fullmatch(text) else 'NotMac'
-        if self.kind == b'string':
-            value = text.encode()
-            return value.ljust(self.size, b'\0') if len(value) <= self.size else 'TooLong'
-        value = number(text)
-        if isinstance(value, int) and value >> 8 * self.size:
-            value = 'TooLarge'
-        return value if isinstance(value, str) else struct.pack('<I', value)[:self.size]
-
-    def text(self, value):
-        """As it is printed."""
-        if self.kind == b'mac':
-            return b':'.join(b'%02x' % b for b in value)
-        if self.kind == b'string':
-            return value.split(b'\0')[0]
-        worth = int.from_bytes(value, 'little')
-        if self.kind == b'enum32' and worth < len(self.names):
-            return self.names[worth]
-        return b'%d' % worth
+def counts(node):
+    return b'barebox,state' in (strings_of(node.prop(b'compatible')) or [])
 
 
-def variable(node, path, state):
+def variable(node, path):
     kind = string_of(node.prop(b'type'))
     if kind not in SIZES and kind != b'string':
         refuse('BadType')
-    reg = node.prop(b'reg')
-    if reg is None:
+    if node.prop(b'reg') is None:
         refuse('Missing reg')
-    cells = cells_of(reg)
-    if cells is None or len(cells) != 2 or sum(cells) > 0xffffffff:
+    reg = cells_of(node.prop(b'reg'))
+    if len(reg) != 2 or sum(reg) > 0xffffffff:
         refuse('BadReg')
-    at, size = cells
+    at, size = reg
     if size != SIZES[kind] if kind in SIZES else not 1 <= size <= 1024:
         refuse('BadReg')
     names = None
     if kind == b'enum32':
-        value = node.prop(b'names')
-        if value is None:
+        if node.prop(b'names') is None:
             refuse('Missing names')
-        names = strings_of(value)
+        names = strings_of(node.prop(b'names'))
         if names is None or not all(map(is_utf8, names)):
             refuse('BadProp names')
     given = node.prop(b'default')
-    default = b'\0' * min(size, 1024) if given is None else default_of(kind, size, names, given)
+    default = b'\0' * size if given is None else default_of(kind, size, names, given)
     if default is None:
         refuse('BadProp default')
-    name = b'.'.join(n.split(b'@')[0] for n in path)
-    return Var(name, path, kind, at, size, names, default)
+    return Var(path, kind, at, size, names, default)
 
 
 def default_of(kind, size, names, given):
@@ -158,8 +96,8 @@ def default_of(kind, size, names, given):
 
 
 class Layout:
-    """The layout of a tree: `name`, `vars`, `area` (the area's length), `at` and `size` of the partition,
-    `unit` (the stride or the block), `copies`, and `storage` (stride, log or block)."""
+    """The layout of a tree: `name`, `vars`, `area` (the area's length), `at` and `size` of the
+    partition, `unit` (the stride or the block), `copies`, and `storage` (stride, log or block)."""
 
     def __init__(self, tree, wanted, geometry):
         self.geometry, self.length = geometry, None
@@ -171,41 +109,37 @@ class Layout:
         self.place()
 
     def find_state(self, tree, wanted):
-        counting = [node for node in tree.preorder() if counts(node)]
         name = b'state' if wanted is None else wanted
         aliases = node_at(tree, b'/aliases')
         alias = string_of(aliases.prop(name)) if aliases else None
         if alias is not None and is_utf8(alias) and alias.startswith(b'/'):
             node = node_at(tree, alias)
-            if node in counting:
+            if node and counts(node):
                 self.state, self.name = node, name
                 return
-        for node in counting:
-            if wanted is None or node.name.split(b'@')[0] == wanted:
+        for node in filter(counts, tree.preorder()):
+            if wanted in (None, node.name.split(b'@')[0]):
                 self.state, self.name = node, node.name.split(b'@')[0]
                 return
         refuse('NoState')
 
     def take_properties(self):
         prop = self.state.prop
-        if prop(b'magic') is None:
-            refuse('Missing magic')
         self.magic = cell_of(prop(b'magic'))
         if self.magic is None:
-            refuse('BadProp magic')
-        if prop(b'backend-type') is None:
-            refuse('Missing backend-type')
+            refuse('Missing magic' if prop(b'magic') is None else 'BadProp magic')
         self.type = string_of(prop(b'backend-type'))
         if self.type not in (b'raw', b'dtb'):
-            refuse('BadProp backend-type')
-        self.keyed = prop(b'algo') is not None
-        if self.keyed and (string_of(prop(b'algo')) != b'hmac(sha256)' or self.type == b'dtb'):
+            refuse('BadProp' if prop(b'backend-type') is not None else 'Missing', 'backend-type')
+        algo, storage, stride = map(prop, (b'algo', b'backend-storage-type', b'backend-stridesize'))
+        self.keyed = algo is not None
+        if self.keyed and (string_of(algo) != b'hmac(sha256)' or self.type == b'dtb'):
             refuse('BadProp algo')
-        self.kind = string_of(prop(b'backend-storage-type'))
-        if prop(b'backend-storage-type') is not None and self.kind not in (b'circular', b'noncircular', b'direct'):
+        self.kind = string_of(storage)
+        if storage is not None and self.kind not in STORAGES:
             refuse('BadProp backend-storage-type')
-        self.stride = cell_of(prop(b'backend-stridesize'))
-        if prop(b'backend-stridesize') is not None and not self.stride:
+        self.stride = cell_of(stride)
+        if stride is not None and not self.stride:
             refuse('BadProp backend-stridesize')
 
     def variables(self, node, path):
@@ -213,19 +147,18 @@ class Layout:
             if child.prop(b'type') is None:
                 yield from self.variables(child, path + [child.name])
             else:
-                yield variable(child, path + [child.name], self.state)
+                yield variable(child, path + [child.name])
 
     def measure(self):
         if len({var.name for var in self.vars}) < len(self.vars):
             refuse('NameTwice')
-        end = 0
+        self.area = 0
         for var in sorted(self.vars, key=lambda var: var.at):
-            if var.at < end:
+            if var.at < self.area:
                 refuse('Overlap')
-            end = var.at + var.size
-        if end > 65535:
+            self.area = var.at + var.size
+        if self.area > 65535:
             refuse('AreaTooLong')
-        self.area = end
 
     def find_partition(self, tree):
         backend = self.state.prop(b'backend')
@@ -240,10 +173,10 @@ class Layout:
             if not path or not path.startswith(b'/'):
                 refuse('BadProp backend')
             found = [node_at(tree, path)]
-        cells = cells_of(found[0].prop(b'reg')) if found and found[0] else None
-        if cells and len(cells) == 4 and cells[0] == cells[2] == 0:
+        cells = cells_of(found[0].prop(b'reg')) if found and found[0] else []
+        if len(cells) == 4 and cells[0] == cells[2] == 0:
             cells = cells[1::2]
-        if not cells or len(cells) != 2:
+        if len(cells) != 2:
             refuse('NoBackend')
         self.at, self.size = cells
 
@@ -253,23 +186,23 @@ class Layout:
             refuse('Unaligned')
         if self.at + self.size > size:
             refuse('OutOfDevice')
-        record, self.storage, self.unit = self.record_length(), 'stride', self.stride or self.size // 3
-        room = 8 + record
+        self.storage, self.unit = 'stride', self.stride or self.size // 3
+        room = 8 + self.record_length()
         if block:
             self.unit = block
-            self.storage = 'block' if self.kind in (b'noncircular', b'direct') else 'log'
-            if self.storage == 'log':
-                room = (room + page - 1) // page * page
+            self.storage = 'block' if self.kind in STORAGES[1:] else 'log'
+        if self.storage == 'log':
+            room = (room + page - 1) // page * page
         self.copies = min(3, self.size // self.unit) if self.unit else 0
         if self.copies < 2 or room > self.unit:
             refuse('TooSmall')
 
     def record_length(self):
-        if self.type == b'dtb':
-            if self.length is None:
-                self.length = len(self.record(b'\0' * self.area, None))
-            return self.length
-        return 16 + self.area + (32 if self.keyed else 0)
+        if self.type == b'raw':
+            return 16 + self.area + (32 if self.keyed else 0)
+        if self.length is None:
+            self.length = len(self.record(b'\0' * self.area, None))
+        return self.length
 
     def defaults(self):
         area = bytearray(self.area)
@@ -278,7 +211,9 @@ class Layout:
         return bytes(area)
 
     def record(self, area, key):
-        return self.dtb_record(area) if self.type == b'dtb' else raw_record(self.magic, area, key if self.keyed else None)
+        if self.type == b'dtb':
+            return self.dtb_record(area)
+        return raw_record(self.magic, area, key if self.keyed else None)
 
     def dtb_record(self, area):
         root = Node(b'')
@@ -287,19 +222,19 @@ class Layout:
         state.append(b'compatible', b'barebox,state\0')
         state.append(b'magic', struct.pack('>I', self.magic))
         root.add(state)
-        open_nodes = []
+        leads = []
         for var in self.vars:
             same = 0
-            while same < min(len(open_nodes), len(var.path) - 1) and open_nodes[same].name == var.path[same]:
+            while same < min(len(leads), len(var.path) - 1) and leads[same].name == var.path[same]:
                 same += 1
-            open_nodes = open_nodes[:same]
+            leads = leads[:same]
             for name in var.path[same:]:
-                node = Node(name, open_nodes[-1] if open_nodes else state)
-                node.parent.add(node)
-                open_nodes.append(node)
+                leads.append(Node(name, leads[-1] if leads else state))
+                leads[-1].parent.add(leads[-1])
             value = area[var.at:var.at + var.size]
-            cell = struct.pack('>I', int.from_bytes(value, 'little'))
-            open_nodes.pop().append(b'value', value if var.kind in (b'mac', b'string') else cell)
+            if var.kind not in (b'mac', b'string'):
+                value = struct.pack('>I', int.from_bytes(value, 'little'))
+            leads.pop().append(b'value', value)
         blob = write_blob(root)
         return blob[:76] + struct.pack('>I', zlib.crc32(blob)) + blob[80:]
 
@@ -311,16 +246,16 @@ class Layout:
         page = self.geometry[0]
         if self.storage == 'log':
             length = (len(record) + 8 + page - 1) // page * page
-            return record.ljust(length - 8, b'\xff') + struct.pack('<II', 0x14fa2d02, length)
-        image = struct.pack('<II', 0x2354fdf3, len(record)) + record
+            return record.ljust(length - 8, b'\xff') + struct.pack('<II', LOG_WORD, length)
+        image = struct.pack('<II', STRIDE_HEADER, len(record)) + record
         return image if self.storage == 'stride' else image + b'\xff' * (-len(image) % page)
 
 
-def counts(node):
-    return b'barebox,state' in (strings_of(node.prop(b'compatible') or b'') or [])
+def code(key, text):
+    return hmac.new(key, text, hashlib.sha256).digest()
 
 
 def raw_record(magic, area, key=None):
     header = struct.pack('<IHHI', magic, 0, len(area), zlib.crc32(area))
     record = header + struct.pack('<I', zlib.crc32(header)) + area
-    return record if key is None else record + hmac.new(key, record, hashlib.sha256).digest()
+    return record if key is None else record + code(key, record)

@@ -2,15 +2,13 @@
 
 
 def filled(front, piece, back, size):
-    """The piece, with its number in it, as often as it fits."""
-    room, count, out = size - len(front) - len(back), 0, []
-    while True:
-        text = piece % (count, count) if piece.count(b'%') == 2 else piece % count if b'%' in piece else piece
-        room -= len(text)
-        if room < 0:
-            return front + b''.join(out) + back
+    """The piece, with its place in each `%x`, as often as it fits."""
+    room, place, out = size - len(front) - len(back), 0, []
+    while room >= 0:
+        text = piece.replace(b'%x', b'%x' % place)
         out.append(text)
-        count += 1
+        room, place = room - len(text), place + 1
+    return front + b''.join(out[:-1]) + back
 
 
 def of(front, piece, back):
@@ -18,8 +16,9 @@ def of(front, piece, back):
 
 
 def deep(dice, size):
-    chain = b'n%x{' % dice.below(16) * 31 + b'};' * 31
-    return filled(b'/dts-v1/;/{', b'a%d{' + chain + b'};', b'};', size)
+    """Chains of 32 levels."""
+    chain = (b'n%d{' % dice.below(10)) * 30 + b'};' * 30
+    return filled(b'/dts-v1/;/{', b'a%x{' + chain + b'};', b'};', size)
 
 
 def long_name(dice, size):
@@ -30,13 +29,26 @@ def long_name(dice, size):
 
 
 def string(dice, size):
-    return filled(b'/dts-v1/;/{a="', dice.pick([b'a', b'\\x41', b'\\101', b'\\"']), b'";};', size)
+    piece = dice.pick([b'a', b'\\x41', b'\\101', b'\\"'])
+    return filled(b'/dts-v1/;/{a="', piece, b'";};', size)
 
 
 SHAPES = [
-    of(b'/{', b'n%x{};', b'};'), of(b'/{', b'p%x;', b'};'), of(b'/{', b'p;', b'};'), of(b'/{', b'/*%d*/', b'};'),
-    of(b'/{a=<', b'1 ', b'>;};'), of(b'/{a=[', b'00', b'];};'), of(b'/{a="a"', b',"b"', b';};'),
-    of(b'/{x:n{};a=<', b'&x ', b'>;};'), of(b'/{x:n{};a=&x', b',&x', b';};'), of(b'/{', b'l%x:', b'a{};};'),
-    of(b'/{', b'l%x:a%x{};', b'};'), of(b'/{x:a{};};', b'&x{b%x{};};', b''), of(b'/{};', b'/{a{};};', b''),
-    of(b'/{s{compatible="barebox,state";', b'v%x{type="uint8";reg=<%d 1>;};', b'};};'), deep, long_name, string,
+    of(b'/{', b'n%x{};', b'};'),
+    of(b'/{', b'p%x;', b'};'),
+    of(b'/{', b'p;', b'};'),
+    of(b'/{', b'/*%x*/', b'};'),
+    of(b'/{a=<', b'1 ', b'>;};'),
+    of(b'/{a=[', b'00', b'];};'),
+    of(b'/{a="a"', b',"b"', b';};'),
+    of(b'/{x:n{};a=<', b'&x ', b'>;};'),
+    of(b'/{x:n{};a=&x', b',&x', b';};'),
+    of(b'/{', b'l%x:', b'a{};};'),
+    of(b'/{', b'l%x:a%x{};', b'};'),
+    of(b'/{x:a{};};', b'&x{b%x{};};', b''),
+    of(b'/{};', b'/{a{};};', b''),
+    of(b'/{s{compatible="barebox,state";', b'v%x{type="uint8";reg=<0x%x 1>;};', b'};};'),
+    deep,
+    long_name,
+    string,
 ]

@@ -1,8 +1,8 @@
-"""The words of the program, settings, boot entries and keys as docs/FORMATS.md has them, written apart
-from the program."""
+"""The words of the program, settings, boot entries and keys as docs/FORMATS.md has them, written
+apart from the program."""
 import re
 
-from layout import geometry_of, is_utf8, number
+from values import geometry_of, is_number, is_utf8, number
 
 LONG = {'--input': '-i', '--name': '-n', '--get': '-g', '--set': '-s'}
 ONCE = {'state': 'ink', 'mark-good': 'inkc', 'boot': 'inkc'}
@@ -80,8 +80,8 @@ class Command:
             raise Bad(place + 1)
 
     def raw(self):
-        self.magic = number(self.fit(2, lambda word: isinstance(number(word), int)))
-        self.len = number(self.fit(3, lambda word: isinstance(number(word), int) and number(word) <= 65535))
+        self.magic = number(self.fit(2, is_number))
+        self.len = number(self.fit(3, lambda word: is_number(word) and number(word) <= 65535))
         self.area = None
         if self.fit(4, lambda word: word in ('-g', '-s')) == '-s':
             digits = re.compile(f'[0-9a-fA-F]{{{2 * self.len}}}')
@@ -96,7 +96,8 @@ class Command:
                 due = None
                 continue
             if self.name == 'state' and word in ('-d', '--dump', '--dump-shell'):
-                self.actions.append(('shell' if word == '--dump-shell' else 'dump', None, None))
+                kind = 'shell' if word == '--dump-shell' else 'dump'
+                self.actions.append((kind, None, None))
                 continue
             front, sign, value = word.partition('=')
             option = LONG.get(front) if sign or front in LONG else word
@@ -104,7 +105,7 @@ class Command:
                 due = option
             elif option in ('-g', '-s') and self.name == 'state':
                 due = option
-            elif option in ('-i', '-n', '-k', '-c') and option[1] in once and option[1] not in self.given:
+            elif option in ('-i', '-n', '-k', '-c') and option[1] in set(once) - set(self.given):
                 due = option
             else:
                 raise Bad(place)
@@ -138,7 +139,8 @@ def lines_of(text):
     """The lines, without the LF and a CR before it."""
     lines = text.split(b'\n')
     last = lines.pop()
-    return [line[:-1] if line.endswith(b'\r') else line for line in lines] + ([last] if last else [])
+    lines = [line[:-1] if line.endswith(b'\r') else line for line in lines]
+    return lines + [last] if last else lines
 
 
 class Settings:
@@ -190,14 +192,14 @@ class Settings:
             if not value:
                 return 'BadLine'
         elif kind == 'reset_attempts':
-            if not {event for event in value.split(' ') if event} <= {'power-on', 'reset', 'all-zero'}:
+            if not set(value.split(' ')) <= {'', 'power-on', 'reset', 'all-zero'}:
                 return 'BadEvent'
         elif kind == 'reset_priorities':
             if value not in ('', 'all-zero'):
                 return 'BadEvent'
         else:
-            worth = number(value)
-            if isinstance(worth, str) or (kind in ('retry', 'disable_on_zero_attempts') and worth > 1):
+            most = 1 if kind in ('retry', 'disable_on_zero_attempts') else 0xffffffff
+            if not is_number(value) or number(value) > most:
                 return 'BadNumber'
         self.values[key] = value
         return None
@@ -211,9 +213,11 @@ class Settings:
         kinds = {var.name: var.kind for var in layout.vars}
         names = [f'{t}.{name}' for t in self.targets for name in ('remaining_attempts', 'priority')]
         for name in names + ['last_chosen']:
-            kind = kinds.get((path + dot + name).encode()) if state.encode() == layout.name else None
+            is_there = state.encode() == layout.name
+            kind = kinds.get((path + dot + name).encode()) if is_there else None
             if kind != b'uint32':
-                raise BadSettings(f"{'NotUint32' if kind else 'NoSuchVariable'} {self.prefix}.{name}")
+                refusal = 'NotUint32' if kind else 'NoSuchVariable'
+                raise BadSettings(f'{refusal} {self.prefix}.{name}')
 
     def variable(self, name):
         """The name in the layout of a variable of these settings."""
