@@ -90,7 +90,8 @@ class Foreseen:
     def read_file(self, name, shown=None):
         """A file's bytes, None where it isn't there."""
         shown = name if shown is None else shown
-        if same(name, self.call.device) or same(name, self.plan_path()):
+        changed = self.call.device, self.plan_path()
+        if any(same(name, path) or name.startswith(path + '/') for path in changed):
             raise Unsure('a file that the session changes')
         try:
             with open(name, 'rb') as file:

@@ -48,6 +48,10 @@ NUMBER = re.compile(rb'(?:0[xX]([0-9a-fA-F]+)|0([0-7]+)|([0-9]+))(?:U|L|UL|LL|UL
 ESCAPES = {ord(sign): byte for sign, byte in zip('abtnvfr', b'\a\b\t\n\v\f\r')}
 
 
+def refuse(kind, at):
+    raise Refused(f'{kind} {at}')
+
+
 def run_from(text, at, form):
     """The run of this form that begins there, empty where there is none."""
     found = form.match(text, at)
@@ -74,9 +78,6 @@ class Tokens:
     def __init__(self, text):
         self.text, self.at = text, 0
 
-    def refuse(self, kind, at):
-        raise Refused(f'{kind} {at}')
-
     def skip(self):
         """Passes over blanks and comments."""
         text = self.text
@@ -89,7 +90,7 @@ class Tokens:
             elif text.startswith(b'/*', self.at):
                 end = text.find(b'*/', self.at + 2)
                 if end < 0:
-                    self.refuse('BadToken', self.at)
+                    refuse('BadToken', self.at)
                 self.at = end + 2
             else:
                 return
@@ -101,12 +102,12 @@ class Tokens:
         if at >= len(text):
             return 'end', None, at
         if text.startswith(LEFT_OUT, at):
-            self.refuse('LeftOut', at)
+            refuse('LeftOut', at)
         for word in (b'/dts-v1/', b'/memreserve/'):
             if text.startswith(word, at):
                 return self.taken(word.decode(), None, len(word))
         if text[at:at + 1] == b'&':
-            name = run_from(text, at + 1, REF) or self.refuse('BadToken', at)
+            name = run_from(text, at + 1, REF) or refuse('BadToken', at)
             return self.taken('&ref', name, 1 + len(name))
         if text[at:at + 1] == b'"':
             value, end = self.string()
@@ -120,7 +121,7 @@ class Tokens:
     def sign(self, place):
         sign = self.text[self.at:self.at + 1]
         if sign not in b'{}=;<>[]/' and not (sign == b',' and place in ('Value', 'After')):
-            self.refuse('BadToken', self.at)
+            refuse('BadToken', self.at)
         return self.taken(sign.decode(), None, 1)
 
     def run(self, place, is_open):
@@ -130,12 +131,12 @@ class Tokens:
             word = run_from(text, at, RUN)
             number = number_of(word) if word else None
             if word and number is None:
-                self.refuse('BadToken', at)
+                refuse('BadToken', at)
             return self.taken('number', number, len(word)) if word else None
         if place == 'Bytes':
             digits = run_from(text, at, HEX)
             if len(digits) == 1:
-                self.refuse('BadToken', at)
+                refuse('BadToken', at)
             return self.taken('byte', bytes.fromhex(digits.decode()), 2) if digits else None
         in_value = place in ('Value', 'After')
         word = run_from(text, at, NAME_IN_VALUE if in_value else NAME)
@@ -143,7 +144,7 @@ class Tokens:
             return self.taken('label', word, len(word) + 1)
         begins = place in ('Props', 'PropsLabel', 'Nodes', 'NodesLabel') or not is_open
         if word in PREPROCESSOR and begins:
-            self.refuse('LeftOut', at)
+            refuse('LeftOut', at)
         return self.taken('name', word, len(word)) if word else None
 
     def string(self):
@@ -160,7 +161,7 @@ class Tokens:
             else:
                 at += 1
         if at >= len(text):
-            self.refuse('BadToken', self.at)
+            refuse('BadToken', self.at)
         return bytes(out), at + 1
 
     def escape(self, at):
@@ -168,11 +169,11 @@ class Tokens:
         octal = run_from(self.text, at, OCTAL)
         if octal:
             if int(octal, 8) > 255:
-                self.refuse('BadToken', self.at)
+                refuse('BadToken', self.at)
             return int(octal, 8), at + len(octal)
         if self.text[at:at + 1] != b'x':
             return ESCAPES.get(self.text[at], self.text[at]), at + 1
-        digits = run_from(self.text, at + 1, HEX) or self.refuse('BadToken', self.at)
+        digits = run_from(self.text, at + 1, HEX) or refuse('BadToken', self.at)
         return int(digits, 16), at + 1 + len(digits)
 
 
@@ -185,15 +186,12 @@ class Source:
         self.root, self.open, self.labels, self.pending = Node(b''), [], {}, []
         self.target = self.name = self.value = None
 
-    def refuse(self, kind, at):
-        raise Refused(f'{kind} {at}')
-
     def read(self):
         while self.place != 'End':
             kind, held, at = self.tokens.next(self.place, self.open)
             then = FOLLOWS[self.place].get(kind)
             if then is None or (kind == '&ref' and self.open and self.name == b'phandle'):
-                self.refuse('Unexpected', at)
+                refuse('Unexpected', at)
             self.take(kind, held, at)
             self.place = then if kind != '}' or self.open else 'TopClose'
         return resolve(self.root, self.labels, len(self.tokens.text))
@@ -225,7 +223,7 @@ class Source:
 
     def number(self, worth_it, at):
         if worth_it >> (32 if self.place == 'Cells' else 64):
-            self.refuse('NumberTooLarge', at)
+            refuse('NumberTooLarge', at)
         if self.place == 'Cells':
             self.value.append(struct.pack('>I', worth_it))
 
@@ -251,9 +249,9 @@ class Source:
             node = parent.by_name.get(self.name) or Node(self.name, parent)
         for label, label_at in self.pending:
             if self.labels.get(label, node) is not node:
-                self.refuse('DuplicateLabel', label_at)
+                refuse('DuplicateLabel', label_at)
         if len(self.open) == DEEPEST:
-            self.refuse('TooDeep', at)
+            refuse('TooDeep', at)
         if self.target is None and node.name not in node.parent.by_name:
             node.parent.add(node)
         self.labels.update((label, node) for label, _ in self.pending)
@@ -278,7 +276,7 @@ def resolve(root, labels, length):
                     continue
                 kind, label, at = part
                 if label not in labels:
-                    raise Refused(f'NoSuchLabel {at}')
+                    refuse('NoSuchLabel', at)
                 target = labels[label]
                 while kind == 'Cells' and target.phandle() is None:
                     if struct.pack('>I', least) not in taken:
@@ -289,7 +287,7 @@ def resolve(root, labels, length):
             prop[1] = b''.join(prop[1])
     there = [node.phandle() for node in nodes if node.phandle() is not None]
     if len(set(there)) < len(there):
-        raise Refused(f'DuplicatePhandle {length}')
+        refuse('DuplicatePhandle', length)
     return root
 
 
@@ -297,7 +295,7 @@ def read_source(text):
     try:
         text.decode()
     except UnicodeDecodeError as error:
-        raise Refused(f'NotText {error.start}') from None
+        refuse('NotText', error.start)
     return Source(text).read()
 
 
