@@ -291,13 +291,12 @@ def resolve(root, labels, length):
     return root
 
 
-def read_source(text):
+def read_tree(text):
+    """The tree of a source or of a blob."""
+    if text[:4] == MAGIC:
+        return read_blob(text)
     try:
         text.decode()
     except UnicodeDecodeError as error:
         refuse('NotText', error.start)
     return Source(text).read()
-
-
-def read_tree(text):
-    return read_blob(text) if text[:4] == MAGIC else read_source(text)
