@@ -87,12 +87,16 @@ class Foreseen:
                 raise Ends(8, 'ReadFault')
         self.cleared = True
 
+    def leave_changed(self, name):
+        """What the session makes or changes itself isn't followed here."""
+        for path in (self.call.device, self.plan_path()):
+            if same(name, path) or name.startswith(path + '/'):
+                raise Unsure('a file that the session changes')
+
     def read_file(self, name, shown=None):
         """A file's bytes, None where it isn't there."""
         shown = name if shown is None else shown
-        changed = self.call.device, self.plan_path()
-        if any(same(name, path) or name.startswith(path + '/') for path in changed):
-            raise Unsure('a file that the session changes')
+        self.leave_changed(name)
         try:
             with open(name, 'rb') as file:
                 text = file.read(LIMIT + 1)
@@ -112,6 +116,7 @@ class Foreseen:
 
     def read_menu(self, folder, shown):
         """The entries of a folder, each with its name."""
+        self.leave_changed(folder)
         try:
             names = sorted(os.listdir(os.fsencode(folder) + b'/'))
         except FileNotFoundError:

@@ -1,5 +1,5 @@
-"""Runs the program on damaged input: fuzz.py ROOT FOLDER SEED COUNT FIRST PROGRAM .., where FOLDER
-is one to work in. tests/fuzz/run says what is looked at."""
+"""Runs the program on damaged input: fuzz.py ROOT FOLDER SEED COUNT FIRST STOP PROGRAM .., where
+FOLDER is one to work in, and STOP is `yes` or `no`. tests/fuzz/run says what is looked at."""
 import os
 import shutil
 import sys
@@ -155,15 +155,17 @@ def told(counter):
 
 
 def main():
-    root, folder, seed, count, first, *program = sys.argv[1:]
+    root, folder, seed, count, first, stop, *program = sys.argv[1:]
     corpus = Corpus(root)
     os.chdir(folder)
     fuzz = Fuzz(corpus, Machine([os.fsencode(word) for word in program]), int(seed))
-    for number in range(int(first), int(first) + int(count)):
-        fuzz.try_one(number)
+    tried = 0
+    while tried < int(count) and not (fuzz.findings and stop == 'yes'):
+        fuzz.try_one(int(first) + tried)
+        tried += 1
     print(f'looked at by their forms alone: {fuzz.unsure}; left out, as boots of more than 1,000 '
           f'rounds: {fuzz.left_out}')
-    print(fuzz.summary(count))
+    print(fuzz.summary(tried))
     return 1 if fuzz.findings else 0
 
 

@@ -111,7 +111,7 @@ class Tokens:
             return self.taken('&ref', name, 1 + len(name))
         if text[at:at + 1] == b'"':
             value, end = self.string()
-            return self.taken('string', value, end - at)
+            return self.taken('string', value + b'\0', end - at)
         return self.run(place, is_open) or self.sign(place)
 
     def taken(self, kind, held, length):
@@ -152,14 +152,11 @@ class Tokens:
         text, at, out = self.text, self.at + 1, bytearray()
         while at < len(text) and text[at:at + 1] != b'"':
             plain = run_from(text, at, PLAIN)
-            if plain:
-                out += plain
-                at += len(plain)
-            elif at + 1 < len(text):
-                byte, at = self.escape(at + 1)
+            out += plain
+            at += len(plain)
+            if not plain:
+                byte, at = self.escape(at + 1) if at + 1 < len(text) else (0, at + 1)
                 out.append(byte)
-            else:
-                at += 1
         if at >= len(text):
             refuse('BadToken', self.at)
         return bytes(out), at + 1
@@ -178,8 +175,8 @@ class Tokens:
 
 
 class Source:
-    """Reads one source. `open` are the nodes whose bodies are open, `pending` the labels that wait
-    for their node, `target` the node of a body at the outermost level."""
+    """Reads one source. `open` are the nodes with open bodies, `pending` the labels that wait for
+    their node, `target` the node of a body at the outermost level."""
 
     def __init__(self, text):
         self.tokens, self.place = Tokens(text), 'Start'
@@ -217,7 +214,7 @@ class Source:
         elif kind == 'number':
             self.number(held, at)
         elif kind in ('string', 'byte'):
-            self.value.append(held + (b'\0' if kind == 'string' else b''))
+            self.value.append(held)
         if place in ('PropName', 'After') and kind == ';':
             self.open[-1].set(self.name, self.value)
 
@@ -285,7 +282,7 @@ def resolve(root, labels, length):
                     least += 1
                 prop[1][place] = target.path() + b'\0' if kind == 'Value' else target.phandle()
             prop[1] = b''.join(prop[1])
-    there = [node.phandle() for node in nodes if node.phandle() is not None]
+    there = [node.phandle() for node in nodes if node.phandle()]
     if len(set(there)) < len(there):
         refuse('DuplicatePhandle', length)
     return root
