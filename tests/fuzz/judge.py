@@ -233,8 +233,9 @@ def judge(run, wanted, got, before, plan_before):
     """What is wrong with a run, a line each."""
     if got.fault:
         return [got.fault]
-    found = list(judge_answer(run, wanted, got))
-    found += judge_errors(wanted.foreseen.call, got)
+    foreseen, found = wanted.foreseen, list(judge_answer(run, wanted, got))
+    found += judge_errors(foreseen.call, got)
     found += judge_device(wanted, got, before)
-    found += judge_plan(wanted, got, plan_before)
+    if foreseen.plan_path() != foreseen.call.device:
+        found += judge_plan(wanted, got, plan_before)
     return found

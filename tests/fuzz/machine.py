@@ -6,6 +6,10 @@ from folder import FOLDER, content
 from judge import Got, shown
 
 
+# Seconds by the clock, after which a run is said to have no end.
+LONGEST = 600
+
+
 def memory_limit(length):
     return (32 << 20) + 100 * length
 
@@ -42,9 +46,9 @@ class Machine:
         command = [b'prlimit', *limits, b'--', *self.program, *words]
         self.is_late = False
         self.child = os.posix_spawnp('prlimit', command, os.environ, file_actions=files)
-        signal.setitimer(signal.ITIMER_REAL, 30 + 20 * seconds)
+        signal.alarm(LONGEST)
         _, status, used = os.wait4(self.child, 0)
-        signal.setitimer(signal.ITIMER_REAL, 0)
+        signal.alarm(0)
         return status, used.ru_utime + used.ru_stime
 
     def run(self, run, words, call, places):
