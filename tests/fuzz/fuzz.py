@@ -160,13 +160,16 @@ def main():
     os.chdir(folder)
     fuzz = Fuzz(corpus, Machine([os.fsencode(word) for word in program]), int(seed))
     tried = 0
-    while tried < int(count) and not (fuzz.findings and stop == 'yes'):
-        fuzz.try_one(int(first) + tried)
-        tried += 1
+    try:
+        while tried < int(count) and not (fuzz.findings and stop == 'yes'):
+            fuzz.try_one(int(first) + tried)
+            tried += 1
+    except KeyboardInterrupt:
+        print('interrupted')
     print(f'looked at by their forms alone: {fuzz.unsure}; left out, as boots of more than 1,000 '
           f'rounds: {fuzz.left_out}')
     print(fuzz.summary(tried))
-    return 1 if fuzz.findings else 0
+    return 1 if fuzz.findings or (tried < int(count) and stop == 'no') else 0
 
 
 if __name__ == '__main__':
