@@ -1,0 +1,241 @@
+"""Says what is wrong with what a run of the program left, beside what is wanted of it."""
+import re
+
+from device import Strides, Table, Targets, passing
+from folder import content
+from foresee import Foreseen
+from words import Call
+
+# Each fault line, where no more is known of it than its form.
+FAULTS = {
+    1: rb'BadWords [0-9]+',
+    2: rb'BadTree (NotBlob|Version|OutOfBounds (Total|Struct|Strings|Reserve)|(NotText|BadToken'
+       rb'|BadName|LeftOut|Unexpected|NumberTooLarge|TooDeep|DuplicateLabel|NoSuchLabel'
+       rb'|DuplicatePhandle) [0-9]+)',
+    3: rb'BadLayout (NoState|(Missing|BadProp) [a-z-]+|BadType|BadReg|Overlap|NoBackend|TooSmall'
+       rb'|Unaligned|OutOfDevice|AreaTooLong|NameTwice)',
+    4: rb'BadVariable .* (NoSuchVariable|NotNumber|TooLarge|NoSuchName|NotMac|TooLong)',
+    5: rb'FileMissing .*',
+    6: rb'FileFault .*',
+    7: rb'FileTooLong .*',
+    8: rb'ReadFault',
+    9: rb'WriteFault [0-2]',
+    10: rb'NoTarget',
+    11: rb'StartFailed [A-Za-z0-9_-]+',
+    13: rb'BadSettings ((BadLine|TargetTwice|BadNumber|BadEvent) [0-9]+|NoTargets'
+        rb'|(NoSuchVariable|NotUint32) .+)',
+    17: rb'BadKey (None|Empty|BadHex)',
+    18: rb'NoGood [0-9]+',
+    20: rb'NoMemory',
+}
+# The text of a session that was done, likewise.
+DONE = {
+    'raw': rb'(none|([0-9a-f]{2})*)\n|',
+    'state': rb'.*\n|',
+    'menu': rb'.*\n|',
+    'mark-good': rb'good [A-Za-z0-9_-]+ [0-9]+\n',
+    'boot': rb'start [A-Za-z0-9_-]+ left [0-9]+ tries [0-9]+\n',
+    'help': rb'bbx DEVICE GEOMETRY COMMAND .*\n',
+    'version': rb'bbx [0-9.]+\n',
+}
+STATUSES = {0, 14, *FAULTS}
+
+
+class Got:
+    """What a run left: its status, or else in `fault` why it has none; what it sent, the device
+    and the plan."""
+
+    def __init__(self):
+        self.status = self.fault = self.device = self.plan = None
+        self.text = self.errors = b''
+
+    def facts(self):
+        return self.status, self.text, self.errors, self.device, self.plan
+
+
+def prepare(run):
+    """What is wanted of a run, and where its device and its plan are."""
+    call = Call(run.argv)
+    foreseen = Foreseen(call)
+    device = 'dev.img' if call.device is None else call.device
+    base = content(device)
+    if foreseen.opened and not call.read_only:
+        base = (base or b'').ljust(call.geometry[2], b'\xff')
+    return Wanted(foreseen, base), (device, foreseen.plan_path())
+
+
+class Wanted:
+    """What is wanted of a run on a device with the bytes `base`: one of `answers`, each a status
+    and a text, and one of `plans`. None stands for what isn't known. `writes` says whether copies
+    have to be written, `saves` whether for a save, and `area` is what all of them pass then."""
+
+    def __init__(self, foreseen, base):
+        self.foreseen, self.base, self.layout = foreseen, base, foreseen.layout
+        self.answers = self.plans = self.area = None
+        self.writes = self.saves = False
+        command, ends = foreseen.command, foreseen.ends
+        if ends:
+            self.answers = [(ends.status, fault(ends.status, line)) for line in ends.lines]
+        elif foreseen.sure and command and command.name == 'menu':
+            lines = [name + b' ' + entry.title() + b'\n' for name, entry in foreseen.menu]
+            self.answers = [(0, b''.join(lines))]
+        elif foreseen.sure and command and command.name == 'raw':
+            self.want_raw(command)
+        elif foreseen.sure and command:
+            self.want_state(command)
+
+    def want_raw(self, command):
+        self.layout = Strides(command, self.foreseen.call.geometry)
+        found = [area for area in passing(self.layout, self.base, None) if area is not None]
+        text = (found[0].hex() if found else 'none') + '\n'
+        if command.area is not None:
+            text, self.area, self.writes, self.saves = '', command.area, True, True
+        self.answers = [(0, text.encode())]
+
+    def want_state(self, command):
+        foreseen = self.foreseen
+        found = passing(self.layout, self.base, foreseen.key)
+        loaded = next((area for area in found if area is not None), None)
+        first = self.layout.defaults() if loaded is None else loaded
+        table = Table(self.layout, first)
+        if command.name == 'state':
+            status, text = 0, table.act(command.actions)
+        elif command.name == 'boot':
+            targets = Targets(foreseen.settings, table)
+            cause = command.given.get('cause')
+            status, text, self.plans = targets.boot(cause, foreseen.plans)
+        else:
+            status, text = Targets(foreseen.settings, table).mark_good()
+        self.answers = [(status, text if isinstance(text, bytes) else text.encode())]
+        last = first if status in (10, 18) else bytes(table.area)
+        self.saves = last != first
+        if self.saves or loaded is not None:
+            self.area = last
+            self.writes = self.saves or any(area != last for area in found)
+
+
+def fault(status, line):
+    return f'fault {status} {line}\n'.encode(errors='surrogateescape')
+
+
+def shown(text):
+    return repr(text[:200])[1:] + (' ..' if len(text) > 200 else '')
+
+
+def judge_answer(run, wanted, got):
+    """What is wrong with the status and the text."""
+    call, answers = wanted.foreseen.call, wanted.answers
+    if got.status not in STATUSES:
+        yield f'it ends with {got.status}, which no status is'
+        return
+    if got.status == 14 and run.output == 'kept' or got.status == 20 and not run.starved:
+        yield f'status {got.status} has no cause'
+        return
+    if answers and run.output != 'kept':
+        answers = [(14 if text else status, b'') for status, text in answers]
+    if run.starved and got.status == 20:
+        answers = [(20, b'fault 20 NoMemory\n' if run.output == 'kept' else b'')]
+    if answers and call.read_only and wanted.writes:
+        answers = [] if wanted.saves else answers
+        lines = [fault(9, f'WriteFault {copy}') for copy in range(wanted.layout.copies)]
+        answers = answers + [(9, line) if run.output == 'kept' else (14, b'') for line in lines]
+    if answers is None:
+        yield from judge_form(run, call, got)
+    elif not any(got.status == one and same_text(wanted, got.text, text) for one, text in answers):
+        there = ' or '.join(f'{status} and {shown(text)}' for status, text in answers)
+        yield f'it ends with {got.status} and sends {shown(got.text)}, and not {there}'
+
+
+def same_text(wanted, text, other):
+    """A menu's order isn't looked at."""
+    if wanted.foreseen.menu is None:
+        return text == other
+    return sorted(text.split(b'\n')) == sorted(other.split(b'\n'))
+
+
+def judge_form(run, call, got):
+    """What is wrong with a text of which no more is known than its form."""
+    name = call.words[0] if call.kind == 'session' and call.words else call.kind
+    form = DONE.get(name, b'')
+    if got.status == 14:
+        form = b''
+    elif got.status:
+        front = rb'tries [0-9]+\n' if got.status == 11 else b''
+        form = front + rb'fault %d (?:%s)\n' % (got.status, FAULTS[got.status])
+    if not re.fullmatch(form if run.output == 'kept' else b'', got.text, re.S):
+        yield f'it ends with {got.status} and sends {shown(got.text)}'
+    if got.status == 0 and not got.text and name == 'state' and run.output == 'kept' and asks(call):
+        yield 'it ends with 0 and sends nothing, although it is asked for a variable'
+
+
+def asks(call):
+    """Whether there is a `-g`, which always has a line."""
+    return '-g' in call.words or any(word.startswith('--get') for word in call.words)
+
+
+def judge_errors(call, got):
+    """Standard error has the sentence of --explain, and nothing else."""
+    form = rb'bbx: .+\n' if call.explain and got.status else b''
+    if got.status == 20 or not call.is_text:
+        form = rb'(bbx: .+\n)?'
+    if not re.fullmatch(form, got.errors, re.S):
+        yield f'standard error has {shown(got.errors)}'
+
+
+def judge_device(wanted, got, before):
+    """What is wrong with the device afterwards."""
+    foreseen, base, after = wanted.foreseen, wanted.base, got.device
+    if not foreseen.opened or foreseen.call.read_only:
+        base = before
+    may_write = not foreseen.ends and foreseen.opened and not foreseen.call.read_only
+    if not may_write or (foreseen.sure and not wanted.writes):
+        if after != base:
+            yield 'the device was changed'
+    elif after is None or len(after) != len(base):
+        yield 'the device has another length'
+    elif foreseen.sure:
+        yield from judge_copies(wanted, got)
+
+
+def judge_copies(wanted, got):
+    layout, base, after = wanted.layout, wanted.base, got.device
+    at, end = layout.at, layout.at + layout.copies * layout.unit
+    if after[:at] != base[:at] or after[end:] != base[end:]:
+        yield 'the device was changed outside of the copies'
+    if got.status == 20:
+        return
+    if any(area != wanted.area for area in passing(layout, after, wanted.foreseen.key)):
+        yield 'a copy does not pass what was to be saved'
+    image = layout.image(layout.record(wanted.area, wanted.foreseen.key))
+    for copy in range(layout.copies if layout.storage == 'stride' else 0):
+        start, end = layout.region(copy)
+        if after[start:end] not in (base[start:end], image + base[start + len(image):end]):
+            yield f'copy {copy} was changed after its record'
+
+
+def judge_plan(wanted, got, before):
+    """What is wrong with the plan's file."""
+    foreseen = wanted.foreseen
+    if not foreseen.cleared:
+        if got.plan != before:
+            yield 'the plan of an earlier start was changed'
+    elif not foreseen.sure:
+        if (got.plan is None) != (got.status != 0) and got.status not in (14, 20):
+            yield f'there is {"no" if got.plan is None else "a"} plan after status {got.status}'
+    elif wanted.plans and got.status in (0, 14):
+        if got.plan not in wanted.plans:
+            yield f'the plan is {shown(got.plan or b"")}, and not {shown(wanted.plans[0])}'
+    elif got.plan is not None and got.status != 20:
+        yield f'there is a plan after status {got.status}'
+
+
+def judge(run, wanted, got, before, plan_before):
+    """What is wrong with a run, a line each."""
+    if got.fault:
+        return [got.fault]
+    foreseen, found = wanted.foreseen, list(judge_answer(run, wanted, got))
+    found += judge_errors(foreseen.call, got)
+    found += judge_device(wanted, got, before)
+    if foreseen.plan_path() != foreseen.call.device:
+        found += judge_plan(wanted, got, plan_before)
+    return found

@@ -1,0 +1,275 @@
+"""Makes a run of the program from its seed and number: words, files and a device, most of them
+damaged."""
+from devices import device, hurt_device, strides
+from folder import FOLDER
+from hurt import Dice, hurt
+from shapes import SHAPES
+from source import read_tree
+from tree import MAGIC, write_blob
+from values import geometry_of
+
+VALUES = ['0', '1', '2', '3', '7', '10', '255', '256', '0x10', '4294967295', '4294967296', '-1', '',
+          'x', '007', ' 1', '99999999999999999999999', 'primary', 'backup', 'spare', 'ab', 'abcd',
+          '00:11:22:33:44:55', 'AA:bb:CC:dd:EE:0f', '00:11:22:33:44', 'abcde', '$`"\\', '\u00e4',
+          'a\nb', 'a' * 1024]
+SETTINGS = [b'retry=1', b'disable_on_zero_attempts=1', b'reset_attempts=all-zero',
+            b'reset_attempts=reset power-on', b'reset_priorities=all-zero', b'default_attempts=2',
+            b'system0.boot=m/', b'system1.default_priority=5']
+MENU_NAMES = [b'a.conf', b'b-1.2.conf', b'b-1.10.conf', b'b-1.2~rc.conf', b'z.conf', b'.conf',
+              b'x.txt', b'01.conf', b'a^1.conf', b'B-1.conf', b'a\nb.conf', '\u00e4.conf'.encode()]
+OPTIONS = [b'-d', b'-g', b'-s', b'-i', b'-n', b'-k', b'-c', b'--cause', b'--dir', b'', b'--', b'-x',
+           b'--set=', b'--dump-shell', b'\xff']
+BAD_NUMBERS = [b'4294967296', b'65536', b'0x', b'99999999999999999999', b'-1', b'', b'0x1g']
+OTHER_DEVICES = [b'm', b'/dev/null', b'none/dev.img', b'set.txt/dev.img', b'loader', b'./dev.img',
+                 b'']
+PLANS = [b'boot.plan'] * 4 + [b'none/boot.plan', b'm', b'dev.img', b'', b'set.txt/a']
+GEOMETRIES = [b'ov:0', b'ov:268435457', b'ov:', b'er:16:64:192', b'er:15:15:45', b'er:64:128:384',
+              b'er:16384:4194304:8388608', b'er:32:256:768', b'er:16:32:33', b'ov:0x400', b'ov:-1',
+              b'er:1:2:3:4', b'ov:1', b'ov:3', b'ov:192', b'ov:1000']
+LONGEST_WORD = 131071
+LONGEST_FILE = 1048576
+
+
+class Run:
+    """One run: all words after the program's name (`argv`), the files, the device's bytes (None:
+    there is none), and the output, which is kept, closed or full. `starved` is the memory that it
+    has, in bytes, where that is less than the limit."""
+
+    def __init__(self):
+        self.front, self.device, self.geometry, self.words = [], b'dev.img', b'', []
+        self.argv, self.files, self.bytes = [], {}, None
+        self.output, self.starved = 'kept', None
+
+
+class Maker:
+    def __init__(self, corpus, seed, number):
+        self.corpus, self.dice, self.run = corpus, Dice(seed, number), Run()
+
+    def make(self):
+        dice, run = self.dice, self.run
+        dice.pick([self.case] * 6 + [self.board] * 10 + [self.raw] * 3 + [self.menu] * 2)()
+        if dice.once_in(60):
+            self.big()
+        ways = [self.hurt_file] * 10 + [self.hurt_words] * 3 + [self.hurt_bytes] * 6
+        for _ in range(dice.pick([0, 1, 1, 1, 1, 2, 2, 3])):
+            dice.pick(ways + [self.hurt_geometry])()
+        self.put_in_front()
+        if dice.once_in(40):
+            run.output = dice.pick(['closed', 'full'])
+        geometry = geometry_of(run.geometry.decode(errors='replace'))
+        if geometry and geometry[2] > 1 << 24:
+            run.geometry = b'ov:268435457'
+        run.argv = list(map(harmless, run.front + [run.device, run.geometry] + run.words))
+        for name, text in run.files.items():
+            if text is not FOLDER:
+                run.files[name] = text.replace(b'.boot=/', b'.boot=./')[:LONGEST_FILE + 24]
+        return run
+
+    def put_in_front(self):
+        dice, run = self.dice, self.run
+        if dice.once_in(12):
+            run.front.append(b'--read-only')
+        if dice.once_in(12):
+            run.front.insert(0, b'--explain')
+        if dice.once_in(10 if run.words[:1] == [b'boot'] else 60):
+            run.front.insert(dice.below(len(run.front) + 1), b'--plan=' + dice.pick(PLANS))
+        if dice.once_in(60):
+            run.device = dice.pick(OTHER_DEVICES)
+
+    # What a run begins with.
+
+    def case(self):
+        """What a case of tests/cli has."""
+        run, case = self.run, self.dice.pick(self.corpus.cases)
+        words = list(case.words)
+        while len(words) > 1 and words[0].startswith(b'--'):
+            run.front.append(words.pop(0))
+        words += [b''] * (2 - len(words))
+        run.device, run.geometry, run.words = words[0], words[1], words[2:]
+        run.files, run.bytes = dict(case.files), case.before
+
+    def board(self):
+        """A session of new words on a device that a layout's copies stand on."""
+        dice, run, corpus = self.dice, self.run, self.corpus
+        command = dice.pick([b'state'] * 5 + [b'boot'] * 3 + [b'mark-good'])
+        is_any = command == b'state' or dice.once_in(9)
+        board = dice.pick(corpus.boards if is_any else corpus.booting)
+        layout, key = board.layout, None
+        run.geometry, run.files = board.geometry, dict(board.files)
+        text = write_blob(read_tree(board.tree)) if dice.once_in(3) else board.tree
+        name = b'board.dtb' if text[:4] == MAGIC else b'board.dts'
+        run.files[name] = text
+        words = [dice.pick([b'-i', b'-i', b'--input']), name]
+        if layout.keyed or dice.once_in(12):
+            key = dice.pick([b'Jefe', b'k', bytes(65)])
+            run.files[b'key.hex'] = key.hex().encode() + dice.pick([b'', b'\n', b' \r\n'])
+            words += [b'-k', b'key.hex']
+        if dice.once_in(9):
+            words += [b'-n', dice.pick([layout.name, b'state', b'other', b''])]
+        if command == b'state':
+            words = self.actions(layout, words)
+        else:
+            self.targets()
+            words += [b'-c', b'set.txt']
+        if command == b'boot' and dice.once_in(3):
+            words += [b'--cause', dice.pick([b'power-on', b'reset', b'other'])]
+        run.words = [command] + words
+        run.bytes = device(dice, layout, key)
+
+    def actions(self, layout, words):
+        dice, pieces = self.dice, [words]
+        names = [var.name for var in layout.vars] or [b'nope']
+        for _ in range(dice.among(0, 4)):
+            name = dice.pick(names)
+            if dice.once_in(12):
+                name = dice.pick([b'nope', b'', b'bootstate', name + b'.'])
+            set_to = name + b'=' + self.value(layout, name)
+            pieces.append(dice.pick([
+                [b'-g', name], [b'-g', name], [b'--get=' + name], [b'-d'], [b'--dump-shell'],
+                [b'-s', set_to], [b'--set=' + set_to], [b'-s', set_to, b'-g', name]]))
+        if dice.once_in(3):
+            pieces.reverse()
+        return [word for piece in pieces for word in piece]
+
+    def value(self, layout, name):
+        dice = self.dice
+        kinds = [var for var in layout.vars if var.name == name]
+        if not kinds or dice.once_in(4):
+            return dice.pick(VALUES).encode()
+        if kinds[0].kind == b'enum32':
+            return dice.pick(kinds[0].names)
+        if kinds[0].kind == b'mac':
+            return b':'.join(b'%02x' % byte for byte in dice.bytes(6))
+        if kinds[0].kind == b'string':
+            return b'abcdefgh'[:dice.below(kinds[0].size + 1)]
+        return b'%d' % dice.pick([dice.below(4), dice.below(256), dice.below(1 << 32)])
+
+    def targets(self):
+        """Settings and entries."""
+        dice, files = self.dice, self.run.files
+        if dice.once_in(3):
+            files[b'set.txt'] = dice.pick(self.corpus.pools[b'txt'])
+        lines = [line for line in SETTINGS if dice.once_in(8)]
+        files[b'set.txt'] = files.get(b'set.txt', b'').rstrip(b'\n') + b'\n' + b''.join(
+            b'global.bootchooser.' + line + b'\n' for line in lines)
+        for name in (b'system0', b'system1'):
+            if dice.below(5):
+                files[b'loader/entries/' + name + b'.conf'] = self.entry()
+        if dice.once_in(3):
+            self.folder()
+
+    def entry(self):
+        if self.dice.once_in(3):
+            return b'linux /zImage\noptions root=/dev/mmcblk0p1 rw\n'
+        return self.dice.pick(self.corpus.pools[b'conf'])
+
+    def folder(self):
+        for _ in range(self.dice.among(0, 5)):
+            self.run.files[b'm/' + self.dice.pick(MENU_NAMES)] = self.entry()
+
+    def menu(self):
+        dice, run = self.dice, self.run
+        run.geometry = b'ov:%d' % dice.pick([1, 192, 4096])
+        run.words = [b'menu', b'--dir', b'm']
+        self.folder()
+        if dice.once_in(20):
+            run.files[b'm/' + dice.pick([b'n.conf', b'sub'])] = FOLDER
+        if dice.once_in(20):
+            size = dice.pick([9, 65536, 65537, LONGEST_FILE + 1])
+            run.files[b'm/' + dice.pick([b'\xff.conf', b'\xc3x', b'long.conf'])] = b'#' * size
+
+    def raw(self):
+        """A raw record in three strides."""
+        dice, run = self.dice, self.run
+        area = dice.bytes(dice.pick([0, 1, 9, 40, dice.below(300)]))
+        magic, length = dice.pick([0x12345678, 0, 0xffffffff]), len(area)
+        stride = 24 + length + dice.pick([0, 0, 1, 31, 300])
+        size = 3 * stride + dice.below(3)
+        other = dice.bytes(length).hex().encode()
+        run.geometry = b'ov:%d' % size
+        run.words = [b'raw', dice.pick([b'%d', b'0x%x', b'0X%08X']) % magic, b'%d' % length]
+        run.words += dice.pick([[b'-g'], [b'-s', other]])
+        if dice.below(6):
+            run.bytes = strides(dice, magic, area, stride, size)
+
+    # Damage.
+
+    def hurt_file(self):
+        """One of the files, mostly one that a word names."""
+        dice, run = self.dice, self.run
+        named = [word for word in run.words if isinstance(run.files.get(word), bytes)]
+        if run.words[:1] in ([b'boot'], [b'menu']):
+            entries = [name for name, text in run.files.items() if text is not FOLDER]
+            named = named * 3 + [name for name in entries if name.endswith(b'.conf')]
+        if not named:
+            return
+        name = dice.pick(named)
+        text, kind = run.files[name], name.rpartition(b'.')[2]
+        kind = kind if kind in self.corpus.pools else b'dts'
+        if dice.once_in(40):
+            run.files.pop(name)
+            if dice.once_in(2):
+                run.files[name] = FOLDER
+        elif dice.once_in(80):
+            size = LONGEST_FILE + dice.below(2)
+            run.files[name] = text.ljust(size, dice.pick([b'\n', b' ', b'\0', b'0']))
+        else:
+            run.files[name] = hurt(dice, text, kind, self.corpus.pools[kind])
+
+    def hurt_words(self):
+        dice, words = self.dice, self.run.words
+        at, how = dice.below(len(words) + 1), dice.below(12)
+        if at == len(words) or how == 0:
+            words.insert(at, dice.pick(OPTIONS + [dice.pick(self.corpus.words)]))
+        elif how in (1, 2):
+            del words[at]
+        elif how == 3:
+            words.insert(at, words[at])
+        elif how == 4:
+            other = dice.below(len(words))
+            words[at], words[other] = words[other], words[at]
+        elif how == 5:
+            del words[at:]
+        elif how == 6:
+            words[at] = dice.pick(self.corpus.words)
+        elif how == 7:
+            words[at] = dice.pick(BAD_NUMBERS)
+        elif how == 8:
+            words[at] = (words[at] or b'a') * dice.pick([2, 40, LONGEST_WORD])
+        else:
+            words[at] = hurt(dice, words[at], b'txt', self.corpus.words) or b'='
+
+    def hurt_bytes(self):
+        """The device."""
+        run = self.run
+        if run.bytes is None:
+            run.bytes = self.dice.pick(self.corpus.devices)
+        else:
+            run.bytes = hurt_device(self.dice, run.bytes)
+
+    def hurt_geometry(self):
+        dice, run = self.dice, self.run
+        size = len(run.bytes or b'') or 192
+        near = [b'ov:%d' % (size + dice.among(-1, 1)), b'er:16:16:%d' % (size // 16 * 16)]
+        run.geometry = dice.pick([hurt(dice, run.geometry, b'hex', []), dice.pick(near),
+                                  dice.pick(GEOMETRIES)])
+
+    def big(self):
+        """A source of one shape, up to the longest that is read."""
+        dice, run = self.dice, self.run
+        size = dice.pick([20000, 100000, 300000, LONGEST_FILE])
+        run.files[b'big.dts'] = dice.pick(SHAPES)(dice, size)[:LONGEST_FILE + dice.below(2)]
+        run.words = [b'state', b'-i', b'big.dts', b'-d']
+        run.geometry, run.bytes = b'ov:192', None
+        if dice.once_in(2):
+            run.starved = dice.among(8, 24) << 20
+
+
+def harmless(word):
+    """No word leads out of the folder, but to /dev/null; none has a zero byte or is too long."""
+    word = word.replace(b'\0', b'')
+    for front in (b'', b'--plan=', b'--input='):
+        if word.startswith(front + b'/') and word != b'/dev/null':
+            word = front + b'.' + word[len(front):]
+    word = b'.' if word == b'..' else word.replace(b'../', b'.../')
+    return word[:LONGEST_WORD]
