@@ -10,13 +10,13 @@ mount_kernel() {
   dmesg -n 1
 }
 
-# Loads each module that a file names, with its options.
+# Loads each module that a line of the input names, with its options.
 load_modules() {
   local module options
   while read -r module options; do
     # shellcheck disable=SC2086
     modprobe "$module" $options || echo "the module $module can't be loaded"
-  done <"$1"
+  done
 }
 
 # Names each partition /dev/disk/by-partlabel/NAME, as udev does.
