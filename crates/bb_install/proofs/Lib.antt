@@ -1,0 +1,11 @@
+-- Lemmas.
+pub mod Blanking
+pub mod Comparing
+pub mod Counting
+pub mod Making
+pub mod Parting
+pub mod Pieces
+pub mod Places
+pub mod Putting
+pub mod Refusing
+pub mod Standing

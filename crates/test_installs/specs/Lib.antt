@@ -1,0 +1,2 @@
+-- The boards of the tests.
+pub mod Small

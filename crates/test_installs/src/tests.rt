@@ -1,0 +1,6 @@
+mod blocks;
+mod board;
+mod compared;
+mod digests;
+mod slots;
+mod strides;

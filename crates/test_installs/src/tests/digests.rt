@@ -1,0 +1,39 @@
+use bb_install::{digest_of, has_digest};
+use std::test::Fail;
+
+// FIPS 180-4, and the examples that NIST publishes with it: SHA-256 of "abc" and of no text.
+fn of_abc() -> [u8; 32] {
+    [
+        0xba, 0x78, 0x16, 0xbf, 0x8f, 0x01, 0xcf, 0xea, 0x41, 0x41, 0x40, 0xde, 0x5d, 0xae, 0x22,
+        0x23, 0xb0, 0x03, 0x61, 0xa3, 0x96, 0x17, 0x7a, 0x9c, 0xb4, 0x10, 0xff, 0x61, 0xf2, 0x00,
+        0x15, 0xad,
+    ]
+}
+
+fn of_nothing() -> [u8; 32] {
+    [
+        0xe3, 0xb0, 0xc4, 0x42, 0x98, 0xfc, 0x1c, 0x14, 0x9a, 0xfb, 0xf4, 0xc8, 0x99, 0x6f, 0xb9,
+        0x24, 0x27, 0xae, 0x41, 0xe4, 0x64, 0x9b, 0x93, 0x4c, 0xa4, 0x95, 0x99, 0x1b, 0x78, 0x52,
+        0xb8, 0x55,
+    ]
+}
+
+#[test]
+fn published_digests(rt: HostRuntime) -> Result<(), Fail> {
+    assert!(rt; digest_of(b"abc") == of_abc());
+    assert!(rt; digest_of(b"") == of_nothing());
+    assert!(rt; has_digest(b"abc", &of_abc()));
+    assert!(rt; has_digest(b"", &of_nothing()));
+    assert!(rt; !has_digest(b"abd", &of_abc()));
+    Ok(())
+}
+
+#[test]
+fn each_byte_of_a_digest_counts(rt: HostRuntime) -> Result<(), Fail> {
+    for place in 0..32 {
+        let mut digest = of_abc();
+        digest[place] ^= 1;
+        assert!(rt; !has_digest(b"abc", &digest));
+    }
+    Ok(())
+}
