@@ -18,7 +18,7 @@ use Rattle.bb_flash.proofs.Tearing.{touched_pages-some}
 use Rattle.bb_bucket.specs.Front.{is_lost}
 use Rattle.bb_bucket.proofs.Pages.{div_moved, page_count_whole}
 use Rattle.bb_install.specs.Compared.{IsDifference, IsDifferenceAt, IsUnequal, IsUnequalAt}
-use Rattle.bb_install.specs.Holding.{IsComparison, IsFirstDifference, SlotHolds, StandsAt}
+use Rattle.bb_install.specs.Holding.{IsComparison, IsFirstDifference, SlotHolds, HasBytesAt}
 
 -- ---- whether a page is Lost
 
@@ -127,7 +127,7 @@ touched_joined page at (suc m) (suc n) pages some first whole =
     ∙ ap (λ xs. touched_pages page at (suc m) pages ++ xs) (sym (touched_pages-some page (at + suc m) (suc n) pages (omega arith)))
 
 -- bytes after others that stand there in whole pages
-pub stands_joined : (page at : ℕ) (content : Image) (xs ys : List ℕ) → 0 < page → at % page ≡ 0 → length xs % page ≡ 0 → StandsAt page content at xs → StandsAt page content (at + length xs) ys → StandsAt page content at (xs ++ ys)
+pub stands_joined : (page at : ℕ) (content : Image) (xs ys : List ℕ) → 0 < page → at % page ≡ 0 → length xs % page ≡ 0 → HasBytesAt page content at xs → HasBytesAt page content (at + length xs) ys → HasBytesAt page content at (xs ++ ys)
 stands_joined page at content xs ys some first whole early late =
     let size = length-append xs ys in
     record {
@@ -142,7 +142,7 @@ stands_joined page at content xs ys some first whole early late =
           (sym (ap (λ n. health_of page content at n) size ∙ ap worst_of (touched_joined page at (length xs) (length ys) content.health some first whole)) ∙ lost);
     }
 
-pub stands_none : (page at : ℕ) (content : Image) → StandsAt page content at []
+pub stands_none : (page at : ℕ) (content : Image) → HasBytesAt page content at []
 stands_none page at content = record { bytes_are = refl; alive = λ lost. absurd cc }
 
 -- ---- what a read says
@@ -214,14 +214,14 @@ lost_differs page at content bytes out some first more few size reading =
 -- ---- pieces
 
 -- what a piece says after others that stand there
-pub piece_stands : (page at done len : ℕ) (content : Image) (bytes : List ℕ) → 0 < page → at % page ≡ 0 → done % page ≡ 0 → done ≤ length bytes → StandsAt page content at (take done bytes) → IsDifference page content (at + done) (take len (drop done bytes)) None → StandsAt page content at (take (done + len) bytes)
+pub piece_stands : (page at done len : ℕ) (content : Image) (bytes : List ℕ) → 0 < page → at % page ≡ 0 → done % page ≡ 0 → done ≤ length bytes → HasBytesAt page content at (take done bytes) → IsDifference page content (at + done) (take len (drop done bytes)) None → HasBytesAt page content at (take (done + len) bytes)
 piece_stands page at done len content bytes some first whole fits early late =
     let size : length (take done bytes) ≡ done = length-take-le done bytes fits in
-    subst (λ (xs : List ℕ). StandsAt page content at xs) (sym (take-add done len bytes))
+    subst (λ (xs : List ℕ). HasBytesAt page content at xs) (sym (take-add done len bytes))
     (stands_joined page at content (take done bytes) (take len (drop done bytes)) some first (ap (λ n. n % page) size ∙ whole) early
-    (subst (λ (n : ℕ). StandsAt page content (at + n) (take len (drop done bytes))) (sym size) late))
+    (subst (λ (n : ℕ). HasBytesAt page content (at + n) (take len (drop done bytes))) (sym size) late))
 
-pub piece_differs : (page at done len offset : ℕ) (content : Image) (bytes : List ℕ) → 0 < page → at % page ≡ 0 → done % page ≡ 0 → done ≤ length bytes → StandsAt page content at (take done bytes) → IsDifference page content (at + done) (take len (drop done bytes)) (Some offset) → IsDifference page content at bytes (Some (done + offset))
+pub piece_differs : (page at done len offset : ℕ) (content : Image) (bytes : List ℕ) → 0 < page → at % page ≡ 0 → done % page ≡ 0 → done ≤ length bytes → HasBytesAt page content at (take done bytes) → IsDifference page content (at + done) (take len (drop done bytes)) (Some offset) → IsDifference page content at bytes (Some (done + offset))
 piece_differs page at done len offset content bytes some first whole fits early late =
     let part : List ℕ = take len (drop done bytes) in
     let short = length-take len (drop done bytes) in
@@ -239,9 +239,9 @@ piece_differs page at done len offset content bytes some first whole fits early 
         | inr lost ↦ inr (ap (λ a. health_of page content a 1) (sym sum) ∙ lost)
       ];
       before =
-          subst (λ (xs : List ℕ). StandsAt page content at xs) (sym joined)
+          subst (λ (xs : List ℕ). HasBytesAt page content at xs) (sym joined)
           (stands_joined page at content (take done bytes) (take offset part) some first (ap (λ n. n % page) size ∙ whole) early
-          (subst (λ (n : ℕ). StandsAt page content (at + n) (take offset part)) (sym size) late.before));
+          (subst (λ (n : ℕ). HasBytesAt page content (at + n) (take offset part)) (sym size) late.before));
     }
 
 -- what is found of an image at the start of its slot

@@ -2,6 +2,7 @@
 pub mod Blanking
 pub mod Comparing
 pub mod Counting
+pub mod Examples
 pub mod Making
 pub mod Parting
 pub mod Pieces

@@ -19,7 +19,7 @@ use Rattle.bb_bucket.specs.Kind.{LiesOn, part_of}
 use Rattle.bb_bucket.proofs.Pages.{take-drop-part}
 use Rattle.bb_bucket.proofs.Runs.{part_after}
 use Rattle.bb_bucket.proofs.Within.{health_of-part}
-use Rattle.bb_install.specs.Holding.{SlotHolds, StandsAt}
+use Rattle.bb_install.specs.Holding.{SlotHolds, HasBytesAt}
 use Rattle.bb_install.proofs.Putting.{items_front}
 
 fine_alive : (health : Health) → health ≡ Fine → health ≢ Lost
@@ -54,7 +54,7 @@ module _ (geometry : Geometry) (slot : Region) (image : Image) where
       (bytes : List ℕ) (at n : ℕ) (before : Image) → 0 < geometry.page → LiesOn geometry slot →
       length bytes ≤ slot.size → at + n ≤ length bytes →
       part_of geometry.page slot image ≡ put_at geometry.page 0 bytes before →
-      StandsAt geometry.page image (slot.at + at) (take n (drop at bytes))
+      HasBytesAt geometry.page image (slot.at + at) (take n (drop at bytes))
   put_stands bytes at n before some lies small fits is =
       let page : ℕ = geometry.page in
       let size : length (take n (drop at bytes)) ≡ n = length-take-le n (drop at bytes) (omega (arith, length-drop at bytes)) in
@@ -84,12 +84,12 @@ put_holds geometry slot bytes n image before some lies small fits is =
     record {
       fits = omega arith;
       stands =
-          subst (λ (at : ℕ). StandsAt geometry.page image at (take n bytes)) start
+          subst (λ (at : ℕ). HasBytesAt geometry.page image at (take n bytes)) start
           (put_stands geometry slot image bytes 0 n before some lies small (omega arith) is);
     }
 
 -- a part of it that is 0xFF is blank
-pub stands_blank : (page at n : ℕ) (image : Image) → StandsAt page image at (replicate n 255) → IsBlank page image at n
+pub stands_blank : (page at n : ℕ) (image : Image) → HasBytesAt page image at (replicate n 255) → IsBlank page image at n
 stands_blank page at n image stands =
     let size : length {A = ℕ} (replicate n 255) ≡ n = length-replicate {A = ℕ} n 255 in
     record {
@@ -112,7 +112,7 @@ kept_before at bytes r n from to some first whole apart later changes =
     let each = images_beside at (length bytes) r n from to some first whole (inl apart) (torn_of_call at bytes from to later changes) in
     record { same = λ one e last f. each.each one e last f last.image (Cuts-now to.geometry.page last (moment one)) }
 
-pub stands_kept : (page at : ℕ) (bytes : List ℕ) (before image : Image) → IsSameRegion page at (length bytes) before image → StandsAt page before at bytes → StandsAt page image at bytes
+pub stands_kept : (page at : ℕ) (bytes : List ℕ) (before image : Image) → IsSameRegion page at (length bytes) before image → HasBytesAt page before at bytes → HasBytesAt page image at bytes
 stands_kept page at bytes before image same stands = record {
   bytes_are = same.bytes ∙ stands.bytes_are;
   alive = λ lost. stands.alive (ap worst_of (sym same.health) ∙ lost);

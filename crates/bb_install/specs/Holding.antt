@@ -5,14 +5,14 @@ use Rattle.bb_flash.specs.declared.region.Region.{Region}
 use Rattle.bb_flash.specs.Image.{Image, health_of}
 
 -- these bytes stand at a place of a device, in pages of which none is Lost
-pub record StandsAt (page : ℕ) (content : Image) (at : ℕ) (bytes : List ℕ) : Type 0 where
+pub record HasBytesAt (page : ℕ) (content : Image) (at : ℕ) (bytes : List ℕ) : Type 0 where
   pub bytes_are : take (length bytes) (drop at content.bytes) ≡ bytes
   pub alive : health_of page content at (length bytes) ≢ Lost
 
 -- a slot's first bytes are the image, and none of their pages is Lost
 pub record SlotHolds (page : ℕ) (slot : Region) (image : List ℕ) (content : Image) : Type 0 where
   pub fits : length image ≤ slot.size
-  pub stands : StandsAt page content slot.at image
+  pub stands : HasBytesAt page content slot.at image
 
 -- at this offset another byte stands in the slot, or a page is Lost
 abbrev pub DiffersAt : ℕ → Region → List ℕ → Image → ℕ → Type 0

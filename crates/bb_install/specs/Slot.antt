@@ -36,13 +36,13 @@ slot_question tree label geometry layout = record {
   copies = layout.region;
 }
 
--- a value is this string
-abbrev pub is_string : List ℕ → List ℕ → Bool
-is_string text value = option_map_or (λ s. bytes_eq s text) (string_of value) false
+-- a value is a string, and that string is the label
+abbrev pub is_label : List ℕ → List ℕ → Bool
+is_label label value = option_map_or (λ s. bytes_eq s label) (string_of value) false
 
--- the `label` of a node is this string
+-- a node has the label as its property `label`
 abbrev pub has_label : List ℕ → Branch (List ℕ) → Bool
-has_label label b = option_map_or (is_string label) (prop_of (codes "label") b) false
+has_label label b = option_map_or (is_label label) (prop_of (codes "label") b) false
 
 -- the first node in preorder that has the label
 abbrev pub slot_node : SlotQuestion → Option (Branch (List ℕ))

@@ -27,17 +27,17 @@ fn has_label(node: &Node, label: &str) -> bool
     ensures { result ≡ spec.has_label label.now (branch_of node.now) }
 {
     match node.prop("label") {
-        Some(value) => is_string(value, label),
+        Some(value) => is_label(value, label),
         None => false,
     }
 }
 
-// Whether a value is this string.
-fn is_string(value: &[u8], text: &str) -> bool
-    ensures { result ≡ spec.is_string text.now value.now }
+// Whether a value is a string, and that string is the label.
+fn is_label(value: &[u8], label: &str) -> bool
+    ensures { result ≡ spec.is_label label.now value.now }
 {
     match string(value) {
-        Some(string) => string == text.as_bytes(),
+        Some(string) => string == label.as_bytes(),
         None => false,
     }
 }
