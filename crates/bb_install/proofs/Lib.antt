@@ -2,7 +2,9 @@
 pub mod Blanking
 pub mod Comparing
 pub mod Counting
+pub mod Ending
 pub mod Examples
+pub mod Installing
 pub mod Making
 pub mod Parting
 pub mod Pieces
@@ -10,3 +12,4 @@ pub mod Places
 pub mod Putting
 pub mod Refusing
 pub mod Standing
+pub mod Turns

@@ -20,6 +20,7 @@ pub record StopsPaging (len : ℕ) (slot : Region) (pages : List ℕ) (at : ℕ)
     : Type 0 where
   pub calls :
       StopsAmong (piece_ranges len (length pages) slot (div_ceil (length pages) len)) at from to
+  pub inside : at - slot.at ≤ length pages
   pub begun : ForSome (content to) (SlotHolds from.geometry.page slot (take (at - slot.at) pages))
 
 -- each part of a region of this size is blank

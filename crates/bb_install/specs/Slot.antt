@@ -37,12 +37,12 @@ slot_question tree label geometry layout = record {
 }
 
 -- a value is a string, and that string is the label
-abbrev pub is_label : List ℕ → List ℕ → Bool
-is_label label value = option_map_or (λ s. bytes_eq s label) (string_of value) false
+abbrev pub is_slot_label : List ℕ → List ℕ → Bool
+is_slot_label label value = option_map_or (λ s. bytes_eq s label) (string_of value) false
 
 -- a node has the label as its property `label`
 abbrev pub has_label : List ℕ → Branch (List ℕ) → Bool
-has_label label b = option_map_or (is_label label) (prop_of (codes "label") b) false
+has_label label b = option_map_or (is_slot_label label) (prop_of (codes "label") b) false
 
 -- the first node in preorder that has the label
 abbrev pub slot_node : SlotQuestion → Option (Branch (List ℕ))

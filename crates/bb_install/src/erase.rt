@@ -56,8 +56,8 @@ fn erase_part<F: Flash>(slot: Region, at: u32, flash: &mut F) -> Result<(), Slot
         (F.device flash.old) (F.device flash.new)) }
     ensures calls { SlotCalls result slot (F.device flash.old) (F.device flash.new) }
 {
-    let first = slot.at + at;
     let block = flash.geometry().block;
+    let first = slot.at + at;
     match flash.erase(first / block) {
         Ok(()) => Ok(()),
         Err(Failed) => Err(SlotFault { at: first }),

@@ -27,14 +27,14 @@ fn has_label(node: &Node, label: &str) -> bool
     ensures { result ≡ spec.has_label label.now (branch_of node.now) }
 {
     match node.prop("label") {
-        Some(value) => is_label(value, label),
+        Some(value) => is_slot_label(value, label),
         None => false,
     }
 }
 
 // Whether a value is a string, and that string is the label.
-fn is_label(value: &[u8], label: &str) -> bool
-    ensures { result ≡ spec.is_label label.now value.now }
+fn is_slot_label(value: &[u8], label: &str) -> bool
+    ensures { result ≡ spec.is_slot_label label.now value.now }
 {
     match string(value) {
         Some(string) => string == label.as_bytes(),

@@ -76,8 +76,8 @@ pub(crate) fn program_part<F: Flash>(
     ensures erases { erases (F.device flash.new) ≡ erases (F.device flash.old) }
     ensures calls { SlotCalls result slot (F.device flash.old) (F.device flash.new) }
 {
-    let first = slot.at + at;
     let _ = flash.geometry();
+    let first = slot.at + at;
     match flash.program(first, bytes) {
         Ok(()) => Ok(()),
         Err(Failed) => Err(SlotFault { at: first }),
