@@ -1,5 +1,5 @@
 -- What the answer for a slot is, and why.
-use Rattle.std.proofs.Common.{◌≡◌, ℕ, ◌+◌, ◌≤◌, ◌∙◌, ◌↔◌, Bool, true, false, List, Option, Some, None, Result, Ok, Err, ap, sym, subst, refl, arith, nat_lt, ok_or, option_and_then, if◌then◌else◌}
+use Rattle.std.proofs.Common.{◌≡◌, ℕ, ◌+◌, ◌≤◌, ◌∙◌, ◌↔◌, Bool, true, false, List, Option, Some, None, Result, Ok, Err, IfOk, ap, sym, subst, refl, arith, nat_lt, ok_or, option_and_then, if◌then◌else◌}
 use Rattle.std.proofs.lemmas.Bool.Decides.{nat_tests}
 use Rattle.std.specs.Result.{result_map_both}
 use Rattle.bb_flash.specs.declared.geometry.Geometry.{Geometry}
@@ -118,3 +118,29 @@ given_place question slot given =
 
 pub given_of : (question : SlotQuestion) (result : Result Region SlotError) (slot : Region) → result ≡ slot_from question → result ≡ Ok slot → IsGiven question slot
 given_of question result slot value is = subst (λ (r : Result Region SlotError). IsReasoned question r) (sym value ∙ is) (reasoned question)
+
+-- ---- the clauses of an answer
+
+pub place_of_answer : (question : SlotQuestion) (result : Result Region SlotError) → result ≡ slot_from question → IfOk result (HasPlace question.geometry)
+place_of_answer question (Ok slot) value = given_place question slot (given_of question (Ok slot) slot value refl)
+place_of_answer question (Err refusal) value = tt
+
+pub apart_of_answer : (question : SlotQuestion) (result : Result Region SlotError) → result ≡ slot_from question → IfOk result (λ slot. SharesByte slot question.copies → ⊥)
+apart_of_answer question (Ok slot) value = (given_of question (Ok slot) slot value refl).apart
+apart_of_answer question (Err refusal) value = tt
+
+module _ (question : SlotQuestion) (result : Result Region SlotError) (value : result ≡ slot_from question) where
+  pub no_slot_exactly : (result ≡ Err NoSlot) ↔ HasNoSlot question
+  no_slot_exactly = (refusal_reasoned question result NoSlot value, λ fact. value ∙ no_slot_so question fact)
+
+  pub bad_reg_exactly : (result ≡ Err BadReg) ↔ HasBadReg question
+  bad_reg_exactly = (refusal_reasoned question result BadReg value, λ fact. value ∙ bad_reg_so question fact)
+
+  pub unaligned_exactly : (result ≡ Err Unaligned) ↔ IsMisplaced Unaligned question
+  unaligned_exactly = (refusal_reasoned question result Unaligned value, λ fact. value ∙ misplaced_so question Unaligned fact)
+
+  pub out_of_device_exactly : (result ≡ Err OutOfDevice) ↔ IsMisplaced OutOfDevice question
+  out_of_device_exactly = (refusal_reasoned question result OutOfDevice value, λ fact. value ∙ misplaced_so question OutOfDevice fact)
+
+  pub overlap_exactly : (result ≡ Err Overlap) ↔ Overlaps question
+  overlap_exactly = (refusal_reasoned question result Overlap value, λ fact. value ∙ overlaps_so question fact)

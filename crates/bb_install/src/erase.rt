@@ -30,10 +30,18 @@ pub(crate) fn erase_slot<F: Flash>(slot: Region, flash: &mut F) -> Result<(), Sl
     ensures calls { SlotCalls result slot (F.device flash.old) (F.device flash.new) }
 {
     let block = flash.geometry().block;
-    for k in 0..slot.size.checked_div(block).unwrap_or(0) {
+    let count = blocks_in(slot, block);
+    for k in 0..count {
         erase_part(slot, k * block, flash)?;
     }
     Ok(())
+}
+
+// How many blocks a slot has.
+fn blocks_in(slot: Region, block: u32) -> u32
+    ensures { result ≡ slot.size / block }
+{
+    slot.size.checked_div(block).unwrap_or(0)
 }
 
 // Erases the block at a place of a slot.

@@ -18,7 +18,7 @@ use bb_flash::{Flash, Region};
 pub(crate) fn program_pages<F: Flash>(
     slot: Region,
     pages: &[u8],
-    len: u32,
+    len: usize,
     flash: &mut F,
 ) -> Result<(), SlotFault>
     requires place { HasPlace (F.device flash.old).geometry slot }
@@ -40,8 +40,8 @@ pub(crate) fn program_pages<F: Flash>(
     ensures calls { SlotCalls result slot (F.device flash.old) (F.device flash.new) }
 {
     let _ = flash.geometry();
-    let len = len as usize;
-    for k in 0..pages.len().div_ceil(len) {
+    let count = pages.len().div_ceil(len);
+    for k in 0..count {
         let first = k * len;
         let end = pages.len().min(first + len);
         program_part(slot, first as u32, &pages[first..end], flash)?;

@@ -1,8 +1,7 @@
 ghost use Rattle.std.specs.Prelude.{◌≡◌, ◌↔◌, IfOk, Err};
-ghost use Rattle.std.specs.Option.{option_copied, option_map};
-ghost use Rattle.bb_flash.specs.Geometry.{IsGeometry};
 ghost use Rattle.bb_tree.specs.NodeViews.{branch_of};
 ghost use Rattle.bb_layout.specs.Backend.{partition_of};
+ghost use Rattle.bb_layout.specs.Storage.{is_aligned};
 ghost use Rattle.bb_install.specs.Slot as spec;
 ghost use Rattle.bb_install.specs.Slot.{HasBadReg, HasNoSlot, HasPlace, IsMisplaced, Overlaps};
 ghost use Rattle.bb_install.specs.Slot.{SharesByte, slot_question};
@@ -44,10 +43,27 @@ pub fn slot_of(
     ensures overlap { (result ≡ Err Overlap)
         ↔ Overlaps (slot_question tree.now label.now geometry layout.now) }
 {
+    found_slot(tree, label, geometry, layout.region)
+}
+
+// The slot of a label beside a region of copies.
+fn found_slot(
+    tree: &Tree,
+    label: &str,
+    geometry: Geometry,
+    copies: Region,
+) -> Result<Region, SlotError>
+    ensures { result ≡ spec.slot_from (record {
+      tree = branch_of tree.now.root;
+      label = label.now;
+      geometry = geometry;
+      copies = copies;
+    }) }
+{
     let node = first_labelled(&tree.root, label).ok_or(SlotError::NoSlot)?;
     let slot = region(node).ok_or(SlotError::BadReg)?;
     check_place(geometry, slot)?;
-    if regions_meet(slot, layout.region) {
+    if regions_meet(slot, copies) {
         return Err(SlotError::Overlap);
     }
     Ok(slot)

@@ -11,7 +11,7 @@ use crate::program::{program_pages, program_part};
 use bb_flash::{Flash, Geometry, Region};
 
 // In bytes: what is programmed at once on a device without blocks.
-const PIECE_LEN: u32 = 65_536;
+const PIECE_LEN: usize = 65_536;
 
 /// Writes an image to a slot. On a device with blocks all blocks of the slot are erased first. Then
 /// the image is programmed in rising order, one program for each block, or for 65,536 bytes where
@@ -45,13 +45,13 @@ pub fn write_slot<F: Flash>(
 }
 
 // How many bytes are programmed at once.
-fn program_len(geometry: Geometry) -> u32
+fn program_len(geometry: Geometry) -> usize
     ensures { result ≡ program_len geometry }
 {
     if geometry.block == 0 {
         PIECE_LEN
     } else {
-        geometry.block
+        geometry.block as usize
     }
 }
 
