@@ -9,7 +9,7 @@ counted_none zero (n ∷ numbers) = refl
 counted_none (suc first) (n ∷ numbers) = ap (λ (rest : List ℕ). n ∷ rest) (counted_none first numbers)
 
 -- one number is one more
-set_counted : (place : ℕ) (numbers : List ℕ) → slice_set numbers place (slice_index numbers place + 1) ≡ counted_once place 1 numbers
+pub set_counted : (place : ℕ) (numbers : List ℕ) → slice_set numbers place (slice_index numbers place + 1) ≡ counted_once place 1 numbers
 set_counted place [] = refl
 set_counted zero (n ∷ numbers) = ap (λ (rest : List ℕ). (n + 1) ∷ rest) (sym (counted_none 0 numbers))
 set_counted (suc place) (n ∷ numbers) = ap (λ (rest : List ℕ). n ∷ rest) (set_counted place numbers)
@@ -38,8 +38,3 @@ erases_more first count place next one two three e n early late =
     late ∙ ap (λ (o : Option (List ℕ)). option_map (counted_once place 1) o) early
     ∙ map_once (counted_once place 1) (counted_once first count) (counted_once first (suc count)) one (λ numbers. counted_more first count place numbers e)
     ∙ ap (λ (k : ℕ). option_map (counted_once first k) one) (sym n)
-
--- an erase of the device is one number more
-pub erases_one : (place : ℕ) (o : Option (List ℕ)) → option_map (λ (numbers : List ℕ). slice_set numbers place (slice_index numbers place + 1)) o ≡ option_map (counted_once place 1) o
-erases_one place None = refl
-erases_one place (Some numbers) = ap Some (set_counted place numbers)

@@ -38,8 +38,7 @@ text_in_place : (geometry : Geometry) (slot : Region) (image : List ℕ) → geo
 text_in_place geometry slot image none = ap (λ (b : ℕ). cond (b == 0) image (filled_to slot.size image)) none
 
 pub not_zero : (n : ℕ) → 0 < n → (n == 0) ≡ false
-not_zero zero some = absurd (omega arith)
-not_zero (suc n) some = refl
+not_zero n some = grind (arith, nat_tests)
 
 text_in_blocks : (geometry : Geometry) (slot : Region) (image : List ℕ) → 0 < geometry.block → slot_text geometry slot image ≡ filled_to slot.size image
 text_in_blocks geometry slot image some = ap (λ (b : Bool). cond b image (filled_to slot.size image)) (not_zero geometry.block some)

@@ -48,7 +48,7 @@ made_by_failure page at bytes range first last is (inr torn) = inr (made_more fi
 
 -- ---- runs of calls
 
-leaves_as : (slot : Region) (f g : Image → Image) (one two : Device) → ((part : Image) → f part ≡ g part) → Leaves slot f one two → Leaves slot g one two
+pub leaves_as : (slot : Region) (f g : Image → Image) (one two : Device) → ((part : Image) → f part ≡ g part) → Leaves slot f one two → Leaves slot g one two
 leaves_as slot f g one two same leaves = record {
   there = λ before e after k. leaves.there before e after k ∙ same (part_of one.geometry.page slot before);
 }

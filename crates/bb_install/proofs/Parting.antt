@@ -16,7 +16,9 @@ use Rattle.bb_bucket.specs.Kind.{LiesOn, part_of}
 use Rattle.bb_bucket.proofs.OneCall.{ends_torn}
 use Rattle.bb_bucket.proofs.Pages.{sum_aligned}
 use Rattle.bb_bucket.proofs.Programs.{after_is, image_before, leaves_program, part_programmed, torn_in_region}
-use Rattle.bb_install.specs.Writing.{SlotCalls, SlotWrites}
+use Rattle.bb_install.specs.Slot.{HasPlace}
+use Rattle.bb_install.specs.Writing.{SlotCalls, SlotWrites, counted_once}
+use Rattle.bb_install.proofs.Counting.{set_counted}
 use Rattle.bb_install.proofs.Making.{made_step}
 
 -- what a call on a slot leaves, whatever it answers
@@ -48,7 +50,7 @@ program_writes slot at bytes from to lies fits whole same changes told = record 
 -- ---- an erase
 
 module _ (slot : Region) (at number : ℕ) (geometry : Geometry) (place : number * geometry.block ≡ slot.at + at) where
-  blank_len : length (erased_bytes geometry) ≡ geometry.block
+  pub blank_len : length (erased_bytes geometry) ≡ geometry.block
   blank_len = length-replicate {A = ℕ} geometry.block 255
 
   pub erase_call : {T E : Type 0} (result : Result T E) (from to : Device) → IsChangeCall result (number * geometry.block) (erased_bytes geometry) from to → IsChangeCall result (slot.at + at) (erased_bytes geometry) from to
@@ -80,3 +82,18 @@ module _ (slot : Region) (at number : ℕ) (geometry : Geometry) (place : number
         (λ (t : Told). (change_of geometry.page (number * geometry.block) (erased_bytes geometry) t.image, refl, erased_range t)) told;
     leaves = erase_leaves from to is lies fits whole same changes told;
   }
+
+-- the number of a block gives its place
+pub block_place : (geometry : Geometry) (slot : Region) (at block : ℕ) → block ≡ geometry.block → HasPlace geometry slot → 0 < geometry.block → at % geometry.block ≡ 0 → (slot.at + at) / block * geometry.block ≡ slot.at + at
+block_place geometry slot at block is has some aligned =
+    ap (λ b. (slot.at + at) / b * geometry.block) is
+    ∙ whole_times (slot.at + at) geometry.block (sum_aligned geometry.block slot.at at (has.aligned.at some) aligned)
+
+told_erases : (geometry : Geometry) (number : ℕ) (from : Option Told) → option_map (λ (t : Told). t.erases) (option_map (told_after_erase geometry number) from) ≡ option_map (counted_once number 1) (option_map (λ (t : Told). t.erases) from)
+told_erases geometry number None = refl
+told_erases geometry number (Some t) = ap Some (set_counted number t.erases)
+
+pub erase_counted : (geometry : Geometry) (number place : ℕ) (from to : Device) → number ≡ place → to.told ≡ option_map (told_after_erase geometry number) from.told → erases to ≡ option_map (counted_once place 1) (erases from)
+erase_counted geometry number place from to is told =
+    ap (λ (o : Option Told). option_map (λ (t : Told). t.erases) o) told ∙ told_erases geometry number from.told
+    ∙ ap (λ (n : ℕ). option_map (counted_once n 1) (erases from)) is

@@ -22,7 +22,7 @@ use Rattle.bb_bucket.proofs.Within.{health_of-part}
 use Rattle.bb_install.specs.Holding.{SlotHolds, HasBytesAt}
 use Rattle.bb_install.proofs.Putting.{items_front}
 
-fine_alive : (health : Health) → health ≡ Fine → health ≢ Lost
+pub fine_alive : (health : Health) → health ≡ Fine → health ≢ Lost
 fine_alive health fine lost = (let clash : Fine ≡ Lost = sym fine ∙ lost in absurd cc)
 
 module _ (page : ℕ) (bytes : List ℕ) (part : Image) where

@@ -1,10 +1,10 @@
 -- One more call of a loop over a slot: what the calls so far make of it, and what a failed one
 -- leaves.
-use Rattle.std.proofs.Common.{◌≡◌, ℕ, zero, suc, ◌+◌, ◌-◌, ◌*◌, ◌/◌, ◌%◌, ◌<◌, ◌≤◌, ◌∙◌, min, List, [], ◌∷◌, ◌++◌, length, map, take, drop, take_all, replicate, Option, Some, None, ap, sym, subst, refl, arith, option_map}
+use Rattle.std.proofs.Common.{◌≡◌, ℕ, zero, suc, ◌+◌, ◌-◌, ◌*◌, ◌/◌, ◌%◌, ◌<◌, ◌≤◌, ◌∙◌, min, List, [], ◌∷◌, ◌++◌, length, map, take, drop, take_all, replicate, Option, Some, None, ap, sym, subst, refl, arith, option_map, inl, inr, ◌⊎◌}
 use Rattle.std.specs.Int.{div_ceil}
 use Rattle.std.specs.List.{range_with_len}
 use Rattle.std.specs.Option.{ForSome, is_some}
-use Rattle.std.proofs.Math.Nat.{mul-le-mul_right, mul-div_cancel}
+use Rattle.std.proofs.Math.Nat.{div-zero, mul-add-div_right, mul-div_cancel, mul-le-mul_right}
 use Rattle.std.proofs.lemmas.List.{length-drop, length-replicate, length-take, length-take-le, replicate-append-replicate, take-replicate}
 use Rattle.std.proofs.lemmas.List.FromFn.{map-range_with_len_more}
 use Rattle.bb_flash.specs.declared.geometry.Geometry.{Geometry}
@@ -27,7 +27,7 @@ use Rattle.bb_install.specs.Slot.{HasPlace}
 use Rattle.bb_install.specs.Writing.{SlotWrites, StopsAmong, StopsErasing, counted_once, erases_of_slot}
 use Rattle.bb_install.proofs.Making.{split_at, stops_at, writes_as, writes_joined}
 use Rattle.bb_install.proofs.Pieces.{next_piece, pieces_more, times_whole}
-use Rattle.bb_install.proofs.Places.{slot_lies}
+use Rattle.bb_install.proofs.Places.{none_or_some, slot_lies}
 use Rattle.bb_install.proofs.Putting.{put_more, put_none}
 use Rattle.bb_install.proofs.Standing.{IsKept, blank_kept, kept_before, put_holds, put_stands, stands_blank, stands_kept}
 
@@ -89,6 +89,20 @@ blocks_fit block size k inside whole =
     let times = whole_times size block whole in
     let order = mul-le-mul_right {m = k + 1} {n = size / block} block (omega arith) in
     omega (arith, next_piece k block)
+
+-- a slot without blocks has none
+pub block_some : (size block k : ℕ) → k < size / block → 0 < block
+block_some size block k inside = elim (none_or_some block) [
+  | inl none ↦ absurd (omega (arith, ap (λ b. size / b) none ∙ div-zero size))
+  | inr some ↦ some
+]
+
+-- the number of a block of the slot
+pub block_number : (at k block one other : ℕ) → one ≡ block → other ≡ block → 0 < block → (at + k * one) / other ≡ at / block + k
+block_number at k block one other e f some =
+    ap (λ b. (at + k * b) / other) e ∙ ap (λ b. (at + k * block) / b) f
+    ∙ ap (λ n. n / block) (let sum : at + k * block ≡ k * block + at = omega arith in sum)
+    ∙ mul-add-div_right some k at ∙ (let sum : k + at / block ≡ at / block + k = omega arith in sum)
 
 pub erase_turn :
     (slot : Region) (k next at : ℕ) (one two three : Device) → IsGeometry one.geometry → 0 < one.geometry.block →

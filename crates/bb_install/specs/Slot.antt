@@ -16,7 +16,8 @@ use Rattle.bb_layout.specs.Fields.{string_of}
 use Rattle.bb_layout.specs.Results.{result_and_then}
 use Rattle.bb_layout.specs.Storage.{check_place}
 use Rattle.bb_layout.specs.declared.layout.Layout.{Layout}
-use Rattle.bb_layout.specs.declared.layout_error.LayoutError as layout_error
+use Rattle.bb_layout.specs.declared.layout_error.LayoutError.{LayoutError}
+use Rattle.bb_layout.specs.declared.layout_error.LayoutError.TheVariants.{Unaligned as UnalignedPlace}
 use Rattle.bb_install.specs.declared.slot_error.SlotError.{SlotError}
 use Rattle.bb_install.specs.declared.slot_error.SlotError.TheVariants.{BadReg, NoSlot, OutOfDevice, Overlap, Unaligned}
 
@@ -53,8 +54,8 @@ abbrev pub slot_region : SlotQuestion → Option Region
 slot_region question = option_and_then partition_of (slot_node question)
 
 -- it has a place on a device where a partition of copies would have one, and is refused as that is
-abbrev pub place_refusal : layout_error.LayoutError → SlotError
-place_refusal layout_error.TheVariants.Unaligned = Unaligned
+abbrev pub place_refusal : LayoutError → SlotError
+place_refusal UnalignedPlace = Unaligned
 place_refusal other = OutOfDevice
 
 abbrev pub slot_place : Geometry → Region → Result (Unit {0}) SlotError

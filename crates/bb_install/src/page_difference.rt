@@ -73,8 +73,8 @@ pub(crate) fn first_unequal(bytes: &[u8], read: &[u8]) -> Option<u32>
     requires small { length bytes.now < 2 ^ 32 }
     ensures { IsUnequal bytes.now read.now result }
 {
-    for (place, byte) in bytes.iter().enumerate() {
-        if *byte != read[place] {
+    for place in 0..bytes.len() {
+        if bytes[place] != read[place] {
             return Some(place as u32);
         }
     }
