@@ -1,5 +1,5 @@
 -- What reads say of the bytes that stand at a place of a device.
-use Rattle.std.proofs.Common.{◌≡◌, ◌≢◌, ℕ, zero, suc, ◌+◌, ◌-◌, ◌*◌, ◌/◌, ◌%◌, ◌<◌, ◌≤◌, ◌∙◌, ◌⊎◌, ◌||◌, min, Bool, true, false, List, [], ◌∷◌, ◌++◌, length, take, drop, fold, slice_get, Option, Some, None, ap, sym, subst, refl, arith, inl, inr, take-add, length-append}
+use Rattle.std.proofs.Common.{◌≡◌, ◌≢◌, ℕ, zero, suc, ◌+◌, ◌-◌, ◌*◌, ◌/◌, ◌%◌, ◌<◌, ◌≤◌, ◌∙◌, ◌⊎◌, ◌||◌, min, Bool, true, false, List, [], ◌∷◌, ◌++◌, length, take, drop, fold, slice_get, Option, Some, None, IfSome, ap, sym, subst, refl, arith, inl, inr, take-add, length-append}
 use Rattle.std.proofs.Math.Nat.{add-mul, lt_of_mul-lt-mul_right}
 use Rattle.std.proofs.Math.Seq.{take-append_seam}
 use Rattle.std.proofs.lemmas.Grind.{div_ceil_times}
@@ -252,3 +252,16 @@ compared page slot image content (Some offset) fits difference = record {
   differs = difference.differs;
   before = record { fits = omega (arith, length-take offset image); stands = difference.before };
 }
+
+-- ---- how far a difference lies
+
+pub unequal_inside : (bytes read : List ℕ) (found : Option ℕ) → IsUnequal bytes read found → IfSome found (λ place. place < length bytes)
+unequal_inside bytes read None same = tt
+unequal_inside bytes read (Some place) unequal = unequal.inside
+
+pub some_is : (P : ℕ → Type 0) (found : Option ℕ) (x : ℕ) → found ≡ Some x → IfSome found P → P x
+some_is P None x e holds = absurd cc
+some_is P (Some y) x e holds = (let same : y ≡ x = cc in subst P same holds)
+
+pub inside_more : (bytes : List ℕ) (done end offset : ℕ) → offset < length (take (end - done) (drop done bytes)) → done + offset < length bytes
+inside_more bytes done end offset inside = omega (arith, inside, length-take (end - done) (drop done bytes), length-drop done bytes)

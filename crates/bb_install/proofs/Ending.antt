@@ -1,7 +1,8 @@
 -- How a write of an image to a slot ends.
-use Rattle.std.proofs.Common.{◌≡◌, ℕ, zero, suc, ◌+◌, ◌-◌, ◌*◌, ◌/◌, ◌%◌, ◌<◌, ◌≤◌, ◌==◌, ◌∙◌, ◌⊎◌, min, Bool, true, false, cond, List, [], ◌∷◌, ◌++◌, length, take, drop, take_all, replicate, Option, Some, None, ap, sym, subst, refl, arith, inl, inr, option_map, append_assoc, length-append, length-drop}
+use Rattle.std.proofs.Common.{◌≡◌, ℕ, zero, suc, ◌+◌, ◌-◌, ◌*◌, ◌/◌, ◌%◌, ◌<◌, ◌≤◌, ◌==◌, ◌∙◌, ◌⊎◌, min, Bool, true, false, cond, List, [], ◌∷◌, ◌++◌, length, take, drop, take_all, replicate, Option, Some, None, Result, Ok, Err, IfErr, ap, sym, subst, refl, arith, inl, inr, option_map, append_assoc, length-append, length-drop}
 use Rattle.std.proofs.Math.Nat.{add-mul, div-add-mod', lt_of_mul-lt-mul_right, mod-one, mod-lt, mod_self, mul-le-mul_right, mul-mod_left}
 use Rattle.std.proofs.Math.Seq.{take-append_seam}
+use Rattle.std.proofs.lemmas.Bool.Decides.{nat_tests}
 use Rattle.std.proofs.lemmas.List.{append-nil, drop-replicate, length-replicate, length-take-le, take-append-drop, take-append-le, take-take}
 use Rattle.std.specs.Int.{div_ceil}
 use Rattle.std.specs.Option.{ForSome}
@@ -293,3 +294,31 @@ pages_stop slot image pages place one two three is early erased stops kept count
           (subst (λ (xs : List ℕ). SlotHolds two.geometry.page slot xs after) front (stops.begun after e));
       erases = kept ∙ counted;
     }
+
+-- ---- the code's own words
+
+pub split_paged : (page : ℕ) (image pages : List ℕ) → pages ≡ take (paged_len page (length image)) image → length pages % page ≡ 0
+split_paged page image pages is =
+    ap (λ n. n % page) (ap (length {A = ℕ}) is ∙ length-take-le (paged_len page (length image)) image (omega arith)) ∙ paged_whole page (length image)
+
+split_rest : (page : ℕ) (image rest : List ℕ) → rest ≡ drop (paged_len page (length image)) image → length rest ≡ length image % page
+split_rest page image rest is = (let size = ap (length {A = ℕ}) is ∙ length-drop (paged_len page (length image)) image in omega (arith, div-add-mod' (length image) page))
+
+pub rest_none : (page : ℕ) (image rest : List ℕ) → rest ≡ drop (paged_len page (length image)) image → (length rest == 0) ≡ true → length image % page ≡ 0
+rest_none page image rest is none = (let size = split_rest page image rest is in let zero_len : length rest ≡ 0 = grind (arith, nat_tests) in omega arith)
+
+pub rest_some : (rest : List ℕ) → (length rest == 0) ≡ false → 0 < length rest
+rest_some rest some = grind (arith, nat_tests)
+
+pub paged_as : (geometry : Geometry) (slot : Region) (pages : List ℕ) (len : ℕ) (from to : Device) → len ≡ program_len geometry → SlotWrites (piece_ranges len (length pages) slot (div_ceil (length pages) len)) slot (put_at from.geometry.page 0 pages) from to → PagedIn geometry slot pages from to
+paged_as geometry slot pages len from to is writes = subst (λ (n : ℕ). SlotWrites (piece_ranges n (length pages) slot (div_ceil (length pages) n)) slot (put_at from.geometry.page 0 pages) from to) is writes
+
+-- the last page, filled up
+pub tail_as : (slot : Region) (at page : ℕ) (rest filled : List ℕ) (from to : Device) → filled ≡ filled_to page rest → length rest ≤ page → SlotWrites (record { at = slot.at + at; size = length filled } ∷ []) slot (put_at from.geometry.page at filled) from to → SlotWrites (record { at = slot.at + at; size = page } ∷ []) slot (put_at from.geometry.page at (filled_to page rest)) from to
+tail_as slot at page rest filled from to is fits writes =
+    subst (λ (n : ℕ). SlotWrites (record { at = slot.at + at; size = n } ∷ []) slot (put_at from.geometry.page at (filled_to page rest)) from to) (filled_size page rest fits)
+    (subst (λ (xs : List ℕ). SlotWrites (record { at = slot.at + at; size = length xs } ∷ []) slot (put_at from.geometry.page at xs) from to) is writes)
+
+pub err_both : {T E : Type 0} (P Q R : E → Type 0) (result : Result T E) → ((e : E) → P e → Q e → R e) → IfErr result P → IfErr result Q → IfErr result R
+err_both P Q R (Ok x) both p q = tt
+err_both P Q R (Err e) both p q = both e p q

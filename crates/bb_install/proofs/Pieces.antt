@@ -1,10 +1,12 @@
 -- A text that is cut into pieces of a length.
-use Rattle.std.proofs.Common.{◌≡◌, ℕ, ◌+◌, ◌-◌, ◌*◌, ◌/◌, ◌%◌, ◌<◌, ◌≤◌, ◌∙◌, min, List, ◌++◌, length, take, drop, take_all, ap, sym, refl, arith, take-add, length-drop}
+use Rattle.std.proofs.Common.{◌≡◌, ℕ, ◌+◌, ◌-◌, ◌*◌, ◌/◌, ◌%◌, ◌<◌, ◌≤◌, ◌∙◌, min, List, ◌++◌, length, take, drop, take_all, ap, sym, refl, arith, inl, inr, ◌⊎◌, take-add, length-drop}
 use Rattle.std.proofs.Math.Nat.{add-mul, mul-le-mul_right, mul-mod_left}
 use Rattle.std.proofs.lemmas.Grind.{div_ceil_times}
-use Rattle.std.proofs.lemmas.List.{length-take-le, take_min}
+use Rattle.std.proofs.lemmas.Bool.{cases_lt}
+use Rattle.std.proofs.lemmas.List.{length-take, take_min}
 use Rattle.std.specs.Int.{div_ceil}
 use Rattle.bb_flash.proofs.Geometries.{multiple_twice}
+use Rattle.bb_bucket.proofs.Pages.{mod_moved}
 
 -- the first so many pieces end where the next begins
 pub next_piece : (k len : ℕ) → (k + 1) * len ≡ k * len + len
@@ -36,3 +38,20 @@ piece_is bytes first len =
 -- the pieces so far, and one more
 pub pieces_more : (bytes : List ℕ) (k len : ℕ) → take (k * len) bytes ++ take len (drop (k * len) bytes) ≡ take ((k + 1) * len) bytes
 pieces_more bytes k len = sym (take-add (k * len) len bytes) ∙ ap (λ n. take n bytes) (sym (next_piece k len))
+
+-- ---- whole pages
+
+rest_whole : (page all first : ℕ) → all % page ≡ 0 → first % page ≡ 0 → first ≤ all → (all - first) % page ≡ 0
+rest_whole page all first every whole order =
+    let sum : first + (all - first) ≡ all = omega arith in
+    sym (mod_moved page first (all - first) whole) ∙ ap (λ n. n % page) sum ∙ every
+
+-- each piece of whole pages is made of them
+pub piece_whole : (bytes : List ℕ) (first len page : ℕ) → len % page ≡ 0 → length bytes % page ≡ 0 → first % page ≡ 0 → first ≤ length bytes → length (take len (drop first bytes)) % page ≡ 0
+piece_whole bytes first len page paged every whole order =
+    let size : length (take len (drop first bytes)) ≡ min len (length bytes - first) = length-take len (drop first bytes) ∙ ap (min len) (length-drop first bytes) in
+    ap (λ n. n % page) size
+    ∙ elim (cases_lt len (length bytes - first)) [
+      | inl less ↦ ap (λ n. n % page) (let all : min len (length bytes - first) ≡ len = omega arith in all) ∙ paged
+      | inr more ↦ ap (λ n. n % page) (let all : min len (length bytes - first) ≡ length bytes - first = omega arith in all) ∙ rest_whole page (length bytes) first every whole order
+    ]

@@ -21,10 +21,11 @@ use Rattle.bb_bucket.specs.Kind.{LiesOn, part_of}
 use Rattle.bb_bucket.proofs.Pages.{sum_aligned}
 use Rattle.bb_bucket.proofs.Runs.{part_after, some_of}
 use Rattle.bb_install.specs.Holding.{HasBytesAt, SlotHolds}
-use Rattle.bb_install.specs.Parts.{PartFails, StopsPaging}
+use Rattle.bb_install.specs.Parts.{EachBlank, PartFails, StopsPaging}
 use Rattle.bb_install.specs.Ranges.{block_ranges, piece_ranges, slot_block, slot_piece}
 use Rattle.bb_install.specs.Slot.{HasPlace}
 use Rattle.bb_install.specs.Writing.{SlotWrites, StopsAmong, StopsErasing, counted_once, erases_of_slot}
+use Rattle.bb_install.proofs.Blanking.{still_blank}
 use Rattle.bb_install.proofs.Making.{split_at, stops_at, writes_as, writes_joined}
 use Rattle.bb_install.proofs.Pieces.{next_piece, pieces_more, times_whole}
 use Rattle.bb_install.proofs.Places.{none_or_some, slot_lies}
@@ -219,3 +220,18 @@ program_stops slot pages len k place one two three within has paged whole small 
           subst (λ (m : ℕ). SlotHolds geometry.page slot (take m pages) after) (sym gone)
           (subst (λ (xs : List ℕ). SlotHolds geometry.page slot xs after) (take_all n (take n pages) (omega arith)) holds));
     }
+
+-- what is programmed next is blank, where the slot was
+pub piece_blank :
+    (slot : Region) (xs : List ℕ) (at n : ℕ) (one two : Device) (image : Image) → IsGeometry one.geometry → IsLater one two →
+    Leaves slot (put_at one.geometry.page 0 xs) one two → length xs % one.geometry.page ≡ 0 → length xs ≤ at → at + n ≤ slot.size →
+    (0 < one.geometry.block → ForSome (content one) (λ before. EachBlank one.geometry.page slot.size (part_of one.geometry.page slot before))) →
+    0 < two.geometry.block → content two ≡ Some image → IsBlank two.geometry.page (part_of two.geometry.page slot image) at n
+piece_blank slot xs at n one two image within later leaves whole past fits blank some told =
+    let page : ℕ = one.geometry.page in
+    let page_is : two.geometry.page ≡ page = ap (λ (g : Geometry). g.page) later.geometry in
+    let block_is : two.geometry.block ≡ one.geometry.block = ap (λ (g : Geometry). g.block) later.geometry in
+    let first = part_after slot (put_at page 0 xs) one two image later leaves told in
+    subst (λ (p : ℕ). IsBlank p (part_of p slot image) at n) (sym page_is)
+    (still_blank page slot.size at n xs (part_of page slot first.0) (part_of page slot image) within.page_some whole past fits first.2
+    (blank (omega arith) first.0 first.1))

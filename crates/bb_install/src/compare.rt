@@ -1,4 +1,5 @@
-ghost use Rattle.std.specs.Prelude.{◌≡◌, ◌+◌, ◌≤◌, ◌<◌, ◌%◌, IfOk, is_err, length};
+ghost use Rattle.std.specs.Prelude.{◌≡◌, ◌+◌, ◌≤◌, ◌<◌, ◌%◌, IfOk, IfSome, is_err};
+ghost use Rattle.std.specs.Prelude.{length};
 ghost use Rattle.std.specs.Option.{ForSome};
 ghost use Rattle.bb_base.specs.Faults.{counted};
 ghost use Rattle.bb_flash.specs.Device.{content};
@@ -27,6 +28,7 @@ pub fn first_difference<F: Flash>(
     requires pages { length buffer.old % (F.device flash.old).geometry.page ≡ 0 }
     ensures done { IfOk result (λ found. ForSome (content (F.device flash.old)) (λ held.
         IsComparison (F.device flash.old).geometry.page slot image.now held found)) }
+    ensures inside { IfOk result (λ found. IfSome found (λ offset. offset < length image.now)) }
     ensures quiet { IsQuiet (F.device flash.old) (F.device flash.new) }
     ensures faults { (F.device flash.new).faults
         ≡ counted (is_err result) (F.device flash.old).faults }
@@ -59,6 +61,7 @@ fn piece_difference<F: Flash>(
     requires page { (F.device flash.old).geometry.page ≤ length buffer.old }
     ensures done { IfOk result (λ found. ForSome (content (F.device flash.old)) (λ held.
         IsDifference (F.device flash.old).geometry.page held at bytes.now found)) }
+    ensures inside { IfOk result (λ found. IfSome found (λ offset. offset < length bytes.now)) }
     ensures quiet { IsQuiet (F.device flash.old) (F.device flash.new) }
     ensures faults { (F.device flash.new).faults
         ≡ counted (is_err result) (F.device flash.old).faults }

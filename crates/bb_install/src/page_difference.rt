@@ -1,4 +1,5 @@
-ghost use Rattle.std.specs.Prelude.{◌≡◌, ◌+◌, ◌≤◌, ◌%◌, ◌^◌, ◌<◌, IfOk, is_err, length};
+ghost use Rattle.std.specs.Prelude.{◌≡◌, ◌+◌, ◌≤◌, ◌%◌, ◌^◌, ◌<◌, IfOk, IfSome, length};
+ghost use Rattle.std.specs.Prelude.{is_err};
 ghost use Rattle.std.specs.Option.{ForSome};
 ghost use Rattle.bb_base.specs.Faults.{counted};
 ghost use Rattle.bb_flash.specs.Device.{content};
@@ -21,6 +22,7 @@ pub(crate) fn page_difference<F: Flash>(
     requires page { (F.device flash.old).geometry.page ≤ length buffer.old }
     ensures done { IfOk result (λ found. ForSome (content (F.device flash.old)) (λ held.
         IsDifference (F.device flash.old).geometry.page held at bytes.now found)) }
+    ensures inside { IfOk result (λ found. IfSome found (λ offset. offset < length bytes.now)) }
     ensures quiet { IsQuiet (F.device flash.old) (F.device flash.new) }
     ensures faults { (F.device flash.new).faults
         ≡ counted (is_err result) (F.device flash.old).faults }
@@ -54,6 +56,7 @@ fn difference_in_page<F: Flash>(
     requires room { length bytes.now ≤ length buffer.old }
     ensures done { IfOk result (λ found. ForSome (content (F.device flash.old)) (λ held.
         IsDifference (F.device flash.old).geometry.page held at bytes.now found)) }
+    ensures inside { IfOk result (λ found. IfSome found (λ offset. offset < length bytes.now)) }
     ensures quiet { IsQuiet (F.device flash.old) (F.device flash.new) }
     ensures faults { (F.device flash.new).faults
         ≡ counted (is_err result) (F.device flash.old).faults }
