@@ -1,11 +1,7 @@
-ghost use Rattle.std.specs.Prelude.{◌≡◌, ◌≤◌};
-ghost use Rattle.test_installs.specs.Small.{in_blocks};
-
 use super::board::{
-    SLOT, Step, block_board, byte_after, byte_before, check, fault, has_lost_pages, image,
+    Step, block_board, byte_after, byte_before, check, fault, has_byte, has_lost_pages, image,
     write_blocks,
 };
-use bb_base::NoMemory;
 use bb_flash::{Fill, MemBoard};
 use std::alloc::Global;
 use std::process::Abort;
@@ -45,8 +41,8 @@ fn wanted_byte(place: u32, failed: u32, fill: Option<Fill>) -> u8 {
 }
 
 fn has_bytes(board: &MemBoard, failed: u32, fill: Option<Fill>) -> bool {
-    for (place, byte) in board.bytes().iter().enumerate() {
-        if *byte != wanted_byte(place as u32, failed, fill) {
+    for place in 0..512 {
+        if !has_byte(board, place, wanted_byte(place, failed, fill)) {
             return false;
         }
     }
@@ -60,30 +56,27 @@ fn has_health(board: &MemBoard, step: Step, fill: Fill) -> bool {
     has_lost_pages(board, 0, 0, 32)
 }
 
-// A write whose call of a number meets a fault.
-fn fails(rt: &impl Abort, alloc: Global, failed: u32, number: u32) -> Result<(), NoMemory>
-    requires few { failed ≤ 5 }
-{
+// Whether a write whose call of a number meets a fault stops there, and leaves what the steps say.
+fn stops(alloc: Global, failed: u32, number: u32) -> Result<bool, Fail> {
     let mut board = block_board(alloc)?;
     let image = image(alloc, LEN)?;
     let (planned, fill) = fault(number);
     board.plan_fault(failed, planned)?;
-    if let (Some(step), Err(stopped)) = (step(failed), write_blocks(&mut board, image.as_slice())) {
-        check(rt, stopped.at == step.at);
-        check(rt, has_bytes(&board, failed, Some(fill)));
-        check(rt, has_health(&board, step, fill));
-        check(rt, board.faults() == 1);
-    } else {
-        check(rt, false);
-    }
-    Ok(())
+    let Some(step) = step(failed) else {
+        return Ok(false);
+    };
+    let Some(Err(stopped)) = write_blocks(&mut board, image.as_slice()) else {
+        return Ok(false);
+    };
+    let left = has_bytes(&board, failed, Some(fill)) && has_health(&board, step, fill);
+    Ok(left && stopped.at == step.at && board.faults() == 1)
 }
 
 #[test]
 fn each_call_that_fails_or_is_cut(rt: HostRuntime) -> Result<(), Fail> {
     for failed in 0..6 {
         for number in 0..8 {
-            fails(&rt, rt.alloc(), failed, number)?;
+            check(&rt, stops(rt.alloc(), failed, number)?);
         }
     }
     Ok(())
@@ -93,37 +86,34 @@ fn each_call_that_fails_or_is_cut(rt: HostRuntime) -> Result<(), Fail> {
 fn an_image_with_a_part_of_a_page(rt: HostRuntime) -> Result<(), Fail> {
     let mut board = block_board(rt.alloc())?;
     let image = image(rt.alloc(), LEN)?;
-    assert!(rt; write_blocks(&mut board, image.as_slice()).is_ok());
+    assert!(rt; write_blocks(&mut board, image.as_slice()) == Some(Ok(())));
     assert!(rt; has_bytes(&board, 6, None));
     assert!(rt; board.erase_count() == 3);
     assert!(rt; board.programs() == 3);
     Ok(())
 }
 
-// How many programs an image takes, and what stands in the slot then.
-fn programs(rt: &impl Abort, alloc: Global, len: u32) -> Result<u64, NoMemory>
-    requires fits { len ≤ 192 }
-{
+// The slot as a whole: what stands there of an image, and 0xFF after it.
+fn slot() -> Step {
+    Step {
+        at: 128,
+        len: 192,
+        erases: false,
+    }
+}
+
+// How many programs an image takes, that fills the slot as it is to.
+fn programs(rt: &impl Abort, alloc: Global, len: u32) -> Result<u64, Fail> {
     let mut board = block_board(alloc)?;
     let image = image(alloc, len)?;
-    check(rt, write_blocks(&mut board, image.as_slice()).is_ok());
+    check(
+        rt,
+        write_blocks(&mut board, image.as_slice()) == Some(Ok(())),
+    );
     check(rt, board.erase_count() == 3);
-    let end = SLOT.at + SLOT.size;
-    let slot = Step {
-        at: SLOT.at,
-        len: SLOT.size,
-        erases: false,
-    };
-    for (place, byte) in board.bytes().iter().enumerate() {
-        let place = place as u32;
-        check(
-            rt,
-            place >= SLOT.at && place < end || *byte == byte_before(place),
-        );
-        check(
-            rt,
-            *byte == byte_after(slot, place, len, None, byte_before(place)),
-        );
+    for place in 0..512 {
+        let byte = byte_after(slot(), place, len, None, byte_before(place));
+        check(rt, has_byte(&board, place, byte));
     }
     Ok(board.programs())
 }

@@ -1,36 +1,24 @@
 // A small board with a slot of 192 bytes in its middle, and an image for it.
-ghost use Rattle.std.specs.Prelude.{◌≡◌, ◌≤◌, IfOk, length};
-ghost use Rattle.test_installs.specs.Small.{in_blocks, in_place};
-
 use bb_base::{Bytes, NoMemory};
-use bb_flash::{Fault, Fill, Flash, Geometry, Health, MemBoard, Region};
+use bb_flash::{Fault, Fill, Flash, Geometry, Health, MemBoard, Region, geometry_of};
 use bb_install::{SlotFault, first_difference, write_slot};
 use std::alloc::Global;
 use std::process::Abort;
+use std::test::Fail;
 
-pub const SLOT: Region = Region { at: 128, size: 192 };
+const SLOT: Region = Region { at: 128, size: 192 };
 
-/// A device of 512 bytes in blocks of 64 and pages of 16.
-pub fn in_blocks() -> Geometry
-    ensures { result ≡ in_blocks }
-{
-    Geometry {
-        page: 16,
-        block: 64,
-        size: 512,
-    }
-}
+const IN_BLOCKS: Geometry = Geometry {
+    page: 16,
+    block: 64,
+    size: 512,
+};
 
-/// A device of 512 bytes that is overwritten in place.
-pub fn in_place() -> Geometry
-    ensures { result ≡ in_place }
-{
-    Geometry {
-        page: 1,
-        block: 0,
-        size: 512,
-    }
-}
+const IN_PLACE: Geometry = Geometry {
+    page: 1,
+    block: 0,
+    size: 512,
+};
 
 /// What stands on a board at a place before anything is written.
 pub fn byte_before(place: u32) -> u8 {
@@ -43,9 +31,7 @@ pub fn image_byte(offset: u32) -> u8 {
 }
 
 /// An image of so many bytes.
-pub fn image(alloc: Global, len: u32) -> Result<Bytes, NoMemory>
-    ensures { IfOk result (λ image. length image ≡ len) }
-{
+pub fn image(alloc: Global, len: u32) -> Result<Bytes, NoMemory> {
     let mut image = Bytes::none(alloc);
     for offset in 0..len {
         image.add(&[image_byte(offset)])?;
@@ -53,68 +39,80 @@ pub fn image(alloc: Global, len: u32) -> Result<Bytes, NoMemory>
     Ok(image)
 }
 
-fn bytes_before(alloc: Global) -> Result<Bytes, NoMemory>
-    ensures { IfOk result (λ bytes. length bytes ≡ 512) }
-{
+fn board(alloc: Global, geometry: &str) -> Result<MemBoard, Fail> {
+    let Some(geometry) = geometry_of(geometry) else {
+        return Err(Fail::from("the geometry is refused"));
+    };
     let mut bytes = Bytes::none(alloc);
     for place in 0..512 {
         bytes.add(&[byte_before(place)])?;
     }
-    Ok(bytes)
+    if bytes.as_slice().len() != geometry.size as usize {
+        return Err(Fail::from("another size"));
+    }
+    Ok(MemBoard::of(alloc, geometry, bytes.as_slice(), 64, 4096)?)
 }
 
-pub fn block_board(alloc: Global) -> Result<MemBoard, NoMemory>
-    ensures { IfOk result (λ board. board.geometry ≡ in_blocks) }
-{
-    MemBoard::of(
-        alloc,
-        in_blocks(),
-        bytes_before(alloc)?.as_slice(),
-        64,
-        4096,
-    )
+/// A device of 512 bytes in blocks of 64 and pages of 16.
+pub fn block_board(alloc: Global) -> Result<MemBoard, Fail> {
+    board(alloc, "er:16:64:512")
 }
 
-pub fn place_board(alloc: Global) -> Result<MemBoard, NoMemory>
-    ensures { IfOk result (λ board. board.geometry ≡ in_place) }
-{
-    MemBoard::of(alloc, in_place(), bytes_before(alloc)?.as_slice(), 64, 4096)
+/// A device of 512 bytes that is overwritten in place.
+pub fn place_board(alloc: Global) -> Result<MemBoard, Fail> {
+    board(alloc, "ov:512")
 }
 
-/// Writes an image to the slot of a board in blocks.
-pub fn write_blocks(board: &mut MemBoard, image: &[u8]) -> Result<(), SlotFault>
-    requires held { board.old.geometry ≡ in_blocks }
-    requires fits { length image.now ≤ 192 }
-    ensures { board.new.geometry ≡ board.old.geometry }
-{
-    write_slot(SLOT, image, &mut [0; 16], board)
+/// Writes an image to the slot of a board in blocks, where it is one and the image fits.
+pub fn write_blocks(board: &mut MemBoard, image: &[u8]) -> Option<Result<(), SlotFault>> {
+    if board.geometry() != IN_BLOCKS {
+        return None;
+    }
+    if image.len() > 192 {
+        return None;
+    }
+    Some(write_slot(SLOT, image, &mut [0; 16], board))
 }
 
-/// Writes an image to the slot of a board that is overwritten in place.
-pub fn write_place(board: &mut MemBoard, image: &[u8]) -> Result<(), SlotFault>
-    requires held { board.old.geometry ≡ in_place }
-    requires fits { length image.now ≤ 192 }
-    ensures { board.new.geometry ≡ board.old.geometry }
-{
-    write_slot(SLOT, image, &mut [0; 1], board)
+/// The same for a board that is overwritten in place.
+pub fn write_place(board: &mut MemBoard, image: &[u8]) -> Option<Result<(), SlotFault>> {
+    if board.geometry() != IN_PLACE {
+        return None;
+    }
+    if image.len() > 192 {
+        return None;
+    }
+    Some(write_slot(SLOT, image, &mut [0; 1], board))
 }
 
 /// The first difference of the slot and an image, read in pieces of 32 bytes.
-pub fn difference(board: &mut MemBoard, image: &[u8]) -> Option<Option<u32>>
-    requires held { board.old.geometry ≡ in_blocks }
-    requires fits { length image.now ≤ 192 }
-    ensures { board.new.geometry ≡ board.old.geometry }
-{
+pub fn difference(board: &mut MemBoard, image: &[u8]) -> Option<Option<u32>> {
+    if board.geometry() != IN_BLOCKS {
+        return None;
+    }
+    if image.len() > 192 {
+        return None;
+    }
     first_difference(SLOT, image, &mut [0; 32], board).ok()
 }
 
 /// The same on a board that is overwritten in place.
-pub fn difference_in_place(board: &mut MemBoard, image: &[u8]) -> Option<Option<u32>>
-    requires held { board.old.geometry ≡ in_place }
-    requires fits { length image.now ≤ 192 }
-    ensures { board.new.geometry ≡ board.old.geometry }
-{
+pub fn difference_in_place(board: &mut MemBoard, image: &[u8]) -> Option<Option<u32>> {
+    if board.geometry() != IN_PLACE {
+        return None;
+    }
+    if image.len() > 192 {
+        return None;
+    }
     first_difference(SLOT, image, &mut [0; 32], board).ok()
+}
+
+/// Sets the health of a page that the board has.
+pub fn set_health(board: &mut MemBoard, page: u32, health: Health) {
+    let geometry = board.geometry();
+    if u64::from(page) * u64::from(geometry.page) < u64::from(geometry.size) {
+        board.set_health(page, health);
+    }
 }
 
 /// A flash call on the slot, and the bytes that it touches.
@@ -126,27 +124,48 @@ pub struct Step {
 }
 
 impl Step {
-    pub fn touches(self, place: u32) -> bool {
-        self.at <= place && place - self.at < self.len
+    fn touches(self, place: u32) -> bool {
+        if place < self.at {
+            return false;
+        }
+        place - self.at < self.len
     }
 
     // What it leaves at a place, where the image has so many bytes.
     fn byte(self, place: u32, len: u32) -> u8 {
-        if self.erases || place < 128 || place - 128 >= len {
+        if self.erases {
+            return 0xFF;
+        }
+        if place < 128 {
+            return 0xFF;
+        }
+        let offset = place - 128;
+        if offset >= len {
             0xFF
         } else {
-            image_byte(place - 128)
+            image_byte(offset)
         }
     }
 
-    // What a call that failed leaves at a place that it touches.
+    // Whether a place is in the first half of what it touches.
+    fn halves(self, place: u32) -> bool {
+        if place < self.at {
+            return false;
+        }
+        place - self.at < self.len / 2
+    }
+
+    // What it leaves at a place that it touches, where it failed.
     fn torn_byte(self, place: u32, len: u32, fill: Fill, before: u8) -> u8 {
         match fill {
-            Fill::Old | Fill::Lost => before,
-            Fill::Half if place >= self.at && place - self.at < self.len / 2 => {
-                self.byte(place, len)
+            Fill::Old => before,
+            Fill::Lost => before,
+            Fill::Half => {
+                if self.halves(place) {
+                    return self.byte(place, len);
+                }
+                before
             }
-            Fill::Half => before,
             Fill::Junk => 0xA5,
         }
     }
@@ -176,6 +195,11 @@ pub fn fault(number: u32) -> (Fault, Fill) {
     } else {
         (Fault::Cut(fill), fill)
     }
+}
+
+/// Whether a board has this byte at a place.
+pub fn has_byte(board: &MemBoard, place: u32, byte: u8) -> bool {
+    board.bytes().get(place as usize).copied() == Some(byte)
 }
 
 /// Whether pages of a board from one on are Lost, and no others.

@@ -9,7 +9,7 @@ fn a_slot_holds_what_was_written(rt: HostRuntime) -> Result<(), Fail> {
     let mut board = block_board(rt.alloc())?;
     let image = image(rt.alloc(), 100)?;
     assert!(rt; difference(&mut board, image.as_slice()) == Some(Some(0)));
-    assert!(rt; write_blocks(&mut board, image.as_slice()).is_ok());
+    assert!(rt; write_blocks(&mut board, image.as_slice()) == Some(Ok(())));
     assert!(rt; difference(&mut board, image.as_slice()) == Some(None));
     assert!(rt; difference(&mut board, b"") == Some(None));
     Ok(())
@@ -20,7 +20,7 @@ fn a_longer_image_differs_at_its_end(rt: HostRuntime) -> Result<(), Fail> {
     let mut board = block_board(rt.alloc())?;
     let short = image(rt.alloc(), 100)?;
     let long = image(rt.alloc(), 150)?;
-    assert!(rt; write_blocks(&mut board, short.as_slice()).is_ok());
+    assert!(rt; write_blocks(&mut board, short.as_slice()) == Some(Ok(())));
     assert!(rt; difference(&mut board, long.as_slice()) == Some(Some(100)));
     Ok(())
 }
@@ -30,12 +30,12 @@ fn a_longer_image_differs_at_its_end(rt: HostRuntime) -> Result<(), Fail> {
 fn a_lost_page_differs(rt: HostRuntime) -> Result<(), Fail> {
     let mut board = block_board(rt.alloc())?;
     let image = image(rt.alloc(), 100)?;
-    assert!(rt; write_blocks(&mut board, image.as_slice()).is_ok());
-    board.set_health(12, Health::Lost);
+    assert!(rt; write_blocks(&mut board, image.as_slice()) == Some(Ok(())));
+    set_health(&mut board, 12, Health::Lost);
     assert!(rt; difference(&mut board, image.as_slice()) == Some(Some(64)));
-    board.set_health(11, Health::Worn);
+    set_health(&mut board, 11, Health::Worn);
     assert!(rt; difference(&mut board, image.as_slice()) == Some(Some(64)));
-    board.set_health(12, Health::Fine);
+    set_health(&mut board, 12, Health::Fine);
     assert!(rt; difference(&mut board, image.as_slice()) == Some(None));
     Ok(())
 }
@@ -44,9 +44,9 @@ fn a_lost_page_differs(rt: HostRuntime) -> Result<(), Fail> {
 fn in_place_a_lost_byte_differs(rt: HostRuntime) -> Result<(), Fail> {
     let mut board = place_board(rt.alloc())?;
     let image = image(rt.alloc(), 100)?;
-    assert!(rt; write_place(&mut board, image.as_slice()).is_ok());
+    assert!(rt; write_place(&mut board, image.as_slice()) == Some(Ok(())));
     assert!(rt; difference_in_place(&mut board, image.as_slice()) == Some(None));
-    board.set_health(205, Health::Lost);
+    set_health(&mut board, 205, Health::Lost);
     assert!(rt; difference_in_place(&mut board, image.as_slice()) == Some(Some(77)));
     Ok(())
 }

@@ -1,12 +1,9 @@
-ghost use Rattle.std.specs.Prelude.{◌≡◌, ◌≤◌};
-
 use super::board::{
-    Step, byte_after, byte_before, check, fault, has_lost_pages, image, place_board, write_place,
+    Step, byte_after, byte_before, check, fault, has_byte, has_lost_pages, image, place_board,
+    write_place,
 };
-use bb_base::NoMemory;
 use bb_flash::{Fill, MemBoard};
 use std::alloc::Global;
-use std::process::Abort;
 use std::test::Fail;
 
 const LEN: u32 = 100;
@@ -21,35 +18,33 @@ fn step() -> Step {
 }
 
 fn has_bytes(board: &MemBoard, fill: Option<Fill>) -> bool {
-    for (place, byte) in board.bytes().iter().enumerate() {
-        let place = place as u32;
-        if *byte != byte_after(step(), place, LEN, fill, byte_before(place)) {
+    for place in 0..512 {
+        let byte = byte_after(step(), place, LEN, fill, byte_before(place));
+        if !has_byte(board, place, byte) {
             return false;
         }
     }
     true
 }
 
-fn fails(rt: &impl Abort, alloc: Global, number: u32) -> Result<(), NoMemory> {
+// Whether a write that meets a fault stops at the slot's start, and leaves what the step says.
+fn stops(alloc: Global, number: u32) -> Result<bool, Fail> {
     let mut board = place_board(alloc)?;
     let image = image(alloc, LEN)?;
     let (planned, fill) = fault(number);
     board.plan_fault(0, planned)?;
-    if let Err(stopped) = write_place(&mut board, image.as_slice()) {
-        check(rt, stopped.at == 128);
-        check(rt, has_bytes(&board, Some(fill)));
-        let lost = if fill == Fill::Lost { 228 } else { 128 };
-        check(rt, has_lost_pages(&board, 128, lost, 512));
-    } else {
-        check(rt, false);
-    }
-    Ok(())
+    let Some(Err(stopped)) = write_place(&mut board, image.as_slice()) else {
+        return Ok(false);
+    };
+    let end = if fill == Fill::Lost { 228 } else { 128 };
+    let left = has_bytes(&board, Some(fill)) && has_lost_pages(&board, 128, end, 512);
+    Ok(left && stopped.at == 128 && board.faults() == 1)
 }
 
 #[test]
 fn a_program_that_fails_or_is_cut(rt: HostRuntime) -> Result<(), Fail> {
     for number in 0..8 {
-        fails(&rt, rt.alloc(), number)?;
+        check(&rt, stops(rt.alloc(), number)?);
     }
     Ok(())
 }
@@ -58,7 +53,7 @@ fn a_program_that_fails_or_is_cut(rt: HostRuntime) -> Result<(), Fail> {
 fn only_the_bytes_of_the_image_are_written(rt: HostRuntime) -> Result<(), Fail> {
     let mut board = place_board(rt.alloc())?;
     let image = image(rt.alloc(), LEN)?;
-    assert!(rt; write_place(&mut board, image.as_slice()).is_ok());
+    assert!(rt; write_place(&mut board, image.as_slice()) == Some(Ok(())));
     assert!(rt; has_bytes(&board, None));
     assert!(rt; board.programs() == 1);
     assert!(rt; board.erase_count() == 0);

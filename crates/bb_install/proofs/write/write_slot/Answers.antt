@@ -3,7 +3,9 @@ use Rattle.std.proofs.lemmas.Result.{err_from_is_err_and}
 use Rattle.bb_flash.specs.declared.geometry.Geometry.{Geometry}
 use Rattle.bb_bucket.specs.Blocks.{filled_to}
 use Rattle.bb_bucket.proofs.Outcomes.{on_ok_weaker}
+use Rattle.bb_install.specs.declared.slot_fault.SlotFault.{SlotFault}
 use Rattle.bb_install.specs.Parts.{PartFails, StopsPaging}
+use Rattle.bb_install.specs.Writing.{StopsAt}
 use Rattle.bb_install.specs.Ranges.{paged_len, program_len}
 use Rattle.bb_install.proofs.Ending.{HasRest, ends_part, ends_whole, err_both, last_fits, paged_as, pages_paged, pages_stop, rest_none, rest_small, rest_some, rest_stops, split_paged, tail_as}
 use Rattle.bb_install.proofs.Installing.{erased_blank}
@@ -196,7 +198,7 @@ returns-clause-failed g c =
     let r = c.in_ok-program_pages.ensures in
     let filled = c.fill_page.ensures ∙ ap (λ n. filled_to n rest) c.requires.page in
     let small : length rest ≤ geometry.page = omega (arith, rest_small geometry c.args.slot image pages rest left) in
-    err_both _ _ _ c.program_part.result
+    err_both (λ (fault : SlotFault). fault.at ≡ c.args.slot.at + length pages) (λ fault. PartFails fault.at c.fill_page.new.page to end) (λ fault. StopsAt c.args.slot image fault.at from end) c.program_part.result
     (λ fault place fails.
     inr (rest_stops c.args.slot image pages rest fault.at from mid to end left e.calls.within.later r.calls.within.later c.program_part.ensures.calls.within.later e.done
     (paged_as geometry c.args.slot pages c.program_len.result mid to len_is r.done) place

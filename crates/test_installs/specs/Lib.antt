@@ -1,2 +1,0 @@
--- The boards of the tests.
-pub mod Small
