@@ -1,5 +1,6 @@
 use super::board::{
-    block_board, difference, difference_in_place, image, place_board, write_blocks, write_place,
+    block_board, difference, difference_in_place, image, place_board, set_health, write_blocks,
+    write_place,
 };
 use bb_flash::Health;
 use std::test::Fail;
