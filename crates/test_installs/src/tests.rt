@@ -1,6 +1,0 @@
-mod blocks;
-mod board;
-mod compared;
-mod digests;
-mod slots;
-mod strides;
