@@ -1,10 +1,10 @@
 -- What is blank in a slot that was erased, and stays so while pages before it are programmed.
-use Rattle.std.proofs.Common.{◌≡◌, ◌≢◌, ℕ, zero, suc, ◌+◌, ◌-◌, ◌*◌, ◌/◌, ◌%◌, ◌<◌, ◌≤◌, ◌∙◌, List, ◌++◌, length, take, drop, replicate, ap, sym, subst, refl, arith}
+use Rattle.std.proofs.Common.{◌≡◌, ℕ, zero, suc, ◌+◌, ◌-◌, ◌/◌, ◌%◌, ◌<◌, ◌≤◌, ◌∙◌, List, length, take, drop, replicate, ap, sym, refl, arith}
 use Rattle.std.proofs.lemmas.List.{drop-replicate, length-replicate, take-replicate}
 use Rattle.std.proofs.lemmas.Nat.{le-div}
 use Rattle.std.proofs.lemmas.Slice.{drop-append-drop}
 use Rattle.bb_flash.specs.declared.health.Health.{Health}
-use Rattle.bb_flash.specs.declared.health.Health.TheVariants.{Fine, Lost}
+use Rattle.bb_flash.specs.declared.health.Health.TheVariants.{Fine}
 use Rattle.bb_flash.specs.Image.{Image, IsBlank, health_of, page_count, touched_pages, with_items_at, worst_of}
 use Rattle.bb_flash.proofs.Geometries.{whole_times}
 use Rattle.bb_flash.proofs.Tearing.{touched_pages-some}

@@ -1,7 +1,6 @@
 -- What reads say of the bytes that stand at a place of a device.
-use Rattle.std.proofs.Common.{◌≡◌, ◌≢◌, ℕ, zero, suc, ◌+◌, ◌-◌, ◌*◌, ◌/◌, ◌%◌, ◌<◌, ◌≤◌, ◌∙◌, ◌⊎◌, ◌||◌, min, Bool, true, false, List, [], ◌∷◌, ◌++◌, length, take, drop, fold, slice_get, Option, Some, None, IfSome, ap, sym, subst, refl, arith, inl, inr, take-add, length-append}
+use Rattle.std.proofs.Common.{◌≡◌, ◌≢◌, ℕ, zero, suc, ◌+◌, ◌-◌, ◌/◌, ◌%◌, ◌<◌, ◌≤◌, ◌∙◌, ◌||◌, Bool, true, false, List, [], ◌∷◌, ◌++◌, length, take, drop, fold, slice_get, Option, Some, None, IfSome, ap, sym, subst, refl, arith, inl, inr, take-add, length-append}
 use Rattle.std.proofs.Math.Nat.{add-mul, lt_of_mul-lt-mul_right}
-use Rattle.std.proofs.Math.Seq.{take-append_seam}
 use Rattle.std.proofs.lemmas.Grind.{div_ceil_times}
 use Rattle.std.proofs.lemmas.List.{append-nil, drop-drop, length-drop, length-take, length-take-le, take-take}
 use Rattle.std.proofs.lemmas.List.Folds.{list_any-append}
@@ -17,8 +16,8 @@ use Rattle.bb_flash.proofs.Readings.{exact_reading}
 use Rattle.bb_flash.proofs.Tearing.{touched_pages-some}
 use Rattle.bb_bucket.specs.Front.{is_lost}
 use Rattle.bb_bucket.proofs.Pages.{div_moved, page_count_whole}
-use Rattle.bb_install.specs.Compared.{IsDifference, IsDifferenceAt, IsUnequal, IsUnequalAt}
-use Rattle.bb_install.specs.Holding.{IsComparison, IsFirstDifference, SlotHolds, HasBytesAt}
+use Rattle.bb_install.specs.Compared.{IsDifference, IsUnequal}
+use Rattle.bb_install.specs.Holding.{IsComparison, HasBytesAt}
 
 -- ---- whether a page is Lost
 

@@ -1,15 +1,14 @@
 -- How a write of an image to a slot ends.
-use Rattle.std.proofs.Common.{◌≡◌, ℕ, zero, suc, ◌+◌, ◌-◌, ◌*◌, ◌/◌, ◌%◌, ◌<◌, ◌≤◌, ◌==◌, ◌∙◌, ◌⊎◌, min, Bool, true, false, cond, List, [], ◌∷◌, ◌++◌, length, take, drop, take_all, replicate, Option, Some, None, Result, Ok, Err, IfErr, ap, sym, subst, refl, arith, inl, inr, option_map, append_assoc, length-append, length-drop}
+use Rattle.std.proofs.Common.{◌≡◌, ℕ, ◌+◌, ◌-◌, ◌*◌, ◌/◌, ◌%◌, ◌<◌, ◌≤◌, ◌==◌, ◌∙◌, Bool, true, false, cond, List, [], ◌∷◌, ◌++◌, length, take, drop, take_all, replicate, Result, Ok, Err, IfErr, ap, sym, subst, refl, arith, inl, inr, option_map, append_assoc, length-append, length-drop}
 use Rattle.std.proofs.Math.Nat.{add-mul, div-add-mod', lt_of_mul-lt-mul_right, mod-one, mod-lt, mod_self, mul-le-mul_right, mul-mod_left}
 use Rattle.std.proofs.Math.Seq.{take-append_seam}
 use Rattle.std.proofs.lemmas.Bool.Decides.{nat_tests}
-use Rattle.std.proofs.lemmas.List.{append-nil, drop-replicate, length-replicate, length-take-le, take-append-drop, take-append-le, take-take}
+use Rattle.std.proofs.lemmas.List.{append-nil, length-replicate, length-take-le, take-append-drop, take-take}
 use Rattle.std.specs.Int.{div_ceil}
-use Rattle.std.specs.Option.{ForSome}
 use Rattle.bb_flash.specs.declared.geometry.Geometry.{Geometry}
 use Rattle.bb_flash.specs.declared.region.Region.{Region}
 use Rattle.bb_flash.specs.Cuts.{IsLater}
-use Rattle.bb_flash.specs.Device.{Device, content, erases}
+use Rattle.bb_flash.specs.Device.{Device, erases}
 use Rattle.bb_flash.specs.Geometry.{IsGeometry}
 use Rattle.bb_flash.specs.Image.{Image}
 use Rattle.bb_flash.proofs.Geometries.{whole_times}
@@ -17,12 +16,11 @@ use Rattle.bb_flash.proofs.Moments.{later_joined}
 use Rattle.bb_bucket.proofs.Pages.{sum_aligned}
 use Rattle.bb_bucket.specs.Blocks.{filled_to}
 use Rattle.bb_bucket.specs.Front.{put_at}
-use Rattle.bb_bucket.specs.Kind.{LiesOn, part_of}
 use Rattle.bb_install.specs.Holding.{SlotHolds}
-use Rattle.bb_install.specs.Parts.{EachBlank, PartFails, StopsPaging}
+use Rattle.bb_install.specs.Parts.{PartFails, StopsPaging}
 use Rattle.bb_install.specs.Ranges.{block_ranges, last_range, paged_len, piece_ranges, program_len, slot_ranges}
 use Rattle.bb_install.specs.Slot.{HasPlace}
-use Rattle.bb_install.specs.Writing.{IsInstalled, SlotWrites, StopsAmong, StopsProgramming, erases_of_slot, slot_text}
+use Rattle.bb_install.specs.Writing.{IsInstalled, SlotWrites, StopsProgramming, erases_of_slot, slot_text}
 use Rattle.bb_install.proofs.Installing.{filled_size, installed, last_none, last_some, not_zero, over_blocks, over_whole}
 use Rattle.bb_install.proofs.Making.{leaves_as, stops_among_more, stops_at, writes_as, writes_joined}
 use Rattle.bb_install.proofs.Places.{none_or_some, slot_lies}

@@ -1,11 +1,10 @@
 -- Worked values, by computation alone.
-use Rattle.std.proofs.Common.{◌≡◌, ◌≢◌, ℕ, ◌+◌, [], ◌∷◌, ◌++◌, List, refl, codes, replicate, Ok, Err, Result, lit≤, lit<, inl, inr}
-use Rattle.std.specs.Prelude.{Some, None}
+use Rattle.std.proofs.Common.{◌≡◌, ℕ, [], ◌∷◌, ◌++◌, List, refl, codes, Ok, Err, Result, lit≤, lit<, inl, inr}
 use Rattle.bb_flash.specs.declared.geometry.Geometry.{Geometry}
 use Rattle.bb_flash.specs.declared.health.Health.TheVariants.{Fine, Lost}
 use Rattle.bb_flash.specs.declared.region.Region.{Region}
 use Rattle.bb_flash.specs.Image.{Image}
-use Rattle.bb_tree.specs.Node.{Branch, Forest, empty, node}
+use Rattle.bb_tree.specs.Node.{Forest, empty, node}
 use Rattle.bb_install.specs.declared.slot_error.SlotError.{SlotError}
 use Rattle.bb_install.specs.declared.slot_error.SlotError.TheVariants.{BadReg, NoSlot, OutOfDevice, Overlap, Unaligned}
 use Rattle.bb_install.specs.Holding.{IsFirstDifference, SlotHolds}

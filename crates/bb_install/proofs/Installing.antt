@@ -1,18 +1,17 @@
 -- All calls that write an image to a slot, joined.
-use Rattle.std.proofs.Common.{◌≡◌, ℕ, zero, suc, ◌+◌, ◌-◌, ◌*◌, ◌/◌, ◌%◌, ◌<◌, ◌≤◌, ◌==◌, ◌∙◌, ◌⊎◌, min, Bool, true, false, cond, List, [], ◌∷◌, ◌++◌, length, take, drop, take_all, replicate, Option, Some, None, ap, sym, subst, refl, arith, inl, inr, option_map, append_assoc, length-append}
-use Rattle.std.proofs.Math.Nat.{mod-one, mul-zero}
+use Rattle.std.proofs.Common.{◌≡◌, ℕ, ◌+◌, ◌-◌, ◌*◌, ◌/◌, ◌%◌, ◌<◌, ◌≤◌, ◌==◌, ◌∙◌, Bool, false, cond, List, [], ◌∷◌, ◌++◌, length, take, drop, take_all, replicate, ap, sym, subst, arith, inl, inr, option_map, append_assoc, length-append}
+use Rattle.std.proofs.Math.Nat.{mul-zero}
 use Rattle.std.proofs.lemmas.Grind.{div_ceil_times}
 use Rattle.std.proofs.Math.Seq.{drop-append-add, take-append_seam}
 use Rattle.std.proofs.lemmas.Bool.Decides.{nat_tests}
-use Rattle.std.proofs.lemmas.List.{append-nil, drop-replicate, length-drop, length-replicate, length-take-le, replicate-append-replicate, take-append-drop, take-replicate, take-take}
-use Rattle.std.specs.Int.{div_ceil}
+use Rattle.std.proofs.lemmas.List.{append-nil, drop-replicate, length-replicate, replicate-append-replicate}
 use Rattle.std.specs.Option.{ForSome}
 use Rattle.bb_flash.specs.declared.geometry.Geometry.{Geometry}
 use Rattle.bb_flash.specs.declared.region.Region.{Region}
 use Rattle.bb_flash.specs.Cuts.{IsLater}
 use Rattle.bb_flash.specs.Device.{Device, content, erases}
 use Rattle.bb_flash.specs.Geometry.{IsGeometry}
-use Rattle.bb_flash.specs.Image.{Image, IsBlank}
+use Rattle.bb_flash.specs.Image.{Image}
 use Rattle.bb_flash.proofs.Geometries.{whole_times}
 use Rattle.bb_bucket.specs.Blocks.{filled_len, filled_to}
 use Rattle.bb_bucket.specs.Calls.{Leaves}
@@ -21,16 +20,14 @@ use Rattle.bb_bucket.specs.Kind.{LiesOn, part_of}
 use Rattle.bb_bucket.proofs.Pages.{filled_fits}
 use Rattle.bb_bucket.proofs.Runs.{part_after}
 use Rattle.bb_install.specs.Holding.{HasBytesAt, SlotHolds}
-use Rattle.bb_install.specs.Parts.{EachBlank, PartFails, StopsPaging}
-use Rattle.bb_install.specs.Ranges.{block_ranges, last_range, paged_len, piece_ranges, program_len, slot_ranges}
+use Rattle.bb_install.specs.Parts.{EachBlank}
+use Rattle.bb_install.specs.Ranges.{last_range, paged_len, slot_ranges}
 use Rattle.bb_install.specs.Slot.{HasPlace}
-use Rattle.bb_install.specs.Writing.{IsInstalled, SlotWrites, StopsAmong, StopsProgramming, erases_of_slot, slot_text}
+use Rattle.bb_install.specs.Writing.{IsInstalled, SlotWrites, erases_of_slot, slot_text}
 use Rattle.bb_install.proofs.Blanking.{each_blank}
-use Rattle.bb_install.proofs.Making.{leaves_as, stops_among_more, stops_at, writes_as, writes_joined}
 use Rattle.bb_install.proofs.Places.{none_or_some, slot_lies}
 use Rattle.bb_install.proofs.Putting.{put_none, put_over}
 use Rattle.bb_install.proofs.Standing.{put_holds, put_stands, stands_blank}
-use Rattle.bb_install.proofs.Turns.{front_stands, region_is}
 
 -- ---- the text that is written
 

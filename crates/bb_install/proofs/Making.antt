@@ -1,21 +1,19 @@
 -- Calls on a slot, one after another.
-use Rattle.std.proofs.Common.{◌≡◌, ℕ, zero, suc, ◌+◌, ◌-◌, ◌*◌, ◌/◌, ◌<◌, ◌≤◌, ◌∙◌, ◌⊎◌, List, [], ◌∷◌, ◌++◌, length, map, take, drop, Option, Some, None, Result, Ok, Err, ap, sym, subst, refl, arith, inl, inr, append_assoc, option_map, is_err}
+use Rattle.std.proofs.Common.{◌≡◌, ℕ, ◌+◌, ◌<◌, ◌∙◌, ◌⊎◌, List, [], ◌∷◌, ◌++◌, length, map, drop, Option, Some, None, Result, Ok, Err, ap, sym, subst, refl, arith, inl, inr, append_assoc, option_map, is_err}
 use Rattle.std.specs.List.{range_with_len}
 use Rattle.std.specs.Option.{ForSome, is_some}
 use Rattle.std.proofs.lemmas.List.{append-nil, map-append, take-append-drop}
 use Rattle.std.proofs.lemmas.List.FromFn.{map-range_with_len_more, take-map-range_with_len}
 use Rattle.bb_base.specs.Faults.{counted}
-use Rattle.bb_flash.specs.declared.geometry.Geometry.{Geometry}
 use Rattle.bb_flash.specs.declared.region.Region.{Region}
 use Rattle.bb_flash.specs.Calls.{ChangesOnly, HasNoChange, IsTornBy}
 use Rattle.bb_flash.specs.Cuts.{IsLater}
 use Rattle.bb_flash.specs.Device.{Change, Device, IsDevice, Told, change_of}
 use Rattle.bb_flash.specs.Image.{Image}
-use Rattle.bb_bucket.specs.Calls.{ChangesWithin, Leaves, range_of}
+use Rattle.bb_bucket.specs.Calls.{Leaves, range_of}
 use Rattle.bb_bucket.specs.Kind.{part_of}
 use Rattle.bb_bucket.proofs.Quiet.{quiet_same}
 use Rattle.bb_bucket.proofs.Runs.{leaves_joined, some_of, within_joined, within_of_quiet}
-use Rattle.bb_install.specs.Parts.{PartFails}
 use Rattle.bb_install.specs.Writing.{AreMade, SlotCalls, SlotWrites, StopsAmong}
 
 -- ---- the ranges of changes

@@ -1,14 +1,13 @@
 -- One flash call on a slot.
-use Rattle.std.proofs.Common.{◌≡◌, ℕ, ◌+◌, ◌*◌, ◌/◌, ◌%◌, ◌<◌, ◌≤◌, ◌∙◌, List, [], ◌∷◌, ◌++◌, length, replicate, Option, Some, None, Result, Ok, Err, ap, sym, subst, refl, arith, option_map, is_err}
+use Rattle.std.proofs.Common.{◌≡◌, ℕ, ◌+◌, ◌*◌, ◌/◌, ◌%◌, ◌<◌, ◌≤◌, ◌∙◌, List, [], ◌∷◌, length, Option, Some, None, Result, ap, sym, subst, refl, arith, option_map, is_err}
 use Rattle.std.proofs.lemmas.List.{length-replicate}
-use Rattle.std.specs.Option.{ForSome}
 use Rattle.bb_base.specs.Faults.{counted}
 use Rattle.bb_flash.specs.declared.geometry.Geometry.{Geometry}
 use Rattle.bb_flash.specs.declared.health.Health.TheVariants.{Fine}
 use Rattle.bb_flash.specs.declared.region.Region.{Region}
 use Rattle.bb_flash.specs.Calls.{ChangesOnly, IsChangeCall, erased_bytes, told_after_erase, told_after_program}
-use Rattle.bb_flash.specs.Device.{Change, Device, IsDevice, Told, change_of, erases}
-use Rattle.bb_flash.specs.Image.{Image, IsImageOf, with_bytes}
+use Rattle.bb_flash.specs.Device.{Device, IsDevice, Told, change_of, erases}
+use Rattle.bb_flash.specs.Image.{IsImageOf, with_bytes}
 use Rattle.bb_flash.proofs.Geometries.{whole_times}
 use Rattle.bb_bucket.specs.Calls.{Leaves, range_of}
 use Rattle.bb_bucket.specs.Front.{put_at}

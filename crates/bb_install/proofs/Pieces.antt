@@ -1,5 +1,5 @@
 -- A text that is cut into pieces of a length.
-use Rattle.std.proofs.Common.{◌≡◌, ℕ, ◌+◌, ◌-◌, ◌*◌, ◌/◌, ◌%◌, ◌<◌, ◌≤◌, ◌∙◌, min, List, ◌++◌, length, take, drop, take_all, ap, sym, refl, arith, inl, inr, ◌⊎◌, take-add, length-drop}
+use Rattle.std.proofs.Common.{◌≡◌, ℕ, ◌+◌, ◌-◌, ◌*◌, ◌%◌, ◌<◌, ◌≤◌, ◌∙◌, min, List, ◌++◌, length, take, drop, ap, sym, arith, inl, inr, take-add, length-drop}
 use Rattle.std.proofs.Math.Nat.{add-mul, mul-le-mul_right, mul-mod_left}
 use Rattle.std.proofs.lemmas.Grind.{div_ceil_times}
 use Rattle.std.proofs.lemmas.Bool.{cases_lt}

@@ -1,5 +1,5 @@
 -- Slots that have a place on a device, and regions that share a byte.
-use Rattle.std.proofs.Common.{◌≡◌, ℕ, zero, suc, ◌+◌, ◌<◌, ◌≤◌, ◌%◌, ◌∙◌, ◌⊎◌, Bool, true, false, min, max, nat_lt, ap, sym, arith, inl, inr, refl}
+use Rattle.std.proofs.Common.{◌≡◌, ℕ, zero, suc, ◌+◌, ◌<◌, ◌≤◌, ◌%◌, ◌∙◌, ◌⊎◌, true, false, min, max, ap, arith, inl, inr, refl}
 use Rattle.std.proofs.Math.Nat.{mod-one}
 use Rattle.std.proofs.lemmas.Bool.Decides.{nat_tests}
 use Rattle.bb_flash.specs.declared.geometry.Geometry.{Geometry}

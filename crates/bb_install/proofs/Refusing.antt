@@ -1,12 +1,11 @@
 -- What the answer for a slot is, and why.
-use Rattle.std.proofs.Common.{◌≡◌, ℕ, ◌+◌, ◌≤◌, ◌∙◌, ◌↔◌, Bool, true, false, List, Option, Some, None, Result, Ok, Err, IfOk, ap, sym, subst, refl, arith, nat_lt, ok_or, option_and_then, if◌then◌else◌}
+use Rattle.std.proofs.Common.{◌≡◌, ℕ, ◌+◌, ◌∙◌, ◌↔◌, Bool, true, false, List, Option, Some, None, Result, Ok, Err, IfOk, ap, sym, subst, refl, arith, nat_lt, ok_or, option_and_then, if◌then◌else◌}
 use Rattle.std.proofs.lemmas.Bool.Decides.{nat_tests}
-use Rattle.std.specs.Result.{result_map_both}
 use Rattle.bb_flash.specs.declared.geometry.Geometry.{Geometry}
 use Rattle.bb_flash.specs.declared.region.Region.{Region}
 use Rattle.bb_tree.specs.Node.{Branch}
 use Rattle.bb_layout.specs.Backend.{partition_of}
-use Rattle.bb_layout.specs.Storage.{check_place, is_aligned}
+use Rattle.bb_layout.specs.Storage.{is_aligned}
 use Rattle.bb_install.specs.declared.slot_error.SlotError.{SlotError}
 use Rattle.bb_install.specs.declared.slot_error.SlotError.TheVariants.{BadReg, NoSlot, OutOfDevice, Overlap, Unaligned}
 use Rattle.bb_install.specs.Slot.{HasBadReg, HasNoSlot, HasPlace, IsMisplaced, Overlaps, SharesByte, SlotQuestion, regions_meet, slot_from, slot_node, slot_place, slot_region, slot_then}

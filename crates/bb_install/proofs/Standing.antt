@@ -1,5 +1,5 @@
 -- What stands in a slot, seen on its device; and what a call beside it leaves.
-use Rattle.std.proofs.Common.{◌≡◌, ◌≢◌, ℕ, ◌+◌, ◌-◌, ◌/◌, ◌%◌, ◌<◌, ◌≤◌, ◌∙◌, ◌⊎◌, List, ◌++◌, length, take, drop, replicate, Some, ap, sym, subst, refl, arith, inl, inr, length-append, append_assoc, option_map}
+use Rattle.std.proofs.Common.{◌≡◌, ◌≢◌, ℕ, ◌+◌, ◌-◌, ◌%◌, ◌<◌, ◌≤◌, ◌∙◌, List, ◌++◌, length, take, drop, replicate, ap, sym, subst, arith, inl}
 use Rattle.std.proofs.Math.Seq.{drop-append-add}
 use Rattle.std.proofs.lemmas.List.{drop-append-le, drop-drop, length-drop, length-replicate, length-take-le, take-append-le}
 use Rattle.std.specs.Option.{ForSome}
@@ -8,16 +8,14 @@ use Rattle.bb_flash.specs.declared.health.Health.{Health}
 use Rattle.bb_flash.specs.declared.health.Health.TheVariants.{Fine, Lost}
 use Rattle.bb_flash.specs.declared.region.Region.{Region}
 use Rattle.bb_flash.specs.Calls.{ChangesOnly}
-use Rattle.bb_flash.specs.Cuts.{EachImage, EachTorn, IsLater, IsSameRegion}
-use Rattle.bb_flash.specs.Device.{Device, IsDevice, Told, content, moment}
-use Rattle.bb_flash.specs.Image.{Image, IsBlank, IsImageOf, health_of, worst_of}
+use Rattle.bb_flash.specs.Cuts.{IsLater, IsSameRegion}
+use Rattle.bb_flash.specs.Device.{Device, moment}
+use Rattle.bb_flash.specs.Image.{Image, IsBlank, health_of, worst_of}
 use Rattle.bb_flash.proofs.Moments.{Cuts-now, images_beside, torn_of_call}
-use Rattle.bb_bucket.specs.Calls.{Leaves}
 use Rattle.bb_bucket.specs.Front.{put_at}
 use Rattle.bb_bucket.specs.FrontLaws.{written_fine}
 use Rattle.bb_bucket.specs.Kind.{LiesOn, part_of}
 use Rattle.bb_bucket.proofs.Pages.{take-drop-part}
-use Rattle.bb_bucket.proofs.Runs.{part_after}
 use Rattle.bb_bucket.proofs.Within.{health_of-part}
 use Rattle.bb_install.specs.Holding.{SlotHolds, HasBytesAt}
 use Rattle.bb_install.proofs.Putting.{items_front}

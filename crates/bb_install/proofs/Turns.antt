@@ -1,11 +1,10 @@
 -- One more call of a loop over a slot: what the calls so far make of it, and what a failed one
 -- leaves.
-use Rattle.std.proofs.Common.{◌≡◌, ℕ, zero, suc, ◌+◌, ◌-◌, ◌*◌, ◌/◌, ◌%◌, ◌<◌, ◌≤◌, ◌∙◌, min, List, [], ◌∷◌, ◌++◌, length, map, take, drop, take_all, replicate, Option, Some, None, ap, sym, subst, refl, arith, option_map, inl, inr, ◌⊎◌}
+use Rattle.std.proofs.Common.{◌≡◌, ℕ, ◌+◌, ◌-◌, ◌*◌, ◌/◌, ◌%◌, ◌<◌, ◌≤◌, ◌∙◌, min, List, [], ◌∷◌, ◌++◌, length, take, drop, take_all, replicate, Option, Some, None, ap, sym, subst, refl, arith, option_map, inl, inr}
 use Rattle.std.specs.Int.{div_ceil}
-use Rattle.std.specs.List.{range_with_len}
 use Rattle.std.specs.Option.{ForSome, is_some}
 use Rattle.std.proofs.Math.Nat.{div-zero, mul-add-div_right, mul-div_cancel, mul-le-mul_right}
-use Rattle.std.proofs.lemmas.List.{length-drop, length-replicate, length-take, length-take-le, replicate-append-replicate, take-replicate}
+use Rattle.std.proofs.lemmas.List.{length-drop, length-replicate, length-take, length-take-le, replicate-append-replicate}
 use Rattle.std.proofs.lemmas.List.FromFn.{map-range_with_len_more}
 use Rattle.bb_flash.specs.declared.geometry.Geometry.{Geometry}
 use Rattle.bb_flash.specs.declared.region.Region.{Region}
@@ -24,13 +23,13 @@ use Rattle.bb_install.specs.Holding.{HasBytesAt, SlotHolds}
 use Rattle.bb_install.specs.Parts.{EachBlank, PartFails, StopsPaging}
 use Rattle.bb_install.specs.Ranges.{block_ranges, piece_ranges, slot_block, slot_piece}
 use Rattle.bb_install.specs.Slot.{HasPlace}
-use Rattle.bb_install.specs.Writing.{SlotWrites, StopsAmong, StopsErasing, counted_once, erases_of_slot}
+use Rattle.bb_install.specs.Writing.{SlotWrites, StopsErasing, erases_of_slot}
 use Rattle.bb_install.proofs.Blanking.{still_blank}
 use Rattle.bb_install.proofs.Making.{split_at, stops_at, writes_as, writes_joined}
 use Rattle.bb_install.proofs.Pieces.{next_piece, pieces_more, times_whole}
 use Rattle.bb_install.proofs.Places.{none_or_some, slot_lies}
-use Rattle.bb_install.proofs.Putting.{put_more, put_none}
-use Rattle.bb_install.proofs.Standing.{IsKept, blank_kept, kept_before, put_holds, put_stands, stands_blank, stands_kept}
+use Rattle.bb_install.proofs.Putting.{put_more}
+use Rattle.bb_install.proofs.Standing.{IsKept, kept_before, put_holds, stands_blank, stands_kept}
 
 -- ---- what a run left of the slot's front, after a call that failed behind it
 

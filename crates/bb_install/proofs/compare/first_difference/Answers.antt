@@ -1,6 +1,5 @@
-use Rattle.std.proofs.Common.{◌≡◌, ℕ, ◌+◌, ◌-◌, ◌%◌, ◌<◌, ◌∙◌, List, Option, Some, None, ap, sym, subst, refl, arith, length, take, drop}
+use Rattle.std.proofs.Common.{◌≡◌, ℕ, ◌+◌, ◌-◌, ◌%◌, ◌<◌, ◌∙◌, List, Option, Some, None, ap, subst, arith, length, take, drop}
 use Rattle.bb_flash.specs.declared.geometry.Geometry.{Geometry}
-use Rattle.bb_flash.specs.Image.{Image}
 use Rattle.bb_bucket.proofs.Pages.{sum_aligned}
 use Rattle.bb_bucket.proofs.Quiet.{keeps_of_quiet, quiet_joined}
 use Rattle.bb_tree.proofs.Changing.{not_some}

@@ -1,4 +1,4 @@
-use Rattle.std.proofs.Common.{◌≡◌, ◌+◌, ◌*◌, ◌/◌, ◌≤◌, ◌∙◌, ap, sym, refl, arith, is_err, length}
+use Rattle.std.proofs.Common.{◌+◌, ◌/◌, ◌≤◌, ap, sym, refl, arith, is_err, length}
 use Rattle.bb_flash.specs.declared.geometry.Geometry.{Geometry}
 use Rattle.bb_flash.specs.Calls.{erased_bytes}
 use Rattle.bb_install.proofs.Parting.{blank_len, block_place, calls_of_change, erase_call, erase_counted, erase_writes}

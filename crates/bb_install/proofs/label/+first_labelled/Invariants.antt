@@ -1,6 +1,5 @@
 use Rattle.std.proofs.Common.{◌≡◌, map, drop}
 use Rattle.std.specs.List.{find}
-use Rattle.std.specs.Option.{option_copied}
 use Rattle.bb_tree.specs.Node.{forest, preorder, preorder_of}
 use Rattle.bb_tree.specs.NodeViews.{branch_of}
 use Rattle.bb_install.specs.Slot.{has_label}

@@ -1,4 +1,4 @@
-use Rattle.std.proofs.Common.{◌≡◌, ◌+◌, ◌≤◌, ap, sym, arith, is_err, length}
+use Rattle.std.proofs.Common.{ap, sym, arith, is_err, length}
 use Rattle.bb_bucket.proofs.Erases.{blank_on_device}
 use Rattle.bb_bucket.proofs.Pages.{sum_aligned}
 use Rattle.bb_install.proofs.Parting.{calls_of_change, program_writes}

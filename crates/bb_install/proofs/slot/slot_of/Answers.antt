@@ -1,4 +1,3 @@
-use Rattle.std.proofs.Common.{◌≡◌}
 use Rattle.bb_install.specs.Slot.{slot_question}
 use Rattle.bb_install.proofs.Refusing.{apart_of_answer, bad_reg_exactly, no_slot_exactly, out_of_device_exactly, overlap_exactly, place_of_answer, unaligned_exactly}
 use Rattle.bb_install.proofs.slot.slot_of.Goals as goal
