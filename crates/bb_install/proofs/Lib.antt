@@ -1,0 +1,15 @@
+-- Lemmas.
+pub mod Blanking
+pub mod Comparing
+pub mod Counting
+pub mod Ending
+pub mod Examples
+pub mod Installing
+pub mod Making
+pub mod Parting
+pub mod Pieces
+pub mod Places
+pub mod Putting
+pub mod Refusing
+pub mod Standing
+pub mod Turns
