@@ -12,12 +12,12 @@ abbrev pub on_settings : List ℕ → List (List ℕ)
 on_settings command = on_board command (codes "-c" ∷ settings_name ∷ [])
 
 -- `-s` gives the second target a priority
-abbrev pub priority_set : ℕ → List ℕ
-priority_set value = codes "bootstate.system1.priority=" ++ decimal value
+abbrev pub priority_word : ℕ → List ℕ
+priority_word value = codes "bootstate.system1.priority=" ++ decimal value
 
 abbrev pub drill_words : DrillCommand → List (List ℕ)
 drill_words (Priority value) =
-    on_board (codes "state") (codes "-s" ∷ priority_set value ∷ [])
+    on_board (codes "state") (codes "-s" ∷ priority_word value ∷ [])
 drill_words Boot = on_settings (codes "boot")
 drill_words MarkGood = on_settings (codes "mark-good")
 drill_words Show = on_board (codes "state") []

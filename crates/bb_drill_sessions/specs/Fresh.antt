@@ -18,5 +18,5 @@ none_at (Some keyed) =
     (erased_passes_nothing keyed board_geometry.page fresh_image
     (record { size = 768; bytes = refl })))
 
-pub fresh_finds_none : session_rules.found fresh_image ≡ None
-fresh_finds_none = none_at board_keyed
+pub finds_none_fresh : session_rules.found fresh_image ≡ None
+finds_none_fresh = none_at board_keyed

@@ -28,7 +28,7 @@ impl DrillSessions {
 
 impl Sessions for DrillSessions {
     ghost use Rattle.std.specs.Prelude.{◌≡◌, IfOk, None, OnOk};
-    ghost use Rattle.bb_drill_sessions.specs.Fresh.{fresh_finds_none};
+    ghost use Rattle.bb_drill_sessions.specs.Fresh.{finds_none_fresh};
     ghost use Rattle.bb_drill_sessions.specs.Rules.{session_rules};
     ghost use Rattle.bb_drill_sessions.specs.Undisturbed.{session_runs};
 
@@ -57,7 +57,7 @@ impl Sessions for DrillSessions {
         session(alloc, board, command)
     }
 
-    ghost fresh = { fresh_finds_none };
+    ghost fresh = { finds_none_fresh };
 }
 
 // One session: its plan, and the work of it.

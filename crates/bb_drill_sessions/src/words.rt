@@ -1,6 +1,6 @@
 ghost use Rattle.std.specs.Prelude.{◌≡◌, ◌∷◌, [], IfOk};
 ghost use Rattle.bb_drill_sessions.specs.Commands.{drill_words, on_board, on_settings};
-ghost use Rattle.bb_drill_sessions.specs.Commands.{priority_set};
+ghost use Rattle.bb_drill_sessions.specs.Commands.{priority_word};
 
 use bb_base::{NoMemory, Text, TextList};
 use bb_drill::DrillCommand;
@@ -12,7 +12,7 @@ pub(crate) fn drill_words(alloc: Global, command: DrillCommand) -> Result<TextLi
 {
     match command {
         DrillCommand::Priority(value) => {
-            let set = priority_set(alloc, value)?;
+            let set = priority_word(alloc, value)?;
             let mut words = on_board(alloc, "state")?;
             words.push(Text::of(alloc, "-s")?)?;
             words.push(set)?;
@@ -43,8 +43,8 @@ fn on_settings(alloc: Global, command: &str) -> Result<TextList, NoMemory>
     Ok(words)
 }
 
-fn priority_set(alloc: Global, value: u32) -> Result<Text, NoMemory>
-    ensures { IfOk result (λ word. word ≡ priority_set value) }
+fn priority_word(alloc: Global, value: u32) -> Result<Text, NoMemory>
+    ensures { IfOk result (λ word. word ≡ priority_word value) }
 {
     let word = format!(in alloc; "bootstate.system1.priority={value}")?;
     Text::of(alloc, word.as_str())
