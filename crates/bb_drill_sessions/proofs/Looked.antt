@@ -2,7 +2,7 @@
 use Rattle.std.proofs.Common.{◌≡◌, ◌∙◌, refl, ap}
 use Rattle.std.proofs.lemmas.Option.{same_Some}
 use Rattle.bb_bucket.specs.Calls.{IsQuiet, but_reads}
-use Rattle.bb_drill.specs.Board.{BoardState, OnlyLooks, board_state_of}
+use Rattle.bb_drill.specs.Board.{OnlyLooks}
 use Rattle.bb_flash.specs.Device.{Told}
 use Rattle.bb_flash.specs.Memory.{Memory, device_of}
 

@@ -9,11 +9,10 @@ use Rattle.bb_chooser.specs.Choosing.{IsBest, NoneQualifies}
 use Rattle.bb_chooser.specs.Counting.{mark_good_of, spend_of}
 use Rattle.bb_chooser.specs.declared.cause.Cause.{Cause}
 use Rattle.bb_flash.specs.declared.plan.Plan.{Plan as StartPlan}
-use Rattle.bb_plan.specs.Plan.{SessionPlan}
 use Rattle.bb_plan.specs.declared.plan.Work.TheVariants.{Act, Boot, Good}
 use Rattle.bb_plan.specs.declared.refusal.Refusal.TheVariants as refusals
 use Rattle.bb_session.proofs.Fine.{good, goods, goods_are}
-use Rattle.bb_session.specs.Booting.{has_no_target, rounds_of}
+use Rattle.bb_session.specs.Booting.{rounds_of}
 use Rattle.bb_session.specs.Exactly.{last_area_of}
 use Rattle.bb_session.specs.Session.{boot_session, saved_where, starts_made, unless_barred}
 use Rattle.bb_shell.proofs.Answering.{best_is, best_none}

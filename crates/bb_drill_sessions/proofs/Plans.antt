@@ -1,7 +1,7 @@
 -- The plans of a drill's sessions: all over one layout, and none but a boot starts a system.
-use Rattle.std.proofs.Common.{◌≡◌, ℕ, Bool, true, false, List, [], ◌∷◌, codes, decimal, Option, Some, None, Result, Ok, Err, refl, sym, ap, subst, ◌∙◌}
+use Rattle.std.proofs.Common.{◌≡◌, ℕ, Bool, true, false, List, [], ◌∷◌, codes, decimal, Option, Some, Result, Ok, Err, refl, sym, ap, subst, ◌∙◌, inl, inr}
 use Rattle.std.specs.Result.{result_ok}
-use Rattle.bb_base.specs.Folder.{FileMap}
+use Rattle.bb_base.specs.Folder.{FileMap, Folder}
 use Rattle.bb_chooser.specs.Binding.{Binding}
 use Rattle.bb_drill.specs.Board.{board_geometry}
 use Rattle.bb_drill.specs.Draws.{may_start}
@@ -10,8 +10,12 @@ use Rattle.bb_drill.specs.declared.command.DrillCommand.TheVariants.{Priority, B
 use Rattle.bb_flash.specs.declared.plan.Plan.{Plan as StartPlan}
 use Rattle.bb_layout.specs.Results.{result_and_then}
 use Rattle.bb_actions.specs.Actions.{misfit_of}
-use Rattle.bb_plan.specs.FilesRead.{FileAnswer, Reading, Reads, Yields, Fails, and_then, files_answer, reading_of, result_on, result_over}
-use Rattle.bb_plan.specs.Plan.{EarlyEnd, OnCopies, Printed, Prints, Refused, SessionPlan, Task, boot_after, boot_planned, boot_reading, command_reading, mark_after, mark_reading, plan_reading, planned, state_plan, state_reading, words_reading}
+use Rattle.bb_plan.proofs.Readings.{same_over}
+use Rattle.bb_plan.specs.FilesRead.{FileAnswer, IsReadAs, Reading, Reads, Yields, Fails, and_then, files_answer, reading_of, result_on, result_over}
+use Rattle.bb_plan.specs.Plan.{OnCopies, Prints, SessionPlan, Task, boot_after, boot_planned, boot_reading, command_reading, mark_after, mark_reading, plan_as, plan_reading, planned, state_plan, state_reading, task_as, words_reading}
+use Rattle.bb_plan.specs.declared.plan.PlannedTask.TheVariants as tasks
+use Rattle.bb_plan.specs.declared.plan.PlannedWork.{PlannedWork}
+use Rattle.bb_plan.specs.declared.refusal.Refusal.TheVariants as refusals
 use Rattle.bb_plan.specs.PlanSteps.{binding_reading, cause_of, fit_by, keyed_reading, plans_reading}
 use Rattle.bb_plan.specs.declared.plan.Work.TheVariants as works
 use Rattle.bb_plan.specs.declared.refusal.Refusal.{Refusal}
@@ -179,3 +183,20 @@ on_board command plan h =
     let is = by_command command plan
     (subst (λ (w : Result Command ℕ). result_over board_files (words_reading w board_geometry) ≡ Ok (OnCopies plan)) (words_are command) task) in
     record { keyed = ap result_ok is.keyed; starts = is.boots_is }
+
+-- ---- what reading the files of the drill gave
+
+pub plan_read : (command : DrillCommand) (before after : Folder) (plan : PlannedWork) → before.told ≡ Some board_files →
+    IsReadAs (plan_reading (drill_words command) board_geometry) task_as before after (Ok (tasks.OnCopies plan)) →
+    drill_plan command ≡ Ok (plan_as plan)
+unfolding drill_plan
+plan_read command before after plan told (inl read) =
+    ap planned
+    (elim (same_over (plan_reading (drill_words command) board_geometry) before after read.answers read.are board_files told) [
+      | inl same ↦ sym same ∙ read.gives
+      | inr odd ↦ elim odd [
+        | inl fault ↦ absurd (let h : ◌≡◌ {A = Result Task Refusal} (Err (refusals.FileFault fault.0)) (Ok (OnCopies (plan_as plan))) = sym fault.1 ∙ read.gives in cc)
+        | inr memory ↦ absurd (let h : ◌≡◌ {A = Result Task Refusal} (Err refusals.NoMemory) (Ok (OnCopies (plan_as plan))) = sym memory ∙ read.gives in cc)
+      ]
+    ])
+plan_read command before after plan told (inr (memory, short)) = absurd cc

@@ -1,10 +1,9 @@
 -- What a session of the drill leaves on its board.
-use Rattle.std.proofs.Common.{◌≡◌, ℕ, ◌+◌, ◌≤◌, Bool, true, false, List, [], ◌∷◌, ◌++◌, length, Option, Some, None, Result, Ok, Err, IfOk, is_some, if◌then◌else◌, refl, sym, ap, subst, ◌∙◌, inl, inr, arith}
+use Rattle.std.proofs.Common.{◌≡◌, ℕ, ◌+◌, ◌≤◌, Bool, true, false, List, [], ◌∷◌, ◌++◌, length, Option, Some, None, Result, Ok, Err, if◌then◌else◌, refl, sym, ap, subst, ◌∙◌, inl, inr, arith}
 use Rattle.std.specs.Prelude.{slice_get, unwrap_or}
 use Rattle.std.specs.Option.{option_map_or}
 use Rattle.std.proofs.lemmas.List.{length-append}
 use Rattle.std.proofs.lemmas.Option.{same_Some}
-use Rattle.bb_base.specs.Faults.{Rose}
 use Rattle.bb_bucket.specs.Kind.{BucketKind}
 use Rattle.bb_drill.specs.Board.{BoardState, EndsSound, IsSessionOn, IsWholeSession, NothingFailed, board_geometry, board_state_of}
 use Rattle.bb_drill.specs.Draws.{may_start}
@@ -30,13 +29,13 @@ use Rattle.bb_session.proofs.Unrefused.{unrefused, work_gives}
 use Rattle.bb_session.specs.Booting.{SaveAnswer, boots, start_of}
 use Rattle.bb_session.specs.Exactly.{CopyWrite, EachContent, EachTold, LeavesRegions, PassAlike, erases_in, last_area, last_area_of, loaded_region, saved_region, saves_made, sum_of_writes, worked_region, writes_of_load, writes_of_saves, writes_of_work}
 use Rattle.bb_session.specs.Looking.{first_found, passed_in}
-use Rattle.bb_session.specs.Session.{LoadAnswer, Session, answers_after, ended_status, work_session}
-use Rattle.bb_session.specs.Work.{Gives, IsWork, IsWorkOf, IsWorkedOut}
+use Rattle.bb_session.specs.Session.{LoadAnswer, Session, ended_status, work_session}
+use Rattle.bb_session.specs.Work.{Gives, IsWork, IsWorkedOut}
 use Rattle.bb_session.specs.declared.report.Report.{Report}
 use Rattle.bb_state.specs.Keyed.{Keyed}
 use Rattle.bb_state.specs.Kinds.{laid_form, laid_kinds}
 use Rattle.bb_drill_sessions.specs.Ends.{end_given, end_of_status, status_given}
-use Rattle.bb_drill_sessions.specs.Plans.{board_keyed, drill_plan}
+use Rattle.bb_drill_sessions.specs.Plans.{drill_plan}
 use Rattle.bb_drill_sessions.specs.Rules.{made_by, session_rules, sound_answers, table_first, table_found, table_made}
 use Rattle.bb_drill_sessions.specs.Undisturbed.{IsFollowedSound, MakesStart, device_at, saves_at, session_runs, start_at}
 use Rattle.bb_drill_sessions.proofs.Boots.{session_same}

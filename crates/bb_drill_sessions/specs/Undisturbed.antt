@@ -3,7 +3,7 @@
 use Rattle.std.specs.Prelude.{◌≡◌, ◌++◌, ◌∷◌, [], List, Option, Some, None, Result, Ok, Err}
 use Rattle.bb_drill.specs.Board.{BoardState, board_geometry}
 use Rattle.bb_drill.specs.declared.command.DrillCommand.{DrillCommand}
-use Rattle.bb_flash.specs.Device.{Device, Start}
+use Rattle.bb_flash.specs.Device.{Device}
 use Rattle.bb_flash.specs.declared.plan.Plan.{Plan as StartPlan}
 use Rattle.bb_plan.specs.Plan.{EarlyEnd, SessionPlan}
 use Rattle.bb_session.specs.Booting.{SaveAnswer, start_of}
