@@ -1,20 +1,19 @@
--- What the work of a plan makes of a table where nothing fails.
-use Rattle.std.proofs.Common.{◌≡◌, ℕ, zero, suc, ◌≤◌, ◌&&◌, Bool, true, false, cond, List, [], ◌∷◌, map, Option, Some, None, IsSome, is_none, Ok, if◌then◌else◌, refl, sym, ap, ◌∙◌, arith}
+-- What a boot makes of a table where nothing fails.
+use Rattle.std.proofs.Common.{◌≡◌, ℕ, zero, suc, ◌≤◌, ◌&&◌, Bool, true, false, cond, List, [], ◌∷◌, map, Option, Some, None, IsSome, is_none, if◌then◌else◌, refl, sym, ap, ◌∙◌, arith}
 use Rattle.std.specs.Option.{option_map_or, unwrap_or}
 use Rattle.std.specs.Str.{bytes_eq}
 use Rattle.std.proofs.lemmas.Slice.Eq.{bytes_eq-Decides}
-use Rattle.bb_actions.specs.Actions.{after_all}
 use Rattle.bb_chooser.specs.Binding.{Binding}
 use Rattle.bb_chooser.specs.Choosing.{IsBest, NoneQualifies}
-use Rattle.bb_chooser.specs.Counting.{mark_good_of, spend_of}
+use Rattle.bb_chooser.specs.Counting.{spend_of}
 use Rattle.bb_chooser.specs.declared.cause.Cause.{Cause}
 use Rattle.bb_flash.specs.declared.plan.Plan.{Plan as StartPlan}
-use Rattle.bb_plan.specs.declared.plan.Work.TheVariants.{Act, Boot, Good}
+use Rattle.bb_plan.specs.declared.plan.Work.TheVariants.{Boot}
 use Rattle.bb_plan.specs.declared.refusal.Refusal.TheVariants as refusals
 use Rattle.bb_session.proofs.Fine.{good, goods, goods_are}
 use Rattle.bb_session.specs.Booting.{rounds_of}
 use Rattle.bb_session.specs.Exactly.{last_area_of}
-use Rattle.bb_session.specs.Session.{boot_session, saved_where, starts_made, unless_barred}
+use Rattle.bb_session.specs.Session.{boot_session, starts_made, unless_barred}
 use Rattle.bb_shell.proofs.Answering.{best_is, best_none}
 use Rattle.bb_shell.proofs.Attempts.{total_some}
 use Rattle.bb_shell.specs.Boot.{Round, all_attempts, first_table, plan_at}
@@ -22,26 +21,7 @@ use Rattle.bb_shell.specs.Rounds.{best_of, followed_by, outcome_by, round_by, ro
 use Rattle.bb_shell.specs.Stages.{saves_of as tables_of}
 use Rattle.bb_shell.specs.declared.outcome.Outcome.TheVariants as outcomes
 use Rattle.bb_state.specs.Keyed.{Keyed}
-use Rattle.bb_words.specs.declared.command.Action.{Action}
 use Rattle.bb_drill_sessions.specs.Rules.{made_by}
-
--- a table that is saved where it is another than the one that was loaded
-last_where : (same : Bool) (new table : List ℕ) → bytes_eq new table ≡ same →
-    unwrap_or (last_area_of (Some table) (saved_where same new)) table ≡ new
-last_where true new table e = sym ((bytes_eq-Decides new table).0 e)
-last_where false new table e = refl
-
-pub act_made : (keyed : Keyed) (actions : List Action) (table : List ℕ) →
-    after_all keyed.layout.vars table actions ≡ made_by (record { keyed = keyed; work = Act actions }) table
-act_made keyed actions table =
-    let new = after_all keyed.layout.vars table actions in sym (last_where (bytes_eq new table) new table refl)
-
-pub good_made : (keyed : Keyed) (targets : Binding) (table : List ℕ) →
-    mark_good_of targets table ≡ made_by (record { keyed = keyed; work = Good targets }) table
-good_made keyed targets table =
-    let new = mark_good_of targets table in sym (last_where (bytes_eq new table) new table refl)
-
--- ---- a boot
 
 and_false : (x : Bool) → (x && false) ≡ false
 and_false true = refl

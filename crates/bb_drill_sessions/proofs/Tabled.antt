@@ -1,8 +1,8 @@
 -- The table that a session leaves in which nothing fails, by the areas that it saved.
-use Rattle.std.proofs.Common.{◌≡◌, ℕ, ◌≤◌, true, false, List, [], ◌∷◌, length, map, Option, Some, None, is_some, Ok, refl, sym, ap, subst, ◌∙◌, arith}
-use Rattle.std.specs.List.{ByRecursion}
+use Rattle.std.proofs.Common.{◌≡◌, ℕ, suc, ◌≤◌, true, List, [], ◌∷◌, length, Option, Some, None, is_some, Ok, refl, sym, ap, subst, ◌∙◌, arith}
+use Rattle.std.specs.List.{AllByRecursion}
 use Rattle.std.specs.Option.{option_and_then, option_or, unwrap_or}
-use Rattle.std.specs.Prelude.{All, slice_get}
+use Rattle.std.specs.Prelude.{slice_get}
 use Rattle.std.proofs.lemmas.List.{length-map}
 use Rattle.std.proofs.lemmas.List.Elements.{recursion_from_All}
 use Rattle.bb_base.specs.Form.{Form}
@@ -15,7 +15,7 @@ use Rattle.bb_plan.specs.declared.plan.Work.{Work}
 use Rattle.bb_plan.specs.declared.plan.Work.TheVariants.{Act, Boot, Good, Show, Write}
 use Rattle.bb_session.proofs.Faulting.{copies_are}
 use Rattle.bb_session.specs.Booting.{SaveAnswer}
-use Rattle.bb_session.specs.Exactly.{PassAlike, last_area, last_area_of}
+use Rattle.bb_session.specs.Exactly.{PassAlike, last_area, last_area_of, saves_made}
 use Rattle.bb_session.specs.Looking.{first_found, passed_in}
 use Rattle.bb_session.specs.Session.{LoadAnswer, answers_after}
 use Rattle.bb_session.specs.Work.{IsWorkOf}
@@ -37,7 +37,7 @@ pass_same : (form : Form) (page : ℕ) (kinds : List BucketKind) (x z : Image) �
 pass_same form page [] x z same = refl
 pass_same form page (kind ∷ kinds) x z same =
     ap (λ (region : Image). option_and_then form.passes (kind.candidate_of region) ∷ passings form page kinds z) (same 0 kind refl)
-    ∙ ap (λ l. passing_of form page kind x ∷ l) (pass_same form page kinds x z (λ copy k there. same (copy + 1) k there))
+    ∙ ap (λ l. passing_of form page kind x ∷ l) (pass_same form page kinds x z (λ copy k there. same (suc copy) k there))
 
 pub found_after : (keyed : Keyed) (page : ℕ) (last : Option (List ℕ)) (x z : Image) → (is_some last ≡ true → 1 ≤ keyed.layout.copies) →
     PassAlike keyed page last x z →
@@ -74,14 +74,18 @@ abbrev LastOf : Keyed → Work → Option (List ℕ) → Option (List ℕ)
 LastOf keyed work found =
     last_area work (PlanOf keyed work) found (answers_after work (PlanOf keyed work) (Ok found))
 
+-- the areas that are saved where no copy passed
+abbrev SavedOf : Keyed → Work → List (List ℕ)
+SavedOf keyed work = saves_made work (PlanOf keyed work) None (answers_after work (PlanOf keyed work) (Ok None))
+
 none_loaded : (keyed : Keyed) (work : Work) →
     unwrap_or (LastOf keyed work None) (first_area keyed.layout)
     ≡ unwrap_or (LastOf keyed work (Some (first_area keyed.layout))) (first_area keyed.layout)
 none_loaded keyed Show = refl
-none_loaded keyed (Write area) = last_either _ (first_area keyed.layout)
-none_loaded keyed (Act actions) = last_either _ (first_area keyed.layout)
-none_loaded keyed (Good targets) = last_either _ (first_area keyed.layout)
-none_loaded keyed (Boot targets cause plans) = last_either _ (first_area keyed.layout)
+none_loaded keyed (Write area) = last_either (SavedOf keyed (Write area)) (first_area keyed.layout)
+none_loaded keyed (Act actions) = last_either (SavedOf keyed (Act actions)) (first_area keyed.layout)
+none_loaded keyed (Good targets) = last_either (SavedOf keyed (Good targets)) (first_area keyed.layout)
+none_loaded keyed (Boot targets cause plans) = last_either (SavedOf keyed (Boot targets cause plans)) (first_area keyed.layout)
 
 or_none : (last : Option (List ℕ)) (first : List ℕ) → unwrap_or (option_or last None) first ≡ unwrap_or last first
 or_none None first = refl

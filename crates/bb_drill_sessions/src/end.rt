@@ -16,7 +16,7 @@ fn status_of(given: Result<Report, Refusal>) -> Status
     ensures { result ≡ status_given given }
 {
     match given {
-        Ok(report) => match report.refusal {
+        Ok(Report { text: _, refusal }) => match refusal {
             Some(refusal) => refusal.status(),
             None => Status::Done,
         },

@@ -3,6 +3,7 @@ ghost use Rattle.bb_chooser.specs.Counting.{mark_good_of};
 ghost use Rattle.bb_drill_sessions.specs.Plans.{board_keyed, drill_plan};
 ghost use Rattle.bb_drill_sessions.specs.Rules.{made_by, table_first, table_made};
 ghost use Rattle.bb_actions.specs.Actions.{after, after_all};
+ghost use Rattle.bb_layout.specs.Defaults.{defaults_of};
 ghost use Rattle.bb_plan.specs.Plan.{IsServed, keyed_as, plan_as};
 ghost use Rattle.bb_plan.specs.declared.plan.Work.TheVariants as works;
 ghost use Rattle.bb_state.specs.Keyed.{Keyed};
@@ -24,8 +25,15 @@ pub(crate) fn first_table(alloc: Global) -> Result<Bytes, NoMemory>
     ensures { IfOk result (λ table. table ≡ table_first board_keyed) }
 {
     let plan = plan_of(alloc, DrillCommand::Show)?;
-    let mut area = vec![in alloc; 0u8; plan.keyed.layout.area_len as usize]?;
-    plan.keyed.layout.defaults(&mut area);
+    defaults(alloc, &plan.keyed.layout)
+}
+
+fn defaults(alloc: Global, layout: &Layout) -> Result<Bytes, NoMemory>
+    ensures { IfOk result (λ table.
+        table ≡ defaults_of layout.now.area_len layout.now.vars) }
+{
+    let mut area = vec![in alloc; 0u8; layout.area_len as usize]?;
+    layout.defaults(&mut area);
     bytes_of(alloc, &area)
 }
 

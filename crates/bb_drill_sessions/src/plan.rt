@@ -26,8 +26,11 @@ pub(crate) fn plan_of(alloc: Global, command: DrillCommand) -> Result<PlannedWor
 {
     let mut files = documents(alloc)?;
     let words = drill_words(alloc, command)?;
-    match plan_session(alloc, &words, &mut files, GEOMETRY) {
-        Ok(PlannedTask::OnCopies(plan)) => Ok(plan),
-        Ok(PlannedTask::Prints(_)) | Err(_) => Err(NoMemory),
+    let Ok(task) = plan_session(alloc, &words, &mut files, GEOMETRY) else {
+        return Err(NoMemory);
+    };
+    match task {
+        PlannedTask::OnCopies(plan) => Ok(plan),
+        PlannedTask::Prints(_) => Err(NoMemory),
     }
 }
