@@ -1,15 +1,12 @@
--- What a session of the drill leaves on its board.
-use Rattle.std.proofs.Common.{◌≡◌, ℕ, ◌+◌, ◌≤◌, Bool, true, false, List, [], ◌∷◌, ◌++◌, length, Option, Some, None, Result, Ok, Err, if◌then◌else◌, refl, sym, ap, subst, ◌∙◌, inl, inr, arith}
+-- What a session of the drill leaves on its board where nothing fails.
+use Rattle.std.proofs.Common.{◌≡◌, ℕ, ◌+◌, true, false, List, [], ◌++◌, Option, Some, None, Result, Ok, Err, refl, sym, ap, subst, ◌∙◌, inl, inr}
 use Rattle.std.specs.Prelude.{slice_get, unwrap_or}
 use Rattle.std.specs.Option.{option_map_or}
-use Rattle.std.proofs.lemmas.List.{length-append}
 use Rattle.std.proofs.lemmas.Option.{same_Some}
 use Rattle.bb_bucket.specs.Kind.{BucketKind}
-use Rattle.bb_drill.specs.Board.{BoardState, EndsSound, IsSessionOn, IsWholeSession, NothingFailed, board_geometry, board_state_of}
-use Rattle.bb_drill.specs.Draws.{may_start}
+use Rattle.bb_drill.specs.Board.{BoardState, EndsSound, IsWholeSession, NothingFailed, board_geometry, board_state_of}
 use Rattle.bb_drill.specs.declared.command.DrillCommand.{DrillCommand}
-use Rattle.bb_flash.specs.Cuts.{IsLater}
-use Rattle.bb_flash.specs.Device.{Device, Start, Told, starts}
+use Rattle.bb_flash.specs.Device.{Told}
 use Rattle.bb_flash.specs.Image.{Image}
 use Rattle.bb_flash.specs.Memory.{Memory, device_of}
 use Rattle.bb_flash.specs.declared.geometry.Geometry.{Geometry}
@@ -26,7 +23,7 @@ use Rattle.bb_session.proofs.Barred.{HasNoFault, fault_device, is_device_fault}
 use Rattle.bb_session.proofs.Erases.{plan_makes}
 use Rattle.bb_session.proofs.Exact.{plan_done}
 use Rattle.bb_session.proofs.Unrefused.{unrefused, work_gives}
-use Rattle.bb_session.specs.Booting.{SaveAnswer, boots, start_of}
+use Rattle.bb_session.specs.Booting.{SaveAnswer, start_of}
 use Rattle.bb_session.specs.Exactly.{CopyWrite, EachContent, EachTold, LeavesRegions, PassAlike, erases_in, last_area, last_area_of, loaded_region, saved_region, saves_made, sum_of_writes, worked_region, writes_of_load, writes_of_saves, writes_of_work}
 use Rattle.bb_session.specs.Looking.{first_found, passed_in}
 use Rattle.bb_session.specs.Session.{LoadAnswer, Session, ended_status, work_session}
@@ -40,58 +37,8 @@ use Rattle.bb_drill_sessions.specs.Rules.{made_by, session_rules, sound_answers,
 use Rattle.bb_drill_sessions.specs.Undisturbed.{IsFollowedSound, MakesStart, device_at, saves_at, session_runs, start_at}
 use Rattle.bb_drill_sessions.proofs.Boots.{session_same}
 use Rattle.bb_drill_sessions.proofs.Plans.{on_board}
-use Rattle.bb_drill_sessions.proofs.Starting.{AddsStart, none_started, work_start}
+use Rattle.bb_drill_sessions.proofs.Starting.{AddsStart, work_start}
 use Rattle.bb_drill_sessions.proofs.Tabled.{has_copies, table_after}
-
--- ---- starts, whatever fails
-
--- the start of a work that was done, which is none where it isn't a boot
-record IsStarted (work : Work) (from to : Device) : Type 0 where
-  start : Option StartPlan
-  none : boots work ≡ false → start ≡ None
-  adds : AddsStart start from to
-
-started_by : (plan : SessionPlan) (from to : Device) (load : LoadAnswer) (saves : List SaveAnswer) → IsWork plan from to load saves →
-    IsStarted plan.work from to
-started_by plan from to load saves work = record {
-  start = start_of plan.work (work_session plan load saves).rounds;
-  none = none_started plan load saves;
-  adds = work_start plan.work plan from to load saves refl work;
-}
-
-started_in : (keyed : Keyed) (work : Work) (from to : Device) (given : Result Report Refusal) → IsWorkedOut keyed work from to given →
-    IsStarted work from to
-started_in keyed work from to given (inl done) = started_by (record { keyed = keyed; work = work }) from to done.load done.saves done.work
-started_in keyed work from to given (inr (inl text)) = started_by (record { keyed = keyed; work = work }) from to text.load text.saves text.work
-started_in keyed work from to given (inr (inr memory)) =
-    record { start = None; none = λ store. refl; adds = ap starts memory.unasked }
-
-abbrev most_starts : Bool → ℕ
-most_starts may = if may then 1 else 0
-
-few_starts : (start : Option StartPlan) (may : Bool) (before after : Memory) → (may ≡ false → start ≡ None) →
-    AddsStart start (device_of before) (device_of after) →
-    length after.told.starts ≤ length before.told.starts + most_starts may
-few_starts None true before after none adds = let same = ap length (same_Some after.told.starts before.told.starts adds) in omega (arith, same)
-few_starts None false before after none adds = let same = ap length (same_Some after.told.starts before.told.starts adds) in omega (arith, same)
-few_starts (Some plan) false before after none adds = absurd (let e = none refl in cc)
-few_starts (Some plan) true before after none adds =
-    let start : List Start = (record { plan = plan; image = after.told.image }) ∷ [] in
-    let long = ap length (adds.added before.told refl after.told refl) ∙ length-append before.told.starts start in
-    let one : length start ≡ 1 = refl in
-    omega (arith, long, one)
-
-pub on_of : (command : DrillCommand) (plan : SessionPlan) → drill_plan command ≡ Ok plan → (before after : Memory)
-    (given : Result Report Refusal) → IsWorkedOut plan.keyed plan.work (device_of before) (device_of after) given →
-    IsLater (device_of before) (device_of after) → IsSessionOn command before after
-on_of command plan is before after given worked later =
-    let started = started_in plan.keyed plan.work (device_of before) (device_of after) given worked in
-    record {
-      geometry = later.geometry;
-      starts =
-          few_starts started.start (may_start command) before after (λ store. started.none ((on_board command plan is).starts ∙ store))
-          started.adds;
-    }
 
 -- ---- where nothing fails: what is left hangs on the saves that are made
 

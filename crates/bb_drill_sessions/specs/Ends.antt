@@ -2,7 +2,8 @@
 use Rattle.std.specs.Prelude.{Result, Ok, Err}
 use Rattle.std.specs.Option.{option_map_or}
 use Rattle.bb_drill.specs.declared.sessions.SessionEnd.{SessionEnd}
-use Rattle.bb_drill.specs.declared.sessions.SessionEnd.TheVariants.{Whole, Unread, Unwritten, NoMemory}
+use Rattle.bb_drill.specs.declared.sessions.SessionEnd.TheVariants.{Whole, Unread, Unwritten}
+use Rattle.bb_drill.specs.declared.sessions.SessionEnd.TheVariants.{NoMemory}
 use Rattle.bb_plan.specs.Refusal.{status_of}
 use Rattle.bb_plan.specs.declared.refusal.Refusal.{Refusal}
 use Rattle.bb_plan.specs.declared.status.Status.{Status}

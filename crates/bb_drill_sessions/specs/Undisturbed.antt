@@ -1,6 +1,7 @@
 -- A session of a drill in which nothing fails, as every session of the program: its copies to the
 -- byte, its erases and its start.
-use Rattle.std.specs.Prelude.{◌≡◌, ◌++◌, ◌∷◌, [], List, Option, Some, None, Result, Ok, Err}
+use Rattle.std.specs.Prelude.{◌≡◌, ◌++◌, ◌∷◌, [], List, Option, Some, None}
+use Rattle.std.specs.Prelude.{Result, Ok, Err}
 use Rattle.bb_drill.specs.Board.{BoardState, board_geometry}
 use Rattle.bb_drill.specs.declared.command.DrillCommand.{DrillCommand}
 use Rattle.bb_flash.specs.Device.{Device}
@@ -35,8 +36,8 @@ saves_at plan state = saves_for plan (load_for plan board_geometry state.image)
 abbrev pub start_at : Result SessionPlan EarlyEnd → BoardState → Option StartPlan
 start_at (Err end) state = None
 start_at (Ok plan) state =
-    start_of plan.work
-    (work_session plan (load_for (Ok plan) board_geometry state.image) (saves_at (Ok plan) state)).rounds
+    let load = load_for (Ok plan) board_geometry state.image in
+    start_of plan.work (work_session plan load (saves_at (Ok plan) state)).rounds
 
 -- a board has made this start more, with what it then held
 abbrev pub MakesStart : Option StartPlan → BoardState → BoardState → Type 0
@@ -45,7 +46,8 @@ MakesStart (Some plan) before after =
     after.starts ≡ before.starts ++ (record { plan = plan; image = after.image }) ∷ []
 
 -- a plan was followed, and nothing failed
-pub record IsFollowedSound (plan : Result SessionPlan EarlyEnd) (before after : BoardState) : Type 0 where
+pub record IsFollowedSound
+    (plan : Result SessionPlan EarlyEnd) (before after : BoardState) : Type 0 where
   -- each copy holds, to the byte, what the load and the saves make of it
   pub written : LeavesExactly plan (saves_at plan before) (device_at before) (device_at after)
   -- each block is erased as often as these writes erase it

@@ -1,4 +1,4 @@
-ghost use Rattle.std.specs.Prelude.{◌≡◌, ◌≤◌, IfOk, OnOk, length};
+ghost use Rattle.std.specs.Prelude.{◌≡◌, IfOk, OnOk, length};
 ghost use Rattle.bb_chooser.specs.Counting.{mark_good_of};
 ghost use Rattle.bb_drill_sessions.specs.Plans.{board_keyed, drill_plan};
 ghost use Rattle.bb_drill_sessions.specs.Rules.{made_by, table_first, table_made};

@@ -16,15 +16,7 @@ use std::alloc::Global;
 
 /// The program's own sessions over the drill's files. Each reads them anew.
 #[derive(Clone, Copy, Debug)]
-pub struct DrillSessions {}
-
-impl DrillSessions {
-    /// The sessions, where the files give a layout.
-    pub fn new(alloc: Global) -> Result<DrillSessions, NoMemory> {
-        let _table = first_table(alloc)?;
-        Ok(DrillSessions {})
-    }
-}
+pub struct DrillSessions;
 
 impl Sessions for DrillSessions {
     ghost use Rattle.std.specs.Prelude.{◌≡◌, IfOk, None, OnOk};

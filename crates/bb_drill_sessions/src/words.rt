@@ -1,4 +1,4 @@
-ghost use Rattle.std.specs.Prelude.{◌≡◌, ◌∷◌, [], IfOk};
+ghost use Rattle.std.specs.Prelude.{◌≡◌, [], IfOk};
 ghost use Rattle.bb_drill_sessions.specs.Commands.{drill_words, on_board, on_settings};
 ghost use Rattle.bb_drill_sessions.specs.Commands.{priority_word};
 

@@ -17,8 +17,7 @@ const NONE: DrillCounts = DrillCounts {
 };
 
 fn drill_of(alloc: Global, number: u32, count: u16) -> Result<DrillCounts, Fail> {
-    let mut sessions = DrillSessions::new(alloc)?;
-    Ok(drill(alloc, number, count, &mut sessions)?)
+    Ok(drill(alloc, number, count, &mut DrillSessions)?)
 }
 
 // A session that shows the table, without a cut; no copy passes, so that none decays.

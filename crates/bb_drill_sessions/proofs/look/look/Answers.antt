@@ -1,4 +1,4 @@
-use Rattle.std.proofs.Common.{◌≡◌, Some, ◌∙◌, ap, sym}
+use Rattle.std.proofs.Common.{Some, ◌∙◌, ap, sym}
 use Rattle.bb_drill.specs.declared.command.DrillCommand.TheVariants.{Show}
 use Rattle.bb_flash.specs.Memory.{device_of}
 use Rattle.bb_plan.specs.Plan.{plan_as}

@@ -1,4 +1,4 @@
-use Rattle.std.proofs.Common.{◌≡◌, ap, refl, sym, ◌∙◌}
+use Rattle.std.proofs.Common.{ap, refl, sym, ◌∙◌}
 use Rattle.bb_actions.specs.Actions.{after}
 use Rattle.bb_actions.proofs.Steps.{after_next}
 use Rattle.bb_drill_sessions.proofs.made.make_sets.Goals as goal

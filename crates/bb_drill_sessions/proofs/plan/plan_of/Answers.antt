@@ -1,4 +1,4 @@
-use Rattle.std.proofs.Common.{◌≡◌, List, ℕ, Ok, subst}
+use Rattle.std.proofs.Common.{List, ℕ, Ok, subst}
 use Rattle.bb_base.specs.MemFiles.{folder_of}
 use Rattle.bb_drill.specs.Board.{board_geometry}
 use Rattle.bb_plan.specs.FilesRead.{IsReadAs}

@@ -4,7 +4,8 @@ use Rattle.bb_drill.specs.declared.sessions.SessionEnd.{SessionEnd}
 use Rattle.bb_plan.specs.Plan.{plan_as}
 use Rattle.bb_drill_sessions.specs.Rules.{session_rules}
 use Rattle.bb_drill_sessions.specs.Undisturbed.{session_runs}
-use Rattle.bb_drill_sessions.proofs.Whole.{on_of, sound_of}
+use Rattle.bb_drill_sessions.proofs.Bounded.{on_of}
+use Rattle.bb_drill_sessions.proofs.Whole.{sound_of}
 use Rattle.bb_drill_sessions.proofs.sessions.session.Goals as goal
 
 pub returns-clause-on : goal.returns-clause-on
