@@ -1,0 +1,9 @@
+-- Lemmas.
+pub mod Plans
+pub mod Boots
+pub mod Starting
+pub mod Tabled
+pub mod Bounded
+pub mod Whole
+pub mod Making
+pub mod Looked
