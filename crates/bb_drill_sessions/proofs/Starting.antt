@@ -1,5 +1,5 @@
 -- The start that a session makes, if it makes one.
-use Rattle.std.proofs.Common.{◌≡◌, ℕ, ◌+◌, true, false, List, [], ◌∷◌, ◌++◌, length, Option, Some, None, Ok, Err, is_some, cond, refl, sym, ap, subst, ◌∙◌}
+use Rattle.std.proofs.Common.{◌≡◌, ℕ, true, false, List, [], ◌∷◌, ◌++◌, length, Option, Some, None, Ok, Err, is_some, cond, refl, sym, ap, subst, ◌∙◌}
 use Rattle.std.specs.Option.{IsSomeAnd, option_and_then, option_map, option_map_or}
 use Rattle.std.proofs.lemmas.Option.{same_Some}
 use Rattle.bb_chooser.specs.Binding.{Binding}
