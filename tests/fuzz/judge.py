@@ -67,7 +67,8 @@ def prepare(run):
 class Wanted:
     """What is wanted of a run on a device with the bytes `base`: one of `answers`, each a status
     and a text, and one of `plans`. None stands for what isn't known. `writes` says whether copies
-    have to be written, `saves` whether for a save, and `area` is what all of them pass then."""
+    have to be written, `saves` whether for an area that none of them passes yet, and `area` is what
+    all of them pass then. A copy that can't be written, but passes that area, is no fault."""
 
     def __init__(self, foreseen, base):
         self.foreseen, self.base, self.layout = foreseen, base, foreseen.layout
@@ -89,7 +90,7 @@ class Wanted:
         found = [area for area in passing(self.layout, self.base, None) if area is not None]
         text = (found[0].hex() if found else 'none') + '\n'
         if command.area is not None:
-            text, self.area, self.writes, self.saves = '', command.area, True, True
+            text, self.area, self.writes, self.saves = '', command.area, True, command.area not in found
         self.answers = [(0, text.encode())]
 
     def want_state(self, command):
@@ -108,10 +109,10 @@ class Wanted:
             status, text = Targets(foreseen.settings, table).mark_good()
         self.answers = [(status, text if isinstance(text, bytes) else text.encode())]
         last = first if status in (10, 18) else bytes(table.area)
-        self.saves = last != first
-        if self.saves or loaded is not None:
+        self.saves = last != first and last not in found
+        if last != first or loaded is not None:
             self.area = last
-            self.writes = self.saves or any(area != last for area in found)
+            self.writes = last != first or any(area != last for area in found)
 
 
 def fault(status, line):
