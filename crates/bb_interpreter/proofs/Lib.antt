@@ -5,3 +5,4 @@ pub mod VariableLemmas
 pub mod SimpleLemmas
 pub mod RunLemmas
 pub mod AssignedLemmas
+pub mod Steady
