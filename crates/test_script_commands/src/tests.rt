@@ -1,0 +1,5 @@
+mod faults;
+mod rig;
+mod rows;
+mod saves;
+mod starts;
