@@ -4,7 +4,7 @@ use Rattle.bb_base.specs.Faults.{counted}
 use Rattle.bb_base.specs.Folder.{FileMap, Folder}
 use Rattle.bb_base.specs.declared.files.FileFail.{FileFail}
 use Rattle.bb_base.specs.declared.files.FileFail.TheVariants as file_fails
-use Rattle.bb_plan.specs.FilesRead.{AreRead, Asked, EachEnd, Fails, FileAnswer, IsExpected, IsFolderLater, IsRead, IsReadAs, Reading, Reads, Yields, and_then, files_answer, answers_on, answers_over, asked_name, file_reading, file_refusal, result_by, result_on, result_over, reading_of, reads_file, result_as, after_file_fault}
+use Rattle.bb_plan.specs.FilesRead.{AreRead, EachEnd, Fails, FileAnswer, IsExpected, IsFolderLater, IsRead, IsReadAs, Reading, Reads, Yields, and_then, files_answer, answers_on, answers_over, asked_name, file_reading, file_refusal, result_by, result_on, result_over, reading_of, reads_file, result_as, after_file_fault}
 use Rattle.bb_plan.specs.declared.refusal.Refusal.{Refusal}
 use Rattle.bb_plan.specs.declared.refusal.Refusal.TheVariants as refusals
 

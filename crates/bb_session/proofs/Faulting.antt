@@ -233,7 +233,7 @@ look_fault : (keyed : Keyed) (text : Option (List ℕ) → List ℕ) (from to : 
 look_fault keyed text from to (Err fault) refusal plan saves device shows work h = record {
   fault = fault;
   is = same_Some refusal (copy_refusal fault) (sym h);
-  tells = look_tells plan.keyed from to fault work.looked.fails 
+  tells = look_tells plan.keyed from to fault work.looked.fails
       (subst (Rose from.faults) (sym work.looked.faults) (one_more_rose from.faults))
       (subst (Rose from.read_faults) (sym work.looked.read_faults) (one_more_rose from.read_faults));
 }

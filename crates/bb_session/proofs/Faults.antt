@@ -1,5 +1,5 @@
 -- Why a session says that it couldn't read the device, or write a copy.
-use Rattle.std.proofs.Common.{◌≡◌, ◌≢◌, ℕ, suc, ◌-◌, ◌≤◌, Bool, true, false, List, [], ◌∷◌, ◌++◌, append_assoc, length, map, Option, Some, None, Result, Ok, Err, refl, sym, ap, subst, ◌∙◌, inl, inr, arith}
+use Rattle.std.proofs.Common.{◌≡◌, ◌≢◌, ℕ, suc, ◌-◌, ◌≤◌, Bool, true, false, List, [], ◌∷◌, ◌++◌, append_assoc, length, map, Option, Some, None, Ok, Err, refl, sym, ap, subst, ◌∙◌, inl, inr, arith}
 use Rattle.std.specs.Option.{IfNone, option_map}
 use Rattle.std.specs.Str.{bytes_eq}
 use Rattle.std.specs.Prelude.{slice_get, option_and_then}
@@ -34,11 +34,11 @@ use Rattle.bb_state.specs.Kinds.{laid_form, laid_kinds}
 use Rattle.bb_session.specs.Looking.{first_found, passed_in}
 use Rattle.bb_session.specs.Booting.{SaveAnswer, boots, start_plans_of}
 use Rattle.bb_session.specs.Exactly.{last_area_of, saves_made}
-use Rattle.bb_plan.specs.Plan.{SessionPlan, plan_by_words}
+use Rattle.bb_plan.specs.Plan.{SessionPlan}
 use Rattle.bb_plan.specs.declared.plan.Work.{Work}
 use Rattle.bb_plan.specs.declared.plan.Work.TheVariants.{Act, Boot, Good, Show, Write}
 use Rattle.bb_plan.specs.Refusal.{copy_refusal, status_of}
-use Rattle.bb_session.specs.Session.{Answers, LoadAnswer, Session, refusal_by_table, session_by, loaded_area, session_of_saves, saves_after, saves_of, work_text, work_session}
+use Rattle.bb_session.specs.Session.{LoadAnswer, Session, refusal_by_table, loaded_area, session_of_saves, saves_after, saves_of, work_text, work_session}
 use Rattle.bb_session.specs.Work.{AreSaved, IsBootWork, IsLoaded, IsLoadedAs, IsStoreWork, IsWorkOf, area_taken}
 use Rattle.bb_session.specs.WriteFault.{IsUsed, IsWanted, IsWriteFault}
 use Rattle.bb_plan.specs.declared.refusal.Refusal.{Refusal}

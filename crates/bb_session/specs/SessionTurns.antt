@@ -9,7 +9,6 @@ use Rattle.bb_copies.specs.Trail.{IsTrail, Milestone, milestone_of, session_trai
 use Rattle.bb_flash.specs.Counted.{Counts, IsFair}
 use Rattle.bb_flash.specs.Device.{Device, Told, moment}
 use Rattle.bb_flash.specs.Image.{Image}
-use Rattle.bb_layout.specs.Layout.{Laid}
 use Rattle.bb_state.specs.Blank.{IsErased}
 use Rattle.bb_state.specs.Keyed.{Keyed}
 use Rattle.bb_session.specs.Looking.{passed_in}

@@ -32,8 +32,8 @@ stops_by : (ran : Ran) (answers : Answers) → MayAnswer ran answers → StopsAt
 stops_by ran answers answered = elim (session_fault ran answers answered) [
   | inl same ↦ inl same
   | inr fault ↦ inr
-    (unasked_by (plan_by_words ran.words (geometry_of ran) answers.files) ran.before.device ran.after.device answers answered.followed
-    (subst (λ (task : Result Task Refusal). IsErr (planned task)) (sym fault.gives) refl))
+      (unasked_by (plan_by_words ran.words (geometry_of ran) answers.files) ran.before.device ran.after.device answers answered.followed
+      (subst (λ (task : Result Task Refusal). IsErr (planned task)) (sym fault.gives) refl))
 ]
 
 pub early_of : (ran : Ran) → IsSession ran → StopsAtFileFault ran
@@ -46,17 +46,23 @@ early_of ran (inr memory) = elim (memory.work) [
 pub file_faults_of : (ran : Ran) → IsSession ran → KeepsFiles ran → CountsFileFaults ran
 file_faults_of ran (inl ending) files = elim (session_fault ran ending.answers ending.answered) [
   | inl same ↦ inl same
-  | inr fault ↦ inr (fault.met, elim (told_cases _ _ ran.before.sink ran.after.sink ran.status ending.told) [
-    | inl own ↦ inl (own ∙ ap (λ (task : Result Task Refusal). ended_status (session_by (planned task) ending.answers)) fault.gives)
-    | inr other ↦ inr other
-  ])
+  | inr fault ↦ inr (
+    fault.met,
+    elim (told_cases _ _ ran.before.sink ran.after.sink ran.status ending.told) [
+      | inl own ↦ inl (own ∙ ap (λ (task : Result Task Refusal). ended_status (session_by (planned task) ending.answers)) fault.gives)
+      | inr other ↦ inr other
+    ],
+  )
 ]
 file_faults_of ran (inr memory) files = elim files [
   | inl same ↦ inl same
-  | inr met ↦ inr (met, elim (told_cases _ statuses.NoMemory ran.before.sink ran.after.sink ran.status memory.told) [
-    | inl e ↦ inr (inr e)
-    | inr other ↦ inr other
-  ])
+  | inr met ↦ inr (
+    met,
+    elim (told_cases _ statuses.NoMemory ran.before.sink ran.after.sink ran.status memory.told) [
+      | inl e ↦ inr (inr e)
+      | inr other ↦ inr other
+    ],
+  )
 ]
 
 -- ---- refused memory

@@ -1,6 +1,6 @@
 -- What `run` says of each call: every clause of its contract is one of these facts, and none of
 -- them names a command.
-use Rattle.std.specs.Prelude.{◌≡◌, ◌⊎◌, ◌<◌, ℕ, Bool, true, false, List, [], Option, Some, Result, Ok, Err, IsErr, option_map}
+use Rattle.std.specs.Prelude.{◌≡◌, ◌⊎◌, ◌<◌, ℕ, Bool, true, false, List, [], Option, Some, Result, IsErr, option_map}
 use Rattle.std.specs.Option.{ForSome}
 use Rattle.bb_base.specs.Faults.{HasCause, Rose, one_more}
 use Rattle.bb_base.specs.Folder.{FileMap}

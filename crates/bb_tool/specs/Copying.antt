@@ -14,7 +14,6 @@ use Rattle.bb_session.specs.Booting.{SaveAnswer}
 use Rattle.bb_session.specs.Session.{Answers}
 use Rattle.bb_session.specs.SessionTurns.{HasTrails, LeadsOn}
 use Rattle.bb_session.specs.WriteFault.{IsWriteFault}
-use Rattle.bb_plan.specs.declared.refusal.Refusal.{Refusal}
 use Rattle.bb_plan.specs.declared.refusal.Refusal.TheVariants as refusals
 use Rattle.bb_plan.specs.declared.status.Status.TheVariants as statuses
 

@@ -1,4 +1,4 @@
-use Rattle.std.proofs.Common.{◌≡◌, ◌∙◌, ◌≤◌, ℕ, Bool, true, false, List, Some, None, Ok, Err, ap, subst, sym, refl}
+use Rattle.std.proofs.Common.{◌≡◌, ◌∙◌, ℕ, Bool, true, false, List, Some, None, Ok, Err, ap, subst, refl}
 use Rattle.bb_base.specs.Faults.{counted}
 use Rattle.bb_base.specs.Folder.{file_of, file_read, is_fault}
 use Rattle.bb_base.specs.declared.files.FileFail.{FileFail}

@@ -1,4 +1,4 @@
-use Rattle.std.proofs.Common.{◌≡◌, ◌∙◌, Ok, Err, ap, option_map, arith}
+use Rattle.std.proofs.Common.{◌≡◌, ◌∙◌, Err, ap, option_map, arith}
 use Rattle.std.proofs.lemmas.Result.{err_from_is_err_and}
 use Rattle.std.specs.Bool.{then_some}
 use Rattle.std.specs.Vec.{with_items}
