@@ -1,9 +1,8 @@
-ghost use Rattle.std.specs.Prelude.{◌≡◌, ◌≢◌, false, true, Err, IfOk, IsOkAnd, IsTrue, None};
-ghost use Rattle.std.specs.Prelude.{Ok, Some, filter};
-ghost use Rattle.std.specs.Bool.{OnFalse};
+ghost use Rattle.std.specs.Prelude.{◌≡◌, ◌≢◌, false, true, Err, IfOk, IsOkAnd, None, Ok, Some};
+ghost use Rattle.std.specs.Prelude.{filter};
 ghost use Rattle.std.specs.Option.{ForSome};
 ghost use Rattle.std.specs.String.{string_bytes};
-ghost use Rattle.bb_base.specs.Faults.{HasCause};
+ghost use Rattle.bb_base.specs.Faults.{counted};
 ghost use Rattle.bb_base.specs.Folder.{has_folder};
 ghost use Rattle.bb_menu.specs.Menu.{IsMenuOf, IsMenuRead, IsMenuTextRead, is_menu_fault};
 ghost use Rattle.bb_menu.specs.Menu.{item_of_text, items_in, items_of_folder, menu_answer};
@@ -36,12 +35,10 @@ pub fn read_menu<F: Files>(alloc: Global, dir: &str, files: &mut F) -> Result<Me
     // Told or not, a menu has what was read, in order.
     ensures read { IfOk result (IsMenuRead (F.folder files.old) dir.now) }
 
-    // A fault is counted, and no other answer changes the count.
+    // A fault is counted once, and no other answer changes the count.
     ensures told { (F.folder files.new).told ≡ (F.folder files.old).told }
-    ensures cause { HasCause (F.folder files.old).faults (F.folder files.new).faults
-        (IsTrue (is_menu_fault result)) }
-    ensures calm { OnFalse (is_menu_fault result)
-        ((F.folder files.new).faults ≡ (F.folder files.old).faults) }
+    ensures counts { (F.folder files.new).faults
+        ≡ counted (is_menu_fault result) (F.folder files.old).faults }
 {
     let names = read_names(alloc, dir, files)?;
     let mut menu = read_items(alloc, dir, &names, files)?;
@@ -64,12 +61,10 @@ pub fn read_menu_text<F: Files>(alloc: Global, dir: &str, files: &mut F) -> Resu
     // Told or not, the text is that of a menu that was read.
     ensures read { IfOk result (IsMenuTextRead (F.folder files.old) dir.now) }
 
-    // A fault is counted, and no other answer changes the count.
+    // A fault is counted once, and no other answer changes the count.
     ensures told { (F.folder files.new).told ≡ (F.folder files.old).told }
-    ensures cause { HasCause (F.folder files.old).faults (F.folder files.new).faults
-        (IsTrue (is_menu_fault result)) }
-    ensures calm { OnFalse (is_menu_fault result)
-        ((F.folder files.new).faults ≡ (F.folder files.old).faults) }
+    ensures counts { (F.folder files.new).faults
+        ≡ counted (is_menu_fault result) (F.folder files.old).faults }
 {
     let menu = read_menu(alloc, dir, files)?;
     Ok(menu.text(alloc)?)
@@ -82,10 +77,8 @@ fn read_names<F: Files>(alloc: Global, dir: &str, files: &mut F) -> Result<TextL
         → ForSome (F.folder files.old).told (λ told. has_folder told dir.now ≡ false) }
     ensures never_long { result ≢ Err MenuFault.FileTooLong }
     ensures told { (F.folder files.new).told ≡ (F.folder files.old).told }
-    ensures cause { HasCause (F.folder files.old).faults (F.folder files.new).faults
-        (IsTrue (is_menu_fault result)) }
-    ensures calm { OnFalse (is_menu_fault result)
-        ((F.folder files.new).faults ≡ (F.folder files.old).faults) }
+    ensures counts { (F.folder files.new).faults
+        ≡ counted (is_menu_fault result) (F.folder files.old).faults }
 {
     let mut names = TextList::none(alloc);
     match files.names(dir, &mut names) {
@@ -109,10 +102,8 @@ fn read_items<F: Files>(
         items_in told dir.now (filter is_menu_name names.now) ≡ Err MenuFault.FileTooLong) }
     ensures never_missing { result ≢ Err MenuFault.NoFolder }
     ensures told { (F.folder files.new).told ≡ (F.folder files.old).told }
-    ensures cause { HasCause (F.folder files.old).faults (F.folder files.new).faults
-        (IsTrue (is_menu_fault result)) }
-    ensures calm { OnFalse (is_menu_fault result)
-        ((F.folder files.new).faults ≡ (F.folder files.old).faults) }
+    ensures counts { (F.folder files.new).faults
+        ≡ counted (is_menu_fault result) (F.folder files.old).faults }
 {
     let mut menu = Menu::none(alloc);
     for place in 0..names.len() {
@@ -138,10 +129,8 @@ fn read_named<F: Files>(
         → IsLongFile (F.folder files.old) dir.now name.now }
     ensures never_missing { result ≢ Err MenuFault.NoFolder }
     ensures told { (F.folder files.new).told ≡ (F.folder files.old).told }
-    ensures cause { HasCause (F.folder files.old).faults (F.folder files.new).faults
-        (IsTrue (is_menu_fault result)) }
-    ensures calm { OnFalse (is_menu_fault result)
-        ((F.folder files.new).faults ≡ (F.folder files.old).faults) }
+    ensures counts { (F.folder files.new).faults
+        ≡ counted (is_menu_fault result) (F.folder files.old).faults }
 {
     if !is_menu_name(name) {
         return Ok(None);
@@ -169,10 +158,8 @@ fn read_item<F: Files>(
         → IsLongFile (F.folder files.old) dir.now name.now }
     ensures never_missing { result ≢ Err MenuFault.NoFolder }
     ensures told { (F.folder files.new).told ≡ (F.folder files.old).told }
-    ensures cause { HasCause (F.folder files.old).faults (F.folder files.new).faults
-        (IsTrue (is_menu_fault result)) }
-    ensures calm { OnFalse (is_menu_fault result)
-        ((F.folder files.new).faults ≡ (F.folder files.old).faults) }
+    ensures counts { (F.folder files.new).faults
+        ≡ counted (is_menu_fault result) (F.folder files.old).faults }
 {
     let path = path_in_folder(alloc, dir, name)?;
     let mut text = Bytes::none(alloc);

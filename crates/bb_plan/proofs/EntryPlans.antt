@@ -1,11 +1,10 @@
 -- The plans of targets as they were read, one entry's file after the other.
 use Rattle.std.proofs.Common.{◌≡◌, ◌<◌, ◌≤◌, ℕ, suc, ◌+◌, false, List, [], ◌∷◌, length, map, take, Result, Ok, Err, refl, sym, ap, subst, ◌∙◌, inl, inr, arith}
-use Rattle.std.specs.Prelude.{IsTrue, Option, slice_get, unwrap_or}
-use Rattle.std.specs.Bool.{OnFalse}
+use Rattle.std.specs.Prelude.{Option, slice_get, unwrap_or}
 use Rattle.std.specs.List.{AllZip, enumerate_from}
 use Rattle.std.specs.Option.{ForSome}
 use Rattle.std.proofs.lemmas.List.{length-map}
-use Rattle.bb_base.specs.Faults.{HasCause, Rose}
+use Rattle.bb_base.specs.Faults.{counted}
 use Rattle.bb_base.specs.Folder.{Folder}
 use Rattle.bb_base.specs.declared.files.FileFail.TheVariants.{Fault, TooLong, NoMemory}
 use Rattle.bb_chooser.specs.Binding.{Binding}
@@ -16,10 +15,10 @@ use Rattle.bb_shell.specs.Plans.{IsAnswerOf, IsPlanned, NamesTarget, entries_of,
 use Rattle.bb_shell.specs.declared.plan_fault.PlanFault.{PlanFault}
 use Rattle.bb_shell.specs.declared.plan_fault.PlanFault.TheVariants as plan_faults
 use Rattle.bb_plan.specs.PlanSteps.{entries_reading, entry_fault, entry_name, plans_reading}
-use Rattle.bb_plan.specs.FilesRead.{FileAnswer, IsFolderLater, IsRead, IsReadAs, Yields, reads_file}
+use Rattle.bb_plan.specs.FilesRead.{FileAnswer, IsRead, IsReadAs, Yields, reads_file, after_file_fault}
 use Rattle.bb_plan.specs.declared.refusal.Refusal.{Refusal}
 use Rattle.bb_plan.specs.declared.refusal.Refusal.TheVariants as refusals
-use Rattle.bb_plan.proofs.Readings.{folder_is, read_stopped, read_then}
+use Rattle.bb_plan.proofs.Readings.{counted_later, folder_is, read_stopped, read_then}
 
 -- the plans from a target on
 abbrev plans_from : ℕ → List FileAnswer → Result (List (Option StartPlan)) PlanFault
@@ -92,31 +91,31 @@ module _ (before : Folder) where
         }
 
     -- a fault was met
-    fault_from : IsFolderLater before after → Rose before.faults after.faults → (n : ℕ) (names : List (List ℕ))
+    fault_from : after ≡ after_file_fault before → (n : ℕ) (names : List (List ℕ))
         (answers : List FileAnswer) (target : ℕ) → AreToldOf before names answers → length answers ≤ length names →
         plans_from n answers ≡ Err (plan_faults.FileFault target) → IsStoppedAt n names target refusals.FileFault
-    fault_from later rose n names [] target told most is = absurd cc
-    fault_from later rose n [] (answer ∷ answers) target told most is = absurd (omega (arith, most))
-    fault_from later rose n (name ∷ names) (Ok text ∷ answers) target told most is =
+    fault_from met n names [] target told most is = absurd cc
+    fault_from met n [] (answer ∷ answers) target told most is = absurd (omega (arith, most))
+    fault_from met n (name ∷ names) (Ok text ∷ answers) target told most is =
         stopped_later n name names target refusals.FileFault text (λ files some. (told files some).0)
         (by (plans_from (n + 1) answers)
         (λ rest.
-        fault_from later rose (n + 1) names answers target (λ files some. (told files some).1) (omega (arith, most)) rest) is)
+        fault_from met (n + 1) names answers target (λ files some. (told files some).1) (omega (arith, most)) rest) is)
       where
         by : (r : Result (List (Option StartPlan)) PlanFault) →
             (r ≡ Err (plan_faults.FileFault target) → IsStoppedAt (n + 1) names target refusals.FileFault) →
             next_of (plan_by n text) r ≡ Err (plan_faults.FileFault target) → IsStoppedAt (n + 1) names target refusals.FileFault
         by (Ok behind) each e = absurd cc
         by (Err fault) each e = each e
-    fault_from later rose n (name ∷ names) (Err Fault ∷ answers) target told most is =
+    fault_from met n (name ∷ names) (Err Fault ∷ answers) target told most is =
         let same : n ≡ target = cc in
         record {
           place = 0;
           place_is = omega (arith, same);
-          read = record { answers = Err Fault ∷ []; are = (refl, (later, rose)); gives = refl };
+          read = record { answers = Err Fault ∷ []; are = (refl, met); gives = refl };
         }
-    fault_from later rose n (name ∷ names) (Err TooLong ∷ answers) target told most is = absurd cc
-    fault_from later rose n (name ∷ names) (Err NoMemory ∷ answers) target told most is = absurd cc
+    fault_from met n (name ∷ names) (Err TooLong ∷ answers) target told most is = absurd cc
+    fault_from met n (name ∷ names) (Err NoMemory ∷ answers) target told most is = absurd cc
 
     -- a file was too long
     long_from : after ≡ before → (n : ℕ) (names : List (List ℕ)) (answers : List FileAnswer) (target : ℕ) →
@@ -166,9 +165,9 @@ module _ (b : Binding) (before after : Folder) (told : after.told ≡ before.tol
 
   pub entries_given : (plans : List (Option StartPlan)) → IsPlanned b before (Ok plans) → after.faults ≡ before.faults →
       AsPlans (Ok plans)
-  entries_given plans planned calm =
+  entries_given plans planned counts =
       inl
-      (subst (λ (f : Folder). IsRead (plans_reading b) before f (Ok plans)) (sym (folder_is before after told calm))
+      (subst (λ (f : Folder). IsRead (plans_reading b) before f (Ok plans)) (sym (folder_is before after told counts))
       (given_from before 0 (entries_of b) planned.answers plans planned.answered (planned.whole ∙ sym names_many)
       (sym (planned.gives (λ e. cc)))))
 
@@ -177,30 +176,28 @@ module _ (b : Binding) (before after : Folder) (told : after.told ≡ before.tol
 
   -- memory was refused for the name of a file, or before
   pub entries_short : (fault : PlanFault) → NamesTarget b fault →
-      HasCause before.faults after.faults (IsTrue (is_file_fault (given_fault fault))) →
-      OnFalse (is_file_fault (given_fault fault)) (after.faults ≡ before.faults) →
+      after.faults ≡ counted (is_file_fault (given_fault fault)) before.faults →
       (given : Result (List (Option StartPlan)) Refusal) → given ≡ Err refusals.NoMemory → AsPlans given
-  entries_short fault names cause calm given is = inr (
+  entries_short fault names counts given is = inr (
     is,
     record {
-      later = record { told = told; faults = cause.later };
-      unread = by fault names calm;
+      later = counted_later before after told (is_file_fault (given_fault fault)) counts;
+      unread = by fault names counts;
     },
   )
     where
       by : (fault : PlanFault) → NamesTarget b fault →
-          OnFalse (is_file_fault (given_fault fault)) (after.faults ≡ before.faults) →
+          after.faults ≡ counted (is_file_fault (given_fault fault)) before.faults →
           reads_file (plans_reading b) ≡ false → after ≡ before
-      by (plan_faults.FileFault target) names calm none = entry_read b.targets target names none
-      by (plan_faults.FileTooLong target) names calm none = folder_is before after told calm
-      by plan_faults.NoMemory names calm none = folder_is before after told calm
+      by (plan_faults.FileFault target) names counts none = entry_read b.targets target names none
+      by (plan_faults.FileTooLong target) names counts none = folder_is before after told counts
+      by plan_faults.NoMemory names counts none = folder_is before after told counts
 
   pub entries_refused : (fault : PlanFault) → IsPlanned b before (Err fault) → NamesTarget b fault →
-      HasCause before.faults after.faults (IsTrue (is_file_fault (given_fault fault))) →
-      OnFalse (is_file_fault (given_fault fault)) (after.faults ≡ before.faults) →
+      after.faults ≡ counted (is_file_fault (given_fault fault)) before.faults →
       (refusal : Refusal) → refusal ≡ entry_fault b fault → AsPlans (Err refusal)
-  entries_refused fault planned names cause calm refusal is =
-      subst (λ (r : Refusal). AsPlans (Err r)) (sym is) (by fault planned names cause calm)
+  entries_refused fault planned names counts refusal is =
+      subst (λ (r : Refusal). AsPlans (Err r)) (sym is) (by fault planned names counts)
     where
       most : (answers : List FileAnswer) → length answers ≤ length b.targets → length answers ≤ length (entries_of b)
       most answers few = subst (λ n. length answers ≤ n) (sym names_many) few
@@ -213,15 +210,14 @@ module _ (b : Binding) (before after : Folder) (told : after.told ≡ before.tol
           subst (λ k. AsPlans (Err (refusal (entry_name b k)))) same (inl at.read)
 
       by : (fault : PlanFault) → IsPlanned b before (Err fault) → NamesTarget b fault →
-          HasCause before.faults after.faults (IsTrue (is_file_fault (given_fault fault))) →
-          OnFalse (is_file_fault (given_fault fault)) (after.faults ≡ before.faults) → AsPlans (Err (entry_fault b fault))
-      by (plan_faults.FileFault target) planned names cause calm =
+          after.faults ≡ counted (is_file_fault (given_fault fault)) before.faults → AsPlans (Err (entry_fault b fault))
+      by (plan_faults.FileFault target) planned names counts =
           stopped_so target refusals.FileFault
-          (fault_from before after (record { told = told; faults = cause.later }) (cause.rose refl) 0 (entries_of b)
+          (fault_from before after (folder_is (after_file_fault before) after told counts) 0 (entries_of b)
           planned.answers target planned.answered (most planned.answers planned.most) (sym (planned.gives (λ e. cc))))
-      by (plan_faults.FileTooLong target) planned names cause calm =
+      by (plan_faults.FileTooLong target) planned names counts =
           stopped_so target refusals.FileTooLong
-          (long_from before after (folder_is before after told calm) 0 (entries_of b) planned.answers target
+          (long_from before after (folder_is before after told counts) 0 (entries_of b) planned.answers target
           planned.answered (most planned.answers planned.most) (sym (planned.gives (λ e. cc))))
-      by plan_faults.NoMemory planned names cause calm =
-          entries_short plan_faults.NoMemory names cause calm (Err refusals.NoMemory) refl
+      by plan_faults.NoMemory planned names counts =
+          entries_short plan_faults.NoMemory names counts (Err refusals.NoMemory) refl

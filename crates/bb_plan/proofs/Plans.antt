@@ -1,6 +1,5 @@
 -- Of which words and files a session's plan comes, and with which refusals it can't.
 use Rattle.std.proofs.Common.{◌≡◌, ◌≢◌, ◌⊎◌, ◌&&◌, ℕ, Bool, true, false, not, List, [], Some, Result, Ok, Err, IsErr, IfErr, refl, sym, ap, subst, ◌∙◌, inl, inr}
-use Rattle.bb_base.specs.Faults.{Rose}
 use Rattle.bb_base.specs.Folder.{FileMap, Folder}
 use Rattle.bb_base.specs.declared.files.FileFail.{FileFail}
 use Rattle.bb_base.specs.declared.files.FileFail.TheVariants as file_fails
@@ -10,13 +9,13 @@ use Rattle.bb_words.specs.declared.command.Command.{Command}
 use Rattle.bb_plan.specs.Plan.{IsRefusedWith}
 use Rattle.bb_plan.specs.Status.{is_planning}
 use Rattle.bb_plan.specs.Plan.{EarlyEnd, FileAnswers, OnCopies, Prints, Refused, SessionPlan, Task, command_reading, files_for, names_file, plan_by_words, plan_over_files, plan_reading, planned, words_reading}
-use Rattle.bb_plan.specs.FilesRead.{AreRead, file_refusal, result_by, result_over}
+use Rattle.bb_plan.specs.FilesRead.{AreRead, after_file_fault, file_refusal, result_by, result_over}
 use Rattle.bb_plan.specs.Refusal.{status_of}
 use Rattle.bb_plan.specs.declared.refusal.Refusal.{Refusal}
 use Rattle.bb_plan.specs.declared.refusal.Refusal.TheVariants as refusals
 use Rattle.bb_plan.specs.declared.status.Status.{Status}
 use Rattle.bb_plan.specs.declared.status.Status.TheVariants as statuses
-use Rattle.bb_plan.proofs.Readings.{HasErr, IsReadOver, by_over, each_more, ends_err, fault_rose, one_end, same_over}
+use Rattle.bb_plan.proofs.Readings.{HasErr, IsReadOver, by_over, each_more, ends_err, fault_met, one_end, same_over}
 use Rattle.bb_plan.proofs.Sizes.{is_of_file, IsOfText, IsSizedTask, command_ends, is_of_text}
 
 -- ---- refusals
@@ -111,16 +110,16 @@ as_fault (Err refusal) refused = refused
 
 fault_of : (command : Result Command ℕ) (geometry : Geometry) (before after : Folder) (answers : FileAnswers) →
     AreRead (words_reading command geometry) before after answers →
-    HasErr AtFault (result_by (words_reading command geometry) answers) → Rose before.faults after.faults
+    HasErr AtFault (result_by (words_reading command geometry) answers) → after ≡ after_file_fault before
 fault_of (Err place) geometry before after answers are refused = absurd cc
 fault_of (Ok command) geometry before after answers are refused =
-    fault_rose IsSizedTask AtFault (λ name h. cc) (λ h. cc) (command_reading command geometry)
+    fault_met IsSizedTask AtFault (λ name h. cc) (λ h. cc) (command_reading command geometry)
     (each_more IsSizedTask IsOfText (λ refusal. AtFault refusal → ⊥) (text_other statuses.FileFault refl)
     (command_reading command geometry) (command_ends command geometry)) before after answers are refused
 
--- the count rose
+-- one was counted
 pub faulty_plan : (words : List (List ℕ)) (geometry : Geometry) (before after : Folder) (answers : FileAnswers) →
     AreRead (plan_reading words geometry) before after answers →
-    IsRefusedWith statuses.FileFault (plan_by_words words geometry answers) → Rose before.faults after.faults
+    IsRefusedWith statuses.FileFault (plan_by_words words geometry answers) → after ≡ after_file_fault before
 faulty_plan words geometry before after answers are refused =
     fault_of (words_of words) geometry before after answers are (as_fault (result_by (plan_reading words geometry) answers) refused)

@@ -1,10 +1,10 @@
 -- Readings one after another, over files that are told, and each of their ends.
-use Rattle.std.proofs.Common.{◌≡◌, ◌≢◌, ◌⊎◌, ◌<◌, ℕ, false, List, [], ◌∷◌, ◌++◌, Option, Some, Result, Ok, Err, IsErr, IfOk, IfErr, refl, sym, ap, subst, ◌∙◌, inl, inr, arith}
-use Rattle.bb_base.specs.Faults.{Rose}
+use Rattle.std.proofs.Common.{◌≡◌, ◌≢◌, ◌⊎◌, ℕ, Bool, true, false, List, [], ◌∷◌, ◌++◌, Option, Some, Result, Ok, Err, IfOk, IfErr, refl, sym, ap, subst, ◌∙◌, inl, inr}
+use Rattle.bb_base.specs.Faults.{counted}
 use Rattle.bb_base.specs.Folder.{FileMap, Folder}
 use Rattle.bb_base.specs.declared.files.FileFail.{FileFail}
 use Rattle.bb_base.specs.declared.files.FileFail.TheVariants as file_fails
-use Rattle.bb_plan.specs.FilesRead.{AreRead, Asked, EachEnd, Fails, FileAnswer, IsExpected, IsFolderLater, IsRead, IsReadAs, IsUnreadable, Reading, Reads, Yields, and_then, files_answer, answers_on, answers_over, asked_name, file_reading, file_refusal, result_by, result_on, result_over, reading_of, reads_file, result_as}
+use Rattle.bb_plan.specs.FilesRead.{AreRead, EachEnd, Fails, FileAnswer, IsExpected, IsFolderLater, IsRead, IsReadAs, Reading, Reads, Yields, and_then, files_answer, answers_on, answers_over, asked_name, file_reading, file_refusal, result_by, result_on, result_over, reading_of, reads_file, result_as, after_file_fault}
 use Rattle.bb_plan.specs.declared.refusal.Refusal.{Refusal}
 use Rattle.bb_plan.specs.declared.refusal.Refusal.TheVariants as refusals
 
@@ -15,25 +15,33 @@ folder_is before after told faults =
     subst (λ t. record { told = t; faults = after.faults } ≡ before) (sym told)
     (subst (λ n. record { told = before.told; faults = n } ≡ before) (sym faults) refl)
 
-pub same_later : (folder : Folder) → IsFolderLater folder folder
-same_later folder = record { told = refl; faults = omega arith }
-
-later_is : (before after : Folder) → after ≡ before → IsFolderLater before after
-later_is before after is = subst (IsFolderLater before) (sym is) (same_later before)
-
-fail_later : (asked : Asked) (before after : Folder) (fail : FileFail) → IsUnreadable asked before after fail →
+-- a call that counts at most one fault leaves them so
+pub counted_later : (before after : Folder) → after.told ≡ before.told → (fails : Bool) → after.faults ≡ counted fails before.faults →
     IsFolderLater before after
-fail_later asked before after file_fails.Fault is = is.0
-fail_later asked before after file_fails.TooLong is = later_is before after is.1
-fail_later asked before after file_fails.NoMemory is = later_is before after is
+counted_later before after told false counts = inl (folder_is before after told counts)
+counted_later before after told true counts = inr (folder_is (after_file_fault before) after told counts)
 
-pub read_later : {A : Type 0} (reading : Reading A) (before after : Folder) (answers : List FileAnswer) →
-    AreRead reading before after answers → IsFolderLater before after
-read_later (Yields x) before after answers are = later_is before after are.1
-read_later (Fails refusal) before after answers are = later_is before after are.1
-read_later (Reads asked rest) before after [] are = absurd are
-read_later (Reads asked rest) before after (Ok found ∷ answers) are = read_later (rest found) before after answers are.1
-read_later (Reads asked rest) before after (Err fail ∷ answers) are = fail_later asked before after fail are.1
+-- a fault was met, and the reading ended with the refusal that names its file
+pub record EndsAtFault {A : Type 0} (reading : Reading A) (before after : Folder) (answers : List FileAnswer) : Type 0 where
+  pub met : after ≡ after_file_fault before
+  pub name : List ℕ
+  pub gives : result_by reading answers ≡ Err (refusals.FileFault name)
+
+-- nothing else changes the files
+pub one_fault : {A : Type 0} (reading : Reading A) (before after : Folder) (answers : List FileAnswer) →
+    AreRead reading before after answers → (after ≡ before) ⊎ EndsAtFault reading before after answers
+one_fault (Yields x) before after answers are = inl are.1
+one_fault (Fails refusal) before after answers are = inl are.1
+one_fault (Reads asked rest) before after [] are = absurd are
+one_fault (Reads asked rest) before after (Ok found ∷ answers) are =
+    elim (one_fault (rest found) before after answers are.1) [
+      | inl same ↦ inl same
+      | inr fault ↦ inr (record { met = fault.met; name = fault.name; gives = fault.gives })
+    ]
+one_fault (Reads asked rest) before after (Err file_fails.Fault ∷ answers) are =
+    inr (record { met = are.1; name = asked_name asked; gives = refl })
+one_fault (Reads asked rest) before after (Err file_fails.TooLong ∷ answers) are = inl are.1.1
+one_fault (Reads asked rest) before after (Err file_fails.NoMemory ∷ answers) are = inl are.1
 
 pub read_none : {A : Type 0} (reading : Reading A) (before after : Folder) (answers : List FileAnswer) →
     AreRead reading before after answers → reads_file reading ≡ false → after ≡ before
@@ -161,7 +169,8 @@ module _ {A B : Type 0} (next : A → Reading B) where
 
 pub read_as_later : {A B : Type 0} (reading : Reading B) (view : A → B) (before after : Folder) (given : Result A Refusal) →
     IsReadAs reading view before after given → IsFolderLater before after
-read_as_later reading view before after given (inl read) = read_later reading before after read.answers read.are
+read_as_later reading view before after given (inl read) =
+    elim (one_fault reading before after read.answers read.are) [ inl same ↦ inl same | inr fault ↦ inr fault.met ]
 read_as_later reading view before after given (inr (is, short)) = short.later
 
 pub read_as_none : {A B : Type 0} (reading : Reading B) (view : A → B) (before after : Folder) (given : Result A Refusal) →
@@ -192,7 +201,7 @@ memory_or_not refusals.NoMemory = inl refl
 -- memory was refused before any file was read
 pub short_here : {A B : Type 0} (reading : Reading B) (view : A → B) (folder : Folder) (given : Result A Refusal) →
     given ≡ Err refusals.NoMemory → IsReadAs reading view folder folder given
-short_here reading view folder given is = inr (is, record { later = same_later folder; unread = λ none. refl })
+short_here reading view folder given is = inr (is, record { later = inl refl; unread = λ none. refl })
 
 -- a value needs no file
 pub yielded : {A B : Type 0} (view : A → B) (folder : Folder) (x : A) (value : B) → value ≡ view x →
@@ -277,32 +286,23 @@ one_end (Reads asked rest) none answers files = absurd cc
 
 -- ---- ends
 
--- where the count rose it ended with a refusal
-pub risen : {A : Type 0} (reading : Reading A) (before after : Folder) (answers : List FileAnswer) →
-    AreRead reading before after answers → before.faults < after.faults → IsErr (result_by reading answers)
-risen (Yields x) before after answers are rose = absurd (let same = ap (λ (f : Folder). f.faults) are.1 in omega (arith, rose, same))
-risen (Fails refusal) before after answers are rose = refl
-risen (Reads asked rest) before after [] are rose = absurd are
-risen (Reads asked rest) before after (Ok found ∷ answers) are rose = risen (rest found) before after answers are.1 rose
-risen (Reads asked rest) before after (Err fail ∷ answers) are rose = refl
-
 abbrev pub HasErr : {A : Type 0} → (Refusal → Type 0) → Result A Refusal → Type 0
 HasErr Q (Ok x) = ⊥
 HasErr Q (Err e) = Q e
 
 -- a refusal that no end and no other fail has comes of a fault
-pub fault_rose : {A : Type 0} (P : A → Type 0) (Q : Refusal → Type 0) → ((name : List ℕ) → Q (refusals.FileTooLong name) → ⊥) →
+pub fault_met : {A : Type 0} (P : A → Type 0) (Q : Refusal → Type 0) → ((name : List ℕ) → Q (refusals.FileTooLong name) → ⊥) →
     (Q refusals.NoMemory → ⊥) → (reading : Reading A) → EachEnd P (λ e. Q e → ⊥) reading → (before after : Folder)
     (answers : List FileAnswer) → AreRead reading before after answers → HasErr Q (result_by reading answers) →
-    Rose before.faults after.faults
-fault_rose P Q long memory (Yields x) each before after answers are refused = absurd refused
-fault_rose P Q long memory (Fails e) each before after answers are refused = absurd (each refused)
-fault_rose P Q long memory (Reads asked rest) each before after [] are refused = absurd are
-fault_rose P Q long memory (Reads asked rest) each before after (Ok found ∷ answers) are refused =
-    fault_rose P Q long memory (rest found) (each found) before after answers are.1 refused
-fault_rose P Q long memory (Reads asked rest) each before after (Err file_fails.Fault ∷ answers) are refused = are.1.1
-fault_rose P Q long memory (Reads asked rest) each before after (Err file_fails.TooLong ∷ answers) are refused = absurd (long (asked_name asked) refused)
-fault_rose P Q long memory (Reads asked rest) each before after (Err file_fails.NoMemory ∷ answers) are refused = absurd (memory refused)
+    after ≡ after_file_fault before
+fault_met P Q long memory (Yields x) each before after answers are refused = absurd refused
+fault_met P Q long memory (Fails e) each before after answers are refused = absurd (each refused)
+fault_met P Q long memory (Reads asked rest) each before after [] are refused = absurd are
+fault_met P Q long memory (Reads asked rest) each before after (Ok found ∷ answers) are refused =
+    fault_met P Q long memory (rest found) (each found) before after answers are.1 refused
+fault_met P Q long memory (Reads asked rest) each before after (Err file_fails.Fault ∷ answers) are refused = are.1
+fault_met P Q long memory (Reads asked rest) each before after (Err file_fails.TooLong ∷ answers) are refused = absurd (long (asked_name asked) refused)
+fault_met P Q long memory (Reads asked rest) each before after (Err file_fails.NoMemory ∷ answers) are refused = absurd (memory refused)
 
 -- what holds of each end, and of each fail, holds of what it ends with
 pub ends_ok : {A : Type 0} (P : A → Type 0) (Q : Refusal → Type 0) (reading : Reading A) → EachEnd P Q reading →

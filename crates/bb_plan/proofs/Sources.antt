@@ -1,9 +1,8 @@
 -- What reading a file gives, the steps over what it holds, and a layout with its key.
-use Rattle.std.proofs.Common.{◌≡◌, ◌≢◌, ◌≤◌, ℕ, Bool, true, false, List, [], ◌∷◌, cond, Option, None, Some, Result, Ok, Err, ok_or, refl, sym, ap, subst, ◌∙◌, inl, inr, arith}
+use Rattle.std.proofs.Common.{◌≡◌, ◌≢◌, ℕ, Bool, true, false, List, [], ◌∷◌, cond, Option, None, Some, Result, Ok, Err, ok_or, refl, sym, ap, subst, ◌∙◌, inl, inr}
 use Rattle.std.specs.Option.{ForSome}
 use Rattle.std.specs.Result.{result_map_both}
-use Rattle.bb_base.proofs.Counts.{one_more_later}
-use Rattle.bb_base.specs.Faults.{Rose, counted}
+use Rattle.bb_base.specs.Faults.{counted, one_more}
 use Rattle.bb_base.specs.Folder.{Folder}
 use Rattle.bb_base.specs.declared.files.FileFail.TheVariants as file_fails
 use Rattle.bb_chooser.specs.Binding.{Binding}
@@ -29,24 +28,21 @@ use Rattle.bb_layout.specs.Variables.{variables_of}
 use Rattle.bb_layout.specs.declared.layout_error.LayoutError.{LayoutError}
 use Rattle.bb_layout.specs.declared.layout_error.LayoutError.TheVariants as layout_errors
 use Rattle.bb_plan.specs.PlanSteps.{block_by, key_reading, layout_reading, named_block, refused_as}
-use Rattle.bb_plan.specs.FilesRead.{Asked, IsReadAs, Yields, asked_name, files_answer, needed}
+use Rattle.bb_plan.specs.FilesRead.{Asked, IsReadAs, Yields, asked_name, files_answer, needed, after_file_fault}
 use Rattle.bb_plan.specs.Refusal.{layout_refusal, settings_refusal}
 use Rattle.bb_plan.specs.declared.refusal.Refusal.{Refusal}
 use Rattle.bb_plan.specs.declared.refusal.Refusal.TheVariants as refusals
-use Rattle.bb_plan.proofs.Readings.{folder_is, yielded}
-
--- a call counts at most one fault
-pub counted_later : (fails : Bool) (before after : ℕ) → after ≡ counted fails before → before ≤ after
-counted_later false before after counts = omega (arith, counts)
-counted_later true before after counts = subst (λ n. before ≤ n) (sym counts) (one_more_later before)
+use Rattle.bb_plan.proofs.Readings.{counted_later, folder_is, yielded}
 
 module _ (asked : Asked) (before after : Folder) (told : after.told ≡ before.told) where
   abbrev AsBytes : Result (List ℕ) Refusal → Type 0
   AsBytes given = IsReadAs (needed asked) (λ (bytes : List ℕ). bytes) before after given
 
   -- memory was refused before it was read, or for its name
-  pub file_short : before.faults ≤ after.faults → (given : Result (List ℕ) Refusal) → given ≡ Err refusals.NoMemory → AsBytes given
-  file_short later given is = inr (is, record { later = record { told = told; faults = later }; unread = λ none. absurd cc })
+  pub file_short : (fails : Bool) → after.faults ≡ counted fails before.faults → (given : Result (List ℕ) Refusal) →
+      given ≡ Err refusals.NoMemory → AsBytes given
+  file_short fails counts given is =
+      inr (is, record { later = counted_later before after told fails counts; unread = λ none. absurd cc })
 
   pub file_given : (bytes : List ℕ) → ForSome before.told (λ files. files_answer files asked ≡ Ok (Some bytes)) →
       after.faults ≡ before.faults → AsBytes (Ok bytes)
@@ -61,11 +57,11 @@ module _ (asked : Asked) (before after : Folder) (told : after.told ≡ before.t
     gives = ap (λ (n : List ℕ). Err (refusals.FileMissing n)) (sym same);
   })
 
-  pub file_faulty : (copied : List ℕ) → copied ≡ asked_name asked → before.faults ≤ after.faults → Rose before.faults after.faults →
+  pub file_faulty : (copied : List ℕ) → copied ≡ asked_name asked → after.faults ≡ one_more before.faults →
       AsBytes (Err (refusals.FileFault copied))
-  file_faulty copied same later rose = inl (record {
+  file_faulty copied same counts = inl (record {
     answers = Err file_fails.Fault ∷ [];
-    are = (refl, (record { told = told; faults = later }, rose));
+    are = (refl, folder_is (after_file_fault before) after told counts);
     gives = ap (λ (n : List ℕ). Err (refusals.FileFault n)) (sym same);
   })
 

@@ -1,8 +1,8 @@
 -- What is asked of files, one after another, and what comes of it: a value, or a refusal. What is
 -- asked next may hang on what the earlier ones hold.
-use Rattle.std.specs.Prelude.{◌≡◌, ◌≢◌, ◌≤◌, ◌⊎◌, ℕ, Bool, true, false, List, [], ◌∷◌, Option, Result, Ok, Err, ok_or}
+use Rattle.std.specs.Prelude.{◌≡◌, ◌≢◌, ◌⊎◌, ℕ, Bool, true, false, List, [], ◌∷◌, Option, Result, Ok, Err, ok_or}
 use Rattle.std.specs.Option.{ForSome}
-use Rattle.bb_base.specs.Faults.{Rose}
+use Rattle.bb_base.specs.Faults.{one_more}
 use Rattle.bb_base.specs.Folder.{FileMap, Folder, file_of}
 use Rattle.bb_base.specs.declared.files.FileFail.{FileFail}
 use Rattle.bb_base.specs.declared.files.FileFail.TheVariants as file_fails
@@ -115,16 +115,18 @@ answers_over files (Reads asked rest) =
 
 -- ---- what files answer
 
--- the files are as before, and their count of faults never falls
-pub record IsFolderLater (before after : Folder) : Type 0 where
-  pub told : after.told ≡ before.told
-  pub faults : before.faults ≤ after.faults
+-- the same files after one more fault: it is counted, and nothing else changes
+abbrev pub after_file_fault : Folder → Folder
+after_file_fault folder = record { told = folder.told; faults = one_more folder.faults }
 
--- This file couldn't be read. A fault was met only where the count of faults rose, and a file that
--- is told is too long only where it is; no other answer than a fault changes the count.
+-- the files are as before, or met one fault
+abbrev pub IsFolderLater : Folder → Folder → Type 0
+IsFolderLater before after = (after ≡ before) ⊎ (after ≡ after_file_fault before)
+
+-- This file couldn't be read. A fault is counted once, and a file that is told is too long only
+-- where it is; no other answer than a fault changes the count.
 abbrev pub IsUnreadable : Asked → Folder → Folder → FileFail → Type 0
-IsUnreadable asked before after file_fails.Fault =
-    IsFolderLater before after × Rose before.faults after.faults
+IsUnreadable asked before after file_fails.Fault = after ≡ after_file_fault before
 IsUnreadable asked before after file_fails.TooLong =
     ForSome before.told (λ files. files_answer files asked ≡ Err file_fails.TooLong)
     × (after ≡ before)
@@ -132,7 +134,7 @@ IsUnreadable asked before after file_fails.NoMemory = after ≡ before
 
 -- From the one folder to the other this is what reading the files gave, in their order: of files
 -- that are told what they hold, up to the first that couldn't be read. Nothing but a fault changes
--- the folder.
+-- the folder, and that raises its count by one.
 abbrev pub AreRead : {A : Type 0} → Reading A → Folder → Folder → List FileAnswer → Type 0
 AreRead (Yields x) before after answers = (answers ≡ []) × (after ≡ before)
 AreRead (Fails refusal) before after answers = (answers ≡ []) × (after ≡ before)

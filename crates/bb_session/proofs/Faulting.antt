@@ -7,6 +7,7 @@ use Rattle.std.specs.Str.{bytes_eq}
 use Rattle.std.proofs.lemmas.List.{length-map}
 use Rattle.std.proofs.lemmas.List.FromFn.{length-range_with_len}
 use Rattle.std.proofs.lemmas.Option.{same_Some}
+use Rattle.bb_base.proofs.Counts.{one_more_rose}
 use Rattle.bb_base.specs.Faults.{Rose}
 use Rattle.bb_copies.specs.Loading.{LoadFails}
 use Rattle.bb_copies.specs.Refreshing.{IsStuckAt}
@@ -232,7 +233,9 @@ look_fault : (keyed : Keyed) (text : Option (List ℕ) → List ℕ) (from to : 
 look_fault keyed text from to (Err fault) refusal plan saves device shows work h = record {
   fault = fault;
   is = same_Some refusal (copy_refusal fault) (sym h);
-  tells = look_tells plan.keyed from to fault work.looked.fails (work.looked.faults.rose refl) (work.looked.read_faults.rose refl);
+  tells = look_tells plan.keyed from to fault work.looked.fails
+      (subst (Rose from.faults) (sym work.looked.faults) (one_more_rose from.faults))
+      (subst (Rose from.read_faults) (sym work.looked.read_faults) (one_more_rose from.read_faults));
 }
 look_fault keyed text from to (Ok found) refusal plan saves device shows work h =
     absurd (none_some refusal (sym (ap (λ (w : Work). (session_of_saves (work_text plan.keyed.layout plan.work found) (saves_of plan.keyed.layout w (loaded_area plan.keyed.layout found)) saves).refusal) shows)

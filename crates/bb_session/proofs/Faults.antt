@@ -1,8 +1,8 @@
 -- Why a session says that it couldn't read the device, or write a copy.
-use Rattle.std.proofs.Common.{◌≡◌, ◌≢◌, ℕ, suc, ◌-◌, ◌≤◌, Bool, true, false, List, [], ◌∷◌, ◌++◌, append_assoc, length, map, Option, Some, None, Result, Ok, Err, refl, sym, ap, subst, ◌∙◌, inl, inr, arith}
+use Rattle.std.proofs.Common.{◌≡◌, ◌≢◌, ℕ, suc, ◌-◌, ◌≤◌, Bool, true, false, List, [], ◌∷◌, ◌++◌, append_assoc, length, map, Option, Some, None, Ok, Err, refl, sym, ap, subst, ◌∙◌, inl, inr, arith}
 use Rattle.std.specs.Option.{IfNone, option_map}
 use Rattle.std.specs.Str.{bytes_eq}
-use Rattle.std.specs.Prelude.{Contains, slice_get, option_and_then}
+use Rattle.std.specs.Prelude.{slice_get, option_and_then}
 use Rattle.std.proofs.lemmas.Option.{same_Some, slice_get-map}
 use Rattle.bb_base.specs.Form.{Form}
 use Rattle.bb_bucket.specs.Kind.{BucketKind}
@@ -33,12 +33,12 @@ use Rattle.bb_flash.specs.Image.{Image}
 use Rattle.bb_state.specs.Kinds.{laid_form, laid_kinds}
 use Rattle.bb_session.specs.Looking.{first_found, passed_in}
 use Rattle.bb_session.specs.Booting.{SaveAnswer, boots, start_plans_of}
-use Rattle.bb_session.specs.Exactly.{saves_made}
-use Rattle.bb_plan.specs.Plan.{SessionPlan, plan_by_words}
+use Rattle.bb_session.specs.Exactly.{last_area_of, saves_made}
+use Rattle.bb_plan.specs.Plan.{SessionPlan}
 use Rattle.bb_plan.specs.declared.plan.Work.{Work}
 use Rattle.bb_plan.specs.declared.plan.Work.TheVariants.{Act, Boot, Good, Show, Write}
 use Rattle.bb_plan.specs.Refusal.{copy_refusal, status_of}
-use Rattle.bb_session.specs.Session.{Answers, LoadAnswer, Session, refusal_by_table, session_by, loaded_area, session_of_saves, saves_after, saves_of, work_text, work_session}
+use Rattle.bb_session.specs.Session.{LoadAnswer, Session, refusal_by_table, loaded_area, session_of_saves, saves_after, saves_of, work_text, work_session}
 use Rattle.bb_session.specs.Work.{AreSaved, IsBootWork, IsLoaded, IsLoadedAs, IsStoreWork, IsWorkOf, area_taken}
 use Rattle.bb_session.specs.WriteFault.{IsUsed, IsWanted, IsWriteFault}
 use Rattle.bb_plan.specs.declared.refusal.Refusal.{Refusal}
@@ -135,7 +135,7 @@ module _ (plan : SessionPlan) (from : Device) where
 
   -- of this area, after a load that answered Ok and what came after it, with `used` in use
   saved_fault : (found : Option (List ℕ)) (answers : List SaveAnswer) (used : Option ℕ) (area : List ℕ) (copy : ℕ)
-      (mid to : Device) → Contains (saves_made plan.work plan found answers) area →
+      (mid to : Device) → last_area_of None (saves_made plan.work plan found answers) ≡ Some area →
       IsLater from mid → IsLater mid to → (used ≡ Some copy → IsUsed plan from mid (Ok found) copy) →
       (used ≡ None → found ≡ None) → saving.IsWriteFault form kinds used area mid to copy →
       IsWriteFault plan from to (Ok found) answers copy
@@ -191,7 +191,7 @@ load_explains plan used from to answers (faults.WriteFault copy) loaded =
 load_explains plan used from to answers faults.Unsure loaded = loaded.fails.fails
 
 save_explains : (plan : SessionPlan) (from : Device) (found : Option (List ℕ)) (answers : List SaveAnswer) (used : Option ℕ)
-    (area : List ℕ) (mid to : Device) (fault : CopyFault) → Contains (saves_made plan.work plan found answers) area →
+    (area : List ℕ) (mid to : Device) (fault : CopyFault) → last_area_of None (saves_made plan.work plan found answers) ≡ Some area →
     IsLater from mid → IsLater mid to → ((copy : ℕ) → used ≡ Some copy → IsUsed plan from mid (Ok found) copy) →
     (used ≡ None → found ≡ None) → saving.SaveFails (laid_form plan.keyed) (laid_kinds plan.keyed.layout) used area mid to fault →
     fault ≢ faults.Unsure → Explains plan from to (Ok found) answers fault
@@ -251,7 +251,7 @@ saves_explain plan used from mid to found answers text (area ∷ areas) (Err fau
   is = same_Some refusal (copy_refusal fault) (sym h);
   explains =
       save_explains plan from found answers used area mid to fault
-      (subst (λ (all : List (List ℕ)). Contains all area) (sym is) (0, omega arith, refl)) loaded.later done.0.runs.later
+      (ap (last_area_of None) is ∙ ap (last_area_of (Some area)) done.1.0) loaded.later done.0.runs.later
       (used_first plan from mid used found loaded) (lost_load plan from mid used found loaded.gives) done.0.fails done.0.sure;
 }
 saves_explain plan used from mid to found answers text (area ∷ []) (Ok made ∷ saves) refusal is loaded done h =
@@ -292,10 +292,15 @@ record IsReached (plan : SessionPlan) (plans : List (Option StartPlan)) (from fi
   run : (end : Option ℕ) (to : Device) (behind : List Round) → AreRun plan.keyed plans kept now end behind here to →
       AreRun plan.keyed plans (loaded_area plan.keyed.layout found) used end (earlier ++ behind) first to
   lost : now ≡ None → used ≡ None
-  wants : (area : List ℕ) → Contains (tables_of kept rest) area → Contains saves area
+  wants : (area : List ℕ) → last_area_of None (tables_of kept rest) ≡ Some area → last_area_of None saves ≡ Some area
 
-contains_behind : (area other : List ℕ) (areas : List (List ℕ)) → Contains areas area → Contains (other ∷ areas) area
-contains_behind area other areas at = let here = at.1 in (suc at.0, omega (arith, here), at.2)
+-- the table of the last of the rounds that saved
+abbrev last_table : List Round → Option (List ℕ)
+last_table rounds = last_area_of None (map (λ (round : Round). round.table) rounds)
+
+last_behind : (area other : List ℕ) (areas : List (List ℕ)) → last_area_of None areas ≡ Some area → last_area_of None (other ∷ areas) ≡ Some area
+last_behind area other [] at = absurd cc
+last_behind area other (next ∷ areas) at = at
 
 -- one round further
 module _ (plan : SessionPlan) (plans : List (Option StartPlan)) (from first : Device) (found : Option (List ℕ)) (saves : List (List ℕ))
@@ -311,15 +316,13 @@ module _ (plan : SessionPlan) (plans : List (Option StartPlan)) (from first : De
           let stored = subst (λ r. IfNone r (IsStored plan.keyed round.table copy here run.middle)) (unrefused round.outcome done) (run.saved.begun e).stored in
           absurd (none_some stored.saved.used (sym none ∙ stored.saved.is))
 
-  wants_behind : (area : List ℕ) → Contains (tables_of round.table later) area → Contains (tables_of kept (round ∷ later)) area
+  wants_behind : (area : List ℕ) → last_area_of None (tables_of round.table later) ≡ Some area →
+      last_area_of None (tables_of kept (round ∷ later)) ≡ Some area
   wants_behind area at = by (bytes_eq round.table kept) refl
     where
-      by : (same : Bool) → bytes_eq round.table kept ≡ same → Contains (tables_of kept (round ∷ later)) area
-      by true e =
-          subst (λ areas. Contains areas area) (sym (ap (map (λ (r : Round). r.table)) (idle_saving kept round later e))) at
-      by false e =
-          subst (λ areas. Contains areas area) (sym (ap (map (λ (r : Round). r.table)) (begun_saving kept round later e)))
-          (contains_behind area round.table (tables_of round.table later) at)
+      by : (same : Bool) → bytes_eq round.table kept ≡ same → last_area_of None (tables_of kept (round ∷ later)) ≡ Some area
+      by true e = ap last_table (idle_saving kept round later e) ∙ at
+      by false e = ap last_table (begun_saving kept round later e) ∙ last_behind area round.table (tables_of round.table later) at
 
   further : IsReached plan plans from first found saves used round.table copy device later
   unfolding AreRun
@@ -379,8 +382,7 @@ module _ (plan : SessionPlan) (targets : Binding) (cause : Cause) (plans : List 
       by save_run false e =
           let begun = save_run.begun e in
           save_explains plan from found answers now round.table here run.middle fault
-          (reached.wants round.table
-          (subst (λ areas. Contains areas round.table) (sym (ap (map (λ (r : Round). r.table)) (begun_saving kept round [] e))) (0, omega arith, refl)))
+          (reached.wants round.table (ap last_table (begun_saving kept round [] e)))
           reached.later begun.runs.later uses
           (λ none. lost_load plan from first used found loaded.gives (reached.lost none)) begun.fails begun.sure
 
@@ -433,7 +435,7 @@ boot_explains plan targets cause plans from to (Ok found) saves refusal device i
             earlier = [];
             run = λ end d behind rest. rest;
             lost = λ none. none;
-            wants = λ area at. subst (λ areas. Contains areas area) made at;
+            wants = λ area at. sym (ap (last_area_of None) made) ∙ at;
           })
           (stops_refused targets plans _ run.rounds run.are) run.run (refused_last targets run.rounds ended.0 ended.1.0);
     }

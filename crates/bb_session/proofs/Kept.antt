@@ -1,5 +1,7 @@
 -- What a load and a save leave of the copies, as lists of what they pass.
 use Rattle.std.proofs.Common.{◌≡◌, ℕ, zero, suc, List, [], ◌∷◌, Option, Some, None, is_some, unwrap_or, refl, sym, ap, subst, ◌∙◌}
+use Rattle.std.specs.Prelude.{All}
+use Rattle.std.specs.List.{AllByRecursion}
 use Rattle.std.proofs.lemmas.List.Elements.{All-from_recursion}
 use Rattle.bb_copies.specs.Passing.{passes_at}
 use Rattle.bb_copies.specs.Saving.{KeepsUsed}
@@ -33,6 +35,14 @@ pub found_none : (passed : List (Option (List ℕ))) → (SomePasses passed → 
 found_none [] none = refl
 found_none (None ∷ passed) none = found_none passed none
 found_none (Some area ∷ passed) none = absurd (none refl)
+
+pub none_all : (passed : List (Option (List ℕ))) → (SomePasses passed → ⊥) → All (λ area. area ≡ None) passed
+none_all passed none = All-from_recursion (λ area. area ≡ None) passed (by passed none)
+  where
+    by : (passed : List (Option (List ℕ))) → (SomePasses passed → ⊥) → AllByRecursion (λ area. area ≡ None) passed
+    by [] none = tt
+    by (None ∷ passed) none = (refl, by passed none)
+    by (Some area ∷ passed) none = absurd (none refl)
 
 -- the area of the first that passes, or the one of an empty device
 pub found_or : (first : List ℕ) (passed : List (Option (List ℕ))) →

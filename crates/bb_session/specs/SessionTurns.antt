@@ -1,5 +1,5 @@
 -- What a session did with the copies, as a turn of a chronicle, and what its images stand for.
-use Rattle.std.specs.Prelude.{◌≡◌, ℕ, List, [], ◌∷◌, Option, None, Ok, Err, is_ok, count_by}
+use Rattle.std.specs.Prelude.{◌≡◌, ℕ, List, [], ◌∷◌, All, Option, None, Ok, Err, is_ok, count_by}
 use Rattle.std.specs.Option.{ForSome}
 use Rattle.bb_copies.specs.Chronicle.{Content, Finished, Follows, IsStanding, Loaded, Looked, Turn, Unloaded, Untouched}
 use Rattle.bb_copies.specs.Cutting.{turn_stages}
@@ -9,7 +9,6 @@ use Rattle.bb_copies.specs.Trail.{IsTrail, Milestone, milestone_of, session_trai
 use Rattle.bb_flash.specs.Counted.{Counts, IsFair}
 use Rattle.bb_flash.specs.Device.{Device, Told, moment}
 use Rattle.bb_flash.specs.Image.{Image}
-use Rattle.bb_layout.specs.Layout.{Laid}
 use Rattle.bb_state.specs.Blank.{IsErased}
 use Rattle.bb_state.specs.Keyed.{Keyed}
 use Rattle.bb_session.specs.Looking.{passed_in}
@@ -22,13 +21,19 @@ use Rattle.bb_plan.specs.declared.plan.Work.TheVariants.{Act, Boot, Good, Show, 
 use Rattle.bb_session.specs.Session.{LoadAnswer, loaded_area, work_session}
 use Rattle.bb_session.specs.Work.{IsLoaded}
 
--- a device that holds 0xFF alone, in pages of any health, stands for that area alone, for every
--- layout, key and format
+-- the copies of a layout hold no area
+pub record HoldsNoArea (keyed : Keyed) (page : ℕ) (image : Image) : Type 0 where
+  -- no copy passes anything
+  pub passes : All (λ area. area ≡ None) (passed_in keyed page image)
+  -- they stand for the first area alone
+  pub stands :
+      Stands (first_area keyed.layout) (passed_in keyed page image) (first_area keyed.layout ∷ []) 0
+
+-- so it is on a device that holds 0xFF alone, in pages of any health, for every layout, key and
+-- format
 abbrev pub BlankLaw : Type 0
 BlankLaw =
-    (keyed : Keyed) (page : ℕ) (image : Image) → IsErased image →
-    Stands (first_area keyed.layout) (passed_in keyed page image)
-    (first_area keyed.layout ∷ []) 0
+    (keyed : Keyed) (page : ℕ) (image : Image) → IsErased image → HoldsNoArea keyed page image
 
 -- ---- the turn of a session
 

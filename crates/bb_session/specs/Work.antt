@@ -1,8 +1,8 @@
 -- The work of a session on the copies of a layout: what was answered, and what became of the
 -- device.
-use Rattle.std.specs.Prelude.{◌≡◌, ◌≢◌, ◌⊎◌, ℕ, ◌≤◌, List, [], ◌∷◌, length, map, ⊤, false, true, Option, Some, None, Result, Ok, Err, IfOk, IfErr, IsErr}
+use Rattle.std.specs.Prelude.{◌≡◌, ◌≢◌, ◌⊎◌, ℕ, ◌≤◌, List, [], ◌∷◌, length, map, ⊤, false, true, Option, Some, None, Result, Ok, Err, IfOk, IfErr, is_err}
 use Rattle.std.specs.Option.{ForSome}
-use Rattle.bb_base.specs.Faults.{HasCause}
+use Rattle.bb_base.specs.Faults.{counted}
 use Rattle.bb_bucket.specs.Calls.{IsQuiet}
 use Rattle.bb_copies.specs.Erasing.{ErasesBy}
 use Rattle.bb_copies.specs.Loading.{KeepsOutside, LoadGives, LoadImages, LoadsErasing, LoadsExactly}
@@ -38,14 +38,14 @@ use Rattle.bb_plan.specs.declared.refusal.Refusal.TheVariants as refusals
 
 -- ---- a look
 
--- the copies were looked at: reads at most were made
+-- the copies were looked at: reads at most were made, and one that failed is counted once
 pub record IsLooked (keyed : Keyed) (from to : Device) (answer : LoadAnswer) : Type 0 where
   pub told :
       ForSome (content from)
       (λ image. IfOk answer (λ found. found ≡ first_found (passed_in keyed from.geometry.page image)))
   pub fails : IfErr answer (λ fault. fault ≡ ReadFault)
-  pub faults : HasCause from.faults to.faults (IsErr answer)
-  pub read_faults : HasCause from.read_faults to.read_faults (IsErr answer)
+  pub faults : to.faults ≡ counted (is_err answer) from.faults
+  pub read_faults : to.read_faults ≡ counted (is_err answer) from.read_faults
   pub quiet : IsQuiet from to
 
 -- ---- a load

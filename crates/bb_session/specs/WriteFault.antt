@@ -1,5 +1,5 @@
 -- Why a session names a copy that it couldn't write. The counts are those of the whole session.
-use Rattle.std.specs.Prelude.{◌≡◌, ◌≢◌, ◌⊎◌, ℕ, ◌+◌, ◌-◌, false, List, [], Contains, Option, Some, None, Ok, Err}
+use Rattle.std.specs.Prelude.{◌≡◌, ◌≢◌, ◌⊎◌, ℕ, ◌+◌, ◌-◌, false, List, [], Option, Some, None, Ok, Err}
 use Rattle.std.specs.Option.{ForSome}
 use Rattle.bb_copies.specs.Buckets.{EachCopy}
 use Rattle.bb_copies.specs.Passing.{passes_at}
@@ -12,15 +12,16 @@ use Rattle.bb_session.specs.Looking.{first_found, passed_in}
 use Rattle.bb_shell.specs.Boot.{Round}
 use Rattle.bb_shell.specs.Running.{AreRun}
 use Rattle.bb_session.specs.Booting.{SaveAnswer, boots, start_plans_of}
-use Rattle.bb_session.specs.Exactly.{saves_made}
+use Rattle.bb_session.specs.Exactly.{last_area_of, saves_made}
 use Rattle.bb_plan.specs.Plan.{SessionPlan}
 use Rattle.bb_session.specs.Session.{LoadAnswer, loaded_area}
 use Rattle.bb_session.specs.Work.{IsLoaded}
 
--- the area that the copies were to take: one that was saved, or in a load that was refused that of
--- the first copy that passed at entry
+-- The area that the copies were to take: that of the last save that was begun, which is the one
+-- that was refused. In a load that was refused it is that of the first copy that passed at entry.
 abbrev pub IsWanted : SessionPlan → Device → LoadAnswer → List SaveAnswer → List ℕ → Type 0
-IsWanted plan from (Ok found) answers area = Contains (saves_made plan.work plan found answers) area
+IsWanted plan from (Ok found) answers area =
+    last_area_of None (saves_made plan.work plan found answers) ≡ Some area
 IsWanted plan from (Err fault) answers area =
     ForSome (content from)
     (λ image. first_found (passed_in plan.keyed from.geometry.page image) ≡ Some area)

@@ -1,9 +1,7 @@
-ghost use Rattle.std.specs.Prelude.{◌≡◌, ◌<◌, ◌+◌, ℕ, IfErr, IfOk, IsTrue, Ok, Err};
-ghost use Rattle.std.specs.Prelude.{length, slice_get};
-ghost use Rattle.std.specs.Bool.{OnFalse};
+ghost use Rattle.std.specs.Prelude.{◌≡◌, ◌<◌, ◌+◌, ℕ, IfErr, IfOk, Ok, Err, length, slice_get};
 ghost use Rattle.std.specs.Option.{ForSome, option_copied, option_map};
 ghost use Rattle.bb_base.specs.Form.{area_limit};
-ghost use Rattle.bb_base.specs.Faults.{HasCause};
+ghost use Rattle.bb_base.specs.Faults.{counted};
 ghost use Rattle.bb_base.specs.Folder.{file_of};
 ghost use Rattle.bb_shell.specs.Plans.{IsPlanOf, IsPlanRead, IsPlanned, NamesTarget, entry_answer};
 ghost use Rattle.bb_shell.specs.Plans.{folder_answer, folder_named, is_file_fault, plan_by};
@@ -37,12 +35,10 @@ pub fn read_plans<F: Files>(
     ensures planned { IsPlanned chooser.now (F.folder files.old) result }
     ensures names { IfErr result (NamesTarget chooser.now) }
 
-    // A fault is counted, and no other answer changes the count.
+    // A fault is counted once, and no other answer changes the count.
     ensures told { (F.folder files.new).told ≡ (F.folder files.old).told }
-    ensures cause { HasCause (F.folder files.old).faults (F.folder files.new).faults
-        (IsTrue (is_file_fault result)) }
-    ensures calm { OnFalse (is_file_fault result)
-        ((F.folder files.new).faults ≡ (F.folder files.old).faults) }
+    ensures counts { (F.folder files.new).faults
+        ≡ counted (is_file_fault result) (F.folder files.old).faults }
 {
     let mut plans = PlanList::none(alloc);
     for target in 0..chooser.count() {
@@ -63,10 +59,8 @@ fn read_plan<F: Files>(
     ensures planned { IsPlanOf chooser.now target (F.folder files.old) result }
     ensures names { IfErr result (NamesTarget chooser.now) }
     ensures told { (F.folder files.new).told ≡ (F.folder files.old).told }
-    ensures cause { HasCause (F.folder files.old).faults (F.folder files.new).faults
-        (IsTrue (is_file_fault result)) }
-    ensures calm { OnFalse (is_file_fault result)
-        ((F.folder files.new).faults ≡ (F.folder files.old).faults) }
+    ensures counts { (F.folder files.new).faults
+        ≡ counted (is_file_fault result) (F.folder files.old).faults }
 {
     let Some(setting) = chooser.entry(target) else {
         unreachable!()
@@ -85,10 +79,8 @@ fn plan_of_setting<F: Files>(
     ensures read { IsPlanRead target (λ told. entry_answer told setting.now)
         (F.folder files.old) result }
     ensures told { (F.folder files.new).told ≡ (F.folder files.old).told }
-    ensures cause { HasCause (F.folder files.old).faults (F.folder files.new).faults
-        (IsTrue (is_file_fault result)) }
-    ensures calm { OnFalse (is_file_fault result)
-        ((F.folder files.new).faults ≡ (F.folder files.old).faults) }
+    ensures counts { (F.folder files.new).faults
+        ≡ counted (is_file_fault result) (F.folder files.old).faults }
 {
     match folder_named(setting) {
         Some(dir) => plan_of_folder(alloc, target, dir, files),
@@ -114,10 +106,8 @@ fn plan_of_folder<F: Files>(
     ensures read { IsPlanRead target (λ told. folder_answer told dir.now)
         (F.folder files.old) result }
     ensures told { (F.folder files.new).told ≡ (F.folder files.old).told }
-    ensures cause { HasCause (F.folder files.old).faults (F.folder files.new).faults
-        (IsTrue (is_file_fault result)) }
-    ensures calm { OnFalse (is_file_fault result)
-        ((F.folder files.new).faults ≡ (F.folder files.old).faults) }
+    ensures counts { (F.folder files.new).faults
+        ≡ counted (is_file_fault result) (F.folder files.old).faults }
 {
     match read_menu(alloc, dir, files) {
         Ok(menu) => Ok(first_plan(target, menu)),
@@ -147,10 +137,8 @@ fn plan_of_file<F: Files>(
     requires { target < area_limit }
     ensures read { IsPlanRead target (λ told. file_of told name.now) (F.folder files.old) result }
     ensures told { (F.folder files.new).told ≡ (F.folder files.old).told }
-    ensures cause { HasCause (F.folder files.old).faults (F.folder files.new).faults
-        (IsTrue (is_file_fault result)) }
-    ensures calm { OnFalse (is_file_fault result)
-        ((F.folder files.new).faults ≡ (F.folder files.old).faults) }
+    ensures counts { (F.folder files.new).faults
+        ≡ counted (is_file_fault result) (F.folder files.old).faults }
 {
     let mut text = Bytes::none(alloc);
     match files.read(name, &mut text) {

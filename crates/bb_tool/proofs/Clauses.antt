@@ -1,12 +1,11 @@
 -- The clauses of `run`: one lemma for each record, built of the lemmas on its facts.
 use Rattle.std.proofs.Common.{refl}
-use Rattle.std.specs.Prelude.{◌≤◌}
 use Rattle.bb_tool.specs.Calls.{IsSession, KeepsFiles, KeepsHistory, LeavesUnnamedFiles}
 use Rattle.bb_tool.specs.Clauses.{EndsEarly, KeepsTheCopies, KnowsItsCauses, LeavesTheRest, SendsTheSession, StartsTheBest, WorksUndisturbed}
 use Rattle.bb_tool.specs.Ran.{Ran}
 use Rattle.bb_plan.specs.declared.status.Status.TheVariants as statuses
-use Rattle.bb_tool.proofs.Endings.{at_exit, bad_words_of, beside, comes_alone, comes_planned, copy_of_fault, file_fault_of, front_of, no_memory_of, on_a_trail, read_fault_of, sink_fault_of, unasked_of, write_fault_of}
-use Rattle.bb_tool.proofs.Early.{early_memory_of, early_of}
+use Rattle.bb_tool.proofs.Endings.{at_exit, bad_words_of, beside, comes_alone, comes_planned, copy_of_fault, file_fault_of, front_of, no_memory_of, on_a_trail, read_fault_of, sink_fault_of, sink_faults_of, unasked_of, write_fault_of}
+use Rattle.bb_tool.proofs.Early.{early_memory_of, early_of, file_faults_of}
 use Rattle.bb_tool.proofs.Undisturbed.{called_of, erased_of}
 use Rattle.bb_tool.proofs.Undisturbed.{alike_of, written_of}
 use Rattle.bb_tool.proofs.Undisturbed.{unread_of, write_faults_of}
@@ -19,6 +18,7 @@ pub sends : (ran : Ran) → IsSession ran → SendsTheSession ran
 sends ran session = record {
   session = session;
   sink_fault_front = front_of ran session;
+  sink_faults = sink_faults_of ran session;
 }
 
 pub leaves : (ran : Ran) → IsSession ran → KeepsFiles ran → LeavesUnnamedFiles ran → KeepsHistory ran → LeavesTheRest ran
@@ -46,9 +46,10 @@ undisturbed ran session = record {
   passes = alike_of ran session;
 }
 
-pub ends_early : (ran : Ran) → IsSession ran → EndsEarly ran
-ends_early ran session = record {
+pub ends_early : (ran : Ran) → IsSession ran → KeepsFiles ran → EndsEarly ran
+ends_early ran session files = record {
   early = early_of ran session;
+  file_faults = file_faults_of ran session files;
   early_memory = early_memory_of ran session;
 }
 
@@ -62,12 +63,12 @@ starts ran session = record {
   start_faults = start_faults_of ran session;
 }
 
-pub causes : (ran : Ran) → IsSession ran → KeepsFiles ran → KeepsHistory ran → ran.before.sink.faults ≤ ran.after.sink.faults → KnowsItsCauses ran
-causes ran session files later sink = record {
+pub causes : (ran : Ran) → IsSession ran → KeepsHistory ran → KnowsItsCauses ran
+causes ran session later = record {
   bad_words = bad_words_of ran session;
   file_missing = comes_planned ran session statuses.FileMissing refl (λ h. cc) (λ h. cc) (λ h. cc);
   file_too_long = comes_planned ran session statuses.FileTooLong refl (λ h. cc) (λ h. cc) (λ h. cc);
-  file_fault = file_fault_of ran session files.faults;
+  file_fault = file_fault_of ran session;
   bad_tree = comes_planned ran session statuses.BadTree refl (λ h. cc) (λ h. cc) (λ h. cc);
   bad_layout = comes_planned ran session statuses.BadLayout refl (λ h. cc) (λ h. cc) (λ h. cc);
   bad_layout_alone = comes_alone ran session statuses.BadLayout refl (λ h. cc) (λ h. cc);
@@ -83,6 +84,6 @@ causes ran session files later sink = record {
   no_target = no_target_of ran session;
   start_failed = start_failed_of ran session;
   start_failed_cause = start_causes_of ran session;
-  sink_fault = sink_fault_of ran session sink;
+  sink_fault = sink_fault_of ran session;
   no_memory = no_memory_of ran session;
 }

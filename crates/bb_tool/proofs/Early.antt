@@ -1,42 +1,68 @@
 -- Sessions that end early: a file that met a fault, and refused memory.
-use Rattle.std.proofs.Common.{◌≡◌, ◌⊎◌, true, false, Option, None, Some, Result, Ok, Err, IsErr, refl, inl, inr}
+use Rattle.std.proofs.Common.{◌≡◌, ◌⊎◌, true, false, Option, None, Some, Result, Ok, Err, IsErr, refl, sym, ap, subst, ◌∙◌, inl, inr}
 use Rattle.bb_flash.specs.Device.{Device}
-use Rattle.bb_tool.specs.Calls.{IsSession, MayAnswer, geometry_of}
+use Rattle.bb_tool.specs.Calls.{CountsFileFaults, IsSession, KeepsFiles, MayAnswer, geometry_of}
 use Rattle.bb_tool.specs.Copying.{StopsAtFileFault, StopsBetweenSaves}
 use Rattle.bb_tool.specs.SessionAnswer.{IsFollowed}
-use Rattle.bb_plan.specs.Plan.{EarlyEnd, SessionPlan, plan_by_words, plan_reading, OnCopies, Prints, Task, planned}
+use Rattle.bb_plan.specs.Plan.{EarlyEnd, SessionPlan, plan_by_words, plan_reading, Task, planned}
 use Rattle.bb_tool.specs.Ran.{Ran}
-use Rattle.bb_session.specs.Session.{Answers, Session, session_by, work_session}
+use Rattle.bb_session.specs.Session.{Answers, Session, ended_status, session_by, work_session}
 use Rattle.bb_plan.specs.Refusal.{status_of}
 use Rattle.bb_plan.specs.Refusal.{takes_memory}
 use Rattle.bb_session.specs.Work.{SendsByMemory}
 use Rattle.bb_plan.specs.declared.refusal.Refusal.{Refusal}
 use Rattle.bb_plan.specs.declared.refusal.Refusal.TheVariants as refusals
 use Rattle.bb_tool.proofs.Endings.{no_memory_of, unasked_by}
-use Rattle.bb_plan.specs.FilesRead.{result_by}
-use Rattle.bb_plan.proofs.Readings.{risen}
+use Rattle.bb_tool.proofs.Told.{told_cases}
+use Rattle.bb_plan.proofs.Readings.{EndsAtFault, one_fault}
+use Rattle.bb_plan.specs.declared.status.Status.TheVariants as statuses
 use Rattle.bb_session.proofs.Barred.{HasNoFault, done_whole, is_device_fault, refused_whole}
 use Rattle.bb_session.proofs.Unrefused.{AllMade, work_made}
 
 -- ---- a file that met a fault
 
-ended_early : (task : Result Task Refusal) → IsErr task → IsErr (planned task)
-ended_early (Ok (OnCopies plan)) refused = absurd cc
-ended_early (Ok (Prints text)) refused = absurd cc
-ended_early (Err refusal) refused = refl
+-- the files of a session are as before, or one of them met a fault, which decides
+session_fault : (ran : Ran) (answers : Answers) → MayAnswer ran answers →
+    (ran.after.folder ≡ ran.before.folder)
+    ⊎ EndsAtFault (plan_reading ran.words (geometry_of ran)) ran.before.folder ran.after.folder answers.files
+session_fault ran answers answered =
+    one_fault (plan_reading ran.words (geometry_of ran)) ran.before.folder ran.after.folder answers.files answered.filed
 
-risen_by : (ran : Ran) (answers : Answers) → MayAnswer ran answers → StopsAtFileFault ran
-risen_by ran answers answered = λ rose.
-    unasked_by (plan_by_words ran.words (geometry_of ran) answers.files) ran.before.device
-    ran.after.device answers answered.followed
-    (ended_early (result_by (plan_reading ran.words (geometry_of ran)) answers.files)
-    (risen (plan_reading ran.words (geometry_of ran)) ran.before.folder ran.after.folder answers.files answered.filed rose))
+stops_by : (ran : Ran) (answers : Answers) → MayAnswer ran answers → StopsAtFileFault ran
+stops_by ran answers answered = elim (session_fault ran answers answered) [
+  | inl same ↦ inl same
+  | inr fault ↦ inr
+      (unasked_by (plan_by_words ran.words (geometry_of ran) answers.files) ran.before.device ran.after.device answers answered.followed
+      (subst (λ (task : Result Task Refusal). IsErr (planned task)) (sym fault.gives) refl))
+]
 
 pub early_of : (ran : Ran) → IsSession ran → StopsAtFileFault ran
-early_of ran (inl ending) = risen_by ran ending.answers ending.answered
-early_of ran (inr memory) = λ rose. elim (memory.work) [
-  | inl same ↦ same
-  | inr text ↦ risen_by ran text.answers text.answered rose
+early_of ran (inl ending) = stops_by ran ending.answers ending.answered
+early_of ran (inr memory) = elim (memory.work) [
+  | inl same ↦ inr same
+  | inr text ↦ stops_by ran text.answers text.answered
+]
+
+pub file_faults_of : (ran : Ran) → IsSession ran → KeepsFiles ran → CountsFileFaults ran
+file_faults_of ran (inl ending) files = elim (session_fault ran ending.answers ending.answered) [
+  | inl same ↦ inl same
+  | inr fault ↦ inr (
+    fault.met,
+    elim (told_cases _ _ ran.before.sink ran.after.sink ran.status ending.told) [
+      | inl own ↦ inl (own ∙ ap (λ (task : Result Task Refusal). ended_status (session_by (planned task) ending.answers)) fault.gives)
+      | inr other ↦ inr other
+    ],
+  )
+]
+file_faults_of ran (inr memory) files = elim files [
+  | inl same ↦ inl same
+  | inr met ↦ inr (
+    met,
+    elim (told_cases _ statuses.NoMemory ran.before.sink ran.after.sink ran.status memory.told) [
+      | inl e ↦ inr (inr e)
+      | inr other ↦ inr other
+    ],
+  )
 ]
 
 -- ---- refused memory

@@ -10,7 +10,7 @@ use Rattle.bb_flash.specs.declared.geometry.Geometry.{Geometry}
 use Rattle.bb_state.specs.Keyed.{Keyed}
 use Rattle.bb_words.specs.Words.{words_of}
 use Rattle.bb_words.specs.declared.command.Command.{Command}
-use Rattle.bb_tool.specs.Calls.{ComesByDevice, ComesByFiles, ComesByOutlet, ComesByPlan, ComesByPlanAlone, ComesByReads, ComesByWords, IsAnswered, IsSession, IsWithoutMemory, MayAnswer, NamesACopy, SendsSessionFront, SendsText, geometry_of, plan_over, session_for}
+use Rattle.bb_tool.specs.Calls.{ComesByDevice, ComesByFiles, ComesBySink, ComesByPlan, ComesByPlanAlone, ComesByReads, ComesByWords, CountsSinkFaults, IsAnswered, IsSession, IsWithoutMemory, MayAnswer, NamesACopy, SendsSessionFront, SendsText, geometry_of, plan_over, session_for}
 use Rattle.bb_plan.specs.Plan.{EarlyEnd, Printed, Refused, planned, IsRefusedWith}
 use Rattle.bb_plan.specs.Status.{is_planning}
 use Rattle.bb_tool.specs.Copying.{KeepsATrail, KeepsAtExit, KeepsOutsideCopies}
@@ -30,7 +30,7 @@ use Rattle.bb_session.specs.declared.report.Report.{Report}
 use Rattle.bb_plan.specs.declared.status.Status.{Status}
 use Rattle.bb_plan.specs.declared.status.Status.TheVariants as statuses
 use Rattle.bb_plan.proofs.Plans.{alone_plan, faulty_plan, plan_refusal, same_plan, words_refused}
-use Rattle.bb_tool.proofs.Told.{memory_sink, told_cases, told_front, told_memory, told_other, told_own}
+use Rattle.bb_tool.proofs.Told.{memory_sink, told_cases, told_counts, told_front, told_memory, told_other, told_own}
 use Rattle.bb_session.proofs.Faulting.{FaultTells, IsFault, is_work, not_work, work_fault, worked_work}
 use Rattle.bb_session.proofs.Barred.{is_device_fault}
 use Rattle.bb_session.proofs.Works.{has_trails, keeps_outside, leads_on}
@@ -135,15 +135,12 @@ comes_alone ran s answer other first second = λ none files.
           (λ answers. plan_ends (plan_by_words ran.words (geometry_of ran) answers.files) answers answer (subst (IsRefusedWith answer) (sym (same answers.files)) refused));
     }
 
-pub file_fault_of : (ran : Ran) → IsSession ran → ran.before.folder.faults ≤ ran.after.folder.faults → ComesByFiles statuses.FileFault ran
-file_fault_of ran s later = record {
-  later = later;
-  rose = λ e.
-      let own = own_answer ran statuses.FileFault s (λ h. cc) (λ h. cc) e in
-      let files = own.ending.answers.files in
-      let refused = plan_only (plan_by_words ran.words (geometry_of ran) files) own.ending.answers statuses.FileFault refl own.own in
-      faulty_plan ran.words (geometry_of ran) ran.before.folder ran.after.folder files own.ending.answered.filed refused;
-}
+pub file_fault_of : (ran : Ran) → IsSession ran → ComesByFiles statuses.FileFault ran
+file_fault_of ran s e =
+    let own = own_answer ran statuses.FileFault s (λ h. cc) (λ h. cc) e in
+    let files = own.ending.answers.files in
+    let refused = plan_only (plan_by_words ran.words (geometry_of ran) files) own.ending.answers statuses.FileFault refl own.own in
+    faulty_plan ran.words (geometry_of ran) ran.before.folder ran.after.folder files own.ending.answered.filed refused
 
 planning_work : (status : Status) → is_work status ≡ true → is_planning status ≡ true → ⊥
 planning_work statuses.Done first second = cc
@@ -345,15 +342,13 @@ front_of ran (inl ending) e = record {
 }
 front_of ran (inr memory) e = absurd (memory_sink ran.before.sink ran.after.sink ran.status memory.told e)
 
-pub sink_fault_of : (ran : Ran) → IsSession ran → ran.before.sink.faults ≤ ran.after.sink.faults → ComesByOutlet statuses.SinkFault ran
-sink_fault_of ran (inl ending) later = record {
-  later = later;
-  rose = λ e. (cut_off ran ending e).cause;
-}
-sink_fault_of ran (inr memory) later = record {
-  later = later;
-  rose = λ e. absurd (memory_sink ran.before.sink ran.after.sink ran.status memory.told e);
-}
+pub sink_fault_of : (ran : Ran) → IsSession ran → ComesBySink statuses.SinkFault ran
+sink_fault_of ran (inl ending) e = (cut_off ran ending e).faults
+sink_fault_of ran (inr memory) e = absurd (memory_sink ran.before.sink ran.after.sink ran.status memory.told e)
+
+pub sink_faults_of : (ran : Ran) → IsSession ran → CountsSinkFaults ran
+sink_faults_of ran (inl ending) = told_counts _ _ ran.before.sink ran.after.sink ran.status ending.told
+sink_faults_of ran (inr memory) = told_counts _ statuses.NoMemory ran.before.sink ran.after.sink ran.status memory.told
 
 -- ---- what the work gave, and how it was told
 

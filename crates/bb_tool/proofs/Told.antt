@@ -1,6 +1,7 @@
 -- What a status says of how a text was told.
-use Rattle.std.proofs.Common.{◌≡◌, ◌≢◌, ◌⊎◌, ℕ, List, refl, sym, ◌∙◌, inl, inr}
-use Rattle.bb_base.specs.Faults.{Rose}
+use Rattle.std.proofs.Common.{◌≡◌, ◌≢◌, ◌⊎◌, ℕ, List, refl, sym, subst, ◌∙◌, inl, inr}
+use Rattle.bb_base.proofs.Counts.{one_more_rose}
+use Rattle.bb_base.specs.Faults.{Rose, one_more}
 use Rattle.bb_base.specs.SinkRecord.{SinkRecord}
 use Rattle.bb_tool.specs.Lines.{line_of}
 use Rattle.bb_tool.specs.Sending.{IsTextCut, IsSent, IsSentOrCut, IsSentMemory, status_unsent}
@@ -28,9 +29,20 @@ overrule_cases statuses.NoGood = inl refl
 overrule_cases statuses.SinkFault = inl refl
 overrule_cases statuses.NoMemory = inr refl
 
+cut_first : (text : List ℕ) (ended : Status) (before after : SinkRecord) (status : Status) → IsTextCut text ended before after status →
+    (status ≡ statuses.SinkFault) ⊎ (status ≡ statuses.NoMemory)
+cut_first text ended before after status cut =
+    elim (overrule_cases ended) [ inl e ↦ inl (cut.status_is ∙ e) | inr e ↦ inr (cut.status_is ∙ e) ]
+
 pub told_cases : (text : List ℕ) (ended : Status) (before after : SinkRecord) (status : Status) → IsSentOrCut text ended before after status → (status ≡ ended) ⊎ ((status ≡ statuses.SinkFault) ⊎ (status ≡ statuses.NoMemory))
 told_cases text ended before after status (inl sent) = inl sent.status_is
-told_cases text ended before after status (inr cut) = elim (overrule_cases ended) [ inl e ↦ inr (inl (cut.status_is ∙ e)) | inr e ↦ inr (inr (cut.status_is ∙ e)) ]
+told_cases text ended before after status (inr cut) = inr (cut_first text ended before after status cut)
+
+-- the output counted no fault, or one, which one of these two answers says
+pub told_counts : (text : List ℕ) (ended : Status) (before after : SinkRecord) (status : Status) → IsSentOrCut text ended before after status →
+    (after.faults ≡ before.faults) ⊎ ((after.faults ≡ one_more before.faults) × ((status ≡ statuses.SinkFault) ⊎ (status ≡ statuses.NoMemory)))
+told_counts text ended before after status (inl sent) = inl sent.faults
+told_counts text ended before after status (inr cut) = inr (cut.faults, cut_first text ended before after status cut)
 
 -- an answer that isn't one of the two that come first is the session's own
 pub told_own : (text : List ℕ) (ended answer : Status) (before after : SinkRecord) (status : Status) → IsSentOrCut text ended before after status → answer ≢ statuses.SinkFault → answer ≢ statuses.NoMemory → status ≡ answer → ended ≡ answer
@@ -77,4 +89,5 @@ memory_sink before after status (inr cut) = λ e. (let h : statuses.NoMemory ≡
 
 pub told_whole : (text : List ℕ) (ended : Status) (before after : SinkRecord) (status : Status) → IsSentOrCut text ended before after status → (Rose before.faults after.faults → ⊥) → IsSent text ended before after status
 told_whole text ended before after status (inl sent) whole = sent
-told_whole text ended before after status (inr cut) whole = absurd (whole cut.cause)
+told_whole text ended before after status (inr cut) whole =
+    absurd (whole (subst (Rose before.faults) (sym cut.faults) (one_more_rose before.faults)))

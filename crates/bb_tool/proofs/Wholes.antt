@@ -1,6 +1,7 @@
 -- A session where nothing failed: what was answered is what the files and the device hold.
 use Rattle.std.proofs.Common.{◌≡◌, ◌⊎◌, ℕ, ◌≤◌, true, false, List, [], ◌∷◌, length, Option, Some, None, is_none, Result, Ok, Err, if◌then◌else◌, refl, sym, ap, subst, ◌∙◌, inl, inr, arith}
 use Rattle.std.specs.Prelude.{replicate}
+use Rattle.bb_base.proofs.Counts.{one_more_rose}
 use Rattle.bb_base.specs.Faults.{Rose}
 use Rattle.bb_base.specs.Folder.{FileMap, Folder}
 use Rattle.bb_base.specs.SinkRecord.{SinkRecord}
@@ -181,7 +182,9 @@ session_told words folder folder' before after answers answered calm files known
     elim (same_plan words before.geometry folder folder' answers.files answered.filed files known) [
       | inl same ↦ session_same words folder folder' before after answers answered files (same ∙ sym (plan_held words before.geometry files)) image told whole started
       | inr odd ↦ elim odd [
-        | inl faulty ↦ absurd (calm (faulty_plan words before.geometry folder folder' answers.files answered.filed faulty))
+        | inl faulty ↦
+            let met = faulty_plan words before.geometry folder folder' answers.files answered.filed faulty in
+            absurd (calm (subst (λ (f : Folder). Rose folder.faults f.faults) (sym met) (one_more_rose folder.faults)))
         | inr memory ↦ inr (ap (λ (p : Result SessionPlan EarlyEnd). session_by p answers) memory)
       ]
     ]

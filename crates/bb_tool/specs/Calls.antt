@@ -1,8 +1,8 @@
 -- What `run` says of each call: every clause of its contract is one of these facts, and none of
 -- them names a command.
-use Rattle.std.specs.Prelude.{◌≡◌, ◌⊎◌, ◌<◌, ℕ, Bool, true, false, List, [], Option, Some, Result, Ok, Err, IsErr, option_map}
+use Rattle.std.specs.Prelude.{◌≡◌, ◌⊎◌, ◌<◌, ℕ, Bool, true, false, List, [], Option, Some, Result, IsErr, option_map}
 use Rattle.std.specs.Option.{ForSome}
-use Rattle.bb_base.specs.Faults.{HasCause, Rose}
+use Rattle.bb_base.specs.Faults.{HasCause, Rose, one_more}
 use Rattle.bb_base.specs.Folder.{FileMap}
 use Rattle.bb_base.specs.SinkRecord.{SendsFront}
 use Rattle.bb_flash.specs.Cuts.{IsLater}
@@ -12,7 +12,7 @@ use Rattle.bb_words.specs.Words.{words_of}
 use Rattle.bb_tool.specs.SessionAnswer.{AreAnswers}
 use Rattle.bb_plan.specs.Plan.{IsRefusedWith, EarlyEnd, SessionPlan, copies_in, names_file, plan_by_words, plan_over_files}
 use Rattle.bb_tool.specs.Ran.{Ran}
-use Rattle.bb_plan.specs.FilesRead.{IsFolderLater}
+use Rattle.bb_plan.specs.FilesRead.{IsFolderLater, after_file_fault}
 use Rattle.bb_tool.specs.Lines.{line_of}
 use Rattle.bb_plan.specs.Refusal.{status_of}
 use Rattle.bb_session.specs.Session.{Answers, Session, answers_of, barred_after, ended_status, load_for, session_of}
@@ -52,7 +52,7 @@ session_plan_for ran answers = plan_by_words ran.words (geometry_of ran) answers
 abbrev pub NamesNoFile : Ran → Type 0
 NamesNoFile ran = names_file ran.words (geometry_of ran) ≡ false
 
--- a text was told, and the call ended so
+-- a text was sent, or a front of it, and the call ended so
 abbrev pub SendsText : Ran → List ℕ → Status → Type 0
 SendsText ran text ended = IsSentOrCut text ended ran.before.sink ran.after.sink ran.status
 
@@ -71,7 +71,7 @@ pub record IsWithoutText (ran : Ran) : Type 0 where
   pub whole : SendsByMemory (session_for ran answers).refusal
 
 -- memory was refused, before any call of the device or after all work on it, and only that one line
--- was told
+-- was sent
 pub record IsWithoutMemory (ran : Ran) : Type 0 where
   pub told : SendsText ran (line_of refusals.NoMemory) statuses.NoMemory
   pub work : (ran.after.device ≡ ran.before.device) ⊎ IsWithoutText ran
@@ -129,6 +129,26 @@ KeepsHistory ran = IsLater ran.before.device ran.after.device
 abbrev pub AsksNothing : Ran → Type 0
 AsksNothing ran = is_planning ran.status ≡ true → ran.after.device ≡ ran.before.device
 
+-- ---- counts of faults
+
+-- the answer is one of the two that come before each other one: that of a failing output, or of
+-- refused memory
+abbrev pub ComesFirst : Ran → Type 0
+ComesFirst ran = (ran.status ≡ statuses.SinkFault) ⊎ (ran.status ≡ statuses.NoMemory)
+
+-- the output counted no fault, or one: then it cut the text, and the answer is one of these two
+abbrev pub CountsSinkFaults : Ran → Type 0
+CountsSinkFaults ran =
+    (ran.after.sink.faults ≡ ran.before.sink.faults)
+    ⊎ ((ran.after.sink.faults ≡ one_more ran.before.sink.faults) × ComesFirst ran)
+
+-- the files counted no fault, or one: then the answer is FileFault, or one that comes before it
+abbrev pub CountsFileFaults : Ran → Type 0
+CountsFileFaults ran =
+    (ran.after.folder ≡ ran.before.folder)
+    ⊎ ((ran.after.folder ≡ after_file_fault ran.before.folder)
+    × ((ran.status ≡ statuses.FileFault) ⊎ ComesFirst ran))
+
 -- ---- each answer and its cause
 
 -- the statuses that a fault of the files, the device or the output brings
@@ -142,9 +162,7 @@ is_fault_status _ = false
 -- an answer comes exactly where a fact holds; a failing output and refused memory come before it
 pub record AnswersExactly (ran : Ran) (answer : Status) (fact : Type 0) : Type 0 where
   pub only : ran.status ≡ answer → fact
-  pub always : fact
-      → (ran.status ≡ answer)
-      ⊎ ((ran.status ≡ statuses.SinkFault) ⊎ (ran.status ≡ statuses.NoMemory))
+  pub always : fact → (ran.status ≡ answer) ⊎ ComesFirst ran
 
 -- so does the answer to words that are no command
 abbrev pub ComesByWords : Status → Ran → Type 0
@@ -187,11 +205,16 @@ ComesByTable answer ran =
     let plan = plan_over ran files in
     ComesBarred ran answer (barred_after plan (load_for plan (geometry_of ran) image))))
 
--- an answer comes only where a count rose: that of the files, the device, its reads, or the output
+-- an answer comes only where the files, or the output, counted one fault more
 abbrev pub ComesByFiles : Status → Ran → Type 0
 ComesByFiles answer ran =
-    HasCause ran.before.folder.faults ran.after.folder.faults (ran.status ≡ answer)
+    ran.status ≡ answer → ran.after.folder ≡ after_file_fault ran.before.folder
 
+abbrev pub ComesBySink : Status → Ran → Type 0
+ComesBySink answer ran =
+    ran.status ≡ answer → ran.after.sink.faults ≡ one_more ran.before.sink.faults
+
+-- an answer comes only where a count of the device rose: that of all its calls, or of its reads
 abbrev pub ComesByDevice : Status → Ran → Type 0
 ComesByDevice answer ran =
     HasCause ran.before.device.faults ran.after.device.faults (ran.status ≡ answer)
@@ -199,10 +222,6 @@ ComesByDevice answer ran =
 abbrev pub ComesByReads : Status → Ran → Type 0
 ComesByReads answer ran =
     HasCause ran.before.device.read_faults ran.after.device.read_faults (ran.status ≡ answer)
-
-abbrev pub ComesByOutlet : Status → Ran → Type 0
-ComesByOutlet answer ran =
-    HasCause ran.before.sink.faults ran.after.sink.faults (ran.status ≡ answer)
 
 -- the copy that couldn't be written is one of the layout's
 pub record NamesACopy (ran : Ran) : Type 0 where
@@ -226,6 +245,7 @@ pub record SendsSessionFront (ran : Ran) : Type 0 where
 abbrev pub CutsTheText : Ran → Type 0
 CutsTheText ran = ran.status ≡ statuses.SinkFault → SendsSessionFront ran
 
--- where memory was refused, nothing else is told and nothing was written
+-- where memory was refused, nothing else is sent, and the work on the device wasn't begun, or was
+-- done
 abbrev pub WantsMemory : Ran → Type 0
 WantsMemory ran = ran.status ≡ statuses.NoMemory → IsWithoutMemory ran

@@ -1,6 +1,6 @@
 -- The clauses of `run`, in the order of its contract: each is a record of named facts about one
 -- call, and none of them names a command.
-use Rattle.bb_tool.specs.Calls.{AsksNothing, ComesByDevice, ComesByFiles, ComesByOutlet, ComesByPlan, ComesByPlanAlone, ComesByReads, ComesByTable, ComesByWords, CutsTheText, IsSession, IsUndisturbed, IsUndisturbedAlone, KeepsFiles, KeepsHistory, LeavesUnnamedFiles, NamesTheCopy, WantsMemory}
+use Rattle.bb_tool.specs.Calls.{AsksNothing, ComesByDevice, ComesByFiles, ComesByPlan, ComesByPlanAlone, ComesByReads, ComesBySink, ComesByTable, ComesByWords, CountsFileFaults, CountsSinkFaults, CutsTheText, IsSession, IsUndisturbed, IsUndisturbedAlone, KeepsFiles, KeepsHistory, LeavesUnnamedFiles, NamesTheCopy, WantsMemory}
 use Rattle.bb_tool.specs.Copying.{KeepsATrail, KeepsAtExit, KeepsOutsideCopies, KnowsWriteFaults, LeavesUnread, MakesAlike, MakesNoOtherCall, StopsAtFileFault, StopsBetweenSaves, WearsExactly, WritesExactly}
 use Rattle.bb_tool.specs.Ran.{Ran}
 use Rattle.bb_tool.specs.Starting.{BootsInTurn, CountsFailedStarts, KnowsStartFaults, NamesTheTarget, RunsRounds, StartsAtMostOne, StartsAfterSave, StartsTheLast}
@@ -12,10 +12,12 @@ pub record SendsTheSession (ran : Ran) : Type 0 where
   pub session : IsSession ran
   -- where the output failed, some front of the session's text was sent
   pub sink_fault_front : CutsTheText ran
+  -- the output's count of faults is as before, or one more: then SinkFault or NoMemory is answered
+  pub sink_faults : CountsSinkFaults ran
 
 -- what stays
 pub record LeavesTheRest (ran : Ran) : Type 0 where
-  -- no file is changed, and the files' count of faults never falls
+  -- no file is changed, and the files' count of faults is as before, or one more
   pub files : KeepsFiles ran
   -- words that name no file read none
   pub unread : LeavesUnnamedFiles ran
@@ -52,6 +54,8 @@ pub record WorksUndisturbed (ran : Ran) : Type 0 where
 pub record EndsEarly (ran : Ran) : Type 0 where
   -- where a file met a fault, no call of the device was made
   pub early : StopsAtFileFault ran
+  -- it is counted once: then FileFault is the answer, or SinkFault, or NoMemory
+  pub file_faults : CountsFileFaults ran
   -- where memory was refused, none was made, or each save that was begun answered Ok
   pub early_memory : StopsBetweenSaves ran
 
@@ -79,7 +83,7 @@ pub record KnowsItsCauses (ran : Ran) : Type 0 where
   pub file_missing : ComesByPlan statuses.FileMissing ran
   -- so does FileTooLong
   pub file_too_long : ComesByPlan statuses.FileTooLong ran
-  -- FileFault comes only where the files' count of faults rose
+  -- FileFault comes only where the files' count of faults rose by one
   pub file_fault : ComesByFiles statuses.FileFault ran
   -- BadTree comes exactly where the plan over files that are told brings it
   pub bad_tree : ComesByPlan statuses.BadTree ran
@@ -111,7 +115,7 @@ pub record KnowsItsCauses (ran : Ran) : Type 0 where
   pub start_failed : NamesTheTarget ran
   -- which has no plan, or a start failed
   pub start_failed_cause : KnowsStartFaults ran
-  -- SinkFault comes only where the output's count of faults rose
-  pub sink_fault : ComesByOutlet statuses.SinkFault ran
-  -- with NoMemory nothing else is told, and no call of the device was made or all work was done
+  -- SinkFault comes only where the output's count of faults rose by one
+  pub sink_fault : ComesBySink statuses.SinkFault ran
+  -- with NoMemory nothing else is sent, and no call of the device was made or all work was done
   pub no_memory : WantsMemory ran

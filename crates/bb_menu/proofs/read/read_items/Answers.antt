@@ -25,7 +25,7 @@ loop-place-preserved g c =
     let name = c.as_str.result.now in
     let there : slice_get names place ≡ Some name = search rules in
     let told = c.read_named.ensures.told ∙ c.loop-place.invariant.told in
-    let faults = c.in_ok-item.ensures.calm ∙ c.loop-place.invariant.faults in
+    let faults = c.in_ok-item.ensures.counts ∙ c.loop-place.invariant.faults in
     elim c.match-branch-2.branch [
       | in-Some-2+in_ok-push w ↦
           let item = w.in-Some-2.item in

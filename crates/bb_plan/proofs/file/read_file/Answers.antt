@@ -1,18 +1,17 @@
-use Rattle.std.proofs.Common.{◌≡◌, ◌∙◌, ◌≤◌, ℕ, Bool, true, false, List, Some, None, Ok, Err, ap, subst, sym, refl}
-use Rattle.bb_base.proofs.Counts.{one_more_later, one_more_rose}
-use Rattle.bb_base.specs.Faults.{Rose, counted, one_more}
+use Rattle.std.proofs.Common.{◌≡◌, ◌∙◌, ℕ, Bool, true, false, List, Some, None, Ok, Err, ap, subst, refl}
+use Rattle.bb_base.specs.Faults.{counted}
 use Rattle.bb_base.specs.Folder.{file_of, file_read, is_fault}
 use Rattle.bb_base.specs.declared.files.FileFail.{FileFail}
 use Rattle.bb_base.specs.declared.files.FileFail.TheVariants.{TooLong}
 use Rattle.std.proofs.lemmas.Result.{err_from_is_err_and}
 use Rattle.bb_plan.specs.FilesRead.{AskedFile}
-use Rattle.bb_plan.proofs.Sources.{counted_later, file_faulty, file_given, file_long, file_missing, file_short}
+use Rattle.bb_plan.proofs.Sources.{file_faulty, file_given, file_long, file_missing, file_short}
 use Rattle.bb_plan.proofs.file.read_file.Goals as goal
 
 pub returns-in_err-copy-in-Ok-false-clause-read : goal.returns-in_err-copy-in-Ok-false-clause-read
 returns-in_err-copy-in-Ok-false-clause-read g c =
     let p = err_from_is_err_and c.from_residual.result c.from_residual.ensures.1 in
-    file_short (AskedFile c.args.name.now) _ _ c.in-Ok-false.ensures.told (counted_later false _ _ c.in-Ok-false.ensures.counts) c.from_residual.result
+    file_short (AskedFile c.args.name.now) _ _ c.in-Ok-false.ensures.told false c.in-Ok-false.ensures.counts c.from_residual.result
     (p.1 ∙ ap (λ e. Err e) p.2)
 
 pub returns-in-Ok-false-clause-read : goal.returns-in-Ok-false-clause-read
@@ -26,21 +25,19 @@ returns-in-Ok-false-clause-read g c =
 pub returns-in_err-copy-in-Err-Fault-clause-read : goal.returns-in_err-copy-in-Err-Fault-clause-read
 returns-in_err-copy-in-Err-Fault-clause-read g c =
     let p = err_from_is_err_and c.from_residual-in_err-copy-in-Err-Fault.result c.from_residual-in_err-copy-in-Err-Fault.ensures.1 in
-    file_short (AskedFile c.args.name.now) _ _ c.in-Err-Fault.ensures.told (counted_later (is_fault (Err c.in-Err-Fault.field-0)) _ _ c.in-Err-Fault.ensures.counts)
+    file_short (AskedFile c.args.name.now) _ _ c.in-Err-Fault.ensures.told (is_fault (Err c.in-Err-Fault.field-0)) c.in-Err-Fault.ensures.counts
     c.from_residual-in_err-copy-in-Err-Fault.result (p.1 ∙ ap (λ e. Err e) p.2)
 
 pub returns-in-Err-Fault-clause-read : goal.returns-in-Err-Fault-clause-read
 returns-in-Err-Fault-clause-read g c =
     let before = (g.N.Files.folder c.args.files.now).faults in
-    let counts : (g.N.Files.folder c.read.new.self).faults ≡ one_more before =
-    c.in-Err-Fault.ensures.counts ∙ ap (λ (e : FileFail). counted (is_fault (Err e)) before) c.in-Err-Fault.field-0-is in
     file_faulty (AskedFile c.args.name.now) _ _ c.in-Err-Fault.ensures.told c.in_ok-copy-in-Err-Fault.field-0 c.in_ok-copy-in-Err-Fault.ensures
-    (subst (λ n. before ≤ n) (sym counts) (one_more_later before)) (subst (Rose before) (sym counts) (one_more_rose before))
+    (c.in-Err-Fault.ensures.counts ∙ ap (λ (e : FileFail). counted (is_fault (Err e)) before) c.in-Err-Fault.field-0-is)
 
 pub returns-in_err-copy-in-Err-TooLong-clause-read : goal.returns-in_err-copy-in-Err-TooLong-clause-read
 returns-in_err-copy-in-Err-TooLong-clause-read g c =
     let p = err_from_is_err_and c.from_residual-in_err-copy-in-Err-TooLong.result c.from_residual-in_err-copy-in-Err-TooLong.ensures.1 in
-    file_short (AskedFile c.args.name.now) _ _ c.in-Err-TooLong.ensures.told (counted_later (is_fault (Err c.in-Err-TooLong.field-0)) _ _ c.in-Err-TooLong.ensures.counts)
+    file_short (AskedFile c.args.name.now) _ _ c.in-Err-TooLong.ensures.told (is_fault (Err c.in-Err-TooLong.field-0)) c.in-Err-TooLong.ensures.counts
     c.from_residual-in_err-copy-in-Err-TooLong.result (p.1 ∙ ap (λ e. Err e) p.2)
 
 pub returns-in-Err-TooLong-clause-read : goal.returns-in-Err-TooLong-clause-read
@@ -54,7 +51,7 @@ returns-in-Err-TooLong-clause-read g c =
 
 pub returns-clause-read : goal.returns-clause-read
 returns-clause-read g c =
-    file_short (AskedFile c.args.name.now) _ _ c.in-Err-NoMemory.ensures.told (counted_later (is_fault (Err c.in-Err-NoMemory.field-0)) _ _ c.in-Err-NoMemory.ensures.counts)
+    file_short (AskedFile c.args.name.now) _ _ c.in-Err-NoMemory.ensures.told (is_fault (Err c.in-Err-NoMemory.field-0)) c.in-Err-NoMemory.ensures.counts
     _ refl
 
 pub returns-in-Ok-true-clause-read : goal.returns-in-Ok-true-clause-read

@@ -1,21 +1,11 @@
-use Rattle.std.proofs.Common.{◌≡◌, ◌∙◌, ℕ, List, Option, Ok, Err, ap, option_map, arith}
+use Rattle.std.proofs.Common.{◌≡◌, ◌∙◌, Err, ap, option_map, arith}
 use Rattle.std.proofs.lemmas.Result.{err_from_is_err_and}
 use Rattle.std.specs.Bool.{then_some}
 use Rattle.std.specs.Vec.{with_items}
-use Rattle.bb_base.proofs.Counts.{has_cause}
-use Rattle.bb_copies.specs.declared.answers.CopyFault.{CopyFault}
 use Rattle.bb_state.specs.State.{keyed_of}
 use Rattle.bb_session.specs.Looking.{look_text}
-use Rattle.bb_session.specs.Session.{LoadAnswer}
 use Rattle.bb_session.proofs.Worked.{look_done, look_refused, look_textless, look_told, refilled, take-refill, told_whole}
 use Rattle.bb_session.proofs.raw.look.Goals as goal
-
--- what the look answered
-abbrev failed : CopyFault → LoadAnswer
-failed fault = Err fault
-
-abbrev gave : Option (List ℕ) → LoadAnswer
-gave found = Ok found
 
 pub returns-in_err-found-clause-gives : goal.returns-in_err-found-clause-gives
 returns-in_err-found-clause-gives g c =
@@ -25,8 +15,8 @@ returns-in_err-found-clause-gives g c =
     (record {
       told = λ image told. tt;
       fails = c.in_err-found.ensures.fails;
-      faults = has_cause (failed c.in_err-found.field-0.0) _ _ c.in_err-found.ensures.faults;
-      read_faults = has_cause (failed c.in_err-found.field-0.0) _ _ c.in_err-found.ensures.read_faults;
+      faults = c.in_err-found.ensures.faults;
+      read_faults = c.in_err-found.ensures.read_faults;
       quiet = c.in_err-found.ensures.quiet;
     })
     (p.1 ∙ ap (λ e. Err e) p.2)
@@ -40,8 +30,8 @@ returns-in_err-look_text-clause-gives g c =
       told = look_told (keyed_of c.args.state.now) c.look.new.area c.in_ok-found.found (g.F.Flash.device c.args.flash.now)
           c.in_ok-found.ensures.gives;
       fails = tt;
-      faults = has_cause (gave (then_some c.in_ok-found.found c.look.new.area)) _ _ c.in_ok-found.ensures.faults;
-      read_faults = has_cause (gave (then_some c.in_ok-found.found c.look.new.area)) _ _ c.in_ok-found.ensures.read_faults;
+      faults = c.in_ok-found.ensures.faults;
+      read_faults = c.in_ok-found.ensures.read_faults;
       quiet = c.in_ok-found.ensures.quiet;
     })
     (p.1 ∙ ap (λ e. Err e) p.2)
@@ -56,8 +46,8 @@ returns-clause-gives g c =
       told = look_told (keyed_of c.args.state.now) c.look.new.area c.in_ok-found.found (g.F.Flash.device c.args.flash.now)
           c.in_ok-found.ensures.gives;
       fails = tt;
-      faults = has_cause (gave (then_some c.in_ok-found.found c.look.new.area)) _ _ c.in_ok-found.ensures.faults;
-      read_faults = has_cause (gave (then_some c.in_ok-found.found c.look.new.area)) _ _ c.in_ok-found.ensures.read_faults;
+      faults = c.in_ok-found.ensures.faults;
+      read_faults = c.in_ok-found.ensures.read_faults;
       quiet = c.in_ok-found.ensures.quiet;
     })
     (c.done.ensures ∙ ap told_whole (c.in_ok-look_text.ensures

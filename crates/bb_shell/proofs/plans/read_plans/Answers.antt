@@ -46,7 +46,7 @@ loop-target-preserved g c =
           subst (AreRead b before (c.loop-target.target + 1)) (sym c.in_ok-push.ensures.ok)
           (read_more b before c.loop-target.target c.loop-target.plans c.read_plan.result inside c.loop-target.invariant.read of c.in_ok-read_plan.field-0 given);
       told = c.read_plan.ensures.told ∙ c.loop-target.invariant.told;
-      faults = c.in_ok-read_plan.ensures.calm ∙ c.loop-target.invariant.faults;
+      faults = c.in_ok-read_plan.ensures.counts ∙ c.loop-target.invariant.faults;
     }
 
 pub returns-clause-ok : goal.returns-clause-ok

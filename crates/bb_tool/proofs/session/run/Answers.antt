@@ -14,10 +14,10 @@ pub returns-clause-undisturbed : goal.returns-clause-undisturbed
 returns-clause-undisturbed g c = undisturbed _ c.answer.ensures.session
 
 pub returns-clause-early : goal.returns-clause-early
-returns-clause-early g c = ends_early _ c.answer.ensures.session
+returns-clause-early g c = ends_early _ c.answer.ensures.session c.answer.ensures.files
 
 pub returns-clause-starts : goal.returns-clause-starts
 returns-clause-starts g c = starts _ c.answer.ensures.session
 
 pub returns-clause-causes : goal.returns-clause-causes
-returns-clause-causes g c = causes _ c.answer.ensures.session c.answer.ensures.files c.answer.ensures.later c.answer.ensures.faults
+returns-clause-causes g c = causes _ c.answer.ensures.session c.answer.ensures.later
