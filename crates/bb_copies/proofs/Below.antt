@@ -14,7 +14,7 @@ use Rattle.bb_flash.specs.Image.{Image}
 use Rattle.bb_bucket.specs.Calls.{Leaves}
 use Rattle.bb_bucket.specs.Kind.{BucketKind, part_of}
 use Rattle.bb_copies.specs.Buckets.{EachCopy}
-use Rattle.bb_copies.specs.Erasing.{ErasesBy, IsBounded, unmarked_kinds}
+use Rattle.bb_copies.specs.Erasing.{EachBounded, ErasesBy, IsBoundedInSum, unmarked_kinds}
 use Rattle.bb_copies.specs.Passing.{passing_of}
 use Rattle.bb_copies.specs.Refreshing.{AllSettled, AllWritten, IsBoundedAt, IsSettledAt, IsStuckAt, IsUntouched, IsWrittenAt, KeepsMarked, LeavesOthers, Refreshes, area_if, is_marked}
 use Rattle.bb_copies.specs.Settling.{IsStale, NothingFails, IsUnread, PassesAnother, RoseBy}
@@ -23,6 +23,7 @@ use Rattle.bb_copies.proofs.Ends.{content_before}
 use Rattle.bb_copies.proofs.Erased.{count_append, erases_joined, none_erased, unmarked_enough, unmarked_more, unmarked_skip, written_erases}
 use Rattle.bb_copies.proofs.Many.{images_now, same_or_not, same_part, same_passing}
 use Rattle.bb_copies.proofs.Runs.{none_refreshes, none_untouched, refreshes_joined, undisturbed_first, undisturbed_second, untouched_joined}
+use Rattle.bb_copies.proofs.Touched.{each_settled, none_settled}
 
 -- not yet settled: it was marked from the first, or its turn hasn't come
 abbrev pub IsLeft : List Bool → ℕ → ℕ → Type 0
@@ -40,7 +41,8 @@ pub record RefreshedBelow (form : Form) (kinds : List BucketKind) (area rec : Li
   pub dead : RoseBy (count_by not (take bound good)) from.faults to.faults
   pub exact : NothingFails from to → EachCopy kinds (λ copy kind. copy < bound → is_marked marked copy ≡ false → Leaves kind.region (kind.after_write rec) from to)
   pub erased : NothingFails from to → ErasesBy (unmarked_kinds (take bound marked) (take bound kinds)) rec from to
-  pub bounded : IsBounded (unmarked_kinds (take bound marked) (take bound kinds)) rec from to
+  pub bounded : IsBoundedInSum (unmarked_kinds (take bound marked) (take bound kinds)) rec from to
+  pub each_copy : EachBounded kinds rec from to
   pub read_faults : to.read_faults ≡ from.read_faults
 
 pub none_refreshed : (form : Form) (kinds : List BucketKind) (area rec : List ℕ) (marked : List Bool) (device : Device) → IsDevice device → RefreshedBelow form kinds area rec marked marked 0 device device
@@ -53,6 +55,7 @@ none_refreshed form kinds area rec marked device whole = record {
   exact = λ quiet copy kind e low. absurd (omega arith);
   erased = λ quiet. none_erased rec device;
   bounded = none_bounded _ rec device;
+  each_copy = none_settled kinds rec device;
   read_faults = refl;
 }
 
@@ -81,11 +84,11 @@ erased_next kinds rec marked bound written from to is erased =
     subst (λ (n : ℕ). ErasesBy (unmarked_kinds (take n marked) (take n kinds)) rec from to) (sym next)
     (subst (λ (ks : List BucketKind). ErasesBy ks rec from to) (sym is) erased)
 
-bounded_next : (kinds : List BucketKind) (rec : List ℕ) (marked : List Bool) (bound : ℕ) (settled : List BucketKind) (from to : Device) → unmarked_kinds (take (suc bound) marked) (take (suc bound) kinds) ≡ settled → IsBounded settled rec from to → IsBounded (unmarked_kinds (take (bound + 1) marked) (take (bound + 1) kinds)) rec from to
+bounded_next : (kinds : List BucketKind) (rec : List ℕ) (marked : List Bool) (bound : ℕ) (settled : List BucketKind) (from to : Device) → unmarked_kinds (take (suc bound) marked) (take (suc bound) kinds) ≡ settled → IsBoundedInSum settled rec from to → IsBoundedInSum (unmarked_kinds (take (bound + 1) marked) (take (bound + 1) kinds)) rec from to
 bounded_next kinds rec marked bound settled from to is bounded =
     let next : bound + 1 ≡ suc bound = omega arith in
-    subst (λ (n : ℕ). IsBounded (unmarked_kinds (take n marked) (take n kinds)) rec from to) (sym next)
-    (subst (λ (ks : List BucketKind). IsBounded ks rec from to) (sym is) bounded)
+    subst (λ (n : ℕ). IsBoundedInSum (unmarked_kinds (take n marked) (take n kinds)) rec from to) (sym next)
+    (subst (λ (ks : List BucketKind). IsBoundedInSum ks rec from to) (sym is) bounded)
 
 pub skipped : (form : Form) (kinds : List BucketKind) (area rec : List ℕ) (marked good : List Bool) (bound : ℕ) (from to : Device) → bound < length good → is_marked good bound ≡ true → RefreshedBelow form kinds area rec marked good bound from to → RefreshedBelow form kinds area rec marked good (bound + 1) from to
 skipped form kinds area rec marked good bound from to inside mark below =
@@ -106,6 +109,7 @@ skipped form kinds area rec marked good bound from to inside mark below =
       ];
       erased = λ quiet. erased_next kinds rec marked bound _ from to (unmarked_skip marked kinds bound here) (below.erased quiet);
       bounded = bounded_next kinds rec marked bound _ from to (unmarked_skip marked kinds bound here) below.bounded;
+      each_copy = below.each_copy;
       read_faults = below.read_faults;
     }
 
@@ -156,7 +160,7 @@ dead_more good bound false one two three inside here k cause rose =
     subst (λ (n : ℕ). RoseBy n one.faults three.faults) (sym more) (rose_again (count_by not (take bound good)) one two three rose (cause refl))
 
 -- one more copy was settled, or is stuck
-bounded_more : (form : Form) (kinds : List BucketKind) (area rec : List ℕ) (marked good : List Bool) (bound : ℕ) (from mid to : Device) → bound < length marked → bound < length kinds → is_marked good bound ≡ false → RefreshedBelow form kinds area rec marked good bound from mid → IsBoundedAt kinds bound rec mid to → IsBounded (unmarked_kinds (take (bound + 1) marked) (take (bound + 1) kinds)) rec from to
+bounded_more : (form : Form) (kinds : List BucketKind) (area rec : List ℕ) (marked good : List Bool) (bound : ℕ) (from mid to : Device) → bound < length marked → bound < length kinds → is_marked good bound ≡ false → RefreshedBelow form kinds area rec marked good bound from mid → IsBoundedAt kinds bound rec mid to → IsBoundedInSum (unmarked_kinds (take (bound + 1) marked) (take (bound + 1) kinds)) rec from to
 bounded_more form kinds area rec marked good bound from mid to among there fresh_here below bounds =
     let kind = kind_inside kinds bound there in
     let new : is_marked marked bound ≡ false = sym (below.same bound (inr (omega arith))) ∙ fresh_here in
@@ -164,6 +168,11 @@ bounded_more form kinds area rec marked good bound from mid to among there fresh
     bounded_next kinds rec marked bound (first ++ kind.0 ∷ []) from to (unmarked_more marked kinds bound kind.0 kind.1 among new)
     (bounded_joined first (first ++ kind.0 ∷ []) kind.0 rec from mid to below.refreshes.later (below.kept bound kind.0 kind.1 (inr (omega arith))) below.bounded (bounds bound kind.0 kind.1 refl)
     (λ p. let sum = count_append p first (kind.0 ∷ []) in omega (arith, sum)))
+
+pub each_more : (form : Form) (kinds : List BucketKind) (area rec : List ℕ) (marked good : List Bool) (bound : ℕ) (from mid to : Device) → RefreshedBelow form kinds area rec marked good bound from mid → IsLater mid to → LeavesOthers kinds bound mid to → IsBoundedAt kinds bound rec mid to → EachBounded kinds rec from to
+each_more form kinds area rec marked good bound from mid to below later others bounds =
+    each_settled kinds rec bound from mid to below.refreshes.later later below.each_copy
+    (λ place kind e same. below.kept place kind e (inr (omega (arith, same)))) others bounds
 
 pub settled_more : (form : Form) (kinds : List BucketKind) (area rec : List ℕ) (marked good : List Bool) (bound : ℕ) (g : Bool) (from mid to : Device) → bound < length good → bound < length (set good bound g) → bound < length marked → bound < length kinds → is_marked good bound ≡ false → RefreshedBelow form kinds area rec marked good bound from mid → Refreshes form kinds area mid to → LeavesOthers kinds bound mid to → IsSettledAt form kinds area bound mid to g → (NothingFails mid to → IsWrittenAt kinds bound rec mid to) → IsBoundedAt kinds bound rec mid to → to.read_faults ≡ mid.read_faults → RefreshedBelow form kinds area rec marked (set good bound g) (bound + 1) from to
 settled_more form kinds area rec marked good bound g from mid to inside within among there fresh_here below run others settled exact bounds calm =
@@ -207,6 +216,7 @@ settled_more form kinds area rec marked good bound g from mid to inside within a
           (erases_joined (unmarked_kinds (take bound marked) (take bound kinds)) whole kind.0 rec from mid to below.refreshes.later run.later
           (below.kept bound kind.0 kind.1 (inr (omega arith))) before last (λ p. count_append p (unmarked_kinds (take bound marked) (take bound kinds)) (kind.0 ∷ [])));
       bounded = bounded_more form kinds area rec marked good bound from mid to among there fresh_here below bounds;
+      each_copy = each_more form kinds area rec marked good bound from mid to below run.later others bounds;
       read_faults = calm ∙ below.read_faults;
     }
 
@@ -232,12 +242,12 @@ all_written form kinds area rec marked good from to many below quiet =
 pub keeps_marked : (form : Form) (kinds : List BucketKind) (area rec : List ℕ) (marked good : List Bool) (bound : ℕ) (from to : Device) → RefreshedBelow form kinds area rec marked good bound from to → KeepsMarked kinds marked from to
 keeps_marked form kinds area rec marked good bound from to below = λ copy kind e mark. below.kept copy kind e (inl mark)
 
-pub all_bounded : (form : Form) (kinds : List BucketKind) (area rec : List ℕ) (marked good : List Bool) (bound : ℕ) (from to : Device) → RefreshedBelow form kinds area rec marked good bound from to → IsBounded (unmarked_kinds marked kinds) rec from to
+pub all_bounded : (form : Form) (kinds : List BucketKind) (area rec : List ℕ) (marked good : List Bool) (bound : ℕ) (from to : Device) → RefreshedBelow form kinds area rec marked good bound from to → IsBoundedInSum (unmarked_kinds marked kinds) rec from to
 all_bounded form kinds area rec marked good bound from to below = bounded_wider _ (unmarked_kinds marked kinds) rec from to (unmarked_below bound marked kinds) below.bounded
 
 -- ---- where a copy is stuck
 
-pub stuck_bounded : (form : Form) (kinds : List BucketKind) (area rec : List ℕ) (marked good : List Bool) (bound : ℕ) (from mid to : Device) → bound < length marked → bound < length kinds → is_marked good bound ≡ false → RefreshedBelow form kinds area rec marked good bound from mid → IsBoundedAt kinds bound rec mid to → IsBounded (unmarked_kinds marked kinds) rec from to
+pub stuck_bounded : (form : Form) (kinds : List BucketKind) (area rec : List ℕ) (marked good : List Bool) (bound : ℕ) (from mid to : Device) → bound < length marked → bound < length kinds → is_marked good bound ≡ false → RefreshedBelow form kinds area rec marked good bound from mid → IsBoundedAt kinds bound rec mid to → IsBoundedInSum (unmarked_kinds marked kinds) rec from to
 stuck_bounded form kinds area rec marked good bound from mid to among there fresh_here below bounds =
     bounded_wider _ (unmarked_kinds marked kinds) rec from to (unmarked_below (bound + 1) marked kinds)
     (bounded_more form kinds area rec marked good bound from mid to among there fresh_here below bounds)

@@ -1,5 +1,5 @@
 -- How many calls it takes at most to settle copies, and how many of them fail.
-use Rattle.std.proofs.Common.{◌≡◌, ◌∙◌, ℕ, zero, suc, ◌+◌, ◌*◌, ◌≤◌, Bool, true, false, cond, List, [], ◌∷◌, length, take, Option, Some, Result, count_by, option_map, ap, sym, arith, refl}
+use Rattle.std.proofs.Common.{◌≡◌, ◌∙◌, ℕ, zero, suc, ◌+◌, ◌*◌, ◌≤◌, Bool, true, false, List, [], ◌∷◌, length, take, Result, count_by, option_map, ap, arith}
 use Rattle.std.specs.Option.{is_some}
 use Rattle.bb_flash.specs.declared.geometry.Geometry.{Geometry}
 use Rattle.bb_flash.specs.declared.region.Region.{Region}
@@ -7,8 +7,8 @@ use Rattle.bb_flash.specs.Cuts.{IsLater}
 use Rattle.bb_flash.specs.Device.{Change, Device, Told, moment}
 use Rattle.bb_flash.specs.Image.{Image}
 use Rattle.bb_bucket.specs.Calls.{MakesCalls, calls_of_write, told_but_reads}
-use Rattle.bb_bucket.specs.Kind.{BucketKind, part_of}
-use Rattle.bb_copies.specs.Erasing.{IsBounded, calls_of_writes, erases_first, unmarked_kinds}
+use Rattle.bb_bucket.specs.Kind.{BucketKind}
+use Rattle.bb_copies.specs.Erasing.{IsBoundedInSum, calls_of_writes, erases_first, unmarked_kinds}
 use Rattle.bb_copies.specs.Refreshing.{IsUntouched}
 use Rattle.bb_copies.proofs.Calls.{reads_untouched}
 use Rattle.bb_copies.proofs.Ends.{some_of}
@@ -17,7 +17,7 @@ use Rattle.bb_copies.proofs.Runs.{same_told}
 
 -- ---- one copy
 
-pub bounded_written : {T E : Type 0} (kind : BucketKind) (rec : List ℕ) (result : Result T E) (from to : Device) → MakesCalls result kind.region (calls_of_write kind rec) from to → to.faults ≤ from.faults + 3 → IsBounded (kind ∷ []) rec from to
+pub bounded_written : {T E : Type 0} (kind : BucketKind) (rec : List ℕ) (result : Result T E) (from to : Device) → MakesCalls result kind.region (calls_of_write kind rec) from to → to.faults ≤ from.faults + 3 → IsBoundedInSum (kind ∷ []) rec from to
 bounded_written kind rec result from to made few = record {
   calls = λ first e last f.
       let most = made.most first e last f in
@@ -27,7 +27,7 @@ bounded_written kind rec result from to made few = record {
 }
 
 -- with a void after the write
-pub bounded_voided : {T E : Type 0} (kind : BucketKind) (region : Region) (rec : List ℕ) (one two : Result T E) (from mid to : Device) → IsLater from mid → MakesCalls one kind.region (calls_of_write kind rec) from mid → MakesCalls two region (λ part. 1) mid to → to.faults ≤ from.faults + 3 → IsBounded (kind ∷ []) rec from to
+pub bounded_voided : {T E : Type 0} (kind : BucketKind) (region : Region) (rec : List ℕ) (one two : Result T E) (from mid to : Device) → IsLater from mid → MakesCalls one kind.region (calls_of_write kind rec) from mid → MakesCalls two region (λ part. 1) mid to → to.faults ≤ from.faults + 3 → IsBoundedInSum (kind ∷ []) rec from to
 bounded_voided kind region rec one two from mid to later made voided few = record {
   calls = λ first e last f.
       let there = some_of mid.told (later.told ∙ ap is_some e) in
@@ -40,13 +40,13 @@ bounded_voided kind region rec one two from mid to later made voided few = recor
 
 -- ---- runs
 
-pub none_bounded : (kinds : List BucketKind) (rec : List ℕ) (device : Device) → IsBounded kinds rec device device
+pub none_bounded : (kinds : List BucketKind) (rec : List ℕ) (device : Device) → IsBoundedInSum kinds rec device device
 none_bounded kinds rec device = record {
   calls = λ first e last f. let same = ap moment (same_told device first last e f) in omega (arith, same);
   faults = omega arith;
 }
 
-pub bounded_wider : (kinds sum : List BucketKind) (rec : List ℕ) (from to : Device) → ((p : BucketKind → Bool) → count_by p kinds ≤ count_by p sum) → IsBounded kinds rec from to → IsBounded sum rec from to
+pub bounded_wider : (kinds sum : List BucketKind) (rec : List ℕ) (from to : Device) → ((p : BucketKind → Bool) → count_by p kinds ≤ count_by p sum) → IsBoundedInSum kinds rec from to → IsBoundedInSum sum rec from to
 bounded_wider kinds sum rec from to fewer by =
     let all = count_all sum in
     let some = count_all kinds in
@@ -60,7 +60,7 @@ bounded_wider kinds sum rec from to fewer by =
       faults = omega (arith, few, all, some, size);
     }
 
-pub bounded_joined : (kinds sum : List BucketKind) (kind : BucketKind) (rec : List ℕ) (one two three : Device) → IsLater one two → IsUntouched kind one two → IsBounded kinds rec one two → IsBounded (kind ∷ []) rec two three → ((p : BucketKind → Bool) → count_by p kinds + count_by p (kind ∷ []) ≤ count_by p sum) → IsBounded sum rec one three
+pub bounded_joined : (kinds sum : List BucketKind) (kind : BucketKind) (rec : List ℕ) (one two three : Device) → IsLater one two → IsUntouched kind one two → IsBoundedInSum kinds rec one two → IsBoundedInSum (kind ∷ []) rec two three → ((p : BucketKind → Bool) → count_by p kinds + count_by p (kind ∷ []) ≤ count_by p sum) → IsBoundedInSum sum rec one three
 bounded_joined kinds sum kind rec one two three h untouched first second fewer =
     let size : (count_by (λ k. true) kinds + count_by (λ k. true) (kind ∷ [])) ≤ count_by (λ k. true) sum = fewer (λ k. true) in
     let all = count_all sum in
@@ -84,7 +84,7 @@ bounded_joined kinds sum kind rec one two three h untouched first second fewer =
     }
 
 -- reads before it
-pub bounded_behind : (kinds : List BucketKind) (rec : List ℕ) (from mid to : Device) → told_but_reads mid ≡ told_but_reads from → mid.geometry ≡ from.geometry → mid.faults ≡ from.faults → IsBounded kinds rec mid to → IsBounded kinds rec from to
+pub bounded_behind : (kinds : List BucketKind) (rec : List ℕ) (from mid to : Device) → told_but_reads mid ≡ told_but_reads from → mid.geometry ≡ from.geometry → mid.faults ≡ from.faults → IsBoundedInSum kinds rec mid to → IsBoundedInSum kinds rec from to
 bounded_behind kinds rec from mid to told geometry calm by =
     let few = by.faults in
     record {
@@ -101,7 +101,7 @@ bounded_behind kinds rec from mid to told geometry calm by =
     }
 
 -- reads after it
-pub bounded_then : (kinds : List BucketKind) (rec : List ℕ) (from mid to : Device) → IsLater from mid → told_but_reads to ≡ told_but_reads mid → to.faults ≤ from.faults + 3 * length kinds → IsBounded kinds rec from mid → IsBounded kinds rec from to
+pub bounded_then : (kinds : List BucketKind) (rec : List ℕ) (from mid to : Device) → IsLater from mid → told_but_reads to ≡ told_but_reads mid → to.faults ≤ from.faults + 3 * length kinds → IsBoundedInSum kinds rec from mid → IsBoundedInSum kinds rec from to
 bounded_then kinds rec from mid to later told few by = record {
   calls = λ first e last f.
       let there = some_of mid.told (later.told ∙ ap is_some e) in

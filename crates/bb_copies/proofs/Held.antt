@@ -13,7 +13,7 @@ use Rattle.bb_flash.specs.Image.{Image}
 use Rattle.bb_flash.proofs.Moments.{images_joined}
 use Rattle.bb_bucket.specs.Kind.{BucketKind}
 use Rattle.bb_copies.specs.Buckets.{EachCopy}
-use Rattle.bb_copies.specs.Erasing.{IsBounded, unmarked_kinds}
+use Rattle.bb_copies.specs.Erasing.{EachBounded, IsBounded, IsBoundedInSum, unmarked_kinds}
 use Rattle.bb_copies.specs.Looking.{IsFirst}
 use Rattle.bb_copies.specs.Passing.{passing_of, passings}
 use Rattle.bb_copies.specs.Refreshing.{AllHeld, AllSettled, AllWritten, IsFirstMarked, IsSettledAt, IsUntouched, IsBoundedAt, IsWrittenAt, KeepsMarked, LeavesOthers, NeverEmpty, NoOther, area_if, is_marked}
@@ -25,6 +25,7 @@ use Rattle.bb_copies.proofs.Erased.{erases_joined, one_more, written_erases}
 use Rattle.bb_copies.proofs.Many.{same_or_not, same_passing}
 use Rattle.bb_copies.proofs.Passed.{some_passes}
 use Rattle.bb_copies.proofs.Runs.{untouched_joined}
+use Rattle.bb_copies.proofs.Touched.{each_settled}
 
 -- ---- marks
 
@@ -206,15 +207,22 @@ written_fresh kinds rec good used from to mark written =
     subst (λ (xs : List Bool). AllWritten kinds rec xs from to) (set_again good used mark) written
 
 -- how often the others and the used one were tried
-pub bounded_used : (kinds : List BucketKind) (rec : List ℕ) (good : List Bool) (used : ℕ) (from mid to : Device) → used < length good → used < length kinds → is_marked good used ≡ false → IsLater from mid → KeepsMarked kinds (set good used true) from mid → IsBounded (unmarked_kinds (set good used true) kinds) rec from mid → IsBoundedAt kinds used rec mid to → IsBounded kinds rec from to
-bounded_used kinds rec good used from mid to inside there stale h kept first last =
+pub bounded_used : (kinds : List BucketKind) (rec : List ℕ) (good : List Bool) (used : ℕ) (from mid to : Device) → used < length good → used < length kinds → is_marked good used ≡ false → IsLater from mid → IsLater mid to → KeepsMarked kinds (set good used true) from mid → IsBoundedInSum (unmarked_kinds (set good used true) kinds) rec from mid → EachBounded kinds rec from mid → LeavesOthers kinds used mid to → IsBoundedAt kinds used rec mid to → IsBounded kinds rec from to
+bounded_used kinds rec good used from mid to inside there stale h k kept first each others last =
     let kind = kind_inside kinds used there in
-    bounded_joined (unmarked_kinds (set good used true) kinds) kinds kind.0 rec from mid to h
-    (kept used kind.0 kind.1 (get_or-set_same good used true false inside)) first (last used kind.0 kind.1 refl)
-    (λ p.
-    let more = one_more good kinds used kind.0 kind.1 inside stale p in
-    let fewer = unmarked_fewer good kinds p in
-    omega (arith, more, fewer))
+    let mark = get_or-set_same good used true false inside in
+    record {
+      in_sum =
+          bounded_joined (unmarked_kinds (set good used true) kinds) kinds kind.0 rec from mid to h (kept used kind.0 kind.1 mark) first
+          (last used kind.0 kind.1 refl)
+          (λ p.
+          let more = one_more good kinds used kind.0 kind.1 inside stale p in
+          let fewer = unmarked_fewer good kinds p in
+          omega (arith, more, fewer));
+      each_copy =
+          each_settled kinds rec used from mid to h k each
+          (λ place beside e same. kept place beside e (ap (is_marked (set good used true)) same ∙ mark)) others last;
+    }
 
 -- ---- a save over a used copy
 

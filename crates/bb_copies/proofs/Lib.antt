@@ -18,6 +18,7 @@ pub mod Places
 pub mod Runs
 pub mod Saves
 pub mod Settled
+pub mod Touched
 pub mod Chronicle
 pub mod Trails
 pub mod WorkedContents

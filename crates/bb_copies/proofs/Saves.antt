@@ -17,13 +17,13 @@ use Rattle.bb_copies.specs.Refreshing.{AllHeld, AllSettled, AllWritten, IsFirstM
 use Rattle.bb_copies.specs.Saving.{EachWritten, IsAlone, IsHopeless, KeepsUsed, SaveImages, SaveRuns, SparesUsed, StandsLonger}
 use Rattle.bb_copies.specs.StandsFor.{KeepsOrTakes, SomeIsSpared, SomePasses}
 use Rattle.bb_copies.proofs.Below.{kind_inside, leaves_still, passes_still, still_leaves}
-use Rattle.bb_copies.proofs.Bounded.{none_bounded}
 use Rattle.bb_copies.proofs.Erased.{erases_joined, none_marked, one_more, written_erases}
 use Rattle.bb_copies.proofs.Held.{dead_set, few_live, none_live, spares_by}
 use Rattle.bb_copies.proofs.History.{save_during}
 use Rattle.bb_copies.proofs.Many.{passes_kind, same_or_not, same_passing}
 use Rattle.bb_copies.proofs.Passed.{some_passes}
 use Rattle.bb_copies.proofs.Runs.{none_refreshes, same_images}
+use Rattle.bb_copies.proofs.Touched.{not_tried}
 
 -- ---- where no copy is used
 
@@ -154,4 +154,4 @@ none_saved form kinds used area device whole =
     save_runs form kinds used area device device (none_refreshes form kinds area device whole)
     (images_weaker (λ before image. image ≡ before) (λ before image. KeepsUsed used (passing before) → SomeIsSpared (passing before) (passing image)) device device
     (λ before image same keeps some. subst (λ (i : Image). SomePasses (passing i)) (sym same) some) (same_images device))
-    (none_bounded kinds (form.text area) device)
+    (not_tried kinds (form.text area) device)

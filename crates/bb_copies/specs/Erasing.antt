@@ -1,12 +1,15 @@
 -- How many flash calls writes of a record to copies make, and how often they erase the blocks of a
 -- device.
 use Rattle.std.specs.Prelude.{◌≡◌, ◌==◌, ◌&&◌, ℕ, ◌+◌, ◌*◌, ◌/◌, ◌≤◌, Bool, List, [], ◌∷◌, count_by}
-use Rattle.std.specs.Prelude.{length, slice_get, Some, if◌then◌else◌}
+use Rattle.std.specs.Prelude.{drop, length, nat_lt, slice_get, Some, if◌then◌else◌}
 use Rattle.std.specs.Option.{ForSome}
 use Rattle.bb_flash.specs.declared.geometry.Geometry.{Geometry}
-use Rattle.bb_flash.specs.Device.{Device, content, erases, moment}
+use Rattle.bb_flash.specs.declared.region.Region.{Region}
+use Rattle.bb_flash.specs.Device.{Change, Device, Told, content, erases, moment}
 use Rattle.bb_flash.specs.Image.{Image}
+use Rattle.bb_bucket.specs.Calls.{calls_of_write}
 use Rattle.bb_bucket.specs.Kind.{BucketKind, part_of}
+use Rattle.bb_copies.specs.Buckets.{EachCopy}
 
 -- the copies that aren't marked, where there is one mark a copy
 abbrev pub unmarked_kinds : List Bool → List BucketKind → List BucketKind
@@ -52,8 +55,9 @@ pub record ErasesBy (kinds : List BucketKind) (rec : List ℕ) (from to : Device
       ≡ Some (n + count_by (erases_block from.geometry image rec block) kinds))))
 
 -- Each of these copies was written with the record at most once, voided at most once, and read back
--- at most once: at most so many changes came, and at most so many calls failed.
-pub record IsBounded (kinds : List BucketKind) (rec : List ℕ) (from to : Device) : Type 0 where
+-- at most once, as far as their sum tells it: at most so many changes came, and at most so many
+-- calls failed.
+pub record IsBoundedInSum (kinds : List BucketKind) (rec : List ℕ) (from to : Device) : Type 0 where
   pub calls :
       ForSome from.told
       (λ first.
@@ -62,3 +66,34 @@ pub record IsBounded (kinds : List BucketKind) (rec : List ℕ) (from to : Devic
       moment last
       ≤ moment first + (calls_of_writes from.geometry.page first.image rec kinds + length kinds)))
   pub faults : to.faults ≤ from.faults + 3 * length kinds
+
+-- ---- each copy for itself
+
+-- a call touches a byte of a region
+abbrev pub touches : Region → Change → Bool
+touches region change =
+    nat_lt region.at (change.at + change.len) && nat_lt change.at (region.at + region.size)
+
+-- how many of the changes since a moment do
+abbrev pub changes_in : Region → ℕ → Told → ℕ
+changes_in region since told = count_by (touches region) (drop since told.changes)
+
+-- A copy was written with the record at most once and voided at most once: of the changes that
+-- came, those that touch its region are no more than the calls of that write, and one.
+pub record IsBoundedCopy (kind : BucketKind) (rec : List ℕ) (from to : Device) : Type 0 where
+  pub most :
+      ForSome from.told
+      (λ first.
+      ForSome to.told
+      (λ last.
+      changes_in kind.region (moment first) last
+      ≤ calls_of_write kind rec (part_of from.geometry.page kind.region first.image) + 1))
+
+-- so was each copy
+abbrev pub EachBounded : List BucketKind → List ℕ → Device → Device → Type 0
+EachBounded kinds rec from to = EachCopy kinds (λ copy kind. IsBoundedCopy kind rec from to)
+
+-- all copies together, and each for itself
+pub record IsBounded (kinds : List BucketKind) (rec : List ℕ) (from to : Device) : Type 0 where
+  pub in_sum : IsBoundedInSum kinds rec from to
+  pub each_copy : EachBounded kinds rec from to

@@ -1,5 +1,5 @@
--- Definitions that contracts cite. These a reader has to believe, and of those inside IsUndisturbed
--- and RoseBy (Settling), IsStuckAt, IsUntouched and is_marked (Refreshing), and IsFresh (Looking).
+-- Contracts cite these, so a reader has to believe them, and of those inside IsFresh, is_marked,
+-- IsStuckAt, IsUntouched, KeepsMarked, NothingFails, RoseBy, IsStale, IsUnread and PassesAnother.
 pub use Rattle.bb_base.specs.Faults
 pub use Rattle.bb_base.specs.Form
 pub use Rattle.bb_flash.specs.Counted

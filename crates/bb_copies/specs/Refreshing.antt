@@ -13,7 +13,7 @@ use Rattle.bb_bucket.specs.Kind.{BucketKind}
 use Rattle.bb_copies.specs.declared.settle.Settled.{Settled}
 use Rattle.bb_copies.specs.declared.settle.Settled.TheVariants.{Good, Dead, Stuck}
 use Rattle.bb_copies.specs.Buckets.{EachCopy, IsApart, IsOutside}
-use Rattle.bb_copies.specs.Erasing.{ErasesBy, IsBounded, unmarked_kinds}
+use Rattle.bb_copies.specs.Erasing.{ErasesBy, IsBoundedInSum, unmarked_kinds}
 use Rattle.bb_copies.specs.Luck.{IsLucky}
 use Rattle.bb_copies.specs.Passing.{passing_of, passings}
 use Rattle.bb_copies.specs.Settling.{IsStale, IsRepairWritten, IsUnread, RoseBy}
@@ -108,7 +108,7 @@ pub record IsSettledAt (form : Form) (kinds : List BucketKind) (area : List ℕ)
 -- the copy of this number was written, voided and read back at most once each
 abbrev pub IsBoundedAt : List BucketKind → ℕ → List ℕ → Device → Device → Type 0
 IsBoundedAt kinds copy rec from to =
-    EachCopy kinds (λ place kind. place ≡ copy → IsBounded (kind ∷ []) rec from to)
+    EachCopy kinds (λ place kind. place ≡ copy → IsBoundedInSum (kind ∷ []) rec from to)
 
 -- the record was written to the copy of this number, and nothing else was done
 abbrev pub IsWrittenAt : List BucketKind → ℕ → List ℕ → Device → Device → Type 0

@@ -1,7 +1,6 @@
 -- How far a session came with the copies, and since when: what an image stands for that a cut of
 -- power leaves.
 use Rattle.std.specs.Prelude.{◌⊎◌, ℕ, ◌+◌, ◌≤◌, ⊤, List, [], ◌∷◌, ◌++◌, take, map, Option}
-use Rattle.bb_copies.specs.Chronicle.{Content, TurnMakes, Turn}
 use Rattle.bb_copies.specs.StandsFor.{Stands}
 
 -- ---- stages
@@ -35,11 +34,6 @@ session_stages h a place saves =
 -- a content stands for what a stage says
 abbrev pub StandsAt : List ℕ → List (Option (List ℕ)) → Stage → Type 0
 StandsAt first passed stage = Stands first passed stage.areas stage.acked
-
--- a session that is cut at a stage has done a turn that makes of the list what the stage says
-pub record IsReached (before : Content) (stage : Stage) : Type 0 where
-  pub turn : Turn
-  pub step : TurnMakes before turn stage.areas stage.acked
 
 -- a content stands for one of the stages
 abbrev pub StandsAtOne : List ℕ → List (Option (List ℕ)) → List Stage → Type 0

@@ -1,7 +1,7 @@
 ghost use Rattle.std.specs.Prelude.{◌≡◌, ◌<◌, IfErr, IfOk, IsTrue, OnOk, length};
 ghost use Rattle.bb_flash.specs.Device.{IsDevice};
 ghost use Rattle.bb_copies.specs.Buckets.{AllAgree, AllFit, AllServe, HaveRoom, kinds_of};
-ghost use Rattle.bb_copies.specs.Erasing.{IsBounded, unmarked_kinds};
+ghost use Rattle.bb_copies.specs.Erasing.{EachBounded, IsBoundedInSum, unmarked_kinds};
 ghost use Rattle.bb_copies.specs.Placing.{AllPlaced, IsPlacedAt, PlacesCopy};
 ghost use Rattle.bb_copies.specs.Placing.{PlacesUnmarked, ReadsNothing};
 ghost use Rattle.bb_copies.specs.Refreshing.{AllSettled, AllWritten, IsBoundedAt, IsSettledAt};
@@ -113,9 +113,11 @@ pub(crate) fn refresh<B: Bucket, M: Format, F: Flash>(
     ensures exact { NothingFails (F.device flash.old) (F.device flash.new)
         → AllWritten (kinds_of B.holding buckets.old.items) room.old.record.items good.old.items
         (F.device flash.old) (F.device flash.new) }
-    ensures bounds { IsBounded
+    ensures bounds { IsBoundedInSum
         (unmarked_kinds good.old.items (kinds_of B.holding buckets.old.items))
         room.old.record.items (F.device flash.old) (F.device flash.new) }
+    ensures each_copy { EachBounded (kinds_of B.holding buckets.old.items) room.old.record.items
+        (F.device flash.old) (F.device flash.new) }
     ensures read_faults { OnOk result
         ((F.device flash.new).read_faults ≡ (F.device flash.old).read_faults) }
     ensures kinds { kinds_of B.holding buckets.new.items ≡ kinds_of B.holding buckets.old.items }

@@ -1,7 +1,7 @@
 ghost use Rattle.std.specs.Prelude.{◌≡◌, ◌≢◌, ◌≤◌, ◌∷◌, [], IsTrue, length};
 ghost use Rattle.bb_flash.specs.Device.{IsDevice};
 ghost use Rattle.bb_bucket.specs.Calls.{Agrees, told_but_reads};
-ghost use Rattle.bb_copies.specs.Erasing.{IsBounded};
+ghost use Rattle.bb_copies.specs.Erasing.{IsBoundedInSum};
 ghost use Rattle.bb_copies.specs.Placing.{ReadsNothing};
 ghost use Rattle.bb_copies.specs.Settling.{CountsAs, EndsAs, IsCompared, NothingFails};
 ghost use Rattle.bb_copies.specs.Settling.{IsRepairWritten, ReadsAs, ReadsOnce, SettlesCopy};
@@ -51,7 +51,7 @@ pub(crate) fn settle<B: Bucket, M: Format, F: Flash>(
         (F.device flash.new) }
     ensures counts { CountsAs (B.holding bucket.old).kind room.old.record.items
         (F.device flash.old) (F.device flash.new) result }
-    ensures bounds { IsBounded ((B.holding bucket.old).kind ∷ []) room.old.record.items
+    ensures bounds { IsBoundedInSum ((B.holding bucket.old).kind ∷ []) room.old.record.items
         (F.device flash.old) (F.device flash.new) }
     ensures kind { (B.holding bucket.new).kind ≡ (B.holding bucket.old).kind }
     ensures agrees { Agrees (B.holding bucket.new) (F.device flash.new) }

@@ -1,5 +1,5 @@
 -- A boot that is cut at one of its stages has run rounds that lead there, and started nothing.
-use Rattle.std.proofs.Common.{◌≡◌, ℕ, zero, suc, ◌+◌, ◌-◌, ◌≤◌, Bool, true, false, IsSome, List, [], ◌∷◌, ◌++◌, ◌&&◌, Option, Some, None, ap, append_assoc, arith, cond, inl, inr, is_some, length, map, refl, sym, subst, ◌∙◌}
+use Rattle.std.proofs.Common.{◌≡◌, ℕ, zero, suc, ◌+◌, ◌-◌, ◌≤◌, Bool, true, false, IsSome, List, [], ◌∷◌, ◌++◌, ◌&&◌, Option, Some, None, ap, append_assoc, arith, cond, is_some, length, map, refl, sym, subst, ◌∙◌}
 use Rattle.std.proofs.lemmas.Bool.{false≢true}
 use Rattle.std.proofs.lemmas.List.{append-nil}
 use Rattle.std.specs.List.{AllByRecursion}
@@ -9,16 +9,16 @@ use Rattle.std.specs.Str.{bytes_eq}
 use Rattle.bb_chooser.specs.Binding.{Binding}
 use Rattle.bb_chooser.specs.Counting.{spend_of}
 use Rattle.bb_chooser.specs.declared.cause.Cause.{Cause}
-use Rattle.bb_copies.proofs.Trails.{turn_ends}
-use Rattle.bb_copies.specs.Chronicle.{Content, Loaded, Looked, Turn, Unloaded, Untouched}
+use Rattle.bb_copies.proofs.Cutting.{as_before, begins_loaded, counted_stages, cut_off, only_entry}
+use Rattle.bb_copies.specs.Chronicle.{Content, Loaded, Looked, Turn, TurnMakes, Unloaded, Untouched}
 use Rattle.bb_copies.specs.StandsFor.{picked}
-use Rattle.bb_copies.specs.Trail.{Stage, StandsAt, StandsAtOne, stages_of}
+use Rattle.bb_copies.specs.Trail.{Stage, StandsAt, stages_of}
 use Rattle.bb_copies.specs.declared.answers.CopyFault.TheVariants.{WriteFault}
 use Rattle.bb_flash.specs.declared.plan.Plan.{Plan}
 use Rattle.bb_shell.proofs.Ends.{retried_saved}
 use Rattle.bb_shell.proofs.Reached.{begun_saving, idle_saving, is_made, made_cons, made_stages, reached_by, refused_stages, stage}
-use Rattle.bb_shell.specs.Boot.{Round, first_table, is_retried, last_round, plan_at}
-use Rattle.bb_shell.specs.Counting.{IsBootAfter, IsBootTurn, target_started, turn_of_rounds}
+use Rattle.bb_shell.specs.Boot.{Round, first_table, is_retried, plan_at}
+use Rattle.bb_shell.specs.Counting.{IsBootAfter, target_started, turn_of_rounds}
 use Rattle.bb_shell.specs.Cutting.{BootCutLaw, IsBootCutOff}
 use Rattle.bb_shell.specs.Rounds.{RoundAnswer, best_of, followed_by, is_started, outcome_by, round_by, rounds_by}
 use Rattle.bb_shell.specs.Running.{is_refused_save}
@@ -354,60 +354,47 @@ module _ (b : Binding) (plans : List (Option Plan)) where
 
 -- ---- the law
 
-one_of : (first : List ℕ) (passed : List (Option (List ℕ))) (P : Stage → Type 0) (Q : Type 0) (stages : List Stage) →
-    AllByRecursion P stages → ((s : Stage) → P s → StandsAt first passed s → Q) → StandsAtOne first passed stages → Q
-one_of first passed P Q [] all then stands = absurd stands
-one_of first passed P Q (s ∷ later) all then (inl here) = then s all.0 here
-one_of first passed P Q (s ∷ later) all then (inr there) = one_of first passed P Q later all.1 then there
+-- what holds of each stage holds of the one of a number
+at_number : (P : Stage → Type 0) (stages : List Stage) (number : ℕ) (s : Stage) → AllByRecursion P stages →
+    slice_get stages number ≡ Some s → P s
+at_number P [] number s all e = absurd cc
+at_number P (one ∷ later) zero s all e = let is : one ≡ s = cc in subst P is all.0
+at_number P (one ∷ later) (suc number) s all e = at_number P later number s all.1 e
 
 module _ (b : Binding) (cause : Cause) (plans : List (Option Plan)) (first : List ℕ) (before : Content)
-    (passed : List (Option (List ℕ))) where
-  abbrev Entry : Stage
-  Entry = stage before.areas before.acked
+    (passed : List (Option (List ℕ))) (s : Stage) (here : StandsAt first passed s) where
+  abbrev Cut : Turn → Type 0
+  Cut turn = IsBootCutOff b cause plans first before turn s passed
 
-  abbrev Cut : Type 0
-  Cut = IsBootCutOff b cause plans first before passed
+  -- before a load answered Ok nothing tells that a turn is one of a boot
+  untouched : TurnMakes before Untouched s.areas s.acked → Cut Untouched
+  untouched step = record {
+    left = cut_off first before Untouched Untouched s passed step here tt;
+    boots = tt;
+    unstarted = refl;
+  }
 
-  at_entry : StandsAt first passed Entry → Cut
-  at_entry here =
-      let end = turn_ends first before Unloaded Entry passed (record { areas = refl; acked = refl }) here in
-      record { turn = Unloaded; after = end.0; passed_is = end.1; follows = end.2; boots = tt; unstarted = refl }
+  looked : TurnMakes before Looked s.areas s.acked → Cut Looked
+  looked step = record {
+    left = cut_off first before Looked Looked s passed step here tt;
+    boots = tt;
+    unstarted = refl;
+  }
 
-  unloaded : StandsAtOne first passed (Entry ∷ []) → Cut
-  unloaded (inl here) = at_entry here
-  unloaded (inr none) = absurd none
-
-  -- after the load, which gave a table
-  at_stage : (place : ℕ) (table : List ℕ) → place ≡ picked before.marks → slice_get before.areas place ≡ Some table →
-      length table ≡ b.area_len → (s : Stage) →
-      ReachedBy b plans (first_table b cause true table) table (take (place + 1) before.areas) place s →
-      StandsAt first passed s → Cut
-  at_stage place table given table_is sized s by here =
-      let rounds = rounds_by b plans (first_table b cause true table) by.answers in
-      let none : IsSome (target_started rounds) → ⊥ = λ some. (let e = by.unstarted in absurd cc) in
-      let turn = turn_of_rounds place table rounds in
-      let end = turn_ends first before turn s passed
-      (record {
-        given = given;
-        areas = by.areas;
-        acked = by.acked;
-        most = by.most;
-        least = by.least;
-        start = λ some. absurd (none some);
-      }) here in
-      record {
-        turn = turn;
-        after = end.0;
-        passed_is = end.1;
-        follows = end.2;
-        boots = record { table = table; table_is = table_is; sized = sized; answers = by.answers; turn = refl };
-        unstarted = ap is_some by.unstarted;
-      }
+  unloaded : TurnMakes before Unloaded s.areas s.acked → Cut Unloaded
+  unloaded step = record {
+    left = cut_off first before Unloaded Unloaded s passed step here tt;
+    boots = tt;
+    unstarted = refl;
+  }
 
   module _ (place ok : ℕ) (saves : List (List ℕ)) (started : Option ℕ) (given : place ≡ picked before.marks)
       (behind : IsBootAfter b cause plans before place saves ok started) where
     abbrev Given : List (List ℕ)
     Given = take (place + 1) before.areas
+
+    abbrev Whole : Turn
+    Whole = Loaded place saves ok started
 
     abbrev rounds : List Round
     rounds = rounds_by b plans (first_table b cause true behind.table) behind.answers
@@ -425,28 +412,70 @@ module _ (b : Binding) (cause : Cause) (plans : List (Option Plan)) (first : Lis
         ∙ ap (λ n. take (1 + length (saves_of behind.table rounds) + n)
         (stage Given place ∷ stages_of Given place (saves_of behind.table rounds))) ok_is
 
-    at_one : StandsAtOne first passed
-        (Entry ∷ take (1 + length saves + ok) (stage Given place ∷ stages_of Given place saves)) → Cut
-    at_one (inl here) = at_entry here
-    at_one (inr later) =
-        one_of first passed
-        (ReachedBy b plans (first_table b cause true behind.table) behind.table Given place) Cut
-        (reached_by Given place (saving_rounds behind.table rounds))
-        (all_reached b plans behind.answers (first_table b cause true behind.table) behind.table Given place)
-        (at_stage place behind.table given behind.table_is behind.sized)
-        (subst (StandsAtOne first passed) stages_are later)
+    -- the load was cut
+    at_entry : TurnMakes before Unloaded s.areas s.acked → Cut Whole
+    at_entry step = record {
+      left = cut_off first before Whole Unloaded s passed step here tt;
+      boots = tt;
+      unstarted = refl;
+    }
 
-    loaded : StandsAtOne first passed
-        (take (2 + length saves + ok) (Entry ∷ stage Given place ∷ stages_of Given place saves)) → Cut
-    loaded stands =
-        at_one
-        (subst (StandsAtOne first passed)
-        (let count : 2 + length saves + ok ≡ suc (1 + length saves + ok) = omega arith in
-        ap (λ n. take n (Entry ∷ stage Given place ∷ stages_of Given place saves)) count) stands)
+    -- it gave a table, and the rounds after it had come so far
+    at_stage : (number : ℕ) →
+        slice_get (take (1 + length saves + ok) (stage Given place ∷ stages_of Given place saves)) number ≡ Some s →
+        ReachedBy b plans (first_table b cause true behind.table) behind.table Given place s → Cut Whole
+    at_stage number e by =
+        let earlier = rounds_by b plans (first_table b cause true behind.table) by.answers in
+        let none : IsSome (target_started earlier) → ⊥ = λ some. (let e = by.unstarted in absurd cc) in
+        record {
+          left =
+              cut_off first before Whole (turn_of_rounds place behind.table earlier) s passed
+              (record {
+                given = given;
+                areas = by.areas;
+                acked = by.acked;
+                most = by.most;
+                least = by.least;
+                start = λ some. absurd (none some);
+              })
+              here
+              (begins_loaded Given place ok saves number s (saves_of behind.table earlier)
+              (made_of behind.table earlier) (target_started earlier) e by.areas by.acked by.unstarted);
+          boots =
+              record {
+                table = behind.table;
+                table_is = behind.table_is;
+                sized = behind.sized;
+                answers = by.answers;
+                turn = refl;
+              };
+          unstarted = ap is_some by.unstarted;
+        }
+
+    loaded : (number : ℕ) →
+        slice_get
+        (stage before.areas before.acked
+        ∷ take (1 + length saves + ok) (stage Given place ∷ stages_of Given place saves))
+        number
+        ≡ Some s →
+        Cut Whole
+    loaded zero e =
+        let is : stage before.areas before.acked ≡ s = cc in
+        at_entry (as_before first before s passed is)
+    loaded (suc number) e =
+        at_stage number e
+        (at_number (ReachedBy b plans (first_table b cause true behind.table) behind.table Given place)
+        (reached_by Given place (saving_rounds behind.table rounds)) number s
+        (all_reached b plans behind.answers (first_table b cause true behind.table) behind.table Given place)
+        (ap (λ stages. slice_get stages number) (sym stages_are) ∙ e))
 
 pub boot_cut_law : BootCutLaw
-boot_cut_law b cause plans first before Untouched passed given boots stands = unloaded b cause plans first before passed stands
-boot_cut_law b cause plans first before Looked passed given boots stands = unloaded b cause plans first before passed stands
-boot_cut_law b cause plans first before Unloaded passed given boots stands = unloaded b cause plans first before passed stands
-boot_cut_law b cause plans first before (Loaded place saves ok started) passed given boots stands =
-    loaded b cause plans first before passed place ok saves started given boots stands
+boot_cut_law b cause plans first before Untouched number s passed given boots e here =
+    untouched b cause plans first before passed s here (only_entry first before s passed number e)
+boot_cut_law b cause plans first before Looked number s passed given boots e here =
+    looked b cause plans first before passed s here (only_entry first before s passed number e)
+boot_cut_law b cause plans first before Unloaded number s passed given boots e here =
+    unloaded b cause plans first before passed s here (only_entry first before s passed number e)
+boot_cut_law b cause plans first before (Loaded place saves ok started) number s passed given boots e here =
+    loaded b cause plans first before passed s here place ok saves started given boots number
+    (counted_stages before place ok saves number s e)

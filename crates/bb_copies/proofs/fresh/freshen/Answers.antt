@@ -6,12 +6,11 @@ use Rattle.bb_base.specs.Form.{Form}
 use Rattle.bb_flash.specs.Device.{Device}
 use Rattle.bb_bucket.specs.Kind.{BucketKind}
 use Rattle.bb_copies.specs.Buckets.{AllFit, kinds_of}
-use Rattle.bb_copies.specs.Erasing.{unmarked_kinds}
 use Rattle.bb_copies.specs.Refreshing.{AllHeld, IsBoundedAt, IsFirstMarked, IsSettledAt, IsStuckAt, IsWrittenAt, LeavesOthers, NoOther, Refreshes, is_marked}
 use Rattle.bb_copies.proofs.Below.{stuck_earlier, stuck_rose}
 use Rattle.bb_copies.proofs.Held.{bounded_used, first_marked, held_all, held_more, kept_marked, kept_others, never_joined, none_of_match, quiet_other, some_of_match, spares_other, used_spares, written_fresh, written_others}
 use Rattle.bb_copies.proofs.Runs.{refreshes_joined, undisturbed_first, undisturbed_second}
-use Rattle.bb_copies.proofs.Bounded.{bounded_wider, unmarked_fewer}
+use Rattle.bb_copies.proofs.Touched.{others_tried}
 use Rattle.bb_copies.proofs.fresh.freshen.Goals as goal
 
 pub returns-in_err-refresh-clause-spares : goal.returns-in_err-refresh-clause-spares
@@ -475,19 +474,19 @@ pub returns-in_err-refresh-clause-bounds : goal.returns-in_err-refresh-clause-bo
 returns-in_err-refresh-clause-bounds g c =
     let kinds : List BucketKind = kinds_of g.B.Bucket.holding c.args.buckets.now.items in
     let settled : List Bool = set c.args.good.now.items c.args.used true in
-    bounded_wider (unmarked_kinds settled kinds) kinds c.args.room.now.record.items (g.F.Flash.device c.args.flash.now) (g.F.Flash.device c.refresh.new.flash) (unmarked_fewer settled kinds) c.refresh.ensures.bounds
+    others_tried kinds c.args.room.now.record.items settled (g.F.Flash.device c.args.flash.now) (g.F.Flash.device c.refresh.new.flash) c.refresh.ensures.bounds c.refresh.ensures.each_copy
 
 pub returns-then-fresh-clause-bounds : goal.returns-then-fresh-clause-bounds
 returns-then-fresh-clause-bounds g c =
     let kinds : List BucketKind = kinds_of g.B.Bucket.holding c.args.buckets.now.items in
     let settled : List Bool = set c.args.good.now.items c.args.used true in
-    bounded_wider (unmarked_kinds settled kinds) kinds c.args.room.now.record.items (g.F.Flash.device c.args.flash.now) (g.F.Flash.device c.refresh.new.flash) (unmarked_fewer settled kinds) c.refresh.ensures.bounds
+    others_tried kinds c.args.room.now.record.items settled (g.F.Flash.device c.args.flash.now) (g.F.Flash.device c.refresh.new.flash) c.refresh.ensures.bounds c.refresh.ensures.each_copy
 
 pub returns-then-is_none-clause-bounds : goal.returns-then-is_none-clause-bounds
 returns-then-is_none-clause-bounds g c =
     let kinds : List BucketKind = kinds_of g.B.Bucket.holding c.args.buckets.now.items in
     let settled : List Bool = set c.args.good.now.items c.args.used true in
-    bounded_wider (unmarked_kinds settled kinds) kinds c.args.room.now.record.items (g.F.Flash.device c.args.flash.now) (g.F.Flash.device c.refresh.new.flash) (unmarked_fewer settled kinds) c.refresh.ensures.bounds
+    others_tried kinds c.args.room.now.record.items settled (g.F.Flash.device c.args.flash.now) (g.F.Flash.device c.refresh.new.flash) c.refresh.ensures.bounds c.refresh.ensures.each_copy
 
 pub returns-in_err-good-clause-bounds : goal.returns-in_err-good-clause-bounds
 returns-in_err-good-clause-bounds g c =
@@ -502,7 +501,8 @@ returns-in_err-good-clause-bounds g c =
     let many : length kinds ≡ length c.args.buckets.now.items = length-map c.args.buckets.now.items _ in
     let inside : used < length good = omega (arith, c.requires.inside, c.requires.marks) in
     let stale : is_marked good used ≡ false = sym (get_or_read good used _ inside c.index-fresh.ensures false) ∙ c.if-fresh.false in
-    bounded_used kinds rec good used from mid to inside (omega (arith, c.requires.inside, many)) stale r.refreshes.later r.kept r.bounds
+    bounded_used kinds rec good used from mid to inside (omega (arith, c.requires.inside, many)) stale r.refreshes.later c.settle_copy.ensures.refreshes.later r.kept r.bounds r.each_copy
+    (subst (λ (ks : List BucketKind). LeavesOthers ks used mid to) r.kinds c.settle_copy.ensures.others)
     (subst (λ (ks : List BucketKind). IsBoundedAt ks used rec mid to) r.kinds
     (subst (λ (xs : List ℕ). IsBoundedAt (kinds_of g.B.Bucket.holding c.refresh.new.buckets.items) used xs mid to) r.«record» c.settle_copy.ensures.bounds))
 
@@ -519,7 +519,8 @@ returns-clause-bounds g c =
     let many : length kinds ≡ length c.args.buckets.now.items = length-map c.args.buckets.now.items _ in
     let inside : used < length good = omega (arith, c.requires.inside, c.requires.marks) in
     let stale : is_marked good used ≡ false = sym (get_or_read good used _ inside c.index-fresh.ensures false) ∙ c.if-fresh.false in
-    bounded_used kinds rec good used from mid to inside (omega (arith, c.requires.inside, many)) stale r.refreshes.later r.kept r.bounds
+    bounded_used kinds rec good used from mid to inside (omega (arith, c.requires.inside, many)) stale r.refreshes.later c.settle_copy.ensures.refreshes.later r.kept r.bounds r.each_copy
+    (subst (λ (ks : List BucketKind). LeavesOthers ks used mid to) r.kinds c.settle_copy.ensures.others)
     (subst (λ (ks : List BucketKind). IsBoundedAt ks used rec mid to) r.kinds
     (subst (λ (xs : List ℕ). IsBoundedAt (kinds_of g.B.Bucket.holding c.refresh.new.buckets.items) used xs mid to) r.«record» c.settle_copy.ensures.bounds))
 

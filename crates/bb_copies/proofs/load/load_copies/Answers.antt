@@ -11,7 +11,7 @@ use Rattle.bb_copies.specs.declared.answers.Loaded.TheVariants.{Copy}
 use Rattle.bb_copies.specs.Erasing.{IsBounded}
 use Rattle.bb_copies.specs.Looking.{FindsBelow, IsFirst}
 use Rattle.bb_copies.specs.Refreshing.{AllHeld, AllWritten, IsFirstMarked, IsStuckAt, KeepsMarked, NeverEmpty, Refreshes}
-use Rattle.bb_copies.proofs.Bounded.{bounded_behind}
+use Rattle.bb_copies.proofs.Touched.{tried_behind}
 use Rattle.bb_copies.proofs.Erased.{read_erases}
 use Rattle.bb_copies.proofs.Loads.{first_again, first_area, fresh_runs, load_gives, load_stuck, loads_erasing, loads_exactly, none_found, read_fault, unchanged_runs}
 use Rattle.bb_copies.proofs.load.load_copies.Goals as goal
@@ -151,7 +151,7 @@ returns-in-Ok-freshen-clause-gives g c =
     (subst (λ (xs : List Bool). IsFirstMarked xs (length xs) c.tell-taken.result.used) c.deref.ensures.value c.tell-taken.ensures.used)
     (c.tell-taken.ensures.live ∙ ap (count_by (λ marked. marked)) c.deref.ensures.value)
     (c.in-Ok-freshen.ensures.read_faults ∙ c.in-Ok.ensures.read_faults)
-    (bounded_behind kinds (form.text area) from mid to k.quiet.told k.quiet.later.geometry c.in-Ok.ensures.faults
+    (tried_behind kinds (form.text area) from mid to k.quiet.told k.quiet.later run.later c.in-Ok.ensures.faults
     (subst (λ (rec : List ℕ). IsBounded kinds rec mid to) c.pack.ensures.packed (subst (λ (ks : List BucketKind). IsBounded ks c.pack.new.room.record.items mid to) k.kinds f.bounds)))
 
 pub returns-in-Ok-freshen-clause-exact : goal.returns-in-Ok-freshen-clause-exact
@@ -230,7 +230,7 @@ returns-in-Err-clause-fails g c =
     let run : Refreshes form kinds area mid to = subst (λ (ks : List BucketKind). Refreshes form ks area mid to) k.kinds f.refreshes in
     load_stuck form kinds area c.in-Err.copy from mid to k.quiet.later run.later entry c.in-Ok.ensures.read_faults
     (subst (λ (ks : List BucketKind). IsStuckAt form ks area c.in-Err.copy mid to) k.kinds c.in-Err.ensures.stuck)
-    (bounded_behind kinds (form.text area) from mid to k.quiet.told k.quiet.later.geometry c.in-Ok.ensures.faults
+    (tried_behind kinds (form.text area) from mid to k.quiet.told k.quiet.later run.later c.in-Ok.ensures.faults
     (subst (λ (rec : List ℕ). IsBounded kinds rec mid to) c.pack.ensures.packed (subst (λ (ks : List BucketKind). IsBounded ks c.pack.new.room.record.items mid to) k.kinds f.bounds)))
 
 pub returns-in-Ok-freshen-clause-fits : goal.returns-in-Ok-freshen-clause-fits

@@ -8,8 +8,7 @@ use Rattle.bb_copies.specs.Buckets.{kinds_of}
 use Rattle.bb_copies.specs.Refreshing.{IsFirstMarked, NoOther}
 use Rattle.bb_copies.proofs.Held.{none_of_match}
 use Rattle.bb_copies.proofs.Saves.{first_erases, hopeless}
-use Rattle.bb_copies.specs.Erasing.{unmarked_kinds}
-use Rattle.bb_copies.proofs.Bounded.{bounded_wider, unmarked_fewer}
+use Rattle.bb_copies.proofs.Touched.{others_tried}
 use Rattle.bb_copies.proofs.overwrite.save_first.Goals as goal
 
 pub returns-then-is_none-clause-fails : goal.returns-then-is_none-clause-fails
@@ -67,14 +66,14 @@ returns-in_err-refresh-clause-inside g c = grind (arith, common_steps)
 pub returns-in_err-refresh-clause-bounds : goal.returns-in_err-refresh-clause-bounds
 returns-in_err-refresh-clause-bounds g c =
     let kinds : List BucketKind = kinds_of g.B.Bucket.holding c.args.buckets.now.items in
-    bounded_wider (unmarked_kinds c.args.good.now.items kinds) kinds c.args.room.now.record.items (g.F.Flash.device c.args.flash.now) (g.F.Flash.device c.refresh.new.flash) (unmarked_fewer c.args.good.now.items kinds) c.refresh.ensures.bounds
+    others_tried kinds c.args.room.now.record.items c.args.good.now.items (g.F.Flash.device c.args.flash.now) (g.F.Flash.device c.refresh.new.flash) c.refresh.ensures.bounds c.refresh.ensures.each_copy
 
 pub returns-then-is_none-clause-bounds : goal.returns-then-is_none-clause-bounds
 returns-then-is_none-clause-bounds g c =
     let kinds : List BucketKind = kinds_of g.B.Bucket.holding c.args.buckets.now.items in
-    bounded_wider (unmarked_kinds c.args.good.now.items kinds) kinds c.args.room.now.record.items (g.F.Flash.device c.args.flash.now) (g.F.Flash.device c.refresh.new.flash) (unmarked_fewer c.args.good.now.items kinds) c.refresh.ensures.bounds
+    others_tried kinds c.args.room.now.record.items c.args.good.now.items (g.F.Flash.device c.args.flash.now) (g.F.Flash.device c.refresh.new.flash) c.refresh.ensures.bounds c.refresh.ensures.each_copy
 
 pub returns-clause-bounds : goal.returns-clause-bounds
 returns-clause-bounds g c =
     let kinds : List BucketKind = kinds_of g.B.Bucket.holding c.args.buckets.now.items in
-    bounded_wider (unmarked_kinds c.args.good.now.items kinds) kinds c.args.room.now.record.items (g.F.Flash.device c.args.flash.now) (g.F.Flash.device c.refresh.new.flash) (unmarked_fewer c.args.good.now.items kinds) c.refresh.ensures.bounds
+    others_tried kinds c.args.room.now.record.items c.args.good.now.items (g.F.Flash.device c.args.flash.now) (g.F.Flash.device c.refresh.new.flash) c.refresh.ensures.bounds c.refresh.ensures.each_copy

@@ -7,7 +7,7 @@ use Rattle.bb_flash.specs.Device.{Device}
 use Rattle.bb_bucket.specs.Kind.{BucketKind}
 use Rattle.bb_copies.specs.Buckets.{kinds_of}
 use Rattle.bb_copies.specs.Refreshing.{IsBoundedAt, IsSettledAt, IsStuckAt, IsWrittenAt, LeavesOthers, Refreshes}
-use Rattle.bb_copies.proofs.Below.{RefreshedBelow, all_bounded, all_settled, all_written, keeps_marked, none_refreshed, settled_more, skipped, stuck_bounded, stuck_earlier, stuck_keeps, stuck_rose}
+use Rattle.bb_copies.proofs.Below.{RefreshedBelow, all_bounded, all_settled, all_written, each_more, keeps_marked, none_refreshed, settled_more, skipped, stuck_bounded, stuck_earlier, stuck_keeps, stuck_rose}
 use Rattle.bb_copies.proofs.Placed.{none_placed, settled_placed, skipped_placed, unmarked_placed}
 use Rattle.bb_copies.proofs.Runs.{refreshes_joined, undisturbed_first, undisturbed_second}
 use Rattle.bb_copies.proofs.refresh.refresh.Goals as goal
@@ -193,6 +193,22 @@ returns-in_err-good-clause-bounds g c =
 pub returns-clause-bounds : goal.returns-clause-bounds
 returns-clause-bounds g c =
     all_bounded (g.M.Format.form c.args.format.now) (kinds_of g.B.Bucket.holding c.args.buckets.now.items) c.args.area.now c.args.room.now.record.items c.args.good.now.items c.loop-copy.good.items c.loop-copy.copy (g.F.Flash.device c.args.flash.now) (g.F.Flash.device c.loop-copy.flash) c.loop-copy.invariant.below
+
+pub returns-in_err-good-clause-each_copy : goal.returns-in_err-good-clause-each_copy
+returns-in_err-good-clause-each_copy g c =
+    let i = c.loop-copy.invariant in
+    let s = c.settle_copy.ensures in
+    let kinds : List BucketKind = kinds_of g.B.Bucket.holding c.args.buckets.now.items in
+    let rec : List ℕ = c.args.room.now.record.items in
+    let copy : ℕ = c.loop-copy.copy in
+    let mid : Device = g.F.Flash.device c.loop-copy.flash in
+    let to : Device = g.F.Flash.device c.settle_copy.new.flash in
+    each_more (g.M.Format.form c.args.format.now) kinds c.args.area.now rec c.args.good.now.items c.loop-copy.good.items copy (g.F.Flash.device c.args.flash.now) mid to i.below s.refreshes.later
+    (subst (λ (ks : List BucketKind). LeavesOthers ks copy mid to) i.kinds s.others)
+    (subst (λ (ks : List BucketKind). IsBoundedAt ks copy rec mid to) i.kinds (subst (λ (r : List ℕ). IsBoundedAt (kinds_of g.B.Bucket.holding c.loop-copy.buckets.items) copy r mid to) i.packed s.bounds))
+
+pub returns-clause-each_copy : goal.returns-clause-each_copy
+returns-clause-each_copy g c = c.loop-copy.invariant.below.each_copy
 
 pub returns-clause-read_faults : goal.returns-clause-read_faults
 returns-clause-read_faults g c = c.loop-copy.invariant.below.read_faults

@@ -4,7 +4,7 @@ use Rattle.bb_base.specs.Form.{Form}
 use Rattle.bb_flash.specs.Device.{Device}
 use Rattle.bb_bucket.specs.Kind.{BucketKind}
 use Rattle.bb_copies.specs.Buckets.{kinds_of}
-use Rattle.bb_copies.specs.Erasing.{IsBounded}
+use Rattle.bb_copies.specs.Erasing.{IsBoundedInSum}
 use Rattle.bb_copies.specs.Placing.{PlacesCopy}
 use Rattle.bb_copies.specs.Refreshing.{IsSettledAt, IsStuckAt}
 use Rattle.bb_copies.specs.Settling.{IsRepairWritten}
@@ -107,7 +107,7 @@ pub returns-clause-bounds : goal.returns-clause-bounds
 returns-clause-bounds g c =
     let there = slice_get_read c.args.buckets.now.items (length c.args.buckets.now.items) c.args.copy _ refl c.requires.inside c.index_mut.ensures.value in
     let here = kind_at g.B.Bucket.holding c.args.buckets.now.items c.args.copy _ there in
-    at_copy (λ kind. IsBounded (kind ∷ []) c.args.room.now.record.items (g.F.Flash.device c.args.flash.now) (g.F.Flash.device c.settle-settled.new.flash)) (kinds_of g.B.Bucket.holding c.args.buckets.now.items) c.args.copy _ here c.settle-settled.ensures.bounds
+    at_copy (λ kind. IsBoundedInSum (kind ∷ []) c.args.room.now.record.items (g.F.Flash.device c.args.flash.now) (g.F.Flash.device c.settle-settled.new.flash)) (kinds_of g.B.Bucket.holding c.args.buckets.now.items) c.args.copy _ here c.settle-settled.ensures.bounds
 
 pub returns-clause-read_faults : goal.returns-clause-read_faults
 returns-clause-read_faults g c =

@@ -5,7 +5,7 @@ use Rattle.bb_base.proofs.Counts.{one_more_rose}
 use Rattle.bb_flash.specs.Device.{Device}
 use Rattle.bb_bucket.specs.Kind.{BucketKind}
 use Rattle.bb_flash.proofs.Moments.{later_joined}
-use Rattle.bb_copies.specs.Erasing.{IsBounded}
+use Rattle.bb_copies.specs.Erasing.{IsBoundedInSum}
 use Rattle.bb_copies.specs.Settling.{IsRepairWritten, twice_more}
 use Rattle.bb_copies.proofs.Bounded.{bounded_then, bounded_voided, bounded_written}
 use Rattle.bb_copies.proofs.Ends.{counts_read, ends_read_as, failed_once, no_look, not_failed, ok_gives, one_more_most, read_most, twice_most, twice_rose, voided_dead, written_good_as, written_once}
@@ -184,7 +184,7 @@ returns-then-is_ok-clause-bounds g c =
     let w = c.write.ensures in
     let kind : BucketKind = (g.B.Bucket.holding c.args.bucket.now).kind in
     let calm = not_failed c.write.result from.faults mid.faults (sym c.is_ok.ensures.value ∙ c.if-is_ok.true) w.faults in
-    subst (λ (r : List ℕ). IsBounded (kind ∷ []) r from mid) c.deref.ensures.value
+    subst (λ (r : List ℕ). IsBoundedInSum (kind ∷ []) r from mid) c.deref.ensures.value
     (bounded_written kind _ c.write.result from mid w.made (omega (arith, calm)))
 
 pub returns-then-is_ok-2-clause-bounds : goal.returns-then-is_ok-2-clause-bounds
@@ -198,7 +198,7 @@ returns-then-is_ok-2-clause-bounds g c =
     let once = failed_once c.write.result from.faults mid.faults (sym c.is_ok.ensures.value ∙ c.if-is_ok.false) w.faults in
     let ok = not_failed c.void.result mid.faults void.faults (sym c.is_ok-2.ensures.value ∙ c.if-is_ok-2.true) v.faults in
     let most = one_more_most from.faults in
-    subst (λ (r : List ℕ). IsBounded (kind ∷ []) r from void) c.deref.ensures.value
+    subst (λ (r : List ℕ). IsBoundedInSum (kind ∷ []) r from void) c.deref.ensures.value
     (bounded_voided kind _ _ c.write.result c.void.result from mid void w.within.later w.made v.made (omega (arith, once, ok, most)))
 
 pub returns-clause-bounds : goal.returns-clause-bounds
@@ -216,5 +216,5 @@ returns-clause-bounds g c =
     let most = twice_most from.faults in
     let last = read_most void to c.read_back.result c.read_back.ensures.counts in
     bounded_then (kind ∷ []) c.args.room.now.record.items from void to (later_joined from mid void w.within.later v.within.later) c.read_back.ensures.quiet (omega (arith, twice, most, last))
-    (subst (λ (r : List ℕ). IsBounded (kind ∷ []) r from void) c.deref.ensures.value
+    (subst (λ (r : List ℕ). IsBoundedInSum (kind ∷ []) r from void) c.deref.ensures.value
     (bounded_voided kind _ _ c.write.result c.void.result from mid void w.within.later w.made v.made (omega (arith, twice, most))))

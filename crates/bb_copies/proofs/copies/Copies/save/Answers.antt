@@ -5,8 +5,8 @@ use Rattle.bb_bucket.specs.Kind.{BucketKind}
 use Rattle.bb_copies.specs.Buckets.{AllFit, HaveRoom, kinds_of}
 use Rattle.bb_copies.specs.Erasing.{IsBounded}
 use Rattle.bb_copies.specs.Loading.{KeepsOutside}
-use Rattle.bb_copies.proofs.Bounded.{none_bounded}
 use Rattle.bb_copies.proofs.Saves.{none_saved}
+use Rattle.bb_copies.proofs.Touched.{not_tried}
 use Rattle.bb_copies.proofs.copies.Copies.save.Goals as goal
 
 pub returns-then-not-self-clause-images : goal.returns-then-not-self-clause-images
@@ -56,7 +56,7 @@ invariant_of-self-2 g c =
     }
 
 pub returns-then-not-self-clause-bounds : goal.returns-then-not-self-clause-bounds
-returns-then-not-self-clause-bounds g c = none_bounded _ _ (g.F.Flash.device c.args.flash.now)
+returns-then-not-self-clause-bounds g c = not_tried _ _ (g.F.Flash.device c.args.flash.now)
 
 pub returns-in_err-taken-clause-bounds : goal.returns-in_err-taken-clause-bounds
 returns-in_err-taken-clause-bounds g c =
