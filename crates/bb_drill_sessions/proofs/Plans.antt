@@ -12,7 +12,7 @@ use Rattle.bb_layout.specs.Results.{result_and_then}
 use Rattle.bb_actions.specs.Actions.{misfit_of}
 use Rattle.bb_plan.proofs.Readings.{same_over}
 use Rattle.bb_plan.specs.FilesRead.{FileAnswer, IsReadAs, Reading, Reads, Yields, Fails, and_then, files_answer, reading_of, result_on, result_over}
-use Rattle.bb_plan.specs.Plan.{OnCopies, Prints, SessionPlan, Task, boot_after, boot_planned, boot_reading, command_reading, mark_after, mark_reading, plan_as, plan_reading, planned, state_plan, state_reading, task_as, words_reading}
+use Rattle.bb_plan.specs.Plan.{Drills, OnCopies, Prints, SessionPlan, Task, boot_after, boot_planned, boot_reading, command_reading, mark_after, mark_reading, plan_as, plan_reading, planned, state_plan, state_reading, task_as, words_reading}
 use Rattle.bb_plan.specs.declared.plan.PlannedTask.TheVariants as tasks
 use Rattle.bb_plan.specs.declared.plan.PlannedWork.{PlannedWork}
 use Rattle.bb_plan.specs.declared.refusal.Refusal.TheVariants as refusals
@@ -150,6 +150,7 @@ words_are Show = refl
 planned_back : (given : Result Task Refusal) (plan : SessionPlan) → planned given ≡ Ok plan → given ≡ Ok (OnCopies plan)
 planned_back (Ok (OnCopies other)) plan h = (let same : other ≡ plan = cc in ap (λ (p : SessionPlan). Ok (OnCopies p)) same)
 planned_back (Ok (Prints text)) plan h = absurd cc
+planned_back (Ok (Drills numbers)) plan h = absurd cc
 planned_back (Err refusal) plan h = absurd cc
 
 abbrev BoardKeyed : Result Keyed Refusal

@@ -31,6 +31,6 @@ pub(crate) fn plan_of(alloc: Global, command: DrillCommand) -> Result<PlannedWor
     };
     match task {
         PlannedTask::OnCopies(plan) => Ok(plan),
-        PlannedTask::Prints(_) => Err(NoMemory),
+        PlannedTask::Prints(_) | PlannedTask::Drills(_) => Err(NoMemory),
     }
 }

@@ -8,7 +8,7 @@ use Rattle.bb_words.specs.Words.{words_of}
 use Rattle.bb_words.specs.declared.command.Command.{Command}
 use Rattle.bb_plan.specs.Plan.{IsRefusedWith}
 use Rattle.bb_plan.specs.Status.{is_planning}
-use Rattle.bb_plan.specs.Plan.{EarlyEnd, FileAnswers, OnCopies, Prints, Refused, SessionPlan, Task, command_reading, files_for, names_file, plan_by_words, plan_over_files, plan_reading, planned, words_reading}
+use Rattle.bb_plan.specs.Plan.{Drills, EarlyEnd, FileAnswers, OnCopies, Prints, Refused, SessionPlan, Task, command_reading, files_for, names_file, plan_by_words, plan_over_files, plan_reading, planned, words_reading}
 use Rattle.bb_plan.specs.FilesRead.{AreRead, after_file_fault, file_refusal, result_by, result_over}
 use Rattle.bb_plan.specs.Refusal.{status_of}
 use Rattle.bb_plan.specs.declared.refusal.Refusal.{Refusal}
@@ -25,6 +25,7 @@ unlike : (answer : Status) (task : Result Task Refusal) → IfErr task (λ refus
     IsRefusedWith answer (planned task) → ⊥
 unlike answer (Ok (OnCopies plan)) other refused = refused
 unlike answer (Ok (Prints text)) other refused = refused
+unlike answer (Ok (Drills numbers)) other refused = refused
 unlike answer (Err refusal) other refused = other refused
 
 text_other : (answer : Status) → is_of_text answer ≡ false → (refusal : Refusal) → IsOfText refusal → status_of refusal ≢ answer
@@ -106,6 +107,7 @@ AtFault refusal = status_of refusal ≡ statuses.FileFault
 as_fault : (task : Result Task Refusal) → IsRefusedWith statuses.FileFault (planned task) → HasErr AtFault task
 as_fault (Ok (OnCopies plan)) refused = refused
 as_fault (Ok (Prints text)) refused = refused
+as_fault (Ok (Drills numbers)) refused = refused
 as_fault (Err refusal) refused = refused
 
 fault_of : (command : Result Command ℕ) (geometry : Geometry) (before after : Folder) (answers : FileAnswers) →

@@ -64,7 +64,7 @@ use Rattle.bb_words.specs.declared.command.StateCommand.{StateCommand}
 use Rattle.bb_layout.specs.Thirds.{raw_layout}
 use Rattle.bb_plan.specs.Status.{is_planning}
 use Rattle.bb_plan.specs.PlanSteps.{binding_by, binding_reading, blob_root, block_by, block_reading, cause_of, entries_reading, fit_by, is_blob, key_after, key_reading, keyed_reading, layout_by, layout_reading, named_block, plans_reading, refused_as, source_root, targets_by, tree_in}
-use Rattle.bb_plan.specs.Plan.{Act, Boot, FileAnswers, Good, OnCopies, Prints, SessionPlan, Show, Task, Work, Write, boot_after, boot_planned, boot_reading, command_reading, mark_after, mark_reading, on_copies, plan_by_words, plan_reading, planned, raw_laid, raw_plan, raw_work, state_plan, state_reading, words_reading}
+use Rattle.bb_plan.specs.Plan.{Act, Boot, Drills, FileAnswers, Good, OnCopies, Prints, SessionPlan, Show, Task, Work, Write, boot_after, boot_planned, boot_reading, command_reading, mark_after, mark_reading, on_copies, plan_by_words, plan_reading, planned, raw_laid, raw_plan, raw_work, state_plan, state_reading, words_reading}
 use Rattle.bb_plan.specs.FilesRead.{EachEnd, Reading, Yields, and_then, file_reading, result_by, reading_of}
 use Rattle.bb_plan.specs.Refusal.{status_of}
 use Rattle.bb_plan.specs.Plan.{first_area}
@@ -383,6 +383,7 @@ fit_ends command keyed (Some misfit) = refl
 abbrev pub IsSizedTask : Task → Type 0
 IsSizedTask (OnCopies plan) = IsSizedPlan plan
 IsSizedTask (Prints text) = ⊤
+IsSizedTask (Drills numbers) = ⊤
 
 on_ends : (reading : Reading SessionPlan) → EachEnd IsSizedPlan IsOfText reading → EachEnd IsSizedTask IsOfText (on_copies reading)
 on_ends reading each =
@@ -424,6 +425,7 @@ command_ends (commands.Boot command) geometry =
     (plans_reading targets) (entries_end 0 (entries_of targets))
     (λ plans any. record { layout_is = sized; bound = bound.0; binding = bound.1 }))))
 command_ends (commands.Menu command) geometry = λ found. menu_ends command.dir found
+command_ends (commands.Drill numbers) geometry = tt
 
 sized_of : (command : Result Command ℕ) (geometry : Geometry) (files : FileAnswers) →
     IfOk (result_by (words_reading command geometry) files) IsSizedTask
@@ -434,6 +436,7 @@ sized_of (Err place) geometry files = tt
 planned_ok : (result : Result Task Refusal) → IfOk result IsSizedTask → IfOk (planned result) IsSizedPlan
 planned_ok (Ok (OnCopies plan)) sized = sized
 planned_ok (Ok (Prints text)) sized = tt
+planned_ok (Ok (Drills numbers)) sized = tt
 planned_ok (Err refusal) sized = tt
 
 pub planned_sized : (words : List (List ℕ)) (geometry : Geometry) (files : FileAnswers) (plan : SessionPlan) →

@@ -16,6 +16,7 @@ use Rattle.bb_words.specs.Words.{words_of}
 use Rattle.bb_words.specs.declared.command.BootCommand.{BootCommand}
 use Rattle.bb_words.specs.declared.command.Command.{Command}
 use Rattle.bb_words.specs.declared.command.Command.TheVariants as commands
+use Rattle.bb_words.specs.declared.command.DrillNumbers.{DrillNumbers}
 use Rattle.bb_words.specs.declared.command.MarkGoodCommand.{MarkGoodCommand}
 use Rattle.bb_words.specs.declared.command.RawAction.{RawAction}
 use Rattle.bb_words.specs.declared.command.RawAction.TheVariants as raw_actions
@@ -39,15 +40,17 @@ pub record SessionPlan : Type 0 where
   pub keyed : Keyed
   pub work : Work
 
--- what words and files ask for: a work on the copies of a layout, or a text that is sent, for which
--- no call of the device is made
+-- what words and files ask for: a work on the copies of a layout, or a text that is sent or a drill
+-- that is run, for which no call of the device is made
 pub data Task : Type 0 where
   OnCopies : SessionPlan → Task
   Prints : List ℕ → Task
+  Drills : DrillNumbers → Task
 
--- how a session ends before the device: it sends a text, or it is refused
+-- how a session ends before the device: it sends a text, it runs a drill, or it is refused
 pub data EarlyEnd : Type 0 where
   Printed : List ℕ → EarlyEnd
+  Drilled : DrillNumbers → EarlyEnd
   Refused : Refusal → EarlyEnd
 
 -- ---- each command
@@ -119,6 +122,7 @@ command_reading (commands.State command) geometry = on_copies (state_reading com
 command_reading (commands.MarkGood command) geometry = on_copies (mark_reading command geometry)
 command_reading (commands.Boot command) geometry = on_copies (boot_reading command geometry)
 command_reading (commands.Menu command) geometry = prints (menu_reading command.dir)
+command_reading (commands.Drill numbers) geometry = Yields (Drills numbers)
 
 abbrev pub words_reading : Result Command ℕ → Geometry → Reading Task
 words_reading (Ok command) geometry = command_reading command geometry
@@ -138,6 +142,7 @@ FileAnswers = List FileAnswer
 abbrev pub planned : Result Task Refusal → Result SessionPlan EarlyEnd
 planned (Ok (OnCopies plan)) = Ok plan
 planned (Ok (Prints text)) = Err (Printed text)
+planned (Ok (Drills numbers)) = Err (Drilled numbers)
 planned (Err refusal) = Err (Refused refusal)
 
 abbrev pub plan_by_words : List (List ℕ) → Geometry → FileAnswers → Result SessionPlan EarlyEnd
@@ -164,6 +169,7 @@ copies_in (Err end) = 0
 abbrev pub IsRefusedWith : Status → Result SessionPlan EarlyEnd → Type 0
 IsRefusedWith answer (Ok plan) = ⊥
 IsRefusedWith answer (Err (Printed text)) = ⊥
+IsRefusedWith answer (Err (Drilled numbers)) = ⊥
 IsRefusedWith answer (Err (Refused refusal)) = status_of refusal ≡ answer
 
 -- the area that an empty device stands for
@@ -182,6 +188,7 @@ plan_as plan = record { keyed = keyed_as plan.keyed; work = plan.work }
 abbrev pub task_as : PlannedTask → Task
 task_as (tasks.OnCopies plan) = OnCopies (plan_as plan)
 task_as (tasks.Prints text) = Prints text
+task_as (tasks.Drills numbers) = Drills numbers
 
 -- records in the raw format stand under no key
 pub record IsUnkeyedRaw (keyed : Keyed) : Type 0 where
@@ -215,3 +222,4 @@ pub record IsPlannedFor (geometry : Geometry) (plan : SessionPlan) : Type 0 wher
 abbrev pub IsTaskFor : Geometry → Task → Type 0
 IsTaskFor geometry (OnCopies plan) = IsPlannedFor geometry plan
 IsTaskFor geometry (Prints text) = ⊤
+IsTaskFor geometry (Drills numbers) = ⊤

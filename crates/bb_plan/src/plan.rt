@@ -2,7 +2,7 @@ use crate::described::KeyedLayout;
 use bb_base::Bytes;
 use bb_chooser::{Cause, Chooser};
 use bb_flash::PlanList;
-use bb_words::ActionList;
+use bb_words::{ActionList, DrillNumbers};
 
 /// What is done with the copies of a layout.
 #[derive(Drop)]
@@ -29,6 +29,8 @@ pub enum PlannedTask {
     OnCopies(PlannedWork),
     /// To send this text, without a call of the device.
     Prints(Bytes),
+    /// To run a drill, without a call of the device, and to send what it counted.
+    Drills(DrillNumbers),
 }
 
 /// A work, and the layout of the copies on which it is done.

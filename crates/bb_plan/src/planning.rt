@@ -65,6 +65,7 @@ fn plan_command<N: Files>(
         Command::MarkGood(command) => on_copies(plan_mark(alloc, &command, files, geometry)),
         Command::Boot(command) => on_copies(plan_boot(alloc, &command, files, geometry)),
         Command::Menu(command) => prints(read_menu(alloc, files, &command.dir)),
+        Command::Drill(numbers) => Ok(PlannedTask::Drills(numbers)),
     }
 }
 

@@ -1,6 +1,7 @@
 -- Definitions that contracts cite. A reader has to believe all of them.
 pub mod Booting
 pub mod Doing
+pub mod DrillLine
 pub mod Exactly
 pub mod Looking
 pub mod Marking

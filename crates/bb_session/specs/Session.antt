@@ -9,21 +9,23 @@ use Rattle.bb_base.specs.Folder.{FileMap}
 use Rattle.bb_chooser.specs.Binding.{Binding}
 use Rattle.bb_chooser.specs.Counting.{mark_good_of}
 use Rattle.bb_copies.specs.declared.answers.CopyFault.{CopyFault}
+use Rattle.bb_drill.specs.declared.counts.DrillCounts.{DrillCounts}
 use Rattle.bb_flash.specs.declared.geometry.Geometry.{Geometry}
 use Rattle.bb_flash.specs.Image.{Image}
 use Rattle.bb_layout.specs.Defaults.{defaults_of}
 use Rattle.bb_layout.specs.Layout.{Laid}
+use Rattle.bb_session.specs.DrillLine.{drill_line}
 use Rattle.bb_session.specs.Looking.{first_found, look_text, passed_in}
 use Rattle.bb_session.specs.Marking.{good_text, lost_place}
 use Rattle.bb_shell.specs.Boot.{Round, all_attempts, boot_end, first_table}
 use Rattle.bb_shell.specs.Stages.{saves_of as tables_of}
 use Rattle.bb_session.specs.Booting.{SaveAnswer, end_refusal, end_text, has_no_target, rounds_of}
-use Rattle.bb_plan.specs.Plan.{EarlyEnd, FileAnswers, Printed, Refused, SessionPlan, files_for, plan_by_words}
+use Rattle.bb_plan.specs.Plan.{Drilled, EarlyEnd, FileAnswers, Printed, Refused, SessionPlan, files_for, plan_by_words}
 use Rattle.bb_plan.specs.declared.plan.Work.{Work}
 use Rattle.bb_plan.specs.declared.plan.Work.TheVariants.{Act, Boot, Good, Show, Write}
 use Rattle.bb_plan.specs.Refusal.{copy_refusal, status_of}
 use Rattle.bb_plan.specs.declared.refusal.Refusal.{Refusal}
-use Rattle.bb_plan.specs.declared.refusal.Refusal.TheVariants.{NoGood, NoTarget}
+use Rattle.bb_plan.specs.declared.refusal.Refusal.TheVariants.{NoGood, NoMemory, NoTarget}
 use Rattle.bb_plan.specs.declared.status.Status.{Status}
 use Rattle.bb_plan.specs.declared.status.Status.TheVariants.{Done}
 
@@ -34,11 +36,12 @@ abbrev pub LoadAnswer : Type 0
 LoadAnswer = Result (Option (List ℕ)) CopyFault
 
 -- what was answered: by the files that were read, by the load or the look, and by each save that
--- was begun, in their order; of a boot by each round
+-- was begun, in their order; of a boot by each round; and what a drill counted, where one was run
 pub record Answers : Type 0 where
   pub files : FileAnswers
   pub load : LoadAnswer
   pub saves : List SaveAnswer
+  pub drill : Option DrillCounts
 
 -- ---- what a session answers
 
@@ -153,14 +156,20 @@ work_session plan (Ok found) saves =
     (worked_on plan.work plan found saves)
 work_session plan (Err fault) saves = refused_for (copy_refusal fault)
 
+-- a drill is done with the line of its counts; without them it is as if memory was refused
+abbrev pub drill_session : Option DrillCounts → Session
+drill_session (Some counts) = done_with (drill_line counts)
+drill_session None = refused_for NoMemory
+
 -- one that ends before the device
-abbrev pub early_session : EarlyEnd → Session
-early_session (Printed text) = done_with text
-early_session (Refused refusal) = refused_for refusal
+abbrev pub early_session : EarlyEnd → Option DrillCounts → Session
+early_session (Printed text) drill = done_with text
+early_session (Drilled numbers) drill = drill_session drill
+early_session (Refused refusal) drill = refused_for refusal
 
 abbrev pub session_by : Result SessionPlan EarlyEnd → Answers → Session
 session_by (Ok plan) answers = work_session plan answers.load answers.saves
-session_by (Err end) answers = early_session end
+session_by (Err end) answers = early_session end answers.drill
 
 -- the plan, and then the work
 abbrev pub session_of : List (List ℕ) → Geometry → Answers → Session
@@ -194,14 +203,16 @@ abbrev pub saves_for : Result SessionPlan EarlyEnd → LoadAnswer → List SaveA
 saves_for (Ok plan) load = answers_after plan.work plan load
 saves_for (Err end) load = []
 
--- what is answered to a plan at a device with this content
-abbrev pub answers_to : FileAnswers → Result SessionPlan EarlyEnd → Geometry → Image → Answers
-answers_to files plan geometry image =
+-- what is answered to a plan at a device with this content, where a drill counted this
+abbrev pub answers_to :
+    FileAnswers → Result SessionPlan EarlyEnd → Geometry → Image → Option DrillCounts → Answers
+answers_to files plan geometry image drill =
     let load = load_for plan geometry image in
-    record { files = files; load = load; saves = saves_for plan load }
+    record { files = files; load = load; saves = saves_for plan load; drill = drill }
 
--- what these files and a device with this content answer
-abbrev pub answers_of : List (List ℕ) → Geometry → FileMap → Image → Answers
-answers_of words geometry files image =
+-- what these files and a device with this content answer, where a drill counted this
+abbrev pub answers_of :
+    List (List ℕ) → Geometry → FileMap → Image → Option DrillCounts → Answers
+answers_of words geometry files image drill =
     let read = files_for words geometry files in
-    answers_to read (plan_by_words words geometry read) geometry image
+    answers_to read (plan_by_words words geometry read) geometry image drill

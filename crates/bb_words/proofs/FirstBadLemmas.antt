@@ -20,7 +20,7 @@ use Rattle.bb_words.specs.declared.row.Row.{Row}
 use Rattle.bb_words.specs.declared.row.Row.TheVariants.{State as StateRow, MarkGood as MarkGoodRow, Boot as BootRow}
 use Rattle.bb_words.specs.FirstBad.{Begins}
 use Rattle.bb_words.specs.Options.{with_action}
-use Rattle.bb_words.specs.Words.{WordStage, Start, Magic, Length, Mode, Area, DirOption, DirValue, Options, Whole, raw_of, next, command_at, words_from, words_of}
+use Rattle.bb_words.specs.Words.{WordStage, Start, Magic, Length, Mode, Area, DirOption, DirValue, DrillNumber, DrillCount, Options, Whole, raw_of, drill_of, next, command_at, words_from, words_of}
 
 -- some words after these make a command, from a stage on
 abbrev pub Continues : ℕ → WordStage → List (List ℕ) → Type 0
@@ -122,6 +122,8 @@ completed start (Mode magic len) = (codes "-g" ∷ [], raw_of magic len Look, re
 completed start (Area magic len) = area_completed start magic len
 completed start DirOption = (codes "--dir" ∷ [] ∷ [], Menu (record { dir = [] }), refl)
 completed start DirValue = ([] ∷ [], Menu (record { dir = [] }), refl)
+completed start DrillNumber = (codes "0" ∷ codes "1" ∷ [], drill_of 0 1, refl)
+completed start (DrillCount number) = (codes "1" ∷ [], drill_of number 1, refl)
 completed start (Options row None given) = options_completed start row given
 completed start (Options row (Some valued) given) = value_completed start row valued given
 completed start (Whole command) = ([], command, refl)

@@ -10,7 +10,8 @@ use Rattle.bb_words.specs.declared.command.Action.{Action}
 use Rattle.bb_words.specs.declared.command.Action.TheVariants.{Set, Get, Dump, DumpShell}
 use Rattle.bb_words.specs.declared.command.CauseWord.{CauseWord}
 use Rattle.bb_words.specs.declared.command.Command.{Command}
-use Rattle.bb_words.specs.declared.command.Command.TheVariants.{Raw, State, MarkGood, Boot, Menu}
+use Rattle.bb_words.specs.declared.command.Command.TheVariants.{Raw, State, MarkGood, Boot, Menu, Drill}
+use Rattle.bb_words.specs.declared.command.DrillNumbers.{DrillNumbers}
 use Rattle.bb_words.specs.declared.command.RawAction.{RawAction}
 use Rattle.bb_words.specs.declared.command.RawAction.TheVariants.{Look, Write}
 use Rattle.bb_words.specs.declared.command.RawCommand.{RawCommand}
@@ -19,10 +20,10 @@ use Rattle.bb_words.specs.declared.option.Valued.{Valued}
 use Rattle.bb_words.specs.declared.option.Valued.TheVariants.{Input, Name, Get as GetOption, Set as SetOption, Settings, Key, Cause}
 use Rattle.bb_words.specs.declared.row.Row.{Row}
 use Rattle.bb_words.specs.declared.row.Row.TheVariants.{State as StateRow, MarkGood as MarkGoodRow, Boot as BootRow}
-use Rattle.bb_words.specs.Grammar.{IsAction, IsRaw, IsSpelt, Spells, OptionForm, Own, Long, Joined, Item, Takes, ShortDump, LongDump, ShellDump, own_form, long_form, item_words, has_long, has_form, is_value, has_item, file_in, state_name_in, settings_in, key_file_in, cause_in, action_in}
+use Rattle.bb_words.specs.Grammar.{IsAction, IsRaw, IsDrill, IsSpelt, Spells, OptionForm, Own, Long, Joined, Item, Takes, ShortDump, LongDump, ShellDump, own_form, long_form, item_words, has_long, has_form, is_value, has_item, file_in, state_name_in, settings_in, key_file_in, cause_in, action_in}
 use Rattle.bb_words.specs.Options.{cause_word_of, dump_of, long_of, valued_of, joined_value_in, has_sign, set_in, with_option, with_action, none_given}
 use Rattle.bb_words.specs.Table.{command_name_of, row_of, has_option, has_dumps, may_come, cause_given, command_of, described_in}
-use Rattle.bb_words.specs.Words.{WordStage, Magic, Length, Mode, Area, DirOption, DirValue, Options, Whole, raw_of, number_up_to, area_spelt, after_dump, before_value, after_value, after_joined, after_option, next, words_from, words_of}
+use Rattle.bb_words.specs.Words.{WordStage, Magic, Length, Mode, Area, DirOption, DirValue, DrillNumber, DrillCount, Options, Whole, raw_of, drill_of, number_up_to, area_spelt, sessions_spelt, after_dump, before_value, after_value, after_joined, after_option, next, words_from, words_of}
 
 -- ---- what is spelt is accepted
 
@@ -330,12 +331,20 @@ menu_accepted : (dir : List ℕ) → words_of (codes "menu" ∷ codes "--dir" �
 unfolding words_from
 menu_accepted dir = refl
 
+drill_accepted : (rest : List (List ℕ)) (numbers : DrillNumbers) → IsDrill rest numbers → words_of (codes "drill" ∷ rest) ≡ Ok (Drill numbers)
+unfolding words_from
+drill_accepted rest numbers is =
+    ap (words_from 1 DrillNumber) is.spelt
+    ∙ ap (λ o. option_map_or (λ behind. words_from 2 behind (is.count ∷ [])) (option_map (λ n. DrillCount n) o) (Err 1)) is.number_is
+    ∙ ap (λ o. option_map_or (λ behind. words_from 3 behind []) (option_map (λ n. Whole (drill_of numbers.number n)) o) (Err 2)) is.count_is
+
 pub accepted : (words : List (List ℕ)) (command : Command) → Spells words command → words_of words ≡ Ok command
 accepted words (Raw raw) is = ap words_of is.1 ∙ raw_accepted is.0 raw is.2
 accepted words (State state) is = options_accepted StateRow words (State state) is
 accepted words (MarkGood mark) is = options_accepted MarkGoodRow words (MarkGood mark) is
 accepted words (Boot boot) is = options_accepted BootRow words (Boot boot) is
 accepted words (Menu menu) is = ap words_of is ∙ menu_accepted menu.dir
+accepted words (Drill numbers) is = ap words_of is.1 ∙ drill_accepted is.0 numbers is.2
 
 -- ---- what is accepted was spelt so
 
@@ -453,6 +462,30 @@ from_dir_option : (words : List (List ℕ)) (command : Command) → words_from 1
 unfolding words_from
 from_dir_option [] command h = absurd (cc)
 from_dir_option (w ∷ ws) command h = dir_spelt w ws command (bytes_eq w (codes "--dir")) refl h
+
+-- `drill`
+
+from_count : (number : ℕ) (words : List (List ℕ)) (command : Command) → words_from 2 (DrillCount number) words ≡ Ok command →
+    (n : ℕ) × (count : List ℕ) × (words ≡ count ∷ []) × (sessions_spelt count ≡ Some n) × (command ≡ drill_of number n)
+unfolding words_from
+from_count number [] command h = absurd (cc)
+from_count number (count ∷ ws) command h =
+    let word = on_word (next (DrillCount number) count) 2 ws command h in
+    let n = on_map (λ n. Whole (drill_of number n)) (sessions_spelt count) word.0 word.1 in
+    let whole = from_whole (drill_of number n.0) 3 ws command (subst (λ s. words_from 3 s ws ≡ Ok command) (sym n.2) word.2) in
+    (n.0, count, ap (λ ws. count ∷ ws) whole.0, n.1, whole.1)
+
+drill_spelt : (words : List (List ℕ)) (command : Command) → words_from 1 DrillNumber words ≡ Ok command → (numbers : DrillNumbers) × (command ≡ Drill numbers) × IsDrill words numbers
+unfolding words_from
+drill_spelt [] command h = absurd (cc)
+drill_spelt (number ∷ ws) command h =
+    let word = on_word (next DrillNumber number) 1 ws command h in
+    let m = on_map (λ n. DrillCount n) (number_up_to 4294967295 number) word.0 word.1 in
+    let rest = from_count m.0 ws command (subst (λ s. words_from 2 s ws ≡ Ok command) (sym m.2) word.2) in (
+      record { number = m.0; count = rest.0 },
+      rest.4,
+      record { number = number; count = rest.1; spelt = ap (λ ws. number ∷ ws) rest.2; number_is = m.1; count_is = rest.3 },
+    )
 
 -- what words of options say
 
@@ -755,6 +788,11 @@ menu_of_words w rest command is h =
     let menu = from_dir_option rest command h in
     subst (Spells (w ∷ rest)) (sym menu.2) (ap (λ w. w ∷ rest) (same_bytes w (codes "menu") is) ∙ ap (λ rest. codes "menu" ∷ rest) menu.1)
 
+drill_of_words : (w : List ℕ) (rest : List (List ℕ)) (command : Command) → bytes_eq w (codes "drill") ≡ true → words_from 1 DrillNumber rest ≡ Ok command → Spells (w ∷ rest) command
+drill_of_words w rest command is h =
+    let drill = drill_spelt rest command h in
+    subst (Spells (w ∷ rest)) (sym drill.1) (rest, ap (λ w. w ∷ rest) (same_bytes w (codes "drill") is), drill.2)
+
 -- the command that a row makes
 row_made : (row : Row) (given : Given) (words : List (List ℕ)) (command : Command) → command_of row given ≡ Some command → IsSpelt row words command → Spells words command
 row_made MarkGoodRow given words command made is =
@@ -801,15 +839,18 @@ options_of_words row w rest command named h =
       made = r.made;
     })
 
-command_spelt : (w : List ℕ) (rest : List (List ℕ)) (command : Command) (a b : Bool) (o : Option Row) → bytes_eq w (codes "raw") ≡ a → bytes_eq w (codes "menu") ≡ b → row_of w ≡ o →
-    option_map_or (λ behind. words_from 1 behind rest) (if a then Some Magic else if b then Some DirOption else option_map (λ row. Options row None none_given) o) (Err 0) ≡ Ok command →
+command_spelt : (w : List ℕ) (rest : List (List ℕ)) (command : Command) (a b d : Bool) (o : Option Row) → bytes_eq w (codes "raw") ≡ a → bytes_eq w (codes "menu") ≡ b →
+    bytes_eq w (codes "drill") ≡ d → row_of w ≡ o →
+    option_map_or (λ behind. words_from 1 behind rest)
+    (if a then Some Magic else if b then Some DirOption else if d then Some DrillNumber else option_map (λ row. Options row None none_given) o) (Err 0) ≡ Ok command →
     Spells (w ∷ rest) command
-command_spelt w rest command true b o ea eb eo h = raw_of_words w rest command ea h
-command_spelt w rest command false true o ea eb eo h = menu_of_words w rest command eb h
-command_spelt w rest command false false (Some row) ea eb eo h = options_of_words row w rest command eo h
-command_spelt w rest command false false None ea eb eo h = absurd (cc)
+command_spelt w rest command true b d o ea eb ed eo h = raw_of_words w rest command ea h
+command_spelt w rest command false true d o ea eb ed eo h = menu_of_words w rest command eb h
+command_spelt w rest command false false true o ea eb ed eo h = drill_of_words w rest command ed h
+command_spelt w rest command false false false (Some row) ea eb ed eo h = options_of_words row w rest command eo h
+command_spelt w rest command false false false None ea eb ed eo h = absurd (cc)
 
 pub spelt : (words : List (List ℕ)) (command : Command) → words_of words ≡ Ok command → Spells words command
 unfolding words_from
 spelt [] command h = absurd (cc)
-spelt (w ∷ ws) command h = command_spelt w ws command (bytes_eq w (codes "raw")) (bytes_eq w (codes "menu")) (row_of w) refl refl refl h
+spelt (w ∷ ws) command h = command_spelt w ws command (bytes_eq w (codes "raw")) (bytes_eq w (codes "menu")) (bytes_eq w (codes "drill")) (row_of w) refl refl refl refl h

@@ -1,5 +1,6 @@
 -- Lemmas.
 pub mod Areas
+pub mod DrillExamples
 pub mod Examples
 pub mod FirstBadLemmas
 pub mod GrammarLemmas

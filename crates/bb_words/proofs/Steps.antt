@@ -17,7 +17,7 @@ use Rattle.bb_words.specs.declared.error.WordsError.TheVariants.{BadWord, NoMemo
 use Rattle.bb_words.specs.declared.row.Row.{Row}
 use Rattle.bb_words.specs.Options.{none_given}
 use Rattle.bb_words.specs.Table.{row_of}
-use Rattle.bb_words.specs.Words.{WordStage, Start, Magic, Length, Mode, Area, DirOption, DirValue, Options, Whole, raw_of, number_up_to, area_spelt, next, command_at, words_from, words_of}
+use Rattle.bb_words.specs.Words.{WordStage, Start, Magic, Length, Mode, Area, DirOption, DirValue, DrillNumber, DrillCount, Options, Whole, raw_of, drill_of, number_up_to, area_spelt, sessions_spelt, next, command_at, words_from, words_of}
 
 -- ---- answers
 
@@ -137,6 +137,16 @@ pub at_area : (place magic len : ℕ) (words : List (List ℕ)) →
     option_map_or (λ area. words_from (place + 1) (Whole (raw_of magic len (Write area))) (drop (place + 1) words)) (option_and_then (area_spelt len) (slice_get words place)) (Err place)
 at_area place magic len words = step place (Area magic len) words ∙ mapped _ (λ area. Whole (raw_of magic len (Write area))) (area_spelt len) _ (slice_get words place)
 
+pub at_number : (place : ℕ) (words : List (List ℕ)) →
+    words_from place DrillNumber (drop place words) ≡
+    option_map_or (λ n. words_from (place + 1) (DrillCount n) (drop (place + 1) words)) (option_and_then (number_up_to 4294967295) (slice_get words place)) (Err place)
+at_number place words = step place DrillNumber words ∙ mapped _ (λ n. DrillCount n) (number_up_to 4294967295) _ (slice_get words place)
+
+pub at_sessions : (place number : ℕ) (words : List (List ℕ)) →
+    words_from place (DrillCount number) (drop place words) ≡
+    option_map_or (λ n. words_from (place + 1) (Whole (drill_of number n)) (drop (place + 1) words)) (option_and_then sessions_spelt (slice_get words place)) (Err place)
+at_sessions place number words = step place (DrillCount number) words ∙ mapped _ (λ n. Whole (drill_of number n)) sessions_spelt _ (slice_get words place)
+
 -- ---- words that are compared
 
 is_test : {X : Type 0} (b : Bool) (x y : X) → b ≡ true → (if b then x else y) ≡ x
@@ -165,15 +175,24 @@ pub menu_command : (words : List (List ℕ)) (word : List ℕ) → slice_get wor
     words_of words ≡ words_from 1 DirOption (drop 1 words)
 menu_command words word found raw menu = step_on 0 Start _ words word found (not_test _ _ _ raw ∙ is_test _ _ _ menu)
 
+pub drill_command : (words : List (List ℕ)) (word : List ℕ) → slice_get words 0 ≡ Some word → bytes_eq word (codes "raw") ≡ false → bytes_eq word (codes "menu") ≡ false →
+    bytes_eq word (codes "drill") ≡ true → words_of words ≡ words_from 1 DrillNumber (drop 1 words)
+drill_command words word found raw menu drill = step_on 0 Start _ words word found (not_test _ _ _ raw ∙ not_test _ _ _ menu ∙ is_test _ _ _ drill)
+
+-- what a word that is none of these begins
+row_word : (word : List ℕ) → bytes_eq word (codes "raw") ≡ false → bytes_eq word (codes "menu") ≡ false → bytes_eq word (codes "drill") ≡ false →
+    next Start word ≡ option_map (λ row. Options row None none_given) (row_of word)
+row_word word raw menu drill = not_test _ _ _ raw ∙ not_test _ _ _ menu ∙ not_test _ _ _ drill
+
 pub option_command : (row : Row) (words : List (List ℕ)) (word : List ℕ) → slice_get words 0 ≡ Some word → bytes_eq word (codes "raw") ≡ false →
-    bytes_eq word (codes "menu") ≡ false → row_of word ≡ Some row → words_of words ≡ words_from 1 (Options row None none_given) (drop 1 words)
-option_command row words word found raw menu is =
-    step_on 0 Start _ words word found (not_test _ _ _ raw ∙ not_test _ _ _ menu ∙ ap (option_map (λ row. Options row None none_given)) is)
+    bytes_eq word (codes "menu") ≡ false → bytes_eq word (codes "drill") ≡ false → row_of word ≡ Some row → words_of words ≡ words_from 1 (Options row None none_given) (drop 1 words)
+option_command row words word found raw menu drill is =
+    step_on 0 Start _ words word found (row_word word raw menu drill ∙ ap (option_map (λ row. Options row None none_given)) is)
 
 pub no_command : (words : List (List ℕ)) (word : List ℕ) → slice_get words 0 ≡ Some word → bytes_eq word (codes "raw") ≡ false →
-    bytes_eq word (codes "menu") ≡ false → row_of word ≡ None → words_of words ≡ Err 0
-no_command words word found raw menu is =
-    step_bad 0 Start words word found (not_test _ _ _ raw ∙ not_test _ _ _ menu ∙ ap (option_map (λ row. Options row None none_given)) is)
+    bytes_eq word (codes "menu") ≡ false → bytes_eq word (codes "drill") ≡ false → row_of word ≡ None → words_of words ≡ Err 0
+no_command words word found raw menu drill is =
+    step_bad 0 Start words word found (row_word word raw menu drill ∙ ap (option_map (λ row. Options row None none_given)) is)
 
 -- ---- `menu`
 

@@ -7,7 +7,8 @@ use Rattle.bb_words.specs.declared.command.Action.{Action}
 use Rattle.bb_words.specs.declared.command.Action.TheVariants.{Get, Dump, DumpShell}
 use Rattle.bb_words.specs.declared.command.CauseWord.{CauseWord}
 use Rattle.bb_words.specs.declared.command.Command.{Command}
-use Rattle.bb_words.specs.declared.command.Command.TheVariants.{Raw, State, MarkGood, Boot, Menu}
+use Rattle.bb_words.specs.declared.command.Command.TheVariants.{Raw, State, MarkGood, Boot, Menu, Drill}
+use Rattle.bb_words.specs.declared.command.DrillNumbers.{DrillNumbers}
 use Rattle.bb_words.specs.declared.command.RawAction.{RawAction}
 use Rattle.bb_words.specs.declared.command.RawAction.TheVariants.{Look, Write}
 use Rattle.bb_words.specs.declared.command.RawCommand.{RawCommand}
@@ -18,7 +19,7 @@ use Rattle.bb_words.specs.declared.row.Row.{Row}
 use Rattle.bb_words.specs.declared.row.Row.TheVariants.{State as StateRow, MarkGood as MarkGoodRow, Boot as BootRow}
 use Rattle.bb_words.specs.Options.{cause_word_of, has_sign, set_in}
 use Rattle.bb_words.specs.Table.{command_name_of, has_option, has_dumps, command_of}
-use Rattle.bb_words.specs.Words.{number_up_to, area_spelt}
+use Rattle.bb_words.specs.Words.{number_up_to, area_spelt, sessions_spelt}
 
 -- ---- `raw`
 
@@ -37,6 +38,16 @@ pub record IsRaw (words : List (List ℕ)) (raw : RawCommand) : Type 0 where
   pub magic_is : number_up_to 4294967295 magic ≡ Some raw.magic
   pub len_is : number_up_to area_limit len ≡ Some raw.area_len
   pub action_is : IsAction raw.area_len raw.action action
+
+-- ---- `drill`
+
+-- what the sessions are drawn from, and how many there are
+pub record IsDrill (words : List (List ℕ)) (numbers : DrillNumbers) : Type 0 where
+  pub number : List ℕ
+  pub count : List ℕ
+  pub spelt : words ≡ number ∷ count ∷ []
+  pub number_is : number_up_to 4294967295 number ≡ Some numbers.number
+  pub count_is : sessions_spelt count ≡ Some numbers.count
 
 -- ---- commands with options
 
@@ -165,3 +176,5 @@ Spells words (State state) = IsSpelt StateRow words (State state)
 Spells words (MarkGood mark) = IsSpelt MarkGoodRow words (MarkGood mark)
 Spells words (Boot boot) = IsSpelt BootRow words (Boot boot)
 Spells words (Menu menu) = words ≡ codes "menu" ∷ codes "--dir" ∷ menu.dir ∷ []
+Spells words (Drill numbers) =
+    (rest : List (List ℕ)) × (words ≡ codes "drill" ∷ rest) × IsDrill rest numbers

@@ -8,7 +8,7 @@ use Rattle.bb_base.specs.Form.{area_limit}
 use Rattle.bb_base.specs.Number.{number_of}
 use Rattle.bb_words.specs.declared.command.Command.{Command}
 use Rattle.bb_words.specs.declared.command.Action.{Action}
-use Rattle.bb_words.specs.declared.command.Command.TheVariants.{Menu, Raw}
+use Rattle.bb_words.specs.declared.command.Command.TheVariants.{Drill, Menu, Raw}
 use Rattle.bb_words.specs.declared.command.RawAction.{RawAction}
 use Rattle.bb_words.specs.declared.command.RawAction.TheVariants.{Look, Write}
 use Rattle.bb_words.specs.declared.given.Given.{Given}
@@ -28,6 +28,17 @@ number_up_to most text =
 abbrev pub area_spelt : ℕ → List ℕ → Option (List ℕ)
 area_spelt len digits = result_ok (decode_sized digits len)
 
+-- the most sessions of a drill
+abbrev pub session_limit : ℕ
+session_limit = 1000
+
+-- the number of sessions that a text spells: at least one
+abbrev pub sessions_spelt : List ℕ → Option ℕ
+sessions_spelt text =
+    option_and_then
+    (λ n. if nat_le 1 n then Some n else None)
+    (number_up_to session_limit text)
+
 -- what the words so far are, and so which may come next
 pub data WordStage : Type 0 where
   -- no word
@@ -40,6 +51,9 @@ pub data WordStage : Type 0 where
   -- `menu`, then `--dir`
   DirOption : WordStage
   DirValue : WordStage
+  -- `drill`, then the number
+  DrillNumber : WordStage
+  DrillCount : ℕ → WordStage
   -- a command with options and some of them, with the option whose value comes next, if one does
   Options : Row → Option Valued → Given → WordStage
   -- a command to which no word can be added
@@ -48,6 +62,10 @@ pub data WordStage : Type 0 where
 -- a command `raw`
 abbrev pub raw_of : ℕ → ℕ → RawAction → Command
 raw_of magic len action = Raw (record { magic = magic; area_len = len; action = action })
+
+-- a command `drill`
+abbrev pub drill_of : ℕ → ℕ → Command
+drill_of number count = Drill (record { number = number; count = count })
 
 -- the stage after an option without a value
 abbrev pub after_dump : Row → Given → Action → Option WordStage
@@ -79,6 +97,7 @@ abbrev pub next : WordStage → List ℕ → Option WordStage
 next Start word =
     if bytes_eq word (codes "raw") then Some Magic
     else if bytes_eq word (codes "menu") then Some DirOption
+    else if bytes_eq word (codes "drill") then Some DrillNumber
     else option_map (λ row. Options row None none_given) (row_of word)
 next Magic word = option_map (λ n. Length n) (number_up_to 4294967295 word)
 next (Length magic) word = option_map (λ n. Mode magic n) (number_up_to area_limit word)
@@ -90,6 +109,9 @@ next (Area magic len) word =
     option_map (λ area. Whole (raw_of magic len (Write area))) (area_spelt len word)
 next DirOption word = if bytes_eq word (codes "--dir") then Some DirValue else None
 next DirValue word = Some (Whole (Menu (record { dir = word })))
+next DrillNumber word = option_map (λ n. DrillCount n) (number_up_to 4294967295 word)
+next (DrillCount number) word =
+    option_map (λ n. Whole (drill_of number n)) (sessions_spelt word)
 next (Options row None given) word = after_option row given word
 next (Options row (Some valued) given) word = after_value row given valued word
 next (Whole command) word = None

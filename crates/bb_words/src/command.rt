@@ -9,6 +9,7 @@ pub enum Command {
     MarkGood(MarkGoodCommand),
     Boot(BootCommand),
     Menu(MenuCommand),
+    Drill(DrillNumbers),
 }
 
 /// The state that words name, and how its file describes it.
@@ -72,6 +73,15 @@ pub struct BootCommand {
 pub struct MenuCommand {
     /// `--dir`: the folder, without a `/` at its end.
     pub dir: Text,
+}
+
+/// `drill`: sessions with cuts and decays on a board in memory, drawn from a number.
+#[derive(Clone, Copy, Debug, PartialEq, Eq)]
+pub struct DrillNumbers {
+    /// What they are drawn from.
+    pub number: u32,
+    /// How many sessions, from 1 to 1,000.
+    pub count: u16,
 }
 
 /// Why the machine starts. (barebox User Manual, Bootchooser: attempts may be reset at `power-on`

@@ -4,6 +4,7 @@
 
 mod action_list;
 mod command;
+mod drill;
 mod error;
 mod given;
 mod law;
@@ -17,8 +18,8 @@ mod word;
 
 pub use action_list::ActionList;
 pub use command::{
-    Action, BootCommand, CauseWord, Command, Described, MarkGoodCommand, MenuCommand, RawAction,
-    RawCommand, StateCommand,
+    Action, BootCommand, CauseWord, Command, Described, DrillNumbers, MarkGoodCommand, MenuCommand,
+    RawAction, RawCommand, StateCommand,
 };
 pub use error::WordsError;
 pub use law::{law_accepted_words, law_first_bad_word};

@@ -1,15 +1,15 @@
-ghost use Rattle.std.specs.Prelude.{◌≡◌, ◌≤◌, ℕ, IfOk, IfErr, IfSome, drop, length};
+ghost use Rattle.std.specs.Prelude.{◌≡◌, ℕ, IfOk, IfErr, drop, length};
 ghost use Rattle.std.specs.Prelude.{option_and_then, slice_get};
 ghost use Rattle.std.specs.Option.{ok_or};
 ghost use Rattle.bb_words.specs.Answer.{IsSizedFor, IsSizedRaw, Refuses};
 ghost use Rattle.bb_words.specs.declared.command.Command.{Command};
 ghost use Rattle.bb_words.specs.declared.command.Command.TheVariants.{Raw};
-ghost use Rattle.bb_words.specs.Words.{Magic, Mode, raw_of, number_up_to, area_spelt};
+ghost use Rattle.bb_words.specs.Words.{Magic, Mode, raw_of, area_spelt};
 ghost use Rattle.bb_words.specs.Words.{words_from};
 
-use crate::word::{ends_at, word_at};
+use crate::word::{ends_at, number_at, word_at};
 use crate::{RawAction, RawCommand, WordsError};
-use bb_base::{AREA_LIMIT, Bytes, TextList, read_number};
+use bb_base::{AREA_LIMIT, Bytes, TextList};
 use hex::FromHexError;
 use std::alloc::Global;
 
@@ -48,27 +48,6 @@ fn read_action(alloc: Global, words: &TextList, len: u32) -> Result<RawAction, W
         return Ok(RawAction::Write(area));
     }
     Err(WordsError::BadWord(3))
-}
-
-// The number at this place, up to a greatest one.
-fn number_at(words: &TextList, place: usize, most: u32) -> Result<u32, WordsError>
-    ensures ok { IfOk result (λ n.
-        option_and_then (number_up_to most) (slice_get words.now place) ≡ Some n) }
-    ensures bound { IfOk result (λ n. n ≤ most) }
-    ensures refused { IfErr result (λ cause. (cause ≡ WordsError.BadWord place)
-        × (option_and_then (number_up_to most) (slice_get words.now place) ≡ None)) }
-{
-    words
-        .get(place)
-        .and_then(|word| number_up_to(most, word.as_str()))
-        .ok_or(WordsError::BadWord(place))
-}
-
-fn number_up_to(most: u32, text: &str) -> Option<u32>
-    ensures value { result ≡ number_up_to most text.now }
-    ensures bound { IfSome result (λ n. n ≤ most) }
-{
-    read_number(text.as_bytes()).ok().filter(|n| *n <= most)
 }
 
 // The area that the digits at this place spell, of so many bytes.

@@ -2,6 +2,7 @@ ghost use Rattle.std.specs.Prelude.{◌≡◌, IfOk, IfErr};
 ghost use Rattle.bb_words.specs.Answer.{IsSized, Refuses};
 ghost use Rattle.bb_words.specs.Words.{words_of};
 
+use crate::drill::read_drill;
 use crate::menu::read_menu;
 use crate::options::read_options;
 use crate::raw::read_raw;
@@ -24,6 +25,9 @@ pub fn read_words(alloc: Global, words: &TextList) -> Result<Command, WordsError
     }
     if name == "menu" {
         return Ok(Command::Menu(read_menu(alloc, words)?));
+    }
+    if name == "drill" {
+        return Ok(Command::Drill(read_drill(words)?));
     }
     match Row::of(name) {
         Some(row) => read_options(alloc, row, words),

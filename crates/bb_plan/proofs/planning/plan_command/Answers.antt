@@ -1,8 +1,9 @@
-use Rattle.std.proofs.Common.{sym, subst}
-use Rattle.bb_plan.specs.Plan.{boot_reading, command_reading, mark_reading, plan_as, raw_plan, state_reading, task_as}
+use Rattle.std.proofs.Common.{Ok, refl, sym, subst}
+use Rattle.bb_plan.specs.Plan.{Drills, boot_reading, command_reading, mark_reading, plan_as, raw_plan, state_reading, task_as}
 use Rattle.bb_plan.specs.FilesRead.{IsReadAs, menu_reading, reading_of}
 use Rattle.bb_plan.proofs.Planned.{copied, printed, printed_for}
-use Rattle.bb_plan.proofs.Readings.{step}
+use Rattle.bb_plan.proofs.Readings.{step, yielded}
+use Rattle.bb_plan.specs.declared.plan.PlannedTask.TheVariants as tasks
 use Rattle.bb_plan.proofs.planning.plan_command.Goals as goal
 
 pub returns-in-Raw-clause-read : goal.returns-in-Raw-clause-read
@@ -47,3 +48,9 @@ returns-in-Menu-clause-read g c =
 
 pub returns-in-Menu-clause-planned : goal.returns-in-Menu-clause-planned
 returns-in-Menu-clause-planned g c = printed_for c.args.geometry c.read_menu.result c.prints.result c.prints.ensures
+
+pub returns-in-Drill-clause-read : goal.returns-in-Drill-clause-read
+returns-in-Drill-clause-read g c =
+    let folder = g.N.Files.folder c.args.files.now in
+    subst (λ w. IsReadAs (command_reading w c.args.geometry) task_as folder folder (Ok (tasks.Drills c.in-Drill.numbers))) (sym c.in-Drill.is)
+    (yielded task_as folder (tasks.Drills c.in-Drill.numbers) (Drills c.in-Drill.numbers) refl)
