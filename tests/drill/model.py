@@ -1,12 +1,14 @@
 """What docs/FORMATS.md says of drills, worked out apart from the program:
 
-model.py drawn NUMBER N  how many cuts, decays and boots are drawn
-model.py early END       each number below END whose first session is drawn with a cut in one of its
-                         first three flash calls, the reads of its load
-model.py lost END        the first number below END that draws a boot and a look, both without a
-                         cut, with a decay after the boot alone; and the line of these two sessions
-model.py uncut N COUNT   the first COUNT numbers whose N sessions are drawn without a cut, each with
-                         the line of its drill"""
+model.py fits NUMBER N LINE  what is wrong with the line of a drill: nothing is printed where it fits
+                             what is drawn
+model.py early END           each number below END whose first session is drawn with a cut in one of
+                             its first three flash calls, the reads of its load
+model.py lost END            the first number below END that draws a boot and a look, both without a
+                             cut, with a decay after the boot alone, and the line of this drill
+model.py uncut N COUNT       the first COUNT numbers whose N sessions are drawn without a cut, each
+                             with the line of its drill"""
+import re
 import sys
 from collections import namedtuple
 
@@ -35,11 +37,33 @@ class Draws:
         return (self.session() for _ in range(count))
 
 
-def drawn(number, count):
+LINE = re.compile(' '.join(f'{name} (0|[1-9][0-9]*)' for name in (
+    'sessions', 'cuts', 'decays', 'programs', 'erases', 'starts', 'wrong')))
+
+
+def faults(number, count, line):
+    """What is wrong with the line of a drill. A boot that starts a target has saved into three
+    copies, and a block that was erased is written next, unless a cut comes between."""
+    found = LINE.fullmatch(line)
+    if not found:
+        return ['it has another form']
+    ran, cuts, decays, programs, erases, starts, wrong = map(int, found.groups())
     sessions = list(Draws(number).sessions(count))
-    return (sum(one.cut is not None for one in sessions),
-            sum(one.decay is not None for one in sessions),
-            sum(one.command == BOOT for one in sessions))
+    drawn_cuts = sum(one.cut is not None for one in sessions)
+    drawn_decays = sum(one.decay is not None for one in sessions)
+    boots = sum(one.command == BOOT for one in sessions)
+    facts = {
+        f'{count} sessions are due': ran == count,
+        'a table is wrong': wrong == 0,
+        f'{drawn_cuts} cuts are drawn': cuts <= drawn_cuts,
+        f'{drawn_decays} decays are drawn': decays <= drawn_decays,
+        f'{boots} boots are drawn': starts <= boots,
+        'starts have too few programs': 3 * starts <= programs,
+        'erases have too few programs': erases <= programs + cuts,
+    }
+    if not drawn_cuts:
+        facts['it is to be ' + line_of(sessions)] = line == line_of(sessions)
+    return [says for says, holds in facts.items() if not holds]
 
 
 Table = namedtuple('Table', 'attempts priorities last_chosen')
@@ -151,12 +175,15 @@ def uncut(count, numbers):
         number += 1
 
 
+def fits(number, count, line):
+    for says in faults(number, count, line):
+        print(f'  drill {number} {count} sends {line!r}: {says}')
+
+
 def main():
-    what, *numbers = sys.argv[1], *map(int, sys.argv[2:])
-    if what == 'drawn':
-        print(*drawn(*numbers))
-    else:
-        {'early': early, 'lost': lost, 'uncut': uncut}[what](*numbers)
+    what, words = sys.argv[1], sys.argv[2:]
+    numbers = map(int, words[:2])
+    {'fits': fits, 'early': early, 'lost': lost, 'uncut': uncut}[what](*numbers, *words[2:])
 
 
 if __name__ == '__main__':
