@@ -67,6 +67,10 @@ class Command:
             self.fit(2, lambda word: word == '--dir')
             self.dir = self.fit(3, lambda word: True)
             self.end(3)
+        elif self.name == 'drill':
+            self.number = number(self.fit(2, is_number))
+            self.count = number(self.fit(3, lambda word: is_number(word) and 0 < number(word) <= 1000))
+            self.end(3)
         else:
             raise Bad(1)
 
