@@ -52,6 +52,14 @@ class Call:
             return False
         return not self.stopped
 
+    def drill_sessions(self):
+        """How many sessions a drill of these words runs, 0 for other words."""
+        try:
+            command = Command(self.words)
+        except Bad:
+            return 0
+        return command.count if command.name == 'drill' else 0
+
 
 class Command:
     """A command's words. Raises Bad."""
