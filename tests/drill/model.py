@@ -1,7 +1,7 @@
 """What docs/FORMATS.md says of drills, worked out apart from the program:
 
-model.py fits NUMBER N LINE  what is wrong with the line of a drill: nothing is printed where it fits
-                             what is drawn
+model.py line NUMBER N       the line of a drill
+model.py fits NUMBER N LINE  what is wrong with that line: nothing is printed where it fits
 model.py early END           each number below END whose first session is drawn with a cut in one of
                              its first three flash calls, the reads of its load
 model.py lost END            the first number below END that draws a boot and a look, both without a
@@ -42,8 +42,9 @@ LINE = re.compile(' '.join(f'{name} (0|[1-9][0-9]*)' for name in (
 
 
 def faults(number, count, line):
-    """What is wrong with the line of a drill. A boot that starts a target has saved into three
-    copies, and a block that was erased is written next, unless a cut comes between."""
+    """What is wrong with the line of a drill: with what follows from its draws alone, and then
+    with what the board below has. A boot that starts a target has saved into three copies, and a
+    block that was erased is written next, unless a cut comes between."""
     found = LINE.fullmatch(line)
     if not found:
         return ['it has another form']
@@ -61,55 +62,122 @@ def faults(number, count, line):
         'starts have too few programs': 3 * starts <= programs,
         'erases have too few programs': erases <= programs + cuts,
     }
-    if not drawn_cuts:
-        facts['it is to be ' + line_of(sessions)] = line == line_of(sessions)
+    facts['it is to be ' + line_of(sessions)] = line == line_of(sessions)
     return [says for says, holds in facts.items() if not holds]
 
 
 Table = namedtuple('Table', 'attempts priorities last_chosen')
 DEFAULTS = Table((3, 3), (20, 10), 0)
-PAGES = 4
+COPIES, PAGES = range(3), 4
+# What a page holds that isn't the log entry of a table.
+ERASED, OTHER = 'erased', 'other'
+# What a cut leaves of what its call was to write.
+OLD, HALF, JUNK, LOST = range(4)
+
+
+class Cut(Exception):
+    """The power went in a flash call."""
 
 
 class Board:
-    """A board on which nothing is cut. `tables` has what each copy passes, None for nothing, and
-    `used` how many pages of each log no longer are erased."""
+    """The board of a drill: what each page of each copy's log holds, and which pages are Lost."""
 
     def __init__(self):
-        self.tables, self.used = [None] * 3, [0] * 3
-        self.decays = self.programs = self.erases = self.starts = 0
+        self.pages = [[ERASED] * PAGES for _ in COPIES]
+        self.lost = [[False] * PAGES for _ in COPIES]
+        self.cuts = self.decays = self.programs = self.erases = self.starts = self.wrong = 0
+        self.allowed, self.cut, self.calls = [DEFAULTS], None, 0
+
+    def end(self, copy):
+        """How many pages there are up to the last one that isn't erased."""
+        return max((place + 1 for place in range(PAGES)
+                    if self.lost[copy][place] or self.pages[copy][place] != ERASED), default=0)
+
+    def passing(self, copy):
+        """The table that a copy passes, None for none."""
+        last = self.end(copy) - 1
+        is_entry = last >= 0 and not self.lost[copy][last] and self.pages[copy][last] != OTHER
+        return self.pages[copy][last] if is_entry else None
+
+    def passing_first(self):
+        return next((table for table in map(self.passing, COPIES) if table is not None), None)
+
+    # Flash calls.
+
+    def call(self, tear=None):
+        """One flash call. Where it is cut it leaves what `tear` makes of the cut's filling."""
+        self.calls += 1
+        if self.cut is not None and self.calls == self.cut[0] + 1:
+            if tear:
+                tear(self.cut[1])
+            raise Cut
+
+    def read(self, copy):
+        """Reads the pages from the last one on, up to one that isn't erased, and then a record."""
+        for _ in range(PAGES + 1 - max(self.end(copy), 1)):
+            self.call()
+        if self.passing(copy) is not None:
+            self.call()
+
+    def put(self, copy, first, new, half):
+        """A call that writes these pages from one on, or half of them."""
+        place, count = slice(first, first + len(new)), len(new)
+
+        def tear(filling):
+            if filling == LOST:
+                self.lost[copy][place] = [True] * count
+            elif filling != OLD:
+                self.lost[copy][place] = [False] * count
+                self.pages[copy][place] = half if filling == HALF else [OTHER] * count
+
+        self.call(tear)
+        self.lost[copy][place], self.pages[copy][place] = [False] * count, new
 
     def write(self, copy, table):
-        if self.used[copy] == PAGES:
+        if self.end(copy) == PAGES:
+            blank = [ERASED] * PAGES
+            self.put(copy, 0, blank, blank[:PAGES // 2] + self.pages[copy][PAGES // 2:])
             self.erases += 1
-            self.used[copy] = 0
+        self.put(copy, self.end(copy), [table], [OTHER])
         self.programs += 1
-        self.used[copy] += 1
-        self.tables[copy] = table
 
-    def load(self):
-        found = [table for table in self.tables if table is not None]
-        if not found:
-            return DEFAULTS
-        for copy in range(3):
-            if self.tables[copy] != found[0]:
-                self.write(copy, found[0])
-        return found[0]
+    # Sessions.
 
     def run(self, session):
-        loaded = self.load()
-        made = made_of(session, loaded)
-        if made != loaded:
-            for copy in range(3):
-                self.write(copy, made)
-            self.starts += session.command == BOOT
+        given = self.passing_first() or DEFAULTS
+        self.wrong += given not in self.allowed
+        made = made_of(session, given)
+        self.cut, self.calls = session.cut, 0
+        try:
+            for copy in COPIES:
+                self.read(copy)
+        except Cut:
+            self.cuts += 1
+        else:
+            self.settle(session, given, made)
         if session.decay is not None:
             self.decay(session.decay)
 
+    def settle(self, session, given, made):
+        """Repairs the copies, saves, and starts."""
+        try:
+            is_there = self.passing_first() is not None
+            for copy in COPIES if is_there else []:
+                if self.passing(copy) != given:
+                    self.write(copy, given)
+            if made != given:
+                for copy in (1, 2, 0) if is_there else COPIES:
+                    self.write(copy, made)
+                self.starts += session.command == BOOT
+            self.allowed = [made]
+        except Cut:
+            self.cuts += 1
+            self.allowed = self.allowed + [made]
+
     def decay(self, copy):
-        if any(self.tables[other] is not None for other in range(3) if other != copy):
+        if any(self.passing(other) is not None for other in COPIES if other != copy):
             self.decays += 1
-            self.tables[copy], self.used[copy] = None, PAGES
+            self.lost[copy] = [True] * PAGES
 
 
 def made_of(session, table):
@@ -136,12 +204,13 @@ def with_attempts(table, target, count):
 
 
 def line_of(sessions):
-    """The line of a drill whose sessions are drawn without a cut."""
+    """The line of a drill."""
     board = Board()
     for session in sessions:
         board.run(session)
-    return (f'sessions {len(sessions)} cuts 0 decays {board.decays} programs {board.programs} '
-            f'erases {board.erases} starts {board.starts} wrong 0')
+    return (f'sessions {len(sessions)} cuts {board.cuts} decays {board.decays} '
+            f'programs {board.programs} erases {board.erases} starts {board.starts} '
+            f'wrong {board.wrong}')
 
 
 def early(end):
@@ -175,6 +244,10 @@ def uncut(count, numbers):
         number += 1
 
 
+def whole(number, count):
+    print(line_of(list(Draws(number).sessions(count))))
+
+
 def fits(number, count, line):
     for says in faults(number, count, line):
         print(f'  drill {number} {count} sends {line!r}: {says}')
@@ -183,7 +256,7 @@ def fits(number, count, line):
 def main():
     what, words = sys.argv[1], sys.argv[2:]
     numbers = map(int, words[:2])
-    {'fits': fits, 'early': early, 'lost': lost, 'uncut': uncut}[what](*numbers, *words[2:])
+    {'line': whole, 'fits': fits, 'early': early, 'lost': lost, 'uncut': uncut}[what](*numbers, *words[2:])
 
 
 if __name__ == '__main__':
