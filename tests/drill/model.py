@@ -186,7 +186,7 @@ def made_of(session, table):
     if session.command == SET:
         return table._replace(priorities=(table.priorities[0], session.value))
     if session.command == BOOT:
-        best = [target for target in range(2) if table.priorities[target] and table.attempts[target]]
+        best = [place for place in range(2) if table.priorities[place] and table.attempts[place]]
         if not best:
             return table
         target = max(best, key=lambda one: (table.priorities[one], -one))
@@ -225,7 +225,8 @@ def lost(end):
         first, second = sessions = list(Draws(number).sessions(2))
         is_whole = first.cut is None and second.cut is None
         commands = first.command, second.command
-        if is_whole and commands == (BOOT, LOOK) and first.decay is not None and second.decay is None:
+        decays = first.decay is not None, second.decay is not None
+        if is_whole and commands == (BOOT, LOOK) and decays == (True, False):
             print(number, line_of(sessions))
             return
 
@@ -255,8 +256,8 @@ def fits(number, count, line):
 
 def main():
     what, words = sys.argv[1], sys.argv[2:]
-    numbers = map(int, words[:2])
-    {'line': whole, 'fits': fits, 'early': early, 'lost': lost, 'uncut': uncut}[what](*numbers, *words[2:])
+    asked = {'line': whole, 'fits': fits, 'early': early, 'lost': lost, 'uncut': uncut}
+    asked[what](*map(int, words[:2]), *words[2:])
 
 
 if __name__ == '__main__':

@@ -47,7 +47,8 @@ class Maker:
 
     def make(self):
         dice, run = self.dice, self.run
-        dice.pick([self.case] * 6 + [self.board] * 10 + [self.raw] * 3 + [self.menu] * 2 + [self.drill])()
+        few = [self.raw] * 3 + [self.menu] * 2 + [self.drill]
+        dice.pick([self.case] * 6 + [self.board] * 10 + few)()
         if dice.once_in(60):
             self.big()
         ways = [self.hurt_file] * 10 + [self.hurt_words] * 3 + [self.hurt_bytes] * 6

@@ -6,6 +6,7 @@ from values import geometry_of, is_number, is_utf8, number
 
 LONG = {'--input': '-i', '--name': '-n', '--get': '-g', '--set': '-s'}
 ONCE = {'state': 'ink', 'mark-good': 'inkc', 'boot': 'inkc'}
+SESSIONS = range(1, 1001)
 TARGET = re.compile(r'[A-Za-z0-9_-]+')
 GENERAL = ('targets', 'state_prefix', 'default_attempts', 'default_priority', 'reset_attempts',
            'reset_priorities', 'retry', 'disable_on_zero_attempts')
@@ -77,7 +78,7 @@ class Command:
             self.end(3)
         elif self.name == 'drill':
             self.number = number(self.fit(2, is_number))
-            self.count = number(self.fit(3, lambda word: is_number(word) and 0 < number(word) <= 1000))
+            self.count = number(self.fit(3, lambda word: is_number(word) and number(word) in SESSIONS))
             self.end(3)
         else:
             raise Bad(1)
