@@ -78,7 +78,7 @@ class Command:
             self.end(3)
         elif self.name == 'drill':
             self.number = number(self.fit(2, is_number))
-            self.count = number(self.fit(3, lambda word: is_number(word) and number(word) in SESSIONS))
+            self.count = number(self.fit(3, lambda word: number(word) in SESSIONS))
             self.end(3)
         else:
             raise Bad(1)
