@@ -1,6 +1,6 @@
 """What docs/FORMATS.md says of drills, worked out apart from the program:
 
-model.py line NUMBER N       the line of a drill
+model.py lines N NUMBER ..   each number with the line of its drill of N sessions
 model.py fits NUMBER N LINE  what is wrong with that line: nothing is printed where it fits
 model.py early END           each number below END whose first session is drawn with a cut in one of
                              its first three flash calls, the reads of its load
@@ -245,8 +245,9 @@ def uncut(count, numbers):
         number += 1
 
 
-def whole(number, count):
-    print(line_of(list(Draws(number).sessions(count))))
+def lines(count, *numbers):
+    for number in numbers:
+        print(number, line_of(list(Draws(number).sessions(count))))
 
 
 def fits(number, count, line):
@@ -256,8 +257,8 @@ def fits(number, count, line):
 
 def main():
     what, words = sys.argv[1], sys.argv[2:]
-    asked = {'line': whole, 'fits': fits, 'early': early, 'lost': lost, 'uncut': uncut}
-    asked[what](*map(int, words[:2]), *words[2:])
+    asked = {'lines': lines, 'fits': fits, 'early': early, 'lost': lost, 'uncut': uncut}
+    asked[what](*[int(word) if word.isdecimal() else word for word in words])
 
 
 if __name__ == '__main__':
