@@ -56,7 +56,7 @@ class Foreseen:
             self.foresee_raw()
         elif self.command.name == 'menu':
             self.menu = self.read_menu(self.command.dir, self.command.dir)
-        else:
+        elif self.command.name != 'drill':
             self.foresee_state()
 
     def open_device(self):

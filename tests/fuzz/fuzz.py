@@ -16,7 +16,7 @@ from words import Call
 
 # The findings of which the files are kept.
 KEPT = 40
-COMMANDS = ('raw', 'state', 'mark-good', 'boot', 'menu')
+COMMANDS = ('raw', 'state', 'mark-good', 'boot', 'menu', 'drill')
 PLAIN = set(b'abcdefghijklmnopqrstuvwxyzABCDEFGHIJKLMNOPQRSTUVWXYZ0123456789_./:=,@%+-')
 
 

@@ -1,10 +1,15 @@
 """Says what is wrong with what a run of the program left, beside what is wanted of it."""
+import os
 import re
+import sys
 
 from device import Strides, Table, Targets, passing
 from folder import content
 from foresee import Foreseen
 from words import Call
+
+sys.path.append(os.path.join(os.path.dirname(os.path.abspath(__file__)), '..', 'drill'))
+from model import faults
 
 # Each fault line, where no more is known of it than its form.
 FAULTS = {
@@ -39,6 +44,8 @@ DONE = {
     'version': rb'bbx [0-9.]+\n',
 }
 STATUSES = {0, 14, *FAULTS}
+# What stands for any line of a drill that fits what is drawn.
+COUNTS = b'a line of counts'
 
 
 class Got:
@@ -82,6 +89,8 @@ class Wanted:
             self.answers = [(0, b''.join(lines))]
         elif foreseen.sure and command and command.name == 'raw':
             self.want_raw(command)
+        elif foreseen.sure and command and command.name == 'drill':
+            self.answers = [(0, COUNTS)]
         elif foreseen.sure and command:
             self.want_state(command)
 
@@ -148,7 +157,10 @@ def judge_answer(run, wanted, got):
 
 
 def same_text(wanted, text, other):
-    """A menu's order isn't looked at."""
+    """A menu's order isn't looked at. The line of a drill has to fit what is drawn."""
+    if other == COUNTS:
+        command, line = wanted.foreseen.command, text.decode(errors='replace')
+        return line.endswith('\n') and not faults(command.number, command.count, line[:-1])
     if wanted.foreseen.menu is None:
         return text == other
     return sorted(text.split(b'\n')) == sorted(other.split(b'\n'))

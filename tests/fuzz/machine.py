@@ -14,8 +14,8 @@ def memory_limit(length):
     return (32 << 20) + 100 * length
 
 
-def seconds_limit(length, device):
-    return 1 + 3e-6 * length + 1e-7 * device
+def seconds_limit(length, device, sessions):
+    return 1 + 3e-6 * length + 1e-7 * device + 3e-3 * sessions
 
 
 class Machine:
@@ -56,7 +56,8 @@ class Machine:
         files = sum(len(text) for text in run.files.values() if text is not FOLDER)
         length = sum(map(len, words)) + files
         device = len(run.bytes or b'') + (call.geometry[2] if call.geometry else 0)
-        memory, seconds = run.starved or memory_limit(length), seconds_limit(length, device)
+        memory = run.starved or memory_limit(length)
+        seconds = seconds_limit(length, device, call.drill_sessions())
         status, used = self.spawn(words, run.output, memory, seconds)
         got = Got()
         got.text, got.errors = [os.pread(file, os.fstat(file).st_size, 0) for file in self.outputs]

@@ -47,7 +47,8 @@ class Maker:
 
     def make(self):
         dice, run = self.dice, self.run
-        dice.pick([self.case] * 6 + [self.board] * 10 + [self.raw] * 3 + [self.menu] * 2)()
+        few = [self.raw] * 3 + [self.menu] * 2 + [self.drill]
+        dice.pick([self.case] * 6 + [self.board] * 10 + few)()
         if dice.once_in(60):
             self.big()
         ways = [self.hurt_file] * 10 + [self.hurt_words] * 3 + [self.hurt_bytes] * 6
@@ -177,6 +178,15 @@ class Maker:
         if dice.once_in(20):
             size = dice.pick([9, 65536, 65537, LONGEST_FILE + 1])
             run.files[b'm/' + dice.pick([b'\xff.conf', b'\xc3x', b'long.conf'])] = b'#' * size
+
+    def drill(self):
+        """Sessions on a board in memory, beside any device."""
+        dice, run = self.dice, self.run
+        run.geometry = b'ov:%d' % dice.pick([1, 192, 4096])
+        number = dice.pick([dice.below(1000), dice.below(1 << 32)])
+        run.words = [b'drill', dice.pick([b'%d', b'0x%x']) % number, b'%d' % dice.among(1, 40)]
+        if dice.once_in(2):
+            run.bytes = dice.pick(self.corpus.devices)
 
     def raw(self):
         """A raw record in three strides."""

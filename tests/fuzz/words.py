@@ -6,6 +6,7 @@ from values import geometry_of, is_number, is_utf8, number
 
 LONG = {'--input': '-i', '--name': '-n', '--get': '-g', '--set': '-s'}
 ONCE = {'state': 'ink', 'mark-good': 'inkc', 'boot': 'inkc'}
+SESSIONS = range(1, 1001)
 TARGET = re.compile(r'[A-Za-z0-9_-]+')
 GENERAL = ('targets', 'state_prefix', 'default_attempts', 'default_priority', 'reset_attempts',
            'reset_priorities', 'retry', 'disable_on_zero_attempts')
@@ -52,6 +53,14 @@ class Call:
             return False
         return not self.stopped
 
+    def drill_sessions(self):
+        """How many sessions a drill of these words runs, 0 for other words."""
+        try:
+            command = Command(self.words)
+        except Bad:
+            return 0
+        return command.count if command.name == 'drill' else 0
+
 
 class Command:
     """A command's words. Raises Bad."""
@@ -66,6 +75,10 @@ class Command:
         elif self.name == 'menu':
             self.fit(2, lambda word: word == '--dir')
             self.dir = self.fit(3, lambda word: True)
+            self.end(3)
+        elif self.name == 'drill':
+            self.number = number(self.fit(2, is_number))
+            self.count = number(self.fit(3, lambda word: number(word) in SESSIONS))
             self.end(3)
         else:
             raise Bad(1)

@@ -59,6 +59,11 @@ COMMAND
                        place. The first is the one that starts a target whose setting names the
                        folder. The device is opened, and nothing of it is read.
      --dir DIR         the folder. An empty word is the folder `/`.
+  drill NUMBER N       tries this program: runs N sessions, 1 to 1000, on a board in memory.
+                       Their commands, cuts of power and decay are drawn from NUMBER. Prints one
+                       line of counts. The last, `wrong`, is of loads that gave neither the last
+                       acknowledged table nor a later one, and is to be 0. The device is opened,
+                       and nothing of it is read.
 
 Numbers are decimal, or hexadecimal after 0x.
 
