@@ -1,5 +1,5 @@
--- The work of a session on a table that was just loaded: the state that it starts from, what it made
--- of the device, and what it gave.
+-- The work of a session on a table that was just loaded: the state that it starts from, what it
+-- made of the device, and what it gave.
 use Rattle.std.specs.Prelude.{◌≡◌, ◌⊎◌, ℕ, Bool, true, false, List, Option, Some, None, Result, Ok, Err}
 use Rattle.std.specs.Str.{bytes_eq}
 use Rattle.bb_flash.specs.Device.{Device}
