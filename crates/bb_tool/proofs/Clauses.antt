@@ -5,7 +5,7 @@ use Rattle.bb_tool.specs.Clauses.{EndsEarly, KeepsTheCopies, KnowsItsCauses, Lea
 use Rattle.bb_tool.specs.Ran.{Ran}
 use Rattle.bb_plan.specs.declared.status.Status.TheVariants as statuses
 use Rattle.bb_tool.proofs.Endings.{at_exit, bad_words_of, beside, comes_alone, comes_planned, copy_of_fault, file_fault_of, front_of, no_memory_of, on_a_trail, read_fault_of, sink_fault_of, sink_faults_of, unasked_of, write_fault_of}
-use Rattle.bb_tool.proofs.Early.{early_memory_of, early_of, file_faults_of}
+use Rattle.bb_tool.proofs.Early.{early_memory_of, early_of, file_faults_of, early_done_of, unplanned_alone_of, unplanned_of}
 use Rattle.bb_tool.proofs.Undisturbed.{called_of, erased_of}
 use Rattle.bb_tool.proofs.Undisturbed.{alike_of, written_of}
 use Rattle.bb_tool.proofs.Undisturbed.{unread_of, write_faults_of}
@@ -27,6 +27,8 @@ leaves ran session files unread later = record {
   unread = unread;
   later = later;
   unasked = unasked_of ran session;
+  unplanned = unplanned_of ran session;
+  unplanned_alone = unplanned_alone_of ran session;
 }
 
 pub keeps : (ran : Ran) → IsSession ran → KeepsTheCopies ran
@@ -51,6 +53,7 @@ ends_early ran session files = record {
   early = early_of ran session;
   file_faults = file_faults_of ran session files;
   early_memory = early_memory_of ran session;
+  early_done = early_done_of ran session;
 }
 
 pub starts : (ran : Ran) → IsSession ran → StartsTheBest ran

@@ -1,10 +1,12 @@
 -- Sessions that end early: a file that met a fault, and refused memory.
 use Rattle.std.proofs.Common.{◌≡◌, ◌⊎◌, true, false, Option, None, Some, Result, Ok, Err, IsErr, refl, sym, ap, subst, ◌∙◌, inl, inr}
 use Rattle.bb_flash.specs.Device.{Device}
-use Rattle.bb_tool.specs.Calls.{CountsFileFaults, IsSession, KeepsFiles, MayAnswer, geometry_of}
+use Rattle.bb_tool.specs.Calls.{CountsFileFaults, IsSession, KeepsFiles, MayAnswer, geometry_of, EndsDoneAlone, LeavesUnplanned, LeavesUnplannedAlone, session_plan_for}
+use Rattle.bb_base.specs.Folder.{FileMap}
 use Rattle.bb_tool.specs.Copying.{StopsAtFileFault, StopsBetweenSaves}
+use Rattle.bb_tool.specs.Drilling.{IsDrilled}
 use Rattle.bb_tool.specs.SessionAnswer.{IsFollowed}
-use Rattle.bb_plan.specs.Plan.{EarlyEnd, SessionPlan, plan_by_words, plan_reading, Task, planned}
+use Rattle.bb_plan.specs.Plan.{EarlyEnd, SessionPlan, plan_by_words, plan_reading, Task, planned, Drilled, IsRefusedWith, Printed, Refused, names_file, plan_over_files, Drills, OnCopies, Prints}
 use Rattle.bb_tool.specs.Ran.{Ran}
 use Rattle.bb_session.specs.Session.{Answers, Session, ended_status, session_by, work_session}
 use Rattle.bb_plan.specs.Refusal.{status_of}
@@ -12,10 +14,12 @@ use Rattle.bb_plan.specs.Refusal.{takes_memory}
 use Rattle.bb_session.specs.Work.{SendsByMemory}
 use Rattle.bb_plan.specs.declared.refusal.Refusal.{Refusal}
 use Rattle.bb_plan.specs.declared.refusal.Refusal.TheVariants as refusals
-use Rattle.bb_tool.proofs.Endings.{no_memory_of, unasked_by}
+use Rattle.bb_tool.proofs.Endings.{no_memory_of, unasked_by, comes_always, drill_done}
 use Rattle.bb_tool.proofs.Told.{told_cases}
 use Rattle.bb_plan.proofs.Readings.{EndsAtFault, one_fault}
 use Rattle.bb_plan.specs.declared.status.Status.TheVariants as statuses
+use Rattle.bb_plan.specs.declared.status.Status.{Status}
+use Rattle.bb_plan.proofs.Plans.{alone_plan, same_plan}
 use Rattle.bb_session.proofs.Barred.{HasNoFault, done_whole, is_device_fault, refused_whole}
 use Rattle.bb_session.proofs.Unrefused.{AllMade, work_made}
 
@@ -64,6 +68,60 @@ file_faults_of ran (inr memory) files = elim files [
     ],
   )
 ]
+
+-- ---- a plan without a layout
+
+-- whatever was answered: no call of the device was made
+unplanned_by : (ran : Ran) → IsSession ran → ((answers : Answers) → MayAnswer ran answers → IsErr (session_plan_for ran answers)) →
+    ran.after.device ≡ ran.before.device
+unplanned_by ran (inl ending) ends =
+    unasked_by (session_plan_for ran ending.answers) ran.before.device ran.after.device ending.answers ending.answered.followed
+    (ends ending.answers ending.answered)
+unplanned_by ran (inr memory) ends = elim (memory.work) [
+  | inl same ↦ same
+  | inr text ↦
+      unasked_by (session_plan_for ran text.answers) ran.before.device ran.after.device text.answers text.answered.followed
+      (ends text.answers text.answered)
+]
+
+refused_err : (answer : Status) (plan : Result SessionPlan EarlyEnd) → IsRefusedWith answer plan → IsErr plan
+refused_err answer (Ok plan) refused = absurd refused
+refused_err answer (Err end) refused = refl
+
+pub unplanned_of : (ran : Ran) → IsSession ran → LeavesUnplanned ran
+unplanned_of ran session = λ files told ended.
+    unplanned_by ran session (λ answers answered.
+    elim (same_plan ran.words (geometry_of ran) ran.before.folder ran.after.folder answers.files answered.filed files told) [
+      | inl same ↦ subst IsErr (sym same) ended
+      | inr odd ↦ elim odd [
+        | inl fault ↦ refused_err statuses.FileFault (session_plan_for ran answers) fault
+        | inr memory ↦ subst IsErr (sym memory) refl
+      ]
+    ])
+
+alone_ended : (ran : Ran) (answers : Answers) (files : FileMap) → names_file ran.words (geometry_of ran) ≡ false →
+    IsErr (plan_over_files ran.words (geometry_of ran) files) → IsErr (session_plan_for ran answers)
+alone_ended ran answers files none ended =
+    subst IsErr (sym (alone_plan ran.words (geometry_of ran) answers.files files none)) ended
+
+pub unplanned_alone_of : (ran : Ran) → IsSession ran → LeavesUnplannedAlone ran
+unplanned_alone_of ran session = λ none files ended.
+    unplanned_by ran session (λ answers answered. alone_ended ran answers files none ended)
+
+-- and the session is done, unless it is refused
+done_by : (plan : Result SessionPlan EarlyEnd) (answers : Answers) → IsErr plan → IsDrilled plan answers.drill →
+    ((answer : Status) → IsRefusedWith answer plan → ⊥) → ended_status (session_by plan answers) ≡ statuses.Done
+done_by (Ok plan) answers ended drilled whole = absurd cc
+done_by (Err (Printed text)) answers ended drilled whole = refl
+done_by (Err (Drilled numbers)) answers ended drilled whole = drill_done numbers answers.drill drilled
+done_by (Err (Refused refusal)) answers ended drilled whole = absurd (whole (status_of refusal) refl)
+
+pub early_done_of : (ran : Ran) → IsSession ran → EndsDoneAlone ran
+early_done_of ran session = λ none files ended whole.
+    comes_always ran statuses.Done session (λ answers answered.
+    done_by (session_plan_for ran answers) answers (alone_ended ran answers files none ended) answered.drilled
+    (subst (λ (p : Result SessionPlan EarlyEnd). (answer : Status) → IsRefusedWith answer p → ⊥)
+    (sym (alone_plan ran.words (geometry_of ran) answers.files files none)) whole))
 
 -- ---- refused memory
 

@@ -11,7 +11,10 @@ use Rattle.bb_state.specs.Keyed.{Keyed}
 use Rattle.bb_words.specs.Words.{words_of}
 use Rattle.bb_words.specs.declared.command.Command.{Command}
 use Rattle.bb_tool.specs.Calls.{ComesByDevice, ComesByFiles, ComesBySink, ComesByPlan, ComesByPlanAlone, ComesByReads, ComesByWords, CountsSinkFaults, IsAnswered, IsSession, IsWithoutMemory, MayAnswer, NamesACopy, SendsSessionFront, SendsText, geometry_of, plan_over, session_for}
-use Rattle.bb_plan.specs.Plan.{EarlyEnd, Printed, Refused, planned, IsRefusedWith}
+use Rattle.bb_plan.specs.Plan.{EarlyEnd, Printed, Refused, planned, IsRefusedWith, Drilled}
+use Rattle.bb_drill.specs.declared.counts.DrillCounts.{DrillCounts}
+use Rattle.bb_words.specs.declared.command.DrillNumbers.{DrillNumbers}
+use Rattle.bb_tool.specs.Drilling.{IsCounted, IsDrilled}
 use Rattle.bb_plan.specs.Status.{is_planning}
 use Rattle.bb_tool.specs.Copying.{KeepsATrail, KeepsAtExit, KeepsOutsideCopies}
 use Rattle.bb_tool.specs.SessionAnswer.{IsFollowed, IsSessionAnswer}
@@ -20,7 +23,7 @@ use Rattle.bb_plan.specs.FilesRead.{result_by}
 use Rattle.bb_tool.specs.Ran.{Ran}
 use Rattle.bb_plan.specs.Refusal.{copy_refusal, status_of}
 use Rattle.bb_tool.specs.Lines.{line_of}
-use Rattle.bb_session.specs.Session.{Answers, Session, ended_status, session_by, refused_for, session_of, work_session}
+use Rattle.bb_session.specs.Session.{Answers, Session, drill_session, ended_status, session_by, refused_for, session_of, work_session}
 use Rattle.bb_tool.specs.Sending.{sent_of}
 use Rattle.bb_tool.specs.Sending.{IsTextCut, IsSentAfter, IsSentRefusal}
 use Rattle.bb_session.specs.Work.{SendsByMemory}
@@ -50,26 +53,34 @@ own_answer ran answer (inr memory) first second e = absurd (told_other answer ra
 
 -- an answer that a fact about the words and the layout brings comes, but for the two that come
 -- first
-comes_always : (ran : Ran) (answer : Status) → IsSession ran → ((answers : Answers) → ended_status (session_for ran answers) ≡ answer) → (ran.status ≡ answer) ⊎ ((ran.status ≡ statuses.SinkFault) ⊎ (ran.status ≡ statuses.NoMemory))
-comes_always ran answer (inl ending) always = elim (told_cases _ _ ran.before.sink ran.after.sink ran.status ending.told) [ inl own ↦ inl (own ∙ always ending.answers) | inr other ↦ inr other ]
+pub comes_always : (ran : Ran) (answer : Status) → IsSession ran → ((answers : Answers) → MayAnswer ran answers → ended_status (session_for ran answers) ≡ answer) → (ran.status ≡ answer) ⊎ ((ran.status ≡ statuses.SinkFault) ⊎ (ran.status ≡ statuses.NoMemory))
+comes_always ran answer (inl ending) always = elim (told_cases _ _ ran.before.sink ran.after.sink ran.status ending.told) [ inl own ↦ inl (own ∙ always ending.answers ending.answered) | inr other ↦ inr other ]
 comes_always ran answer (inr memory) always = elim (told_cases _ statuses.NoMemory ran.before.sink ran.after.sink ran.status memory.told) [ inl e ↦ inr (inr e) | inr other ↦ inr other ]
 
 -- ---- the statuses of a session
 
+-- a drill that was run is done
+pub drill_done : (numbers : DrillNumbers) (drill : Option DrillCounts) → IsCounted numbers drill → ended_status (drill_session drill) ≡ statuses.Done
+drill_done numbers None counted = absurd counted
+drill_done numbers (Some counts) counted = refl
+
 -- an answer that the work doesn't have is the refusal of the plan
-plan_only : (plan : Result SessionPlan EarlyEnd) (answers : Answers) (answer : Status) → is_work answer ≡ false → ended_status (session_by plan answers) ≡ answer → IsRefusedWith answer plan
-plan_only (Ok plan) answers answer other e = absurd (not_work (ended_status (work_session plan answers.load answers.saves)) answer (worked_work plan answers.load answers.saves) other e)
-plan_only (Err (Printed text)) answers answer other e = absurd (not_work statuses.Done answer refl other e)
-plan_only (Err (Refused refusal)) answers answer other e = e
+plan_only : (plan : Result SessionPlan EarlyEnd) (answers : Answers) (answer : Status) → IsDrilled plan answers.drill → is_work answer ≡ false → ended_status (session_by plan answers) ≡ answer → IsRefusedWith answer plan
+plan_only (Ok plan) answers answer drilled other e = absurd (not_work (ended_status (work_session plan answers.load answers.saves)) answer (worked_work plan answers.load answers.saves) other e)
+plan_only (Err (Printed text)) answers answer drilled other e = absurd (not_work statuses.Done answer refl other e)
+plan_only (Err (Drilled numbers)) answers answer drilled other e = absurd (not_work statuses.Done answer refl other (sym (drill_done numbers answers.drill drilled) ∙ e))
+plan_only (Err (Refused refusal)) answers answer drilled other e = e
 
 pub plan_ends : (plan : Result SessionPlan EarlyEnd) (answers : Answers) (answer : Status) → IsRefusedWith answer plan → ended_status (session_by plan answers) ≡ answer
 plan_ends (Ok plan) answers answer refused = absurd refused
 plan_ends (Err (Printed text)) answers answer refused = absurd refused
+plan_ends (Err (Drilled numbers)) answers answer refused = absurd refused
 plan_ends (Err (Refused refusal)) answers answer refused = refused
 
 refused_one : (a b : Status) (plan : Result SessionPlan EarlyEnd) → IsRefusedWith a plan → IsRefusedWith b plan → a ≡ b
 refused_one a b (Ok plan) one two = absurd one
 refused_one a b (Err (Printed text)) one two = absurd one
+refused_one a b (Err (Drilled numbers)) one two = absurd one
 refused_one a b (Err (Refused refusal)) one two = sym one ∙ two
 
 refused_memory : (a : Status) (plan : Result SessionPlan EarlyEnd) → plan ≡ Err (Refused refusals.NoMemory) → IsRefusedWith a plan → a ≡ statuses.NoMemory
@@ -85,8 +96,8 @@ pub bad_words_of : (ran : Ran) → IsSession ran → ComesByWords statuses.BadWo
 bad_words_of ran s = record {
   only = λ e.
       let own = own_answer ran statuses.BadWords s (λ h. cc) (λ h. cc) e in
-      words_refused (words_of ran.words) (geometry_of ran) own.ending.answers.files (plan_only (plan_by_words ran.words (geometry_of ran) own.ending.answers.files) own.ending.answers statuses.BadWords refl own.own);
-  always = λ refused. comes_always ran statuses.BadWords s (words_always (words_of ran.words) (geometry_of ran) refused);
+      words_refused (words_of ran.words) (geometry_of ran) own.ending.answers.files (plan_only (plan_by_words ran.words (geometry_of ran) own.ending.answers.files) own.ending.answers statuses.BadWords own.ending.answered.drilled refl own.own);
+  always = λ refused. comes_always ran statuses.BadWords s (λ answers answered. words_always (words_of ran.words) (geometry_of ran) refused answers);
 }
 
 always_planned : (ran : Ran) → IsSession ran → (answer : Status) → (files : FileMap) → ran.before.folder.told ≡ Some files → IsRefusedWith answer (plan_over ran files) → (ran.status ≡ answer) ⊎ ((ran.status ≡ statuses.SinkFault) ⊎ ((ran.status ≡ statuses.NoMemory) ⊎ (ran.status ≡ statuses.FileFault)))
@@ -111,7 +122,7 @@ comes_planned ran s answer other first second third = λ files told. record {
       let own = own_answer ran answer s first second e in
       let answers = own.ending.answers in
       let plan = plan_by_words ran.words (geometry_of ran) answers.files in
-      let refused = plan_only plan answers answer other own.own in
+      let refused = plan_only plan answers answer own.ending.answered.drilled other own.own in
       elim (same_plan ran.words (geometry_of ran) ran.before.folder ran.after.folder answers.files own.ending.answered.filed files told) [
         | inl same ↦ subst (IsRefusedWith answer) same refused
         | inr odd ↦ elim odd [
@@ -130,16 +141,16 @@ comes_alone ran s answer other first second = λ none files.
       only = λ e.
           let own = own_answer ran answer s first second e in
           let answers = own.ending.answers in
-          subst (IsRefusedWith answer) (same answers.files) (plan_only (plan_by_words ran.words (geometry_of ran) answers.files) answers answer other own.own);
+          subst (IsRefusedWith answer) (same answers.files) (plan_only (plan_by_words ran.words (geometry_of ran) answers.files) answers answer own.ending.answered.drilled other own.own);
       always = λ refused. comes_always ran answer s
-          (λ answers. plan_ends (plan_by_words ran.words (geometry_of ran) answers.files) answers answer (subst (IsRefusedWith answer) (sym (same answers.files)) refused));
+          (λ answers answered. plan_ends (plan_by_words ran.words (geometry_of ran) answers.files) answers answer (subst (IsRefusedWith answer) (sym (same answers.files)) refused));
     }
 
 pub file_fault_of : (ran : Ran) → IsSession ran → ComesByFiles statuses.FileFault ran
 file_fault_of ran s e =
     let own = own_answer ran statuses.FileFault s (λ h. cc) (λ h. cc) e in
     let files = own.ending.answers.files in
-    let refused = plan_only (plan_by_words ran.words (geometry_of ran) files) own.ending.answers statuses.FileFault refl own.own in
+    let refused = plan_only (plan_by_words ran.words (geometry_of ran) files) own.ending.answers statuses.FileFault own.ending.answered.drilled refl own.own in
     faulty_plan ran.words (geometry_of ran) ran.before.folder ran.after.folder files own.ending.answered.filed refused
 
 planning_work : (status : Status) → is_work status ≡ true → is_planning status ≡ true → ⊥
@@ -190,8 +201,8 @@ some_refusal : (refused : Option Refusal) (answer : Status) → answer ≢ statu
 some_refusal None answer other e = absurd (other (sym e))
 some_refusal (Some refusal) answer other e = (refusal, (refl, e))
 
-plan_fault : (plan : Result SessionPlan EarlyEnd) (from to : Device) (answers : Answers) (answer : Status) → answer ≢ statuses.Done → is_device_fault answer ≡ true → (IsRefusedWith answer plan → ⊥) → IsFollowed plan from to answers → ended_status (session_by plan answers) ≡ answer → IsFaulted plan from to (session_by plan answers) answer
-plan_fault (Ok plan) from to answers answer other device none work h =
+plan_fault : (plan : Result SessionPlan EarlyEnd) (from to : Device) (answers : Answers) (answer : Status) → answer ≢ statuses.Done → is_device_fault answer ≡ true → (IsRefusedWith answer plan → ⊥) → IsDrilled plan answers.drill → IsFollowed plan from to answers → ended_status (session_by plan answers) ≡ answer → IsFaulted plan from to (session_by plan answers) answer
+plan_fault (Ok plan) from to answers answer other device none drilled work h =
     let some = some_refusal (work_session plan answers.load answers.saves).refusal answer other h in
     record {
       planned_as = plan;
@@ -201,12 +212,13 @@ plan_fault (Ok plan) from to answers answer other device none work h =
       status_is = some.1.1;
       fault = work_fault plan.work plan from to answers.load answers.saves some.0 (ap is_device_fault some.1.1 ∙ device) refl work some.1.0;
     }
-plan_fault (Err (Printed text)) from to answers answer other device none work h = absurd (other (sym h))
-plan_fault (Err (Refused refusal)) from to answers answer other device none work h = absurd (none h)
+plan_fault (Err (Printed text)) from to answers answer other device none drilled work h = absurd (other (sym h))
+plan_fault (Err (Drilled numbers)) from to answers answer other device none drilled work h = absurd (other (sym h ∙ drill_done numbers answers.drill drilled))
+plan_fault (Err (Refused refusal)) from to answers answer other device none drilled work h = absurd (none h)
 
 faulted : (ran : Ran) (answer : Status) → answer ≢ statuses.Done → is_device_fault answer ≡ true → (own : IsOwn ran answer) → (IsRefusedWith answer (plan_by_words ran.words (geometry_of ran) own.ending.answers.files) → ⊥) → IsFaulted (plan_by_words ran.words (geometry_of ran) own.ending.answers.files) ran.before.device ran.after.device (session_for ran own.ending.answers) answer
 faulted ran answer other device own none =
-    plan_fault (plan_by_words ran.words (geometry_of ran) own.ending.answers.files) ran.before.device ran.after.device own.ending.answers answer other device none own.ending.answered.followed own.own
+    plan_fault (plan_by_words ran.words (geometry_of ran) own.ending.answers.files) ran.before.device ran.after.device own.ending.answers answer other device none own.ending.answered.drilled own.ending.answered.followed own.own
 
 read_told : (keyed : Keyed) (from to : Device) (fault : CopyFault) → status_of (copy_refusal fault) ≡ statuses.ReadFault → FaultTells keyed from to fault → Rose from.read_faults to.read_faults
 read_told keyed from to faults.ReadFault h tells = tells.1
@@ -305,10 +317,11 @@ record IsMemoryPlan (from to : Device) (session : Session) : Type 0 where
   is : session ≡ refused_for refusals.NoMemory
   unasked : to ≡ from
 
-plan_memory : (plan : Result SessionPlan EarlyEnd) (from to : Device) (answers : Answers) → IsFollowed plan from to answers → ended_status (session_by plan answers) ≡ statuses.NoMemory → IsMemoryPlan from to (session_by plan answers)
-plan_memory (Ok plan) from to answers work h = absurd (not_work (ended_status (work_session plan answers.load answers.saves)) statuses.NoMemory (worked_work plan answers.load answers.saves) refl h)
-plan_memory (Err (Printed text)) from to answers work h = absurd cc
-plan_memory (Err (Refused refusal)) from to answers work h = record {
+plan_memory : (plan : Result SessionPlan EarlyEnd) (from to : Device) (answers : Answers) → IsDrilled plan answers.drill → IsFollowed plan from to answers → ended_status (session_by plan answers) ≡ statuses.NoMemory → IsMemoryPlan from to (session_by plan answers)
+plan_memory (Ok plan) from to answers drilled work h = absurd (not_work (ended_status (work_session plan answers.load answers.saves)) statuses.NoMemory (worked_work plan answers.load answers.saves) refl h)
+plan_memory (Err (Printed text)) from to answers drilled work h = absurd cc
+plan_memory (Err (Drilled numbers)) from to answers drilled work h = absurd (let e : statuses.Done ≡ statuses.NoMemory = sym (drill_done numbers answers.drill drilled) ∙ h in cc)
+plan_memory (Err (Refused refusal)) from to answers drilled work h = record {
   is = ap refused_for (refusal_memory refusal h);
   unasked = work;
 }
@@ -317,7 +330,7 @@ pub no_memory_of : (ran : Ran) → IsSession ran → ran.status ≡ statuses.NoM
 no_memory_of ran (inr memory) e = memory
 no_memory_of ran (inl ending) e =
     let own = told_memory _ _ ran.before.sink ran.after.sink ran.status ending.told e in
-    let memory = plan_memory (plan_by_words ran.words (geometry_of ran) ending.answers.files) ran.before.device ran.after.device ending.answers ending.answered.followed own in
+    let memory = plan_memory (plan_by_words ran.words (geometry_of ran) ending.answers.files) ran.before.device ran.after.device ending.answers ending.answered.drilled ending.answered.followed own in
     record {
       told = subst (λ (session : Session). SendsText ran (sent_of session) (ended_status session)) memory.is ending.told;
       work = inl memory.unasked;
@@ -325,14 +338,14 @@ no_memory_of ran (inl ending) e =
 
 -- ---- an output that failed
 
-plan_sink : (plan : Result SessionPlan EarlyEnd) (answers : Answers) → (IsRefusedWith statuses.SinkFault plan → ⊥) → ended_status (session_by plan answers) ≢ statuses.SinkFault
-plan_sink plan answers none = λ e. none (plan_only plan answers statuses.SinkFault refl e)
+plan_sink : (plan : Result SessionPlan EarlyEnd) (answers : Answers) → IsDrilled plan answers.drill → (IsRefusedWith statuses.SinkFault plan → ⊥) → ended_status (session_by plan answers) ≢ statuses.SinkFault
+plan_sink plan answers drilled none = λ e. none (plan_only plan answers statuses.SinkFault drilled refl e)
 
-session_sink : (words : List (List ℕ)) (geometry : Geometry) (answers : Answers) → ended_status (session_of words geometry answers) ≢ statuses.SinkFault
-session_sink words geometry answers = plan_sink (plan_by_words words geometry answers.files) answers (plan_refusal statuses.SinkFault refl (λ h. cc) (words_of words) geometry answers.files)
+session_sink : (words : List (List ℕ)) (geometry : Geometry) (answers : Answers) → IsDrilled (plan_by_words words geometry answers.files) answers.drill → ended_status (session_of words geometry answers) ≢ statuses.SinkFault
+session_sink words geometry answers drilled = plan_sink (plan_by_words words geometry answers.files) answers drilled (plan_refusal statuses.SinkFault refl (λ h. cc) (words_of words) geometry answers.files)
 
 cut_off : (ran : Ran) (ending : IsAnswered ran) → ran.status ≡ statuses.SinkFault → IsTextCut (sent_of (session_for ran ending.answers)) (ended_status (session_for ran ending.answers)) ran.before.sink ran.after.sink ran.status
-cut_off ran ending e = told_front _ _ ran.before.sink ran.after.sink ran.status ending.told (session_sink ran.words (geometry_of ran) ending.answers) e
+cut_off ran ending e = told_front _ _ ran.before.sink ran.after.sink ran.status ending.told (session_sink ran.words (geometry_of ran) ending.answers ending.answered.drilled) e
 
 pub front_of : (ran : Ran) → IsSession ran → ran.status ≡ statuses.SinkFault → SendsSessionFront ran
 front_of ran (inl ending) e = record {

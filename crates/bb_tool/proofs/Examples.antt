@@ -27,7 +27,7 @@ use Rattle.bb_tool.specs.Lines.{line_of}
 use Rattle.bb_session.specs.Session.{done_with, refused_for, session_of, work_session}
 use Rattle.bb_tool.specs.Sending.{sent_of}
 use Rattle.bb_session.specs.SessionTurns.{boot_turn}
-use Rattle.bb_plan.specs.declared.refusal.Refusal.TheVariants.{BadSettings, BadWords, BadLayout, BadVariable, FileFault, FileMissing, FileTooLong, NoGood, NoTarget, ReadFault, StartFailed, WriteFault}
+use Rattle.bb_plan.specs.declared.refusal.Refusal.TheVariants.{BadSettings, BadWords, BadLayout, BadVariable, FileFault, FileMissing, FileTooLong, NoGood, NoMemory, NoTarget, ReadFault, StartFailed, WriteFault}
 
 in_place : Geometry
 in_place = record { page = 1; block = 0; size = 192 }
@@ -56,34 +56,34 @@ save : List (List ℕ)
 save = codes "raw" ∷ codes "0x12345678" ∷ codes "9" ∷ codes "-s" ∷ codes "313233343536373839" ∷ []
 
 -- a session for what the device answered
-found : session_of look in_place (record { files = no_files; load = Ok (Some (codes "123456789")); saves = [] }) ≡ done_with (codes "313233343536373839\n")
+found : session_of look in_place (record { files = no_files; load = Ok (Some (codes "123456789")); saves = []; drill = None }) ≡ done_with (codes "313233343536373839\n")
 unfolding look in_place words_from encode_with
 found = refl
 
-unread : session_of look in_place (record { files = no_files; load = Err faults.ReadFault; saves = [] }) ≡ refused_for ReadFault
+unread : session_of look in_place (record { files = no_files; load = Err faults.ReadFault; saves = []; drill = None }) ≡ refused_for ReadFault
 unfolding look in_place words_from
 unread = refl
 
 -- a save is begun of the area that was loaded too, and sends nothing
-saved_anew : session_of save in_place (record { files = no_files; load = Ok (Some (codes "123456789")); saves = Ok false ∷ [] }) ≡ record { text = []; refusal = None; saves = codes "123456789" ∷ []; rounds = [] }
+saved_anew : session_of save in_place (record { files = no_files; load = Ok (Some (codes "123456789")); saves = Ok false ∷ []; drill = None }) ≡ record { text = []; refusal = None; saves = codes "123456789" ∷ []; rounds = [] }
 unfolding save in_place words_from decode_pairs
 saved_anew = refl
 
-second_copy_not_written : session_of save in_place (record { files = no_files; load = Ok None; saves = Err (faults.WriteFault 1) ∷ [] }) ≡ record { text = []; refusal = Some (WriteFault 1); saves = codes "123456789" ∷ []; rounds = [] }
+second_copy_not_written : session_of save in_place (record { files = no_files; load = Ok None; saves = Err (faults.WriteFault 1) ∷ []; drill = None }) ≡ record { text = []; refusal = Some (WriteFault 1); saves = codes "123456789" ∷ []; rounds = [] }
 unfolding save in_place words_from decode_pairs
 second_copy_not_written = refl
 
 -- where the load is refused no save is begun
-load_not_settled : session_of save in_place (record { files = no_files; load = Err (faults.WriteFault 2); saves = [] }) ≡ refused_for (WriteFault 2)
+load_not_settled : session_of save in_place (record { files = no_files; load = Err (faults.WriteFault 2); saves = []; drill = None }) ≡ refused_for (WriteFault 2)
 unfolding save in_place words_from decode_pairs
 load_not_settled = refl
 
-save_on_blocks : session_of save with_blocks (record { files = no_files; load = Ok None; saves = Ok false ∷ [] }) ≡ refused_for (BadLayout (BadProp (codes "backend-storage-type")))
+save_on_blocks : session_of save with_blocks (record { files = no_files; load = Ok None; saves = Ok false ∷ []; drill = None }) ≡ refused_for (BadLayout (BadProp (codes "backend-storage-type")))
 unfolding save with_blocks words_from decode_pairs
 save_on_blocks = refl
 
 -- the third word is missing
-missing_word : session_of (codes "raw" ∷ codes "1" ∷ []) in_place (record { files = no_files; load = Ok None; saves = Ok false ∷ [] }) ≡ refused_for (BadWords 2)
+missing_word : session_of (codes "raw" ∷ codes "1" ∷ []) in_place (record { files = no_files; load = Ok None; saves = Ok false ∷ []; drill = None }) ≡ refused_for (BadWords 2)
 unfolding in_place words_from
 missing_word = refl
 
@@ -110,7 +110,7 @@ line_behind_the_text = refl
 
 -- ---- `mark-good`
 
-no_tree : session_of (codes "mark-good" ∷ codes "-i" ∷ codes "b.dts" ∷ codes "-c" ∷ codes "set.txt" ∷ []) in_place (record { files = Ok None ∷ []; load = Ok None; saves = [] }) ≡ refused_for (FileMissing (codes "b.dts"))
+no_tree : session_of (codes "mark-good" ∷ codes "-i" ∷ codes "b.dts" ∷ codes "-c" ∷ codes "set.txt" ∷ []) in_place (record { files = Ok None ∷ []; load = Ok None; saves = []; drill = None }) ≡ refused_for (FileMissing (codes "b.dts"))
 unfolding in_place words_from
 no_tree = refl
 
@@ -171,7 +171,7 @@ place_behind = refl
 
 -- ---- `boot`
 
-no_tree_to_boot : session_of (codes "boot" ∷ codes "-i" ∷ codes "b.dts" ∷ codes "-c" ∷ codes "set.txt" ∷ []) in_place (record { files = Ok None ∷ []; load = Ok None; saves = [] }) ≡ refused_for (FileMissing (codes "b.dts"))
+no_tree_to_boot : session_of (codes "boot" ∷ codes "-i" ∷ codes "b.dts" ∷ codes "-c" ∷ codes "set.txt" ∷ []) in_place (record { files = Ok None ∷ []; load = Ok None; saves = []; drill = None }) ≡ refused_for (FileMissing (codes "b.dts"))
 unfolding in_place words_from
 no_tree_to_boot = refl
 
@@ -281,3 +281,12 @@ entry_too_long = refl
 
 entry_with_a_fault : result_by (plans_reading (two_targets false false)) (Err file_fails.Fault ∷ []) ≡ Err (FileFault (codes "a.conf"))
 entry_with_a_fault = refl
+
+-- a drill, for what it counted
+drilled : session_of (codes "drill" ∷ codes "3" ∷ codes "1" ∷ []) in_place (record { files = no_files; load = Ok None; saves = []; drill = Some (record { sessions = 1; cuts = 0; decays = 0; programs = 12; erases = 3; starts = 0; wrong = 0 }) }) ≡ done_with (codes "sessions 1 cuts 0 decays 0 programs 12 erases 3 starts 0 wrong 0\n")
+unfolding in_place words_from digits
+drilled = refl
+
+uncounted : session_of (codes "drill" ∷ codes "3" ∷ codes "1" ∷ []) in_place (record { files = no_files; load = Ok None; saves = []; drill = None }) ≡ refused_for NoMemory
+unfolding in_place words_from
+uncounted = refl

@@ -19,7 +19,8 @@ use Rattle.bb_shell.proofs.Answering.{best_none}
 use Rattle.bb_words.specs.Words.{words_of}
 use Rattle.bb_session.specs.Booting.{SaveAnswer, boots, end_refusal, has_no_target}
 use Rattle.bb_tool.specs.Calls.{ComesByTable, IsSession, geometry_of, is_fault_status, session_for}
-use Rattle.bb_plan.specs.Plan.{EarlyEnd, Printed, Refused, IsRefusedWith}
+use Rattle.bb_tool.specs.Drilling.{IsDrilled}
+use Rattle.bb_plan.specs.Plan.{Drilled, EarlyEnd, Printed, Refused, IsRefusedWith}
 use Rattle.bb_tool.specs.SessionAnswer.{IsFollowed}
 use Rattle.bb_plan.specs.Plan.{SessionPlan, plan_by_words}
 use Rattle.bb_plan.specs.declared.plan.Work.{Work}
@@ -34,7 +35,7 @@ use Rattle.bb_plan.specs.declared.status.Status.{Status}
 use Rattle.bb_plan.specs.declared.status.Status.TheVariants as statuses
 use Rattle.bb_session.proofs.Barred.{barred_session, stored_on}
 use Rattle.bb_session.proofs.Booted.{boot_is, later_last}
-use Rattle.bb_tool.proofs.Endings.{own_answer, plan_ends}
+use Rattle.bb_tool.proofs.Endings.{drill_done, own_answer, plan_ends}
 use Rattle.bb_plan.proofs.Plans.{plan_refusal, same_plan}
 use Rattle.bb_tool.proofs.Told.{told_cases}
 use Rattle.bb_session.proofs.Unrefused.{work_gives}
@@ -142,12 +143,13 @@ bars_work plan from to (Ok found) saves done answer bar e =
     bars_behind plan from to found saves done answer bar (refusal_by_table plan.work (loaded_area plan.keyed.layout found)) refl e
 bars_work plan from to (Err fault) saves done answer bar e = not_bar (status_of (copy_refusal fault)) answer bar (fault_else fault) e
 
-bars_plan : (plan : Result SessionPlan EarlyEnd) (from to : Device) (answers : Answers) → IsFollowed plan from to answers → (answer : Status) →
+bars_plan : (plan : Result SessionPlan EarlyEnd) (from to : Device) (answers : Answers) → IsDrilled plan answers.drill → IsFollowed plan from to answers → (answer : Status) →
     is_bar answer ≡ true → (IsRefusedWith answer plan → ⊥) → ended_status (session_by plan answers) ≡ answer →
     option_map status_of (barred_after plan answers.load) ≡ Some answer
-bars_plan (Ok plan) from to answers done answer bar none e = bars_work plan from to answers.load answers.saves done answer bar e
-bars_plan (Err (Printed text)) from to answers done answer bar none e = not_bar statuses.Done answer bar refl e
-bars_plan (Err (Refused refusal)) from to answers done answer bar none e = absurd (none e)
+bars_plan (Ok plan) from to answers drilled done answer bar none e = bars_work plan from to answers.load answers.saves done answer bar e
+bars_plan (Err (Printed text)) from to answers drilled done answer bar none e = not_bar statuses.Done answer bar refl e
+bars_plan (Err (Drilled numbers)) from to answers drilled done answer bar none e = not_bar statuses.Done answer bar refl (sym (drill_done numbers answers.drill drilled) ∙ e)
+bars_plan (Err (Refused refusal)) from to answers drilled done answer bar none e = absurd (none e)
 
 -- ---- what bars a session over a content
 
@@ -220,7 +222,7 @@ barred_of answer bar first second third unplanned ran s = λ files told image he
       let plan = plan_by_words ran.words (geometry_of ran) answers.files in
       let none = unplanned ran answers in
       let here = plan_place answer plan ran.before.device ran.after.device answers own.ending.answered.followed image held
-      (bars_plan plan ran.before.device ran.after.device answers own.ending.answered.followed answer bar none own.own) in
+      (bars_plan plan ran.before.device ran.after.device answers own.ending.answered.drilled own.ending.answered.followed answer bar none own.own) in
       elim (same_plan ran.words (geometry_of ran) ran.before.folder ran.after.folder answers.files own.ending.answered.filed files told) [
         | inl same ↦ subst (λ (p : Result SessionPlan EarlyEnd). BarsWith answer (bars_in p ran.before.device image)) same here
         | inr odd ↦ elim odd [

@@ -1,5 +1,5 @@
 -- What a status says of how a text was told.
-use Rattle.std.proofs.Common.{◌≡◌, ◌≢◌, ◌⊎◌, ℕ, List, refl, sym, subst, ◌∙◌, inl, inr}
+use Rattle.std.proofs.Common.{◌≡◌, ◌≢◌, ◌⊎◌, ℕ, List, refl, sym, subst, ◌∙◌, inl, inr, ap}
 use Rattle.bb_base.proofs.Counts.{one_more_rose}
 use Rattle.bb_base.specs.Faults.{Rose, one_more}
 use Rattle.bb_base.specs.SinkRecord.{SinkRecord}
@@ -91,3 +91,9 @@ pub told_whole : (text : List ℕ) (ended : Status) (before after : SinkRecord) 
 told_whole text ended before after status (inl sent) whole = sent
 told_whole text ended before after status (inr cut) whole =
     absurd (whole (subst (Rose before.faults) (sym cut.faults) (one_more_rose before.faults)))
+
+
+-- a session that is refused since memory was ends so, also where the output failed
+pub told_short : (text : List ℕ) (ended : Status) (before after : SinkRecord) (status : Status) → IsSentOrCut text ended before after status → ended ≡ statuses.NoMemory → status ≡ statuses.NoMemory
+told_short text ended before after status (inl sent) short = sent.status_is ∙ short
+told_short text ended before after status (inr cut) short = cut.status_is ∙ ap status_unsent short

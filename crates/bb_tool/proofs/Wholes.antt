@@ -15,7 +15,9 @@ use Rattle.bb_shell.specs.Boot.{AreRounds, Round, all_attempts, first_table}
 use Rattle.bb_shell.specs.Ends.{RaisedBy, failed_starts}
 use Rattle.bb_shell.specs.Rounds.{best_of, rounds_by}
 use Rattle.bb_shell.proofs.Answering.{best_is, best_none}
-use Rattle.bb_tool.specs.Calls.{IsSession, IsUndisturbed, IsUndisturbedAlone, geometry_of, session_for}
+use Rattle.bb_drill.specs.declared.counts.DrillCounts.{DrillCounts}
+use Rattle.bb_tool.specs.Calls.{IsAnswered, IsSession, IsUndisturbed, IsUndisturbedAlone, IsWholeFor, geometry_of, plan_over, session_for, session_plan_for}
+use Rattle.bb_tool.specs.Drilling.{IsDrilled}
 use Rattle.bb_tool.specs.SessionAnswer.{AreAnswers, IsFollowed}
 use Rattle.bb_session.specs.Looking.{first_found, passed_in}
 use Rattle.bb_session.specs.Booting.{SaveAnswer, boots, has_no_target, rounds_of}
@@ -32,15 +34,11 @@ use Rattle.bb_plan.specs.declared.refusal.Refusal.TheVariants as refusals
 use Rattle.bb_plan.specs.declared.status.Status.{Status}
 use Rattle.bb_plan.specs.declared.status.Status.TheVariants as statuses
 use Rattle.bb_plan.proofs.Plans.{alone_plan, faulty_plan, plan_held, same_plan}
-use Rattle.bb_tool.proofs.Told.{told_whole}
+use Rattle.bb_tool.proofs.Told.{told_short, told_whole}
 use Rattle.bb_session.proofs.Barred.{HasNoFault, barred_session, fault_device, open_session, stored_whole}
 use Rattle.bb_session.proofs.Booted.{boot_is}
 use Rattle.bb_session.proofs.Fine.{all_saved, good_rounds, goods, goods_are, none_failed, round_there}
 use Rattle.bb_session.proofs.Unrefused.{unrefused, work_gives}
-
--- one session is the other, or that of refused memory
-abbrev IsSameOrMemory : Session → Session → Type 0
-IsSameOrMemory given other = (given ≡ other) ⊎ (given ≡ refused_for refusals.NoMemory)
 
 -- so each save that is to be made was made
 saved_same : (keyed : Keyed) (used : Option ℕ) (text : List ℕ) (areas : List (List ℕ)) (saves : List SaveAnswer) (from to : Device) → AreSaved keyed used areas from to saves → HasNoFault (session_of_saves text areas saves) → session_of_saves text areas saves ≡ session_of_saves text areas (all_made areas)
@@ -163,47 +161,48 @@ load_same plan from to (Ok found) saves done none image told calm =
     (subst (λ f. IsCalm from to (work_session plan (Ok f) (answers_after plan.work plan (Ok f)))) (sym same) calm)
     ∙ ap (λ f. work_session plan (Ok f) (answers_after plan.work plan (Ok f))) same
 
-plan_same : (plan : Result SessionPlan EarlyEnd) (before after : Device) (answers : Answers) (files : FileAnswers) → IsFollowed plan before after answers → (Rose before.faults after.faults → ⊥) → (image : Image) → content before ≡ Some image → IsCalm before after (session_by plan (answers_to files plan before.geometry image)) → session_by plan answers ≡ session_by plan (answers_to files plan before.geometry image)
+plan_same : (plan : Result SessionPlan EarlyEnd) (before after : Device) (answers : Answers) (files : FileAnswers) → IsFollowed plan before after answers → (Rose before.faults after.faults → ⊥) → (image : Image) → content before ≡ Some image → IsCalm before after (session_by plan (answers_to files plan before.geometry image answers.drill)) → session_by plan answers ≡ session_by plan (answers_to files plan before.geometry image answers.drill)
 plan_same (Err end) before after answers files done whole image told calm = refl
 plan_same (Ok plan) before after answers files done whole image told calm =
     load_same plan before after answers.load answers.saves done
     (unrefused plan before after answers.load answers.saves done whole (work_session plan answers.load answers.saves).refusal refl) image told calm
 
 -- the session is that of what is held, where the plan is
-session_same : (words : List (List ℕ)) (folder folder' : Folder) (before after : Device) (answers : Answers) → AreAnswers words folder folder' before after answers → (files : FileMap) → plan_by_words words before.geometry answers.files ≡ plan_by_words words before.geometry (files_for words before.geometry files) → (image : Image) → content before ≡ Some image → (Rose before.faults after.faults → ⊥) → IsCalm before after (session_of words before.geometry (answers_of words before.geometry files image)) → IsSameOrMemory (session_of words before.geometry answers) (session_of words before.geometry (answers_of words before.geometry files image))
+session_same : (words : List (List ℕ)) (folder folder' : Folder) (before after : Device) (answers : Answers) → AreAnswers words folder folder' before after answers → (files : FileMap) → plan_by_words words before.geometry answers.files ≡ plan_by_words words before.geometry (files_for words before.geometry files) → (image : Image) → content before ≡ Some image → (Rose before.faults after.faults → ⊥) → IsCalm before after (session_of words before.geometry (answers_of words before.geometry files image answers.drill)) → session_of words before.geometry answers ≡ session_of words before.geometry (answers_of words before.geometry files image answers.drill)
 session_same words folder folder' before after answers answered files same image told whole calm =
     let read = files_for words before.geometry files in
-    inl (plan_same (plan_by_words words before.geometry answers.files) before after answers read answered.followed whole image told
-    (subst (λ (p : Result SessionPlan EarlyEnd). IsCalm before after (session_by p (answers_to read p before.geometry image))) (sym same) calm)
-    ∙ ap (λ (p : Result SessionPlan EarlyEnd). session_by p (answers_to read p before.geometry image)) same)
+    plan_same (plan_by_words words before.geometry answers.files) before after answers read answered.followed whole image told
+    (subst (λ (p : Result SessionPlan EarlyEnd). IsCalm before after (session_by p (answers_to read p before.geometry image answers.drill))) (sym same) calm)
+    ∙ ap (λ (p : Result SessionPlan EarlyEnd). session_by p (answers_to read p before.geometry image answers.drill)) same
 
-session_told : (words : List (List ℕ)) (folder folder' : Folder) (before after : Device) (answers : Answers) → AreAnswers words folder folder' before after answers → (Rose folder.faults folder'.faults → ⊥) → (files : FileMap) → folder.told ≡ Some files → (image : Image) → content before ≡ Some image → (Rose before.faults after.faults → ⊥) → IsCalm before after (session_of words before.geometry (answers_of words before.geometry files image)) → IsSameOrMemory (session_of words before.geometry answers) (session_of words before.geometry (answers_of words before.geometry files image))
-session_told words folder folder' before after answers answered calm files known image told whole started =
-    elim (same_plan words before.geometry folder folder' answers.files answered.filed files known) [
-      | inl same ↦ session_same words folder folder' before after answers answered files (same ∙ sym (plan_held words before.geometry files)) image told whole started
+-- so is what was sent of it
+whole_for : (ran : Ran) (ending : IsAnswered ran) (files : FileMap) → session_plan_for ran ending.answers ≡ plan_over ran files → IsWholeFor ran files
+whole_for ran ending files same = record {
+  drill = ending.answers.drill;
+  allowed = subst (λ (p : Result SessionPlan EarlyEnd). IsDrilled p ending.answers.drill) same ending.answered.drilled;
+  whole = λ image told whole started sent.
+      subst (λ (session : Session). IsSent (sent_of session) (ended_status session) ran.before.sink ran.after.sink ran.status)
+      (session_same ran.words ran.before.folder ran.after.folder ran.before.device ran.after.device ending.answers ending.answered files
+      (same ∙ sym (plan_held ran.words (geometry_of ran) files)) image told whole started)
+      (told_whole _ _ ran.before.sink ran.after.sink ran.status ending.told sent);
+}
+
+pub undisturbed_of : (ran : Ran) → IsSession ran → IsUndisturbed ran
+undisturbed_of ran (inr memory) = λ calm files known. inr (told_short _ _ ran.before.sink ran.after.sink ran.status memory.told refl)
+undisturbed_of ran (inl ending) = λ calm files known.
+    elim (same_plan ran.words (geometry_of ran) ran.before.folder ran.after.folder ending.answers.files ending.answered.filed files known) [
+      | inl same ↦ inl (whole_for ran ending files same)
       | inr odd ↦ elim odd [
         | inl faulty ↦
-            let met = faulty_plan words before.geometry folder folder' answers.files answered.filed faulty in
-            absurd (calm (subst (λ (f : Folder). Rose folder.faults f.faults) (sym met) (one_more_rose folder.faults)))
-        | inr memory ↦ inr (ap (λ (p : Result SessionPlan EarlyEnd). session_by p answers) memory)
+            let met = faulty_plan ran.words (geometry_of ran) ran.before.folder ran.after.folder ending.answers.files ending.answered.filed faulty in
+            absurd (calm (subst (λ (f : Folder). Rose ran.before.folder.faults f.faults) (sym met) (one_more_rose ran.before.folder.faults)))
+        | inr memory ↦
+            inr (told_short _ _ ran.before.sink ran.after.sink ran.status ending.told
+            (ap (λ (p : Result SessionPlan EarlyEnd). ended_status (session_by p ending.answers)) memory))
       ]
     ]
 
--- what was sent whole of a session is sent of each that is the same
-told_same : (given other : Session) (before after : SinkRecord) (status : Status) → IsSentOrCut (sent_of given) (ended_status given) before after status → (Rose before.faults after.faults → ⊥) → IsSameOrMemory given other → IsSent (sent_of other) (ended_status other) before after status ⊎ (status ≡ statuses.NoMemory)
-told_same given other before after status told sent (inl same) =
-    inl (subst (λ (session : Session). IsSent (sent_of session) (ended_status session) before after status) same (told_whole _ _ before after status told sent))
-told_same given other before after status told sent (inr memory) = inr ((told_whole _ _ before after status told sent).status_is ∙ ap ended_status memory)
-
-pub undisturbed_of : (ran : Ran) → IsSession ran → IsUndisturbed ran
-undisturbed_of ran (inr memory) = λ calm files known image told whole started sent. inr (told_whole _ _ ran.before.sink ran.after.sink ran.status memory.told sent).status_is
-undisturbed_of ran (inl ending) = λ calm files known image told whole started sent.
-    told_same (session_for ran ending.answers) (session_for ran (answers_of ran.words (geometry_of ran) files image)) ran.before.sink ran.after.sink ran.status ending.told sent
-    (session_told ran.words ran.before.folder ran.after.folder ran.before.device ran.after.device ending.answers ending.answered calm files known image told whole started)
-
 pub undisturbed_alone_of : (ran : Ran) → IsSession ran → IsUndisturbedAlone ran
-undisturbed_alone_of ran (inr memory) = λ none files image told whole started sent. inr (told_whole _ _ ran.before.sink ran.after.sink ran.status memory.told sent).status_is
-undisturbed_alone_of ran (inl ending) = λ none files image told whole started sent.
-    told_same (session_for ran ending.answers) (session_for ran (answers_of ran.words (geometry_of ran) files image)) ran.before.sink ran.after.sink ran.status ending.told sent
-    (session_same ran.words ran.before.folder ran.after.folder ran.before.device ran.after.device ending.answers ending.answered files
-    (alone_plan ran.words (geometry_of ran) ending.answers.files files none ∙ sym (plan_held ran.words (geometry_of ran) files)) image told whole started)
+undisturbed_alone_of ran (inr memory) = λ none files. inr (told_short _ _ ran.before.sink ran.after.sink ran.status memory.told refl)
+undisturbed_alone_of ran (inl ending) = λ none files.
+    inl (whole_for ran ending files (alone_plan ran.words (geometry_of ran) ending.answers.files files none))

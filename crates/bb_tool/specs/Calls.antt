@@ -9,6 +9,8 @@ use Rattle.bb_flash.specs.Cuts.{IsLater}
 use Rattle.bb_flash.specs.Device.{content}
 use Rattle.bb_flash.specs.declared.geometry.Geometry.{Geometry}
 use Rattle.bb_words.specs.Words.{words_of}
+use Rattle.bb_drill.specs.declared.counts.DrillCounts.{DrillCounts}
+use Rattle.bb_tool.specs.Drilling.{IsDrilled}
 use Rattle.bb_tool.specs.SessionAnswer.{AreAnswers}
 use Rattle.bb_plan.specs.Plan.{IsRefusedWith, EarlyEnd, SessionPlan, copies_in, names_file, plan_by_words, plan_over_files}
 use Rattle.bb_tool.specs.Ran.{Ran}
@@ -87,21 +89,27 @@ FailsNoStart ran session =
     (session.rounds ≡ [])
     ⊎ (Rose ran.before.device.start_faults ran.after.device.start_faults → ⊥)
 
--- unless the device, a start or the output failed, this session was sent whole, or memory was
--- refused
+-- unless the device, a start or the output failed, this session was sent whole
 abbrev pub IsWhole : Ran → Session → Type 0
 IsWhole ran session =
     (Rose ran.before.device.faults ran.after.device.faults → ⊥)
     → FailsNoStart ran session
     → (Rose ran.before.sink.faults ran.after.sink.faults → ⊥)
     → IsSent (sent_of session) (ended_status session) ran.before.sink ran.after.sink ran.status
-    ⊎ (ran.status ≡ statuses.NoMemory)
 
--- over these files it is the session of what they and the device hold
+-- over these files it is the session of what they and the device hold, and of what a drill counted,
+-- where their plan runs one
+pub record IsWholeFor (ran : Ran) (files : FileMap) : Type 0 where
+  pub drill : Option DrillCounts
+  pub allowed : IsDrilled (plan_over ran files) drill
+  pub whole :
+      ForSome (content ran.before.device)
+      (λ image.
+      IsWhole ran (session_for ran (answers_of ran.words (geometry_of ran) files image drill)))
+
+-- so it is unless memory was refused
 abbrev pub IsWholeOver : Ran → FileMap → Type 0
-IsWholeOver ran files =
-    ForSome (content ran.before.device) (λ image.
-    IsWhole ran (session_for ran (answers_of ran.words (geometry_of ran) files image)))
+IsWholeOver ran files = IsWholeFor ran files ⊎ (ran.status ≡ statuses.NoMemory)
 
 -- so it is where files that are told didn't fail
 abbrev pub IsUndisturbed : Ran → Type 0
@@ -129,6 +137,19 @@ KeepsHistory ran = IsLater ran.before.device ran.after.device
 abbrev pub AsksNothing : Ran → Type 0
 AsksNothing ran = is_planning ran.status ≡ true → ran.after.device ≡ ran.before.device
 
+-- over files that are told, a session whose plan has no layout makes no call of the device, whatever
+-- its answer
+abbrev pub LeavesUnplanned : Ran → Type 0
+LeavesUnplanned ran =
+    ForSome ran.before.folder.told
+    (λ files. IsErr (plan_over ran files) → ran.after.device ≡ ran.before.device)
+
+-- so it is over any files, where the words name none
+abbrev pub LeavesUnplannedAlone : Ran → Type 0
+LeavesUnplannedAlone ran =
+    NamesNoFile ran → (files : FileMap) → IsErr (plan_over ran files)
+    → ran.after.device ≡ ran.before.device
+
 -- ---- counts of faults
 
 -- the answer is one of the two that come before each other one: that of a failing output, or of
@@ -150,6 +171,15 @@ CountsFileFaults ran =
     × ((ran.status ≡ statuses.FileFault) ⊎ ComesFirst ran))
 
 -- ---- each answer and its cause
+
+-- where the words name no file, and the plan has no layout and isn't refused, the answer is Done,
+-- but for a failing output and refused memory
+abbrev pub EndsDoneAlone : Ran → Type 0
+EndsDoneAlone ran =
+    NamesNoFile ran → (files : FileMap) → IsErr (plan_over ran files)
+    → ((answer : Status) → IsRefusedWith answer (plan_over ran files) → ⊥)
+    → (ran.status ≡ statuses.Done)
+    ⊎ ((ran.status ≡ statuses.SinkFault) ⊎ (ran.status ≡ statuses.NoMemory))
 
 -- the statuses that a fault of the files, the device or the output brings
 abbrev pub is_fault_status : Status → Bool

@@ -1,6 +1,6 @@
 -- The clauses of `run`, in the order of its contract: each is a record of named facts about one
 -- call, and none of them names a command.
-use Rattle.bb_tool.specs.Calls.{AsksNothing, ComesByDevice, ComesByFiles, ComesByPlan, ComesByPlanAlone, ComesByReads, ComesBySink, ComesByTable, ComesByWords, CountsFileFaults, CountsSinkFaults, CutsTheText, IsSession, IsUndisturbed, IsUndisturbedAlone, KeepsFiles, KeepsHistory, LeavesUnnamedFiles, NamesTheCopy, WantsMemory}
+use Rattle.bb_tool.specs.Calls.{AsksNothing, ComesByDevice, ComesByFiles, ComesByPlan, ComesByPlanAlone, ComesByReads, ComesBySink, ComesByTable, ComesByWords, CountsFileFaults, CountsSinkFaults, CutsTheText, IsSession, IsUndisturbed, IsUndisturbedAlone, KeepsFiles, KeepsHistory, LeavesUnnamedFiles, NamesTheCopy, WantsMemory, EndsDoneAlone, LeavesUnplanned, LeavesUnplannedAlone}
 use Rattle.bb_tool.specs.Copying.{KeepsATrail, KeepsAtExit, KeepsOutsideCopies, KnowsWriteFaults, LeavesUnread, MakesAlike, MakesNoOtherCall, StopsAtFileFault, StopsBetweenSaves, WearsExactly, WritesExactly}
 use Rattle.bb_tool.specs.Ran.{Ran}
 use Rattle.bb_tool.specs.Starting.{BootsInTurn, CountsFailedStarts, KnowsStartFaults, NamesTheTarget, RunsRounds, StartsAtMostOne, StartsAfterSave, StartsTheLast}
@@ -25,6 +25,10 @@ pub record LeavesTheRest (ran : Ran) : Type 0 where
   pub later : KeepsHistory ran
   -- a refusal that comes before the work on the device comes without any call of it
   pub unasked : AsksNothing ran
+  -- so does whatever a plan without a layout ends in, over files that are told
+  pub unplanned : LeavesUnplanned ran
+  -- and over any files, where the words name none
+  pub unplanned_alone : LeavesUnplannedAlone ran
 
 -- what became of the copies, whatever failed
 pub record KeepsTheCopies (ran : Ran) : Type 0 where
@@ -58,6 +62,9 @@ pub record EndsEarly (ran : Ran) : Type 0 where
   pub file_faults : CountsFileFaults ran
   -- where memory was refused, none was made, or each save that was begun answered Ok
   pub early_memory : StopsBetweenSaves ran
+  -- where the words name no file, and the plan has no layout and isn't refused, the answer is Done,
+  -- SinkFault or NoMemory
+  pub early_done : EndsDoneAlone ran
 
 -- what is started
 pub record StartsTheBest (ran : Ran) : Type 0 where

@@ -22,6 +22,7 @@ pub use Rattle.bb_words.specs.Words
 pub mod Calls
 pub mod Clauses
 pub mod Copying
+pub mod Drilling
 pub mod Lines
 pub mod Ran
 pub mod Sending

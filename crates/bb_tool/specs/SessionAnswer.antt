@@ -8,6 +8,7 @@ use Rattle.bb_plan.specs.FilesRead.{AreRead}
 use Rattle.bb_session.specs.Session.{Answers, session_of}
 use Rattle.bb_session.specs.Work.{Gives, IsRefusedMemory, IsWork, SendsByMemory}
 use Rattle.bb_session.specs.declared.report.Report.{Report}
+use Rattle.bb_tool.specs.Drilling.{IsDrilled}
 use Rattle.bb_plan.specs.declared.refusal.Refusal.{Refusal}
 use Rattle.bb_plan.specs.declared.refusal.Refusal.TheVariants as refusals
 
@@ -16,11 +17,12 @@ abbrev pub IsFollowed : Result SessionPlan EarlyEnd → Device → Device → An
 IsFollowed (Ok plan) before after answers = IsWork plan before after answers.load answers.saves
 IsFollowed (Err end) before after answers = after ≡ before
 
--- these are what the files and the device answered
+-- these are what the files, the device and a drill answered
 pub record AreAnswers (words : List (List ℕ)) (folder folder' : Folder) (before after : Device)
     (answers : Answers) : Type 0 where
   pub filed : AreRead (plan_reading words before.geometry) folder folder' answers.files
   pub followed : IsFollowed (plan_by_words words before.geometry answers.files) before after answers
+  pub drilled : IsDrilled (plan_by_words words before.geometry answers.files) answers.drill
 
 -- the session gave its text, or its refusal
 pub record IsAnswer (words : List (List ℕ)) (folder folder' : Folder) (before after : Device)

@@ -2,6 +2,7 @@
 //! program alone stands on it.
 #![tactic(auto)]
 
+mod drill;
 mod law;
 mod line;
 mod send;

@@ -10,6 +10,7 @@ ghost use Rattle.bb_plan.specs.FilesRead.{IsFolderLater};
 ghost use Rattle.bb_plan.specs.Refusal.{IsSendableRefusal};
 ghost use Rattle.bb_session.specs.Work.{IsSendable};
 
+use crate::drill::drill_report;
 use crate::send::{send_refusal, send_report};
 use bb_base::{Files, Sink, TextList};
 use bb_flash::Board;
@@ -93,5 +94,6 @@ fn session<N: Files, B: Board>(
     match task {
         PlannedTask::OnCopies(plan) => do_work(alloc, board, plan),
         PlannedTask::Prints(text) => Ok(Report::done(text)),
+        PlannedTask::Drills(numbers) => drill_report(alloc, numbers),
     }
 }

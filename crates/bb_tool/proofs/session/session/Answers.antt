@@ -6,7 +6,7 @@ use Rattle.bb_plan.specs.Plan.{task_as, plan_reading}
 use Rattle.bb_plan.specs.FilesRead.{IsReadAs, reads_file}
 use Rattle.bb_plan.specs.declared.refusal.Refusal.{Refusal}
 use Rattle.bb_plan.specs.declared.plan.PlannedTask.TheVariants as tasks
-use Rattle.bb_tool.proofs.Given.{planned_printed, planned_refused, planned_worked}
+use Rattle.bb_tool.proofs.Given.{planned_drilled, planned_printed, planned_refused, planned_worked}
 use Rattle.bb_plan.proofs.Readings.{read_as_later, read_as_none}
 use Rattle.bb_tool.proofs.session.session.Goals as goal
 
@@ -71,5 +71,24 @@ returns-in-OnCopies-clause-unread g c = λ none.
 
 pub returns-in-Prints-clause-unread : goal.returns-in-Prints-clause-unread
 returns-in-Prints-clause-unread g c = λ none.
+    read_as_none (plan_reading c.args.words.now c.geometry.result) task_as _ _ (Ok c.in_ok-task.task) c.in_ok-task.ensures.read
+    (subst (λ (d : Geometry). reads_file (plan_reading c.args.words.now d) ≡ false) (sym c.geometry.ensures.value) none)
+
+pub returns-in-Drills-clause-gives : goal.returns-in-Drills-clause-gives
+returns-in-Drills-clause-gives g c =
+    let words = c.args.words.now in
+    let before = g.N.Files.folder c.args.files.now in
+    let after = g.N.Files.folder c.plan_session.new.files in
+    planned_drilled words before after (g.B.Flash.device c.args.board.now) c.in-Drills.numbers
+    (subst (λ (d : Geometry). IsReadAs (plan_reading words d) task_as before after (Ok (tasks.Drills c.in-Drills.numbers))) c.geometry.ensures.value
+    (subst (λ t. IsReadAs (plan_reading words c.geometry.result) task_as before after (Ok t)) c.in-Drills.is c.in_ok-task.ensures.read))
+    c.drill_report.result c.drill_report.ensures.ok c.drill_report.ensures.refused
+
+pub returns-in-Drills-clause-files : goal.returns-in-Drills-clause-files
+returns-in-Drills-clause-files g c =
+    read_as_later (plan_reading c.args.words.now c.geometry.result) task_as _ _ (Ok c.in_ok-task.task) c.in_ok-task.ensures.read
+
+pub returns-in-Drills-clause-unread : goal.returns-in-Drills-clause-unread
+returns-in-Drills-clause-unread g c = λ none.
     read_as_none (plan_reading c.args.words.now c.geometry.result) task_as _ _ (Ok c.in_ok-task.task) c.in_ok-task.ensures.read
     (subst (λ (d : Geometry). reads_file (plan_reading c.args.words.now d) ≡ false) (sym c.geometry.ensures.value) none)
