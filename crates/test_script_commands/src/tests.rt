@@ -1,5 +1,0 @@
-mod faults;
-mod rig;
-mod rows;
-mod saves;
-mod starts;
