@@ -137,8 +137,8 @@ KeepsHistory ran = IsLater ran.before.device ran.after.device
 abbrev pub AsksNothing : Ran → Type 0
 AsksNothing ran = is_planning ran.status ≡ true → ran.after.device ≡ ran.before.device
 
--- over files that are told, a session whose plan has no layout makes no call of the device, whatever
--- its answer
+-- over files that are told, a session whose plan has no layout makes no call of the device,
+-- whatever its answer
 abbrev pub LeavesUnplanned : Ran → Type 0
 LeavesUnplanned ran =
     ForSome ran.before.folder.told

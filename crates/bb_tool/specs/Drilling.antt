@@ -10,13 +10,13 @@ use Rattle.bb_session.specs.DrillLine.{drill_line}
 use Rattle.bb_session.specs.declared.report.Report.{Report}
 use Rattle.bb_words.specs.declared.command.DrillNumbers.{DrillNumbers}
 
--- a drill counted this
-abbrev pub Counts : DrillNumbers → DrillCounts → Type 0
-Counts numbers counts = CountsDraws session_runs (draws_of numbers.number numbers.count) counts
+-- a drill may count this
+abbrev pub MayCount : DrillNumbers → DrillCounts → Type 0
+MayCount numbers counts = CountsDraws session_runs (draws_of numbers.number numbers.count) counts
 
 abbrev pub IsCounted : DrillNumbers → Option DrillCounts → Type 0
 IsCounted numbers None = ⊥
-IsCounted numbers (Some counts) = Counts numbers counts
+IsCounted numbers (Some counts) = MayCount numbers counts
 
 -- a drill was run exactly where the plan asks for one, and counted this
 abbrev pub IsDrilled : Result SessionPlan EarlyEnd → Option DrillCounts → Type 0
@@ -28,5 +28,5 @@ IsDrilled (Err (Refused refusal)) drill = drill ≡ None
 -- the report of a drill is the line of what it counted
 pub record IsDrillReport (numbers : DrillNumbers) (report : Report) : Type 0 where
   pub counts : DrillCounts
-  pub counted : Counts numbers counts
+  pub counted : MayCount numbers counts
   pub is : report ≡ record { text = drill_line counts; refusal = None }
