@@ -92,7 +92,6 @@ told_whole text ended before after status (inl sent) whole = sent
 told_whole text ended before after status (inr cut) whole =
     absurd (whole (subst (Rose before.faults) (sym cut.faults) (one_more_rose before.faults)))
 
-
 -- a session that is refused since memory was ends so, also where the output failed
 pub told_short : (text : List ℕ) (ended : Status) (before after : SinkRecord) (status : Status) → IsSentOrCut text ended before after status → ended ≡ statuses.NoMemory → status ≡ statuses.NoMemory
 told_short text ended before after status (inl sent) short = sent.status_is ∙ short
