@@ -251,7 +251,7 @@ def lines(count, *numbers):
 
 
 def fits(number, count, line):
-    for says in faults(number, count, line):
+    for says in faults(number, count, str(line)):
         print(f'  drill {number} {count} sends {line!r}: {says}')
 
 
