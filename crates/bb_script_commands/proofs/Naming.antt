@@ -118,7 +118,6 @@ set_refused vars table name value e utf8 some =
     set_text vars table name value (is_utf8-from_IsUtf8 name utf8)
     ∙ ap (λ (o : Option StateError). cond (is_none o) (Some (after_set vars name value table)) None) some
 
-
 -- a variable that was set, by what the state answered
 pub set_so : {X : Type 0} (vars : List Var) (table name spelt value new : List ℕ) (answer : Result X StateError) → IsUtf8 name → spelt ≡ name
     → new ≡ after_set vars spelt value table → OnOk answer (refusal_for vars spelt value ≡ None)
