@@ -142,7 +142,7 @@ class Tokens:
         word = run_from(text, at, NAME_IN_VALUE if in_value else NAME)
         if not in_value and REF.fullmatch(word) and text.startswith(b':', at + len(word)):
             return self.taken('label', word, len(word) + 1)
-        begins = place in ('Props', 'PropsLabel', 'Nodes', 'NodesLabel') or not is_open
+        begins = place in ('Props', 'Nodes') or not is_open
         if word in PREPROCESSOR and begins:
             refuse('LeftOut', at)
         return self.taken('name', word, len(word)) if word else None
