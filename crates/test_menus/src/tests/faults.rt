@@ -1,5 +1,5 @@
 // Faults of the files, at each call.
-use super::rig::stands;
+use super::rig::{same, stands};
 use bb_base::{MemFiles, NoMemory};
 use bb_menu::{Menu, MenuFault, read_menu};
 use std::alloc::Global;
@@ -21,7 +21,7 @@ fn menu(alloc: Global, files: &mut MemFiles) -> Result<Menu, MenuFault> {
 }
 
 fn meets_a_fault(rt: &impl Abort, alloc: Global, files: &mut MemFiles) {
-    assert_eq!(rt; menu(alloc, files).err(), Some(MenuFault::FileFault));
+    same(rt, menu(alloc, files).err(), Some(MenuFault::FileFault));
 }
 
 fn is_whole(rt: &impl Abort, alloc: Global, files: &mut MemFiles) -> Result<(), Fail> {

@@ -1,7 +1,7 @@
 // The menus of folders in memory.
-use super::rig::stands;
+use super::rig::{same, stands};
 use bb_base::MemFiles;
-use bb_menu::{MenuFault, read_menu, read_menu_text};
+use bb_menu::{MenuFault, MenuItem, read_menu, read_menu_text};
 use std::alloc::Global;
 use std::process::Abort;
 use std::test::Fail;
@@ -220,11 +220,15 @@ fn the_first_entry(rt: HostRuntime) -> Result<(), Fail> {
     let mut files = files_of(rt.alloc(), worked_folder())?;
     let menu = read_menu(rt.alloc(), "m", &mut files)?;
     let first = menu.into_first().ok_or("an entry")?;
-    assert_eq!(rt; first.name.as_str(), "z.conf");
-    assert_eq!(rt; first.entry.title.as_str(), "Board");
-    assert_eq!(rt; first.entry.sort_key.as_str(), "m");
-    assert_eq!(rt; first.entry.linux.as_str(), "/z");
+    is_z(&rt, &first);
     Ok(())
+}
+
+fn is_z(rt: &impl Abort, item: &MenuItem) {
+    same(rt, item.name.as_str(), "z.conf");
+    same(rt, item.entry.title.as_str(), "Board");
+    same(rt, item.entry.sort_key.as_str(), "m");
+    same(rt, item.entry.linux.as_str(), "/z");
 }
 
 // A file of 1,048,577 bytes that a menu takes in.
@@ -245,17 +249,13 @@ fn refused() -> [(&'static [FileRow], &'static str, MenuFault); 4] {
     ]
 }
 
+fn is_refused(rt: &impl Abort, fault: Option<MenuFault>, wanted: MenuFault, dir: &str) {
+    assert_eq!(rt; fault, Some(wanted), "at {dir:?}");
+}
+
 fn refuses(rt: &impl Abort, alloc: Global, files: &mut MemFiles, dir: &str, wanted: MenuFault) {
-    assert_eq!(rt;
-        read_menu(alloc, dir, files).err(),
-        Some(wanted),
-        "at {dir:?}"
-    );
-    assert_eq!(rt;
-        read_menu_text(alloc, dir, files).err(),
-        Some(wanted),
-        "at {dir:?}"
-    );
+    is_refused(rt, read_menu(alloc, dir, files).err(), wanted, dir);
+    is_refused(rt, read_menu_text(alloc, dir, files).err(), wanted, dir);
 }
 
 #[test]

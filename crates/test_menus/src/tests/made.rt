@@ -18,14 +18,18 @@ fn drawn(state: u64, most: u64) -> (u64, u64) {
     (next, (next >> 33) % most.max(1))
 }
 
+fn character(number: u64) -> char {
+    CHARACTERS[number as usize % 12]
+}
+
 // A version of up to 8 characters, and the state after it.
 fn version(alloc: Global, state: u64) -> Result<(u64, String), Fail> {
     let mut text = String::new(alloc);
     let (mut state, len) = drawn(state, 9);
     for _ in 0..len {
-        let (next, character) = drawn(state, 12);
+        let (next, number) = drawn(state, 12);
         state = next;
-        text.push(CHARACTERS[character as usize % 12])?;
+        text.push(character(number))?;
     }
     Ok((state, text))
 }

@@ -1,4 +1,5 @@
 // A folder of many entries.
+use super::rig::same;
 use bb_base::MemFiles;
 use bb_menu::read_menu;
 use std::alloc::Global;
@@ -16,7 +17,7 @@ fn many_files(alloc: Global) -> Result<MemFiles, Fail> {
 
 fn is_numbered(rt: &impl Abort, alloc: Global, name: &str, number: usize) -> Result<(), Fail> {
     let wanted = format!(in alloc; "b-{number}.conf")?;
-    assert_eq!(rt; name, wanted.as_str());
+    same(rt, name, wanted.as_str());
     Ok(())
 }
 
@@ -25,7 +26,7 @@ fn is_numbered(rt: &impl Abort, alloc: Global, name: &str, number: usize) -> Res
 fn a_thousand_entries(rt: HostRuntime) -> Result<(), Fail> {
     let mut files = many_files(rt.alloc())?;
     let menu = read_menu(rt.alloc(), "m", &mut files)?;
-    assert_eq!(rt; menu.len(), 1000);
+    same(&rt, menu.len(), 1000);
     for place in 0..1000usize {
         let name = menu.name(place).ok_or("a name")?;
         is_numbered(

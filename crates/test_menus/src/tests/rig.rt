@@ -3,7 +3,13 @@ use bb_base::{NoMemory, Text, TextList};
 use bb_bls::Entry;
 use bb_menu::Menu;
 use std::alloc::Global;
+use std::fmt::Debug;
 use std::process::Abort;
+
+/// What was found is what is wanted. A call of this is proved sooner than `assert_eq!`.
+pub fn same<T: PartialEq + Debug + Drop>(rt: &impl Abort, found: T, wanted: T) {
+    assert_eq!(rt; found, wanted);
+}
 
 /// An entry with these keys, and nothing else in it.
 pub fn entry(
@@ -27,8 +33,8 @@ pub fn entry(
 
 /// The menu has these names, in this order, and no more.
 pub fn stands(rt: &impl Abort, menu: &Menu, wanted: &[&str]) {
-    assert_eq!(rt; menu.len(), wanted.len());
-    assert_eq!(rt; menu.is_empty(), wanted.is_empty());
+    same(rt, menu.len(), wanted.len());
+    same(rt, menu.is_empty(), wanted.is_empty());
     for place in 0..wanted.len() {
         is_at(rt, menu, place, wanted[place]);
     }
@@ -37,6 +43,6 @@ pub fn stands(rt: &impl Abort, menu: &Menu, wanted: &[&str]) {
 }
 
 fn is_at(rt: &impl Abort, menu: &Menu, place: usize, wanted: &str) {
-    assert_eq!(rt; menu.name(place).map(|name| name.as_str()), Some(wanted));
+    same(rt, menu.name(place).map(|name| name.as_str()), Some(wanted));
     assert!(rt; menu.entry(place).is_some());
 }

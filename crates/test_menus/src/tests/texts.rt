@@ -1,5 +1,6 @@
 // The texts of menus.
 use super::folders::{FileRow, files_of, odd_names, without_entries, worked_folder};
+use super::rig::same;
 use bb_menu::read_menu_text;
 use std::alloc::Global;
 use std::process::Abort;
@@ -44,7 +45,7 @@ fn tells(
 ) -> Result<(), Fail> {
     let mut files = files_of(alloc, rows)?;
     let text = read_menu_text(alloc, dir, &mut files)?;
-    assert_eq!(rt; text.as_slice(), wanted);
+    same(rt, text.as_slice(), wanted);
     Ok(())
 }
 
