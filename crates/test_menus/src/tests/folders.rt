@@ -219,7 +219,9 @@ fn the_menus_of_long_files(rt: HostRuntime) -> Result<(), Fail> {
 fn the_first_entry(rt: HostRuntime) -> Result<(), Fail> {
     let mut files = files_of(rt.alloc(), worked_folder())?;
     let menu = read_menu(rt.alloc(), "m", &mut files)?;
-    let first = menu.into_first().ok_or("an entry")?;
+    let Some(first) = menu.into_first() else {
+        return Err(Fail::from("no entry"));
+    };
     is_z(&rt, &first);
     Ok(())
 }

@@ -9,10 +9,15 @@ use std::test::Fail;
 fn many_files(alloc: Global) -> Result<MemFiles, Fail> {
     let mut files = MemFiles::none(alloc);
     for number in 0..1000 {
-        let path = format!(in alloc; "m/b-{number}.conf")?;
-        files.add(path.as_str(), b"linux /z\n")?;
+        add_numbered(alloc, &mut files, number)?;
     }
     Ok(files)
+}
+
+fn add_numbered(alloc: Global, files: &mut MemFiles, number: u32) -> Result<(), Fail> {
+    let path = format!(in alloc; "m/b-{number}.conf")?;
+    files.add(path.as_str(), b"linux /z\n")?;
+    Ok(())
 }
 
 fn is_numbered(rt: &impl Abort, alloc: Global, name: &str, number: usize) -> Result<(), Fail> {

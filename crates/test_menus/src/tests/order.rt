@@ -3,7 +3,6 @@ use super::rig::entry;
 use bb_bls::Entry;
 use bb_menu::before;
 use std::alloc::Global;
-use std::process::Abort;
 use std::test::Fail;
 
 // Two entries, the first of which stands in front: the sort key, the machine, the version and the
@@ -41,42 +40,31 @@ fn rows() -> &'static [Row] {
     ]
 }
 
-fn decides(rt: &impl Abort, alloc: Global, row: &Row) -> Result<(), Fail> {
+// Whether the first stands before the second, and neither the second before the first nor the first
+// before itself.
+fn is_order(first: &Entry, name: &str, second: &Entry, other: &str) -> bool {
+    before(first, name, second, other)
+        && !before(second, other, first, name)
+        && !before(first, name, first, name)
+}
+
+fn stand_in_order(alloc: Global, row: &Row) -> Result<bool, Fail> {
     let (key, machine, version, name, _, _, _, _) = *row;
     let first = entry(alloc, key, machine, version)?;
-    stands_before(rt, alloc, &first, name, row)
+    stands_before(alloc, &first, name, row)
 }
 
-fn stands_before(
-    rt: &impl Abort,
-    alloc: Global,
-    first: &Entry,
-    name: &str,
-    row: &Row,
-) -> Result<(), Fail> {
+fn stands_before(alloc: Global, first: &Entry, name: &str, row: &Row) -> Result<bool, Fail> {
     let (_, _, _, _, key, machine, version, other) = *row;
     let second = entry(alloc, key, machine, version)?;
-    is_order(rt, first, name, &second, other);
-    Ok(())
-}
-
-// The first stands before the second, the second doesn't before the first, nor does the first
-// before itself.
-fn is_order(rt: &impl Abort, first: &Entry, name: &str, second: &Entry, other: &str) {
-    is(rt, before(first, name, second, other), first, name);
-    is(rt, !before(second, other, first, name), second, other);
-    is(rt, !before(first, name, first, name), first, name);
-}
-
-fn is(rt: &impl Abort, holds: bool, entry: &Entry, name: &str) {
-    let (key, version) = (entry.sort_key.as_str(), entry.version.as_str());
-    assert!(rt; holds, "{key:?} {version:?} {name:?}");
+    Ok(is_order(first, name, &second, other))
 }
 
 #[test]
 fn each_key_in_its_turn(rt: HostRuntime) -> Result<(), Fail> {
-    for row in rows() {
-        decides(&rt, rt.alloc(), row)?;
+    for (place, row) in rows().iter().enumerate() {
+        let holds = stand_in_order(rt.alloc(), row)?;
+        assert!(rt; holds, "row {place}");
     }
     Ok(())
 }
