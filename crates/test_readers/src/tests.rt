@@ -1,5 +1,6 @@
 mod actions;
 mod causes;
+mod checks;
 mod entries;
 mod lists;
 mod places;

@@ -14,8 +14,8 @@ fn cause_in(alloc: Global, line: &str) -> Result<Option<CauseWord>, NoMemory> {
     }
 }
 
-fn causes() -> [(&'static str, CauseWord); 4] {
-    [
+fn causes() -> &'static [(&'static str, CauseWord)] {
+    &[
         ("boot -i a -c b", CauseWord::Other),
         ("boot -i a -c b --cause power-on", CauseWord::PowerOn),
         ("boot -i a -c b --cause reset", CauseWord::Reset),
@@ -25,7 +25,8 @@ fn causes() -> [(&'static str, CauseWord); 4] {
 
 #[test]
 fn each_cause_has_its_word(rt: HostRuntime) -> Result<(), Fail> {
-    for (line, cause) in causes() {
+    for row in causes() {
+        let (line, cause) = *row;
         let said = cause_in(rt.alloc(), line)?;
         assert_eq!(rt; said, Some(cause), "at {line}");
     }

@@ -25,8 +25,8 @@ fn are_bad(rt: &impl Abort, alloc: Global, lines: &[(&str, usize)]) -> Result<()
     Ok(())
 }
 
-fn boots() -> [(&'static str, usize); 7] {
-    [
+fn boots() -> &'static [(&'static str, usize)] {
+    &[
         ("boot -i a", 3),
         ("boot -i a -c b --cause", 6),
         ("boot -i a -c b --cause=reset", 5),
@@ -39,11 +39,11 @@ fn boots() -> [(&'static str, usize); 7] {
 
 #[test]
 fn a_boot_has_its_bad_words(rt: HostRuntime) -> Result<(), Fail> {
-    are_bad(&rt, rt.alloc(), &boots())
+    are_bad(&rt, rt.alloc(), boots())
 }
 
-fn menus() -> [(&'static str, usize); 5] {
-    [
+fn menus() -> &'static [(&'static str, usize)] {
+    &[
         ("menu", 1),
         ("menu --dir", 2),
         ("menu --dir=m", 1),
@@ -54,11 +54,11 @@ fn menus() -> [(&'static str, usize); 5] {
 
 #[test]
 fn a_menu_has_its_bad_words(rt: HostRuntime) -> Result<(), Fail> {
-    are_bad(&rt, rt.alloc(), &menus())
+    are_bad(&rt, rt.alloc(), menus())
 }
 
-fn raws() -> [(&'static str, usize); 6] {
-    [
+fn raws() -> &'static [(&'static str, usize)] {
+    &[
         ("raw 1", 2),
         ("raw 0x1 9 -g x", 4),
         ("raw 1 9 -s 31323334353637383", 4),
@@ -68,8 +68,8 @@ fn raws() -> [(&'static str, usize); 6] {
     ]
 }
 
-fn states() -> [(&'static str, usize); 9] {
-    [
+fn states() -> &'static [(&'static str, usize)] {
+    &[
         ("", 0),
         ("state -d", 2),
         ("state -i a --input a", 3),
@@ -84,6 +84,6 @@ fn states() -> [(&'static str, usize); 9] {
 
 #[test]
 fn a_bad_word_has_its_place(rt: HostRuntime) -> Result<(), Fail> {
-    are_bad(&rt, rt.alloc(), &raws())?;
-    are_bad(&rt, rt.alloc(), &states())
+    are_bad(&rt, rt.alloc(), raws())?;
+    are_bad(&rt, rt.alloc(), states())
 }

@@ -2,6 +2,7 @@
 ghost use Rattle.std.specs.Prelude.{◌≡◌, ◌+◌, ◌≤◌, IfOk, length};
 ghost use Rattle.bb_vars.specs.Kind.{HasFewNames, size_of};
 
+use super::checks::same;
 use bb_base::{Bytes, NoMemory, Text, TextList};
 use bb_vars::{Kind, Table, ValueError, check_value, print_value, read_value};
 use std::alloc::Global;
@@ -26,23 +27,23 @@ fn printed(alloc: Global, kind: &Kind, bytes: &[u8]) -> Result<Bytes, NoMemory>
 fn a_uint8_ends_at_255(rt: HostRuntime) {
     let mut out = [7u8; 1];
     let past = read(&Kind::Uint8, b"256", &mut out);
-    assert_eq!(rt; past, Err(ValueError::TooLarge));
-    assert_eq!(rt; out[0], 7);
+    same(&rt, past, Err(ValueError::TooLarge));
+    same(&rt, out[0], 7);
     let last = read(&Kind::Uint8, b"255", &mut out);
-    assert_eq!(rt; last, Ok(()));
-    assert_eq!(rt; out[0], 255);
+    same(&rt, last, Ok(()));
+    same(&rt, out[0], 255);
 }
 
 #[test]
 fn a_string_is_filled_up(rt: HostRuntime) {
     let mut out = [7u8; 4];
     let long = read(&Kind::Chars(4), b"abcde", &mut out);
-    assert_eq!(rt; long, Err(ValueError::TooLong));
+    same(&rt, long, Err(ValueError::TooLong));
     let zero = read(&Kind::Chars(4), b"a\0c", &mut out);
-    assert_eq!(rt; zero, Err(ValueError::HasZeroByte));
+    same(&rt, zero, Err(ValueError::HasZeroByte));
     let short = read(&Kind::Chars(4), b"ab", &mut out);
-    assert_eq!(rt; short, Ok(()));
-    assert_eq!(rt; out.as_slice(), b"ab\0\0".as_slice());
+    same(&rt, short, Ok(()));
+    same(&rt, out.as_slice(), b"ab\0\0".as_slice());
 }
 
 // The kind of two names.
@@ -61,12 +62,12 @@ fn an_enum_has_its_names(rt: HostRuntime) -> Result<(), Fail> {
     let mode = mode(rt.alloc())?;
     let mut out = [7u8; 4];
     let spare = read(&mode, b"spare", &mut out);
-    assert_eq!(rt; spare, Err(ValueError::NoSuchName));
+    same(&rt, spare, Err(ValueError::NoSuchName));
     let backup = read(&mode, b"backup", &mut out);
-    assert_eq!(rt; backup, Ok(()));
-    assert_eq!(rt; out.as_slice(), b"\x01\0\0\0".as_slice());
+    same(&rt, backup, Ok(()));
+    same(&rt, out.as_slice(), b"\x01\0\0\0".as_slice());
     let text = printed(rt.alloc(), &mode, b"\x02\0\0\0")?;
-    assert_eq!(rt; text.as_slice(), b"2".as_slice());
+    same(&rt, text.as_slice(), b"2".as_slice());
     Ok(())
 }
 
@@ -74,11 +75,11 @@ fn an_enum_has_its_names(rt: HostRuntime) -> Result<(), Fail> {
 fn a_mac_has_six_pairs(rt: HostRuntime) -> Result<(), Fail> {
     let mut out = [7u8; 6];
     let five = read(&Kind::Mac, b"00:11:22:33:44", &mut out);
-    assert_eq!(rt; five, Err(ValueError::NotMac));
+    same(&rt, five, Err(ValueError::NotMac));
     let six = read(&Kind::Mac, b"00:11:22:33:44:55", &mut out);
-    assert_eq!(rt; six, Ok(()));
+    same(&rt, six, Ok(()));
     let text = printed(rt.alloc(), &Kind::Mac, &out)?;
-    assert_eq!(rt; text.as_slice(), b"00:11:22:33:44:55".as_slice());
+    same(&rt, text.as_slice(), b"00:11:22:33:44:55".as_slice());
     Ok(())
 }
 
@@ -107,12 +108,12 @@ fn check(kind: &Kind, text: &[u8]) -> Result<(), ValueError>
 #[test]
 fn a_table_takes_bytes_at_a_place(rt: HostRuntime) -> Result<(), Fail> {
     let mut table = table(rt.alloc())?;
-    assert_eq!(rt; table.bytes(), b"abXYef".as_slice());
+    same(&rt, table.bytes(), b"abXYef".as_slice());
     let was_put = put(&mut table, &Kind::Uint8, 3, b"0x7a");
-    assert_eq!(rt; was_put, Ok(()));
-    assert_eq!(rt; table.bytes(), b"abXzef".as_slice());
+    same(&rt, was_put, Ok(()));
+    same(&rt, table.bytes(), b"abXzef".as_slice());
     let fits = check(&Kind::Chars(4), b"abcd");
-    assert_eq!(rt; fits, Ok(()));
-    assert_eq!(rt; Kind::Chars(9).size(), 9);
+    same(&rt, fits, Ok(()));
+    same(&rt, Kind::Chars(9).size(), 9);
     Ok(())
 }

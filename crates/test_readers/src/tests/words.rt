@@ -1,4 +1,5 @@
 // Words that are a command.
+use super::checks::same;
 use super::lists::words_in;
 use bb_base::Text;
 use bb_words::{
@@ -54,13 +55,13 @@ fn menu(alloc: Global, line: &str) -> Result<MenuCommand, Fail> {
 }
 
 fn has_text(rt: &impl Abort, text: &Text, wanted: &str) {
-    assert_eq!(rt; text.as_str(), wanted);
+    same(rt, text.as_str(), wanted);
 }
 
 // A text is said, and it is this.
 fn says(rt: &impl Abort, text: &Option<Text>, wanted: &str) {
     let said = text_in(text);
-    assert_eq!(rt; said, Some(wanted));
+    same(rt, said, Some(wanted));
 }
 
 fn text_in(text: &Option<Text>) -> Option<&str> {
@@ -73,8 +74,8 @@ fn text_in(text: &Option<Text>) -> Option<&str> {
 #[test]
 fn a_look_is_read(rt: HostRuntime) -> Result<(), Fail> {
     let raw = raw(rt.alloc(), "raw 0x12345678 9 -g")?;
-    assert_eq!(rt; raw.magic, 0x1234_5678);
-    assert_eq!(rt; raw.area_len, 9);
+    same(&rt, raw.magic, 0x1234_5678);
+    same(&rt, raw.area_len, 9);
     assert!(rt; matches!(raw.action, RawAction::Look));
     Ok(())
 }
@@ -85,7 +86,7 @@ fn an_area_is_read(rt: HostRuntime) -> Result<(), Fail> {
     let RawAction::Write(area) = raw.action else {
         return Err(Fail::from("another action"));
     };
-    assert_eq!(rt; area.as_slice(), b"\x00\xab\xff".as_slice());
+    same(&rt, area.as_slice(), b"\x00\xab\xff".as_slice());
     Ok(())
 }
 
@@ -126,7 +127,7 @@ fn options_come_in_any_order(rt: HostRuntime) -> Result<(), Fail> {
 
 fn has_four_actions(rt: &impl Abort, state: &StateCommand) {
     let actions = &state.actions;
-    assert_eq!(rt; actions.len(), 4);
+    same(rt, actions.len(), 4);
     assert!(rt; !actions.is_empty());
     assert!(rt; is_dump(actions.get(0)));
     assert!(rt; is_get(actions.get(1), "a"));
@@ -154,7 +155,7 @@ fn a_cause_is_said(rt: HostRuntime) -> Result<(), Fail> {
     has_text(&rt, &boot.settings, "set.txt");
     says(&rt, &boot.described.name, "--cause");
     says(&rt, &boot.described.key, "key.hex");
-    assert_eq!(rt; boot.cause, CauseWord::PowerOn);
+    same(&rt, boot.cause, CauseWord::PowerOn);
     Ok(())
 }
 
