@@ -1,5 +1,5 @@
 -- The whole of a boot.
-use Rattle.std.proofs.Common.{◌≡◌, ℕ, ◌+◌, ◌++◌, List, [], ◌∷◌, Option, IsTrue, ap, arith, length, length-append, refl, sym, subst, ◌∙◌}
+use Rattle.std.proofs.Common.{◌≡◌, ℕ, ◌+◌, ◌++◌, List, [], ◌∷◌, Option, IsTrue, ap, length, length-append, refl, sym, subst, ◌∙◌, Some}
 use Rattle.std.specs.Option.{option_map_or}
 use Rattle.bb_chooser.specs.Binding.{Binding}
 use Rattle.bb_flash.specs.declared.plan.Plan.{Plan}
@@ -8,10 +8,10 @@ use Rattle.bb_state.specs.State.{form_of, last_table_of, keyed_of, laid_of, used
 use Rattle.bb_state.specs.declared.state.State.{State}
 use Rattle.bb_layout.specs.Kept.{IsLaid}
 use Rattle.bb_shell.proofs.Reached.{stops_refused}
-use Rattle.bb_shell.proofs.Trails.{boot_exit, boot_trail}
-use Rattle.bb_shell.proofs.Underway.{last_is}
+use Rattle.bb_shell.proofs.Trails.{rounds_exit, rounds_trail}
+use Rattle.bb_shell.proofs.Underway.{last_is, rose_none}
 use Rattle.bb_shell.specs.Boot.{AreRounds, NoneQualifies, Round, end_by}
-use Rattle.bb_shell.specs.Ends.{HaveRun, IsBooted, RaisedBy}
+use Rattle.bb_shell.specs.Ends.{HaveRun, IsBooted}
 use Rattle.bb_shell.specs.Running.{AreRun}
 use Rattle.bb_shell.specs.declared.boot_end.BootEnd.{BootEnd}
 use Rattle.bb_shell.specs.declared.boot_end.BootEnd.TheVariants as ends
@@ -34,13 +34,10 @@ booted_of b plans first table before after from to end same geometry fits facts 
           ∙ sym (ap (λ o. option_map_or (λ (round : Round). end_by b (length rounds) round round.outcome) o ends.NoTarget) last);
       table = run.table ∙ sym (ap (λ o. option_map_or (λ (round : Round). round.table) o before.table) last);
       kept = λ sure. run.kept sure ∙ sym (ap (λ o. option_map_or (λ (round : Round). round.table) o before.backing.kept) last);
-      trail = boot_trail (keyed_of before) plans rounds (last_table_of before) (used_of before) (used_of after) from to geometry stops run.run;
-      exit = boot_exit (keyed_of before) plans rounds (last_table_of before) (used_of before) (used_of after) from to geometry stops run.run;
+      trail = rounds_trail (keyed_of before) plans rounds (Some (last_table_of before)) (used_of before) (used_of after) from to geometry stops run.run;
+      exit = rounds_exit (keyed_of before) plans rounds (Some (last_table_of before)) (used_of before) (used_of after) from to geometry stops run.run;
       start_faults = run.start_faults;
     }
-
-rose_none : (n : ℕ) → RaisedBy 0 n n
-rose_none n = omega arith
 
 pub booted_none : (b : Binding) (plans : List (Option Plan)) (first : List ℕ) (state : State) (device : Device) → NoneQualifies b first →
     device.geometry ≡ (laid_of state).geometry → IsBooted b plans first state state device device ends.NoTarget
@@ -52,7 +49,7 @@ booted_none b plans first state device none geometry = record {
   end_is = refl;
   table = refl;
   kept = λ sure. refl;
-  trail = boot_trail (keyed_of state) plans [] (last_table_of state) (used_of state) (used_of state) device device geometry tt (refl, refl);
-  exit = boot_exit (keyed_of state) plans [] (last_table_of state) (used_of state) (used_of state) device device geometry tt (refl, refl);
+  trail = rounds_trail (keyed_of state) plans [] (Some (last_table_of state)) (used_of state) (used_of state) device device geometry tt (refl, refl);
+  exit = rounds_exit (keyed_of state) plans [] (Some (last_table_of state)) (used_of state) (used_of state) device device geometry tt (refl, refl);
   start_faults = rose_none device.start_faults;
 }

@@ -103,20 +103,20 @@ module _ (b : Binding) (is : IsBinding b) where
       omega (arith, less, kept))
 
   next_saved : (table : List ℕ) (round : Round) (later : List Round) → length table ≡ b.area_len → IsSpent b table round →
-      saves_of table (round ∷ later) ≡ round.table ∷ saves_of round.table later
+      saves_of (Some table) (round ∷ later) ≡ round.table ∷ saves_of (Some round.table) later
   next_saved table round later sized spent =
-      ap (map (λ (r : Round). r.table)) (begun_saving table round later (next_other table round sized spent))
+      ap (map (λ (r : Round). r.table)) (begun_saving (Some table) round later (next_other table round sized spent))
 
   saves_fall : (table : List ℕ) (rounds : List Round) → length table ≡ b.area_len → AreSpent b table rounds →
-      Falls left (table ∷ saves_of table rounds) 0
+      Falls left (table ∷ saves_of (Some table) rounds) 0
   saves_fall table [] sized spent = falls_one left table
   saves_fall table (round ∷ later) sized spent =
       let rest = saves_fall round.table later (next_sized table round sized spent.0) spent.1 in
       subst (λ saves. Falls left (table ∷ saves) 0) (sym (next_saved table round later sized spent.0))
-      (falls_cons left table round.table (saves_of round.table later) (spent_less table round sized spent.0) rest)
+      (falls_cons left table round.table (saves_of (Some round.table) later) (spent_less table round sized spent.0) rest)
 
   start_saved : (table : List ℕ) (rounds : List Round) → length table ≡ b.area_len → AreSpent b table rounds →
-      IsSome (target_started rounds) → 1 ≤ length (saves_of table rounds)
+      IsSome (target_started rounds) → 1 ≤ length (saves_of (Some table) rounds)
   start_saved table [] sized spent none = absurd (false≢true none)
   start_saved table (round ∷ later) sized spent some =
       let many = ap length (next_saved table round later sized spent.0) in
@@ -139,8 +139,8 @@ module _ (b : Binding) (is : IsBinding b) where
       same_rounds : rounds_by b plans (reset_of b cause boot.table) boot.answers ≡ rounds
       same_rounds = ap (λ t. rounds_by b plans t boot.answers) (stays boot.table boot.table_is)
 
-      saves_are : saves ≡ saves_of boot.table rounds
-      saves_are = ap saves_in boot.turn ∙ ap (saves_of boot.table) same_rounds
+      saves_are : saves ≡ saves_of (Some boot.table) rounds
+      saves_are = ap saves_in boot.turn ∙ ap (saves_of (Some boot.table)) same_rounds
 
       started_is : started ≡ target_started rounds
       started_is = ap started_in boot.turn ∙ ap target_started same_rounds

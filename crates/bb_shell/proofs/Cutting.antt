@@ -5,7 +5,6 @@ use Rattle.std.proofs.lemmas.List.{append-nil}
 use Rattle.std.specs.List.{AllByRecursion}
 use Rattle.std.specs.Option.{option_and_then, option_map_or}
 use Rattle.std.specs.Prelude.{count_by, slice_get, take}
-use Rattle.std.specs.Str.{bytes_eq}
 use Rattle.bb_chooser.specs.Binding.{Binding}
 use Rattle.bb_chooser.specs.Counting.{spend_of}
 use Rattle.bb_chooser.specs.declared.cause.Cause.{Cause}
@@ -21,7 +20,7 @@ use Rattle.bb_shell.specs.Boot.{Round, first_table, is_retried, plan_at}
 use Rattle.bb_shell.specs.Counting.{IsBootAfter, target_started, turn_of_rounds}
 use Rattle.bb_shell.specs.Cutting.{BootCutLaw, IsBootCutOff}
 use Rattle.bb_shell.specs.Rounds.{RoundAnswer, best_of, followed_by, is_started, outcome_by, round_by, rounds_by}
-use Rattle.bb_shell.specs.Running.{is_refused_save}
+use Rattle.bb_shell.specs.Running.{is_refused_save, same_as_kept}
 use Rattle.bb_shell.specs.Stages.{made_of, saves_of, saving_rounds}
 use Rattle.bb_shell.specs.declared.outcome.Outcome.{Outcome}
 use Rattle.bb_shell.specs.declared.outcome.Outcome.TheVariants.{Refused, Unplanned, Failed, Started}
@@ -89,7 +88,7 @@ unstarted_behind round (next ∷ later) none rest = later_started round next lat
 module _ (b : Binding) (plans : List (Option Plan)) where
   -- a boot from this table on, where `kept` was loaded or saved last and the list is `h` up to the
   -- acknowledged place, comes to a stage by some answers, and starts nothing
-  record ReachedBy (table kept : List ℕ) (h : List (List ℕ)) (a : ℕ) (reached : Stage) : Type 0 where
+  record ReachedBy (table : List ℕ) (kept : Option (List ℕ)) (h : List (List ℕ)) (a : ℕ) (reached : Stage) : Type 0 where
     answers : List RoundAnswer
     areas : reached.areas ≡ h ++ saves_of kept (rounds_by b plans table answers)
     acked : reached.acked ≡ a + made_of kept (rounds_by b plans table answers)
@@ -98,13 +97,13 @@ module _ (b : Binding) (plans : List (Option Plan)) where
     least : length (saves_of kept (rounds_by b plans table answers)) ≤ made_of kept (rounds_by b plans table answers) + 1
 
   -- the saves of rounds, as the rounds that saved
-  record SavesSo (kept : List ℕ) (rounds saving : List Round) : Type 0 where
+  record SavesSo (kept : Option (List ℕ)) (rounds saving : List Round) : Type 0 where
     same : saving_rounds kept rounds ≡ saving
     unstarted : target_started rounds ≡ None
     most : count_by is_made saving ≤ length (map (λ (r : Round). r.table) saving)
     least : length (map (λ (r : Round). r.table) saving) ≤ count_by is_made saving + 1
 
-  by_rounds : (table kept : List ℕ) (h : List (List ℕ)) (a : ℕ) (answers : List RoundAnswer) (rounds saving : List Round) →
+  by_rounds : (table : List ℕ) (kept : Option (List ℕ)) (h : List (List ℕ)) (a : ℕ) (answers : List RoundAnswer) (rounds saving : List Round) →
       rounds_by b plans table answers ≡ rounds → SavesSo kept rounds saving →
       ReachedBy table kept h a (stage (h ++ map (λ (r : Round). r.table) saving) (a + count_by is_made saving))
   by_rounds table kept h a answers rounds saving e so =
@@ -121,7 +120,7 @@ module _ (b : Binding) (plans : List (Option Plan)) where
 
   -- ---- the stages at which a boot can stop
 
-  reached_here : (table kept : List ℕ) (h : List (List ℕ)) (a : ℕ) → ReachedBy table kept h a (stage h a)
+  reached_here : (table : List ℕ) (kept : Option (List ℕ)) (h : List (List ℕ)) (a : ℕ) → ReachedBy table kept h a (stage h a)
   unfolding rounds_by
   reached_here table kept h a = record {
     answers = [];
@@ -165,8 +164,8 @@ module _ (b : Binding) (plans : List (Option Plan)) where
   abbrev failing : RoundAnswer
   failing = record { save = None; starts = false }
 
-  module _ (table kept : List ℕ) (h : List (List ℕ)) (a target : ℕ) (best : best_of b table ≡ Some target)
-      (begins : bytes_eq (spend_of b table target) kept ≡ false) where
+  module _ (table : List ℕ) (kept : Option (List ℕ)) (h : List (List ℕ)) (a target : ℕ) (best : best_of b table ≡ Some target)
+      (begins : same_as_kept kept (spend_of b table target) ≡ false) where
     abbrev Spent : List ℕ
     Spent = spend_of b table target
 
@@ -202,7 +201,7 @@ module _ (b : Binding) (plans : List (Option Plan)) where
 
   -- ---- after a round after which another is tried
 
-  module _ (table kept : List ℕ) (answer : RoundAnswer) (target : ℕ) (best : best_of b table ≡ Some target)
+  module _ (table : List ℕ) (kept : Option (List ℕ)) (answer : RoundAnswer) (target : ℕ) (best : best_of b table ≡ Some target)
       (retried : is_retried b (round_by b plans table answer target).outcome ≡ true) where
     abbrev One : Round
     One = round_by b plans table answer target
@@ -218,11 +217,11 @@ module _ (b : Binding) (plans : List (Option Plan)) where
         unstarted_behind One (rounds_by b plans One.table answers) (retried_unstarted b One.outcome retried) none
 
     -- its table was the last one that was saved
-    behind_idle : bytes_eq One.table kept ≡ true → (h : List (List ℕ)) (a : ℕ) (s : Stage) →
-        ReachedBy One.table One.table h a s → ReachedBy table kept h a s
+    behind_idle : same_as_kept kept One.table ≡ true → (h : List (List ℕ)) (a : ℕ) (s : Stage) →
+        ReachedBy One.table (Some One.table) h a s → ReachedBy table kept h a s
     behind_idle e h a s by =
         let rest = rounds_by b plans One.table by.answers in
-        let saving = saving_rounds One.table rest in
+        let saving = saving_rounds (Some One.table) rest in
         let stands : stage (h ++ map (λ (r : Round). r.table) saving) (a + count_by is_made saving) ≡ s =
         λ i. record { areas = (sym by.areas) i; acked = (sym by.acked) i } in
         subst (ReachedBy table kept h a) stands
@@ -235,11 +234,11 @@ module _ (b : Binding) (plans : List (Option Plan)) where
         }))
 
     -- it saved its table
-    behind_made : bytes_eq One.table kept ≡ false → (h : List (List ℕ)) (a : ℕ) (s : Stage) →
-        ReachedBy One.table One.table (h ++ One.table ∷ []) (a + 1) s → ReachedBy table kept h a s
+    behind_made : same_as_kept kept One.table ≡ false → (h : List (List ℕ)) (a : ℕ) (s : Stage) →
+        ReachedBy One.table (Some One.table) (h ++ One.table ∷ []) (a + 1) s → ReachedBy table kept h a s
     behind_made e h a s by =
         let rest = rounds_by b plans One.table by.answers in
-        let saving = saving_rounds One.table rest in
+        let saving = saving_rounds (Some One.table) rest in
         let tables = map (λ (r : Round). r.table) saving in
         let made = made_cons One saving false (retried_saved b One.outcome retried) in
         let most = by.most in
@@ -261,23 +260,23 @@ module _ (b : Binding) (plans : List (Option Plan)) where
 
   -- ---- all stages
 
-  abbrev Reaches : List ℕ → List ℕ → List (List ℕ) → ℕ → List Round → Type 0
+  abbrev Reaches : List ℕ → Option (List ℕ) → List (List ℕ) → ℕ → List Round → Type 0
   Reaches table kept h a rounds =
       AllByRecursion (ReachedBy table kept h a) (reached_by h a (saving_rounds kept rounds))
 
-  none_reached : (table kept : List ℕ) (h : List (List ℕ)) (a : ℕ) → Reaches table kept h a []
+  none_reached : (table : List ℕ) (kept : Option (List ℕ)) (h : List (List ℕ)) (a : ℕ) → Reaches table kept h a []
   none_reached table kept h a = (reached_here table kept h a, tt)
 
-  module _ (table kept : List ℕ) (answer : RoundAnswer) (target : ℕ) (best : best_of b table ≡ Some target)
+  module _ (table : List ℕ) (kept : Option (List ℕ)) (answer : RoundAnswer) (target : ℕ) (best : best_of b table ≡ Some target)
       (h : List (List ℕ)) (a : ℕ) where
     abbrev Round0 : Round
     Round0 = round_by b plans table answer target
 
     -- a round that is the last
     last_reached : Reaches table kept h a (Round0 ∷ [])
-    last_reached = at (bytes_eq Round0.table kept) refl (is_refused_save Round0.outcome) refl
+    last_reached = at (same_as_kept kept Round0.table) refl (is_refused_save Round0.outcome) refl
       where
-        at : (same : Bool) → bytes_eq Round0.table kept ≡ same → (refused : Bool) → is_refused_save Round0.outcome ≡ refused →
+        at : (same : Bool) → same_as_kept kept Round0.table ≡ same → (refused : Bool) → is_refused_save Round0.outcome ≡ refused →
             Reaches table kept h a (Round0 ∷ [])
         at true e refused f =
             subst (λ l. AllByRecursion (ReachedBy table kept h a) (reached_by h a l)) (sym (idle_saving kept Round0 [] e))
@@ -295,41 +294,41 @@ module _ (b : Binding) (plans : List (Option Plan)) where
 
     -- one after which others come
     more_reached : is_retried b Round0.outcome ≡ true → (rest : List Round) →
-        ((h' : List (List ℕ)) (a' : ℕ) → Reaches Round0.table Round0.table h' a' rest) →
+        ((h' : List (List ℕ)) (a' : ℕ) → Reaches Round0.table (Some Round0.table) h' a' rest) →
         Reaches table kept h a (Round0 ∷ rest)
-    more_reached retried rest later = at (bytes_eq Round0.table kept) refl
+    more_reached retried rest later = at (same_as_kept kept Round0.table) refl
       where
-        at : (same : Bool) → bytes_eq Round0.table kept ≡ same → Reaches table kept h a (Round0 ∷ rest)
+        at : (same : Bool) → same_as_kept kept Round0.table ≡ same → Reaches table kept h a (Round0 ∷ rest)
         at true e =
             subst (λ l. AllByRecursion (ReachedBy table kept h a) (reached_by h a l)) (sym (idle_saving kept Round0 rest e))
-            (all_weaker (ReachedBy Round0.table Round0.table h a) (ReachedBy table kept h a)
+            (all_weaker (ReachedBy Round0.table (Some Round0.table) h a) (ReachedBy table kept h a)
             (behind_idle table kept answer target best retried e h a)
-            (reached_by h a (saving_rounds Round0.table rest)) (later h a))
+            (reached_by h a (saving_rounds (Some Round0.table) rest)) (later h a))
         at false e =
-            let saving = saving_rounds Round0.table rest in
+            let saving = saving_rounds (Some Round0.table) rest in
             subst (λ l. AllByRecursion (ReachedBy table kept h a) (reached_by h a l)) (sym (begun_saving kept Round0 rest e))
             (subst (AllByRecursion (ReachedBy table kept h a))
             (sym (made_stages h a Round0 saving (retried_saved b Round0.outcome retried))) (
               reached_here table kept h a,
               (
                 reached_begun table kept h a target best e,
-                all_weaker (ReachedBy Round0.table Round0.table (h ++ Round0.table ∷ []) (a + 1)) (ReachedBy table kept h a)
+                all_weaker (ReachedBy Round0.table (Some Round0.table) (h ++ Round0.table ∷ []) (a + 1)) (ReachedBy table kept h a)
                     (behind_made table kept answer target best retried e h a)
                     (reached_by (h ++ Round0.table ∷ []) (a + 1) saving) (later (h ++ Round0.table ∷ []) (a + 1)),
               ),
             ))
 
-  unanswered : (table kept : List ℕ) (h : List (List ℕ)) (a : ℕ) → Reaches table kept h a (rounds_by b plans table [])
+  unanswered : (table : List ℕ) (kept : Option (List ℕ)) (h : List (List ℕ)) (a : ℕ) → Reaches table kept h a (rounds_by b plans table [])
   unfolding rounds_by
   unanswered table kept h a = none_reached table kept h a
 
-  all_reached : (answers : List RoundAnswer) (table kept : List ℕ) (h : List (List ℕ)) (a : ℕ) →
+  all_reached : (answers : List RoundAnswer) (table : List ℕ) (kept : Option (List ℕ)) (h : List (List ℕ)) (a : ℕ) →
       Reaches table kept h a (rounds_by b plans table answers)
   all_reached [] table kept h a = unanswered table kept h a
   all_reached (answer ∷ answers) table kept h a =
-      at (λ t h' a'. all_reached answers t t h' a') (best_of b table) refl
+      at (λ t h' a'. all_reached answers t (Some t) h' a') (best_of b table) refl
     where
-      follow : ((t : List ℕ) (h' : List (List ℕ)) (a' : ℕ) → Reaches t t h' a' (rounds_by b plans t answers)) →
+      follow : ((t : List ℕ) (h' : List (List ℕ)) (a' : ℕ) → Reaches t (Some t) h' a' (rounds_by b plans t answers)) →
           (target : ℕ) → best_of b table ≡ Some target → (more : Bool) →
           is_retried b (round_by b plans table answer target).outcome ≡ more →
           Reaches table kept h a
@@ -345,7 +344,7 @@ module _ (b : Binding) (plans : List (Option Plan)) where
           let rest = rounds_by b plans round.table answers in
           subst (Reaches table kept h a) (sym (ends_here b round rest e)) (last_reached table kept answer target best h a)
 
-      at : ((t : List ℕ) (h' : List (List ℕ)) (a' : ℕ) → Reaches t t h' a' (rounds_by b plans t answers)) →
+      at : ((t : List ℕ) (h' : List (List ℕ)) (a' : ℕ) → Reaches t (Some t) h' a' (rounds_by b plans t answers)) →
           (o : Option ℕ) → best_of b table ≡ o → Reaches table kept h a (rounds_by b plans table (answer ∷ answers))
       at again None e = subst (Reaches table kept h a) (sym (no_round table answer answers e)) (none_reached table kept h a)
       at again (Some target) e =
@@ -399,18 +398,18 @@ module _ (b : Binding) (cause : Cause) (plans : List (Option Plan)) (first : Lis
     abbrev rounds : List Round
     rounds = rounds_by b plans (first_table b cause true behind.table) behind.answers
 
-    saves_is : saves ≡ saves_of behind.table rounds
+    saves_is : saves ≡ saves_of (Some behind.table) rounds
     saves_is = let e = behind.turn in cc
 
-    ok_is : ok ≡ made_of behind.table rounds
+    ok_is : ok ≡ made_of (Some behind.table) rounds
     ok_is = let e = behind.turn in cc
 
     stages_are : take (1 + length saves + ok) (stage Given place ∷ stages_of Given place saves)
-        ≡ reached_by Given place (saving_rounds behind.table rounds)
+        ≡ reached_by Given place (saving_rounds (Some behind.table) rounds)
     stages_are =
         ap (λ l. take (1 + length l + ok) (stage Given place ∷ stages_of Given place l)) saves_is
-        ∙ ap (λ n. take (1 + length (saves_of behind.table rounds) + n)
-        (stage Given place ∷ stages_of Given place (saves_of behind.table rounds))) ok_is
+        ∙ ap (λ n. take (1 + length (saves_of (Some behind.table) rounds) + n)
+        (stage Given place ∷ stages_of Given place (saves_of (Some behind.table) rounds))) ok_is
 
     -- the load was cut
     at_entry : TurnMakes before Unloaded s.areas s.acked → Cut Whole
@@ -423,13 +422,13 @@ module _ (b : Binding) (cause : Cause) (plans : List (Option Plan)) (first : Lis
     -- it gave a table, and the rounds after it had come so far
     at_stage : (number : ℕ) →
         slice_get (take (1 + length saves + ok) (stage Given place ∷ stages_of Given place saves)) number ≡ Some s →
-        ReachedBy b plans (first_table b cause true behind.table) behind.table Given place s → Cut Whole
+        ReachedBy b plans (first_table b cause true behind.table) (Some behind.table) Given place s → Cut Whole
     at_stage number e by =
         let earlier = rounds_by b plans (first_table b cause true behind.table) by.answers in
         let none : IsSome (target_started earlier) → ⊥ = λ some. (let e = by.unstarted in absurd cc) in
         record {
           left =
-              cut_off first before Whole (turn_of_rounds place behind.table earlier) s passed
+              cut_off first before Whole (turn_of_rounds place (Some behind.table) earlier) s passed
               (record {
                 given = given;
                 areas = by.areas;
@@ -439,8 +438,8 @@ module _ (b : Binding) (cause : Cause) (plans : List (Option Plan)) (first : Lis
                 start = λ some. absurd (none some);
               })
               here
-              (begins_loaded Given place ok saves number s (saves_of behind.table earlier)
-              (made_of behind.table earlier) (target_started earlier) e by.areas by.acked by.unstarted);
+              (begins_loaded Given place ok saves number s (saves_of (Some behind.table) earlier)
+              (made_of (Some behind.table) earlier) (target_started earlier) e by.areas by.acked by.unstarted);
           boots =
               record {
                 table = behind.table;
@@ -464,9 +463,9 @@ module _ (b : Binding) (cause : Cause) (plans : List (Option Plan)) (first : Lis
         at_entry (as_before first before s passed is)
     loaded (suc number) e =
         at_stage number e
-        (at_number (ReachedBy b plans (first_table b cause true behind.table) behind.table Given place)
-        (reached_by Given place (saving_rounds behind.table rounds)) number s
-        (all_reached b plans behind.answers (first_table b cause true behind.table) behind.table Given place)
+        (at_number (ReachedBy b plans (first_table b cause true behind.table) (Some behind.table) Given place)
+        (reached_by Given place (saving_rounds (Some behind.table) rounds)) number s
+        (all_reached b plans behind.answers (first_table b cause true behind.table) (Some behind.table) Given place)
         (ap (λ stages. slice_get stages number) (sym stages_are) ∙ e))
 
 pub boot_cut_law : BootCutLaw

@@ -10,7 +10,7 @@ use Rattle.bb_flash.specs.Device.{Device, Start, Told, starts}
 use Rattle.bb_state.specs.Keyed.{Keyed}
 use Rattle.bb_shell.proofs.Joins.{some_is}
 use Rattle.bb_shell.proofs.Saves.{write_fault}
-use Rattle.bb_shell.specs.Boot.{IsOutcome, Round, end_by, is_retried, plan_at}
+use Rattle.bb_shell.specs.Boot.{IsOutcome, Round, end_by, has_failed, is_retried, plan_at}
 use Rattle.bb_shell.specs.Ends.{AddsStart, AddsStarts, HasEndCause, RaisedBy, StartsOnce, failed_start}
 use Rattle.bb_shell.specs.Running.{IsRoundRun, is_refused_save}
 use Rattle.bb_shell.specs.declared.outcome.Outcome.{Outcome}
@@ -30,7 +30,7 @@ once_joined plan from mid to same told once = record { added = λ first h last k
         (sym (ap (option_map (λ (t : Told). t.starts)) e) ∙ same ∙ ap (option_map (λ (t : Told). t.starts)) h) in
         once.added middle e last k ∙ ap (λ (l : List Start). l ++ (record { plan = plan; image = last.image }) ∷ []) before
 
-some_joined : (o : Option Plan) (from mid to : Device) → starts mid ≡ starts from → is_some mid.told ≡ is_some from.told →
+pub some_joined : (o : Option Plan) (from mid to : Device) → starts mid ≡ starts from → is_some mid.told ≡ is_some from.told →
     IsSomeAnd o (StartsOnce mid to) → IsSomeAnd o (StartsOnce from to)
 some_joined None from mid to same told h = h
 some_joined (Some plan) from mid to same told h = once_joined plan from mid to same told h
@@ -44,7 +44,7 @@ end_adds b plans tries round Unplanned from mid to same told h = h ∙ same
 end_adds b plans tries round Failed from mid to same told h = h ∙ same
 end_adds b plans tries round Started from mid to same told h = some_joined (plan_at plans round.target) from mid to same told h
 
-and_none : (u : Bool) → (u && false) ≡ false
+pub and_none : (u : Bool) → (u && false) ≡ false
 and_none true = refl
 and_none false = refl
 
@@ -63,12 +63,19 @@ retried_saved b Unplanned h = refl
 retried_saved b Failed h = refl
 retried_saved b Started h = refl
 
+-- it failed
+pub retried_failed : (b : Binding) (outcome : Outcome) → is_retried b outcome ≡ true → has_failed outcome ≡ true
+retried_failed b (Refused fault) h = absurd (false≢true (sym (and_none b.rules.retry) ∙ h))
+retried_failed b Unplanned h = refl
+retried_failed b Failed h = refl
+retried_failed b Started h = absurd (false≢true (sym (and_none b.rules.retry) ∙ h))
+
 -- ---- causes
 
 rose_once : (n one two : ℕ) → RaisedBy (n + 1) one two → Rose one two
 rose_once n one two h = omega arith
 
-pub end_cause : (b : Binding) (plans : List (Option Plan)) (tries : ℕ) (round : Round) (keyed : Keyed) (kept : List ℕ) (used now : Option ℕ)
+pub end_cause : (b : Binding) (plans : List (Option Plan)) (tries : ℕ) (round : Round) (keyed : Keyed) (kept : Option (List ℕ)) (used now : Option ℕ)
     (mid to : Device) (outcome : Outcome) (from : Device) (n : ℕ) →
     IsRoundRun keyed plans kept used now (record round { outcome = outcome }) mid to → IsOutcome (plan_at plans round.target) outcome →
     RaisedBy (n + failed_start outcome) from.start_faults to.start_faults →

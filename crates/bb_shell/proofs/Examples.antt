@@ -117,27 +117,27 @@ all_is_spent = refl
 -- ---- the saves of a boot, and the stages that they reach
 
 -- the first start, which is made
-one_save : saves_of (table 3 20 3 10 0) (rounds_by (bound false false) both (table 3 20 3 10 0) (made ∷ [])) ≡ table 2 20 3 10 1 ∷ []
+one_save : saves_of (Some (table 3 20 3 10 0)) (rounds_by (bound false false) both (table 3 20 3 10 0) (made ∷ [])) ≡ table 2 20 3 10 1 ∷ []
 unfolding rounds_by
 one_save = refl
 
-one_made : made_of (table 3 20 3 10 0) (rounds_by (bound false false) both (table 3 20 3 10 0) (made ∷ [])) ≡ 1
+one_made : made_of (Some (table 3 20 3 10 0)) (rounds_by (bound false false) both (table 3 20 3 10 0) (made ∷ [])) ≡ 1
 unfolding rounds_by
 one_made = refl
 
 -- one that is refused
-none_made : made_of (table 3 20 3 10 0) (rounds_by (bound false false) both (table 3 20 3 10 0) (refused ∷ [])) ≡ 0
+none_made : made_of (Some (table 3 20 3 10 0)) (rounds_by (bound false false) both (table 3 20 3 10 0) (refused ∷ [])) ≡ 0
 unfolding rounds_by
 none_made = refl
 
 -- a start that fails, and another
-two_saves : saves_of (table 3 20 3 10 0) (rounds_by (bound false true) both (table 3 20 3 10 0) (failed ∷ made ∷ []))
+two_saves : saves_of (Some (table 3 20 3 10 0)) (rounds_by (bound false true) both (table 3 20 3 10 0) (failed ∷ made ∷ []))
     ≡ table 2 20 3 10 1 ∷ table 1 20 3 10 1 ∷ []
 unfolding rounds_by
 two_saves = refl
 
 -- a reset that gives back what the last boot spent, so that the spent table is stored already
-no_save : saves_of (table 2 20 3 10 1) (rounds_by (bound false false) both (table 3 20 3 10 1) (made ∷ [])) ≡ []
+no_save : saves_of (Some (table 2 20 3 10 1)) (rounds_by (bound false false) both (table 3 20 3 10 1) (made ∷ [])) ≡ []
 unfolding rounds_by
 no_save = refl
 

@@ -1,5 +1,5 @@
 -- The plan of a target by the first entry of a folder.
-use Rattle.std.proofs.Common.{◌≡◌, ◌≢◌, ◌++◌, ℕ, ◌+◌, ◌-◌, Bor, arith, ap₂, length-append, Bool, true, false, cond, List, [], ◌∷◌, length, take, Option, Some, None, Result, Ok, Err, IsOkAnd, refl, sym, ap, subst, ◌∙◌, inl, inr, slice_get}
+use Rattle.std.proofs.Common.{◌≡◌, ◌≢◌, ◌++◌, ℕ, ◌+◌, ◌-◌, Bor, arith, ap₂, length-append, true, cond, List, [], ◌∷◌, length, take, Option, Some, None, Result, Ok, Err, IsOkAnd, refl, sym, ap, subst, ◌∙◌, inl, inr, slice_get}
 use Rattle.std.proofs.Math.Seq.{take-append_seam}
 use Rattle.std.proofs.lemmas.Bool.{cases_Bool}
 use Rattle.std.proofs.lemmas.Bool.Decides.{Decides-eqb}
@@ -13,15 +13,13 @@ use Rattle.bb_base.specs.Folder.{FileMap, Folder, file_of}
 use Rattle.bb_bls.specs.Entry.{entry_of}
 use Rattle.bb_bls.specs.declared.entry.Entry.{Entry}
 use Rattle.bb_flash.specs.declared.plan.Plan.{Plan}
-use Rattle.bb_menu.proofs.First.{IsItemOf, first_found, first_is_read}
-use Rattle.bb_menu.specs.Menu.{FileRead, IsMenuOf, IsMenuRead, IsReadOf, item_of_text, items_of_folder, path_in_folder}
+use Rattle.bb_menu.proofs.First.{first_found, first_is_read}
+use Rattle.bb_menu.specs.Menu.{IsMenuOf, IsMenuRead, item_of_text, items_of_folder, path_in_folder}
 use Rattle.bb_menu.specs.Order.{named_entry}
 use Rattle.bb_menu.specs.declared.fault.MenuFault.{MenuFault}
-use Rattle.bb_menu.specs.declared.fault.MenuFault.TheVariants as menu_faults
 use Rattle.bb_menu.specs.declared.item.MenuItem.{MenuItem}
-use Rattle.bb_shell.specs.Plans.{EntryAnswer, IsAnswerOf, IsPlanRead, answer_in, entry_answer, first_file, folder_answer, folder_by, folder_named, plan_by, plan_with, start_plan_for}
+use Rattle.bb_shell.specs.Plans.{EntryAnswer, IsPlanRead, answer_in, entry_answer, first_file, folder_answer, folder_by, folder_named, plan_by, plan_with}
 use Rattle.bb_shell.specs.declared.plan_fault.PlanFault.{PlanFault}
-use Rattle.bb_shell.specs.declared.plan_fault.PlanFault.TheVariants.{NoMemory}
 
 -- ---- which folder a setting names
 

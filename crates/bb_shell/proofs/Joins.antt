@@ -5,7 +5,6 @@ use Rattle.std.specs.Option.{ForSome, option_map}
 use Rattle.std.specs.Prelude.{is_some}
 use Rattle.bb_copies.specs.Kind.{BucketKind}
 use Rattle.bb_copies.specs.Loading.{KeepsOutside}
-use Rattle.bb_copies.specs.StandsFor.{EachPassesOrNothing}
 use Rattle.bb_copies.proofs.Runs.{same_images}
 use Rattle.bb_flash.proofs.Counting.{images_untouched}
 use Rattle.bb_flash.proofs.Moments.{images_same_joined, images_weaker}
@@ -14,7 +13,7 @@ use Rattle.bb_flash.specs.Cuts.{EachImage, IsLater, IsSameRegion}
 use Rattle.bb_flash.specs.Device.{Device, Told, changes, content}
 use Rattle.bb_state.specs.Keyed.{Keyed}
 use Rattle.bb_state.specs.Kinds.{laid_passings}
-use Rattle.bb_shell.specs.Ends.{StaysStored}
+use Rattle.bb_shell.specs.Ends.{HoldsKept, StaysStored}
 
 -- ---- what is told stays told
 
@@ -57,11 +56,11 @@ still_outside kinds from to same history = same_outside kinds from to (images_un
 
 -- ---- what the copies hold
 
-pub stored_refl : (keyed : Keyed) (kept : List ℕ) (from to : Device) → content to ≡ content from → StaysStored keyed kept kept from to
+pub stored_refl : (keyed : Keyed) (kept : Option (List ℕ)) (from to : Device) → content to ≡ content from → StaysStored keyed kept kept from to
 stored_refl keyed kept from to same before h after k held =
-    subst (λ image. EachPassesOrNothing kept (laid_passings keyed image)) (some_is before after (sym h ∙ sym same ∙ k)) held
+    subst (λ image. HoldsKept kept (laid_passings keyed image)) (some_is before after (sym h ∙ sym same ∙ k)) held
 
-pub stored_joined : (keyed : Keyed) (a b c : List ℕ) (one two three : Device) → IsLater one two →
+pub stored_joined : (keyed : Keyed) (a b c : Option (List ℕ)) (one two three : Device) → IsLater one two →
     StaysStored keyed a b one two → StaysStored keyed b c two three → StaysStored keyed a c one three
 stored_joined keyed a b c one two three later first second before h after k held =
     let middle = there (λ (told : Told). told.image) one.told two.told before later.told h in

@@ -7,11 +7,17 @@ pub mod Cutting
 pub mod Ends
 mod Examples
 pub mod Falling
+pub mod Few
 pub mod FolderPlans
+pub mod Joined
 pub mod Joins
+pub mod LastRounds
+pub mod Made
 pub mod Reached
 pub mod Reading
 pub mod Saves
+pub mod Sequence
+pub mod Sound
 pub mod Starts
 pub mod Trails
 pub mod Underway

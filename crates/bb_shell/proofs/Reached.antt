@@ -2,10 +2,8 @@
 use Rattle.std.proofs.Common.{◌≡◌, ℕ, zero, suc, ◌+◌, Bool, true, false, not, List, [], ◌∷◌, ◌++◌, length, map, take, Option, Some, None, ap, arith, cond, inl, inr, refl, sym, subst, ◌∙◌}
 use Rattle.std.specs.Option.{IfNone, option_map}
 use Rattle.std.specs.Prelude.{⊤, MatchBool, count_by, is_some, slice_get}
-use Rattle.std.specs.Str.{bytes_eq}
 use Rattle.std.proofs.lemmas.Bool.{false≢true}
 use Rattle.std.proofs.lemmas.List.Sums.{sum_by-cons}
-use Rattle.std.proofs.lemmas.Slice.Eq.{bytes_eq-Decides}
 use Rattle.bb_chooser.specs.Binding.{Binding}
 use Rattle.bb_copies.specs.Luck.{IsLucky}
 use Rattle.bb_copies.specs.Passing.{passes_at, passings}
@@ -27,10 +25,10 @@ use Rattle.bb_state.specs.Kinds.{laid_form, laid_kinds, laid_passings}
 use Rattle.bb_state.specs.State.{IsStored}
 use Rattle.bb_shell.proofs.Ends.{retried_saved}
 use Rattle.bb_shell.proofs.Joins.{untouched}
-use Rattle.bb_shell.proofs.Saves.{save_later}
+use Rattle.bb_shell.proofs.Saves.{kept_is, save_later}
 use Rattle.bb_shell.proofs.Starts.{by_start, round_later, start_content, start_later, unrefused}
 use Rattle.bb_shell.specs.Boot.{AreRounds, Round, is_retried, plan_at}
-use Rattle.bb_shell.specs.Running.{AreRun, IsRoundRun, IsTried, is_refused_save, refusal_of}
+use Rattle.bb_shell.specs.Running.{AreRun, IsRoundRun, IsTried, is_refused_save, refusal_of, same_as_kept}
 use Rattle.bb_shell.specs.Stages.{IsSettled, StandsIn, first_area, saving_rounds, stages_reached}
 use Rattle.bb_shell.specs.declared.outcome.Outcome.{Outcome}
 
@@ -66,15 +64,15 @@ made_stages h a round later e =
     omega (arith, made) in
     ap (λ (n : ℕ). take n (stage h a ∷ stages_of h a (round.table ∷ tables))) many
 
-pub idle_saving : (kept : List ℕ) (round : Round) (later : List Round) → bytes_eq round.table kept ≡ true →
-    saving_rounds kept (round ∷ later) ≡ saving_rounds round.table later
+pub idle_saving : (kept : Option (List ℕ)) (round : Round) (later : List Round) → same_as_kept kept round.table ≡ true →
+    saving_rounds kept (round ∷ later) ≡ saving_rounds (Some round.table) later
 idle_saving kept round later e =
-    ap (λ same. cond same (saving_rounds round.table later) (round ∷ saving_rounds round.table later)) e
+    ap (λ same. cond same (saving_rounds (Some round.table) later) (round ∷ saving_rounds (Some round.table) later)) e
 
-pub begun_saving : (kept : List ℕ) (round : Round) (later : List Round) → bytes_eq round.table kept ≡ false →
-    saving_rounds kept (round ∷ later) ≡ round ∷ saving_rounds round.table later
+pub begun_saving : (kept : Option (List ℕ)) (round : Round) (later : List Round) → same_as_kept kept round.table ≡ false →
+    saving_rounds kept (round ∷ later) ≡ round ∷ saving_rounds (Some round.table) later
 begun_saving kept round later e =
-    ap (λ same. cond same (saving_rounds round.table later) (round ∷ saving_rounds round.table later)) e
+    ap (λ same. cond same (saving_rounds (Some round.table) later) (round ∷ saving_rounds (Some round.table) later)) e
 
 -- ---- a save that is refused is the last
 
@@ -140,8 +138,8 @@ module _ (keyed : Keyed) where
       (ap is_some (saved.exit.kept image here).passes))
 
   -- a table that was saved goes after the list, and is acknowledged
-  pub settled_more : (kept : List ℕ) (used : Option ℕ) (table : List ℕ) (now : Option ℕ) (x y : Image) (h : List (List ℕ)) (a : ℕ) →
-      IsSettled keyed kept used x h a → HoldsNow table now y → IsSettled keyed table now y (h ++ table ∷ []) (a + 1)
+  pub settled_more : (kept : Option (List ℕ)) (used : Option ℕ) (table : List ℕ) (now : Option ℕ) (x y : Image) (h : List (List ℕ)) (a : ℕ) →
+      IsSettled keyed kept used x h a → HoldsNow table now y → IsSettled keyed (Some table) now y (h ++ table ∷ []) (a + 1)
   settled_more kept used table now x y h a settled holds =
       let more = save_done (first_area keyed.layout) (Passed x) h a settled.stands.marks table settled.stands.stands (Passed y) holds.each holds.some in
       let last = settled.last in
@@ -164,7 +162,7 @@ module _ (keyed : Keyed) where
 
   -- whatever list of areas an image stood for, one that counts stands for one of the stages of the
   -- rounds
-  abbrev pub Reaches : List ℕ → Option ℕ → List Round → Image → Image → Type 0
+  abbrev pub Reaches : Option (List ℕ) → Option ℕ → List Round → Image → Image → Type 0
   Reaches kept used saving x z =
       (h : List (List ℕ)) (a : ℕ) →
       IsSettled keyed kept used x h a → StandsAtOne (first_area keyed.layout) (Passed z) (reached_by h a saving)
@@ -184,12 +182,12 @@ module _ (keyed : Keyed) where
       (λ before image. StandsLonger used table (passings (laid_form keyed) g.page (laid_kinds keyed.layout) before)
       (passings (laid_form keyed) g.page (laid_kinds keyed.layout) image)) from to) geometry images
 
-  pub longer_stands : (kept : List ℕ) (used : Option ℕ) (table : List ℕ) (x y : Image) (h : List (List ℕ)) (a : ℕ) →
+  pub longer_stands : (kept : Option (List ℕ)) (used : Option ℕ) (table : List ℕ) (x y : Image) (h : List (List ℕ)) (a : ℕ) →
       IsSettled keyed kept used x h a → Longer used table x y → StandsIn keyed y (h ++ table ∷ []) a
   longer_stands kept used table x y h a settled longer =
       longer settled.uses (first_area keyed.layout) h a settled.stands.marks settled.stands.stands
 
-  module _ (plans : List (Option Plan)) (kept : List ℕ) (used copy : Option ℕ) (round : Round) (from device : Device)
+  module _ (plans : List (Option Plan)) (kept : Option (List ℕ)) (used copy : Option ℕ) (round : Round) (from device : Device)
       (geometry : from.geometry ≡ keyed.layout.geometry) (run : IsRoundRun keyed plans kept used copy round from device) where
     to_middle : IsLater from run.middle
     to_middle = save_later keyed kept used copy round.table (refusal_of round.outcome) from run.middle run.saved
@@ -201,29 +199,28 @@ module _ (keyed : Keyed) where
     behind_same = start_same (plan_at plans round.target) round.outcome run.middle device run.tried
 
     -- the round saved nothing
-    pub idle_counted : bytes_eq round.table kept ≡ true → EachCounted Luck (λ x y. y ≡ x) from device
+    pub idle_counted : same_as_kept kept round.table ≡ true → EachCounted Luck (λ x y. y ≡ x) from device
     idle_counted e =
         counted_of_images Luck (λ x y. y ≡ x) from device
         (subst (λ d. EachImage (λ x y. y ≡ x) d device) (run.saved.idle e).device behind_same)
 
-    pub idle_copy : bytes_eq round.table kept ≡ true → copy ≡ used
+    pub idle_copy : same_as_kept kept round.table ≡ true → copy ≡ used
     idle_copy e = (run.saved.idle e).copy
 
-    pub idle_content : bytes_eq round.table kept ≡ true → content device ≡ content from
+    pub idle_content : same_as_kept kept round.table ≡ true → content device ≡ content from
     idle_content e =
         start_content (plan_at plans round.target) round.outcome run.middle device run.tried
         ∙ ap (λ d. content d) (run.saved.idle e).device
 
     -- so what was settled still is
-    pub idle_settled : bytes_eq round.table kept ≡ true → (x y : Image) (h : List (List ℕ)) (a : ℕ) → y ≡ x →
-        IsSettled keyed kept used x h a → IsSettled keyed round.table copy y h a
+    pub idle_settled : same_as_kept kept round.table ≡ true → (x y : Image) (h : List (List ℕ)) (a : ℕ) → y ≡ x →
+        IsSettled keyed kept used x h a → IsSettled keyed (Some round.table) copy y h a
     idle_settled e x y h a same settled =
-        let tables : round.table ≡ kept = (bytes_eq-Decides round.table kept).0 e in
-        subst (λ i. IsSettled keyed round.table copy i h a) (sym same)
-        (subst (λ u. IsSettled keyed round.table u x h a) (sym (idle_copy e))
-        (subst (λ t. IsSettled keyed t used x h a) (sym tables) settled))
+        subst (λ i. IsSettled keyed (Some round.table) copy i h a) (sym same)
+        (subst (λ u. IsSettled keyed (Some round.table) u x h a) (sym (idle_copy e))
+        (subst (λ k. IsSettled keyed k used x h a) (kept_is kept round.table e) settled))
 
-    pub begun_counted : bytes_eq round.table kept ≡ false → EachCounted Luck (Longer used round.table) from device
+    pub begun_counted : same_as_kept kept round.table ≡ false → EachCounted Luck (Longer used round.table) from device
     begun_counted e =
         counted_joined Luck (Longer used round.table) (λ x y. y ≡ x) (Longer used round.table) from run.middle device
         (λ x y longer. longer)
@@ -232,7 +229,7 @@ module _ (keyed : Keyed) where
         (save_counted used round.table from run.middle geometry (run.saved.begun e).runs.images)
         (counted_of_images Luck (λ x y. y ≡ x) run.middle device behind_same)
 
-    pub made_holds : bytes_eq round.table kept ≡ false → is_refused_save round.outcome ≡ false → (image : Image) →
+    pub made_holds : same_as_kept kept round.table ≡ false → is_refused_save round.outcome ≡ false → (image : Image) →
         content device ≡ Some image → HoldsNow round.table copy image
     made_holds e done image here =
         let stored = subst (λ r. IfNone r (IsStored keyed round.table copy from run.middle)) (unrefused round.outcome done)
@@ -243,21 +240,21 @@ module _ (keyed : Keyed) where
     -- the images that count since the round began, where those that count after it are known
     module _ (later : List Round) (to : Device) (early : IsLater from device) (late : IsLater device to)
         (stops : StopsRefused (round ∷ later)) (alone : later ≡ [] → to ≡ device)
-        (rest : EachCounted Luck (Reaches round.table copy (saving_rounds round.table later)) device to) where
-      idle_reached : bytes_eq round.table kept ≡ true → EachCounted Luck (Reaches kept used (saving_rounds kept (round ∷ later))) from to
+        (rest : EachCounted Luck (Reaches (Some round.table) copy (saving_rounds (Some round.table) later)) device to) where
+      idle_reached : same_as_kept kept round.table ≡ true → EachCounted Luck (Reaches kept used (saving_rounds kept (round ∷ later))) from to
       idle_reached e =
-          let saving = saving_rounds round.table later in
+          let saving = saving_rounds (Some round.table) later in
           subst (λ rs. EachCounted Luck (Reaches kept used rs) from to) (sym (idle_saving kept round later e))
-          (counted_joined Luck (λ x y. y ≡ x) (Reaches round.table copy saving) (Reaches kept used saving) from device to
+          (counted_joined Luck (λ x y. y ≡ x) (Reaches (Some round.table) copy saving) (Reaches kept used saving) from device to
           (λ x y is h a settled. at_entry y h a saving (subst (λ i. StandsIn keyed i h a) (sym is) settled.stands))
           (λ x y z is reaches h a settled. reaches h a (idle_settled e x y h a is settled))
           early late (idle_counted e) rest)
 
-      refused_reached : bytes_eq round.table kept ≡ false → is_refused_save round.outcome ≡ true →
-          EachCounted Luck (Reaches kept used (round ∷ saving_rounds round.table later)) from to
+      refused_reached : same_as_kept kept round.table ≡ false → is_refused_save round.outcome ≡ true →
+          EachCounted Luck (Reaches kept used (round ∷ saving_rounds (Some round.table) later)) from to
       refused_reached e refused =
           let none : later ≡ [] = stops.0 refused in
-          subst (λ l. EachCounted Luck (Reaches kept used (round ∷ saving_rounds round.table l)) from to) (sym none)
+          subst (λ l. EachCounted Luck (Reaches kept used (round ∷ saving_rounds (Some round.table) l)) from to) (sym none)
           (subst (λ d. EachCounted Luck (Reaches kept used (round ∷ [])) from d) (sym (alone none))
           (counted_weaker Luck (Longer used round.table) (Reaches kept used (round ∷ [])) from device
           (λ x y longer h a settled.
@@ -265,11 +262,11 @@ module _ (keyed : Keyed) where
           (inr (inl (longer_stands kept used round.table x y h a settled longer))))
           (begun_counted e)))
 
-      made_reached : bytes_eq round.table kept ≡ false → is_refused_save round.outcome ≡ false →
-          EachCounted Luck (Reaches kept used (round ∷ saving_rounds round.table later)) from to
+      made_reached : same_as_kept kept round.table ≡ false → is_refused_save round.outcome ≡ false →
+          EachCounted Luck (Reaches kept used (round ∷ saving_rounds (Some round.table) later)) from to
       made_reached e done =
-          let saving = saving_rounds round.table later in
-          counted_joined_at Luck (Longer used round.table) (Reaches round.table copy saving) (Reaches kept used (round ∷ saving))
+          let saving = saving_rounds (Some round.table) later in
+          counted_joined_at Luck (Longer used round.table) (Reaches (Some round.table) copy saving) (Reaches kept used (round ∷ saving))
           (λ x y. HoldsNow round.table copy y) from device to
           (λ x y longer h a settled.
           subst (StandsAtOne (first_area keyed.layout) (Passed y)) (sym (made_stages h a round saving done))
@@ -282,14 +279,14 @@ module _ (keyed : Keyed) where
           (begun_counted e) rest
 
       pub round_reached : EachCounted Luck (Reaches kept used (saving_rounds kept (round ∷ later))) from to
-      round_reached = at (bytes_eq round.table kept) refl (is_refused_save round.outcome) refl
+      round_reached = at (same_as_kept kept round.table) refl (is_refused_save round.outcome) refl
         where
-          begun : bytes_eq round.table kept ≡ false →
-              EachCounted Luck (Reaches kept used (round ∷ saving_rounds round.table later)) from to →
+          begun : same_as_kept kept round.table ≡ false →
+              EachCounted Luck (Reaches kept used (round ∷ saving_rounds (Some round.table) later)) from to →
               EachCounted Luck (Reaches kept used (saving_rounds kept (round ∷ later))) from to
           begun e counted = subst (λ rs. EachCounted Luck (Reaches kept used rs) from to) (sym (begun_saving kept round later e)) counted
 
-          at : (same : Bool) → bytes_eq round.table kept ≡ same → (refused : Bool) → is_refused_save round.outcome ≡ refused →
+          at : (same : Bool) → same_as_kept kept round.table ≡ same → (refused : Bool) → is_refused_save round.outcome ≡ refused →
               EachCounted Luck (Reaches kept used (saving_rounds kept (round ∷ later))) from to
           at true e refused done = idle_reached e
           at false e true refused = begun e (refused_reached e refused)
@@ -297,23 +294,23 @@ module _ (keyed : Keyed) where
 
   -- ---- all rounds
 
-  pub rounds_later : (plans : List (Option Plan)) (rounds : List Round) (kept : List ℕ) (used now : Option ℕ) (from to : Device) →
+  pub rounds_later : (plans : List (Option Plan)) (rounds : List Round) (kept : Option (List ℕ)) (used now : Option ℕ) (from to : Device) →
       AreRun keyed plans kept used now rounds from to → IsLater from to
   unfolding AreRun
   rounds_later plans [] kept used now from to run = subst (IsLater from) (sym run.1) (later_refl from)
   rounds_later plans (round ∷ later) kept used now from to run =
       later_joined from run.device to
       (round_later keyed plans kept used run.copy round from run.device run.before)
-      (rounds_later plans later round.table run.copy now run.device to run.behind)
+      (rounds_later plans later (Some round.table) run.copy now run.device to run.behind)
 
-  pub none_alone : (plans : List (Option Plan)) (later : List Round) (kept : List ℕ) (used now : Option ℕ) (from to : Device) →
+  pub none_alone : (plans : List (Option Plan)) (later : List Round) (kept : Option (List ℕ)) (used now : Option ℕ) (from to : Device) →
       AreRun keyed plans kept used now later from to → later ≡ [] → to ≡ from
   unfolding AreRun
   none_alone plans [] kept used now from to run none = run.1
   none_alone plans (round ∷ later) kept used now from to run none =
       absurd (let more : round ∷ later ≡ [] = none in cc)
 
-  pub rounds_reached : (plans : List (Option Plan)) (rounds : List Round) (kept : List ℕ) (used now : Option ℕ) (from to : Device) →
+  pub rounds_reached : (plans : List (Option Plan)) (rounds : List Round) (kept : Option (List ℕ)) (used now : Option ℕ) (from to : Device) →
       from.geometry ≡ keyed.layout.geometry → StopsRefused rounds → AreRun keyed plans kept used now rounds from to →
       EachCounted Luck (Reaches kept used (saving_rounds kept rounds)) from to
   unfolding AreRun
@@ -325,6 +322,6 @@ module _ (keyed : Keyed) where
   rounds_reached plans (round ∷ later) kept used now from to geometry stops run =
       let early = round_later keyed plans kept used run.copy round from run.device run.before in
       round_reached plans kept used run.copy round from run.device geometry run.before later to early
-      (rounds_later plans later round.table run.copy now run.device to run.behind) stops
-      (none_alone plans later round.table run.copy now run.device to run.behind)
-      (rounds_reached plans later round.table run.copy now run.device to (early.geometry ∙ geometry) stops.1 run.behind)
+      (rounds_later plans later (Some round.table) run.copy now run.device to run.behind) stops
+      (none_alone plans later (Some round.table) run.copy now run.device to run.behind)
+      (rounds_reached plans later (Some round.table) run.copy now run.device to (early.geometry ∙ geometry) stops.1 run.behind)

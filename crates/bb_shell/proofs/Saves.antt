@@ -26,15 +26,15 @@ use Rattle.bb_state.specs.State.{IsStored, form_of, has_changed, is_kept, is_sur
 use Rattle.bb_state.specs.declared.state.State.{State}
 use Rattle.bb_shell.proofs.Joins.{outside_refl, stored_refl}
 use Rattle.bb_shell.specs.Ends.{EndsByWriteFault, StaysStored}
-use Rattle.bb_shell.specs.Running.{IsSaveRun}
+use Rattle.bb_shell.specs.Running.{IsSaveRun, same_as_kept}
 
 -- ---- the state's words
 
 changed_is : (state : State) (same : Bool) → is_sure state ≡ true → bytes_eq state.table (last_table_of state) ≡ same → has_changed state ≡ not same
 changed_is state same sure e = ap (λ s. s && not (bytes_eq state.table (last_table_of state))) sure ∙ ap not e
 
-kept_is : (state : State) → is_sure state ≡ true → bytes_eq state.table (last_table_of state) ≡ true → is_kept state ≡ true
-kept_is state sure e = ap (λ s. s && bytes_eq state.table (last_table_of state)) sure ∙ e
+known_is : (state : State) → is_sure state ≡ true → bytes_eq state.table (last_table_of state) ≡ true → is_kept state ≡ true
+known_is state sure e = ap (λ s. s && bytes_eq state.table (last_table_of state)) sure ∙ e
 
 -- a table in which a chooser changed its own variables alone can be kept as a record
 pub chosen_fits : (b : Binding) (state : State) (table : List ℕ) → IsBoundTo (laid_of state).vars b → KeepsOthers b state.table table
@@ -50,9 +50,9 @@ pub saved_ok : (state : State) (now : Option ℕ) (from to : Device) → is_sure
     (has_changed state ≡ true → NothingFails from to → EachWritten (kinds_of state) ((form_of state).text state.table) from to) →
     (has_changed state ≡ true → NothingFails from to → ErasesBy (kinds_of state) ((form_of state).text state.table) from to) →
     (is_kept state ≡ true → now ≡ used_of state) →
-    IsSaveRun (keyed_of state) (last_table_of state) (used_of state) now state.table None from to
+    IsSaveRun (keyed_of state) (Some (last_table_of state)) (used_of state) now state.table None from to
 saved_ok state now from to sure idle runs stored exact erases used = record {
-  idle = λ same. record { device = idle (changed_is state true sure same); copy = used (kept_is state sure same); done = refl };
+  idle = λ same. record { device = idle (changed_is state true sure same); copy = used (known_is state sure same); done = refl };
   begun = λ other. record {
     runs = runs (changed_is state false sure other);
     stored = stored (changed_is state false sure other);
@@ -68,9 +68,9 @@ pub saved_err : (state : State) (now : Option ℕ) (fault : CopyFault) (from to 
     (is_kept state ≡ true → ⊥) → fault ≢ Unsure →
     (has_changed state ≡ true → SaveRuns (form_of state) (kinds_of state) (used_of state) state.table from to) →
     SaveFails (form_of state) (kinds_of state) (used_of state) state.table from to fault →
-    IsSaveRun (keyed_of state) (last_table_of state) (used_of state) now state.table (Some fault) from to
+    IsSaveRun (keyed_of state) (Some (last_table_of state)) (used_of state) now state.table (Some fault) from to
 saved_err state now fault from to sure other known runs fails = record {
-  idle = λ same. absurd (other (kept_is state sure same));
+  idle = λ same. absurd (other (known_is state sure same));
   begun = λ changed. record {
     runs = runs (changed_is state false sure changed);
     stored = tt;
@@ -81,14 +81,40 @@ saved_err state now fault from to sure other known runs fails = record {
   };
 }
 
+-- what is kept where a table is the one that is
+pub kept_is : (kept : Option (List ℕ)) (table : List ℕ) → same_as_kept kept table ≡ true → kept ≡ Some table
+kept_is None table e = absurd (false≢true e)
+kept_is (Some kept) table e = ap (λ t. Some t) (sym ((bytes_eq-Decides table kept).0 e))
+
+-- a save that is made whatever was last loaded or saved
+pub always_ok : (state : State) (now : Option ℕ) (from to : Device) →
+    SaveRuns (form_of state) (kinds_of state) (used_of state) state.table from to →
+    IsStored (keyed_of state) state.table now from to →
+    (NothingFails from to → EachWritten (kinds_of state) ((form_of state).text state.table) from to) →
+    (NothingFails from to → ErasesBy (kinds_of state) ((form_of state).text state.table) from to) →
+    IsSaveRun (keyed_of state) None (used_of state) now state.table None from to
+always_ok state now from to runs stored exact erases = record {
+  idle = λ same. absurd (false≢true same);
+  begun = λ other. record { runs = runs; stored = stored; fails = tt; sure = tt; exact = exact; erases = erases };
+}
+
+pub always_err : (state : State) (now : Option ℕ) (fault : CopyFault) (from to : Device) → fault ≢ Unsure →
+    SaveRuns (form_of state) (kinds_of state) (used_of state) state.table from to →
+    SaveFails (form_of state) (kinds_of state) (used_of state) state.table from to fault →
+    IsSaveRun (keyed_of state) None (used_of state) now state.table (Some fault) from to
+always_err state now fault from to known runs fails = record {
+  idle = λ same. absurd (false≢true same);
+  begun = λ other. record { runs = runs; stored = tt; fails = fails; sure = known; exact = λ _. tt; erases = λ _. tt };
+}
+
 -- ---- what follows of a save
 
-module _ (keyed : Keyed) (kept : List ℕ) (used now : Option ℕ) (table : List ℕ) (refusal : Option CopyFault) (from to : Device)
+module _ (keyed : Keyed) (kept : Option (List ℕ)) (used now : Option ℕ) (table : List ℕ) (refusal : Option CopyFault) (from to : Device)
     (run : IsSaveRun keyed kept used now table refusal from to) where
   by_same : (P : Device → Type 0) → P from → (SaveRuns (laid_form keyed) (laid_kinds keyed.layout) used table from to → P to) → P to
-  by_same P here there = at (bytes_eq table kept) refl
+  by_same P here there = at (same_as_kept kept table) refl
     where
-      at : (same : Bool) → bytes_eq table kept ≡ same → P to
+      at : (same : Bool) → same_as_kept kept table ≡ same → P to
       at true e = subst P (sym (run.idle e).device) here
       at false e = there (run.begun e).runs
 
@@ -104,32 +130,32 @@ module _ (keyed : Keyed) (kept : List ℕ) (used now : Option ℕ) (table : List
   pub save_whole : IsDevice from → IsDevice to
   save_whole whole = by_same IsDevice whole (λ runs. runs.whole)
 
-  same_stored : bytes_eq table kept ≡ true → StaysStored keyed kept table from to
+  same_stored : same_as_kept kept table ≡ true → StaysStored keyed kept (Some table) from to
   same_stored same =
-      let tables : table ≡ kept = (bytes_eq-Decides table kept).0 same in
-      subst (λ t. StaysStored keyed kept t from to) (sym tables) (stored_refl keyed kept from to (ap (λ d. content d) (run.idle same).device))
+      subst (λ k. StaysStored keyed kept k from to) (kept_is kept table same)
+      (stored_refl keyed kept from to (ap (λ d. content d) (run.idle same).device))
 
-  new_stored : from.geometry ≡ keyed.layout.geometry → IsStored keyed table now from to → StaysStored keyed kept table from to
+  new_stored : from.geometry ≡ keyed.layout.geometry → IsStored keyed table now from to → StaysStored keyed kept (Some table) from to
   new_stored geometry stored before h after k held =
       subst (λ g. EachPassesOrNothing table (passings (laid_form keyed) g.page (laid_kinds keyed.layout) after)) geometry (stored.saved.exit.kept after k).each
 
-  pub save_stored : from.geometry ≡ keyed.layout.geometry → refusal ≡ None → StaysStored keyed kept table from to
-  save_stored geometry done = at (bytes_eq table kept) refl
+  pub save_stored : from.geometry ≡ keyed.layout.geometry → refusal ≡ None → StaysStored keyed kept (Some table) from to
+  save_stored geometry done = at (same_as_kept kept table) refl
     where
-      at : (same : Bool) → bytes_eq table kept ≡ same → StaysStored keyed kept table from to
+      at : (same : Bool) → same_as_kept kept table ≡ same → StaysStored keyed kept (Some table) from to
       at true e = same_stored e
       at false e = new_stored geometry (subst (λ r. IfNone r (IsStored keyed table now from to)) done (run.begun e).stored)
 
 -- a save is refused by a write alone
-pub write_fault : (keyed : Keyed) (kept : List ℕ) (used now : Option ℕ) (table : List ℕ) (fault : CopyFault) (from to : Device) →
+pub write_fault : (keyed : Keyed) (kept : Option (List ℕ)) (used now : Option ℕ) (table : List ℕ) (fault : CopyFault) (from to : Device) →
     IsSaveRun keyed kept used now table (Some fault) from to → EndsByWriteFault fault
-write_fault keyed kept used now table fault from to run = at (bytes_eq table kept) refl
+write_fault keyed kept used now table fault from to run = at (same_as_kept kept table) refl
   where
     by : (f : CopyFault) → SaveFails (laid_form keyed) (laid_kinds keyed.layout) used table from to f → f ≢ Unsure → EndsByWriteFault f
     by ReadFault fails sure = absurd fails
     by (WriteFault copy) fails sure = record { copy = copy; is = refl }
     by Unsure fails sure = absurd (sure refl)
 
-    at : (same : Bool) → bytes_eq table kept ≡ same → EndsByWriteFault fault
+    at : (same : Bool) → same_as_kept kept table ≡ same → EndsByWriteFault fault
     at true e = let none : Some fault ≡ None = (run.idle e).done in absurd (let f : Option CopyFault → Bool = λ o. is_some o in false≢true (sym (ap f none)))
     at false e = by fault (run.begun e).fails (run.begun e).sure

@@ -139,7 +139,7 @@ unrefused Failed h = refl
 unrefused Started h = refl
 
 -- a round whose save answered Ok
-pub round_ok : (keyed : Keyed) (plans : List (Option Plan)) (kept : List ℕ) (used now : Option ℕ) (target : ℕ)
+pub round_ok : (keyed : Keyed) (plans : List (Option Plan)) (kept : Option (List ℕ)) (used now : Option ℕ) (target : ℕ)
     (spent table : List ℕ) (outcome : Outcome) (from middle to : Device) →
     IsSaveRun keyed kept used now spent None from middle → table ≡ spent → is_refused_save outcome ≡ false →
     IsTried (plan_at plans target) outcome middle to →
@@ -152,7 +152,7 @@ round_ok keyed plans kept used now target spent table outcome from middle to sav
   tried = tried;
 }
 
-module _ (keyed : Keyed) (plans : List (Option Plan)) (kept : List ℕ) (used now : Option ℕ) (round : Round) (from to : Device)
+module _ (keyed : Keyed) (plans : List (Option Plan)) (kept : Option (List ℕ)) (used now : Option ℕ) (round : Round) (from to : Device)
     (run : IsRoundRun keyed plans kept used now round from to) where
   to_middle : IsLater from run.middle
   to_middle = save_later keyed kept used now round.table (refusal_of round.outcome) from run.middle run.saved
@@ -177,8 +177,8 @@ module _ (keyed : Keyed) (plans : List (Option Plan)) (kept : List ℕ) (used no
       subst (λ n. RaisedBy (failed_start round.outcome) n to.start_faults) saved.start_faults
       (start_rose (plan_at plans round.target) round.outcome run.middle to run.tried)
 
-  pub round_stored : from.geometry ≡ keyed.layout.geometry → is_refused_save round.outcome ≡ false → StaysStored keyed kept round.table from to
+  pub round_stored : from.geometry ≡ keyed.layout.geometry → is_refused_save round.outcome ≡ false → StaysStored keyed kept (Some round.table) from to
   round_stored geometry done =
-      stored_joined keyed kept round.table round.table from run.middle to to_middle
+      stored_joined keyed kept (Some round.table) (Some round.table) from run.middle to to_middle
       (save_stored keyed kept used now round.table (refusal_of round.outcome) from run.middle run.saved geometry (unrefused round.outcome done))
-      (stored_refl keyed round.table run.middle to (start_content (plan_at plans round.target) round.outcome run.middle to run.tried))
+      (stored_refl keyed (Some round.table) run.middle to (start_content (plan_at plans round.target) round.outcome run.middle to run.tried))

@@ -1,9 +1,8 @@
--- The trail of a boot's saves, and what the copies stand for at its end.
-use Rattle.std.proofs.Common.{◌≡◌, ℕ, zero, suc, ◌+◌, ◌-◌, ◌≤◌, Bool, true, false, List, [], ◌∷◌, ◌++◌, length, map, Option, Some, None, ap, append_assoc, arith, inl, inr, refl, sym, subst, ◌∙◌}
+-- The trail of the saves of rounds, and what the copies stand for at their end.
+use Rattle.std.proofs.Common.{◌≡◌, ℕ, suc, ◌+◌, ◌≤◌, Bool, true, false, List, [], ◌∷◌, ◌++◌, length, map, Option, Some, None, ap, append_assoc, arith, inl, inr, refl, sym, subst, ◌∙◌}
 use Rattle.std.proofs.lemmas.List.{append-nil, length-take}
-use Rattle.std.specs.Option.{ForSome, IfNone, option_map, option_map_or}
-use Rattle.std.specs.Prelude.{count_by, is_some, slice_get}
-use Rattle.std.specs.Str.{bytes_eq}
+use Rattle.std.specs.Option.{ForSome, IfNone, option_map}
+use Rattle.std.specs.Prelude.{count_by, is_some}
 use Rattle.bb_copies.specs.Trail.{IsSince, IsTrail, Milestone, Stage, StandsAtOne, milestone_of, next_moment, stages_in, trail_of}
 use Rattle.bb_copies.proofs.History.{longer}
 use Rattle.bb_copies.proofs.Runs.{later_refl}
@@ -18,10 +17,11 @@ use Rattle.bb_state.specs.Keyed.{Keyed}
 use Rattle.bb_state.specs.State.{IsStored}
 use Rattle.bb_shell.proofs.Reached.{Luck, Passed, Reaches, StopsRefused, begun_counted, begun_saving, idle_content, idle_saving, idle_settled, is_made, longer_stands, made_cons, made_holds, made_stages, none_alone, reached_by, refused_stages, rounds_later, rounds_reached, settled_more, stage, told_image}
 use Rattle.bb_shell.proofs.Joins.{some_is}
+use Rattle.bb_shell.proofs.LastRounds.{kept_cons}
 use Rattle.bb_shell.proofs.Starts.{round_later, start_changes, start_later, unrefused}
-use Rattle.bb_shell.specs.Boot.{Round, plan_at, table_after}
-use Rattle.bb_shell.specs.Running.{AreRun, IsRoundRun, is_refused_save}
-use Rattle.bb_shell.specs.Stages.{AreAnswered, EachSettled, HasTrail, IsCounted, IsFairRun, IsSettled, KeepsATrail, KeepsAtExit, LeadsTo, StandsIn, first_area, saving_rounds}
+use Rattle.bb_shell.specs.Boot.{Round, plan_at}
+use Rattle.bb_shell.specs.Running.{AreRun, IsRoundRun, is_refused_save, same_as_kept}
+use Rattle.bb_shell.specs.Stages.{AreAnswered, EachSettled, HasTrail, IsCounted, IsFairRun, IsSettled, KeepsATrail, KeepsAtExit, LeadsTo, StandsIn, first_area, kept_after, saving_rounds}
 
 some_of : {T : Type 0} → (o : Option T) → is_some o ≡ true → (x : T) × (o ≡ Some x)
 some_of None e = absurd cc
@@ -30,33 +30,14 @@ some_of (Some x) e = (x, refl)
 told_changes : (device : Device) (told : Told) → device.told ≡ Some told → changes device ≡ Some told.changes
 told_changes device told e = ap (option_map (λ (t : Told). t.changes)) e
 
-in_order : (first last : Told) → IsContinued first last → moment first ≤ moment last
+pub in_order : (first last : Told) → IsContinued first last → moment first ≤ moment last
 in_order first last continued =
     let e = ap length continued.changes in omega (arith, length-take (moment first) last.changes)
 
-fair_from : (L : Change → Image → Type 0) (told : Told) (since later : ℕ) → since ≤ later →
+pub fair_from : (L : Change → Image → Type 0) (told : Told) (since later : ℕ) → since ≤ later →
     IsFair L told since (moment told) → IsFair L told later (moment told)
 fair_from L told since later order fair = λ call change from before made lucky.
     fair call change (omega arith) before made lucky
-
--- the last of rounds, one of which comes before them
-table_cons : (kept : List ℕ) (round : Round) (later : List Round) → table_after kept (round ∷ later) ≡ table_after round.table later
-table_cons kept round [] = refl
-table_cons kept round (next ∷ later) =
-    let same : length (round ∷ next ∷ later) - 1 ≡ suc (length (next ∷ later) - 1) = omega arith in
-    ap (λ n. option_map_or (λ (r : Round). r.table) (slice_get (round ∷ next ∷ later) n) kept) same
-    ∙ inside (length (next ∷ later) - 1) (omega arith)
-  where
-    get : (rs : List Round) (n : ℕ) (one two : List ℕ) → suc n ≤ length rs →
-        option_map_or (λ (r : Round). r.table) (slice_get rs n) one ≡ option_map_or (λ (r : Round). r.table) (slice_get rs n) two
-    get [] n one two h = absurd (omega arith)
-    get (r ∷ rs) zero one two h = refl
-    get (r ∷ rs) (suc n) one two h = get rs n one two (omega arith)
-
-    inside : (n : ℕ) → suc n ≤ length (next ∷ later) →
-        option_map_or (λ (r : Round). r.table) (slice_get (next ∷ later) n) kept
-        ≡ option_map_or (λ (r : Round). r.table) (slice_get (next ∷ later) n) round.table
-    inside n h = get (next ∷ later) n kept round.table h
 
 module _ (keyed : Keyed) where
   abbrev First : List ℕ
@@ -182,11 +163,11 @@ module _ (keyed : Keyed) where
 
   -- ---- the rounds
 
-  abbrev pub Trails : List ℕ → Option ℕ → List Round → Device → Device → Type 0
+  abbrev pub Trails : Option (List ℕ) → Option ℕ → List Round → Device → Device → Type 0
   Trails kept used saving from to =
       EachSettled keyed kept used from to (λ first last h a. TrailBy last from to first h a saving)
 
-  stand_since : (kept : List ℕ) (used : Option ℕ) (saving : List Round) (from to : Device) → to.geometry ≡ keyed.layout.geometry →
+  stand_since : (kept : Option (List ℕ)) (used : Option ℕ) (saving : List Round) (from to : Device) → to.geometry ≡ keyed.layout.geometry →
       EachCounted (Luck keyed) (Reaches keyed kept used saving) from to →
       EachSettled keyed kept used from to (λ first last h a. StandSince last (moment first) (reached_by h a saving))
   stand_since kept used saving from to geometry counted = λ first e last f h a settled image counts.
@@ -195,12 +176,12 @@ module _ (keyed : Keyed) where
   told_order : (from to : Device) (first last : Told) → IsLater from to → from.told ≡ Some first → to.told ≡ Some last → moment first ≤ moment last
   told_order from to first last later e f = in_order first last (later.continued first e last f)
 
-  module _ (plans : List (Option Plan)) (kept : List ℕ) (used copy : Option ℕ) (round : Round) (later : List Round) (from device to : Device)
+  module _ (plans : List (Option Plan)) (kept : Option (List ℕ)) (used copy : Option ℕ) (round : Round) (later : List Round) (from device to : Device)
       (geometry : from.geometry ≡ keyed.layout.geometry) (run : IsRoundRun keyed plans kept used copy round from device)
       (early : IsLater from device) (late : IsLater device to)
       (stops : StopsRefused (round ∷ later)) (whole : IsLater from to)
       (counted : EachCounted (Luck keyed) (Reaches keyed kept used (saving_rounds kept (round ∷ later))) from to)
-      (rest : Trails round.table copy (saving_rounds round.table later) device to) where
+      (rest : Trails (Some round.table) copy (saving_rounds (Some round.table) later) device to) where
     stand : EachSettled keyed kept used from to
         (λ first last h a. StandSince last (moment first) (reached_by h a (saving_rounds kept (round ∷ later))))
     stand = stand_since kept used (saving_rounds kept (round ∷ later)) from to (whole.geometry ∙ geometry) counted
@@ -213,7 +194,7 @@ module _ (keyed : Keyed) where
       next : (mid : Told) × (device.told ≡ Some mid)
       next = some_of device.told (early.told ∙ ap is_some here)
 
-      same_image : bytes_eq round.table kept ≡ true → next.0.image ≡ first.image
+      same_image : same_as_kept kept round.table ≡ true → next.0.image ≡ first.image
       same_image e =
           some_is next.0.image first.image
           (sym (told_image device next.0 next.1)
@@ -231,7 +212,7 @@ module _ (keyed : Keyed) where
       tried_changes : changes device ≡ changes run.middle
       tried_changes = start_changes (plan_at plans round.target) round.outcome run.middle device run.tried
 
-      idle_trail : bytes_eq round.table kept ≡ true → TrailBy last from to first h a (saving_rounds kept (round ∷ later))
+      idle_trail : same_as_kept kept round.table ≡ true → TrailBy last from to first h a (saving_rounds kept (round ∷ later))
       idle_trail e =
           let behind = rest next.0 next.1 last there h a
           (idle_settled keyed plans kept used copy round from device geometry run e first.image next.0.image h a (same_image e) settled) in
@@ -239,32 +220,32 @@ module _ (keyed : Keyed) where
           subst (TrailBy last from to first h a) (sym (idle_saving kept round later e))
           (record {
             answered = behind.answered;
-            known = answered_from from device to (map (λ (r : Round). r.table) (saving_rounds round.table later)) behind.answered early behind.known;
+            known = answered_from from device to (map (λ (r : Round). r.table) (saving_rounds (Some round.table) later)) behind.answered early behind.known;
             stages = by_moment behind (sym (same_moment from first here still));
             trail = trail_at behind (sym (same_moment from first here still));
           })
         where
-          by_moment : (behind : TrailBy last device to next.0 h a (saving_rounds round.table later)) → moment next.0 ≡ moment first →
-              stages_in (trail_of h a (moment first) (map (λ (r : Round). r.table) (saving_rounds round.table later)) behind.answered) ≡ reached_by h a (saving_rounds round.table later)
+          by_moment : (behind : TrailBy last device to next.0 h a (saving_rounds (Some round.table) later)) → moment next.0 ≡ moment first →
+              stages_in (trail_of h a (moment first) (map (λ (r : Round). r.table) (saving_rounds (Some round.table) later)) behind.answered) ≡ reached_by h a (saving_rounds (Some round.table) later)
           by_moment behind same =
-              subst (λ n. stages_in (trail_of h a n (map (λ (r : Round). r.table) (saving_rounds round.table later)) behind.answered) ≡ reached_by h a (saving_rounds round.table later)) same
+              subst (λ n. stages_in (trail_of h a n (map (λ (r : Round). r.table) (saving_rounds (Some round.table) later)) behind.answered) ≡ reached_by h a (saving_rounds (Some round.table) later)) same
               behind.stages
 
-          trail_at : (behind : TrailBy last device to next.0 h a (saving_rounds round.table later)) → moment next.0 ≡ moment first →
-              IsTrail (IsCounted keyed last) (moment last) First (trail_of h a (moment first) (map (λ (r : Round). r.table) (saving_rounds round.table later)) behind.answered)
+          trail_at : (behind : TrailBy last device to next.0 h a (saving_rounds (Some round.table) later)) → moment next.0 ≡ moment first →
+              IsTrail (IsCounted keyed last) (moment last) First (trail_of h a (moment first) (map (λ (r : Round). r.table) (saving_rounds (Some round.table) later)) behind.answered)
           trail_at behind same =
-              subst (λ n. IsTrail (IsCounted keyed last) (moment last) First (trail_of h a n (map (λ (r : Round). r.table) (saving_rounds round.table later)) behind.answered)) same behind.trail
+              subst (λ n. IsTrail (IsCounted keyed last) (moment last) First (trail_of h a n (map (λ (r : Round). r.table) (saving_rounds (Some round.table) later)) behind.answered)) same behind.trail
 
-      refused_one : bytes_eq round.table kept ≡ false → is_refused_save round.outcome ≡ true →
+      refused_one : same_as_kept kept round.table ≡ false → is_refused_save round.outcome ≡ true →
           TrailBy last from to first h a (saving_rounds kept (round ∷ later))
       refused_one e refused =
           let alone : saving_rounds kept (round ∷ later) ≡ round ∷ [] =
-          begun_saving kept round later e ∙ ap (λ l. round ∷ saving_rounds round.table l) (stops.0 refused) in
+          begun_saving kept round later e ∙ ap (λ l. round ∷ saving_rounds (Some round.table) l) (stops.0 refused) in
           subst (TrailBy last from to first h a) (sym alone)
           (refused_trail last from to first h a round whole refused past
           (subst (λ rs. StandSince last (moment first) (reached_by h a rs)) alone stand_here))
 
-      made_one : bytes_eq round.table kept ≡ false → is_refused_save round.outcome ≡ false →
+      made_one : same_as_kept kept round.table ≡ false → is_refused_save round.outcome ≡ false →
           TrailBy last from to first h a (saving_rounds kept (round ∷ later))
       made_one e done =
           let begun = begun_saving kept round later e in
@@ -274,20 +255,20 @@ module _ (keyed : Keyed) where
           let behind = rest next.0 next.1 last there (h ++ round.table ∷ []) (a + 1)
           (settled_more keyed kept used round.table copy first.image next.0.image h a settled holds) in
           let started = start_later (plan_at plans round.target) round.outcome run.middle device run.tried in
-          let tables = map (λ (r : Round). r.table) (saving_rounds round.table later) in
-          let here_on : TrailBy last run.middle to next.0 (h ++ round.table ∷ []) (a + 1) (saving_rounds round.table later) = record {
+          let tables = map (λ (r : Round). r.table) (saving_rounds (Some round.table) later) in
+          let here_on : TrailBy last run.middle to next.0 (h ++ round.table ∷ []) (a + 1) (saving_rounds (Some round.table) later) = record {
             answered = behind.answered;
             known = answered_from run.middle device to tables behind.answered started behind.known;
             stages = behind.stages;
             trail = behind.trail;
           } in
           subst (TrailBy last from to first h a) (sym begun)
-          (made_trail last from run.middle to copy first next.0 h a round (saving_rounds round.table later) stored
+          (made_trail last from run.middle to copy first next.0 h a round (saving_rounds (Some round.table) later) stored
           (λ told is. same_moment run.middle told is tried_changes) done
           (told_order from device first next.0 early here next.1)
           (subst (λ rs. StandSince last (moment first) (reached_by h a rs)) begun stand_here) here_on)
 
-      one_trail : (same : Bool) → bytes_eq round.table kept ≡ same → (refused : Bool) → is_refused_save round.outcome ≡ refused →
+      one_trail : (same : Bool) → same_as_kept kept round.table ≡ same → (refused : Bool) → is_refused_save round.outcome ≡ refused →
           TrailBy last from to first h a (saving_rounds kept (round ∷ later))
       one_trail true e refused done = idle_trail e
       one_trail false e true refused = refused_one e refused
@@ -295,9 +276,9 @@ module _ (keyed : Keyed) where
 
     pub round_trails : Trails kept used (saving_rounds kept (round ∷ later)) from to
     round_trails first here last there h a settled =
-        one_trail first last here there h a settled (bytes_eq round.table kept) refl (is_refused_save round.outcome) refl
+        one_trail first last here there h a settled (same_as_kept kept round.table) refl (is_refused_save round.outcome) refl
 
-  pub rounds_trails : (plans : List (Option Plan)) (rounds : List Round) (kept : List ℕ) (used now : Option ℕ) (from to : Device) →
+  pub rounds_trails : (plans : List (Option Plan)) (rounds : List Round) (kept : Option (List ℕ)) (used now : Option ℕ) (from to : Device) →
       from.geometry ≡ keyed.layout.geometry → StopsRefused rounds → AreRun keyed plans kept used now rounds from to →
       Trails kept used (saving_rounds kept rounds) from to
   unfolding AreRun
@@ -308,19 +289,19 @@ module _ (keyed : Keyed) where
       (rounds_reached keyed plans [] kept used now from to geometry stops run) first here last there h a settled)
   rounds_trails plans (round ∷ later) kept used now from to geometry stops run =
       let early = round_later keyed plans kept used run.copy round from run.device run.before in
-      let late = rounds_later keyed plans later round.table run.copy now run.device to run.behind in
+      let late = rounds_later keyed plans later (Some round.table) run.copy now run.device to run.behind in
       round_trails plans kept used run.copy round later from run.device to geometry run.before early late stops
       (rounds_later keyed plans (round ∷ later) kept used now from to run)
       (rounds_reached keyed plans (round ∷ later) kept used now from to geometry stops run)
-      (rounds_trails plans later round.table run.copy now run.device to (early.geometry ∙ geometry) stops.1 run.behind)
+      (rounds_trails plans later (Some round.table) run.copy now run.device to (early.geometry ∙ geometry) stops.1 run.behind)
 
   -- ---- the end
 
-  abbrev pub LeadsBy : List ℕ → Option ℕ → Told → Told → List (List ℕ) → ℕ → List Round → Type 0
+  abbrev pub LeadsBy : Option (List ℕ) → Option ℕ → Told → Told → List (List ℕ) → ℕ → List Round → Type 0
   LeadsBy kept now first last h a saving =
       LeadsTo keyed kept now first last h a (map (λ (round : Round). round.table) saving) (count_by is_made saving)
 
-  none_leads : (kept : List ℕ) (used now : Option ℕ) (first last : Told) (h : List (List ℕ)) (a : ℕ) → now ≡ used → last.image ≡ first.image →
+  none_leads : (kept : Option (List ℕ)) (used now : Option ℕ) (first last : Told) (h : List (List ℕ)) (a : ℕ) → now ≡ used → last.image ≡ first.image →
       IsSettled keyed kept used first.image h a → LeadsBy kept now first last h a []
   none_leads kept used now first last h a copy same settled =
       let acked : a + 0 ≡ a = omega arith in
@@ -330,17 +311,18 @@ module _ (keyed : Keyed) where
       (subst (λ i. IsSettled keyed kept now i h a) (sym same) (subst (λ u. IsSettled keyed kept u first.image h a) (sym copy) settled))) in
       record { stands = λ fair. here.stands; settled = λ all. here }
 
-  abbrev pub Leads : List ℕ → List ℕ → Option ℕ → Option ℕ → List Round → Device → Device → Type 0
+  abbrev pub Leads :
+      Option (List ℕ) → Option (List ℕ) → Option ℕ → Option ℕ → List Round → Device → Device → Type 0
   Leads end kept used now saving from to =
       EachSettled keyed kept used from to (λ first last h a. LeadsBy end now first last h a saving)
 
-  module _ (plans : List (Option Plan)) (kept : List ℕ) (used copy now : Option ℕ) (round : Round) (later : List Round) (from device to : Device)
+  module _ (plans : List (Option Plan)) (kept : Option (List ℕ)) (used copy now : Option ℕ) (round : Round) (later : List Round) (from device to : Device)
       (geometry : from.geometry ≡ keyed.layout.geometry) (run : IsRoundRun keyed plans kept used copy round from device)
       (early : IsLater from device) (late : IsLater device to)
       (stops : StopsRefused (round ∷ later)) (alone : later ≡ [] → to ≡ device)
-      (rest : Leads (table_after round.table later) round.table copy now (saving_rounds round.table later) device to) where
-    abbrev end : List ℕ
-    end = table_after round.table later
+      (rest : Leads (kept_after (Some round.table) later) (Some round.table) copy now (saving_rounds (Some round.table) later) device to) where
+    abbrev end : Option (List ℕ)
+    end = kept_after (Some round.table) later
 
     module _ (first last : Told) (here : from.told ≡ Some first) (there : to.told ≡ Some last) (h : List (List ℕ)) (a : ℕ)
         (settled : IsSettled keyed kept used first.image h a) where
@@ -353,7 +335,7 @@ module _ (keyed : Keyed) where
       fair_behind : IsFairRun keyed first last → IsFairRun keyed mid.0 last
       fair_behind = fair_from (Luck keyed) last (moment first) (moment mid.0) order
 
-      idle_leads : bytes_eq round.table kept ≡ true → LeadsBy end now first last h a (saving_rounds kept (round ∷ later))
+      idle_leads : same_as_kept kept round.table ≡ true → LeadsBy end now first last h a (saving_rounds kept (round ∷ later))
       idle_leads e =
           let image : mid.0.image ≡ first.image =
           some_is mid.0.image first.image
@@ -364,12 +346,12 @@ module _ (keyed : Keyed) where
           subst (LeadsBy end now first last h a) (sym (idle_saving kept round later e))
           (record { stands = λ fair. behind.stands (fair_behind fair); settled = behind.settled })
 
-      refused_leads : bytes_eq round.table kept ≡ false → is_refused_save round.outcome ≡ true →
+      refused_leads : same_as_kept kept round.table ≡ false → is_refused_save round.outcome ≡ true →
           LeadsBy end now first last h a (saving_rounds kept (round ∷ later))
       refused_leads e refused =
           let none : later ≡ [] = stops.0 refused in
           let only : saving_rounds kept (round ∷ later) ≡ round ∷ [] =
-          begun_saving kept round later e ∙ ap (λ l. round ∷ saving_rounds round.table l) none in
+          begun_saving kept round later e ∙ ap (λ l. round ∷ saving_rounds (Some round.table) l) none in
           let at_end : to.told ≡ device.told = ap (λ d. d.told) (alone none) in
           let made = made_cons round [] true refused in
           let acked : a + count_by is_made (round ∷ []) ≡ a = omega (arith, made) in
@@ -383,10 +365,10 @@ module _ (keyed : Keyed) where
             settled = λ all. absurd (let no : count_by is_made (round ∷ []) ≡ 1 = all in omega (arith, made, no));
           })
 
-      made_leads : bytes_eq round.table kept ≡ false → is_refused_save round.outcome ≡ false →
+      made_leads : same_as_kept kept round.table ≡ false → is_refused_save round.outcome ≡ false →
           LeadsBy end now first last h a (saving_rounds kept (round ∷ later))
       made_leads e done =
-          let saving = saving_rounds round.table later in
+          let saving = saving_rounds (Some round.table) later in
           let tables = map (λ (r : Round). r.table) saving in
           let holds = made_holds keyed plans kept used copy round from device geometry run e done mid.0.image (told_image device mid.0 mid.1) in
           let behind = rest mid.0 mid.1 last there (h ++ round.table ∷ []) (a + 1)
@@ -406,20 +388,20 @@ module _ (keyed : Keyed) where
                 (subst (λ l. IsSettled keyed end now last.image l (a + 1 + count_by is_made saving)) list (behind.settled fewer));
           })
 
-      one_leads : (same : Bool) → bytes_eq round.table kept ≡ same → (refused : Bool) → is_refused_save round.outcome ≡ refused →
+      one_leads : (same : Bool) → same_as_kept kept round.table ≡ same → (refused : Bool) → is_refused_save round.outcome ≡ refused →
           LeadsBy end now first last h a (saving_rounds kept (round ∷ later))
       one_leads true e refused done = idle_leads e
       one_leads false e true refused = refused_leads e refused
       one_leads false e false done = made_leads e done
 
-    pub round_leads : Leads (table_after kept (round ∷ later)) kept used now (saving_rounds kept (round ∷ later)) from to
+    pub round_leads : Leads (kept_after kept (round ∷ later)) kept used now (saving_rounds kept (round ∷ later)) from to
     round_leads = λ first here last there h a settled.
-        subst (λ t. LeadsBy t now first last h a (saving_rounds kept (round ∷ later))) (sym (table_cons kept round later))
-        (one_leads first last here there h a settled (bytes_eq round.table kept) refl (is_refused_save round.outcome) refl)
+        subst (λ k. LeadsBy k now first last h a (saving_rounds kept (round ∷ later))) (sym (kept_cons kept round later))
+        (one_leads first last here there h a settled (same_as_kept kept round.table) refl (is_refused_save round.outcome) refl)
 
-  pub rounds_leads : (plans : List (Option Plan)) (rounds : List Round) (kept : List ℕ) (used now : Option ℕ) (from to : Device) →
+  pub rounds_leads : (plans : List (Option Plan)) (rounds : List Round) (kept : Option (List ℕ)) (used now : Option ℕ) (from to : Device) →
       from.geometry ≡ keyed.layout.geometry → StopsRefused rounds → AreRun keyed plans kept used now rounds from to →
-      Leads (table_after kept rounds) kept used now (saving_rounds kept rounds) from to
+      Leads (kept_after kept rounds) kept used now (saving_rounds kept rounds) from to
   unfolding AreRun
   rounds_leads plans [] kept used now from to geometry stops run = λ first here last there h a settled.
       let same : last.image ≡ first.image =
@@ -427,19 +409,19 @@ module _ (keyed : Keyed) where
       none_leads kept used now first last h a run.0 same settled
   rounds_leads plans (round ∷ later) kept used now from to geometry stops run =
       let early = round_later keyed plans kept used run.copy round from run.device run.before in
-      let late = rounds_later keyed plans later round.table run.copy now run.device to run.behind in
+      let late = rounds_later keyed plans later (Some round.table) run.copy now run.device to run.behind in
       round_leads plans kept used run.copy now round later from run.device to geometry run.before early late stops
-      (none_alone keyed plans later round.table run.copy now run.device to run.behind)
-      (rounds_leads plans later round.table run.copy now run.device to (early.geometry ∙ geometry) stops.1 run.behind)
+      (none_alone keyed plans later (Some round.table) run.copy now run.device to run.behind)
+      (rounds_leads plans later (Some round.table) run.copy now run.device to (early.geometry ∙ geometry) stops.1 run.behind)
 
 -- ---- the words of the contract
 
-pub boot_trail : (keyed : Keyed) (plans : List (Option Plan)) (rounds : List Round) (kept : List ℕ) (used now : Option ℕ) (from to : Device) →
+pub rounds_trail : (keyed : Keyed) (plans : List (Option Plan)) (rounds : List Round) (kept : Option (List ℕ)) (used now : Option ℕ) (from to : Device) →
     from.geometry ≡ keyed.layout.geometry → StopsRefused rounds → AreRun keyed plans kept used now rounds from to →
     KeepsATrail keyed kept used rounds from to
-boot_trail keyed plans rounds kept used now from to geometry stops run = rounds_trails keyed plans rounds kept used now from to geometry stops run
+rounds_trail keyed plans rounds kept used now from to geometry stops run = rounds_trails keyed plans rounds kept used now from to geometry stops run
 
-pub boot_exit : (keyed : Keyed) (plans : List (Option Plan)) (rounds : List Round) (kept : List ℕ) (used now : Option ℕ) (from to : Device) →
+pub rounds_exit : (keyed : Keyed) (plans : List (Option Plan)) (rounds : List Round) (kept : Option (List ℕ)) (used now : Option ℕ) (from to : Device) →
     from.geometry ≡ keyed.layout.geometry → StopsRefused rounds → AreRun keyed plans kept used now rounds from to →
     KeepsAtExit keyed kept used now rounds from to
-boot_exit keyed plans rounds kept used now from to geometry stops run = rounds_leads keyed plans rounds kept used now from to geometry stops run
+rounds_exit keyed plans rounds kept used now from to geometry stops run = rounds_leads keyed plans rounds kept used now from to geometry stops run

@@ -14,8 +14,8 @@ use Rattle.bb_shell.specs.Running.{AreRun, IsRoundRun}
 -- come from where they led to follow them.
 pub record IsUnderway
     (b : Binding) (plans : List (Option Plan)) (keyed : Keyed)
-    (first kept : List ℕ) (used : Option ℕ) (from : Device)
-    (done : ℕ) (table kept' : List ℕ) (used' : Option ℕ) (now : Device) : Type 0 where
+    (first : List ℕ) (kept : Option (List ℕ)) (used : Option ℕ) (from : Device)
+    (done : ℕ) (table : List ℕ) (kept' : Option (List ℕ)) (used' : Option ℕ) (now : Device) : Type 0 where
   pub earlier : List Round
   pub many : length earlier ≡ done
   pub are : (later : List Round) → AreRounds b plans table later → AreRounds b plans first (earlier ++ later)
@@ -24,13 +24,13 @@ pub record IsUnderway
       AreRun keyed plans kept' used' end later now to → AreRun keyed plans kept used end (earlier ++ later) from to
   pub rose : RaisedBy (failed_starts earlier) from.start_faults now.start_faults
 
-rose_none : (n : ℕ) → RaisedBy 0 n n
+pub rose_none : (n : ℕ) → RaisedBy 0 n n
 rose_none n = omega arith
 
-rose_more : (x y one two three : ℕ) → RaisedBy x one two → RaisedBy y two three → RaisedBy (x + y) one three
+pub rose_more : (x y one two three : ℕ) → RaisedBy x one two → RaisedBy y two three → RaisedBy (x + y) one three
 rose_more x y one two three h k = omega arith
 
-pub underway_none : (b : Binding) (plans : List (Option Plan)) (keyed : Keyed) (first kept : List ℕ) (used : Option ℕ) (from : Device) →
+pub underway_none : (b : Binding) (plans : List (Option Plan)) (keyed : Keyed) (first : List ℕ) (kept : Option (List ℕ)) (used : Option ℕ) (from : Device) →
     IsUnderway b plans keyed first kept used from 0 first kept used from
 underway_none b plans keyed first kept used from = record {
   earlier = [];
@@ -46,8 +46,8 @@ failed_more earlier round = sum_by_push (λ (r : Round). failed_start r.outcome)
 abbrev no_rounds : List Round
 no_rounds = []
 
-module _ (b : Binding) (plans : List (Option Plan)) (keyed : Keyed) (first kept : List ℕ) (used : Option ℕ) (from : Device)
-    (done : ℕ) (table kept' : List ℕ) (used' : Option ℕ) (now : Device)
+module _ (b : Binding) (plans : List (Option Plan)) (keyed : Keyed) (first : List ℕ) (kept : Option (List ℕ)) (used : Option ℕ) (from : Device)
+    (done : ℕ) (table : List ℕ) (kept' : Option (List ℕ)) (used' : Option ℕ) (now : Device)
     (underway : IsUnderway b plans keyed first kept used from done table kept' used' now)
     (round : Round) (used'' : Option ℕ) (next : Device)
     (is : IsRound b plans table round) (runs : IsRoundRun keyed plans kept' used' used'' round now next)
@@ -57,7 +57,7 @@ module _ (b : Binding) (plans : List (Option Plan)) (keyed : Keyed) (first kept 
       subst (λ n. RaisedBy n from.start_faults next.start_faults) (sym (failed_more underway.earlier round))
       (rose_more (failed_starts underway.earlier) (failed_start round.outcome) from.start_faults now.start_faults next.start_faults underway.rose rose)
 
-  pub underway_next : is_retried b round.outcome ≡ true → IsUnderway b plans keyed first kept used from (done + 1) round.table round.table used'' next
+  pub underway_next : is_retried b round.outcome ≡ true → IsUnderway b plans keyed first kept used from (done + 1) round.table (Some round.table) used'' next
   unfolding AreRounds AreRun
   underway_next retried = record {
     earlier = underway.earlier ++ round ∷ [];

@@ -13,7 +13,7 @@ use Rattle.bb_shell.specs.Boot.{Round, first_table, last_round}
 use Rattle.bb_shell.specs.Rounds.{RoundAnswer, is_started, rounds_by}
 use Rattle.bb_shell.specs.Stages.{made_of, saves_of}
 
--- ---- the turn of a boot
+-- ---- the turn of rounds
 
 -- the target that the last round started, counted from 0, if it started one
 abbrev pub target_started : List Round → Option ℕ
@@ -22,10 +22,11 @@ target_started rounds =
     (λ round. if is_started round.outcome then Some round.target else None)
     (last_round rounds)
 
--- after a load that gave this table, which stands at this place of the list
-abbrev pub turn_of_rounds : ℕ → List ℕ → List Round → Turn
-turn_of_rounds place table rounds =
-    Loaded place (saves_of table rounds) (made_of table rounds) (target_started rounds)
+-- after a load of the area at this place of the list, where `kept` is the table that it gave, or none
+-- where the first save was to be made whatever it gave
+abbrev pub turn_of_rounds : ℕ → Option (List ℕ) → List Round → Turn
+turn_of_rounds place kept rounds =
+    Loaded place (saves_of kept rounds) (made_of kept rounds) (target_started rounds)
 
 -- A boot by these files did this with a content: no load answered Ok; or one did, and the rounds
 -- after it came of some answers. Of a boot that was cut they are those that it had had by then,
@@ -39,7 +40,8 @@ pub record IsBootAfter (b : Binding) (cause : Cause) (plans : List (Option Plan)
   pub answers : List RoundAnswer
   pub turn :
       Loaded place saves ok started
-      ≡ turn_of_rounds place table (rounds_by b plans (first_table b cause true table) answers)
+      ≡ turn_of_rounds place (Some table)
+      (rounds_by b plans (first_table b cause true table) answers)
 
 abbrev pub IsBootTurn : Binding → Cause → List (Option Plan) → Content → Turn → Type 0
 IsBootTurn b cause plans before Untouched = Unit {0}

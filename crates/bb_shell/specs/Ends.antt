@@ -1,6 +1,6 @@
 -- What a boot leaves of a state and its device, as its contract sees it.
-use Rattle.std.specs.Prelude.{◌≡◌, ◌⊎◌, ℕ, ◌+◌, ◌-◌, ◌^◌, ◌++◌, max, min, Bool, true, false, List, [], ◌∷◌, Option, IsNone, IsSomeAnd, count_by, if◌then◌else◌, length}
-use Rattle.std.specs.Option.{ForSome}
+use Rattle.std.specs.Prelude.{◌≡◌, ◌⊎◌, ℕ, ◌+◌, ◌-◌, ◌^◌, ◌++◌, max, min, Bool, true, false, List, [], ◌∷◌, Option, IsNone, IsSomeAnd, count_by, if◌then◌else◌, length, Some}
+use Rattle.std.specs.Option.{ForSome, IfSome}
 use Rattle.bb_base.specs.Faults.{Rose}
 use Rattle.bb_chooser.specs.Binding as bindings
 use Rattle.bb_chooser.specs.Binding.{Binding}
@@ -64,7 +64,7 @@ pub record HaveRun
   pub last : Round
   pub are : AreRounds b plans before.table (earlier ++ last ∷ [])
   pub run :
-      AreRun (keyed_of before) plans (last_table_of before) (used_of before) (used_of after)
+      AreRun (keyed_of before) plans (Some (last_table_of before)) (used_of before) (used_of after)
       (earlier ++ last ∷ []) from to
   pub end_is : end ≡ end_by b (length earlier + 1) last last.outcome
   pub table : after.table ≡ last.table
@@ -80,14 +80,17 @@ pub record IsBooted
   pub rounds : List Round
   pub are : AreRounds b plans first rounds
   pub run :
-      AreRun (keyed_of before) plans (last_table_of before) (used_of before) (used_of after) rounds from to
+      AreRun (keyed_of before) plans (Some (last_table_of before)) (used_of before) (used_of after)
+      rounds from to
   pub end_is : end ≡ boot_end b rounds
   pub table : after.table ≡ table_after before.table rounds
   pub kept : is_sure after ≡ true → last_table_of after ≡ table_after (last_table_of before) rounds
   -- what the copies stand for, in each image on the way and at exit
-  pub trail : KeepsATrail (keyed_of before) (last_table_of before) (used_of before) rounds from to
+  pub trail :
+      KeepsATrail (keyed_of before) (Some (last_table_of before)) (used_of before) rounds from to
   pub exit :
-      KeepsAtExit (keyed_of before) (last_table_of before) (used_of before) (used_of after) rounds from to
+      KeepsAtExit (keyed_of before) (Some (last_table_of before)) (used_of before) (used_of after)
+      rounds from to
   pub start_faults : RaisedBy (failed_starts rounds) from.start_faults to.start_faults
 
 -- nothing was saved or started, and the table is the one before any reset
@@ -119,15 +122,18 @@ AddsStarts plans from to ends.NoTarget = starts to ≡ starts from
 AddsStarts plans from to (ends.StartFailed target tries) = starts to ≡ starts from
 AddsStarts plans from to (ends.Fault fault) = starts to ≡ starts from
 
--- where every copy passed the table that was last loaded or saved, or nothing, it is so afterwards
-abbrev pub StaysStored : Keyed → List ℕ → List ℕ → Device → Device → Type 0
+-- every copy passes what was last loaded or saved, if that is known, or nothing
+abbrev pub HoldsKept : Option (List ℕ) → List (Option (List ℕ)) → Type 0
+HoldsKept kept passed = IfSome kept (λ table. EachPassesOrNothing table passed)
+
+-- where it was so before, it is so afterwards
+abbrev pub StaysStored : Keyed → Option (List ℕ) → Option (List ℕ) → Device → Device → Type 0
 StaysStored keyed kept now from to =
     ForSome (content from)
     (λ before.
     ForSome (content to)
     (λ after.
-    EachPassesOrNothing kept (laid_passings keyed before) →
-    EachPassesOrNothing now (laid_passings keyed after)))
+    HoldsKept kept (laid_passings keyed before) → HoldsKept now (laid_passings keyed after)))
 
 abbrev pub is_fault_end : BootEnd → Bool
 is_fault_end (ends.Started target left tries) = false

@@ -13,4 +13,5 @@ pub mod Ends
 pub mod Plans
 pub mod Rounds
 pub mod Running
+pub mod Sequence
 pub mod Stages

@@ -42,6 +42,10 @@ pub record RoundAnswer : Type 0 where
   pub save : Option CopyFault
   pub starts : Bool
 
+-- where nothing fails the save is made, and the start
+abbrev pub sound_answer : RoundAnswer
+sound_answer = record { save = None; starts = true }
+
 -- what comes of a round whose target has this plan, if it has one
 abbrev pub outcome_by : Option Plan → Bool → Option CopyFault → Outcome
 outcome_by plan starts (Some fault) = Refused fault

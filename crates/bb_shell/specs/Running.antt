@@ -53,12 +53,17 @@ pub record IsBegun
       NothingFails from to →
       IfNone refusal (ErasesBy (laid_kinds keyed.layout) ((laid_form keyed).text table) from to)
 
--- a table was to be saved where `kept` was last loaded or saved
+-- The table is the one that was last loaded or saved. Where none is known to be, it is another.
+abbrev pub same_as_kept : Option (List ℕ) → List ℕ → Bool
+same_as_kept None table = false
+same_as_kept (Some kept) table = bytes_eq table kept
+
+-- a table was to be saved where `kept` was last loaded or saved, if it was not to be saved always
 pub record IsSaveRun
-    (keyed : Keyed) (kept : List ℕ) (used now : Option ℕ) (table : List ℕ)
+    (keyed : Keyed) (kept : Option (List ℕ)) (used now : Option ℕ) (table : List ℕ)
     (refusal : Option CopyFault) (from to : Device) : Type 0 where
-  pub idle : bytes_eq table kept ≡ true → SavesNothing used now refusal from to
-  pub begun : bytes_eq table kept ≡ false → IsBegun keyed used now table refusal from to
+  pub idle : same_as_kept kept table ≡ true → SavesNothing used now refusal from to
+  pub begun : same_as_kept kept table ≡ false → IsBegun keyed used now table refusal from to
 
 -- ---- the start of a round
 
@@ -89,7 +94,7 @@ IsTried plan Started from to = IsSomeAnd plan (IsStartMade from to)
 
 -- a round was run: its save, and then its start
 pub record IsRoundRun
-    (keyed : Keyed) (plans : List (Option Plan)) (kept : List ℕ) (used now : Option ℕ)
+    (keyed : Keyed) (plans : List (Option Plan)) (kept : Option (List ℕ)) (used now : Option ℕ)
     (round : Round) (from to : Device) : Type 0 where
   -- between the two
   pub middle : Device
@@ -103,12 +108,14 @@ pub record Between (P Q : Option ℕ → Device → Type 0) : Type 0 where
   pub before : P copy device
   pub behind : Q copy device
 
--- The rounds were run one after another. `kept` was last loaded or saved before them, and `used` is
--- the copy that is used before them, `now` the one after them.
+-- The rounds were run one after another. `kept` was last loaded or saved before them, or their first
+-- save was to be made whatever was; `used` is the copy that is used before them, `now` the one after
+-- them.
 unfoldable pub AreRun :
-    Keyed → List (Option Plan) → List ℕ → Option ℕ → Option ℕ → List Round → Device → Device → Type 0
+    Keyed → List (Option Plan) → Option (List ℕ) → Option ℕ → Option ℕ → List Round → Device → Device
+    → Type 0
 AreRun keyed plans kept used now [] from to = (now ≡ used) × (to ≡ from)
 AreRun keyed plans kept used now (round ∷ later) from to =
     Between
     (λ copy device. IsRoundRun keyed plans kept used copy round from device)
-    (λ copy device. AreRun keyed plans round.table copy now later device to)
+    (λ copy device. AreRun keyed plans (Some round.table) copy now later device to)

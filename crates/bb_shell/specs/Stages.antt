@@ -2,8 +2,7 @@
 -- each image that a cut of power leaves on the way. It goes on after a load or a save that answered
 -- Ok, and another call's stages go on after it.
 use Rattle.std.specs.Prelude.{◌≡◌, ℕ, ◌+◌, List, [], ◌∷◌, ◌++◌, length, take, map, count_by, slice_get, not, Option, Some, if◌then◌else◌}
-use Rattle.std.specs.Option.{ForSome}
-use Rattle.std.specs.Str.{bytes_eq}
+use Rattle.std.specs.Option.{ForSome, IfSome, option_map_or}
 use Rattle.bb_copies.specs.Luck.{IsLucky}
 use Rattle.bb_copies.specs.Saving.{KeepsUsed}
 use Rattle.bb_copies.specs.StandsFor.{Stands}
@@ -17,26 +16,31 @@ use Rattle.bb_layout.specs.Layout.{Laid}
 use Rattle.bb_state.specs.Keyed.{Keyed}
 use Rattle.bb_state.specs.Kinds.{laid_passings}
 use Rattle.bb_state.specs.State.{IsStored}
-use Rattle.bb_shell.specs.Boot.{Round, table_after}
-use Rattle.bb_shell.specs.Running.{is_refused_save}
+use Rattle.bb_shell.specs.Boot.{Round, last_round}
+use Rattle.bb_shell.specs.Running.{is_refused_save, same_as_kept}
 
 -- ---- the saves of rounds
 
 -- The rounds whose save was begun: those with another table than the one that was loaded or saved
 -- last, which is `kept` before the first.
-abbrev pub saving_rounds : List ℕ → List Round → List Round
+abbrev pub saving_rounds : Option (List ℕ) → List Round → List Round
 saving_rounds kept [] = []
 saving_rounds kept (round ∷ later) =
-    let rest = saving_rounds round.table later in
-    if bytes_eq round.table kept then rest else round ∷ rest
+    let rest = saving_rounds (Some round.table) later in
+    if same_as_kept kept round.table then rest else round ∷ rest
 
 -- the tables that they saved
-abbrev pub saves_of : List ℕ → List Round → List (List ℕ)
+abbrev pub saves_of : Option (List ℕ) → List Round → List (List ℕ)
 saves_of kept rounds = map (λ round. round.table) (saving_rounds kept rounds)
 
 -- how many of these saves answered Ok
-abbrev pub made_of : List ℕ → List Round → ℕ
-made_of kept rounds = count_by (λ round. not (is_refused_save round.outcome)) (saving_rounds kept rounds)
+abbrev pub made_of : Option (List ℕ) → List Round → ℕ
+made_of kept rounds =
+    count_by (λ round. not (is_refused_save round.outcome)) (saving_rounds kept rounds)
+
+-- what was loaded or saved last after rounds of which no save was refused
+abbrev pub kept_after : Option (List ℕ) → List Round → Option (List ℕ)
+kept_after kept rounds = option_map_or (λ round. Some round.table) (last_round rounds) kept
 
 -- ---- stages
 
@@ -56,18 +60,19 @@ abbrev pub StandsIn : Keyed → Image → List (List ℕ) → ℕ → Type 0
 StandsIn keyed image h a = Stands (first_area keyed.layout) (laid_passings keyed image) h a
 
 -- As after a load or a save that answered Ok: an image stands for a list whose last area is
--- acknowledged, and is the one that is kept, and the copy that is used passes.
-pub record IsSettled (keyed : Keyed) (kept : List ℕ) (used : Option ℕ) (image : Image)
+-- acknowledged, and is the one that is kept, if one is, and the copy that is used passes.
+pub record IsSettled (keyed : Keyed) (kept : Option (List ℕ)) (used : Option ℕ) (image : Image)
     (h : List (List ℕ)) (a : ℕ) : Type 0 where
   pub stands : StandsIn keyed image h a
   pub last : a + 1 ≡ length h
-  pub area : slice_get h a ≡ Some kept
+  pub area : IfSome kept (λ table. slice_get h a ≡ Some table)
   pub uses : KeepsUsed used (laid_passings keyed image)
 
 -- P holds of what a device told and tells, and of each list that its content stood for after a load
 -- or a save that answered Ok
 abbrev pub EachSettled :
-    Keyed → List ℕ → Option ℕ → Device → Device → (Told → Told → List (List ℕ) → ℕ → Type 0) → Type 0
+    Keyed → Option (List ℕ) → Option ℕ → Device → Device
+    → (Told → Told → List (List ℕ) → ℕ → Type 0) → Type 0
 EachSettled keyed kept used from to P =
     ForSome from.told
     (λ first.
@@ -127,27 +132,29 @@ IsFairRun keyed first last =
 
 -- In a fair run the copies stand for the list with the saves after it. Where each of these answered
 -- Ok the last table is acknowledged, and another save may go on after it.
-pub record LeadsTo (keyed : Keyed) (kept : List ℕ) (used : Option ℕ) (first last : Told)
+pub record LeadsTo (keyed : Keyed) (kept : Option (List ℕ)) (used : Option ℕ) (first last : Told)
     (h : List (List ℕ)) (a : ℕ) (saves : List (List ℕ)) (ok : ℕ) : Type 0 where
   pub stands : IsFairRun keyed first last → StandsIn keyed last.image (h ++ saves) (a + ok)
   pub settled :
       ok ≡ length saves → IsSettled keyed kept used last.image (h ++ saves) (a + ok)
 
--- ---- of a boot
+-- ---- of rounds
 
--- Each image that counts since the boot began stands for a stage that its saves had reached by
--- then, or for a later one. `kept` was loaded or saved last before it, and `used` is the copy that
+-- Each image that counts since the rounds began stands for a stage that their saves had reached by
+-- then, or for a later one. `kept` was loaded or saved last before them, and `used` is the copy that
 -- passed it.
-abbrev pub KeepsATrail : Keyed → List ℕ → Option ℕ → List Round → Device → Device → Type 0
+abbrev pub KeepsATrail :
+    Keyed → Option (List ℕ) → Option ℕ → List Round → Device → Device → Type 0
 KeepsATrail keyed kept used rounds from to =
     EachSettled keyed kept used from to
     (λ first last h a. HasTrail keyed from to first last h a (saves_of kept rounds)
     (made_of kept rounds))
 
--- at exit the copies stand for the list with the tables of its rounds after it; `now` is the copy
+-- at exit the copies stand for the list with the tables of the rounds after it; `now` is the copy
 -- that is used then
-abbrev pub KeepsAtExit : Keyed → List ℕ → Option ℕ → Option ℕ → List Round → Device → Device → Type 0
+abbrev pub KeepsAtExit :
+    Keyed → Option (List ℕ) → Option ℕ → Option ℕ → List Round → Device → Device → Type 0
 KeepsAtExit keyed kept used now rounds from to =
     EachSettled keyed kept used from to
-    (λ first last h a. LeadsTo keyed (table_after kept rounds) now first last h a
+    (λ first last h a. LeadsTo keyed (kept_after kept rounds) now first last h a
     (saves_of kept rounds) (made_of kept rounds))

@@ -1,5 +1,5 @@
 ghost use Rattle.std.specs.Prelude.{◌≡◌, ◌<◌, ◌≤◌, ◌^◌, ◌↔◌, IfSome, IsNone, IsSome, not, length};
-ghost use Rattle.std.specs.Prelude.{true};
+ghost use Rattle.std.specs.Prelude.{Some, true};
 ghost use Rattle.bb_base.specs.Form.{area_limit};
 ghost use Rattle.bb_chooser.specs.Binding.{IsBinding};
 ghost use Rattle.bb_chooser.specs.Choosing.{IsBest};
@@ -49,7 +49,8 @@ pub fn boot_run<B: Board>(
     // At most one start, and what the copies then hold.
     ensures starts { AddsStarts plans.now (B.device board.old) (B.device board.new) result }
     ensures stored { is_sure state.new ≡ true
-        → StaysStored (keyed_of state.old) (last_table_of state.old) (last_table_of state.new)
+        → StaysStored (keyed_of state.old) (Some (last_table_of state.old))
+        (Some (last_table_of state.new))
         (B.device board.old) (B.device board.new) }
 
     // What stays.
@@ -122,7 +123,8 @@ fn run_rounds<B: Board>(
     ensures cause { HasEndCause plans.now (B.device board.old) (B.device board.new) result }
     ensures starts { AddsStarts plans.now (B.device board.old) (B.device board.new) result }
     ensures stored { is_sure state.new ≡ true
-        → StaysStored (keyed_of state.old) (last_table_of state.old) (last_table_of state.new)
+        → StaysStored (keyed_of state.old) (Some (last_table_of state.old))
+        (Some (last_table_of state.new))
         (B.device board.old) (B.device board.new) }
     ensures outside { KeepsOutside (kinds_of state.old) (B.device board.old) (B.device board.new) }
     ensures later { IsLater (B.device board.old) (B.device board.new) }

@@ -1,4 +1,4 @@
-ghost use Rattle.std.specs.Prelude.{◌≡◌, false, true, not};
+ghost use Rattle.std.specs.Prelude.{◌≡◌, Some, false, true, not};
 ghost use Rattle.bb_chooser.specs.Choosing.{IsBest};
 ghost use Rattle.bb_copies.specs.Loading.{KeepsOutside};
 ghost use Rattle.bb_flash.specs.Cuts.{IsLater};
@@ -28,7 +28,7 @@ pub(crate) fn run_round<B: Board>(
     requires best { IsBest chooser.now state.old.table target }
     ensures round { IsRound chooser.now plans.now state.old.table
         (record { target = target; table = state.new.table; outcome = result }) }
-    ensures run { IsRoundRun (keyed_of state.old) plans.now (last_table_of state.old)
+    ensures run { IsRoundRun (keyed_of state.old) plans.now (Some (last_table_of state.old))
         (used_of state.old) (used_of state.new)
         (record { target = target; table = state.new.table; outcome = result })
         (B.device board.old) (B.device board.new) }
@@ -37,7 +37,8 @@ pub(crate) fn run_round<B: Board>(
     ensures start_faults { RaisedBy (failed_start result)
         (B.device board.old).start_faults (B.device board.new).start_faults }
     ensures stored { is_refused_save result ≡ false
-        → StaysStored (keyed_of state.old) (last_table_of state.old) state.new.table
+        → StaysStored (keyed_of state.old) (Some (last_table_of state.old))
+        (Some state.new.table)
         (B.device board.old) (B.device board.new) }
     ensures outside { KeepsOutside (kinds_of state.old) (B.device board.old) (B.device board.new) }
     ensures later { IsLater (B.device board.old) (B.device board.new) }

@@ -1,4 +1,4 @@
-use Rattle.std.proofs.Common.{rules, ◌≡◌, ◌+◌, Bool, true, false, ap, arith, length, not, refl, subst, sym, ◌∙◌}
+use Rattle.std.proofs.Common.{rules, ◌≡◌, ◌+◌, Some, Bool, true, false, ap, arith, length, not, refl, subst, sym, ◌∙◌}
 use Rattle.bb_chooser.specs.Binding.{IsBoundTo}
 use Rattle.bb_copies.specs.Loading.{KeepsOutside}
 use Rattle.bb_flash.proofs.Moments.{later_joined}
@@ -32,24 +32,24 @@ returns-in_default-clause-have_run g c =
     let round : Round = record { target = c.loop-tries.target; table = new.table; outcome = c.run_round-outcome.result } in
     let invariant = c.loop-tries.invariant in
     let done = c.run_round-outcome.ensures in
-    let run : IsRoundRun keyed plans (last_table_of old) (used_of old) (used_of new) round mid to =
-    subst (λ l. IsRoundRun l plans (last_table_of old) (used_of old) (used_of new) round mid to) invariant.same_keyed done.run in
+    let run : IsRoundRun keyed plans (Some (last_table_of old)) (used_of old) (used_of new) round mid to =
+    subst (λ l. IsRoundRun l plans (Some (last_table_of old)) (used_of old) (used_of new) round mid to) invariant.same_keyed done.run in
     record {
       earlier = invariant.underway.earlier;
       last = round;
       are =
-          ended_are b plans keyed c.args.state.now.table (last_table_of c.args.state.now) (used_of c.args.state.now) from
-          c.loop-tries.tries old.table (last_table_of old) (used_of old) mid invariant.underway round (used_of new) to done.round run done.start_faults
+          ended_are b plans keyed c.args.state.now.table (Some (last_table_of c.args.state.now)) (used_of c.args.state.now) from
+          c.loop-tries.tries old.table (Some (last_table_of old)) (used_of old) mid invariant.underway round (used_of new) to done.round run done.start_faults
           (c.next_target.ensures.none (search rules));
       run =
-          ended_run b plans keyed c.args.state.now.table (last_table_of c.args.state.now) (used_of c.args.state.now) from
-          c.loop-tries.tries old.table (last_table_of old) (used_of old) mid invariant.underway round (used_of new) to done.round run done.start_faults;
+          ended_run b plans keyed c.args.state.now.table (Some (last_table_of c.args.state.now)) (used_of c.args.state.now) from
+          c.loop-tries.tries old.table (Some (last_table_of old)) (used_of old) mid invariant.underway round (used_of new) to done.round run done.start_faults;
       end_is = c.end_by.ensures ∙ ap (λ n. end_by b (n + 1) round round.outcome) (sym invariant.underway.many);
       table = refl;
       kept = done.kept;
       start_faults =
-          ended_rose b plans keyed c.args.state.now.table (last_table_of c.args.state.now) (used_of c.args.state.now) from
-          c.loop-tries.tries old.table (last_table_of old) (used_of old) mid invariant.underway round (used_of new) to done.round run done.start_faults;
+          ended_rose b plans keyed c.args.state.now.table (Some (last_table_of c.args.state.now)) (used_of c.args.state.now) from
+          c.loop-tries.tries old.table (Some (last_table_of old)) (used_of old) mid invariant.underway round (used_of new) to done.round run done.start_faults;
     }
 
 pub returns-in_default-clause-stored : goal.returns-in_default-clause-stored
@@ -63,9 +63,9 @@ returns-in_default-clause-stored g c sure =
     let invariant = c.loop-tries.invariant in
     let done = c.run_round-outcome.ensures in
     let saved : is_refused_save c.run_round-outcome.result ≡ false = not_true (is_refused_save c.run_round-outcome.result) (sym done.sure ∙ sure) in
-    let last = subst (λ l. StaysStored l (last_table_of old) new.table mid to) invariant.same_keyed (done.stored saved) in
-    subst (λ t. StaysStored keyed (last_table_of c.args.state.now) t from to) (sym (done.kept sure))
-    (stored_joined keyed (last_table_of c.args.state.now) (last_table_of old) new.table from mid to invariant.later invariant.stored last)
+    let last = subst (λ l. StaysStored l (Some (last_table_of old)) (Some new.table) mid to) invariant.same_keyed (done.stored saved) in
+    subst (λ t. StaysStored keyed (Some (last_table_of c.args.state.now)) (Some t) from to) (sym (done.kept sure))
+    (stored_joined keyed (Some (last_table_of c.args.state.now)) (Some (last_table_of old)) (Some new.table) from mid to invariant.later invariant.stored last)
 
 pub returns-in_default-clause-outside : goal.returns-in_default-clause-outside
 returns-in_default-clause-outside g c =
@@ -95,8 +95,8 @@ loop-tries-preserved g c =
     let round : Round = record { target = c.loop-tries.target; table = new.table; outcome = outcome } in
     let invariant = c.loop-tries.invariant in
     let done = c.run_round-outcome.ensures in
-    let run : IsRoundRun keyed plans (last_table_of old) (used_of old) (used_of new) round mid to =
-    subst (λ l. IsRoundRun l plans (last_table_of old) (used_of old) (used_of new) round mid to) invariant.same_keyed done.run in
+    let run : IsRoundRun keyed plans (Some (last_table_of old)) (used_of old) (used_of new) round mid to =
+    subst (λ l. IsRoundRun l plans (Some (last_table_of old)) (used_of old) (used_of new) round mid to) invariant.same_keyed done.run in
     let retried : is_retried b outcome ≡ true = c.next_target.ensures.retried (search rules) in
     let saved : is_refused_save outcome ≡ false = retried_saved b outcome retried in
     let sure : is_sure new ≡ true = done.sure ∙ ap not saved in
@@ -104,7 +104,7 @@ loop-tries-preserved g c =
     let less = total_spent b old.table c.loop-tries.target c.attempts_in-attempts.ensures.binding sized invariant.best in
     let spent : all_attempts b new.table ≡ _ = ap (all_attempts b) done.round.spent in
     let spare = invariant.spare in
-    let last = subst (λ l. StaysStored l (last_table_of old) new.table mid to) invariant.same_keyed (done.stored saved) in
+    let last = subst (λ l. StaysStored l (Some (last_table_of old)) (Some new.table) mid to) invariant.same_keyed (done.stored saved) in
     record {
       ready = record {
         sure = sure;
@@ -118,14 +118,14 @@ loop-tries-preserved g c =
       spare = omega (arith, spare, less, spent);
       same_keyed = done.keyed ∙ invariant.same_keyed;
       underway =
-          subst (λ k. IsUnderway b plans keyed c.args.state.now.table (last_table_of c.args.state.now) (used_of c.args.state.now) from (c.loop-tries.tries + 1) new.table k (used_of new) to)
+          subst (λ k. IsUnderway b plans keyed c.args.state.now.table (Some (last_table_of c.args.state.now)) (used_of c.args.state.now) from (c.loop-tries.tries + 1) new.table (Some k) (used_of new) to)
           (sym (done.kept sure))
-          (underway_next b plans keyed c.args.state.now.table (last_table_of c.args.state.now) (used_of c.args.state.now) from
-          c.loop-tries.tries old.table (last_table_of old) (used_of old) mid invariant.underway round (used_of new) to done.round run done.start_faults retried);
+          (underway_next b plans keyed c.args.state.now.table (Some (last_table_of c.args.state.now)) (used_of c.args.state.now) from
+          c.loop-tries.tries old.table (Some (last_table_of old)) (used_of old) mid invariant.underway round (used_of new) to done.round run done.start_faults retried);
       starts = retried_starts b (plan_at plans c.loop-tries.target) outcome mid to retried done.starts ∙ invariant.starts;
       stored =
-          subst (λ t. StaysStored keyed (last_table_of c.args.state.now) t from to) (sym (done.kept sure))
-          (stored_joined keyed (last_table_of c.args.state.now) (last_table_of old) new.table from mid to invariant.later invariant.stored last);
+          subst (λ t. StaysStored keyed (Some (last_table_of c.args.state.now)) (Some t) from to) (sym (done.kept sure))
+          (stored_joined keyed (Some (last_table_of c.args.state.now)) (Some (last_table_of old)) (Some new.table) from mid to invariant.later invariant.stored last);
       outside =
           outside_joined (kinds_of c.args.state.now) from mid to invariant.later done.later invariant.outside
           (subst (λ (l : Keyed). KeepsOutside (laid_kinds l.layout) mid to) invariant.same_keyed done.outside);

@@ -1,4 +1,4 @@
-use Rattle.std.proofs.Common.{◌≡◌, ◌≤◌, ◌+◌}
+use Rattle.std.proofs.Common.{◌≡◌, ◌≤◌, ◌+◌, Some}
 use Rattle.bb_chooser.specs.Choosing.{IsBest}
 use Rattle.bb_copies.specs.Loading.{KeepsOutside}
 use Rattle.bb_flash.specs.Cuts.{IsLater}
@@ -21,10 +21,10 @@ invariant-loop-tries g l =
       spare : l.tries + all_attempts l.chooser l.state.table ≤ l.attempts;
       same_keyed : keyed_of l.state ≡ keyed_of l.fn.state;
       underway :
-          IsUnderway l.chooser l.plans keyed l.fn.state.table (last_table_of l.fn.state) (used_of l.fn.state) from
-          l.tries l.state.table (last_table_of l.state) (used_of l.state) now;
+          IsUnderway l.chooser l.plans keyed l.fn.state.table (Some (last_table_of l.fn.state)) (used_of l.fn.state) from
+          l.tries l.state.table (Some (last_table_of l.state)) (used_of l.state) now;
       starts : starts now ≡ starts from;
-      stored : StaysStored keyed (last_table_of l.fn.state) (last_table_of l.state) from now;
+      stored : StaysStored keyed (Some (last_table_of l.fn.state)) (Some (last_table_of l.state)) from now;
       outside : KeepsOutside (kinds_of l.fn.state) from now;
       later : IsLater from now;
     }

@@ -1,4 +1,4 @@
-use Rattle.std.proofs.Common.{◌≡◌, Some, None, ap, sym, ◌∙◌}
+use Rattle.std.proofs.Common.{Some, None, ap, sym, ◌∙◌}
 use Rattle.std.specs.Option.{option_copied}
 use Rattle.bb_shell.proofs.FolderPlans.{setting_read}
 use Rattle.bb_shell.proofs.plans.plan_of_setting.Goals as goal

@@ -1,4 +1,4 @@
-use Rattle.std.proofs.Common.{◌≡◌, Some, ap, sym, ◌∙◌}
+use Rattle.std.proofs.Common.{Some, ap, sym, ◌∙◌}
 use Rattle.std.specs.Option.{option_copied}
 use Rattle.bb_shell.proofs.Reading.{entry_name, plan_names, plan_read}
 use Rattle.bb_shell.specs.Plans.{entry_answer}

@@ -1,4 +1,4 @@
-use Rattle.std.proofs.Common.{◌∙◌}
+use Rattle.std.proofs.Common.{◌∙◌, Some}
 use Rattle.bb_state.specs.Kinds.{any_holding}
 use Rattle.bb_state.specs.State.{has_changed, last_table_of, keyed_of, kinds_of, used_of}
 use Rattle.bb_state.specs.declared.state.State.{State}
@@ -17,7 +17,7 @@ returns-in-Ok-clause-run g c =
     let fits = chosen_fits c.args.chooser.now c.args.state.now c.spend.new.table c.requires.ready.bound.vars c.spend.ensures.others in
     let state : State = record c.args.state.now { table = c.spend.new.table; fits = fits } in
     let saved = c.in-Ok.ensures in
-    round_ok (keyed_of c.args.state.now) c.args.plans.now (last_table_of c.args.state.now) (used_of c.args.state.now) (used_of c.save.new.self)
+    round_ok (keyed_of c.args.state.now) c.args.plans.now (Some (last_table_of c.args.state.now)) (used_of c.args.state.now) (used_of c.save.new.self)
     c.args.target c.spend.new.table c.save.new.self.table c.try_start.result
     (g.B.Flash.device c.args.board.now) (g.B.Flash.device c.save.new.flash) (g.B.Flash.device c.try_start.new.board)
     (saved_ok state (used_of c.save.new.self) (g.B.Flash.device c.args.board.now) (g.B.Flash.device c.save.new.flash)
@@ -26,12 +26,12 @@ returns-in-Ok-clause-run g c =
 
 pub returns-in-Ok-clause-outside : goal.returns-in-Ok-clause-outside
 returns-in-Ok-clause-outside g c =
-    round_outside (keyed_of c.args.state.now) c.args.plans.now (last_table_of c.args.state.now) (used_of c.args.state.now) (used_of c.save.new.self)
+    round_outside (keyed_of c.args.state.now) c.args.plans.now (Some (last_table_of c.args.state.now)) (used_of c.args.state.now) (used_of c.save.new.self)
     _ (g.B.Flash.device c.args.board.now) (g.B.Flash.device c.try_start.new.board) (returns-in-Ok-clause-run g c)
 
 pub returns-in-Ok-clause-later : goal.returns-in-Ok-clause-later
 returns-in-Ok-clause-later g c =
-    round_later (keyed_of c.args.state.now) c.args.plans.now (last_table_of c.args.state.now) (used_of c.args.state.now) (used_of c.save.new.self)
+    round_later (keyed_of c.args.state.now) c.args.plans.now (Some (last_table_of c.args.state.now)) (used_of c.args.state.now) (used_of c.save.new.self)
     _ (g.B.Flash.device c.args.board.now) (g.B.Flash.device c.try_start.new.board) (returns-in-Ok-clause-run g c)
 
 pub returns-in-Err-clause-outside : goal.returns-in-Err-clause-outside
@@ -43,13 +43,13 @@ returns-in-Err-clause-outside g c =
 
 pub returns-in-Ok-clause-stored : goal.returns-in-Ok-clause-stored
 returns-in-Ok-clause-stored g c done =
-    round_stored (keyed_of c.args.state.now) c.args.plans.now (last_table_of c.args.state.now) (used_of c.args.state.now) (used_of c.save.new.self)
+    round_stored (keyed_of c.args.state.now) c.args.plans.now (Some (last_table_of c.args.state.now)) (used_of c.args.state.now) (used_of c.save.new.self)
     _ (g.B.Flash.device c.args.board.now) (g.B.Flash.device c.try_start.new.board) (returns-in-Ok-clause-run g c)
     c.requires.ready.on.geometry done
 
 pub returns-in-Ok-clause-starts : goal.returns-in-Ok-clause-starts
 returns-in-Ok-clause-starts g c =
-    round_adds (keyed_of c.args.state.now) c.args.plans.now (last_table_of c.args.state.now) (used_of c.args.state.now) (used_of c.save.new.self)
+    round_adds (keyed_of c.args.state.now) c.args.plans.now (Some (last_table_of c.args.state.now)) (used_of c.args.state.now) (used_of c.save.new.self)
     _ (g.B.Flash.device c.args.board.now) (g.B.Flash.device c.try_start.new.board) (returns-in-Ok-clause-run g c)
 
 pub returns-in-Ok-clause-on : goal.returns-in-Ok-clause-on
