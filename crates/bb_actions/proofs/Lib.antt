@@ -1,3 +1,5 @@
 -- Lemmas.
 pub mod Examples
+pub mod Refusals
 pub mod Steps
+pub mod Values

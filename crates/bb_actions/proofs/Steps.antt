@@ -1,21 +1,49 @@
 -- One action more.
-use Rattle.std.proofs.Common.{◌≡◌, ℕ, ◌+◌, List, [], ◌∷◌, ◌++◌, Some, ap, refl, sym, ◌∙◌, drop, take, fold, slice_get}
-use Rattle.std.specs.Option.{option_or}
+use Rattle.std.proofs.Common.{◌≡◌, ℕ, ◌+◌, List, [], ◌∷◌, ◌++◌, Some, Ok, Err, append_assoc, ap, refl, sym, ◌∙◌, drop, take, fold, slice_get}
+use Rattle.bb_layout.specs.Results.{result_and_then}
 use Rattle.bb_layout.specs.declared.var.Var.{Var}
-use Rattle.bb_state.proofs.Lists.{first_next, take_next}
+use Rattle.bb_state.proofs.Lists.{drop_next, take_next}
 use Rattle.bb_words.specs.declared.command.Action.{Action}
-use Rattle.bb_actions.specs.Actions.{after, after_all, misfit, misfit_of}
+use Rattle.bb_actions.specs.Actions.{Bound, Refuses, after, after_all, read_action, read_actions}
+use Rattle.bb_actions.specs.declared.bound_action.BoundAction.{BoundAction}
+use Rattle.bb_actions.specs.declared.error.ActionError.{ActionError}
+use Rattle.bb_actions.specs.declared.error.ActionError.TheVariants.{Misfit, NoMemory}
 
-pub misfit_next : (vars : List Var) (actions : List Action) (i : ℕ) (a : Action) → slice_get actions i ≡ Some a
-    → misfit_of vars (drop i actions) ≡ option_or (misfit vars a) (misfit_of vars (drop (i + 1) actions))
-misfit_next vars actions i a h = first_next (misfit vars) actions i a h
+-- ---- of those that are read
 
-fold_more : (vars : List Var) (table : List ℕ) (actions : List Action) (a : Action) →
-    fold (after vars) table (actions ++ a ∷ []) ≡ after vars (fold (after vars) table actions) a
-fold_more vars table [] a = refl
-fold_more vars table (b ∷ actions) a = fold_more vars (after vars table b) actions a
+-- actions that are bound, and after them the rest
+abbrev pub onto_bound : List BoundAction → Bound (List BoundAction) → Bound (List BoundAction)
+onto_bound bound more = result_and_then (λ rest. Ok (bound ++ rest)) more
 
-pub after_next : (vars : List Var) (table : List ℕ) (actions : List Action) (i : ℕ) (a : Action) → slice_get actions i ≡ Some a
-    → after vars (after_all vars table (take i actions)) a ≡ after_all vars table (take (i + 1) actions)
-after_next vars table actions i a h =
-    sym (ap (after_all vars table) (take_next actions i a h) ∙ fold_more vars table (take i actions) a)
+onto_more : (bound : List BoundAction) (next : BoundAction) (more : Bound (List BoundAction))
+    → onto_bound bound (result_and_then (λ rest. Ok (next ∷ rest)) more) ≡ onto_bound (bound ++ next ∷ []) more
+onto_more bound next (Ok rest) = ap Ok (sym (append_assoc bound (next ∷ []) rest))
+onto_more bound next (Err misfit) = refl
+
+-- the next doesn't fit
+pub misfit_next : (vars : List Var) (bound : List BoundAction) (actions : List Action) (i : ℕ) (a : Action) (e : ActionError)
+    → slice_get actions i ≡ Some a → read_actions vars actions ≡ onto_bound bound (read_actions vars (drop i actions))
+    → Refuses (read_action vars a) e → Refuses (read_actions vars actions) e
+misfit_next vars bound actions i a (Misfit name cause) there from refused =
+    from ∙ ap (λ (l : List Action). onto_bound bound (read_actions vars l)) (drop_next actions i a there) ∙ rw refused refl
+misfit_next vars bound actions i a NoMemory there from refused = tt
+
+-- it fits
+pub bound_next : (vars : List Var) (bound : List BoundAction) (actions : List Action) (i : ℕ) (a : Action) (next : BoundAction)
+    → slice_get actions i ≡ Some a → read_action vars a ≡ Ok next
+    → onto_bound bound (read_actions vars (drop i actions)) ≡ onto_bound (bound ++ next ∷ []) (read_actions vars (drop (i + 1) actions))
+bound_next vars bound actions i a next there is =
+    ap (λ (l : List Action). onto_bound bound (read_actions vars l)) (drop_next actions i a there)
+    ∙ rw is (onto_more bound next (read_actions vars (drop (i + 1) actions)))
+
+-- ---- of those whose values are put
+
+fold_more : (table : List ℕ) (actions : List BoundAction) (a : BoundAction) →
+    fold after table (actions ++ a ∷ []) ≡ after (fold after table actions) a
+fold_more table [] a = refl
+fold_more table (b ∷ actions) a = fold_more (after table b) actions a
+
+pub after_next : (table : List ℕ) (actions : List BoundAction) (i : ℕ) (a : BoundAction) → slice_get actions i ≡ Some a
+    → after (after_all table (take i actions)) a ≡ after_all table (take (i + 1) actions)
+after_next table actions i a there =
+    sym (ap (after_all table) (take_next actions i a there) ∙ fold_more table (take i actions) a)

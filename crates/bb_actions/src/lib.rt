@@ -1,12 +1,21 @@
-//! What the actions among the words of a command do to the variables of a state: the first that
-//! doesn't fit, the table that all sets make, and the text of what is got and dumped. The program's
-//! session stands on it; it knows neither devices nor files.
+//! What the actions among the words of a command do to the variables of a state. They are bound to
+//! the variables first, each text of a set as the bytes that it stands for; the first that doesn't
+//! fit decides. Then their values are put into a table, and the text is made of what is got and
+//! dumped. The program's session stands on it; it knows neither devices nor files.
 #![tactic(auto)]
 
-mod misfit;
-mod sets;
+mod bound_action;
+mod bound_action_list;
+mod error;
+mod law;
+mod read;
+mod table;
 mod text;
 
-pub use misfit::first_misfit;
-pub use sets::make_sets;
+pub use bound_action::BoundAction;
+pub use bound_action_list::BoundActionList;
+pub use error::ActionError;
+pub use law::law_put_is_set;
+pub use read::read_actions;
+pub use table::put_values;
 pub use text::actions_text;

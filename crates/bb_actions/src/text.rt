@@ -2,20 +2,20 @@ ghost use Rattle.std.specs.Prelude.{◌≡◌, ◌++◌, IfOk, OnOk, length};
 ghost use Rattle.bb_layout.specs.Layout.{fields_of};
 ghost use Rattle.bb_actions.specs.Actions.{action_text, actions_text};
 
+use crate::{BoundAction, BoundActionList};
 use bb_base::{Bytes, NoMemory};
 use bb_layout::Layout;
 use bb_state::{add_dump, add_shell_dump, add_value_line};
-use bb_words::{Action, ActionList};
 use std::alloc::Global;
 
 /// The text of what all actions get and dump, in their order, over an area of the layout: a line
-/// for each value, ended by LF. For a variable that the layout doesn't have nothing is sent;
-/// `first_misfit` gives the first.
+/// for each value, ended by LF. For a variable that the layout doesn't have nothing is sent, but
+/// `read_actions` gives no such action.
 pub fn actions_text(
     alloc: Global,
     layout: &Layout,
     area: &[u8],
-    actions: &ActionList,
+    actions: &BoundActionList,
 ) -> Result<Bytes, NoMemory>
     requires { length area.now ≡ layout.now.area_len }
     ensures { IfOk result (λ text.
@@ -35,7 +35,7 @@ fn add_action(
     alloc: Global,
     layout: &Layout,
     area: &[u8],
-    action: &Action,
+    action: &BoundAction,
     out: &mut Bytes,
 ) -> Result<(), NoMemory>
     requires { length area.now ≡ layout.now.area_len }
@@ -43,9 +43,9 @@ fn add_action(
         (out.new ≡ out.old ++ action_text (fields_of layout.now) area.now action.now) }
 {
     match action {
-        Action::Set { .. } => Ok(()),
-        Action::Get(name) => add_value_line(layout, area, name.as_str(), out),
-        Action::Dump => add_dump(layout, area, out),
-        Action::DumpShell => add_shell_dump(alloc, layout, area, out),
+        BoundAction::Put { .. } => Ok(()),
+        BoundAction::Get(name) => add_value_line(layout, area, name.as_str(), out),
+        BoundAction::Dump => add_dump(layout, area, out),
+        BoundAction::DumpShell => add_shell_dump(alloc, layout, area, out),
     }
 }

@@ -1,22 +1,21 @@
 // Lists of actions.
-ghost use Rattle.std.specs.Prelude.{◌≡◌, ◌≢◌, [], IfOk, false, length};
+ghost use Rattle.std.specs.Prelude.{◌≡◌, ◌≢◌, [], IfOk, length};
+ghost use Rattle.bb_actions.specs.Actions.{AreBoundTo};
 ghost use Rattle.bb_layout.specs.Facts.{AreVars};
-ghost use Rattle.bb_layout.specs.Formats.{takes_key};
 
-use bb_actions::{actions_text, first_misfit, make_sets};
+use bb_actions::{ActionError, BoundActionList, actions_text, put_values, read_actions};
 use bb_base::{Bytes, NoMemory, Text, TextList};
 use bb_flash::{Geometry, Region};
 use bb_layout::{FormatKind, Layout, Storage, Var, VarList};
-use bb_state::{State, StateError};
-use bb_vars::{Kind, ValueError};
+use bb_state::StateError;
+use bb_vars::{Kind, Table, ValueError};
 use bb_words::{Action, ActionList};
 use std::alloc::Global;
 use std::test::Fail;
 
 // A layout of one variable, `a.n`, in one byte.
 fn one_byte(alloc: Global) -> Result<Layout, NoMemory>
-    ensures area_len { IfOk result (λ layout. layout.area_len ≡ 1) }
-    ensures format { IfOk result (λ layout. takes_key layout.format ≡ false) }
+    ensures { IfOk result (λ layout. layout.area_len ≡ 1) }
 {
     let vars = one_var(alloc)?;
     let name = Text::of(alloc, "state")?;
@@ -90,18 +89,14 @@ fn add(actions: &mut ActionList, action: Result<Action, NoMemory>) -> Result<(),
     actions.push(action?)
 }
 
-fn misfit<'a>(layout: &Layout, actions: &'a ActionList) -> Option<(&'a Text, StateError)> {
-    first_misfit(layout, actions)
-}
-
-// What a state of this layout says after the sets of these actions.
-#[tactic(auto, using(bb_state::proofs::Tables::table_sized))]
-fn text_of(alloc: Global, layout: Layout, actions: &ActionList) -> Result<Bytes, NoMemory>
-    requires { takes_key layout.format ≡ false }
+// What a table of this layout, which holds a 3, says after the sets of these actions.
+fn text_of(alloc: Global, layout: &Layout, actions: &BoundActionList) -> Result<Bytes, NoMemory>
+    requires sized { layout.now.area_len ≡ 1 }
+    requires bound { AreBoundTo layout.now.vars actions.now }
 {
-    let mut state = State::mount(alloc, layout, None)?;
-    make_sets(&mut state, actions);
-    actions_text(alloc, state.layout(), state.table.bytes(), actions)
+    let mut table = Table::of(alloc, b"\x03")?;
+    put_values(&mut table, actions);
+    actions_text(alloc, layout, table.bytes(), actions)
 }
 
 fn five_actions(alloc: Global) -> Result<ActionList, NoMemory> {
@@ -122,8 +117,10 @@ fn add_five(alloc: Global, actions: &mut ActionList) -> Result<(), NoMemory> {
 fn actions_come_in_their_order(rt: HostRuntime) -> Result<(), Fail> {
     let layout = one_byte(rt.alloc())?;
     let actions = five_actions(rt.alloc())?;
-    assert!(rt; misfit(&layout, &actions).is_none());
-    let text = text_of(rt.alloc(), layout, &actions)?;
+    let Ok(bound) = read_actions(rt.alloc(), &layout, &actions) else {
+        return Err(Fail::from("a misfit"));
+    };
+    let text = text_of(rt.alloc(), &layout, &bound)?;
     let lines = b"state_a_n=\"8\"\n8\na.n=8\n".as_slice();
     assert_eq!(rt; text.as_slice(), lines);
     Ok(())
@@ -145,7 +142,7 @@ fn add_three(alloc: Global, actions: &mut ActionList) -> Result<(), NoMemory> {
 fn the_first_misfit_is_found(rt: HostRuntime) -> Result<(), Fail> {
     let layout = one_byte(rt.alloc())?;
     let actions = three_actions(rt.alloc())?;
-    let Some((name, cause)) = misfit(&layout, &actions) else {
+    let Err(ActionError::Misfit(name, cause)) = read_actions(rt.alloc(), &layout, &actions) else {
         return Err(Fail::from("no misfit"));
     };
     assert_eq!(rt; name.as_str(), "a.n");

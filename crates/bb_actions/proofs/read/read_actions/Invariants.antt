@@ -1,0 +1,8 @@
+use Rattle.std.proofs.Common.{◌≡◌, drop}
+use Rattle.bb_actions.specs.Actions.{read_actions}
+use Rattle.bb_actions.proofs.Steps.{onto_bound}
+use Rattle.bb_actions.proofs.read.read_actions.Given as goal
+
+-- the actions so far are bound, and the rest comes after them
+abbrev pub invariant-loop-place : goal.invariant-loop-place
+invariant-loop-place l = read_actions l.layout.vars l.actions ≡ onto_bound l.bound (read_actions l.layout.vars (drop l.place l.actions))
