@@ -1,6 +1,6 @@
 -- The plans of targets as they were read, one entry's file after the other.
 use Rattle.std.proofs.Common.{◌≡◌, ◌<◌, ◌≤◌, ℕ, suc, ◌+◌, false, List, [], ◌∷◌, length, map, take, Result, Ok, Err, refl, sym, ap, subst, ◌∙◌, inl, inr, arith}
-use Rattle.std.specs.Prelude.{Option, slice_get, unwrap_or}
+use Rattle.std.specs.Prelude.{Option, ⊤, slice_get, unwrap_or}
 use Rattle.std.specs.List.{AllZip, enumerate_from}
 use Rattle.std.specs.Option.{ForSome}
 use Rattle.std.proofs.lemmas.List.{length-map}
@@ -63,8 +63,7 @@ module _ (before : Folder) where
           }
       by (Err fault) each e = absurd cc
   given_from n (name ∷ names) (Err Fault ∷ answers) plans told many is = absurd cc
-  given_from n (name ∷ names) (Err TooLong ∷ answers) plans told many is = absurd cc
-  given_from n (name ∷ names) (Err NoMemory ∷ answers) plans told many is = absurd cc
+  given_from n (name ∷ names) (Err _ ∷ answers) plans told many is = absurd cc
 
   -- the entry of a place
   abbrev name_at : List (List ℕ) → ℕ → List ℕ
@@ -90,63 +89,50 @@ module _ (before : Folder) where
           read = record { answers = Ok text ∷ read.answers; are = (told, read.are); gives = read.gives };
         }
 
-    -- a fault was met
-    fault_from : after ≡ after_file_fault before → (n : ℕ) (names : List (List ℕ))
-        (answers : List FileAnswer) (target : ℕ) → AreToldOf before names answers → length answers ≤ length names →
-        plans_from n answers ≡ Err (plan_faults.FileFault target) → IsStoppedAt n names target refusals.FileFault
-    fault_from met n names [] target told most is = absurd cc
-    fault_from met n [] (answer ∷ answers) target told most is = absurd (omega (arith, most))
-    fault_from met n (name ∷ names) (Ok text ∷ answers) target told most is =
-        stopped_later n name names target refusals.FileFault text (λ files some. (told files some).0)
-        (by (plans_from (n + 1) answers)
-        (λ rest.
-        fault_from met (n + 1) names answers target (λ files some. (told files some).1) (omega (arith, most)) rest) is)
-      where
-        by : (r : Result (List (Option StartPlan)) PlanFault) →
-            (r ≡ Err (plan_faults.FileFault target) → IsStoppedAt (n + 1) names target refusals.FileFault) →
-            next_of (plan_by n text) r ≡ Err (plan_faults.FileFault target) → IsStoppedAt (n + 1) names target refusals.FileFault
-        by (Ok behind) each e = absurd cc
-        by (Err fault) each e = each e
-    fault_from met n (name ∷ names) (Err Fault ∷ answers) target told most is =
-        let same : n ≡ target = cc in
-        record {
-          place = 0;
-          place_is = omega (arith, same);
-          read = record { answers = Err Fault ∷ []; are = (refl, met); gives = refl };
-        }
-    fault_from met n (name ∷ names) (Err TooLong ∷ answers) target told most is = absurd cc
-    fault_from met n (name ∷ names) (Err NoMemory ∷ answers) target told most is = absurd cc
+    -- what each fault of a file leaves, and where the reading stopped for it
+    abbrev LeavesSo : PlanFault → Type 0
+    LeavesSo (plan_faults.FileFault target) = after ≡ after_file_fault before
+    LeavesSo _ = after ≡ before
 
-    -- a file was too long
-    long_from : after ≡ before → (n : ℕ) (names : List (List ℕ)) (answers : List FileAnswer) (target : ℕ) →
-        AreToldOf before names answers → length answers ≤ length names →
-        plans_from n answers ≡ Err (plan_faults.FileTooLong target) → IsStoppedAt n names target refusals.FileTooLong
-    long_from same n names [] target told most is = absurd cc
-    long_from same n [] (answer ∷ answers) target told most is = absurd (omega (arith, most))
-    long_from same n (name ∷ names) (Ok text ∷ answers) target told most is =
-        stopped_later n name names target refusals.FileTooLong text (λ files some. (told files some).0)
+    abbrev IsStoppedBy : ℕ → List (List ℕ) → PlanFault → Type 0
+    IsStoppedBy n names (plan_faults.FileFault target) = IsStoppedAt n names target refusals.FileFault
+    IsStoppedBy n names (plan_faults.FileTooLong target) = IsStoppedAt n names target refusals.FileTooLong
+    IsStoppedBy n names plan_faults.NoMemory = ⊤
+
+    stopped_from : (n : ℕ) (names : List (List ℕ)) (answers : List FileAnswer) (fault : PlanFault) → AreToldOf before names answers →
+        length answers ≤ length names → plans_from n answers ≡ Err fault → LeavesSo fault → IsStoppedBy n names fault
+    stopped_from n names [] fault told most is left = absurd cc
+    stopped_from n [] (answer ∷ answers) fault told most is left = absurd (omega (arith, most))
+    stopped_from n (name ∷ names) (Ok text ∷ answers) fault told most is left =
+        later fault
         (by (plans_from (n + 1) answers)
-        (λ rest.
-        long_from same (n + 1) names answers target (λ files some. (told files some).1) (omega (arith, most)) rest) is)
+        (λ rest. stopped_from (n + 1) names answers fault (λ files some. (told files some).1) (omega (arith, most)) rest left) is)
       where
-        by : (r : Result (List (Option StartPlan)) PlanFault) →
-            (r ≡ Err (plan_faults.FileTooLong target) → IsStoppedAt (n + 1) names target refusals.FileTooLong) →
-            next_of (plan_by n text) r ≡ Err (plan_faults.FileTooLong target) → IsStoppedAt (n + 1) names target refusals.FileTooLong
+        later : (fault : PlanFault) → IsStoppedBy (n + 1) names fault → IsStoppedBy n (name ∷ names) fault
+        later (plan_faults.FileFault target) at =
+            stopped_later n name names target refusals.FileFault text (λ files some. (told files some).0) at
+        later (plan_faults.FileTooLong target) at =
+            stopped_later n name names target refusals.FileTooLong text (λ files some. (told files some).0) at
+        later plan_faults.NoMemory at = tt
+
+        by : (r : Result (List (Option StartPlan)) PlanFault) → (r ≡ Err fault → IsStoppedBy (n + 1) names fault) →
+            next_of (plan_by n text) r ≡ Err fault → IsStoppedBy (n + 1) names fault
         by (Ok behind) each e = absurd cc
-        by (Err fault) each e = each e
-    long_from same n (name ∷ names) (Err Fault ∷ answers) target told most is = absurd cc
-    long_from same n (name ∷ names) (Err TooLong ∷ answers) target told most is =
-        let here : n ≡ target = cc in
-        record {
+        by (Err other) each e = each e
+    stopped_from n (name ∷ names) (Err Fault ∷ answers) fault told most is left =
+        let same : plan_faults.FileFault n ≡ fault = cc in
+        subst (λ f. LeavesSo f → IsStoppedBy n (name ∷ names) f) same
+        (λ met. record { place = 0; place_is = omega arith; read = record { answers = Err Fault ∷ []; are = (refl, met); gives = refl } }) left
+    stopped_from n (name ∷ names) (Err TooLong ∷ answers) fault told most is left =
+        let same : plan_faults.FileTooLong n ≡ fault = cc in
+        subst (λ f. LeavesSo f → IsStoppedBy n (name ∷ names) f) same
+        (λ met. record {
           place = 0;
-          place_is = omega (arith, here);
-          read = record {
-            answers = Err TooLong ∷ [];
-            are = (refl, ((λ files some. (told files some).0), same));
-            gives = refl;
-          };
-        }
-    long_from same n (name ∷ names) (Err NoMemory ∷ answers) target told most is = absurd cc
+          place_is = omega arith;
+          read = record { answers = Err TooLong ∷ []; are = (refl, ((λ files some. (told files some).0), met)); gives = refl };
+        }) left
+    stopped_from n (name ∷ names) (Err NoMemory ∷ answers) fault told most is left =
+        let same : plan_faults.NoMemory ≡ fault = cc in subst (IsStoppedBy n (name ∷ names)) same tt
 
 -- ---- what was read
 
@@ -190,8 +176,7 @@ module _ (b : Binding) (before after : Folder) (told : after.told ≡ before.tol
           after.faults ≡ counted (is_file_fault (given_fault fault)) before.faults →
           reads_file (plans_reading b) ≡ false → after ≡ before
       by (plan_faults.FileFault target) names counts none = entry_read b.targets target names none
-      by (plan_faults.FileTooLong target) names counts none = folder_is before after told counts
-      by plan_faults.NoMemory names counts none = folder_is before after told counts
+      by _ names counts none = folder_is before after told counts
 
   pub entries_refused : (fault : PlanFault) → IsPlanned b before (Err fault) → NamesTarget b fault →
       after.faults ≡ counted (is_file_fault (given_fault fault)) before.faults →
@@ -213,11 +198,11 @@ module _ (b : Binding) (before after : Folder) (told : after.told ≡ before.tol
           after.faults ≡ counted (is_file_fault (given_fault fault)) before.faults → AsPlans (Err (entry_fault b fault))
       by (plan_faults.FileFault target) planned names counts =
           stopped_so target refusals.FileFault
-          (fault_from before after (folder_is (after_file_fault before) after told counts) 0 (entries_of b)
-          planned.answers target planned.answered (most planned.answers planned.most) (sym (planned.gives (λ e. cc))))
+          (stopped_from before after 0 (entries_of b) planned.answers (plan_faults.FileFault target) planned.answered
+          (most planned.answers planned.most) (sym (planned.gives (λ e. cc))) (folder_is (after_file_fault before) after told counts))
       by (plan_faults.FileTooLong target) planned names counts =
           stopped_so target refusals.FileTooLong
-          (long_from before after (folder_is before after told counts) 0 (entries_of b) planned.answers target
-          planned.answered (most planned.answers planned.most) (sym (planned.gives (λ e. cc))))
+          (stopped_from before after 0 (entries_of b) planned.answers (plan_faults.FileTooLong target) planned.answered
+          (most planned.answers planned.most) (sym (planned.gives (λ e. cc))) (folder_is before after told counts))
       by plan_faults.NoMemory planned names counts =
           entries_short plan_faults.NoMemory names counts (Err refusals.NoMemory) refl

@@ -1,6 +1,9 @@
 -- A plan as the code made it.
 use Rattle.std.proofs.Common.{◌≡◌, ◌≢◌, ℕ, ◌==◌, Bool, true, false, List, [], cond, length, codes, None, Result, Ok, Err, IfOk, refl, sym, ap, subst, ◌∙◌, inl}
-use Rattle.bb_actions.specs.Actions.{misfit_of}
+use Rattle.bb_actions.specs.Actions.{Bound, Refuses as RefusesActions, read_actions}
+use Rattle.bb_actions.specs.declared.bound_action.BoundAction.{BoundAction}
+use Rattle.bb_actions.specs.declared.error.ActionError.{ActionError}
+use Rattle.bb_actions.specs.declared.error.ActionError.TheVariants as action_errors
 use Rattle.bb_base.specs.Folder.{Folder}
 use Rattle.bb_flash.specs.declared.geometry.Geometry.{Geometry}
 use Rattle.bb_layout.specs.Formats.{raw_len, takes_key}
@@ -22,10 +25,10 @@ use Rattle.bb_words.specs.declared.command.RawCommand.{RawCommand}
 use Rattle.bb_words.specs.declared.command.StateCommand.{StateCommand}
 use Rattle.bb_words.specs.declared.error.WordsError.{WordsError}
 use Rattle.bb_words.specs.declared.error.WordsError.TheVariants.{BadWord, NoMemory}
-use Rattle.bb_plan.specs.PlanSteps.{fit_by}
-use Rattle.bb_plan.specs.Plan.{Act, IsPlannedFor, IsServed, IsTaskFor, OnCopies, Prints, SessionPlan, Task, Work, Write, on_copies, plan_as, plan_reading, prints, raw_laid, raw_plan, raw_work, state_plan, task_as, words_reading}
+use Rattle.bb_plan.specs.PlanSteps.{refused_as}
+use Rattle.bb_plan.specs.Plan.{Act, IsPlannedFor, IsServed, IsTaskFor, OnCopies, Prints, SessionPlan, Work, Write, on_copies, plan_as, plan_reading, prints, raw_laid, raw_plan, raw_work, state_plan, task_as, words_reading}
 use Rattle.bb_plan.specs.FilesRead.{IsExpected, IsReadAs, Reading, Yields}
-use Rattle.bb_plan.specs.Refusal.{layout_refusal, words_refusal}
+use Rattle.bb_plan.specs.Refusal.{action_refusal, layout_refusal, words_refusal}
 use Rattle.bb_plan.specs.declared.plan.PlannedTask.{PlannedTask}
 use Rattle.bb_plan.specs.declared.plan.PlannedTask.TheVariants as tasks
 use Rattle.bb_plan.specs.declared.plan.PlannedWork.{PlannedWork}
@@ -75,14 +78,24 @@ pub printed_for : (geometry : Geometry) (given : Result (List ℕ) Refusal) (tas
 printed_for geometry (Ok text) task is = subst (λ t. IfOk t (λ task. IsTaskFor geometry (task_as task))) (sym is) tt
 printed_for geometry (Err refusal) task is = subst (λ t. IfOk t (λ task. IsTaskFor geometry (task_as task))) (sym is) tt
 
--- a variable that is named doesn't fit
-pub unfit : (command : StateCommand) (keyed : Keyed) (e : Refusal) →
-    (e ≢ refusals.NoMemory → fit_by (misfit_of keyed.layout.vars command.actions) ≡ Err e) →
-    (given : Result PlannedWork Refusal) → given ≡ Err e → IsExpected (state_plan command keyed) plan_as given
-unfit command keyed e fit given is =
-    subst (IsExpected (state_plan command keyed) plan_as) (sym is)
-    (λ other.
-    ap (result_and_then (λ fits. Ok (record { keyed = keyed; work = Act command.actions }))) (fit other))
+-- the plan by what actions are bound as
+abbrev acting : Keyed → Bound (List BoundAction) → Result SessionPlan Refusal
+acting keyed bound =
+    result_and_then (λ actions. Ok (record { keyed = keyed; work = Act actions }))
+    (refused_as (λ misfit. refusals.BadVariable misfit.0 misfit.1) bound)
+
+-- an action doesn't fit
+pub unfit : (command : StateCommand) (keyed : Keyed) (e : ActionError) → RefusesActions (read_actions keyed.layout.vars command.actions) e →
+    (given : Result PlannedWork Refusal) → given ≡ Err (action_refusal e) → IsExpected (state_plan command keyed) plan_as given
+unfit command keyed (action_errors.Misfit name cause) refused given is =
+    subst (IsExpected (state_plan command keyed) plan_as) (sym is) (λ other. ap (acting keyed) refused)
+unfit command keyed action_errors.NoMemory refused given is =
+    subst (IsExpected (state_plan command keyed) plan_as) (sym is) (λ other. absurd (other refl))
+
+-- all fit
+pub fits : (command : StateCommand) (keyed : Keyed) (bound : List BoundAction) → read_actions keyed.layout.vars command.actions ≡ Ok bound →
+    state_plan command keyed ≡ Ok (record { keyed = keyed; work = Act bound })
+fits command keyed bound is = ap (acting keyed) is
 
 -- ---- `raw`
 

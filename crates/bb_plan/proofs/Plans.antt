@@ -8,7 +8,7 @@ use Rattle.bb_words.specs.Words.{words_of}
 use Rattle.bb_words.specs.declared.command.Command.{Command}
 use Rattle.bb_plan.specs.Plan.{IsRefusedWith}
 use Rattle.bb_plan.specs.Status.{is_planning}
-use Rattle.bb_plan.specs.Plan.{Drills, EarlyEnd, FileAnswers, OnCopies, Prints, Refused, SessionPlan, Task, command_reading, files_for, names_file, plan_by_words, plan_over_files, plan_reading, planned, words_reading}
+use Rattle.bb_plan.specs.Plan.{EarlyEnd, FileAnswers, OnCopies, Refused, SessionPlan, Task, command_reading, files_for, names_file, plan_by_words, plan_over_files, plan_reading, planned, words_reading}
 use Rattle.bb_plan.specs.FilesRead.{AreRead, after_file_fault, file_refusal, result_by, result_over}
 use Rattle.bb_plan.specs.Refusal.{status_of}
 use Rattle.bb_plan.specs.declared.refusal.Refusal.{Refusal}
@@ -23,10 +23,9 @@ use Rattle.bb_plan.proofs.Sizes.{is_of_file, IsOfText, IsSizedTask, command_ends
 -- a plan isn't refused with a status that none of its refusals has
 unlike : (answer : Status) (task : Result Task Refusal) → IfErr task (λ refusal. status_of refusal ≢ answer) →
     IsRefusedWith answer (planned task) → ⊥
-unlike answer (Ok (OnCopies plan)) other refused = refused
-unlike answer (Ok (Prints text)) other refused = refused
-unlike answer (Ok (Drills numbers)) other refused = refused
 unlike answer (Err refusal) other refused = other refused
+unlike answer (Ok (OnCopies plan)) other refused = refused
+unlike answer _ other refused = refused
 
 text_other : (answer : Status) → is_of_text answer ≡ false → (refusal : Refusal) → IsOfText refusal → status_of refusal ≢ answer
 text_other answer other refusal text h =
@@ -61,8 +60,7 @@ plan_refusal answer never other (Ok command) geometry files refused =
 -- only words that are none are refused as such
 other_file : (name : List ℕ) (fail : FileFail) → status_of (file_refusal name fail) ≢ statuses.BadWords
 other_file name file_fails.Fault = λ h. cc
-other_file name file_fails.TooLong = λ h. cc
-other_file name file_fails.NoMemory = λ h. cc
+other_file name _ = λ h. cc
 
 pub words_refused : (command : Result Command ℕ) (geometry : Geometry) (files : FileAnswers) →
     IsRefusedWith statuses.BadWords (planned (result_by (words_reading command geometry) files)) → IsErr command
@@ -106,9 +104,7 @@ AtFault refusal = status_of refusal ≡ statuses.FileFault
 
 as_fault : (task : Result Task Refusal) → IsRefusedWith statuses.FileFault (planned task) → HasErr AtFault task
 as_fault (Ok (OnCopies plan)) refused = refused
-as_fault (Ok (Prints text)) refused = refused
-as_fault (Ok (Drills numbers)) refused = refused
-as_fault (Err refusal) refused = refused
+as_fault _ refused = refused
 
 fault_of : (command : Result Command ℕ) (geometry : Geometry) (before after : Folder) (answers : FileAnswers) →
     AreRead (words_reading command geometry) before after answers →

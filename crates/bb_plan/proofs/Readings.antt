@@ -180,23 +180,8 @@ read_as_none reading view before after given (inr (is, short)) none = short.unre
 
 -- whether a refusal is refused memory
 pub memory_or_not : (e : Refusal) → (e ≡ refusals.NoMemory) ⊎ (e ≢ refusals.NoMemory)
-memory_or_not (refusals.BadWords place) = inr (λ h. cc)
-memory_or_not (refusals.BadTree e) = inr (λ h. cc)
-memory_or_not (refusals.BadBlob e) = inr (λ h. cc)
-memory_or_not (refusals.BadLayout e) = inr (λ h. cc)
-memory_or_not (refusals.BadVariable name cause) = inr (λ h. cc)
-memory_or_not (refusals.FileMissing file) = inr (λ h. cc)
-memory_or_not (refusals.FileFault file) = inr (λ h. cc)
-memory_or_not (refusals.FileTooLong file) = inr (λ h. cc)
-memory_or_not refusals.NoTarget = inr (λ h. cc)
-memory_or_not (refusals.StartFailed name) = inr (λ h. cc)
-memory_or_not refusals.ReadFault = inr (λ h. cc)
-memory_or_not (refusals.WriteFault copy) = inr (λ h. cc)
-memory_or_not (refusals.BadSettings e) = inr (λ h. cc)
-memory_or_not refusals.NoKey = inr (λ h. cc)
-memory_or_not (refusals.BadKey e) = inr (λ h. cc)
-memory_or_not (refusals.NoGood place) = inr (λ h. cc)
 memory_or_not refusals.NoMemory = inl refl
+memory_or_not _ = inr (λ h. cc)
 
 -- memory was refused before any file was read
 pub short_here : {A B : Type 0} (reading : Reading B) (view : A → B) (folder : Folder) (given : Result A Refusal) →

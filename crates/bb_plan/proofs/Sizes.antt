@@ -2,22 +2,17 @@
 -- a boot is bound to; and no two variables to which a boot is bound share a byte of it.
 use Rattle.std.proofs.Common.{◌≡◌, ◌&&◌, ℕ, suc, ◌+◌, ◌≤◌, Bool, true, false, not, List, [], ◌∷◌, All, length, Option, Some, None, Result, Ok, Err, IfErr, IfOk, cond, nat_lt, ok_or, refl, subst, ◌∙◌, arith}
 use Rattle.std.specs.Prelude.{⊤, fold, map, ok_or, replicate}
-use Rattle.std.specs.Option.{option_and_then}
 use Rattle.std.proofs.lemmas.Bool.Decides.{nat_tests}
 use Rattle.std.proofs.lemmas.List.{length-replicate}
-use Rattle.bb_base.specs.Form.{Form}
-use Rattle.bb_bucket.specs.Kind.{BucketKind, part_of}
-use Rattle.bb_actions.specs.Actions.{misfit_of}
+use Rattle.bb_actions.specs.Actions.{Bound, read_actions}
+use Rattle.bb_actions.specs.declared.bound_action.BoundAction.{BoundAction}
 use Rattle.bb_chooser.proofs.Named.{bind_apart}
 use Rattle.bb_chooser.proofs.Results.{if_ok, then_ok}
 use Rattle.bb_chooser.specs.Binding.{Binding, IsBinding, bind_from, binding, bound_of, last_chosen_name, uint32_at}
 use Rattle.bb_chooser.specs.Settings.{Configuration, settings_of}
 use Rattle.bb_chooser.specs.declared.bound_target.BoundTarget.{BoundTarget}
-use Rattle.bb_copies.specs.Passing.{passing_of, passings}
-use Rattle.bb_copies.specs.StandsFor.{first_passed}
 use Rattle.bb_dts.specs.Source.{source_of}
 use Rattle.bb_fdt.specs.Reading.{blob_of}
-use Rattle.bb_flash.specs.Image.{Image}
 use Rattle.bb_flash.specs.declared.geometry.Geometry.{Geometry}
 use Rattle.bb_flash.specs.declared.plan.Plan.{Plan as StartPlan}
 use Rattle.bb_flash.specs.declared.region.Region.{Region}
@@ -46,9 +41,6 @@ use Rattle.bb_layout.proofs.RangeFacts.{ends_inside, names_apart, ranges_apart}
 use Rattle.bb_layout.proofs.WellFormed.{all_well_formed}
 use Rattle.bb_shell.specs.Plans.{entries_of, plan_by}
 use Rattle.bb_state.specs.Keyed.{Keyed}
-use Rattle.bb_state.specs.declared.error.StateError.{StateError}
-use Rattle.bb_state.proofs.Fitting.{fits_sized}
-use Rattle.bb_state.specs.Kinds.{any_format_laws, format_of, laid_form, laid_kinds}
 use Rattle.bb_tree.specs.Blob.{Devicetree}
 use Rattle.bb_tree.specs.Node.{Branch}
 use Rattle.bb_vars.specs.Table.{table_with}
@@ -60,11 +52,10 @@ use Rattle.bb_words.specs.declared.command.RawAction.{RawAction}
 use Rattle.bb_words.specs.declared.command.RawAction.TheVariants as raw_actions
 use Rattle.bb_words.specs.declared.command.Described.{Described}
 use Rattle.bb_words.specs.declared.command.RawCommand.{RawCommand}
-use Rattle.bb_words.specs.declared.command.StateCommand.{StateCommand}
 use Rattle.bb_layout.specs.Thirds.{raw_layout}
 use Rattle.bb_plan.specs.Status.{is_planning}
-use Rattle.bb_plan.specs.PlanSteps.{binding_by, binding_reading, blob_root, block_by, block_reading, cause_of, entries_reading, fit_by, is_blob, key_after, key_reading, keyed_reading, layout_by, layout_reading, named_block, plans_reading, refused_as, source_root, targets_by, tree_in}
-use Rattle.bb_plan.specs.Plan.{Act, Boot, Drills, FileAnswers, Good, OnCopies, Prints, SessionPlan, Show, Task, Work, Write, boot_after, boot_planned, boot_reading, command_reading, mark_after, mark_reading, on_copies, plan_by_words, plan_reading, planned, raw_laid, raw_plan, raw_work, state_plan, state_reading, words_reading}
+use Rattle.bb_plan.specs.PlanSteps.{binding_by, binding_reading, blob_root, block_by, block_reading, cause_of, entries_reading, is_blob, key_after, key_reading, keyed_reading, layout_by, layout_reading, named_block, plans_reading, refused_as, source_root, targets_by, tree_in}
+use Rattle.bb_plan.specs.Plan.{Act, Boot, FileAnswers, Good, OnCopies, Prints, SessionPlan, Task, Work, boot_after, boot_planned, boot_reading, command_reading, mark_after, mark_reading, on_copies, plan_by_words, plan_reading, planned, raw_laid, raw_plan, raw_work, state_plan, state_reading, words_reading}
 use Rattle.bb_plan.specs.FilesRead.{EachEnd, Reading, Yields, and_then, file_reading, result_by, reading_of}
 use Rattle.bb_plan.specs.Refusal.{status_of}
 use Rattle.bb_plan.specs.Plan.{first_area}
@@ -111,10 +102,8 @@ area_is vars len h =
 
     by : (twice over long : Bool) → some_pair has_same_name vars ≡ twice → some_pair shares_byte vars ≡ over →
         nat_lt 65535 (greatest_end vars) ≡ long → chosen twice over long ≡ Ok len → HasArea vars len
-    by true over long names apart short e = absurd cc
-    by false true long names apart short e = absurd cc
-    by false false true names apart short e = absurd cc
     by false false false names apart short e = record { names = names; apart = apart; short = short; end = cc }
+    by _ _ _ names apart short e = absurd cc
 
 defaults_sized : (vars : List Var) (len : ℕ) → All IsWellFormed vars → area_len_of vars ≡ Ok len → length (defaults_of len vars) ≡ len
 defaults_sized vars len formed is =
@@ -247,11 +236,8 @@ pub record IsSizedBoot (layout : Laid) (targets : Binding) : Type 0 where
   pub binding : IsBinding targets
 
 abbrev pub IsSizedWork : Work → Laid → Type 0
-IsSizedWork Show layout = ⊤
-IsSizedWork (Write area) layout = ⊤
-IsSizedWork (Act actions) layout = ⊤
-IsSizedWork (Good targets) layout = ⊤
 IsSizedWork (Boot targets cause plans) layout = IsSizedBoot layout targets
+IsSizedWork _ layout = ⊤
 
 abbrev pub IsSizedPlan : SessionPlan → Type 0
 IsSizedPlan plan = IsSizedWork plan.work plan.keyed.layout
@@ -374,16 +360,17 @@ raw_ends : (command : RawCommand) (r : Result Laid LayoutError) → EachEnd IsSi
 raw_ends command (Ok layout) = raw_sized command.action layout
 raw_ends command (Err e) = refl
 
-fit_ends : (command : StateCommand) (keyed : Keyed) (misfit : Option (List ℕ × StateError)) →
+acts_end : (keyed : Keyed) (bound : Bound (List BoundAction)) →
     EachEnd IsSizedPlan IsOfText
-    (reading_of (result_and_then (λ fit. Ok (record { keyed = keyed; work = Act command.actions })) (fit_by misfit)))
-fit_ends command keyed None = tt
-fit_ends command keyed (Some misfit) = refl
+    (reading_of
+    (result_and_then (λ actions. Ok (record { keyed = keyed; work = Act actions }))
+    (refused_as (λ misfit. refusals.BadVariable misfit.0 misfit.1) bound)))
+acts_end keyed (Ok actions) = tt
+acts_end keyed (Err misfit) = refl
 
 abbrev pub IsSizedTask : Task → Type 0
 IsSizedTask (OnCopies plan) = IsSizedPlan plan
-IsSizedTask (Prints text) = ⊤
-IsSizedTask (Drills numbers) = ⊤
+IsSizedTask _ = ⊤
 
 on_ends : (reading : Reading SessionPlan) → EachEnd IsSizedPlan IsOfText reading → EachEnd IsSizedTask IsOfText (on_copies reading)
 on_ends reading each =
@@ -402,7 +389,7 @@ command_ends (commands.State command) geometry =
     on_ends (state_reading command geometry) (
     each_then HasSize IsSizedPlan IsOfText (λ keyed. reading_of (state_plan command keyed))
     (keyed_reading command.described geometry) (keyed_ends command.described geometry)
-    (λ keyed sized. fit_ends command keyed (misfit_of keyed.layout.vars command.actions)))
+    (λ keyed sized. acts_end keyed (read_actions keyed.layout.vars command.actions)))
 command_ends (commands.MarkGood command) geometry =
     on_ends (mark_reading command geometry) (
     each_then HasSize IsSizedPlan IsOfText (mark_after command)
@@ -435,9 +422,7 @@ sized_of (Err place) geometry files = tt
 
 planned_ok : (result : Result Task Refusal) → IfOk result IsSizedTask → IfOk (planned result) IsSizedPlan
 planned_ok (Ok (OnCopies plan)) sized = sized
-planned_ok (Ok (Prints text)) sized = tt
-planned_ok (Ok (Drills numbers)) sized = tt
-planned_ok (Err refusal) sized = tt
+planned_ok _ sized = tt
 
 pub planned_sized : (words : List (List ℕ)) (geometry : Geometry) (files : FileAnswers) (plan : SessionPlan) →
     plan_by_words words geometry files ≡ Ok plan → IsSizedPlan plan

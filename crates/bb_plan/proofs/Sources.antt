@@ -76,29 +76,12 @@ module _ (asked : Asked) (before after : Folder) (told : after.told ≡ before.t
 -- ---- refusals by the names that they have in a session
 
 pub layout_refused : (laid : Result Laid LayoutError) (e : LayoutError) → (e ≢ layout_errors.NoMemory → laid ≡ Err e) → layout_refusal e ≢ refusals.NoMemory → refused_as refusals.BadLayout laid ≡ Err (layout_refusal e)
-layout_refused laid layout_errors.NoState refused some = ap (refused_as refusals.BadLayout) (refused (λ h. cc))
-layout_refused laid (layout_errors.Missing prop) refused some = ap (refused_as refusals.BadLayout) (refused (λ h. cc))
-layout_refused laid (layout_errors.BadProp prop) refused some = ap (refused_as refusals.BadLayout) (refused (λ h. cc))
-layout_refused laid layout_errors.BadType refused some = ap (refused_as refusals.BadLayout) (refused (λ h. cc))
-layout_refused laid layout_errors.BadReg refused some = ap (refused_as refusals.BadLayout) (refused (λ h. cc))
-layout_refused laid layout_errors.Overlap refused some = ap (refused_as refusals.BadLayout) (refused (λ h. cc))
-layout_refused laid layout_errors.NoBackend refused some = ap (refused_as refusals.BadLayout) (refused (λ h. cc))
-layout_refused laid layout_errors.TooSmall refused some = ap (refused_as refusals.BadLayout) (refused (λ h. cc))
-layout_refused laid layout_errors.Unaligned refused some = ap (refused_as refusals.BadLayout) (refused (λ h. cc))
-layout_refused laid layout_errors.OutOfDevice refused some = ap (refused_as refusals.BadLayout) (refused (λ h. cc))
-layout_refused laid layout_errors.AreaTooLong refused some = ap (refused_as refusals.BadLayout) (refused (λ h. cc))
-layout_refused laid layout_errors.NameTwice refused some = ap (refused_as refusals.BadLayout) (refused (λ h. cc))
 layout_refused laid layout_errors.NoMemory refused some = absurd (some refl)
+layout_refused laid _ refused some = ap (refused_as refusals.BadLayout) (refused (λ h. cc))
 
 pub settings_refused : (bound : Result Binding SettingsError) (e : SettingsError) → (e ≢ settings_errors.NoMemory → bound ≡ Err e) → settings_refusal e ≢ refusals.NoMemory → refused_as refusals.BadSettings bound ≡ Err (settings_refusal e)
-settings_refused bound (settings_errors.BadLine line) refused some = ap (refused_as refusals.BadSettings) (refused (λ h. cc))
-settings_refused bound settings_errors.NoTargets refused some = ap (refused_as refusals.BadSettings) (refused (λ h. cc))
-settings_refused bound (settings_errors.TargetTwice line) refused some = ap (refused_as refusals.BadSettings) (refused (λ h. cc))
-settings_refused bound (settings_errors.BadNumber line) refused some = ap (refused_as refusals.BadSettings) (refused (λ h. cc))
-settings_refused bound (settings_errors.BadEvent line) refused some = ap (refused_as refusals.BadSettings) (refused (λ h. cc))
-settings_refused bound (settings_errors.NoSuchVariable name) refused some = ap (refused_as refusals.BadSettings) (refused (λ h. cc))
-settings_refused bound (settings_errors.NotUint32 name) refused some = ap (refused_as refusals.BadSettings) (refused (λ h. cc))
 settings_refused bound settings_errors.NoMemory refused some = absurd (some refl)
+settings_refused bound _ refused some = ap (refused_as refusals.BadSettings) (refused (λ h. cc))
 
 -- ---- the geometry of a layout is the one that was handed in
 

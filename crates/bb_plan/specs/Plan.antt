@@ -1,7 +1,7 @@
 -- What a session is to do on the device, or why it is refused before: one reading for each command,
 -- by its words and the device's geometry.
 use Rattle.std.specs.Prelude.{◌≡◌, ℕ, Bool, length, List, ⊤, None, Result, Ok, Err}
-use Rattle.bb_actions.specs.Actions.{misfit_of}
+use Rattle.bb_actions.specs.Actions.{AreBoundTo}
 use Rattle.bb_base.specs.Folder.{FileMap}
 use Rattle.bb_chooser.specs.Binding.{Binding, IsBoundTo}
 use Rattle.bb_flash.specs.declared.geometry.Geometry.{Geometry}
@@ -22,7 +22,7 @@ use Rattle.bb_words.specs.declared.command.RawAction.{RawAction}
 use Rattle.bb_words.specs.declared.command.RawAction.TheVariants as raw_actions
 use Rattle.bb_words.specs.declared.command.RawCommand.{RawCommand}
 use Rattle.bb_words.specs.declared.command.StateCommand.{StateCommand}
-use Rattle.bb_plan.specs.PlanSteps.{binding_reading, cause_of, fit_by, keyed_reading, plans_reading, refused_as}
+use Rattle.bb_plan.specs.PlanSteps.{actions_by, binding_reading, cause_of, keyed_reading, plans_reading, refused_as}
 use Rattle.bb_plan.specs.FilesRead.{Fails, FileAnswer, Reading, Yields, and_then, answers_over, menu_reading, result_by, result_over, reading_of, reads_file}
 use Rattle.bb_plan.specs.declared.described.KeyedLayout.{KeyedLayout}
 use Rattle.bb_plan.specs.declared.plan.PlannedTask.{PlannedTask}
@@ -70,11 +70,11 @@ raw_laid command laid =
 abbrev pub raw_plan : RawCommand → Geometry → Result SessionPlan Refusal
 raw_plan command geometry = raw_laid command (raw_layout command.magic command.area_len geometry)
 
--- `state`: its layout and key, and then the variables that are named
+-- `state`: its layout and key, and then its actions
 abbrev pub state_plan : StateCommand → Keyed → Result SessionPlan Refusal
 state_plan command keyed =
-    result_and_then (λ fit. Ok (record { keyed = keyed; work = Act command.actions }))
-    (fit_by (misfit_of keyed.layout.vars command.actions))
+    result_and_then (λ actions. Ok (record { keyed = keyed; work = Act actions }))
+    (actions_by keyed.layout.vars command.actions)
 
 abbrev pub state_reading : StateCommand → Geometry → Reading SessionPlan
 state_reading command geometry =
@@ -200,12 +200,12 @@ pub record IsBoundAt (layout : Laid) (targets : Binding) : Type 0 where
   pub sized : targets.area_len ≡ layout.area_len
   pub bound : IsBoundTo layout.vars targets
 
--- a layout serves a work: a look and a save of an area are of raw records, and a save is of an area
--- of the layout's length
+-- a layout serves a work: a look and a save of an area are of raw records, a save is of an area of
+-- the layout's length, and actions and targets are bound to its variables
 abbrev pub IsServed : Keyed → Work → Type 0
 IsServed keyed Show = IsUnkeyedRaw keyed
 IsServed keyed (Write area) = IsUnkeyedRaw keyed × (length area ≡ keyed.layout.area_len)
-IsServed keyed (Act actions) = ⊤
+IsServed keyed (Act actions) = AreBoundTo keyed.layout.vars actions
 IsServed keyed (Good targets) = IsBoundAt keyed.layout targets
 IsServed keyed (Boot targets cause plans) = IsBoundAt keyed.layout targets
 

@@ -2,6 +2,8 @@
 -- the devicetree, the key, the settings and the entries. Each part is the same for all commands.
 use Rattle.std.specs.Prelude.{ℕ, ◌+◌, Bool, List, [], ◌∷◌, nat_eq, Option, Some, None, Result, Ok, Err, slice_get, unwrap_or, if◌then◌else◌}
 use Rattle.std.specs.List.{starts_with}
+use Rattle.bb_actions.specs.Actions.{read_actions}
+use Rattle.bb_actions.specs.declared.bound_action.BoundAction.{BoundAction}
 use Rattle.bb_chooser.specs.Binding.{Binding, bind_from}
 use Rattle.bb_chooser.specs.Settings.{settings_of}
 use Rattle.bb_chooser.specs.declared.cause.Cause.{Cause}
@@ -17,12 +19,13 @@ use Rattle.bb_layout.specs.Formats.{takes_key}
 use Rattle.bb_layout.specs.Layout.{Laid, layout_from}
 use Rattle.bb_layout.specs.Results.{result_and_then}
 use Rattle.bb_layout.specs.declared.format_kind.FormatKind.{FormatKind}
+use Rattle.bb_layout.specs.declared.var.Var.{Var}
 use Rattle.bb_shell.specs.Plans.{entries_of, plan_by}
 use Rattle.bb_shell.specs.declared.plan_fault.PlanFault.{PlanFault}
 use Rattle.bb_shell.specs.declared.plan_fault.PlanFault.TheVariants as plan_faults
 use Rattle.bb_state.specs.Keyed.{Keyed}
-use Rattle.bb_state.specs.declared.error.StateError.{StateError}
 use Rattle.bb_tree.specs.Node.{Branch}
+use Rattle.bb_words.specs.declared.command.Action.{Action}
 use Rattle.bb_words.specs.declared.command.CauseWord.{CauseWord}
 use Rattle.bb_words.specs.declared.command.Described.{Described}
 use Rattle.bb_words.specs.declared.command.CauseWord.TheVariants as words_for
@@ -143,7 +146,7 @@ cause_of words_for.PowerOn = PowerOn
 cause_of words_for.Reset = Reset
 cause_of words_for.Other = Other
 
--- all variables that are named fit, or this is the first that doesn't
-abbrev pub fit_by : Option (List ℕ × StateError) → Result (Unit {0}) Refusal
-fit_by None = Ok tt
-fit_by (Some misfit) = Err (refusals.BadVariable misfit.0 misfit.1)
+-- actions, bound to the variables of a layout, or the first that doesn't fit
+abbrev pub actions_by : List Var → List Action → Result (List BoundAction) Refusal
+actions_by vars actions =
+    refused_as (λ misfit. refusals.BadVariable misfit.0 misfit.1) (read_actions vars actions)

@@ -1,5 +1,7 @@
 -- Why a session was refused: its status, and how the steps of a session refuse it.
-use Rattle.std.specs.Prelude.{ℕ, Bool, ◌<◌, ⊤}
+use Rattle.std.specs.Prelude.{Bool, ◌<◌, ⊤}
+use Rattle.bb_actions.specs.declared.error.ActionError.{ActionError}
+use Rattle.bb_actions.specs.declared.error.ActionError.TheVariants as action_errors
 use Rattle.bb_chooser.specs.declared.settings_error.SettingsError.{SettingsError}
 use Rattle.bb_chooser.specs.declared.settings_error.SettingsError.TheVariants as settings_errors
 use Rattle.bb_dts.specs.declared.error.DtsError.{DtsError}
@@ -50,6 +52,10 @@ IsSendableRefusal _ = ⊤
 abbrev pub words_refusal : WordsError → Refusal
 words_refusal (word_errors.BadWord place) = refusals.BadWords place
 words_refusal word_errors.NoMemory = refusals.NoMemory
+
+abbrev pub action_refusal : ActionError → Refusal
+action_refusal (action_errors.Misfit name cause) = refusals.BadVariable name cause
+action_refusal action_errors.NoMemory = refusals.NoMemory
 
 -- a session loads before it saves, so that no save is refused as Unsure
 abbrev pub copy_refusal : CopyFault → Refusal

@@ -1,8 +1,9 @@
 use crate::described::KeyedLayout;
+use bb_actions::BoundActionList;
 use bb_base::Bytes;
 use bb_chooser::{Cause, Chooser};
 use bb_flash::PlanList;
-use bb_words::{ActionList, DrillNumbers};
+use bb_words::DrillNumbers;
 
 /// What is done with the copies of a layout.
 #[derive(Drop)]
@@ -11,9 +12,9 @@ pub enum Work {
     Show,
     /// To load them, and to save this area.
     Write(Bytes),
-    /// To load them, to make the sets among these actions, to save the table that this makes where
+    /// To load them, to put the values among these actions, to save the table that this makes where
     /// it is another, and to send what is got of it.
-    Act(ActionList),
+    Act(BoundActionList),
     /// To load them, to give the target that was chosen last its default attempts, to save the
     /// table that this makes where it is another, and to send that target.
     Good(Chooser),

@@ -1,8 +1,7 @@
 ghost use Rattle.std.specs.Prelude.{◌≡◌, IfErr, IfOk, None, Ok, length, option_map};
-ghost use Rattle.bb_actions.specs.Actions.{misfit_of};
 ghost use Rattle.bb_flash.specs.Geometry.{IsGeometry};
 ghost use Rattle.bb_words.specs.Answer.{IsSized, IsSizedRaw};
-ghost use Rattle.bb_plan.specs.PlanSteps.{cause_of, fit_by};
+ghost use Rattle.bb_plan.specs.PlanSteps.{cause_of};
 ghost use Rattle.bb_plan.specs.Plan.{IsPlannedFor, IsTaskFor, boot_reading, command_reading};
 ghost use Rattle.bb_plan.specs.Plan.{mark_reading, plan_as, plan_reading, raw_plan};
 ghost use Rattle.bb_plan.specs.Plan.{raw_work, state_reading, task_as};
@@ -17,14 +16,14 @@ use crate::menu::read_menu;
 use crate::plan::{PlannedTask, PlannedWork, Work};
 use crate::refusal::Refusal;
 use crate::targets::read_targets;
-use bb_actions::first_misfit;
+use bb_actions::read_actions;
 use bb_base::{Bytes, Files, TextList};
 use bb_chooser::Cause;
 use bb_flash::Geometry;
-use bb_layout::{Layout, raw_layout};
+use bb_layout::raw_layout;
 use bb_words::{
-    ActionList, BootCommand, CauseWord, Command, MarkGoodCommand, RawAction, RawCommand,
-    StateCommand, read_words,
+    BootCommand, CauseWord, Command, MarkGoodCommand, RawAction, RawCommand, StateCommand,
+    read_words,
 };
 use std::alloc::Global;
 
@@ -105,7 +104,7 @@ fn plan_raw(alloc: Global, command: RawCommand, geometry: Geometry) -> Result<Pl
     }
 }
 
-// `state`: the layout that its file describes, with its key, and the variables that are named.
+// `state`: the layout that its file describes, with its key, and the actions, bound to its variables.
 fn plan_state<N: Files>(
     alloc: Global,
     command: StateCommand,
@@ -119,22 +118,11 @@ fn plan_state<N: Files>(
     ensures tellable { IfErr result IsSendableRefusal }
 {
     let keyed = read_keyed(alloc, files, &command.described, geometry)?;
-    check_actions(&keyed.layout, &command.actions)?;
+    let actions = read_actions(alloc, &keyed.layout, &command.actions)?;
     Ok(PlannedWork {
         keyed,
-        work: Work::Act(command.actions),
+        work: Work::Act(actions),
     })
-}
-
-// All variables that the actions name are in the layout, and all values fit.
-fn check_actions(layout: &Layout, actions: &ActionList) -> Result<(), Refusal>
-    ensures fit { IsExpected (fit_by (misfit_of layout.now.vars actions.now)) (λ fit. fit) result }
-    ensures tellable { IfErr result IsSendableRefusal }
-{
-    match first_misfit(layout, actions) {
-        Some((name, cause)) => Err(Refusal::BadVariable(name.copy()?, cause)),
-        None => Ok(()),
-    }
 }
 
 // `mark-good`: the layout that its file describes, with its key, and the settings' targets.

@@ -1,6 +1,7 @@
 ghost use Rattle.std.specs.Prelude.{◌≡◌};
 
 use crate::Status;
+use bb_actions::ActionError;
 use bb_base::{NoMemory, Text};
 use bb_chooser::SettingsError;
 use bb_dts::DtsError;
@@ -77,6 +78,20 @@ impl From<WordsError> for Refusal {
         match error {
             WordsError::BadWord(place) => Refusal::BadWords(place),
             WordsError::NoMemory => Refusal::NoMemory,
+        }
+    }
+}
+
+impl From<ActionError> for Refusal {
+    ghost use Rattle.std.specs.Prelude.{◌≡◌};
+    ghost use Rattle.bb_plan.specs.Refusal.{action_refusal};
+
+    ghost from_gives = { λ error e. e ≡ action_refusal error };
+
+    fn from(error: ActionError) -> Self {
+        match error {
+            ActionError::Misfit(name, cause) => Refusal::BadVariable(name, cause),
+            ActionError::NoMemory => Refusal::NoMemory,
         }
     }
 }

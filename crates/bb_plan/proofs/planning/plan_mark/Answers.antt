@@ -1,4 +1,4 @@
-use Rattle.std.proofs.Common.{◌∙◌, Ok, Err, ap, refl}
+use Rattle.std.proofs.Common.{◌∙◌, Err, ap, refl}
 use Rattle.std.proofs.lemmas.Result.{err_from_is_err_and}
 use Rattle.bb_chooser.specs.Binding.{Binding}
 use Rattle.bb_plan.specs.PlanSteps.{binding_reading, keyed_reading}
