@@ -1,9 +1,8 @@
--- What a load and a save leave of the copies, as lists of what they pass.
-use Rattle.std.proofs.Common.{◌≡◌, ℕ, zero, suc, List, [], ◌∷◌, Option, Some, None, is_some, unwrap_or, refl, sym, ap, subst, ◌∙◌}
+-- What a load leaves of the copies, as lists of what they pass.
+use Rattle.std.proofs.Common.{◌≡◌, ℕ, List, [], ◌∷◌, Option, Some, None, is_some, unwrap_or, refl, sym, ap, subst, ◌∙◌}
 use Rattle.std.specs.Prelude.{All}
 use Rattle.std.specs.List.{AllByRecursion}
 use Rattle.std.proofs.lemmas.List.Elements.{All-from_recursion}
-use Rattle.bb_copies.specs.Passing.{passes_at}
 use Rattle.bb_copies.specs.Saving.{KeepsUsed}
 use Rattle.bb_copies.specs.StandsFor.{EachPassesOrNothing, IsAreaOrNone, SomeIsSpared, SomePasses, first_passed}
 use Rattle.bb_copies.specs.Store.{used_after}
@@ -12,18 +11,12 @@ use Rattle.bb_copies.specs.declared.answers.Loaded.TheVariants.{Copy, NoCopy}
 use Rattle.bb_copies.proofs.Marks.{none_each}
 use Rattle.bb_flash.specs.Device.{Device, content}
 use Rattle.bb_flash.specs.Image.{Image}
+use Rattle.bb_shell.proofs.Reached.{passes_some}
 use Rattle.bb_state.specs.Keyed.{Keyed}
+use Rattle.bb_plan.specs.Plan.{first_area}
 use Rattle.bb_session.specs.Looking.{first_found, passed_in}
 use Rattle.bb_session.specs.Session.{loaded_area}
-use Rattle.bb_plan.specs.Plan.{first_area}
-use Rattle.bb_session.specs.Work.{IsLoadedArea, area_taken}
-
-pub passes_some : (passed : List (Option (List ℕ))) (copy : ℕ) (area : List ℕ) →
-    passes_at passed copy ≡ Some area → SomePasses passed
-passes_some [] copy area is = absurd cc
-passes_some (Some other ∷ passed) copy area is = refl
-passes_some (None ∷ passed) zero area is = absurd cc
-passes_some (None ∷ passed) (suc copy) area is = passes_some passed copy area is
+use Rattle.bb_session.specs.Work.{IsLoadedArea, IsLoadedAs, area_taken}
 
 pub found_first : (first area : List ℕ) (passed : List (Option (List ℕ))) → SomePasses passed →
     first_passed first passed ≡ area → Some area ≡ first_found passed
@@ -45,48 +38,12 @@ none_all passed none = All-from_recursion (λ area. area ≡ None) passed (by pa
     by (Some area ∷ passed) none = absurd (none refl)
 
 -- the area of the first that passes, or the one of an empty device
-pub found_or : (first : List ℕ) (passed : List (Option (List ℕ))) →
-    unwrap_or (first_found passed) first ≡ first_passed first passed
+pub found_or : (first : List ℕ) (passed : List (Option (List ℕ))) → unwrap_or (first_found passed) first ≡ first_passed first passed
 found_or first [] = refl
 found_or first (None ∷ passed) = found_or first passed
 found_or first (Some area ∷ passed) = refl
 
--- what a load left that answered Ok
-pub record IsLeft (first : List ℕ) (used : Option ℕ) (before after : List (Option (List ℕ)))
-    : Type 0 where
-  pub each : EachPassesOrNothing (first_passed first before) after
-  pub spares : SomeIsSpared before after
-  pub uses : KeepsUsed used after
-
-pub load_left : (keyed : Keyed) (area : List ℕ) (loaded : Loaded) (from to : Device) (x y : Image) →
-    IsLoadedArea keyed area loaded from to → content from ≡ Some x → content to ≡ Some y →
-    IsLeft (first_area keyed.layout) (used_after loaded)
-    (passed_in keyed from.geometry.page x) (passed_in keyed from.geometry.page y)
-load_left keyed area (Copy used live) from to x y found e f =
-    let after = passed_in keyed from.geometry.page y in
-    let entry = found.gives.entry x e in
-    let kept = found.gives.exit.kept y f in
-    record {
-      each =
-          subst (λ a. EachPassesOrNothing a after) (sym (entry.first (first_area keyed.layout))) kept.each;
-      spares = λ some. passes_some after used area kept.passes;
-      uses = ap is_some kept.passes;
-    }
-load_left keyed area NoCopy from to x y found e f =
-    let page = from.geometry.page in
-    let same : Some y ≡ Some x = sym f ∙ found.gives.content ∙ e in
-    let is : x ≡ y = cc in
-    let none = found.gives.none x e in
-    let before = passed_in keyed page x in
-    let first = first_passed (first_area keyed.layout) before in
-    subst (λ z. IsLeft (first_area keyed.layout) None before (passed_in keyed page z)) is
-    (record {
-      each = All-from_recursion (IsAreaOrNone first) before (none_each first before none);
-      spares = λ some. absurd (none some);
-      uses = none;
-    })
-
--- what it took is what the first copy passes that passes one
+-- what a load took is what the first copy passes that passes one
 pub load_found : (keyed : Keyed) (area : List ℕ) (loaded : Loaded) (from to : Device) (x : Image) →
     IsLoadedArea keyed area loaded from to → content from ≡ Some x →
     area_taken area loaded ≡ first_found (passed_in keyed from.geometry.page x)
@@ -102,3 +59,47 @@ pub load_area : (keyed : Keyed) (area : List ℕ) (loaded : Loaded) (from to : D
     IsLoadedArea keyed area loaded from to → loaded_area keyed.layout (area_taken area loaded) ≡ area
 load_area keyed area (Copy used live) from to found = refl
 load_area keyed area NoCopy from to found = sym found.defaults
+
+-- what a load left that answered Ok
+pub record IsLeft (keyed : Keyed) (used : Option ℕ) (found : Option (List ℕ)) (before after : List (Option (List ℕ))) : Type 0 where
+  pub each : EachPassesOrNothing (first_passed (first_area keyed.layout) before) after
+  pub spares : SomeIsSpared before after
+  pub uses : KeepsUsed used after
+  pub table : first_passed (first_area keyed.layout) before ≡ loaded_area keyed.layout found
+
+load_left : (keyed : Keyed) (area : List ℕ) (loaded : Loaded) (from to : Device) (x y : Image) → IsLoadedArea keyed area loaded from to →
+    content from ≡ Some x → content to ≡ Some y →
+    IsLeft keyed (used_after loaded) (area_taken area loaded) (passed_in keyed from.geometry.page x) (passed_in keyed from.geometry.page y)
+load_left keyed area (Copy used live) from to x y found e f =
+    let after = passed_in keyed from.geometry.page y in
+    let first = (found.gives.entry x e).first (first_area keyed.layout) in
+    let kept = found.gives.exit.kept y f in
+    record {
+      each = subst (λ a. EachPassesOrNothing a after) (sym first) kept.each;
+      spares = λ some. passes_some after used area kept.passes;
+      uses = ap is_some kept.passes;
+      table = first;
+    }
+load_left keyed area NoCopy from to x y found e f =
+    let same : Some y ≡ Some x = sym f ∙ found.gives.content ∙ e in
+    let is : x ≡ y = cc in
+    let none = found.gives.none x e in
+    let before = passed_in keyed from.geometry.page x in
+    let first = first_passed (first_area keyed.layout) before in
+    subst (λ z. IsLeft keyed None None before (passed_in keyed from.geometry.page z)) is
+    (record {
+      each = All-from_recursion (IsAreaOrNone first) before (none_each first before none);
+      spares = λ some. absurd (none some);
+      uses = none;
+      table = sym (found_or (first_area keyed.layout) before) ∙ ap (λ o. unwrap_or o (first_area keyed.layout)) (sym (found_none before none));
+    })
+
+pub loaded_left : (keyed : Keyed) (used : Option ℕ) (found : Option (List ℕ)) (from to : Device) (x y : Image) → IsLoadedAs keyed used from to found →
+    content from ≡ Some x → content to ≡ Some y → (page : ℕ) → from.geometry.page ≡ page →
+    IsLeft keyed used found (passed_in keyed page x) (passed_in keyed page y)
+loaded_left keyed used found from to x y gave e f page at_page =
+    subst (λ p. IsLeft keyed used found (passed_in keyed p x) (passed_in keyed p y)) at_page
+    (subst (λ o. IsLeft keyed used o (passed_in keyed from.geometry.page x) (passed_in keyed from.geometry.page y)) (sym gave.taken)
+    (subst
+    (λ u. IsLeft keyed u (area_taken gave.area gave.loaded) (passed_in keyed from.geometry.page x) (passed_in keyed from.geometry.page y))
+    (sym gave.used_is) (load_left keyed gave.area gave.loaded from to x y gave.gave e f)))

@@ -9,12 +9,8 @@ use Rattle.bb_flash.specs.Image.{Image}
 use Rattle.bb_state.specs.Keyed.{Keyed}
 use Rattle.bb_state.proofs.Fitting.{fits_sized}
 use Rattle.bb_state.specs.Kinds.{any_format_laws, format_of, laid_form, laid_kinds}
-use Rattle.bb_words.specs.declared.command.Command.TheVariants as commands
-use Rattle.bb_words.specs.declared.command.RawAction.TheVariants as raw_actions
 use Rattle.bb_session.specs.Looking.{passed_in}
 use Rattle.bb_plan.specs.Plan.{first_area}
-use Rattle.bb_plan.specs.declared.refusal.Refusal.TheVariants as refusals
-use Rattle.bb_plan.specs.declared.status.Status.TheVariants as statuses
 
 abbrev PassesSized : Form → ℕ → Type 0
 PassesSized form len = (bytes area : List ℕ) → form.passes bytes ≡ Some area → length area ≡ len

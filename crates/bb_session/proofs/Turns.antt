@@ -1,64 +1,44 @@
--- What the turn of a session leaves, and its trail.
-use Rattle.std.proofs.Common.{◌≡◌, ◌⊎◌, ℕ, ◌+◌, ◌≤◌, true, List, [], ◌∷◌, ◌++◌, length, take, Option, Some, None, Ok, is_some, refl, sym, ap, subst, ◌∙◌, inl, inr, arith}
-use Rattle.std.specs.Option.{ForSome, option_map}
-use Rattle.std.proofs.lemmas.List.{append-nil, length-take}
-use Rattle.std.proofs.lemmas.Option.{same_Some, slice_get_within}
-use Rattle.bb_copies.specs.Chronicle.{Content, IsStanding, Loaded, TurnMakes, Turn}
-use Rattle.bb_copies.specs.Cutting.{turn_stages}
-use Rattle.bb_copies.specs.Loading.{StandsStill}
+-- The turn of a work and its trail: the load's, and after it what the saves of its rounds reached.
+use Rattle.std.proofs.Common.{◌≡◌, ◌⊎◌, ℕ, suc, ◌+◌, ◌≤◌, List, [], ◌∷◌, ◌++◌, length, take, Option, Some, Ok, refl, sym, ap, subst, ◌∙◌, inl, inr, arith}
+use Rattle.std.specs.Option.{IfSome, option_map}
+use Rattle.std.proofs.lemmas.Option.{IfSome_then, same_Some, slice_get_within}
+use Rattle.bb_copies.specs.Chronicle.{Content, IsStanding, Loaded, Turn, TurnMakes}
+use Rattle.bb_copies.specs.Loading.{LoadImages, StandsStill}
 use Rattle.bb_copies.specs.Luck.{IsLucky}
-use Rattle.bb_copies.specs.Saving.{KeepsUsed, StandsLonger}
+use Rattle.bb_copies.specs.Passing.{passings}
 use Rattle.bb_copies.specs.StandsFor.{Stands, StandsFor, picked}
-use Rattle.bb_copies.specs.Trail.{IsSince, IsTrail, Milestone, StandsAtOne, milestone_of, next_moment, session_trail, stages_in, trail_of}
-use Rattle.bb_copies.proofs.History.{load_done}
-use Rattle.bb_flash.specs.Counted.{Counts, IsFair}
-use Rattle.bb_flash.specs.Cuts.{IsContinued}
+use Rattle.bb_copies.specs.Trail.{IsSince, IsTrail, Milestone, StandsAtOne, milestone_of, next_moment, stages_in, stages_of, trail_of}
+use Rattle.bb_copies.proofs.History.{load_done, load_last, picked_is_first}
+use Rattle.bb_copies.proofs.Places.{get_take}
+use Rattle.bb_copies.proofs.Trails.{begins_at, first_stands}
+use Rattle.bb_flash.specs.Counted.{Counts, EachCounted}
+use Rattle.bb_flash.specs.Cuts.{IsLater}
 use Rattle.bb_flash.specs.Device.{Change, Device, Told, content, moment}
 use Rattle.bb_flash.specs.Image.{Image}
+use Rattle.bb_flash.specs.declared.plan.Plan.{Plan as StartPlan}
+use Rattle.bb_flash.proofs.Counting.{counted_joined_at}
 use Rattle.bb_state.specs.Keyed.{Keyed}
-use Rattle.bb_shell.specs.Stages.{AreAnswered}
-use Rattle.bb_session.specs.Looking.{passed_in}
-use Rattle.bb_session.specs.SessionTurns.{HasEntryTrail, HasLoadTrail, HasTrail, IsCounted, IsTrailOf, LeadsTo}
+use Rattle.bb_state.specs.Kinds.{laid_form, laid_kinds, laid_passings}
+use Rattle.bb_shell.specs.Boot.{Round}
+use Rattle.bb_shell.specs.Counting.{target_started}
+use Rattle.bb_shell.specs.Sequence.{RanRounds}
+use Rattle.bb_shell.specs.Stages.{IsCounted as IsCountedHere, IsSettled, made_of, saves_of, stages_reached}
+use Rattle.bb_shell.proofs.Made.{made_least, made_most, made_started}
+use Rattle.bb_shell.proofs.Trails.{fair_from, in_order}
 use Rattle.bb_plan.specs.Plan.{first_area}
-use Rattle.bb_session.specs.Work.{IsLoaded}
-use Rattle.bb_session.proofs.Kept.{IsLeft}
+use Rattle.bb_session.specs.Looking.{passed_in}
+use Rattle.bb_session.specs.Session.{loaded_area}
+use Rattle.bb_session.specs.SessionTurns.{HasEntryTrail, HasTrail, IsCounted, IsFairRun, LeadsTo}
+use Rattle.bb_session.specs.Work.{IsLoaded, IsLoadedAs}
+use Rattle.bb_session.proofs.Kept.{loaded_left}
 
-pub some_of : {T : Type 0} → (o : Option T) → is_some o ≡ true → (x : T) × (o ≡ Some x)
-some_of None e = absurd cc
-some_of (Some x) e = (x, refl)
+pub told_content : (device : Device) (told : Told) → device.told ≡ Some told → content device ≡ Some told.image
+told_content device told e = ap (option_map (λ (t : Told). t.image)) e
 
-pub in_order : (first last : Told) → IsContinued first last → moment first ≤ moment last
-in_order first last continued =
-    let e = ap length continued.changes in omega (arith, length-take (moment first) last.changes)
-
--- a milestone in front of a trail
-pub before_trail : (Since : ℕ → List (Option (List ℕ)) → Type 0) (now : ℕ) (first : List ℕ)
-    (h : List (List ℕ)) (a when : ℕ) (later : List Milestone) → when ≤ next_moment now later →
-    ((passed : List (Option (List ℕ))) → Since when passed →
-    StandsAtOne first passed (stages_in (milestone_of h a when ∷ later))) →
-    IsTrail Since now first later → IsTrail Since now first (milestone_of h a when ∷ later)
-before_trail Since now first h a when later order stands trail =
-    let stages = stages_in (milestone_of h a when ∷ later) in
-    let here : IsSince Since (next_moment now later) first stages when = record {
-      order = order;
-      images = stands;
-    } in
-    (here, trail)
-
--- what is known of a load that answered Ok, and of the saves after it
-pub record Known (keyed : Keyed) (from to : Device) (when : ℕ) (saves : List (List ℕ))
-    (answered : List ℕ) : Type 0 where
-  pub middle : Device
-  pub used : Option ℕ
-  pub found : Option (List ℕ)
-  pub loaded : IsLoaded keyed used from middle (Ok found)
-  pub at : ForSome middle.told (λ told. moment told ≡ when)
-  pub stored : AreAnswered keyed middle to saves answered
-
--- a device has one moment
-pub moment_is : (device : Device) (told : Told) → device.told ≡ Some told →
-    ForSome device.told (λ other. moment other ≡ moment told)
-moment_is device told e = λ other is. ap moment (same_Some other told (sym is ∙ e))
+pub standing_at : (keyed : Keyed) (page : ℕ) (before : Content) (x : Image) → before.passed ≡ passed_in keyed page x →
+    IsStanding (first_area keyed.layout) before →
+    StandsFor (first_area keyed.layout) (passed_in keyed page x) before.areas before.acked before.marks
+standing_at keyed page before x is stands = subst (λ p. StandsFor (first_area keyed.layout) p before.areas before.acked before.marks) is stands
 
 -- of the images that count since now there is one
 pub counts_now : (L : Change → Image → Type 0) (page : ℕ) (told : Told) (image : Image) →
@@ -68,266 +48,222 @@ counts_now L page told image (inr torn) =
     let within = slice_get_within told.changes torn.call torn.change torn.made in
     absurd (omega (arith, torn.later))
 
-pub fair_from : (L : Change → Image → Type 0) (told : Told) (since later : ℕ) → since ≤ later →
-    IsFair L told since (moment told) → IsFair L told later (moment told)
-fair_from L told since later order fair = λ call change from before made lucky.
-    fair call change (omega arith) before made lucky
+-- a milestone in front of a trail
+before_trail : (Since : ℕ → List (Option (List ℕ)) → Type 0) (now : ℕ) (first : List ℕ) (h : List (List ℕ)) (a when : ℕ) (later : List Milestone) →
+    when ≤ next_moment now later →
+    ((passed : List (Option (List ℕ))) → Since when passed → StandsAtOne first passed (stages_in (milestone_of h a when ∷ later))) →
+    IsTrail Since now first later → IsTrail Since now first (milestone_of h a when ∷ later)
+before_trail Since now first h a when later order stands trail =
+    let here : IsSince Since (next_moment now later) first (stages_in (milestone_of h a when ∷ later)) when =
+    record { order = order; images = stands } in
+    (here, trail)
 
-pub told_content : (device : Device) (told : Told) → device.told ≡ Some told →
-    content device ≡ Some told.image
-told_content device told e = ap (option_map (λ (t : Told). t.image)) e
+-- a trail of other images
+weaker_trail : (S T : ℕ → List (Option (List ℕ)) → Type 0) (now : ℕ) (first : List ℕ) (trail : List Milestone) →
+    ((when : ℕ) (passed : List (Option (List ℕ))) → T when passed → S when passed) →
+    IsTrail S now first trail → IsTrail T now first trail
+weaker_trail S T now first [] same h = tt
+weaker_trail S T now first (milestone ∷ later) same h = (
+  record { order = h.0.order; images = λ passed counted. h.0.images passed (same milestone.since passed counted) },
+  weaker_trail S T now first later same h.1,
+)
 
-module _ (keyed : Keyed) (page : ℕ) where
-  abbrev Passed : Image → List (Option (List ℕ))
-  Passed image = passed_in keyed page image
+-- ---- a turn that leaves the list at entry
 
+module _ (keyed : Keyed) (page : ℕ) (before : Content) where
   abbrev First : List ℕ
   First = first_area keyed.layout
 
-  -- what a load that answered Ok leaves of whatever list a content stood for
-  pub record LoadedTo (used : Option ℕ) (x y : Image) : Type 0 where
-    pub stands : (h : List (List ℕ)) (a : ℕ) (marks : List (Option ℕ)) →
-        StandsFor First (Passed x) h a marks →
-        Stands First (Passed y) (take (picked marks + 1) h) (picked marks)
-    pub uses : KeepsUsed used (Passed y)
-
-  pub left_stands : (used : Option ℕ) (x y : Image) → IsLeft First used (Passed x) (Passed y) →
-      LoadedTo used x y
-  left_stands used x y left = record {
-    stands = λ h a marks stands.
-        load_done First (Passed x) h a marks stands (Passed y) left.each left.spares;
-    uses = left.uses;
-  }
-
-  -- the stages of a load and one save that was begun
-  abbrev pub Begun : List ℕ → Image → Image → Type 0
-  Begun area x z =
-      (h : List (List ℕ)) (a : ℕ) (marks : List (Option ℕ)) →
-      StandsFor First (Passed x) h a marks →
-      Stands First (Passed z) h a
-      ⊎ Stands First (Passed z) (take (picked marks + 1) h ++ area ∷ []) (picked marks)
-
-  pub still_begun : (area : List ℕ) (x y : Image) → StandsStill (Passed x) (Passed y) → Begun area x y
-  still_begun area x y still = λ h a marks stands. inl (still First h a marks stands)
-
-  pub longer_begun : (used : Option ℕ) (area : List ℕ) (x y z : Image) → LoadedTo used x y →
-      StandsStill (Passed x) (Passed y) → StandsLonger used area (Passed y) (Passed z) →
-      Begun area x z
-  longer_begun used area x y z loaded still longer = λ h a marks stands.
-      let here = loaded.stands h a marks stands in
-      inr (longer loaded.uses First (take (picked marks + 1) h) (picked marks) here.marks here.stands)
-
-  abbrev Luck : Change → Image → Type 0
-  Luck = IsLucky Passed
-
-  -- ---- the ends of a turn
+  -- so it is in each image that counts
+  abbrev pub Stays : Told → Told → Type 0
+  Stays first last =
+      (image : Image) → Counts (IsLucky (passed_in keyed page)) page last (moment first) image →
+      Stands First (passed_in keyed page image) before.areas before.acked
 
   -- a content whose copies pass this and that stands for a list
-  pub leads : (before : Content) (turn : Turn) (h : List (List ℕ)) (a : ℕ)
-      (passed : List (Option (List ℕ))) → TurnMakes before turn h a → Stands First passed h a →
-      LeadsTo First before turn passed
-  leads before turn h a passed step stands = record {
+  pub leads : (turn : Turn) (h : List (List ℕ)) (a : ℕ) (passed : List (Option (List ℕ))) → TurnMakes before turn h a →
+      Stands First passed h a → LeadsTo First before turn passed
+  leads turn h a passed step stands = record {
     after = record { passed = passed; areas = h; acked = a; marks = stands.marks };
     passed_is = refl;
     follows = record { step = step; stands = stands.stands };
   }
 
-  pub standing_at : (before : Content) (x : Image) → before.passed ≡ Passed x →
-      IsStanding First before → StandsFor First (Passed x) before.areas before.acked before.marks
-  standing_at before x is stands =
-      subst (λ p. StandsFor First p before.areas before.acked before.marks) is stands
+  pub stays_leads : (turn : Turn) (first last : Told) → TurnMakes before turn before.areas before.acked → Stays first last →
+      IsFairRun keyed page first last → LeadsTo First before turn (passed_in keyed page last.image)
+  stays_leads turn first last step stays fair =
+      leads turn before.areas before.acked (passed_in keyed page last.image) step (stays last.image (inl (record { held = refl; fair = fair })))
 
-  -- nothing was loaded, and nothing is acknowledged anew
-  abbrev pub Stays : Content → Told → Told → Type 0
-  Stays before first last =
-      (image : Image) → Counts Luck page last (moment first) image →
-      Stands First (Passed image) before.areas before.acked
+  pub stays_trail : (first last : Told) → moment first ≤ moment last → Stays first last → HasEntryTrail keyed page first last before
+  stays_trail first last past stays =
+      before_trail (IsCounted keyed page last) (moment last) First before.areas before.acked (moment first) [] past
+      (λ passed counted. inl (subst (λ p. Stands First p before.areas before.acked) (sym counted.passes) (stays counted.image counted.counts))) tt
 
-  pub stays_trail : (first last : Told) (before : Content) → moment first ≤ moment last →
-      Stays before first last → HasEntryTrail keyed page first last before
-  stays_trail first last before past stays =
-      before_trail (IsCounted keyed page last) (moment last) First before.areas before.acked
-      (moment first) [] past
-      (λ passed counted. inl (subst (λ p. Stands First p before.areas before.acked)
-      (sym counted.passes) (stays counted.image counted.counts))) tt
+-- ---- a load
 
-  -- with what is known of its calls a trail is that of a turn
-  pub trailed : (from to : Device) (first last : Told) (before : Content) (turn : Turn) (place when : ℕ)
-      (saves : List (List ℕ)) (answered : List ℕ) → Known keyed from to when saves answered →
-      stages_in (session_trail before.areas before.acked (moment first) place when saves answered)
-      ≡ turn_stages before turn →
-      IsTrailOf keyed page last
-      (session_trail before.areas before.acked (moment first) place when saves answered) →
-      HasLoadTrail keyed page from to first last before turn place saves
-  trailed from to first last before turn place when saves answered known stages trail = record {
-    middle = known.middle;
-    used = known.used;
-    found = known.found;
-    loaded = known.loaded;
-    when = when;
-    at = known.at;
-    answered = answered;
-    stored = known.stored;
-    stages = stages;
-    trail = trail;
-  }
+module _ (keyed : Keyed) (from mid : Device) (first middle : Told) (e : from.told ≡ Some first) (g : mid.told ≡ Some middle) (before : Content)
+    (geometry : from.geometry ≡ keyed.layout.geometry) (is : before.passed ≡ laid_passings keyed first.image)
+    (stands : IsStanding (first_area keyed.layout) before)
+    (images : LoadImages (laid_form keyed) (laid_kinds keyed.layout) from mid) (early : IsLater from mid) where
+  abbrev Page : ℕ
+  Page = keyed.layout.geometry.page
 
-  -- ---- a load that answered Ok, and no save
+  abbrev Luck : Change → Image → Type 0
+  Luck = IsLucky (laid_passings keyed)
 
-  module _ (first last : Told) (before : Content) (past : moment first ≤ moment last)
-      (stays : Stays before first last) where
-    abbrev Loaded0 : List (List ℕ)
-    Loaded0 = take (picked before.marks + 1) before.areas
+  abbrev Empty : List ℕ
+  Empty = first_area keyed.layout
 
-    pub loaded_trail : (from to : Device) → Known keyed from to (moment last) [] [] →
-        Stands First (Passed last.image) Loaded0 (picked before.marks) →
-        HasTrail keyed page from to first last before (Loaded (picked before.marks) [] 0 None)
-    unfolding trail_of
-    loaded_trail from to known stands =
-        let Since = IsCounted keyed page last in
-        let now = moment last in
-        let end = before_trail Since now First Loaded0 (picked before.marks) now [] (omega arith)
-        (λ passed counted. inl (subst (λ p. Stands First p Loaded0 (picked before.marks))
-        (sym (counted.passes ∙ ap Passed (counts_now Luck page last counted.image counted.counts)))
-        stands)) tt in
-        trailed from to first last before (Loaded (picked before.marks) [] 0 None)
-        (picked before.marks) now [] [] known refl
-        (before_trail Since now First before.areas before.acked (moment first)
-        (milestone_of Loaded0 (picked before.marks) now ∷ []) past
-        (λ passed counted. inl (subst (λ p. Stands First p before.areas before.acked)
-        (sym counted.passes) (stays counted.image counted.counts))) end)
+  at_page : from.geometry.page ≡ Page
+  at_page = ap (λ g. g.page) geometry
 
-    pub loaded_leads : Stands First (Passed last.image) Loaded0 (picked before.marks) →
-        LeadsTo First before (Loaded (picked before.marks) [] 0 None) (Passed last.image)
-    loaded_leads stands =
-        leads before (Loaded (picked before.marks) [] 0 None) Loaded0 (picked before.marks)
-        (Passed last.image)
-        (record {
-          given = refl;
-          areas = sym (append-nil Loaded0);
-          acked = omega arith;
-          most = omega arith;
-          least = omega arith;
-          start = λ some. refl;
-        })
-        stands
+  pub order : moment first ≤ moment middle
+  order = in_order first middle (early.continued first e middle g)
 
-  -- ---- a load that answered Ok, and one save that was begun
+  start : StandsFor Empty (laid_passings keyed first.image) before.areas before.acked before.marks
+  start = standing_at keyed Page before first.image is stands
 
-  module _ (first mid last : Told) (before : Content) (area : List ℕ)
-      (early : moment first ≤ moment mid) (late : moment mid ≤ moment last) where
-    abbrev pub Given : List (List ℕ)
-    Given = take (picked before.marks + 1) before.areas
+  still_here : EachCounted Luck (λ x z. StandsStill (laid_passings keyed x) (laid_passings keyed z)) from mid
+  still_here =
+      subst
+      (λ p. EachCounted (IsLucky (passings (laid_form keyed) p (laid_kinds keyed.layout)))
+      (λ x z. StandsStill (passings (laid_form keyed) p (laid_kinds keyed.layout) x) (passings (laid_form keyed) p (laid_kinds keyed.layout) z)) from mid)
+      at_page images
 
-    abbrev pub Longer : List (List ℕ)
-    Longer = Given ++ area ∷ []
+  -- until it answers the copies stand for the list at entry
+  pub load_stays : Stays keyed Page before first middle
+  load_stays image counts =
+      still_here.each first e middle g image
+      (subst (λ p. Counts Luck p middle (moment first) image) (sym (ap (λ g. g.page) early.geometry ∙ at_page)) counts)
+      Empty before.areas before.acked before.marks start
 
-    -- an image since entry stands for the list at entry, or with the new area
-    abbrev pub SinceEntry : Type 0
-    SinceEntry =
-        (image : Image) → Counts Luck page last (moment first) image →
-        Stands First (Passed image) before.areas before.acked
-        ⊎ Stands First (Passed image) Longer (picked before.marks)
+  -- ---- and rounds after it
 
-    -- and since the load answered it has the new area
-    abbrev pub SinceLoad : Type 0
-    SinceLoad =
-        (image : Image) → Counts Luck page last (moment mid) image →
-        Stands First (Passed image) Longer (picked before.marks)
+  module _ (to : Device) (last : Told) (f : to.told ≡ Some last) (late : IsLater mid to)
+      (used : Option ℕ) (found : Option (List ℕ)) (gave : IsLoadedAs keyed used from mid found)
+      (plans : List (Option StartPlan)) (kept : Option (List ℕ)) (of_table : IfSome kept (λ table. table ≡ loaded_area keyed.layout found))
+      (rounds : List Round) (now : Option ℕ) (ran : RanRounds keyed plans kept used now rounds mid to) where
+    abbrev Saves : List (List ℕ)
+    Saves = saves_of kept rounds
 
-    module _ (entry : SinceEntry) (load : SinceLoad) where
-      abbrev Since : ℕ → List (Option (List ℕ)) → Type 0
-      Since = IsCounted keyed page last
+    abbrev Count : ℕ
+    Count = made_of kept rounds
 
-      -- the milestones from the load on, before those of `later`
-      abbrev from_load : List Milestone → List Milestone
-      from_load later =
-          milestone_of Given (picked before.marks) (moment mid)
-          ∷ milestone_of Longer (picked before.marks) (moment mid) ∷ later
+    -- what the load made of a list that the content at entry stood for
+    settled_at : (x y : Image) → content from ≡ Some x → content mid ≡ Some y → (h : List (List ℕ)) (a : ℕ) (marks : List (Option ℕ)) →
+        StandsFor Empty (laid_passings keyed x) h a marks → IsSettled keyed kept used y (take (picked marks + 1) h) (picked marks)
+    settled_at x y at_x at_y h a marks standing =
+        let passed = laid_passings keyed x in
+        let left = loaded_left keyed used found from mid x y gave at_x at_y Page at_page in
+        record {
+          stands = load_done Empty passed h a marks standing (laid_passings keyed y) left.each left.spares;
+          last = load_last Empty passed h a marks standing;
+          area =
+              IfSome_then kept of_table
+              (λ t same.
+              get_take (picked marks + 1) h (picked marks) (omega arith)
+              ∙ picked_is_first Empty passed h a marks standing ∙ ap (λ t. Some t) (left.table ∙ sym same));
+          uses = left.uses;
+        }
 
-      since_load : (passed : List (Option (List ℕ))) → Since (moment mid) passed →
-          Stands First passed Longer (picked before.marks)
-      since_load passed counted =
-          subst (λ p. Stands First p Longer (picked before.marks)) (sym counted.passes)
-          (load counted.image counted.counts)
+    abbrev Place : ℕ
+    Place = picked before.marks
 
-      since_entry : (passed : List (Option (List ℕ))) → Since (moment first) passed →
-          Stands First passed before.areas before.acked
-          ⊎ Stands First passed Longer (picked before.marks)
-      since_entry passed counted =
-          subst (λ p. Stands First p before.areas before.acked
-          ⊎ Stands First p Longer (picked before.marks)) (sym counted.passes)
-          (entry counted.image counted.counts)
+    abbrev Given : List (List ℕ)
+    Given = take (Place + 1) before.areas
 
-      begun_trail : (later : List Milestone) → moment mid ≤ next_moment (moment last) later →
-          IsTrail Since (moment last) First later →
-          IsTrail Since (moment last) First
-          (milestone_of before.areas before.acked (moment first) ∷ from_load later)
-      begun_trail later order trail =
-          let now = moment last in
-          let begun = before_trail Since now First Longer (picked before.marks) (moment mid) later
-          order (λ passed counted. inl (since_load passed counted)) trail in
-          let loaded = before_trail Since now First Given (picked before.marks) (moment mid)
-          (milestone_of Longer (picked before.marks) (moment mid) ∷ later) (omega arith)
-          (λ passed counted. inr (inl (since_load passed counted))) begun in
-          before_trail Since now First before.areas before.acked (moment first) (from_load later)
-          early
-          (λ passed counted. elim (since_entry passed counted) [
-            | inl same ↦ inl same
-            | inr new ↦ inr (inr (inl new))
-          ]) loaded
+    settled : IsSettled keyed kept used middle.image Given Place
+    settled =
+        settled_at first.image middle.image (told_content from first e) (told_content mid middle g) before.areas before.acked
+        before.marks start
 
-      pub refused_trail : (from to : Device) → Known keyed from to (moment mid) (area ∷ []) [] →
-          HasTrail keyed page from to first last before
-          (Loaded (picked before.marks) (area ∷ []) 0 None)
-      unfolding trail_of
-      refused_trail from to known =
-          trailed from to first last before (Loaded (picked before.marks) (area ∷ []) 0 None)
-          (picked before.marks) (moment mid) (area ∷ []) [] known refl (begun_trail [] late tt)
-
-      pub made_trail : (from to : Device) →
-          Known keyed from to (moment mid) (area ∷ []) (moment last ∷ []) →
-          Stands First (Passed last.image) Longer (picked before.marks + 1) →
-          HasTrail keyed page from to first last before
-          (Loaded (picked before.marks) (area ∷ []) 1 None)
-      unfolding trail_of
-      made_trail from to known stands =
-          let now = moment last in
-          let acked = picked before.marks + 1 in
-          let end = before_trail Since now First Longer acked now [] (omega arith)
-          (λ passed counted. inl (subst (λ p. Stands First p Longer acked)
-          (sym (counted.passes
-          ∙ ap Passed (counts_now Luck page last counted.image counted.counts))) stands)) tt in
-          trailed from to first last before (Loaded (picked before.marks) (area ∷ []) 1 None)
-          (picked before.marks) (moment mid) (area ∷ []) (now ∷ []) known refl
-          (begun_trail (milestone_of Longer acked now ∷ []) late end)
-
-    pub refused_leads : Stands First (Passed last.image) Longer (picked before.marks) →
-        LeadsTo First before (Loaded (picked before.marks) (area ∷ []) 0 None) (Passed last.image)
-    refused_leads stands =
-        leads before (Loaded (picked before.marks) (area ∷ []) 0 None) Longer (picked before.marks)
-        (Passed last.image)
-        (record {
-          given = refl;
-          areas = refl;
-          acked = omega arith;
-          most = omega arith;
-          least = omega arith;
-          start = λ some. absurd cc;
-        })
-        stands
-
-    pub made_leads : Stands First (Passed last.image) Longer (picked before.marks + 1) →
-        LeadsTo First before (Loaded (picked before.marks) (area ∷ []) 1 None) (Passed last.image)
-    made_leads stands =
-        leads before (Loaded (picked before.marks) (area ∷ []) 1 None) Longer
-        (picked before.marks + 1) (Passed last.image)
+    pub work_leads : IsFairRun keyed Page first last →
+        LeadsTo Empty before (Loaded Place Saves Count (target_started rounds)) (laid_passings keyed last.image)
+    work_leads fair =
+        leads keyed Page before (Loaded Place Saves Count (target_started rounds)) (Given ++ Saves) (Place + Count) (laid_passings keyed last.image)
         (record {
           given = refl;
           areas = refl;
           acked = refl;
-          most = omega arith;
-          least = omega arith;
-          start = λ some. refl;
+          most = made_most kept rounds ran.stops;
+          least = made_least kept rounds ran.stops;
+          start = made_started kept rounds ran.stops;
         })
-        stands
+        ((ran.exit middle g last f Given Place settled).stands (fair_from Luck last (moment first) (moment middle) order fair))
+
+    -- from the load on an image stands for a stage of the rounds
+    abbrev Reaches : List (List ℕ) → ℕ → Image → Type 0
+    Reaches h a image = StandsAtOne Empty (laid_passings keyed image) (stages_reached h a Saves Count)
+
+    late_page : to.geometry.page ≡ Page
+    late_page = ap (λ g. g.page) (late.geometry ∙ early.geometry ∙ geometry)
+
+    reached : EachCounted Luck (λ x z. (h : List (List ℕ)) (a : ℕ) → IsSettled keyed kept used x h a → Reaches h a z) mid to
+    reached = record {
+      each = λ one at_one two at_two image counts h a here.
+          let trail = ran.trail one at_one two at_two h a here in
+          subst (λ stages. StandsAtOne Empty (laid_passings keyed image) stages) trail.stages
+          (first_stands (IsCountedHere keyed two) (moment two) Empty h a (moment one) Saves trail.answered trail.trail (laid_passings keyed image)
+          (record { image = image; counts = subst (λ p. Counts Luck p two (moment one) image) late_page counts; passes = refl }));
+    }
+
+    -- and from entry on for the list at entry, or for one of those
+    abbrev FromEntry : Image → Image → Type 0
+    FromEntry x z =
+        (h : List (List ℕ)) (a : ℕ) (marks : List (Option ℕ)) → StandsFor Empty (laid_passings keyed x) h a marks →
+        Stands Empty (laid_passings keyed z) h a ⊎ Reaches (take (picked marks + 1) h) (picked marks) z
+
+    from_entry : EachCounted Luck FromEntry from to
+    from_entry =
+        counted_joined_at Luck
+        (λ x z. StandsStill (laid_passings keyed x) (laid_passings keyed z))
+        (λ x z. (h : List (List ℕ)) (a : ℕ) → IsSettled keyed kept used x h a → Reaches h a z)
+        FromEntry
+        (λ x y. (h : List (List ℕ)) (a : ℕ) (marks : List (Option ℕ)) → StandsFor Empty (laid_passings keyed x) h a marks →
+        IsSettled keyed kept used y (take (picked marks + 1) h) (picked marks)) from mid to
+        (λ x z still h a marks standing. inl (still Empty h a marks standing))
+        (λ x y z between still reach h a marks standing.
+        inr (reach (take (picked marks + 1) h) (picked marks) (between h a marks standing)))
+        early late
+        (λ one at_one two at_two. settled_at one.image two.image (told_content from one at_one) (told_content mid two at_two))
+        still_here reached
+
+    pub work_trail : IsLoaded keyed used from mid (Ok found) →
+        HasTrail keyed Page from to first last before (Loaded Place Saves Count (target_started rounds))
+    work_trail load =
+        let behind = ran.trail middle g last f Given Place settled in
+        let later = trail_of Given Place (moment middle) Saves behind.answered in
+        let count : 2 + length Saves + Count ≡ suc (1 + length Saves + Count) = omega arith in
+        record {
+          middle = mid;
+          used = used;
+          found = found;
+          loaded = load;
+          when = moment middle;
+          at = λ told here. ap moment (same_Some told middle (sym here ∙ g));
+          answered = behind.answered;
+          stored = behind.known;
+          stages =
+              ap (λ l. record { areas = before.areas; acked = before.acked } ∷ l) behind.stages
+              ∙ sym (ap (λ n. take n (record { areas = before.areas; acked = before.acked }
+              ∷ record { areas = Given; acked = Place } ∷ stages_of Given Place Saves)) count);
+          trail =
+              before_trail (IsCounted keyed Page last) (moment last) Empty before.areas before.acked (moment first) later
+              (subst (λ n. moment first ≤ n) (sym (begins_at (moment last) Given Place (moment middle) Saves behind.answered)) order)
+              (λ passed counted. since_entry passed counted later behind.stages)
+              (weaker_trail (IsCountedHere keyed last) (IsCounted keyed Page last) (moment last) Empty later
+              (λ when passed counted. record { image = counted.image; counts = counted.counts; passes = counted.passes }) behind.trail);
+        }
+      where
+        since_entry : (passed : List (Option (List ℕ))) → IsCounted keyed Page last (moment first) passed → (later : List Milestone) →
+            stages_in later ≡ stages_reached Given Place Saves Count →
+            StandsAtOne Empty passed (stages_in (milestone_of before.areas before.acked (moment first) ∷ later))
+        since_entry passed counted later stages =
+            let at = from_entry.each first e last f counted.image
+            (subst (λ p. Counts Luck p last (moment first) counted.image) (sym late_page) counted.counts)
+            before.areas before.acked before.marks start in
+            subst (λ p. StandsAtOne Empty p (stages_in (milestone_of before.areas before.acked (moment first) ∷ later))) (sym counted.passes)
+            (elim at [
+              | inl same ↦ inl same
+              | inr one ↦ inr (subst (StandsAtOne Empty (laid_passings keyed counted.image)) (sym stages) one)
+            ])

@@ -12,12 +12,11 @@ use Rattle.bb_flash.specs.Image.{Image}
 use Rattle.bb_state.specs.Keyed.{Keyed}
 use Rattle.bb_state.specs.Kinds.{laid_form, laid_kinds}
 use Rattle.bb_session.specs.Looking.{first_found, passed_in}
-use Rattle.bb_session.specs.Booting.{SaveAnswer}
+use Rattle.bb_shell.specs.Rounds.{RoundAnswer}
+use Rattle.bb_shell.specs.Stages.{saves_of}
 use Rattle.bb_plan.specs.Plan.{EarlyEnd, SessionPlan}
-use Rattle.bb_plan.specs.declared.plan.Work.{Work}
-use Rattle.bb_plan.specs.declared.plan.Work.TheVariants.{Act, Boot, Good, Show, Write}
-use Rattle.bb_session.specs.Session.{saves_after, work_session}
-use Rattle.bb_plan.specs.declared.refusal.Refusal.{Refusal}
+use Rattle.bb_session.specs.Acting.{kept_before, taken_by}
+use Rattle.bb_session.specs.Session.{loaded_area, work_session}
 
 -- ---- the region of one copy
 
@@ -42,33 +41,28 @@ saved_region form kind (area ∷ areas) region =
 
 -- ---- the work of a plan, where the first copy that passed had this area, or none passed
 
--- the areas that are saved after the load: those of a boot hang on the answers of its starts
-abbrev pub saves_made : Work → SessionPlan → Option (List ℕ) → List SaveAnswer → List (List ℕ)
-saves_made Show plan found answers = saves_after plan (Ok found)
-saves_made (Write area) plan found answers = saves_after plan (Ok found)
-saves_made (Act actions) plan found answers = saves_after plan (Ok found)
-saves_made (Good targets) plan found answers = saves_after plan (Ok found)
-saves_made (Boot targets cause plans) plan found answers = (work_session plan (Ok found) answers).saves
+-- the areas that are saved after the load
+abbrev pub saves_made : SessionPlan → Option (List ℕ) → List RoundAnswer → List (List ℕ)
+saves_made plan found answers =
+    saves_of (kept_before plan.work (loaded_area plan.keyed.layout found))
+    (work_session plan (Ok found) answers).rounds
 
--- after the load, and the saves after it; a look changes nothing
+-- after the load, and the saves after it; a look loads none, and saves none
 abbrev pub worked_region :
-    Work → SessionPlan → Option (List ℕ) → List SaveAnswer → BucketKind → Image → Image
-worked_region Show plan found answers kind region = region
-worked_region work plan found answers kind region =
+    SessionPlan → Option (List ℕ) → List RoundAnswer → BucketKind → Image → Image
+worked_region plan found answers kind region =
     let form = laid_form plan.keyed in
-    saved_region form kind (saves_made work plan found answers)
-    (loaded_region form kind found region)
+    saved_region form kind (saves_made plan found answers)
+    (loaded_region form kind (taken_by plan.work found) region)
 
 -- the area that was loaded or saved last, if one was
 abbrev pub last_area_of : Option (List ℕ) → List (List ℕ) → Option (List ℕ)
 last_area_of found [] = found
 last_area_of found (area ∷ areas) = last_area_of (Some area) areas
 
--- a look loads none
-abbrev pub last_area :
-    Work → SessionPlan → Option (List ℕ) → List SaveAnswer → Option (List ℕ)
-last_area Show plan found answers = None
-last_area work plan found answers = last_area_of found (saves_made work plan found answers)
+abbrev pub last_area : SessionPlan → Option (List ℕ) → List RoundAnswer → Option (List ℕ)
+last_area plan found answers =
+    last_area_of (taken_by plan.work found) (saves_made plan found answers)
 
 -- ---- the writes of one copy
 
@@ -94,13 +88,12 @@ writes_of_saves form kind (area ∷ areas) region =
 
 -- by the load, and by the saves after it; a look makes none
 abbrev pub writes_of_work :
-    Work → SessionPlan → Option (List ℕ) → List SaveAnswer → BucketKind → Image → List CopyWrite
-writes_of_work Show plan found answers kind region = []
-writes_of_work work plan found answers kind region =
+    SessionPlan → Option (List ℕ) → List RoundAnswer → BucketKind → Image → List CopyWrite
+writes_of_work plan found answers kind region =
     let form = laid_form plan.keyed in
-    writes_of_load form kind found region
-    ++ writes_of_saves form kind (saves_made work plan found answers)
-    (loaded_region form kind found region)
+    writes_of_load form kind (taken_by plan.work found) region
+    ++ writes_of_saves form kind (saves_made plan found answers)
+    (loaded_region form kind (taken_by plan.work found) region)
 
 -- ---- how often it erases
 
@@ -154,21 +147,21 @@ EachContent plan from to P =
 
 -- at exit each copy is exactly what the load and the saves of the plan make of it; a plan that was
 -- refused leaves the device
-abbrev pub LeavesExactly : Result SessionPlan EarlyEnd → List SaveAnswer → Device → Device → Type 0
+abbrev pub LeavesExactly : Result SessionPlan EarlyEnd → List RoundAnswer → Device → Device → Type 0
 LeavesExactly (Err end) answers from to = to ≡ from
 LeavesExactly (Ok plan) answers from to =
     EachContent plan from to
     (λ found before after.
     LeavesRegions (laid_kinds plan.keyed.layout) from.geometry.page
-    (worked_region plan.work plan found answers) before after)
+    (worked_region plan found answers) before after)
 
 -- at exit every copy passes the area that was loaded or saved last
-abbrev pub EndsAlike : Result SessionPlan EarlyEnd → List SaveAnswer → Device → Device → Type 0
+abbrev pub EndsAlike : Result SessionPlan EarlyEnd → List RoundAnswer → Device → Device → Type 0
 EndsAlike (Err end) answers from to = to ≡ from
 EndsAlike (Ok plan) answers from to =
     EachContent plan from to
     (λ found before after.
-    PassAlike plan.keyed from.geometry.page (last_area plan.work plan found answers)
+    PassAlike plan.keyed from.geometry.page (last_area plan found answers)
     before after)
 
 -- P holds of what the first copy passed at entry that passed, and of what was told at entry and
@@ -182,7 +175,7 @@ EachTold plan from to P =
     P (first_found (passed_in plan.keyed from.geometry.page first.image)) first last))
 
 -- at exit the number of each block is higher by exactly as many as the writes of the plan erase it
-abbrev pub ErasesExactly : Result SessionPlan EarlyEnd → List SaveAnswer → Device → Device → Type 0
+abbrev pub ErasesExactly : Result SessionPlan EarlyEnd → List RoundAnswer → Device → Device → Type 0
 ErasesExactly (Err end) answers from to = to ≡ from
 ErasesExactly (Ok plan) answers from to =
     EachTold plan from to
@@ -192,11 +185,11 @@ ErasesExactly (Ok plan) answers from to =
     ≡ Some
     (n
     + sum_of_writes (erases_in (laid_form plan.keyed) from.geometry block)
-    (writes_of_work plan.work plan found answers) (laid_kinds plan.keyed.layout)
+    (writes_of_work plan found answers) (laid_kinds plan.keyed.layout)
     from.geometry.page first.image))
 
 -- at exit exactly so many calls changed the device as the writes of the plan make
-abbrev pub CallsExactly : Result SessionPlan EarlyEnd → List SaveAnswer → Device → Device → Type 0
+abbrev pub CallsExactly : Result SessionPlan EarlyEnd → List RoundAnswer → Device → Device → Type 0
 CallsExactly (Err end) answers from to = to ≡ from
 CallsExactly (Ok plan) answers from to =
     EachTold plan from to
@@ -204,5 +197,5 @@ CallsExactly (Ok plan) answers from to =
     moment last
     ≡ moment first
     + sum_of_writes (calls_in (laid_form plan.keyed))
-    (writes_of_work plan.work plan found answers) (laid_kinds plan.keyed.layout)
+    (writes_of_work plan found answers) (laid_kinds plan.keyed.layout)
     from.geometry.page first.image)

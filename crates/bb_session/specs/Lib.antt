@@ -1,4 +1,5 @@
 -- Definitions that contracts cite. A reader has to believe all of them.
+pub mod Acting
 pub mod Booting
 pub mod Doing
 pub mod DrillLine

@@ -1,5 +1,5 @@
 -- What a session did with the copies, as a turn of a chronicle, and what its images stand for.
-use Rattle.std.specs.Prelude.{◌≡◌, ℕ, List, [], ◌∷◌, All, Option, None, Ok, Err, is_ok, count_by}
+use Rattle.std.specs.Prelude.{◌≡◌, ℕ, List, [], ◌∷◌, All, Option, None, Ok, Err, if◌then◌else◌}
 use Rattle.std.specs.Option.{ForSome}
 use Rattle.bb_copies.specs.Chronicle.{Content, Finished, Follows, IsStanding, Loaded, Looked, Turn, Unloaded, Untouched}
 use Rattle.bb_copies.specs.Cutting.{turn_stages}
@@ -14,10 +14,9 @@ use Rattle.bb_state.specs.Keyed.{Keyed}
 use Rattle.bb_session.specs.Looking.{passed_in}
 use Rattle.bb_shell.specs.Counting.{turn_of_rounds}
 use Rattle.bb_shell.specs.Stages.{AreAnswered}
-use Rattle.bb_session.specs.Booting.{SaveAnswer}
+use Rattle.bb_shell.specs.Rounds.{RoundAnswer}
 use Rattle.bb_plan.specs.Plan.{first_area, SessionPlan}
-use Rattle.bb_plan.specs.declared.plan.Work.{Work}
-use Rattle.bb_plan.specs.declared.plan.Work.TheVariants.{Act, Boot, Good, Show, Write}
+use Rattle.bb_session.specs.Acting.{kept_before, needs_table}
 use Rattle.bb_session.specs.Session.{LoadAnswer, loaded_area, work_session}
 use Rattle.bb_session.specs.Work.{IsLoaded}
 
@@ -37,31 +36,18 @@ BlankLaw =
 
 -- ---- the turn of a session
 
--- how many of the saves answered Ok
-abbrev pub made_of : List SaveAnswer → ℕ
-made_of saves = count_by is_ok saves
-
-abbrev pub load_turn : SessionPlan → LoadAnswer → List SaveAnswer → List (Option ℕ) → Turn
-load_turn plan (Ok found) saves marks =
-    Loaded (picked marks) (work_session plan (Ok found) saves).saves (made_of saves) None
-load_turn plan (Err fault) saves marks = Unloaded
-
--- of a boot, in which a save is begun only where a round has another table than the one before
-abbrev pub boot_turn : SessionPlan → LoadAnswer → List SaveAnswer → List (Option ℕ) → Turn
-boot_turn plan (Ok found) saves marks =
-    turn_of_rounds (picked marks) (loaded_area plan.keyed.layout found) (work_session plan (Ok found) saves).rounds
-boot_turn plan (Err fault) saves marks = Unloaded
-
-abbrev pub work_turn : Work → SessionPlan → LoadAnswer → List SaveAnswer → List (Option ℕ) → Turn
-work_turn Show plan load saves marks = Looked
-work_turn (Write area) plan load saves marks = load_turn plan load saves marks
-work_turn (Act actions) plan load saves marks = load_turn plan load saves marks
-work_turn (Good targets) plan load saves marks = load_turn plan load saves marks
-work_turn (Boot targets cause plans) plan load saves marks = boot_turn plan load saves marks
+-- of a work that loads: what its rounds did after the load that gave a table
+abbrev pub table_turn : SessionPlan → LoadAnswer → List RoundAnswer → List (Option ℕ) → Turn
+table_turn plan (Ok found) answers marks =
+    turn_of_rounds (picked marks)
+    (kept_before plan.work (loaded_area plan.keyed.layout found))
+    (work_session plan (Ok found) answers).rounds
+table_turn plan (Err fault) answers marks = Unloaded
 
 -- of a plan, at copies with these marks
-abbrev pub turn_of : SessionPlan → LoadAnswer → List SaveAnswer → List (Option ℕ) → Turn
-turn_of plan load saves marks = work_turn plan.work plan load saves marks
+abbrev pub turn_of : SessionPlan → LoadAnswer → List RoundAnswer → List (Option ℕ) → Turn
+turn_of plan load answers marks =
+    if needs_table plan.work then table_turn plan load answers marks else Looked
 
 -- ---- what it leaves
 
@@ -139,18 +125,18 @@ IsFairRun keyed page first last =
     IsFair (IsLucky (passed_in keyed page)) last (moment first) (moment last)
 
 -- at exit, in a fair run, the copies stand for what the session's turn makes of the list
-abbrev pub LeadsOn : SessionPlan → Device → Device → LoadAnswer → List SaveAnswer → Type 0
-LeadsOn plan from to load saves =
+abbrev pub LeadsOn : SessionPlan → Device → Device → LoadAnswer → List RoundAnswer → Type 0
+LeadsOn plan from to load answers =
     EachStanding plan.keyed from to
     (λ first last before.
     IsFairRun plan.keyed from.geometry.page first last →
-    LeadsTo (first_area plan.keyed.layout) before (turn_of plan load saves before.marks)
+    LeadsTo (first_area plan.keyed.layout) before (turn_of plan load answers before.marks)
     (passed_in plan.keyed from.geometry.page last.image))
 
 -- each image on the way that counts stands for the stage that it reached, or for a later one
-abbrev pub HasTrails : SessionPlan → Device → Device → LoadAnswer → List SaveAnswer → Type 0
-HasTrails plan from to load saves =
+abbrev pub HasTrails : SessionPlan → Device → Device → LoadAnswer → List RoundAnswer → Type 0
+HasTrails plan from to load answers =
     EachStanding plan.keyed from to
     (λ first last before.
     HasTrail plan.keyed from.geometry.page from to first last before
-    (turn_of plan load saves before.marks))
+    (turn_of plan load answers before.marks))

@@ -1,36 +1,30 @@
 -- The work of a session on the copies of a layout: what was answered, and what became of the
 -- device.
-use Rattle.std.specs.Prelude.{◌≡◌, ◌≢◌, ◌⊎◌, ℕ, ◌≤◌, List, [], ◌∷◌, length, map, ⊤, false, true, Option, Some, None, Result, Ok, Err, IfOk, IfErr, is_err}
+use Rattle.std.specs.Prelude.{◌≡◌, ◌⊎◌, ℕ, ◌≤◌, List, [], length, map, ⊤, true, MatchBool, Option, Some, None, Result, Ok, Err, IfOk, IfErr, is_err}
 use Rattle.std.specs.Option.{ForSome}
 use Rattle.bb_base.specs.Faults.{counted}
 use Rattle.bb_bucket.specs.Calls.{IsQuiet}
-use Rattle.bb_copies.specs.Erasing.{ErasesBy}
 use Rattle.bb_copies.specs.Loading.{KeepsOutside, LoadGives, LoadImages, LoadsErasing, LoadsExactly}
-use Rattle.bb_copies.specs.Saving.{EachWritten, SaveFails, SaveRuns}
-use Rattle.bb_copies.specs.Settling.{NothingFails}
 use Rattle.bb_copies.specs.Store.{used_after}
-use Rattle.bb_copies.specs.declared.answers.CopyFault.TheVariants.{ReadFault, Unsure}
+use Rattle.bb_copies.specs.declared.answers.CopyFault.TheVariants.{ReadFault}
 use Rattle.bb_copies.specs.declared.answers.Loaded.{Loaded}
 use Rattle.bb_copies.specs.declared.answers.Loaded.TheVariants.{Copy, NoCopy}
 use Rattle.bb_flash.specs.Cuts.{IsLater}
 use Rattle.bb_chooser.specs.Binding.{Binding}
-use Rattle.bb_chooser.specs.declared.cause.Cause.{Cause}
 use Rattle.bb_flash.specs.Device.{Device, LeavesStarts, content}
-use Rattle.bb_flash.specs.declared.plan.Plan.{Plan as StartPlan}
 use Rattle.bb_state.specs.Keyed.{Keyed}
-use Rattle.bb_shell.specs.Boot.{AreRounds, Round, all_attempts, boot_end, first_table, table_after}
-use Rattle.bb_shell.specs.Ends.{AddsStarts, HasEndCause, RaisedBy, StaysStored, failed_starts, is_fault_end}
+use Rattle.bb_shell.specs.Boot.{Round}
+use Rattle.bb_shell.specs.Rounds.{RoundAnswer, answer_of}
 use Rattle.bb_shell.specs.Running.{AreRun}
-use Rattle.bb_shell.specs.Stages.{KeepsATrail, KeepsAtExit}
 use Rattle.bb_state.specs.Kinds.{laid_form, laid_kinds}
-use Rattle.bb_state.specs.State.{IsDefault, IsRefused, IsStored}
+use Rattle.bb_state.specs.State.{IsDefault, IsRefused}
+use Rattle.bb_session.specs.Acting.{AreRoundsOf, acts_of, kept_before, most_rounds, needs_table, start_plans_of}
 use Rattle.bb_session.specs.Looking.{first_found, passed_in}
 use Rattle.bb_shell.specs.declared.boot_end.BootEnd.{BootEnd}
-use Rattle.bb_session.specs.Booting.{SaveAnswer, answer_to, end_refusal, end_text}
+use Rattle.bb_session.specs.Booting.{end_refusal, end_text}
 use Rattle.bb_plan.specs.Plan.{SessionPlan}
 use Rattle.bb_plan.specs.declared.plan.Work.{Work}
-use Rattle.bb_plan.specs.declared.plan.Work.TheVariants.{Act, Boot, Good, Show, Write}
-use Rattle.bb_session.specs.Session.{LoadAnswer, Session, loaded_area, saves_after, work_session}
+use Rattle.bb_session.specs.Session.{LoadAnswer, Session, loaded_area, work_session}
 use Rattle.bb_plan.specs.Refusal.{takes_memory}
 use Rattle.bb_session.specs.declared.report.Report.{Report}
 use Rattle.bb_plan.specs.declared.refusal.Refusal.{Refusal}
@@ -82,108 +76,49 @@ pub record IsLoaded (keyed : Keyed) (used : Option ℕ) (from to : Device) (answ
   pub gives : IfOk answer (IsLoadedAs keyed used from to)
   pub fails : IfErr answer (IsRefused keyed from to)
 
--- ---- saves
+-- ---- rounds after a load
 
--- what a save made of the device, and what it answered
-pub record IsSaveAnswered (keyed : Keyed) (used : Option ℕ) (area : List ℕ) (from to : Device)
-    (answer : SaveAnswer) : Type 0 where
-  pub now : Option ℕ
-  pub runs : SaveRuns (laid_form keyed) (laid_kinds keyed.layout) used area from to
-  pub stored : IfOk answer (λ made. IsStored keyed area now from to)
-  pub fails :
-      IfErr answer (λ fault. SaveFails (laid_form keyed) (laid_kinds keyed.layout) used area from to fault)
-  pub sure : IfErr answer (λ fault. fault ≢ Unsure)
-  pub exact :
-      NothingFails from to →
-      IfOk answer
-      (λ made. EachWritten (laid_kinds keyed.layout) ((laid_form keyed).text area) from to)
-  pub erases :
-      NothingFails from to →
-      IfOk answer
-      (λ made. ErasesBy (laid_kinds keyed.layout) ((laid_form keyed).text area) from to)
-
--- these saves were begun after a load, one at most so far
-abbrev pub AreSaved : Keyed → Option ℕ → List (List ℕ) → Device → Device → List SaveAnswer → Type 0
-AreSaved keyed used [] from to answers = (answers ≡ []) × (to ≡ from)
-AreSaved keyed used (area ∷ areas) from to [] = ⊥
-AreSaved keyed used (area ∷ areas) from to (answer ∷ answers) =
-    IsSaveAnswered keyed used area from to answer × ((areas ≡ []) × (answers ≡ []))
-
--- ---- a boot
-
--- Rounds were run after a load of this table, and this is what was answered to each of them. `used`
+-- A work ran rounds after a load of this table, and this is what was answered to each of them. `used`
 -- is the copy that the load took, and `now` the one that passes the last table.
-pub record IsBootRun (keyed : Keyed) (targets : Binding) (cause : Cause)
-    (plans : List (Option StartPlan)) (table : List ℕ) (used : Option ℕ) (from to : Device)
-    (answers : List SaveAnswer) : Type 0 where
+pub record IsRunAfter (keyed : Keyed) (work : Work) (table : List ℕ) (used : Option ℕ)
+    (from to : Device) (answers : List RoundAnswer) : Type 0 where
   pub rounds : List Round
   pub now : Option ℕ
-  pub answers_are : answers ≡ map (λ round. answer_to round.outcome) rounds
-  pub are : AreRounds targets plans (first_table targets cause true table) rounds
-  -- each spends an attempt
-  pub few : length rounds ≤ all_attempts targets (first_table targets cause true table)
-  pub run : AreRun keyed plans table used now rounds from to
-  -- what the copies stand for, in each image on the way and at exit, and what they pass then
-  pub trail : KeepsATrail keyed table used rounds from to
-  pub exit : KeepsAtExit keyed table used now rounds from to
-  pub stored :
-      is_fault_end (boot_end targets rounds) ≡ false →
-      StaysStored keyed table (table_after table rounds) from to
-  pub outside : KeepsOutside (laid_kinds keyed.layout) from to
-  pub later : IsLater from to
-  -- the start that was made, if one was, and those that failed
-  pub starts : AddsStarts plans from to (boot_end targets rounds)
-  pub start_faults : RaisedBy (failed_starts rounds) from.start_faults to.start_faults
-  pub end_cause : HasEndCause plans from to (boot_end targets rounds)
+  pub answers_are : answers ≡ map answer_of rounds
+  pub are : AreRoundsOf (start_plans_of work) (acts_of keyed.layout work table) rounds
+  pub few : length rounds ≤ most_rounds (acts_of keyed.layout work table)
+  pub run :
+      AreRun keyed (start_plans_of work) (kept_before work table) used now rounds from to
 
 -- it comes after a load that answered Ok
-abbrev pub IsBootAfterLoad :
-    Keyed → Binding → Cause → List (Option StartPlan) → Option ℕ → Device → Device → LoadAnswer →
-    List SaveAnswer → Type 0
-IsBootAfterLoad keyed targets cause plans used from to (Ok found) answers =
-    IsBootRun keyed targets cause plans (loaded_area keyed.layout found) used from to answers
-IsBootAfterLoad keyed targets cause plans used from to (Err fault) answers =
-    (answers ≡ []) × (to ≡ from)
+abbrev pub IsRunAfterLoad :
+    SessionPlan → Option ℕ → Device → Device → LoadAnswer → List RoundAnswer → Type 0
+IsRunAfterLoad plan used from to (Ok found) answers =
+    IsRunAfter plan.keyed plan.work (loaded_area plan.keyed.layout found) used from to answers
+IsRunAfterLoad plan used from to (Err fault) answers = (answers ≡ []) × (to ≡ from)
 
 -- ---- the work of a plan
 
--- the copies were loaded, and the saves that the plan makes after the answer were begun
-pub record IsStoreWork (plan : SessionPlan) (from to : Device) (load : LoadAnswer)
-    (saves : List SaveAnswer) : Type 0 where
-  -- between the load and the saves
-  pub middle : Device
-  pub used : Option ℕ
-  pub many : 2 ≤ plan.keyed.layout.copies
-  pub loaded : IsLoaded plan.keyed used from middle load
-  pub saved : AreSaved plan.keyed used (saves_after plan load) middle to saves
-
-pub record IsLookWork (plan : SessionPlan) (from to : Device) (load : LoadAnswer)
-    (saves : List SaveAnswer) : Type 0 where
-  pub looked : IsLooked plan.keyed from to load
-  pub none : saves ≡ []
-
--- the copies were loaded, and then it was booted
-pub record IsBootWork (targets : Binding) (cause : Cause) (plans : List (Option StartPlan))
-    (plan : SessionPlan) (from to : Device) (load : LoadAnswer) (saves : List SaveAnswer)
-    : Type 0 where
+-- the copies were loaded, and then the rounds were run
+pub record IsTableWork (plan : SessionPlan) (from to : Device) (load : LoadAnswer)
+    (answers : List RoundAnswer) : Type 0 where
   -- between the load and the first round
   pub middle : Device
   pub used : Option ℕ
   pub geometry : from.geometry ≡ plan.keyed.layout.geometry
   pub many : 2 ≤ plan.keyed.layout.copies
   pub loaded : IsLoaded plan.keyed used from middle load
-  pub booted : IsBootAfterLoad plan.keyed targets cause plans used middle to load saves
+  pub ran : IsRunAfterLoad plan used middle to load answers
 
-abbrev pub IsWorkOf : Work → SessionPlan → Device → Device → LoadAnswer → List SaveAnswer → Type 0
-IsWorkOf Show plan from to load saves = IsLookWork plan from to load saves
-IsWorkOf (Write area) plan from to load saves = IsStoreWork plan from to load saves
-IsWorkOf (Act actions) plan from to load saves = IsStoreWork plan from to load saves
-IsWorkOf (Good targets) plan from to load saves = IsStoreWork plan from to load saves
-IsWorkOf (Boot targets cause plans) plan from to load saves =
-    IsBootWork targets cause plans plan from to load saves
+pub record IsLookWork (plan : SessionPlan) (from to : Device) (load : LoadAnswer)
+    (answers : List RoundAnswer) : Type 0 where
+  pub looked : IsLooked plan.keyed from to load
+  pub none : answers ≡ []
 
-abbrev pub IsWork : SessionPlan → Device → Device → LoadAnswer → List SaveAnswer → Type 0
-IsWork plan from to load saves = IsWorkOf plan.work plan from to load saves
+abbrev pub IsWork : SessionPlan → Device → Device → LoadAnswer → List RoundAnswer → Type 0
+IsWork plan from to load answers =
+    MatchBool (needs_table plan.work) (IsTableWork plan from to load answers)
+    (IsLookWork plan from to load answers)
 
 -- before anything is sent the work gave what the session answers: its text, with a refusal after it
 -- or none, or a refusal before which it had gathered no text
@@ -195,9 +130,9 @@ Gives session (Err refusal) = (session.text ≡ []) × (session.refusal ≡ Some
 pub record IsWorkDone (plan : SessionPlan) (from to : Device) (given : Result Report Refusal)
     : Type 0 where
   pub load : LoadAnswer
-  pub saves : List SaveAnswer
-  pub work : IsWork plan from to load saves
-  pub gives : Gives (work_session plan load saves) given
+  pub answers : List RoundAnswer
+  pub work : IsWork plan from to load answers
+  pub gives : Gives (work_session plan load answers) given
 
 -- what is to be sent takes memory: a text, or the line of a refusal that names something
 abbrev pub SendsByMemory : Option Refusal → Type 0
@@ -225,9 +160,9 @@ IsReportOf targets end given =
 pub record IsTextRefused (plan : SessionPlan) (from to : Device) (given : Result Report Refusal)
     : Type 0 where
   pub load : LoadAnswer
-  pub saves : List SaveAnswer
-  pub work : IsWork plan from to load saves
-  pub whole : SendsByMemory (work_session plan load saves).refusal
+  pub answers : List RoundAnswer
+  pub work : IsWork plan from to load answers
+  pub whole : SendsByMemory (work_session plan load answers).refusal
   pub is : given ≡ Err refusals.NoMemory
 
 -- memory was refused before any call of the device

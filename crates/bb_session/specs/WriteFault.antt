@@ -1,5 +1,5 @@
 -- Why a session names a copy that it couldn't write. The counts are those of the whole session.
-use Rattle.std.specs.Prelude.{◌≡◌, ◌≢◌, ◌⊎◌, ℕ, ◌+◌, ◌-◌, false, List, [], Option, Some, None, Ok, Err}
+use Rattle.std.specs.Prelude.{◌≡◌, ◌≢◌, ◌⊎◌, ℕ, ◌+◌, ◌-◌, List, [], ◌∷◌, ◌++◌, Option, Some, None, Ok, Err}
 use Rattle.std.specs.Option.{ForSome}
 use Rattle.bb_copies.specs.Buckets.{EachCopy}
 use Rattle.bb_copies.specs.Passing.{passes_at}
@@ -11,24 +11,25 @@ use Rattle.bb_state.specs.Kinds.{laid_kinds}
 use Rattle.bb_session.specs.Looking.{first_found, passed_in}
 use Rattle.bb_shell.specs.Boot.{Round}
 use Rattle.bb_shell.specs.Running.{AreRun}
-use Rattle.bb_session.specs.Booting.{SaveAnswer, boots, start_plans_of}
+use Rattle.bb_shell.specs.Rounds.{RoundAnswer}
+use Rattle.bb_session.specs.Acting.{kept_before, start_plans_of}
 use Rattle.bb_session.specs.Exactly.{last_area_of, saves_made}
 use Rattle.bb_plan.specs.Plan.{SessionPlan}
-use Rattle.bb_session.specs.Session.{LoadAnswer, loaded_area}
+use Rattle.bb_session.specs.Session.{LoadAnswer, loaded_area, work_session}
 use Rattle.bb_session.specs.Work.{IsLoaded}
 
 -- The area that the copies were to take: that of the last save that was begun, which is the one
 -- that was refused. In a load that was refused it is that of the first copy that passed at entry.
-abbrev pub IsWanted : SessionPlan → Device → LoadAnswer → List SaveAnswer → List ℕ → Type 0
+abbrev pub IsWanted : SessionPlan → Device → LoadAnswer → List RoundAnswer → List ℕ → Type 0
 IsWanted plan from (Ok found) answers area =
-    last_area_of None (saves_made plan.work plan found answers) ≡ Some area
+    last_area_of None (saves_made plan found answers) ≡ Some area
 IsWanted plan from (Err fault) answers area =
     ForSome (content from)
     (λ image. first_found (passed_in plan.keyed from.geometry.page image) ≡ Some area)
 
 -- the copy passes another area than the copies were to take, and two calls failed
 pub record IsLeftStale (plan : SessionPlan) (from to : Device) (load : LoadAnswer)
-    (answers : List SaveAnswer) (copy : ℕ) : Type 0 where
+    (answers : List RoundAnswer) (copy : ℕ) : Type 0 where
   pub area : List ℕ
   pub wanted : IsWanted plan from load answers area
   pub passes :
@@ -37,10 +38,10 @@ pub record IsLeftStale (plan : SessionPlan) (from to : Device) (load : LoadAnswe
       PassesAnother area (passes_at (passed_in plan.keyed from.geometry.page image) copy))
   pub cause : RoseBy 2 from.faults to.faults
 
--- the copy is the one that the load took, or in a boot one that a save after it left as the first
--- that passes
-pub record IsUsed (plan : SessionPlan) (from middle : Device) (load : LoadAnswer) (copy : ℕ)
-    : Type 0 where
+-- The copy is the one that the load took, or one that a save after it left as the first that passes:
+-- that of all rounds of the session but the last, whose save was refused.
+pub record IsUsed (plan : SessionPlan) (from middle : Device) (load : LoadAnswer)
+    (answers : List RoundAnswer) (copy : ℕ) : Type 0 where
   -- after the load
   pub first : Device
   pub used : Option ℕ
@@ -48,18 +49,20 @@ pub record IsUsed (plan : SessionPlan) (from middle : Device) (load : LoadAnswer
   pub found : Option (List ℕ)
   pub found_is : load ≡ Ok found
   pub earlier : List Round
+  pub last : Round
+  pub rounds : (work_session plan load answers).rounds ≡ earlier ++ last ∷ []
   pub run :
-      AreRun plan.keyed (start_plans_of plan.work) (loaded_area plan.keyed.layout found) used (Some copy)
-      earlier first middle
-  pub none : boots plan.work ≡ false → earlier ≡ []
+      AreRun plan.keyed (start_plans_of plan.work)
+      (kept_before plan.work (loaded_area plan.keyed.layout found)) used (Some copy) earlier first
+      middle
 
 -- The copy is the one that is used, and the save left it as it was, in every image. No other copy
 -- passes anything, and for each of them a call failed.
-pub record IsLeftAlone (plan : SessionPlan) (from to : Device) (load : LoadAnswer) (copy : ℕ)
-    : Type 0 where
+pub record IsLeftAlone (plan : SessionPlan) (from to : Device) (load : LoadAnswer)
+    (answers : List RoundAnswer) (copy : ℕ) : Type 0 where
   -- before the save
   pub middle : Device
-  pub used : IsUsed plan from middle load copy
+  pub used : IsUsed plan from middle load answers copy
   pub later : IsLater middle to
   pub untouched :
       EachCopy (laid_kinds plan.keyed.layout) (λ place kind. place ≡ copy → IsUntouched kind middle to)
@@ -84,7 +87,8 @@ pub record AreAllLost (plan : SessionPlan) (from to : Device) (load : LoadAnswer
 -- one of these holds of a copy that is named; or it couldn't be read back, and three calls failed,
 -- of which one is a read
 abbrev pub IsWriteFault :
-    SessionPlan → Device → Device → LoadAnswer → List SaveAnswer → ℕ → Type 0
+    SessionPlan → Device → Device → LoadAnswer → List RoundAnswer → ℕ → Type 0
 IsWriteFault plan from to load answers copy =
     IsLeftStale plan from to load answers copy
-    ⊎ (IsUnread from to ⊎ (IsLeftAlone plan from to load copy ⊎ AreAllLost plan from to load copy))
+    ⊎ (IsUnread from to
+    ⊎ (IsLeftAlone plan from to load answers copy ⊎ AreAllLost plan from to load copy))

@@ -5,17 +5,7 @@ use Rattle.bb_session.proofs.boot.boot.Goals as goal
 
 pub returns-clause-did : goal.returns-clause-did
 returns-clause-did g c =
-    let boot = c.boot_run-end.ensures in
     done_boot c.args.chooser.now c.args.cause c.args.plans.now c.args.state.now c.boot_run-end.new.state
     (g.B.Flash.device c.args.board.now) (g.B.Flash.device c.boot_run-end.new.board) c.boot_run-end.result c.report.result
     c.requires.hand.kept c.count.ensures.binding (table_sized c.args.state.now ∙ sym c.requires.served.sized)
-    (record {
-      booted = boot.booted;
-      end_cause = boot.cause;
-      starts = boot.starts;
-      stored = boot.stored;
-      outside = boot.outside;
-      later = boot.later;
-      sure = boot.sure;
-    })
-    c.report.ensures.gives
+    c.boot_run-end.ensures.booted c.report.ensures.gives

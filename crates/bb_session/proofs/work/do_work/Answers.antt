@@ -1,6 +1,6 @@
 use Rattle.std.proofs.Common.{◌≤◌, sym, subst}
 use Rattle.bb_state.specs.Keyed.{Keyed}
-use Rattle.bb_session.proofs.Tellable.{tellable_of}
+use Rattle.bb_session.proofs.Unrefused.{tellable_of}
 use Rattle.bb_session.proofs.work.do_work.Goals as goal
 
 pub returns-clause-tellable : goal.returns-clause-tellable

@@ -1,8 +1,9 @@
-use Rattle.std.proofs.Common.{◌∙◌, ℕ, Option, Err, ap, subst}
+use Rattle.std.proofs.Common.{◌∙◌, ℕ, Option, Err, ap, refl, subst}
 use Rattle.std.proofs.lemmas.Result.{err_from_is_err_and}
 use Rattle.bb_state.specs.Keyed.{Keyed}
 use Rattle.bb_copies.specs.Store.{used_after}
 use Rattle.bb_session.specs.Doing.{IsDone}
+use Rattle.bb_session.specs.Work.{IsLoadedArea}
 use Rattle.bb_state.specs.State.{keyed_of}
 use Rattle.bb_session.proofs.Done.{done_later, done_out, done_unloaded}
 use Rattle.bb_session.proofs.work.work_on.Goals as goal
@@ -10,7 +11,7 @@ use Rattle.bb_session.proofs.work.work_on.Goals as goal
 pub returns-in_err-load-clause-gives : goal.returns-in_err-load-clause-gives
 returns-in_err-load-clause-gives g c =
     let p = err_from_is_err_and c.from_residual.result c.from_residual.ensures.1 in
-    done_unloaded (keyed_of c.args.state.now) c.args.work.now c.load.new.self.table (g.B.Flash.device c.args.board.now)
+    done_unloaded (keyed_of c.args.state.now) c.args.work.now (g.B.Flash.device c.args.board.now)
     (g.B.Flash.device c.load.new.flash) c.in_err-load.field-0.0 c.from_residual.result
     c.requires.on.geometry (let e = c.needs_table.ensures in cc) c.args.state.now.facts.copied.least
     (record {
@@ -19,9 +20,6 @@ returns-in_err-load-clause-gives g c =
       later = c.in_err-load.ensures.later;
       starts = c.in_err-load.ensures.starts;
       gives = tt;
-      defaults = tt;
-      exact = tt;
-      erases = tt;
       fails = c.in_err-load.ensures.fails;
     })
     (p.1 ∙ ap (λ e. Err e) p.2)
@@ -32,17 +30,18 @@ returns-clause-gives g c =
     let mid = g.B.Flash.device c.load.new.flash in
     let to = g.B.Flash.device c.work_at.new.board in
     let table = c.load.new.self.table in
+    let done = c.in_ok-load.ensures in
+    let gave : IsLoadedArea keyed table c.in_ok-load.field-0 (g.B.Flash.device c.args.board.now) mid =
+    record { gives = done.gives; defaults = done.defaults; exact = done.exact; erases = done.erases } in
     done_out keyed c.args.work.now (g.B.Flash.device c.args.board.now) mid to table c.in_ok-load.field-0 c.work_at.result
     c.requires.on.geometry (let e = c.needs_table.ensures in cc) c.args.state.now.facts.copied.least
+    gave
     (record {
       images = c.in_ok-load.ensures.images;
       outside = c.in_ok-load.ensures.outside;
       later = c.in_ok-load.ensures.later;
       starts = c.in_ok-load.ensures.starts;
-      gives = c.in_ok-load.ensures.gives;
-      defaults = c.in_ok-load.ensures.defaults;
-      exact = c.in_ok-load.ensures.exact;
-      erases = c.in_ok-load.ensures.erases;
+      gives = record { area = table; loaded = c.in_ok-load.field-0; gave = gave; taken = refl; used_is = refl };
       fails = tt;
     })
     (subst (λ (k : Keyed). IsDone k (used_after c.in_ok-load.field-0) table c.args.work.now mid to c.work_at.result) c.in_ok-load.ensures.keyed
@@ -51,4 +50,4 @@ returns-clause-gives g c =
 pub returns-clause-later : goal.returns-clause-later
 returns-clause-later g c =
     done_later (keyed_of c.load.new.self) _ _ c.args.work.now (g.B.Flash.device c.args.board.now) (g.B.Flash.device c.load.new.flash) _
-    c.work_at.ensures.did.saves c.work_at.ensures.did.are c.in_ok-load.ensures.later
+    c.work_at.ensures.did.answers c.work_at.ensures.did.ran c.in_ok-load.ensures.later
