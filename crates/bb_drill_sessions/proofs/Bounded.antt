@@ -13,41 +13,43 @@ use Rattle.bb_flash.specs.declared.plan.Plan.{Plan as StartPlan}
 use Rattle.bb_plan.specs.Plan.{SessionPlan}
 use Rattle.bb_plan.specs.declared.plan.Work.{Work}
 use Rattle.bb_plan.specs.declared.refusal.Refusal.{Refusal}
-use Rattle.bb_session.specs.Booting.{SaveAnswer, boots, start_of}
+use Rattle.bb_session.specs.Acting.{start_plans_of}
+use Rattle.bb_session.specs.Booting.{start_of}
 use Rattle.bb_session.specs.Session.{LoadAnswer, work_session}
 use Rattle.bb_session.specs.Work.{IsWork, IsWorkedOut}
 use Rattle.bb_session.specs.declared.report.Report.{Report}
+use Rattle.bb_shell.specs.Rounds.{RoundAnswer}
 use Rattle.bb_state.specs.Keyed.{Keyed}
 use Rattle.bb_drill_sessions.specs.Plans.{drill_plan}
 use Rattle.bb_drill_sessions.proofs.Plans.{on_board}
-use Rattle.bb_drill_sessions.proofs.Starting.{AddsStart, none_started, work_start}
+use Rattle.bb_drill_sessions.proofs.Starting.{AddsOne, none_started, work_start}
 
--- the start of a work that was done, which is none where it isn't a boot
+-- the start of a work that was done, which is none where it has no plan of one
 record IsStarted (work : Work) (from to : Device) : Type 0 where
   start : Option StartPlan
-  none : boots work ≡ false → start ≡ None
-  adds : AddsStart start from to
+  none : start_plans_of work ≡ [] → start ≡ None
+  adds : AddsOne start from to
 
-started_by : (plan : SessionPlan) (from to : Device) (load : LoadAnswer) (saves : List SaveAnswer) → IsWork plan from to load saves →
+started_by : (plan : SessionPlan) (from to : Device) (load : LoadAnswer) (answers : List RoundAnswer) → IsWork plan from to load answers →
     IsStarted plan.work from to
-started_by plan from to load saves work = record {
-  start = start_of plan.work (work_session plan load saves).rounds;
-  none = none_started plan load saves;
-  adds = work_start plan.work plan from to load saves refl work;
+started_by plan from to load answers work = record {
+  start = start_of plan.work (work_session plan load answers).rounds;
+  none = none_started plan (work_session plan load answers).rounds;
+  adds = work_start plan from to load answers work;
 }
 
 started_in : (keyed : Keyed) (work : Work) (from to : Device) (given : Result Report Refusal) → IsWorkedOut keyed work from to given →
     IsStarted work from to
-started_in keyed work from to given (inl done) = started_by (record { keyed = keyed; work = work }) from to done.load done.saves done.work
-started_in keyed work from to given (inr (inl text)) = started_by (record { keyed = keyed; work = work }) from to text.load text.saves text.work
+started_in keyed work from to given (inl done) = started_by (record { keyed = keyed; work = work }) from to done.load done.answers done.work
+started_in keyed work from to given (inr (inl text)) = started_by (record { keyed = keyed; work = work }) from to text.load text.answers text.work
 started_in keyed work from to given (inr (inr memory)) =
-    record { start = None; none = λ store. refl; adds = ap starts memory.unasked }
+    record { start = None; none = λ unplanned. refl; adds = ap starts memory.unasked }
 
 abbrev most_starts : Bool → ℕ
 most_starts may = if may then 1 else 0
 
 few_starts : (start : Option StartPlan) (may : Bool) (before after : Memory) → (may ≡ false → start ≡ None) →
-    AddsStart start (device_of before) (device_of after) →
+    AddsOne start (device_of before) (device_of after) →
     length after.told.starts ≤ length before.told.starts + most_starts may
 few_starts None true before after none adds = let same = ap length (same_Some after.told.starts before.told.starts adds) in omega (arith, same)
 few_starts None false before after none adds = let same = ap length (same_Some after.told.starts before.told.starts adds) in omega (arith, same)
@@ -66,6 +68,6 @@ on_of command plan is before after given worked later =
     record {
       geometry = later.geometry;
       starts =
-          few_starts started.start (may_start command) before after (λ store. started.none ((on_board command plan is).starts ∙ store))
+          few_starts started.start (may_start command) before after (λ idle. started.none ((on_board command plan is).none idle))
           started.adds;
     }

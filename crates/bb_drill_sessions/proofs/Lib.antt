@@ -1,6 +1,5 @@
 -- Lemmas.
 pub mod Plans
-pub mod Boots
 pub mod Starting
 pub mod Tabled
 pub mod Bounded

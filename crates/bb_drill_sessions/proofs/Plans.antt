@@ -9,17 +9,17 @@ use Rattle.bb_drill.specs.declared.command.DrillCommand.{DrillCommand}
 use Rattle.bb_drill.specs.declared.command.DrillCommand.TheVariants.{Priority, Boot, MarkGood, Show}
 use Rattle.bb_flash.specs.declared.plan.Plan.{Plan as StartPlan}
 use Rattle.bb_layout.specs.Results.{result_and_then}
-use Rattle.bb_actions.specs.Actions.{misfit_of}
+use Rattle.bb_actions.specs.declared.bound_action.BoundAction.{BoundAction}
 use Rattle.bb_plan.proofs.Readings.{same_over}
 use Rattle.bb_plan.specs.FilesRead.{FileAnswer, IsReadAs, Reading, Reads, Yields, Fails, and_then, files_answer, reading_of, result_on, result_over}
 use Rattle.bb_plan.specs.Plan.{Drills, OnCopies, Prints, SessionPlan, Task, boot_after, boot_planned, boot_reading, command_reading, mark_after, mark_reading, plan_as, plan_reading, planned, state_plan, state_reading, task_as, words_reading}
 use Rattle.bb_plan.specs.declared.plan.PlannedTask.TheVariants as tasks
 use Rattle.bb_plan.specs.declared.plan.PlannedWork.{PlannedWork}
 use Rattle.bb_plan.specs.declared.refusal.Refusal.TheVariants as refusals
-use Rattle.bb_plan.specs.PlanSteps.{binding_reading, cause_of, fit_by, keyed_reading, plans_reading}
+use Rattle.bb_plan.specs.PlanSteps.{actions_by, binding_reading, cause_of, keyed_reading, plans_reading}
 use Rattle.bb_plan.specs.declared.plan.Work.TheVariants as works
 use Rattle.bb_plan.specs.declared.refusal.Refusal.{Refusal}
-use Rattle.bb_session.specs.Booting.{boots}
+use Rattle.bb_session.specs.Acting.{start_plans_of}
 use Rattle.bb_state.specs.Keyed.{Keyed}
 use Rattle.bb_words.specs.Words.{words_of, words_from}
 use Rattle.bb_words.specs.declared.command.Action.TheVariants.{Set}
@@ -62,20 +62,21 @@ same_Ok x y h = cc
 
 -- ---- what a plan has
 
+-- its layout, and no plan of a start where it is to start nothing
 record IsPlan (given : Result Keyed Refusal) (starts : Bool) (plan : SessionPlan) : Type 0 where
   keyed : given ≡ Ok plan.keyed
-  boots_is : boots plan.work ≡ starts
+  none : starts ≡ false → start_plans_of plan.work ≡ []
 
 state_known : (command : StateCommand) (keyed : Keyed) (plan : SessionPlan) → state_plan command keyed ≡ Ok plan →
     IsPlan (Ok keyed) false plan
-state_known command keyed plan h = by (fit_by (misfit_of keyed.layout.vars command.actions)) h
+state_known command keyed plan h = by (actions_by keyed.layout.vars command.actions) h
   where
-    by : (fit : Result (Unit {0}) Refusal) →
-        result_and_then (λ fit. Ok (record { keyed = keyed; work = works.Act command.actions })) fit ≡ Ok plan →
+    by : (bound : Result (List BoundAction) Refusal) →
+        result_and_then (λ actions. Ok (record { keyed = keyed; work = works.Act actions })) bound ≡ Ok plan →
         IsPlan (Ok keyed) false plan
-    by (Ok fit) g =
-        subst (λ (p : SessionPlan). IsPlan (Ok keyed) false p) (same_Ok (record { keyed = keyed; work = works.Act command.actions }) plan g)
-        (record { keyed = refl; boots_is = refl })
+    by (Ok actions) g =
+        subst (λ (p : SessionPlan). IsPlan (Ok keyed) false p) (same_Ok (record { keyed = keyed; work = works.Act actions }) plan g)
+        (record { keyed = refl; none = λ e. refl })
     by (Err refusal) g = absurd cc
 
 module _ (files : FileMap) (plan : SessionPlan) where
@@ -84,7 +85,7 @@ module _ (files : FileMap) (plan : SessionPlan) where
 
   from_keyed : (starts : Bool) (given : Result Keyed Refusal) (keyed : Keyed) → given ≡ Ok keyed → IsPlan (Ok keyed) starts plan →
       IsPlan given starts plan
-  from_keyed starts given keyed first is = record { keyed = first ∙ is.keyed; boots_is = is.boots_is }
+  from_keyed starts given keyed first is = record { keyed = first ∙ is.keyed; none = is.none }
 
   of_state : (command : StateCommand) → Over (state_reading command board_geometry) ≡ Ok plan →
       IsPlan (Over (keyed_reading command.described board_geometry)) false plan
@@ -101,7 +102,7 @@ module _ (files : FileMap) (plan : SessionPlan) where
       from_keyed false (Over (keyed_reading command.described board_geometry)) keyed.value keyed.first
       (subst (λ (p : SessionPlan). IsPlan (Ok keyed.value) false p)
       (same_Ok (record { keyed = keyed.value; work = works.Good targets.value }) plan targets.second)
-      (record { keyed = refl; boots_is = refl }))
+      (record { keyed = refl; none = λ e. refl }))
 
   of_boot : (command : BootCommand) → Over (boot_reading command board_geometry) ≡ Ok plan →
       IsPlan (Over (keyed_reading command.described board_geometry)) true plan
@@ -113,7 +114,7 @@ module _ (files : FileMap) (plan : SessionPlan) where
       from_keyed true (Over (keyed_reading command.described board_geometry)) keyed.value keyed.first
       (subst (λ (p : SessionPlan). IsPlan (Ok keyed.value) true p)
       (same_Ok (record { keyed = keyed.value; work = works.Boot targets.value (cause_of command.cause) plans.value }) plan plans.second)
-      (record { keyed = refl; boots_is = refl }))
+      (record { keyed = refl; none = λ e. absurd cc }))
 
   -- of a task on copies
   of_copies : (reading : Reading SessionPlan) → Over (and_then (λ p. Yields (OnCopies p)) reading) ≡ Ok (OnCopies plan) →
@@ -175,7 +176,7 @@ by_command Show plan h =
 -- the plan of a session of the drill: its layout is the board's, and a boot alone may start
 pub record IsOnBoard (command : DrillCommand) (plan : SessionPlan) : Type 0 where
   pub keyed : board_keyed ≡ Some plan.keyed
-  pub starts : boots plan.work ≡ may_start command
+  pub none : may_start command ≡ false → start_plans_of plan.work ≡ []
 
 pub on_board : (command : DrillCommand) (plan : SessionPlan) → drill_plan command ≡ Ok plan → IsOnBoard command plan
 unfolding drill_plan board_keyed
@@ -183,7 +184,7 @@ on_board command plan h =
     let task = planned_back (result_over board_files (plan_reading (drill_words command) board_geometry)) plan h in
     let is = by_command command plan
     (subst (λ (w : Result Command ℕ). result_over board_files (words_reading w board_geometry) ≡ Ok (OnCopies plan)) (words_are command) task) in
-    record { keyed = ap result_ok is.keyed; starts = is.boots_is }
+    record { keyed = ap result_ok is.keyed; none = is.none }
 
 -- ---- what reading the files of the drill gave
 

@@ -1,5 +1,6 @@
 -- The table that a session leaves in which nothing fails, by the areas that it saved.
-use Rattle.std.proofs.Common.{◌≡◌, ℕ, suc, ◌≤◌, true, List, [], ◌∷◌, length, Option, Some, None, is_some, Ok, refl, sym, ap, subst, ◌∙◌, arith}
+use Rattle.std.proofs.Common.{◌≡◌, ℕ, suc, ◌≤◌, Bool, true, false, List, [], ◌∷◌, length, Option, Some, None, is_some, Ok, refl, sym, ap, subst, ◌∙◌, arith, if◌then◌else◌}
+use Rattle.std.proofs.lemmas.Bool.{false≢true}
 use Rattle.std.specs.List.{AllByRecursion}
 use Rattle.std.specs.Option.{option_and_then, option_or, unwrap_or}
 use Rattle.std.specs.Prelude.{slice_get}
@@ -12,16 +13,18 @@ use Rattle.bb_flash.specs.Device.{Device}
 use Rattle.bb_flash.specs.Image.{Image}
 use Rattle.bb_plan.specs.Plan.{SessionPlan, first_area}
 use Rattle.bb_plan.specs.declared.plan.Work.{Work}
-use Rattle.bb_plan.specs.declared.plan.Work.TheVariants.{Act, Boot, Good, Show, Write}
+use Rattle.bb_session.proofs.Acted.{by_work, session_after}
 use Rattle.bb_session.proofs.Faulting.{copies_are}
-use Rattle.bb_session.specs.Booting.{SaveAnswer}
+use Rattle.bb_session.specs.Acting.{kept_before, needs_table}
 use Rattle.bb_session.specs.Exactly.{PassAlike, last_area, last_area_of, saves_made}
 use Rattle.bb_session.specs.Looking.{first_found, passed_in}
-use Rattle.bb_session.specs.Session.{LoadAnswer, answers_after}
-use Rattle.bb_session.specs.Work.{IsWorkOf}
+use Rattle.bb_session.specs.Session.{LoadAnswer, answers_after, loaded_area}
+use Rattle.bb_session.specs.Work.{IsWork}
+use Rattle.bb_shell.specs.Rounds.{RoundAnswer}
+use Rattle.bb_shell.specs.Stages.{saves_of}
 use Rattle.bb_state.specs.Keyed.{Keyed}
 use Rattle.bb_state.specs.Kinds.{laid_form, laid_kinds}
-use Rattle.bb_drill_sessions.specs.Rules.{made_by, sound_answers}
+use Rattle.bb_drill_sessions.specs.Rules.{made_by}
 
 -- ---- copies that pass alike
 
@@ -51,41 +54,43 @@ found_after keyed page (Some area) x z some alike =
 
 -- ---- the area that was saved last
 
--- work that saves has copies
-pub has_copies : (work : Work) (plan : SessionPlan) (from to : Device) (load : LoadAnswer) (saves answers : List SaveAnswer)
-    (found : Option (List ℕ)) → IsWorkOf work plan from to load saves → is_some (last_area work plan found answers) ≡ true →
-    1 ≤ plan.keyed.layout.copies
-has_copies Show plan from to load saves answers found done some = absurd cc
-has_copies (Write area) plan from to load saves answers found done some = let many = done.many in omega (arith, many)
-has_copies (Act actions) plan from to load saves answers found done some = let many = done.many in omega (arith, many)
-has_copies (Good targets) plan from to load saves answers found done some = let many = done.many in omega (arith, many)
-has_copies (Boot targets cause plans) plan from to load saves answers found done some = let many = done.many in omega (arith, many)
+-- work that loads or saves one has copies
+pub has_copies : (plan : SessionPlan) (from to : Device) (load : LoadAnswer) (answers others : List RoundAnswer) (found : Option (List ℕ)) →
+    IsWork plan from to load answers → is_some (last_area plan found others) ≡ true → 1 ≤ plan.keyed.layout.copies
+has_copies plan from to load answers others found work some =
+    by_work plan from to load answers work
+    (λ needs done. let many = done.many in omega (arith, many))
+    (λ shows done.
+    absurd
+    (false≢true
+    (sym (ap (λ (w : Work). is_some (last_area (record { keyed = plan.keyed; work = w }) found others)) shows) ∙ some)))
 
--- the table that was loaded last is the defaults where no copy passed
-last_either : (areas : List (List ℕ)) (first : List ℕ) →
-    unwrap_or (last_area_of None areas) first ≡ unwrap_or (last_area_of (Some first) areas) first
-last_either [] first = refl
-last_either (area ∷ areas) first = refl
+-- what was loaded is the defaults where no copy passed
+last_either : (needs : Bool) (areas : List (List ℕ)) (first : List ℕ) →
+    unwrap_or (last_area_of (if needs then None else None) areas) first
+    ≡ unwrap_or (last_area_of (if needs then Some first else None) areas) first
+last_either true [] first = refl
+last_either true (area ∷ areas) first = refl
+last_either false areas first = refl
 
-abbrev PlanOf : Keyed → Work → SessionPlan
-PlanOf keyed work = record { keyed = keyed; work = work }
+abbrev LastOf : SessionPlan → Option (List ℕ) → Option (List ℕ)
+LastOf plan found = last_area plan found (answers_after plan (Ok found))
 
-abbrev LastOf : Keyed → Work → Option (List ℕ) → Option (List ℕ)
-LastOf keyed work found =
-    last_area work (PlanOf keyed work) found (answers_after work (PlanOf keyed work) (Ok found))
+-- and the same is saved then
+same_saves : (plan : SessionPlan) (answers : List RoundAnswer) →
+    saves_made plan None answers ≡ saves_made plan (Some (first_area plan.keyed.layout)) answers
+same_saves plan answers =
+    ap (saves_of (kept_before plan.work (loaded_area plan.keyed.layout None)))
+    (session_after plan None answers ∙ sym (session_after plan (Some (first_area plan.keyed.layout)) answers))
 
--- the areas that are saved where no copy passed
-abbrev SavedOf : Keyed → Work → List (List ℕ)
-SavedOf keyed work = saves_made work (PlanOf keyed work) None (answers_after work (PlanOf keyed work) (Ok None))
-
-none_loaded : (keyed : Keyed) (work : Work) →
-    unwrap_or (LastOf keyed work None) (first_area keyed.layout)
-    ≡ unwrap_or (LastOf keyed work (Some (first_area keyed.layout))) (first_area keyed.layout)
-none_loaded keyed Show = refl
-none_loaded keyed (Write area) = last_either (SavedOf keyed (Write area)) (first_area keyed.layout)
-none_loaded keyed (Act actions) = last_either (SavedOf keyed (Act actions)) (first_area keyed.layout)
-none_loaded keyed (Good targets) = last_either (SavedOf keyed (Good targets)) (first_area keyed.layout)
-none_loaded keyed (Boot targets cause plans) = last_either (SavedOf keyed (Boot targets cause plans)) (first_area keyed.layout)
+none_loaded : (plan : SessionPlan) →
+    unwrap_or (LastOf plan None) (first_area plan.keyed.layout)
+    ≡ unwrap_or (LastOf plan (Some (first_area plan.keyed.layout))) (first_area plan.keyed.layout)
+none_loaded plan =
+    let first = first_area plan.keyed.layout in
+    let answers = answers_after plan (Ok None) in
+    last_either (needs_table plan.work) (saves_made plan None answers) first
+    ∙ ap (λ areas. unwrap_or (last_area_of (if needs_table plan.work then Some first else None) areas) first) (same_saves plan answers)
 
 or_none : (last : Option (List ℕ)) (first : List ℕ) → unwrap_or (option_or last None) first ≡ unwrap_or last first
 or_none None first = refl
@@ -95,22 +100,19 @@ or_some : (last : Option (List ℕ)) (area first : List ℕ) → unwrap_or (opti
 or_some None area first = refl
 or_some (Some other) area first = refl
 
-made_of : (keyed : Keyed) (work : Work) (found : Option (List ℕ)) →
-    unwrap_or (option_or (LastOf keyed work found) found) (first_area keyed.layout)
-    ≡ made_by (PlanOf keyed work) (unwrap_or found (first_area keyed.layout))
-made_of keyed work None = or_none (LastOf keyed work None) (first_area keyed.layout) ∙ none_loaded keyed work
-made_of keyed work (Some area) = or_some (LastOf keyed work (Some area)) area (first_area keyed.layout)
+made_of : (plan : SessionPlan) (found : Option (List ℕ)) →
+    unwrap_or (option_or (LastOf plan found) found) (first_area plan.keyed.layout)
+    ≡ made_by plan (unwrap_or found (first_area plan.keyed.layout))
+made_of plan None = or_none (LastOf plan None) (first_area plan.keyed.layout) ∙ none_loaded plan
+made_of plan (Some area) = or_some (LastOf plan (Some area)) area (first_area plan.keyed.layout)
 
 -- the table that a load gives after the session is what the session makes of the one before
 pub table_after : (plan : SessionPlan) (page : ℕ) (x z : Image) →
-    (is_some (last_area plan.work plan (first_found (passed_in plan.keyed page x)) (sound_answers plan (first_found (passed_in plan.keyed page x)))) ≡ true
-    → 1 ≤ plan.keyed.layout.copies) →
-    PassAlike plan.keyed page
-    (last_area plan.work plan (first_found (passed_in plan.keyed page x)) (sound_answers plan (first_found (passed_in plan.keyed page x)))) x z →
+    (is_some (LastOf plan (first_found (passed_in plan.keyed page x))) ≡ true → 1 ≤ plan.keyed.layout.copies) →
+    PassAlike plan.keyed page (LastOf plan (first_found (passed_in plan.keyed page x))) x z →
     unwrap_or (first_found (passed_in plan.keyed page z)) (first_area plan.keyed.layout)
     ≡ made_by plan (unwrap_or (first_found (passed_in plan.keyed page x)) (first_area plan.keyed.layout))
 table_after plan page x z some alike =
     let found = first_found (passed_in plan.keyed page x) in
-    ap (λ o. unwrap_or o (first_area plan.keyed.layout))
-    (found_after plan.keyed page (last_area plan.work plan found (sound_answers plan found)) x z some alike)
-    ∙ made_of plan.keyed plan.work found
+    ap (λ o. unwrap_or o (first_area plan.keyed.layout)) (found_after plan.keyed page (LastOf plan found) x z some alike)
+    ∙ made_of plan found

@@ -13,76 +13,58 @@ use Rattle.bb_flash.specs.declared.geometry.Geometry.{Geometry}
 use Rattle.bb_flash.specs.declared.plan.Plan.{Plan as StartPlan}
 use Rattle.bb_plan.specs.Plan.{EarlyEnd, SessionPlan, first_area}
 use Rattle.bb_plan.specs.Refusal.{status_of}
-use Rattle.bb_plan.specs.declared.plan.Work.{Work}
-use Rattle.bb_plan.specs.declared.plan.Work.TheVariants.{Act, Boot, Good, Show, Write}
 use Rattle.bb_plan.specs.declared.refusal.Refusal.{Refusal}
 use Rattle.bb_plan.specs.declared.refusal.Refusal.TheVariants as refusals
 use Rattle.bb_plan.specs.declared.status.Status.{Status}
 use Rattle.bb_plan.specs.declared.status.Status.TheVariants as statuses
 use Rattle.bb_session.proofs.Barred.{HasNoFault, fault_device, is_device_fault}
-use Rattle.bb_session.proofs.Erases.{plan_makes}
-use Rattle.bb_session.proofs.Exact.{plan_done}
+use Rattle.bb_session.proofs.Exact.{plan_done, plan_makes}
+use Rattle.bb_session.proofs.Sounded.{work_same}
 use Rattle.bb_session.proofs.Unrefused.{unrefused, work_gives}
-use Rattle.bb_session.specs.Booting.{SaveAnswer, start_of}
+use Rattle.bb_session.specs.Acting.{kept_before, taken_by}
+use Rattle.bb_session.specs.Booting.{start_of}
 use Rattle.bb_session.specs.Exactly.{CopyWrite, EachContent, EachTold, LeavesRegions, PassAlike, erases_in, last_area, last_area_of, loaded_region, saved_region, saves_made, sum_of_writes, worked_region, writes_of_load, writes_of_saves, writes_of_work}
 use Rattle.bb_session.specs.Looking.{first_found, passed_in}
-use Rattle.bb_session.specs.Session.{LoadAnswer, Session, ended_status, work_session}
+use Rattle.bb_session.specs.Session.{LoadAnswer, Session, answers_after, ended_status, loaded_area, work_session}
 use Rattle.bb_session.specs.Work.{Gives, IsWork, IsWorkedOut}
 use Rattle.bb_session.specs.declared.report.Report.{Report}
+use Rattle.bb_shell.specs.Rounds.{RoundAnswer}
+use Rattle.bb_shell.specs.Stages.{saves_of}
 use Rattle.bb_state.specs.Keyed.{Keyed}
 use Rattle.bb_state.specs.Kinds.{laid_form, laid_kinds}
 use Rattle.bb_drill_sessions.specs.Ends.{end_given, end_of_status, status_given}
 use Rattle.bb_drill_sessions.specs.Plans.{drill_plan}
-use Rattle.bb_drill_sessions.specs.Rules.{made_by, session_rules, sound_answers, table_first, table_found, table_made}
-use Rattle.bb_drill_sessions.specs.Undisturbed.{IsFollowedSound, MakesStart, device_at, saves_at, session_runs, start_at}
-use Rattle.bb_drill_sessions.proofs.Boots.{session_same}
+use Rattle.bb_drill_sessions.specs.Rules.{made_by, session_rules, table_first, table_found, table_made}
+use Rattle.bb_drill_sessions.specs.Undisturbed.{IsFollowedSound, MakesStart, answers_at, device_at, session_runs, start_at}
 use Rattle.bb_drill_sessions.proofs.Plans.{on_board}
-use Rattle.bb_drill_sessions.proofs.Starting.{AddsStart, work_start}
+use Rattle.bb_drill_sessions.proofs.Starting.{AddsOne, work_start}
 use Rattle.bb_drill_sessions.proofs.Tabled.{has_copies, table_after}
 
 -- ---- where nothing fails: what is left hangs on the saves that are made
 
-module _ (plan : SessionPlan) (found : Option (List ℕ)) (one two : List SaveAnswer) where
-  abbrev AreSame : Work → Type 0
-  AreSame work = saves_made work plan found one ≡ saves_made work plan found two
+module _ (plan : SessionPlan) (found : Option (List ℕ)) (one two : List RoundAnswer)
+    (same : work_session plan (Ok found) one ≡ work_session plan (Ok found) two) where
+  abbrev Taken : Option (List ℕ)
+  Taken = taken_by plan.work found
 
-  saves_same : (work : Work) → work_session plan (Ok found) one ≡ work_session plan (Ok found) two → AreSame work
-  saves_same Show same = refl
-  saves_same (Write area) same = refl
-  saves_same (Act actions) same = refl
-  saves_same (Good targets) same = refl
-  saves_same (Boot targets cause plans) same = ap (λ (s : Session). s.saves) same
+  saves_same : saves_made plan found one ≡ saves_made plan found two
+  saves_same = ap (λ (s : Session). saves_of (kept_before plan.work (loaded_area plan.keyed.layout found)) s.rounds) same
 
-  abbrev Region : BucketKind → Image → List (List ℕ) → Image
-  Region kind region saved = saved_region (laid_form plan.keyed) kind saved (loaded_region (laid_form plan.keyed) kind found region)
-
-  region_same : (work : Work) → AreSame work → (kind : BucketKind) (region : Image) →
-      worked_region work plan found one kind region ≡ worked_region work plan found two kind region
-  region_same Show same kind region = refl
-  region_same (Write area) same kind region = ap (Region kind region) same
-  region_same (Act actions) same kind region = ap (Region kind region) same
-  region_same (Good targets) same kind region = ap (Region kind region) same
-  region_same (Boot targets cause plans) same kind region = ap (Region kind region) same
+  region_same : (kind : BucketKind) (region : Image) → worked_region plan found one kind region ≡ worked_region plan found two kind region
+  region_same kind region =
+      ap (λ saved. saved_region (laid_form plan.keyed) kind saved (loaded_region (laid_form plan.keyed) kind Taken region)) saves_same
 
   abbrev Writes : List (List ℕ) → BucketKind → Image → List CopyWrite
   Writes saved kind region =
-      writes_of_load (laid_form plan.keyed) kind found region
-      ++ writes_of_saves (laid_form plan.keyed) kind saved (loaded_region (laid_form plan.keyed) kind found region)
+      writes_of_load (laid_form plan.keyed) kind Taken region
+      ++ writes_of_saves (laid_form plan.keyed) kind saved (loaded_region (laid_form plan.keyed) kind Taken region)
 
-  writes_same : (work : Work) → AreSame work → (sum : (BucketKind → Image → List CopyWrite) → ℕ) →
-      sum (writes_of_work work plan found one) ≡ sum (writes_of_work work plan found two)
-  writes_same Show same sum = refl
-  writes_same (Write area) same sum = ap (λ saved. sum (Writes saved)) same
-  writes_same (Act actions) same sum = ap (λ saved. sum (Writes saved)) same
-  writes_same (Good targets) same sum = ap (λ saved. sum (Writes saved)) same
-  writes_same (Boot targets cause plans) same sum = ap (λ saved. sum (Writes saved)) same
+  writes_same : (sum : (BucketKind → Image → List CopyWrite) → ℕ) →
+      sum (writes_of_work plan found one) ≡ sum (writes_of_work plan found two)
+  writes_same sum = ap (λ saved. sum (Writes saved)) saves_same
 
-  last_same : (work : Work) → AreSame work → last_area work plan found one ≡ last_area work plan found two
-  last_same Show same = refl
-  last_same (Write area) same = ap (last_area_of found) same
-  last_same (Act actions) same = ap (last_area_of found) same
-  last_same (Good targets) same = ap (last_area_of found) same
-  last_same (Boot targets cause plans) same = ap (last_area_of found) same
+  last_same : last_area plan found one ≡ last_area plan found two
+  last_same = ap (last_area_of Taken) saves_same
 
 -- ---- a plan that was followed
 
@@ -102,13 +84,13 @@ each_told plan P x y h = λ first e last f.
     subst (λ (t : Told). P (first_found (passed_in plan.keyed board_geometry.page t.image)) t last) (same_Some (told_at x) first e)
     (subst (λ (t : Told). P (first_found (passed_in plan.keyed board_geometry.page x.image)) (told_at x) t) (same_Some (told_at y) last f) h)
 
-makes_start : (start : Option StartPlan) (before after : Memory) → AddsStart start (device_of before) (device_of after) →
+makes_start : (start : Option StartPlan) (before after : Memory) → AddsOne start (device_of before) (device_of after) →
     MakesStart start (board_state_of before) (board_state_of after)
 makes_start None before after adds = same_Some after.told.starts before.told.starts adds
 makes_start (Some plan) before after adds = adds.added before.told refl after.told refl
 
 module _ (plan : SessionPlan) (before after : Memory) (geometry : before.geometry ≡ board_geometry) (found : Option (List ℕ))
-    (saves : List SaveAnswer) (work : IsWork plan (device_of before) (device_of after) (Ok found) saves)
+    (answers : List RoundAnswer) (work : IsWork plan (device_of before) (device_of after) (Ok found) answers)
     (calm : NothingFailed before after) where
   abbrev X : Image
   X = before.told.image
@@ -122,72 +104,72 @@ module _ (plan : SessionPlan) (before after : Memory) (geometry : before.geometr
   abbrev Held : Option (List ℕ)
   Held = FoundAt board_geometry.page
 
+  -- what is answered where nothing fails
+  abbrev Sound : List RoundAnswer
+  Sound = answers_after plan (Ok Held)
+
   page : before.geometry.page ≡ board_geometry.page
   page = ap (λ (g : Geometry). g.page) geometry
 
   held_is : found ≡ Held
-  held_is = work_gives plan.work plan (device_of before) (device_of after) found saves work X refl ∙ ap FoundAt page
+  held_is = work_gives plan (device_of before) (device_of after) found answers work X refl ∙ ap FoundAt page
 
-  whole : HasNoFault (work_session plan (Ok found) saves)
-  whole = unrefused plan (device_of before) (device_of after) (Ok found) saves work calm.calls (work_session plan (Ok found) saves).refusal refl
+  whole : HasNoFault (work_session plan (Ok found) answers)
+  whole = unrefused plan (device_of before) (device_of after) (Ok found) answers work calm.calls
 
-  sound : work_session plan (Ok Held) saves ≡ work_session plan (Ok Held) (sound_answers plan Held)
-  sound =
-      subst (λ f. work_session plan (Ok f) saves ≡ work_session plan (Ok f) (sound_answers plan f)) held_is
-      (session_same plan (device_of before) (device_of after) found saves work whole calm.starts)
+  same : work_session plan (Ok Held) answers ≡ work_session plan (Ok Held) Sound
+  same =
+      subst (λ f. work_session plan (Ok f) answers ≡ work_session plan (Ok f) (answers_after plan (Ok f))) held_is
+      (work_same plan (device_of before) (device_of after) found answers work whole (inr calm.starts))
 
-  same : saves_made plan.work plan Held saves ≡ saves_made plan.work plan Held (sound_answers plan Held)
-  same = saves_same plan Held saves (sound_answers plan Held) plan.work sound
-
-  left : LeavesRegions (laid_kinds plan.keyed.layout) board_geometry.page (worked_region plan.work plan Held saves) X Y
+  left : LeavesRegions (laid_kinds plan.keyed.layout) board_geometry.page (worked_region plan Held answers) X Y
   left =
-      subst (λ p. LeavesRegions (laid_kinds plan.keyed.layout) p (worked_region plan.work plan (FoundAt p) saves) X Y) page
-      (plan_done plan (device_of before) (device_of after) (Ok found) saves work calm.calls X Y refl refl).left
+      subst (λ p. LeavesRegions (laid_kinds plan.keyed.layout) p (worked_region plan (FoundAt p) answers) X Y) page
+      (plan_done plan (device_of before) (device_of after) (Ok found) answers work calm.calls X Y refl refl).left
 
-  left_sound : LeavesRegions (laid_kinds plan.keyed.layout) board_geometry.page (worked_region plan.work plan Held (sound_answers plan Held)) X Y
-  left_sound = λ copy kind there.
-      left copy kind there ∙ region_same plan Held saves (sound_answers plan Held) plan.work same kind _
+  left_sound : LeavesRegions (laid_kinds plan.keyed.layout) board_geometry.page (worked_region plan Held Sound) X Y
+  left_sound = λ copy kind there. left copy kind there ∙ region_same plan Held answers Sound same kind _
 
-  alike : PassAlike plan.keyed board_geometry.page (last_area plan.work plan Held (sound_answers plan Held)) X Y
+  alike : PassAlike plan.keyed board_geometry.page (last_area plan Held Sound) X Y
   alike =
-      subst (λ o. PassAlike plan.keyed board_geometry.page o X Y) (last_same plan Held saves (sound_answers plan Held) plan.work same)
-      (subst (λ p. PassAlike plan.keyed p (last_area plan.work plan (FoundAt p) saves) X Y) page
-      (plan_done plan (device_of before) (device_of after) (Ok found) saves work calm.calls X Y refl refl).alike)
+      subst (λ o. PassAlike plan.keyed board_geometry.page o X Y) (last_same plan Held answers Sound same)
+      (subst (λ p. PassAlike plan.keyed p (last_area plan (FoundAt p) answers) X Y) page
+      (plan_done plan (device_of before) (device_of after) (Ok found) answers work calm.calls X Y refl refl).alike)
 
   erased : (block n : ℕ) → slice_get before.told.erases block ≡ Some n →
       slice_get after.told.erases block
       ≡ Some (n + sum_of_writes (erases_in (laid_form plan.keyed) board_geometry block)
-      (writes_of_work plan.work plan Held (sound_answers plan Held)) (laid_kinds plan.keyed.layout) board_geometry.page X)
+      (writes_of_work plan Held Sound) (laid_kinds plan.keyed.layout) board_geometry.page X)
   erased = λ block n there.
       subst
       (λ (g : Geometry). slice_get after.told.erases block
       ≡ Some (n + sum_of_writes (erases_in (laid_form plan.keyed) g block)
-      (writes_of_work plan.work plan (FoundAt g.page) saves) (laid_kinds plan.keyed.layout) g.page X)) geometry
-      ((plan_makes plan (device_of before) (device_of after) (Ok found) saves work calm.calls before.told after.told refl refl).erased block n there)
+      (writes_of_work plan (FoundAt g.page) answers) (laid_kinds plan.keyed.layout) g.page X)) geometry
+      ((plan_makes plan (device_of before) (device_of after) (Ok found) answers work calm.calls before.told after.told refl refl).erased block n there)
       ∙ ap (λ k. Some (n + k))
-      (writes_same plan Held saves (sound_answers plan Held) plan.work same
+      (writes_same plan Held answers Sound same
       (λ writes. sum_of_writes (erases_in (laid_form plan.keyed) board_geometry block) writes (laid_kinds plan.keyed.layout) board_geometry.page X))
 
   start : MakesStart (start_at (Ok plan) (board_state_of before)) (board_state_of before) (board_state_of after)
   start =
       makes_start (start_at (Ok plan) (board_state_of before)) before after
-      (subst (λ (s : Session). AddsStart (start_of plan.work s.rounds) (device_of before) (device_of after))
-      (ap (λ f. work_session plan (Ok f) saves) held_is ∙ sound)
-      (work_start plan.work plan (device_of before) (device_of after) (Ok found) saves refl work))
+      (subst (λ (s : Session). AddsOne (start_of plan.work s.rounds) (device_of before) (device_of after))
+      (ap (λ f. work_session plan (Ok f) answers) held_is ∙ same)
+      (work_start plan (device_of before) (device_of after) (Ok found) answers work))
 
   pub followed_sound : IsFollowedSound (Ok plan) (board_state_of before) (board_state_of after)
   followed_sound = record {
     written =
         each_content plan
         (λ f x y. LeavesRegions (laid_kinds plan.keyed.layout) board_geometry.page
-        (worked_region plan.work plan f (saves_at (Ok plan) (board_state_of before))) x y)
+        (worked_region plan f (answers_at (Ok plan) (board_state_of before))) x y)
         (board_state_of before) (board_state_of after) left_sound;
     erased =
         each_told plan
         (λ f first last. (block n : ℕ) → slice_get first.erases block ≡ Some n →
         slice_get last.erases block
         ≡ Some (n + sum_of_writes (erases_in (laid_form plan.keyed) board_geometry block)
-        (writes_of_work plan.work plan f (saves_at (Ok plan) (board_state_of before))) (laid_kinds plan.keyed.layout) board_geometry.page first.image))
+        (writes_of_work plan f (answers_at (Ok plan) (board_state_of before))) (laid_kinds plan.keyed.layout) board_geometry.page first.image))
         (board_state_of before) (board_state_of after) erased;
     started = start;
   }
@@ -196,7 +178,7 @@ module _ (plan : SessionPlan) (before after : Memory) (geometry : before.geometr
       ≡ made_by plan (unwrap_or Held (first_area plan.keyed.layout))
   table_is =
       table_after plan board_geometry.page X Y
-      (has_copies plan.work plan (device_of before) (device_of after) (Ok found) saves (sound_answers plan Held) Held work) alike
+      (has_copies plan (device_of before) (device_of after) (Ok found) answers Sound Held work) alike
 
 -- ---- the session of a command
 
@@ -205,17 +187,17 @@ TableIs keyed plan x y =
     unwrap_or (table_found keyed y) (table_first keyed) ≡ table_made plan (unwrap_or (table_found keyed x) (table_first keyed))
 
 whole_session : (command : DrillCommand) (plan : SessionPlan) → drill_plan command ≡ Ok plan → (before after : Memory) →
-    before.geometry ≡ board_geometry → (found : Option (List ℕ)) (saves : List SaveAnswer) →
-    IsWork plan (device_of before) (device_of after) (Ok found) saves → NothingFailed before after →
+    before.geometry ≡ board_geometry → (found : Option (List ℕ)) (answers : List RoundAnswer) →
+    IsWork plan (device_of before) (device_of after) (Ok found) answers → NothingFailed before after →
     IsWholeSession session_rules session_runs command (board_state_of before) (board_state_of after)
-whole_session command plan is before after geometry found saves work calm = record {
+whole_session command plan is before after geometry found answers work calm = record {
   ran =
       subst (λ (p : Result SessionPlan EarlyEnd). IsFollowedSound p (board_state_of before) (board_state_of after)) (sym is)
-      (followed_sound plan before after geometry found saves work calm);
+      (followed_sound plan before after geometry found answers work calm);
   table =
       subst (λ (k : Option Keyed). TableIs k (drill_plan command) before.told.image after.told.image) (sym (on_board command plan is).keyed)
       (subst (λ (p : Result SessionPlan EarlyEnd). TableIs (Some plan.keyed) p before.told.image after.told.image) (sym is)
-      (table_is plan before after geometry found saves work calm));
+      (table_is plan before after geometry found answers work calm));
 }
 
 ends_sound : (command : DrillCommand) (x y : BoardState) (status : Status) → is_device_fault status ≡ false →
@@ -243,19 +225,19 @@ given_status session (Ok report) gives = ap (λ r. option_map_or status_of r sta
 given_status session (Err refusal) gives = ap (λ r. option_map_or status_of r statuses.Done) gives.1
 
 done_sound : (command : DrillCommand) (plan : SessionPlan) → drill_plan command ≡ Ok plan → (before after : Memory) →
-    before.geometry ≡ board_geometry → (load : LoadAnswer) (saves : List SaveAnswer) →
-    IsWork plan (device_of before) (device_of after) load saves → NothingFailed before after → (given : Result Report Refusal) →
-    Gives (work_session plan load saves) given →
+    before.geometry ≡ board_geometry → (load : LoadAnswer) (answers : List RoundAnswer) →
+    IsWork plan (device_of before) (device_of after) load answers → NothingFailed before after → (given : Result Report Refusal) →
+    Gives (work_session plan load answers) given →
     EndsSound session_rules session_runs command (board_state_of before) (board_state_of after) (end_given given)
-done_sound command plan is before after geometry (Err fault) saves work calm given gives =
-    let whole = unrefused plan (device_of before) (device_of after) (Err fault) saves work calm.calls (work_session plan (Err fault) saves).refusal refl in
+done_sound command plan is before after geometry (Err fault) answers work calm given gives =
+    let whole = unrefused plan (device_of before) (device_of after) (Err fault) answers work calm.calls in
     absurd (let h : true ≡ false = sym (fault_device fault) ∙ whole in cc)
-done_sound command plan is before after geometry (Ok found) saves work calm given gives =
-    let none = unrefused plan (device_of before) (device_of after) (Ok found) saves work calm.calls (work_session plan (Ok found) saves).refusal refl in
+done_sound command plan is before after geometry (Ok found) answers work calm given gives =
+    let none = unrefused plan (device_of before) (device_of after) (Ok found) answers work calm.calls in
     subst (λ (s : Status). EndsSound session_rules session_runs command (board_state_of before) (board_state_of after) (end_of_status s))
-    (given_status (work_session plan (Ok found) saves) given gives)
-    (ends_sound command (board_state_of before) (board_state_of after) (ended_status (work_session plan (Ok found) saves)) none
-    (whole_session command plan is before after geometry found saves work calm))
+    (given_status (work_session plan (Ok found) answers) given gives)
+    (ends_sound command (board_state_of before) (board_state_of after) (ended_status (work_session plan (Ok found) answers)) none
+    (whole_session command plan is before after geometry found answers work calm))
 
 -- where memory was refused nothing is said
 short_sound : (command : DrillCommand) (x y : BoardState) (given : Result Report Refusal) → given ≡ Err refusals.NoMemory →
@@ -268,7 +250,7 @@ pub sound_of : (command : DrillCommand) (plan : SessionPlan) → drill_plan comm
     IsWorkedOut plan.keyed plan.work (device_of before) (device_of after) given → NothingFailed before after →
     EndsSound session_rules session_runs command (board_state_of before) (board_state_of after) (end_given given)
 sound_of command plan is before after geometry given (inl done) calm =
-    done_sound command plan is before after geometry done.load done.saves done.work calm given done.gives
+    done_sound command plan is before after geometry done.load done.answers done.work calm given done.gives
 sound_of command plan is before after geometry given (inr (inl text)) calm =
     short_sound command (board_state_of before) (board_state_of after) given text.is
 sound_of command plan is before after geometry given (inr (inr memory)) calm =

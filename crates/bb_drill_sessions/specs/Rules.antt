@@ -4,7 +4,6 @@ use Rattle.bb_drill.specs.Board.{board_geometry}
 use Rattle.bb_drill.specs.Tables.{TableRules}
 use Rattle.bb_flash.specs.Image.{Image}
 use Rattle.bb_plan.specs.Plan.{EarlyEnd, SessionPlan, first_area}
-use Rattle.bb_session.specs.Booting.{SaveAnswer}
 use Rattle.bb_session.specs.Exactly.{last_area}
 use Rattle.bb_session.specs.Looking.{first_found, passed_in}
 use Rattle.bb_session.specs.Session.{answers_after}
@@ -25,15 +24,10 @@ table_first (Some keyed) = first_area keyed.layout
 
 -- ---- over a plan
 
--- what its saves are answered where nothing fails, and its starts, after a load of this table, if
--- a copy passed
-abbrev pub sound_answers : SessionPlan → Option (List ℕ) → List SaveAnswer
-sound_answers plan found = answers_after plan.work plan (Ok found)
-
--- the table that it then saves last, or the one that it loaded
+-- the table that it saves last after a load of this one, where nothing fails, or this one
 abbrev pub made_by : SessionPlan → List ℕ → List ℕ
 made_by plan table =
-    unwrap_or (last_area plan.work plan (Some table) (sound_answers plan (Some table))) table
+    unwrap_or (last_area plan (Some table) (answers_after plan (Ok (Some table)))) table
 
 abbrev pub table_made : Result SessionPlan EarlyEnd → List ℕ → List ℕ
 table_made (Ok plan) table = made_by plan table

@@ -7,9 +7,10 @@ use Rattle.bb_drill.specs.declared.command.DrillCommand.{DrillCommand}
 use Rattle.bb_flash.specs.Device.{Device}
 use Rattle.bb_flash.specs.declared.plan.Plan.{Plan as StartPlan}
 use Rattle.bb_plan.specs.Plan.{EarlyEnd, SessionPlan}
-use Rattle.bb_session.specs.Booting.{SaveAnswer, start_of}
+use Rattle.bb_session.specs.Booting.{start_of}
 use Rattle.bb_session.specs.Exactly.{ErasesExactly, LeavesExactly}
-use Rattle.bb_session.specs.Session.{load_for, saves_for, work_session}
+use Rattle.bb_session.specs.Session.{answers_for, load_for, work_session}
+use Rattle.bb_shell.specs.Rounds.{RoundAnswer}
 use Rattle.bb_drill_sessions.specs.Plans.{drill_plan}
 
 -- a board of the drill as a device on which nothing failed
@@ -28,16 +29,16 @@ device_at state = record {
   start_faults = 0;
 }
 
--- what the saves and starts of a plan are answered there
-abbrev pub saves_at : Result SessionPlan EarlyEnd → BoardState → List SaveAnswer
-saves_at plan state = saves_for plan (load_for plan board_geometry state.image)
+-- what the rounds of a plan are answered there
+abbrev pub answers_at : Result SessionPlan EarlyEnd → BoardState → List RoundAnswer
+answers_at plan state = answers_for plan (load_for plan board_geometry state.image)
 
 -- the start that it makes there, if it makes one
 abbrev pub start_at : Result SessionPlan EarlyEnd → BoardState → Option StartPlan
 start_at (Err end) state = None
 start_at (Ok plan) state =
     let load = load_for (Ok plan) board_geometry state.image in
-    start_of plan.work (work_session plan load (saves_at (Ok plan) state)).rounds
+    start_of plan.work (work_session plan load (answers_at (Ok plan) state)).rounds
 
 -- a board has made this start more, with what it then held
 abbrev pub MakesStart : Option StartPlan → BoardState → BoardState → Type 0
@@ -49,9 +50,9 @@ MakesStart (Some plan) before after =
 pub record IsFollowedSound
     (plan : Result SessionPlan EarlyEnd) (before after : BoardState) : Type 0 where
   -- each copy holds, to the byte, what the load and the saves make of it
-  pub written : LeavesExactly plan (saves_at plan before) (device_at before) (device_at after)
+  pub written : LeavesExactly plan (answers_at plan before) (device_at before) (device_at after)
   -- each block is erased as often as these writes erase it
-  pub erased : ErasesExactly plan (saves_at plan before) (device_at before) (device_at after)
+  pub erased : ErasesExactly plan (answers_at plan before) (device_at before) (device_at after)
   -- a system is started exactly where the last round of a boot starts one
   pub started : MakesStart (start_at plan before) before after
 

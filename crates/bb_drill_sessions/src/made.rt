@@ -2,13 +2,13 @@ ghost use Rattle.std.specs.Prelude.{◌≡◌, IfOk, OnOk, length};
 ghost use Rattle.bb_chooser.specs.Counting.{mark_good_of};
 ghost use Rattle.bb_drill_sessions.specs.Plans.{board_keyed, drill_plan};
 ghost use Rattle.bb_drill_sessions.specs.Rules.{made_by, table_first, table_made};
-ghost use Rattle.bb_actions.specs.Actions.{after, after_all};
 ghost use Rattle.bb_layout.specs.Defaults.{defaults_of};
 ghost use Rattle.bb_plan.specs.Plan.{IsServed, keyed_as, plan_as};
 ghost use Rattle.bb_plan.specs.declared.plan.Work.TheVariants as works;
 ghost use Rattle.bb_state.specs.Keyed.{Keyed};
 
 use crate::plan::plan_of;
+use bb_actions::put_values;
 use bb_base::{Bytes, NoMemory};
 use bb_chooser::{Cause, Chooser};
 use bb_drill::DrillCommand;
@@ -17,7 +17,6 @@ use bb_layout::Layout;
 use bb_plan::{PlannedWork, Work};
 use bb_state::set_value;
 use bb_vars::Table;
-use bb_words::{Action, ActionList};
 use std::alloc::Global;
 
 /// The table where no copy passes.
@@ -69,34 +68,11 @@ fn follow(plan: &PlannedWork, table: &mut Table) -> Result<(), NoMemory>
     match &plan.work {
         Work::Show => {}
         Work::Write(_) => return Err(NoMemory),
-        Work::Act(actions) => make_sets(&plan.keyed.layout, table, actions),
+        Work::Act(actions) => put_values(table, actions),
         Work::Good(chooser) => mark(chooser, table),
         Work::Boot(chooser, cause, plans) => spend(chooser, *cause, plans, table)?,
     }
     Ok(())
-}
-
-// Makes all sets in their order.
-fn make_sets(layout: &Layout, table: &mut Table, actions: &ActionList)
-    requires { length table.old ≡ layout.now.area_len }
-    ensures { table.new ≡ after_all layout.now.vars table.old actions.now }
-{
-    for place in 0..actions.len() {
-        let Some(action) = actions.get(place) else {
-            unreachable!()
-        };
-        make_set(layout, table, action);
-    }
-}
-
-fn make_set(layout: &Layout, table: &mut Table, action: &Action)
-    requires { length table.old ≡ layout.now.area_len }
-    ensures table { table.new ≡ after layout.now.vars table.old action.now }
-    ensures sized { length table.new ≡ length table.old }
-{
-    if let Action::Set { name, value } = action {
-        let _set = set_value(layout, table, name.as_str(), value.as_str().as_bytes());
-    }
 }
 
 fn mark(chooser: &Chooser, table: &mut Table)
