@@ -6,9 +6,7 @@ use Rattle.bb_tool.specs.Ran.{Ran}
 use Rattle.bb_plan.specs.declared.status.Status.TheVariants as statuses
 use Rattle.bb_tool.proofs.Endings.{at_exit, bad_words_of, beside, comes_alone, comes_planned, copy_of_fault, file_fault_of, front_of, no_memory_of, on_a_trail, read_fault_of, sink_fault_of, sink_faults_of, unasked_of, write_fault_of}
 use Rattle.bb_tool.proofs.Early.{early_memory_of, early_of, file_faults_of, early_done_of, unplanned_alone_of, unplanned_of}
-use Rattle.bb_tool.proofs.Undisturbed.{called_of, erased_of}
-use Rattle.bb_tool.proofs.Undisturbed.{alike_of, written_of}
-use Rattle.bb_tool.proofs.Undisturbed.{unread_of, write_faults_of}
+use Rattle.bb_tool.proofs.Undisturbed.{alike_of, called_of, erased_of, unread_of, write_faults_of, written_of}
 use Rattle.bb_tool.proofs.InTurn.{boots_of}
 use Rattle.bb_tool.proofs.Starting.{rounds_of, start_causes_of, start_failed_of, start_faults_of, starts_of, starts_once_of, starts_saved_of}
 use Rattle.bb_tool.proofs.Tables.{no_good_of, no_target_of}
@@ -31,21 +29,17 @@ leaves ran session files unread later = record {
   unplanned_alone = unplanned_alone_of ran session;
 }
 
-pub keeps : (ran : Ran) → IsSession ran → KeepsTheCopies ran
-keeps ran session = record {
-  exit = at_exit ran session;
-  trail = on_a_trail ran session;
-  outside = beside ran session;
-}
+pub keeps : (ran : Ran) → KeepsTheCopies ran
+keeps ran = record { exit = at_exit ran; trail = on_a_trail ran; outside = beside ran }
 
 pub undisturbed : (ran : Ran) → IsSession ran → WorksUndisturbed ran
 undisturbed ran session = record {
   undisturbed = undisturbed_of ran session;
   undisturbed_alone = undisturbed_alone_of ran session;
-  written = written_of ran session;
-  erased = erased_of ran session;
-  called = called_of ran session;
-  passes = alike_of ran session;
+  written = written_of ran;
+  erased = erased_of ran;
+  called = called_of ran;
+  passes = alike_of ran;
 }
 
 pub ends_early : (ran : Ran) → IsSession ran → KeepsFiles ran → EndsEarly ran
@@ -58,12 +52,12 @@ ends_early ran session files = record {
 
 pub starts : (ran : Ran) → IsSession ran → StartsTheBest ran
 starts ran session = record {
-  rounds = rounds_of ran session;
-  boots = boots_of ran session;
-  starts = starts_of ran session;
+  rounds = rounds_of ran;
+  boots = boots_of ran;
+  starts = starts_of ran;
   starts_once = starts_once_of ran session;
-  starts_saved = starts_saved_of ran session;
-  start_faults = start_faults_of ran session;
+  starts_saved = starts_saved_of ran;
+  start_faults = start_faults_of ran;
 }
 
 pub causes : (ran : Ran) → IsSession ran → KeepsHistory ran → KnowsItsCauses ran
@@ -79,14 +73,14 @@ causes ran session later = record {
   bad_variable = comes_planned ran session statuses.BadVariable refl (λ h. cc) (λ h. cc) (λ h. cc);
   bad_settings = comes_planned ran session statuses.BadSettings refl (λ h. cc) (λ h. cc) (λ h. cc);
   read_fault = read_fault_of ran session later.read_faults;
-  read_fault_content = unread_of ran session;
+  read_fault_content = unread_of ran;
   write_fault = write_fault_of ran session later.faults;
   write_fault_copy = copy_of_fault ran session;
-  write_fault_cause = write_faults_of ran session;
+  write_fault_cause = write_faults_of ran;
   no_good = no_good_of ran session;
   no_target = no_target_of ran session;
   start_failed = start_failed_of ran session;
-  start_failed_cause = start_causes_of ran session;
+  start_failed_cause = start_causes_of ran;
   sink_fault = sink_fault_of ran session;
   no_memory = no_memory_of ran session;
 }

@@ -1,26 +1,25 @@
 -- Sessions that end early: a file that met a fault, and refused memory.
-use Rattle.std.proofs.Common.{◌≡◌, ◌⊎◌, true, false, Option, None, Some, Result, Ok, Err, IsErr, refl, sym, ap, subst, ◌∙◌, inl, inr}
+use Rattle.std.proofs.Common.{◌≡◌, ◌⊎◌, false, Option, None, Some, Result, Ok, Err, IsErr, refl, sym, ap, subst, ◌∙◌, inl, inr}
 use Rattle.bb_flash.specs.Device.{Device}
 use Rattle.bb_tool.specs.Calls.{CountsFileFaults, IsSession, KeepsFiles, MayAnswer, geometry_of, EndsDoneAlone, LeavesUnplanned, LeavesUnplannedAlone, session_plan_for}
 use Rattle.bb_base.specs.Folder.{FileMap}
 use Rattle.bb_tool.specs.Copying.{StopsAtFileFault, StopsBetweenSaves}
 use Rattle.bb_tool.specs.Drilling.{IsDrilled}
 use Rattle.bb_tool.specs.SessionAnswer.{IsFollowed}
-use Rattle.bb_plan.specs.Plan.{EarlyEnd, SessionPlan, plan_by_words, plan_reading, Task, planned, Drilled, IsRefusedWith, Printed, Refused, names_file, plan_over_files, Drills, OnCopies, Prints}
+use Rattle.bb_plan.specs.Plan.{EarlyEnd, SessionPlan, plan_by_words, plan_reading, Task, planned, Drilled, IsRefusedWith, Printed, Refused, names_file, plan_over_files}
 use Rattle.bb_tool.specs.Ran.{Ran}
 use Rattle.bb_session.specs.Session.{Answers, Session, ended_status, session_by, work_session}
 use Rattle.bb_plan.specs.Refusal.{status_of}
-use Rattle.bb_plan.specs.Refusal.{takes_memory}
 use Rattle.bb_session.specs.Work.{SendsByMemory}
 use Rattle.bb_plan.specs.declared.refusal.Refusal.{Refusal}
-use Rattle.bb_plan.specs.declared.refusal.Refusal.TheVariants as refusals
 use Rattle.bb_tool.proofs.Endings.{no_memory_of, unasked_by, comes_always, drill_done}
+use Rattle.bb_tool.proofs.Refusals.{tells}
 use Rattle.bb_tool.proofs.Told.{told_cases}
 use Rattle.bb_plan.proofs.Readings.{EndsAtFault, one_fault}
 use Rattle.bb_plan.specs.declared.status.Status.TheVariants as statuses
 use Rattle.bb_plan.specs.declared.status.Status.{Status}
 use Rattle.bb_plan.proofs.Plans.{alone_plan, same_plan}
-use Rattle.bb_session.proofs.Barred.{HasNoFault, done_whole, is_device_fault, refused_whole}
+use Rattle.bb_session.proofs.Barred.{HasNoFault, done_whole, refused_whole}
 use Rattle.bb_session.proofs.Unrefused.{AllMade, work_made}
 
 -- ---- a file that met a fault
@@ -125,37 +124,17 @@ early_done_of ran session = λ none files ended whole.
 
 -- ---- refused memory
 
--- a refusal whose line takes memory is no fault of the device
-line_whole : (refusal : Refusal) → takes_memory refusal ≡ true → is_device_fault (status_of refusal) ≡ false
-line_whole (refusals.BadWords place) h = refl
-line_whole (refusals.BadTree e) h = refl
-line_whole (refusals.BadBlob e) h = refl
-line_whole (refusals.BadLayout e) h = refl
-line_whole (refusals.BadVariable name cause) h = refl
-line_whole (refusals.FileMissing file) h = refl
-line_whole (refusals.FileFault file) h = refl
-line_whole (refusals.FileTooLong file) h = refl
-line_whole refusals.ReadFault h = absurd cc
-line_whole (refusals.WriteFault copy) h = absurd cc
-line_whole refusals.NoTarget h = refl
-line_whole (refusals.StartFailed name) h = refl
-line_whole (refusals.BadSettings e) h = refl
-line_whole refusals.NoKey h = refl
-line_whole (refusals.BadKey e) h = refl
-line_whole (refusals.NoGood place) h = refl
-line_whole refusals.NoMemory h = refl
-
 sent_whole : (session : Session) (refusal : Option Refusal) → session.refusal ≡ refusal → SendsByMemory refusal → HasNoFault session
 sent_whole session None is sends = done_whole session is
-sent_whole session (Some refusal) is sends = refused_whole session refusal is (line_whole refusal sends)
+sent_whole session (Some refusal) is sends = refused_whole session refusal is ((tells refusal).line sends)
 
 plan_made : (plan : Result SessionPlan EarlyEnd) (from to : Device) (answers : Answers) →
     IsFollowed plan from to answers → SendsByMemory (session_by plan answers).refusal →
-    (to ≡ from) ⊎ AllMade answers.saves
+    (to ≡ from) ⊎ AllMade answers.rounds
 plan_made (Err end) from to answers done whole = inl done
 plan_made (Ok plan) from to answers done whole =
-    inr (work_made plan.work plan from to answers.load answers.saves refl done
-    (sent_whole (work_session plan answers.load answers.saves) (work_session plan answers.load answers.saves).refusal refl whole))
+    inr (work_made plan from to answers.load answers.rounds done
+    (sent_whole (work_session plan answers.load answers.rounds) (work_session plan answers.load answers.rounds).refusal refl whole))
 
 pub early_memory_of : (ran : Ran) → IsSession ran → StopsBetweenSaves ran
 early_memory_of ran s = λ e. elim ((no_memory_of ran s e).work) [

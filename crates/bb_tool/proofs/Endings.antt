@@ -33,8 +33,12 @@ use Rattle.bb_session.specs.declared.report.Report.{Report}
 use Rattle.bb_plan.specs.declared.status.Status.{Status}
 use Rattle.bb_plan.specs.declared.status.Status.TheVariants as statuses
 use Rattle.bb_plan.proofs.Plans.{alone_plan, faulty_plan, plan_refusal, same_plan, words_refused}
+use Rattle.bb_tool.proofs.Followed.{work_of}
+use Rattle.bb_tool.proofs.Refusals.{tells}
 use Rattle.bb_tool.proofs.Told.{memory_sink, told_cases, told_counts, told_front, told_memory, told_other, told_own}
-use Rattle.bb_session.proofs.Faulting.{FaultTells, IsFault, is_work, not_work, work_fault, worked_work}
+use Rattle.bb_session.proofs.Ended.{is_work, not_work, worked_work}
+use Rattle.bb_session.proofs.Faulting.{FaultTells}
+use Rattle.bb_session.proofs.Faults.{IsExplained, work_explains}
 use Rattle.bb_session.proofs.Barred.{is_device_fault}
 use Rattle.bb_session.proofs.Works.{has_trails, keeps_outside, leads_on}
 
@@ -66,7 +70,7 @@ drill_done numbers (Some counts) counted = refl
 
 -- an answer that the work doesn't have is the refusal of the plan
 plan_only : (plan : Result SessionPlan EarlyEnd) (answers : Answers) (answer : Status) → IsDrilled plan answers.drill → is_work answer ≡ false → ended_status (session_by plan answers) ≡ answer → IsRefusedWith answer plan
-plan_only (Ok plan) answers answer drilled other e = absurd (not_work (ended_status (work_session plan answers.load answers.saves)) answer (worked_work plan answers.load answers.saves) other e)
+plan_only (Ok plan) answers answer drilled other e = absurd (not_work (ended_status (work_session plan answers.load answers.rounds)) answer (worked_work plan answers.load answers.rounds) other e)
 plan_only (Err (Printed text)) answers answer drilled other e = absurd (not_work statuses.Done answer refl other e)
 plan_only (Err (Drilled numbers)) answers answer drilled other e = absurd (not_work statuses.Done answer refl other (sym (drill_done numbers answers.drill drilled) ∙ e))
 plan_only (Err (Refused refusal)) answers answer drilled other e = e
@@ -178,7 +182,7 @@ unasked_by (Err end) before after answers followed_so refused = followed_so
 
 -- a refusal of the plan comes without any call of the device
 planning_refused : (plan : Result SessionPlan EarlyEnd) (answers : Answers) → is_planning (ended_status (session_by plan answers)) ≡ true → IsErr plan
-planning_refused (Ok plan) answers h = absurd (planning_work (ended_status (work_session plan answers.load answers.saves)) (worked_work plan answers.load answers.saves) h)
+planning_refused (Ok plan) answers h = absurd (planning_work (ended_status (work_session plan answers.load answers.rounds)) (worked_work plan answers.load answers.rounds) h)
 planning_refused (Err end) answers h = refl
 
 pub unasked_of : (ran : Ran) → IsSession ran → is_planning ran.status ≡ true → ran.after.device ≡ ran.before.device
@@ -188,45 +192,42 @@ unasked_of ran s h =
 
 -- ---- a fault of the device
 
--- a session that ends so was refused by its plan, or by a fault of its device
-record IsFaulted (plan : Result SessionPlan EarlyEnd) (from to : Device) (session : Session) (answer : Status) : Type 0 where
+-- a session that ends so was refused by its work, for a fault of the device
+record IsFaulted (plan : Result SessionPlan EarlyEnd) (from to : Device) (answers : Answers) (answer : Status) : Type 0 where
   planned_as : SessionPlan
   plan_is : plan ≡ Ok planned_as
   refusal : Refusal
-  refusal_is : session.refusal ≡ Some refusal
+  refusal_is : (session_by plan answers).refusal ≡ Some refusal
   status_is : status_of refusal ≡ answer
-  fault : IsFault planned_as.keyed from to refusal
+  why : IsExplained planned_as from to answers.load answers.rounds refusal
 
 some_refusal : (refused : Option Refusal) (answer : Status) → answer ≢ statuses.Done → option_map_or status_of refused statuses.Done ≡ answer → (refusal : Refusal) × ((refused ≡ Some refusal) × (status_of refusal ≡ answer))
 some_refusal None answer other e = absurd (other (sym e))
 some_refusal (Some refusal) answer other e = (refusal, (refl, e))
 
-plan_fault : (plan : Result SessionPlan EarlyEnd) (from to : Device) (answers : Answers) (answer : Status) → answer ≢ statuses.Done → is_device_fault answer ≡ true → (IsRefusedWith answer plan → ⊥) → IsDrilled plan answers.drill → IsFollowed plan from to answers → ended_status (session_by plan answers) ≡ answer → IsFaulted plan from to (session_by plan answers) answer
+plan_fault : (plan : Result SessionPlan EarlyEnd) (from to : Device) (answers : Answers) (answer : Status) → answer ≢ statuses.Done → is_device_fault answer ≡ true → (IsRefusedWith answer plan → ⊥) → IsDrilled plan answers.drill → IsFollowed plan from to answers → ended_status (session_by plan answers) ≡ answer → IsFaulted plan from to answers answer
 plan_fault (Ok plan) from to answers answer other device none drilled work h =
-    let some = some_refusal (work_session plan answers.load answers.saves).refusal answer other h in
+    let some = some_refusal (work_session plan answers.load answers.rounds).refusal answer other h in
     record {
       planned_as = plan;
       plan_is = refl;
       refusal = some.0;
       refusal_is = some.1.0;
       status_is = some.1.1;
-      fault = work_fault plan.work plan from to answers.load answers.saves some.0 (ap is_device_fault some.1.1 ∙ device) refl work some.1.0;
+      why = work_explains plan from to answers.load answers.rounds some.0 (ap is_device_fault some.1.1 ∙ device) work some.1.0;
     }
 plan_fault (Err (Printed text)) from to answers answer other device none drilled work h = absurd (other (sym h))
 plan_fault (Err (Drilled numbers)) from to answers answer other device none drilled work h = absurd (other (sym h ∙ drill_done numbers answers.drill drilled))
 plan_fault (Err (Refused refusal)) from to answers answer other device none drilled work h = absurd (none h)
 
-faulted : (ran : Ran) (answer : Status) → answer ≢ statuses.Done → is_device_fault answer ≡ true → (own : IsOwn ran answer) → (IsRefusedWith answer (plan_by_words ran.words (geometry_of ran) own.ending.answers.files) → ⊥) → IsFaulted (plan_by_words ran.words (geometry_of ran) own.ending.answers.files) ran.before.device ran.after.device (session_for ran own.ending.answers) answer
+faulted : (ran : Ran) (answer : Status) → answer ≢ statuses.Done → is_device_fault answer ≡ true → (own : IsOwn ran answer) → (IsRefusedWith answer (plan_by_words ran.words (geometry_of ran) own.ending.answers.files) → ⊥) → IsFaulted (plan_by_words ran.words (geometry_of ran) own.ending.answers.files) ran.before.device ran.after.device own.ending.answers answer
 faulted ran answer other device own none =
     plan_fault (plan_by_words ran.words (geometry_of ran) own.ending.answers.files) ran.before.device ran.after.device own.ending.answers answer other device none own.ending.answered.drilled own.ending.answered.followed own.own
 
-read_told : (keyed : Keyed) (from to : Device) (fault : CopyFault) → status_of (copy_refusal fault) ≡ statuses.ReadFault → FaultTells keyed from to fault → Rose from.read_faults to.read_faults
-read_told keyed from to faults.ReadFault h tells = tells.1
-read_told keyed from to (faults.WriteFault copy) h tells = absurd cc
-read_told keyed from to faults.Unsure h tells = absurd tells
-
-read_fault_told : (keyed : Keyed) (from to : Device) (refusal : Refusal) → status_of refusal ≡ statuses.ReadFault → IsFault keyed from to refusal → Rose from.read_faults to.read_faults
-read_fault_told keyed from to refusal status fault = read_told keyed from to fault.fault (ap status_of (sym fault.is) ∙ status) fault.tells
+read_told : (keyed : Keyed) (from to : Device) (refusal : Refusal) (fault : CopyFault) → refusal ≡ copy_refusal fault → FaultTells keyed from to fault → status_of refusal ≡ statuses.ReadFault → Rose from.read_faults to.read_faults
+read_told keyed from to refusal faults.ReadFault is tells h = tells.1
+read_told keyed from to refusal (faults.WriteFault copy) is tells h = absurd (let n : statuses.WriteFault ≡ statuses.ReadFault = ap status_of (sym is) ∙ h in cc)
+read_told keyed from to refusal faults.Unsure is tells h = absurd tells
 
 pub read_fault_of : (ran : Ran) → IsSession ran → ran.before.device.read_faults ≤ ran.after.device.read_faults → ComesByReads statuses.ReadFault ran
 read_fault_of ran s later = record {
@@ -234,7 +235,7 @@ read_fault_of ran s later = record {
   rose = λ e.
       let own = own_answer ran statuses.ReadFault s (λ h. cc) (λ h. cc) e in
       let fault = faulted ran statuses.ReadFault (λ h. cc) refl own (plan_refusal statuses.ReadFault refl (λ h. cc) (words_of ran.words) (geometry_of ran) own.ending.answers.files) in
-      read_fault_told fault.planned_as.keyed ran.before.device ran.after.device fault.refusal fault.status_is fault.fault;
+      read_told fault.planned_as.keyed ran.before.device ran.after.device fault.refusal fault.why.fault fault.why.is fault.why.known.tells fault.status_is;
 }
 
 -- the copy that a write fault names
@@ -249,10 +250,10 @@ named_copy keyed from to refusal faults.ReadFault is tells h = absurd (let n : s
 named_copy keyed from to refusal (faults.WriteFault copy) is tells h = record { copy = copy; is = is; inside = tells.1; rose = tells.0 }
 named_copy keyed from to refusal faults.Unsure is tells h = absurd tells
 
-write_named : (ran : Ran) (own : IsOwn ran statuses.WriteFault) → (fault : IsFaulted (plan_by_words ran.words (geometry_of ran) own.ending.answers.files) ran.before.device ran.after.device (session_for ran own.ending.answers) statuses.WriteFault) × IsNamed fault.planned_as.keyed ran.before.device ran.after.device fault.refusal
+write_named : (ran : Ran) (own : IsOwn ran statuses.WriteFault) → (fault : IsFaulted (plan_by_words ran.words (geometry_of ran) own.ending.answers.files) ran.before.device ran.after.device own.ending.answers statuses.WriteFault) × IsNamed fault.planned_as.keyed ran.before.device ran.after.device fault.refusal
 write_named ran own =
     let fault = faulted ran statuses.WriteFault (λ h. cc) refl own (plan_refusal statuses.WriteFault refl (λ h. cc) (words_of ran.words) (geometry_of ran) own.ending.answers.files) in
-    (fault, named_copy fault.planned_as.keyed ran.before.device ran.after.device fault.refusal fault.fault.fault fault.fault.is fault.fault.tells fault.status_is)
+    (fault, named_copy fault.planned_as.keyed ran.before.device ran.after.device fault.refusal fault.why.fault fault.why.is fault.why.known.tells fault.status_is)
 
 pub write_fault_of : (ran : Ran) → IsSession ran → ran.before.device.faults ≤ ran.after.device.faults → ComesByDevice statuses.WriteFault ran
 write_fault_of ran s later = record {
@@ -276,41 +277,19 @@ copy_of_fault ran s e =
 
 -- ---- the copies
 
-pub at_exit : (ran : Ran) → IsSession ran → KeepsAtExit ran
-at_exit ran session answers plan answered is =
-    leads_on plan ran.before.device ran.after.device answers.load answers.saves
-    (subst (λ (p : Result SessionPlan EarlyEnd). IsFollowed p ran.before.device ran.after.device answers) is answered.followed)
+pub at_exit : (ran : Ran) → KeepsAtExit ran
+at_exit ran answers plan answered is =
+    leads_on plan ran.before.device ran.after.device answers.load answers.rounds (work_of ran answers plan answered is)
 
-pub on_a_trail : (ran : Ran) → IsSession ran → KeepsATrail ran
-on_a_trail ran session answers plan answered is =
-    has_trails plan ran.before.device ran.after.device answers.load answers.saves
-    (subst (λ (p : Result SessionPlan EarlyEnd). IsFollowed p ran.before.device ran.after.device answers) is answered.followed)
+pub on_a_trail : (ran : Ran) → KeepsATrail ran
+on_a_trail ran answers plan answered is =
+    has_trails plan ran.before.device ran.after.device answers.load answers.rounds (work_of ran answers plan answered is)
 
-pub beside : (ran : Ran) → IsSession ran → KeepsOutsideCopies ran
-beside ran session answers plan answered is =
-    keeps_outside plan ran.before.device ran.after.device answers.load answers.saves
-    (subst (λ (p : Result SessionPlan EarlyEnd). IsFollowed p ran.before.device ran.after.device answers) is answered.followed)
+pub beside : (ran : Ran) → KeepsOutsideCopies ran
+beside ran answers plan answered is =
+    keeps_outside plan ran.before.device ran.after.device answers.load answers.rounds (work_of ran answers plan answered is)
 
 -- ---- refused memory
-
-refusal_memory : (refusal : Refusal) → status_of refusal ≡ statuses.NoMemory → refusal ≡ refusals.NoMemory
-refusal_memory (refusals.BadWords place) h = absurd cc
-refusal_memory (refusals.BadTree e) h = absurd cc
-refusal_memory (refusals.BadBlob e) h = absurd cc
-refusal_memory (refusals.BadLayout e) h = absurd cc
-refusal_memory (refusals.BadVariable name cause) h = absurd cc
-refusal_memory (refusals.FileMissing file) h = absurd cc
-refusal_memory (refusals.FileFault file) h = absurd cc
-refusal_memory (refusals.FileTooLong file) h = absurd cc
-refusal_memory refusals.ReadFault h = absurd cc
-refusal_memory (refusals.WriteFault copy) h = absurd cc
-refusal_memory refusals.NoTarget h = absurd cc
-refusal_memory (refusals.StartFailed name) h = absurd cc
-refusal_memory (refusals.BadSettings e) h = absurd cc
-refusal_memory refusals.NoKey h = absurd cc
-refusal_memory (refusals.BadKey e) h = absurd cc
-refusal_memory (refusals.NoGood place) h = absurd cc
-refusal_memory refusals.NoMemory h = refl
 
 -- the plan was refused since memory was
 record IsMemoryPlan (from to : Device) (session : Session) : Type 0 where
@@ -318,11 +297,11 @@ record IsMemoryPlan (from to : Device) (session : Session) : Type 0 where
   unasked : to ≡ from
 
 plan_memory : (plan : Result SessionPlan EarlyEnd) (from to : Device) (answers : Answers) → IsDrilled plan answers.drill → IsFollowed plan from to answers → ended_status (session_by plan answers) ≡ statuses.NoMemory → IsMemoryPlan from to (session_by plan answers)
-plan_memory (Ok plan) from to answers drilled work h = absurd (not_work (ended_status (work_session plan answers.load answers.saves)) statuses.NoMemory (worked_work plan answers.load answers.saves) refl h)
+plan_memory (Ok plan) from to answers drilled work h = absurd (not_work (ended_status (work_session plan answers.load answers.rounds)) statuses.NoMemory (worked_work plan answers.load answers.rounds) refl h)
 plan_memory (Err (Printed text)) from to answers drilled work h = absurd cc
 plan_memory (Err (Drilled numbers)) from to answers drilled work h = absurd (let e : statuses.Done ≡ statuses.NoMemory = sym (drill_done numbers answers.drill drilled) ∙ h in cc)
 plan_memory (Err (Refused refusal)) from to answers drilled work h = record {
-  is = ap refused_for (refusal_memory refusal h);
+  is = ap refused_for ((tells refusal).memory h);
   unasked = work;
 }
 

@@ -14,7 +14,9 @@ use Rattle.bb_chooser.specs.declared.cause.Cause.TheVariants.{Other, PowerOn}
 use Rattle.bb_copies.specs.Chronicle.{Loaded}
 use Rattle.bb_flash.specs.declared.plan.Plan.{Plan as StartPlan}
 use Rattle.bb_state.specs.Keyed.{Keyed}
-use Rattle.bb_shell.specs.Rounds.{rounds_by}
+use Rattle.bb_shell.specs.Rounds.{RoundAnswer, rounds_by}
+use Rattle.bb_shell.specs.Sequence.{save_round}
+use Rattle.bb_shell.specs.Stages.{saves_of}
 use Rattle.bb_chooser.specs.Counting.{mark_good_of}
 use Rattle.bb_chooser.specs.declared.settings_error.SettingsError.TheVariants as settings_errors
 use Rattle.bb_session.specs.Looking.{first_found, look_text}
@@ -26,11 +28,18 @@ use Rattle.bb_plan.specs.PlanSteps.{plans_reading}
 use Rattle.bb_tool.specs.Lines.{line_of}
 use Rattle.bb_session.specs.Session.{done_with, refused_for, session_of, work_session}
 use Rattle.bb_tool.specs.Sending.{sent_of}
-use Rattle.bb_session.specs.SessionTurns.{boot_turn}
+use Rattle.bb_session.specs.SessionTurns.{turn_of}
 use Rattle.bb_plan.specs.declared.refusal.Refusal.TheVariants.{BadSettings, BadWords, BadLayout, BadVariable, FileFault, FileMissing, FileTooLong, NoGood, NoMemory, NoTarget, ReadFault, StartFailed, WriteFault}
 
 in_place : Geometry
 in_place = record { page = 1; block = 0; size = 192 }
+
+-- a save that answered Ok, and a start after it that is made or not; and one that is refused
+abbrev made : Bool → RoundAnswer
+made starts = record { save = None; starts = starts }
+
+abbrev unmade : RoundAnswer
+unmade = record { save = Some (faults.WriteFault 1); starts = false }
 
 -- no file is read
 abbrev no_files : FileAnswers
@@ -56,34 +65,34 @@ save : List (List ℕ)
 save = codes "raw" ∷ codes "0x12345678" ∷ codes "9" ∷ codes "-s" ∷ codes "313233343536373839" ∷ []
 
 -- a session for what the device answered
-found : session_of look in_place (record { files = no_files; load = Ok (Some (codes "123456789")); saves = []; drill = None }) ≡ done_with (codes "313233343536373839\n")
+found : session_of look in_place (record { files = no_files; load = Ok (Some (codes "123456789")); rounds = []; drill = None }) ≡ done_with (codes "313233343536373839\n")
 unfolding look in_place words_from encode_with
 found = refl
 
-unread : session_of look in_place (record { files = no_files; load = Err faults.ReadFault; saves = []; drill = None }) ≡ refused_for ReadFault
+unread : session_of look in_place (record { files = no_files; load = Err faults.ReadFault; rounds = []; drill = None }) ≡ refused_for ReadFault
 unfolding look in_place words_from
 unread = refl
 
 -- a save is begun of the area that was loaded too, and sends nothing
-saved_anew : session_of save in_place (record { files = no_files; load = Ok (Some (codes "123456789")); saves = Ok false ∷ []; drill = None }) ≡ record { text = []; refusal = None; saves = codes "123456789" ∷ []; rounds = [] }
+saved_anew : session_of save in_place (record { files = no_files; load = Ok (Some (codes "123456789")); rounds = made false ∷ []; drill = None }) ≡ record { text = []; refusal = None; rounds = save_round 0 (codes "123456789") None ∷ [] }
 unfolding save in_place words_from decode_pairs
 saved_anew = refl
 
-second_copy_not_written : session_of save in_place (record { files = no_files; load = Ok None; saves = Err (faults.WriteFault 1) ∷ []; drill = None }) ≡ record { text = []; refusal = Some (WriteFault 1); saves = codes "123456789" ∷ []; rounds = [] }
+second_copy_not_written : session_of save in_place (record { files = no_files; load = Ok None; rounds = unmade ∷ []; drill = None }) ≡ record { text = []; refusal = Some (WriteFault 1); rounds = save_round 0 (codes "123456789") (Some (faults.WriteFault 1)) ∷ [] }
 unfolding save in_place words_from decode_pairs
 second_copy_not_written = refl
 
 -- where the load is refused no save is begun
-load_not_settled : session_of save in_place (record { files = no_files; load = Err (faults.WriteFault 2); saves = []; drill = None }) ≡ refused_for (WriteFault 2)
+load_not_settled : session_of save in_place (record { files = no_files; load = Err (faults.WriteFault 2); rounds = []; drill = None }) ≡ refused_for (WriteFault 2)
 unfolding save in_place words_from decode_pairs
 load_not_settled = refl
 
-save_on_blocks : session_of save with_blocks (record { files = no_files; load = Ok None; saves = Ok false ∷ []; drill = None }) ≡ refused_for (BadLayout (BadProp (codes "backend-storage-type")))
+save_on_blocks : session_of save with_blocks (record { files = no_files; load = Ok None; rounds = made false ∷ []; drill = None }) ≡ refused_for (BadLayout (BadProp (codes "backend-storage-type")))
 unfolding save with_blocks words_from decode_pairs
 save_on_blocks = refl
 
 -- the third word is missing
-missing_word : session_of (codes "raw" ∷ codes "1" ∷ []) in_place (record { files = no_files; load = Ok None; saves = Ok false ∷ []; drill = None }) ≡ refused_for (BadWords 2)
+missing_word : session_of (codes "raw" ∷ codes "1" ∷ []) in_place (record { files = no_files; load = Ok None; rounds = made false ∷ []; drill = None }) ≡ refused_for (BadWords 2)
 unfolding in_place words_from
 missing_word = refl
 
@@ -104,13 +113,13 @@ unfolding digits
 line_of_copy_2 = refl
 
 -- the line of a refusal stands after the text
-line_behind_the_text : sent_of (record { text = codes "a\n"; refusal = Some ReadFault; saves = []; rounds = [] }) ≡ codes "a\nfault 8 ReadFault\n"
+line_behind_the_text : sent_of (record { text = codes "a\n"; refusal = Some ReadFault; rounds = [] }) ≡ codes "a\nfault 8 ReadFault\n"
 unfolding digits
 line_behind_the_text = refl
 
 -- ---- `mark-good`
 
-no_tree : session_of (codes "mark-good" ∷ codes "-i" ∷ codes "b.dts" ∷ codes "-c" ∷ codes "set.txt" ∷ []) in_place (record { files = Ok None ∷ []; load = Ok None; saves = []; drill = None }) ≡ refused_for (FileMissing (codes "b.dts"))
+no_tree : session_of (codes "mark-good" ∷ codes "-i" ∷ codes "b.dts" ∷ codes "-c" ∷ codes "set.txt" ∷ []) in_place (record { files = Ok None ∷ []; load = Ok None; rounds = []; drill = None }) ≡ refused_for (FileMissing (codes "b.dts"))
 unfolding in_place words_from
 no_tree = refl
 
@@ -171,7 +180,7 @@ place_behind = refl
 
 -- ---- `boot`
 
-no_tree_to_boot : session_of (codes "boot" ∷ codes "-i" ∷ codes "b.dts" ∷ codes "-c" ∷ codes "set.txt" ∷ []) in_place (record { files = Ok None ∷ []; load = Ok None; saves = []; drill = None }) ≡ refused_for (FileMissing (codes "b.dts"))
+no_tree_to_boot : session_of (codes "boot" ∷ codes "-i" ∷ codes "b.dts" ∷ codes "-c" ∷ codes "set.txt" ∷ []) in_place (record { files = Ok None ∷ []; load = Ok None; rounds = []; drill = None }) ≡ refused_for (FileMissing (codes "b.dts"))
 unfolding in_place words_from
 no_tree_to_boot = refl
 
@@ -215,40 +224,50 @@ module _ (keyed : Keyed) where
   booting targets plans = record { keyed = keyed; work = Boot targets Other plans }
 
   -- the first start spends an attempt of the best target, and saves that
-  starts : work_session (booting (two_targets false false) both) (Ok (Some (two 3 3 0))) (Ok true ∷ [])
+  starts : work_session (booting (two_targets false false) both) (Ok (Some (two 3 3 0))) (made true ∷ [])
       ≡ record {
         text = codes "start a left 2 tries 1\n";
         refusal = None;
-        saves = two 2 3 1 ∷ [];
-        rounds = (work_session (booting (two_targets false false) both) (Ok (Some (two 3 3 0))) (Ok true ∷ [])).rounds;
+        rounds = (work_session (booting (two_targets false false) both) (Ok (Some (two 3 3 0))) (made true ∷ [])).rounds;
       }
   unfolding rounds_by digits
   starts = refl
 
+  saves_of_a_start : saves_of (Some (two 3 3 0)) (work_session (booting (two_targets false false) both) (Ok (Some (two 3 3 0))) (made true ∷ [])).rounds
+      ≡ two 2 3 1 ∷ []
+  unfolding rounds_by digits
+  saves_of_a_start = refl
+
   -- its turn: one save, which is acknowledged, and the first target is started
-  turn_of_a_start : boot_turn (booting (two_targets false false) both) (Ok (Some (two 3 3 0))) (Ok true ∷ []) (Some 0 ∷ [])
+  turn_of_a_start : turn_of (booting (two_targets false false) both) (Ok (Some (two 3 3 0))) (made true ∷ []) (Some 0 ∷ [])
       ≡ Loaded 0 (two 2 3 1 ∷ []) 1 (Some 0)
   unfolding rounds_by digits
   turn_of_a_start = refl
 
   -- where the start fails the target is named after the text
-  fails : sent_of (work_session (booting (two_targets false false) both) (Ok (Some (two 3 3 0))) (Ok false ∷ []))
+  fails : sent_of (work_session (booting (two_targets false false) both) (Ok (Some (two 3 3 0))) (made false ∷ []))
       ≡ codes "tries 1\nfault 11 StartFailed a\n"
   unfolding rounds_by digits
   fails = refl
 
   -- no entry has a kernel: each attempt is tried
   tries_all : work_session (booting (two_targets true false) (None ∷ None ∷ [])) (Ok (Some (two 3 3 0)))
-      (Ok false ∷ Ok false ∷ Ok false ∷ Ok false ∷ Ok false ∷ Ok false ∷ [])
+      (made false ∷ made false ∷ made false ∷ made false ∷ made false ∷ made false ∷ [])
       ≡ record {
         text = codes "tries 6\n";
         refusal = Some (StartFailed (codes "b"));
-        saves = two 2 3 1 ∷ two 1 3 1 ∷ two 0 3 1 ∷ two 0 2 2 ∷ two 0 1 2 ∷ two 0 0 2 ∷ [];
         rounds = (work_session (booting (two_targets true false) (None ∷ None ∷ [])) (Ok (Some (two 3 3 0)))
-            (Ok false ∷ Ok false ∷ Ok false ∷ Ok false ∷ Ok false ∷ Ok false ∷ [])).rounds;
+            (made false ∷ made false ∷ made false ∷ made false ∷ made false ∷ made false ∷ [])).rounds;
       }
   unfolding rounds_by digits
   tries_all = refl
+
+  saves_of_all : saves_of (Some (two 3 3 0))
+      (work_session (booting (two_targets true false) (None ∷ None ∷ [])) (Ok (Some (two 3 3 0)))
+      (made false ∷ made false ∷ made false ∷ made false ∷ made false ∷ made false ∷ [])).rounds
+      ≡ two 2 3 1 ∷ two 1 3 1 ∷ two 0 3 1 ∷ two 0 2 2 ∷ two 0 1 2 ∷ two 0 0 2 ∷ []
+  unfolding rounds_by digits
+  saves_of_all = refl
 
   -- no attempt is left, and nothing is saved
   none_left : work_session (booting (two_targets true false) both) (Ok (Some (two 0 0 2))) [] ≡ refused_for NoTarget
@@ -260,18 +279,20 @@ module _ (keyed : Keyed) where
   line_of_none_left = refl
 
   -- a save that is refused comes before its start
-  not_saved : sent_of (work_session (booting (two_targets true false) both) (Ok (Some (two 3 3 0))) (Err (faults.WriteFault 1) ∷ []))
+  not_saved : sent_of (work_session (booting (two_targets true false) both) (Ok (Some (two 3 3 0))) (unmade ∷ []))
       ≡ codes "fault 9 WriteFault 1\n"
   unfolding rounds_by digits
   not_saved = refl
 
-  turn_of_one_not_saved : boot_turn (booting (two_targets true false) both) (Ok (Some (two 3 3 0))) (Err (faults.WriteFault 1) ∷ []) (Some 0 ∷ [])
+  turn_of_one_not_saved : turn_of (booting (two_targets true false) both) (Ok (Some (two 3 3 0))) (unmade ∷ []) (Some 0 ∷ [])
       ≡ Loaded 0 (two 2 3 1 ∷ []) 0 None
   unfolding rounds_by digits
   turn_of_one_not_saved = refl
 
   -- the reset gives back what the last start spent, so that the spent table is stored already
-  nothing_to_save : (work_session (record { keyed = keyed; work = Boot (two_targets false true) PowerOn both }) (Ok (Some (two 2 3 1))) (Ok true ∷ [])).saves ≡ []
+  nothing_to_save : saves_of (Some (two 2 3 1))
+      (work_session (record { keyed = keyed; work = Boot (two_targets false true) PowerOn both }) (Ok (Some (two 2 3 1))) (made true ∷ [])).rounds
+      ≡ []
   unfolding rounds_by digits
   nothing_to_save = refl
 
@@ -283,10 +304,10 @@ entry_with_a_fault : result_by (plans_reading (two_targets false false)) (Err fi
 entry_with_a_fault = refl
 
 -- a drill, for what it counted
-drilled : session_of (codes "drill" ∷ codes "3" ∷ codes "1" ∷ []) in_place (record { files = no_files; load = Ok None; saves = []; drill = Some (record { sessions = 1; cuts = 0; decays = 0; programs = 12; erases = 3; starts = 0; wrong = 0 }) }) ≡ done_with (codes "sessions 1 cuts 0 decays 0 programs 12 erases 3 starts 0 wrong 0\n")
+drilled : session_of (codes "drill" ∷ codes "3" ∷ codes "1" ∷ []) in_place (record { files = no_files; load = Ok None; rounds = []; drill = Some (record { sessions = 1; cuts = 0; decays = 0; programs = 12; erases = 3; starts = 0; wrong = 0 }) }) ≡ done_with (codes "sessions 1 cuts 0 decays 0 programs 12 erases 3 starts 0 wrong 0\n")
 unfolding in_place words_from digits
 drilled = refl
 
-uncounted : session_of (codes "drill" ∷ codes "3" ∷ codes "1" ∷ []) in_place (record { files = no_files; load = Ok None; saves = []; drill = None }) ≡ refused_for NoMemory
+uncounted : session_of (codes "drill" ∷ codes "3" ∷ codes "1" ∷ []) in_place (record { files = no_files; load = Ok None; rounds = []; drill = None }) ≡ refused_for NoMemory
 unfolding in_place words_from
 uncounted = refl

@@ -9,30 +9,30 @@ use Rattle.bb_plan.specs.declared.refusal.Refusal.TheVariants as refusals
 use Rattle.bb_plan.specs.declared.status.Status.{Status}
 use Rattle.bb_plan.specs.declared.status.Status.TheVariants as statuses
 
--- a session's own status is that of its refusal, and isn't that of a failing output
-overrule_cases : (ended : Status) → (status_unsent ended ≡ statuses.SinkFault) ⊎ (status_unsent ended ≡ statuses.NoMemory)
-overrule_cases statuses.Done = inl refl
-overrule_cases statuses.BadWords = inl refl
-overrule_cases statuses.BadTree = inl refl
-overrule_cases statuses.BadKey = inl refl
-overrule_cases statuses.BadVariable = inl refl
-overrule_cases statuses.FileMissing = inl refl
-overrule_cases statuses.FileFault = inl refl
-overrule_cases statuses.FileTooLong = inl refl
-overrule_cases statuses.BadLayout = inl refl
-overrule_cases statuses.ReadFault = inl refl
-overrule_cases statuses.WriteFault = inl refl
-overrule_cases statuses.NoTarget = inl refl
-overrule_cases statuses.StartFailed = inl refl
-overrule_cases statuses.BadSettings = inl refl
-overrule_cases statuses.NoGood = inl refl
-overrule_cases statuses.SinkFault = inl refl
-overrule_cases statuses.NoMemory = inr refl
+-- where the output failed the status is its own, but for refused memory
+unsent_is : (ended : Status) → (ended ≡ statuses.NoMemory) ⊎ (status_unsent ended ≡ statuses.SinkFault)
+unsent_is statuses.Done = inr refl
+unsent_is statuses.BadWords = inr refl
+unsent_is statuses.BadTree = inr refl
+unsent_is statuses.BadKey = inr refl
+unsent_is statuses.BadVariable = inr refl
+unsent_is statuses.FileMissing = inr refl
+unsent_is statuses.FileFault = inr refl
+unsent_is statuses.FileTooLong = inr refl
+unsent_is statuses.BadLayout = inr refl
+unsent_is statuses.ReadFault = inr refl
+unsent_is statuses.WriteFault = inr refl
+unsent_is statuses.NoTarget = inr refl
+unsent_is statuses.StartFailed = inr refl
+unsent_is statuses.BadSettings = inr refl
+unsent_is statuses.NoGood = inr refl
+unsent_is statuses.SinkFault = inr refl
+unsent_is statuses.NoMemory = inl refl
 
 cut_first : (text : List ℕ) (ended : Status) (before after : SinkRecord) (status : Status) → IsTextCut text ended before after status →
     (status ≡ statuses.SinkFault) ⊎ (status ≡ statuses.NoMemory)
 cut_first text ended before after status cut =
-    elim (overrule_cases ended) [ inl e ↦ inl (cut.status_is ∙ e) | inr e ↦ inr (cut.status_is ∙ e) ]
+    elim (unsent_is ended) [ inl memory ↦ inr (cut.status_is ∙ ap status_unsent memory) | inr sink ↦ inl (cut.status_is ∙ sink) ]
 
 pub told_cases : (text : List ℕ) (ended : Status) (before after : SinkRecord) (status : Status) → IsSentOrCut text ended before after status → (status ≡ ended) ⊎ ((status ≡ statuses.SinkFault) ⊎ (status ≡ statuses.NoMemory))
 told_cases text ended before after status (inl sent) = inl sent.status_is
@@ -56,28 +56,12 @@ told_own text ended answer before after status told first second e =
 pub told_other : (answer : Status) (before after : SinkRecord) (status : Status) → IsSentOrCut (line_of refusals.NoMemory) statuses.NoMemory before after status → answer ≢ statuses.SinkFault → answer ≢ statuses.NoMemory → status ≡ answer → ⊥
 told_other answer before after status told first second e = second (sym (told_own (line_of refusals.NoMemory) statuses.NoMemory answer before after status told first second e))
 
-unsent_memory : (ended : Status) → status_unsent ended ≡ statuses.NoMemory → ended ≡ statuses.NoMemory
-unsent_memory statuses.Done e = absurd cc
-unsent_memory statuses.BadWords e = absurd cc
-unsent_memory statuses.BadTree e = absurd cc
-unsent_memory statuses.BadKey e = absurd cc
-unsent_memory statuses.BadVariable e = absurd cc
-unsent_memory statuses.FileMissing e = absurd cc
-unsent_memory statuses.FileFault e = absurd cc
-unsent_memory statuses.FileTooLong e = absurd cc
-unsent_memory statuses.BadLayout e = absurd cc
-unsent_memory statuses.ReadFault e = absurd cc
-unsent_memory statuses.WriteFault e = absurd cc
-unsent_memory statuses.NoTarget e = absurd cc
-unsent_memory statuses.StartFailed e = absurd cc
-unsent_memory statuses.BadSettings e = absurd cc
-unsent_memory statuses.NoGood e = absurd cc
-unsent_memory statuses.SinkFault e = absurd cc
-unsent_memory statuses.NoMemory e = refl
-
 pub told_memory : (text : List ℕ) (ended : Status) (before after : SinkRecord) (status : Status) → IsSentOrCut text ended before after status → status ≡ statuses.NoMemory → ended ≡ statuses.NoMemory
 told_memory text ended before after status (inl sent) e = sym sent.status_is ∙ e
-told_memory text ended before after status (inr cut) e = unsent_memory ended (sym cut.status_is ∙ e)
+told_memory text ended before after status (inr cut) e = elim (unsent_is ended) [
+  | inl memory ↦ memory
+  | inr sink ↦ absurd (let h : statuses.SinkFault ≡ statuses.NoMemory = sym sink ∙ sym cut.status_is ∙ e in cc)
+]
 
 pub told_front : (text : List ℕ) (ended : Status) (before after : SinkRecord) (status : Status) → IsSentOrCut text ended before after status → ended ≢ statuses.SinkFault → status ≡ statuses.SinkFault → IsTextCut text ended before after status
 told_front text ended before after status (inl sent) own e = absurd (own (sym sent.status_is ∙ e))

@@ -1,6 +1,6 @@
 -- What `run` says of each call: every clause of its contract is one of these facts, and none of
 -- them names a command.
-use Rattle.std.specs.Prelude.{◌≡◌, ◌⊎◌, ◌<◌, ℕ, Bool, true, false, List, [], Option, Some, Result, IsErr, option_map}
+use Rattle.std.specs.Prelude.{◌≡◌, ◌⊎◌, ◌<◌, ℕ, Bool, true, false, List, Option, Some, None, Result, IsErr, option_map}
 use Rattle.std.specs.Option.{ForSome}
 use Rattle.bb_base.specs.Faults.{HasCause, Rose, one_more}
 use Rattle.bb_base.specs.Folder.{FileMap}
@@ -8,6 +8,7 @@ use Rattle.bb_base.specs.SinkRecord.{SendsFront}
 use Rattle.bb_flash.specs.Cuts.{IsLater}
 use Rattle.bb_flash.specs.Device.{content}
 use Rattle.bb_flash.specs.declared.geometry.Geometry.{Geometry}
+use Rattle.bb_shell.specs.Counting.{target_started}
 use Rattle.bb_words.specs.Words.{words_of}
 use Rattle.bb_drill.specs.declared.counts.DrillCounts.{DrillCounts}
 use Rattle.bb_tool.specs.Drilling.{IsDrilled}
@@ -83,10 +84,10 @@ IsSession ran = IsAnswered ran ⊎ IsWithoutMemory ran
 
 -- ---- where nothing failed
 
--- no start failed that the session tried
+-- no start failed that the session tried, or it starts nothing
 abbrev pub FailsNoStart : Ran → Session → Type 0
 FailsNoStart ran session =
-    (session.rounds ≡ [])
+    (target_started session.rounds ≡ None)
     ⊎ (Rose ran.before.device.start_faults ran.after.device.start_faults → ⊥)
 
 -- unless the device, a start or the output failed, this session was sent whole

@@ -1,20 +1,30 @@
 -- What files and a device may have answered to a session, and what it gave before anything was
 -- sent.
-use Rattle.std.specs.Prelude.{◌≡◌, ◌⊎◌, ℕ, List, Result, Ok, Err}
+use Rattle.std.specs.Prelude.{◌≡◌, ◌⊎◌, ℕ, List, None, Result, Ok, Err, IfOk, IfErr}
 use Rattle.bb_base.specs.Folder.{Folder}
 use Rattle.bb_flash.specs.Device.{Device}
-use Rattle.bb_plan.specs.Plan.{EarlyEnd, SessionPlan, plan_by_words, plan_reading}
+use Rattle.bb_plan.specs.Plan.{Drills, EarlyEnd, OnCopies, Prints, SessionPlan, Task, plan_by_words, plan_reading}
 use Rattle.bb_plan.specs.FilesRead.{AreRead}
 use Rattle.bb_session.specs.Session.{Answers, session_of}
-use Rattle.bb_session.specs.Work.{Gives, IsRefusedMemory, IsWork, SendsByMemory}
+use Rattle.bb_session.specs.Work.{Gives, IsRefusedMemory, IsWork, IsWorkedOut, SendsByMemory}
 use Rattle.bb_session.specs.declared.report.Report.{Report}
-use Rattle.bb_tool.specs.Drilling.{IsDrilled}
+use Rattle.bb_tool.specs.Drilling.{IsDrillReport, IsDrilled}
 use Rattle.bb_plan.specs.declared.refusal.Refusal.{Refusal}
 use Rattle.bb_plan.specs.declared.refusal.Refusal.TheVariants as refusals
 
+-- The task of a plan was done: its work on the device. Or a text or a drill was reported, unless
+-- memory was refused for the drill, and no call of the device was made.
+abbrev pub IsTaskDone : Task → Device → Device → Result Report Refusal → Type 0
+IsTaskDone (OnCopies plan) from to given = IsWorkedOut plan.keyed plan.work from to given
+IsTaskDone (Prints text) from to given =
+    (given ≡ Ok (record { text = text; refusal = None })) × (to ≡ from)
+IsTaskDone (Drills numbers) from to given =
+    (IfOk given (IsDrillReport numbers) × IfErr given (λ refusal. refusal ≡ refusals.NoMemory))
+    × (to ≡ from)
+
 -- the work of a plan was done; a session that is refused before it makes no call of the device
 abbrev pub IsFollowed : Result SessionPlan EarlyEnd → Device → Device → Answers → Type 0
-IsFollowed (Ok plan) before after answers = IsWork plan before after answers.load answers.saves
+IsFollowed (Ok plan) before after answers = IsWork plan before after answers.load answers.rounds
 IsFollowed (Err end) before after answers = after ≡ before
 
 -- these are what the files, the device and a drill answered

@@ -1,23 +1,24 @@
 -- What `run` says of starts: at most one, of the best target, by its plan, after the save of the
 -- attempt that it spends. None of these facts names a command.
-use Rattle.std.specs.Prelude.{◌≡◌, ◌⊎◌, ℕ, ⊤, List, Option, Some, None, Ok, IsNone, IsSome, option_and_then}
+use Rattle.std.specs.Prelude.{◌≡◌, ◌⊎◌, ℕ, ⊤, true, List, Option, Some, Ok, IsNone, option_and_then}
 use Rattle.std.specs.Option.{ForSome}
 use Rattle.bb_base.specs.Faults.{Rose}
 use Rattle.bb_chooser.specs.Binding.{IsBinding}
 use Rattle.bb_copies.specs.Chronicle.{Content, Turn}
 use Rattle.bb_copies.specs.StandsFor.{EachPassesOrNothing}
-use Rattle.bb_flash.specs.Device.{Device, content, starts}
+use Rattle.bb_flash.specs.Device.{content, starts}
 use Rattle.bb_flash.specs.declared.plan.Plan.{Plan as StartPlan}
 use Rattle.bb_shell.specs.Boot.{last_round, plan_at, table_after}
 use Rattle.bb_shell.specs.Counting.{IsBootTurn}
 use Rattle.bb_shell.specs.Ends.{RaisedBy, StartsOnce, failed_starts}
-use Rattle.bb_session.specs.Booting.{AreRoundsOf, start_plans_of, start_of}
+use Rattle.bb_shell.specs.Sequence.{AddsLast, started_last}
+use Rattle.bb_session.specs.Acting.{AreRoundsOf, acts_of, start_plans_of}
 use Rattle.bb_tool.specs.Calls.{MayAnswer, SendsText, session_for}
 use Rattle.bb_tool.specs.Copying.{EachWork}
 use Rattle.bb_session.specs.Looking.{passed_in}
 use Rattle.bb_plan.specs.Plan.{SessionPlan}
 use Rattle.bb_plan.specs.declared.plan.Work.{Work}
-use Rattle.bb_plan.specs.declared.plan.Work.TheVariants.{Act, Boot, Good, Show, Write}
+use Rattle.bb_plan.specs.declared.plan.Work.TheVariants.{Boot}
 use Rattle.bb_tool.specs.Ran.{Ran}
 use Rattle.bb_session.specs.Session.{Answers, loaded_area}
 use Rattle.bb_tool.specs.Sending.{sent_of}
@@ -35,30 +36,27 @@ EachLoaded ran P =
     (found : Option (List ℕ)) → answers.load ≡ Ok found →
     P plan answers (loaded_area plan.keyed.layout found))
 
--- The rounds of a session go by the rules: each is of the best target in the table that it starts
--- from, which loses one attempt.
+-- The rounds of a session are those that its work is to run. Those of a boot go by the rules: each
+-- is of the best target in the table that it starts from, which loses one attempt.
 abbrev pub RunsRounds : Ran → Type 0
 RunsRounds ran =
-    EachLoaded ran (λ plan answers table. AreRoundsOf plan.work table (session_for ran answers).rounds)
+    EachLoaded ran
+    (λ plan answers table.
+    AreRoundsOf (start_plans_of plan.work) (acts_of plan.keyed.layout plan.work table)
+    (session_for ran answers).rounds)
 
 -- A boot did what the law of starts takes for a boot: where its load answered Ok, the table that it
 -- gave stands at the turn's place of the list and has the area's length, and the turn is that of
 -- the rounds that come of some answers. No other work is a boot.
 abbrev pub IsTurnOf : Work → Content → Turn → Type 0
-IsTurnOf Show before turn = ⊤
-IsTurnOf (Write area) before turn = ⊤
-IsTurnOf (Act actions) before turn = ⊤
-IsTurnOf (Good targets) before turn = ⊤
 IsTurnOf (Boot targets cause plans) before turn = IsBootTurn targets cause plans before turn
+IsTurnOf _ before turn = ⊤
 
 -- and its targets are bound as that law takes them: their variables are in the area, and no two of
 -- them share a byte
 abbrev pub IsBoundWork : Work → Type 0
-IsBoundWork Show = ⊤
-IsBoundWork (Write area) = ⊤
-IsBoundWork (Act actions) = ⊤
-IsBoundWork (Good targets) = ⊤
 IsBoundWork (Boot targets cause plans) = IsBinding targets
+IsBoundWork _ = ⊤
 
 -- so are the targets of a session, and so is its turn, at each content that its copies stood for at
 -- entry
@@ -67,24 +65,20 @@ pub record BootsByPlan (ran : Ran) (plan : SessionPlan) (answers : Answers) : Ty
   pub turns :
       EachStanding plan.keyed ran.before.device ran.after.device
       (λ first last before.
-      IsTurnOf plan.work before (turn_of plan answers.load answers.saves before.marks))
+      IsTurnOf plan.work before (turn_of plan answers.load answers.rounds before.marks))
 
 abbrev pub BootsInTurn : Ran → Type 0
 BootsInTurn ran = EachWork ran (BootsByPlan ran)
 
 -- ---- starts
 
--- the starts grow by this one, if there is one, made with what the device holds at exit
-abbrev pub AddsStart : Option StartPlan → Device → Device → Type 0
-AddsStart None from to = starts to ≡ starts from
-AddsStart (Some plan) from to = StartsOnce from to plan
-
--- a start is made exactly where the last round made one, by the plan of its target
+-- a start is made exactly where the last round made one, by the plan of its target, with what the
+-- device holds at exit
 abbrev pub StartsTheLast : Ran → Type 0
 StartsTheLast ran =
     EachWork ran
     (λ plan answers.
-    AddsStart (start_of plan.work (session_for ran answers).rounds) ran.before.device
+    AddsLast (start_plans_of plan.work) (session_for ran answers).rounds ran.before.device
     ran.after.device)
 
 -- whatever it answered, the session made no start, or one
@@ -98,7 +92,7 @@ abbrev pub StartsAfterSave : Ran → Type 0
 StartsAfterSave ran =
     EachLoaded ran
     (λ plan answers table.
-    IsSome (start_of plan.work (session_for ran answers).rounds) →
+    started_last (session_for ran answers).rounds ≡ true →
     ForSome (content ran.after.device)
     (λ image.
     EachPassesOrNothing (table_after table (session_for ran answers).rounds)

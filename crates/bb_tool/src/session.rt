@@ -1,10 +1,11 @@
 ghost use Rattle.std.specs.Prelude.{◌≡◌, false, IfErr, IfOk};
 ghost use Rattle.bb_flash.specs.Cuts.{IsLater};
+ghost use Rattle.bb_flash.specs.Device.{IsDevice};
 ghost use Rattle.bb_tool.specs.Calls.{IsSession};
 ghost use Rattle.bb_tool.specs.Clauses.{EndsEarly, KeepsTheCopies, KnowsItsCauses, LeavesTheRest};
 ghost use Rattle.bb_tool.specs.Clauses.{SendsTheSession, StartsTheBest, WorksUndisturbed};
-ghost use Rattle.bb_tool.specs.SessionAnswer.{IsSessionAnswer};
-ghost use Rattle.bb_plan.specs.Plan.{names_file};
+ghost use Rattle.bb_tool.specs.SessionAnswer.{IsSessionAnswer, IsTaskDone};
+ghost use Rattle.bb_plan.specs.Plan.{IsTaskFor, names_file, task_as};
 ghost use Rattle.bb_tool.specs.Ran.{ran_by};
 ghost use Rattle.bb_plan.specs.FilesRead.{IsFolderLater};
 ghost use Rattle.bb_plan.specs.Refusal.{IsSendableRefusal};
@@ -91,6 +92,18 @@ fn session<N: Files, B: Board>(
     ensures later { IsLater (B.device board.old) (B.device board.new) }
 {
     let task = plan_session(alloc, words, files, board.geometry())?;
+    do_task(alloc, board, task)
+}
+
+// What is sent of the task of a plan, or its refusal.
+fn do_task<B: Board>(alloc: Global, board: &mut B, task: PlannedTask) -> Result<Report, Refusal>
+    requires task { IsTaskFor (B.device board.old).geometry (task_as task) }
+    requires whole { IsDevice (B.device board.old) }
+    ensures done { IsTaskDone (task_as task) (B.device board.old) (B.device board.new) result }
+    ensures tellable { IfErr result IsSendableRefusal }
+    ensures sends { IfOk result IsSendable }
+    ensures later { IsLater (B.device board.old) (B.device board.new) }
+{
     match task {
         PlannedTask::OnCopies(plan) => do_work(alloc, board, plan),
         PlannedTask::Prints(text) => Ok(Report::done(text)),

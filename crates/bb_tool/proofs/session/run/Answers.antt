@@ -8,7 +8,7 @@ pub returns-clause-stays : goal.returns-clause-stays
 returns-clause-stays g c = leaves _ c.answer.ensures.session c.answer.ensures.files c.answer.ensures.unread c.answer.ensures.later
 
 pub returns-clause-copies : goal.returns-clause-copies
-returns-clause-copies g c = keeps _ c.answer.ensures.session
+returns-clause-copies g c = keeps _
 
 pub returns-clause-undisturbed : goal.returns-clause-undisturbed
 returns-clause-undisturbed g c = undisturbed _ c.answer.ensures.session
