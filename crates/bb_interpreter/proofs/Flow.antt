@@ -5,7 +5,7 @@ use Rattle.bb_script.specs.declared.script.When.{When}
 use Rattle.bb_script.specs.Tree.{ScriptTree, CommandTree, choice_tree, steps_tree}
 use Rattle.bb_interpreter.specs.declared.run.ScriptRun.{ScriptRun}
 use Rattle.bb_interpreter.specs.declared.stop.ScriptStop.TheVariants as stop
-use Rattle.bb_interpreter.specs.Means.{by_success, is_due, means_choice, means_command, means_steps, puts, rounds, when_due}
+use Rattle.bb_interpreter.specs.Means.{by_success, is_due, means_choice, means_command, means_steps, puts, rounds, when_due, next_answer}
 use Rattle.bb_interpreter.specs.Outside.{Outside}
 use Rattle.bb_interpreter.specs.Standing.{Act, Answer, Standing, GoesOn, Stops, Meaning, counts_one, either, followed, granted, granted_by}
 use Rattle.bb_interpreter.specs.Runs.{CallGives, LeftAt, Leads, more_grants, standing_of}
@@ -90,24 +90,24 @@ was_due gives LeavesMemory due command two a b from to h leads =
 
 pub after_step : {C D : Type 0} (gives : CallGives C D) (o : Outside C) (LeavesMemory : Option ℕ → Type 0) (whole two : Meaning C D)
     (s : When × CommandTree) (left later : List (When × CommandTree)) (a b c : ScriptRun C) (from mid to : D)
-    → left ≡ s ∷ later → Leads gives Whatever whole (means_steps o (steps_tree left)) a b from mid
-    → Leads gives LeavesMemory (when_due s.0 (means_command o s.1)) two b c mid to
-    → Leads gives LeavesMemory whole (λ at. followed (two at) (means_steps o (steps_tree later))) a c from to
+    → left ≡ s ∷ later → Leads gives Whatever whole (means_steps o next_answer (steps_tree left)) a b from mid
+    → Leads gives LeavesMemory (when_due s.0 (means_command o next_answer s.1)) two b c mid to
+    → Leads gives LeavesMemory whole (λ at. followed (two at) (means_steps o next_answer (steps_tree later))) a c from to
 after_step gives o LeavesMemory whole two s left later a b c from mid to is first second =
-    leads_on gives LeavesMemory whole (means_steps o (steps_tree (s ∷ later))) (λ at. followed (two at) (means_steps o (steps_tree later))) a b c from mid to
-    (subst (λ l. Leads gives Whatever whole (means_steps o (steps_tree l)) a b from mid) is first)
-    (leads_then gives LeavesMemory (when_due s.0 (means_command o s.1)) two (means_steps o (steps_tree later)) b c mid to second)
+    leads_on gives LeavesMemory whole (means_steps o next_answer (steps_tree (s ∷ later))) (λ at. followed (two at) (means_steps o next_answer (steps_tree later))) a b c from mid to
+    (subst (λ l. Leads gives Whatever whole (means_steps o next_answer (steps_tree l)) a b from mid) is first)
+    (leads_then gives LeavesMemory (when_due s.0 (means_command o next_answer s.1)) two (means_steps o next_answer (steps_tree later)) b c mid to second)
 
 pub after_test : {C D : Type 0} (gives : CallGives C D) (o : Outside C) (LeavesMemory : Option ℕ → Type 0) (whole two : Meaning C D)
     (x : ScriptTree × ScriptTree) (left later : List (ScriptTree × ScriptTree)) (other : Option ScriptTree)
     (a b c : ScriptRun C) (from mid to : D)
-    → left ≡ x ∷ later → Leads gives Whatever whole (means_choice o (choice_tree left other)) a b from mid
-    → Leads gives LeavesMemory (means_steps o x.0) two b c mid to
-    → Leads gives LeavesMemory whole (λ at. followed (two at) (by_success (means_steps o x.1) (means_choice o (choice_tree later other)))) a c from to
+    → left ≡ x ∷ later → Leads gives Whatever whole (means_choice o next_answer (choice_tree left other)) a b from mid
+    → Leads gives LeavesMemory (means_steps o next_answer x.0) two b c mid to
+    → Leads gives LeavesMemory whole (λ at. followed (two at) (by_success (means_steps o next_answer x.1) (means_choice o next_answer (choice_tree later other)))) a c from to
 after_test gives o LeavesMemory whole two x left later other a b c from mid to is first second =
-    leads_on gives LeavesMemory whole (means_choice o (choice_tree (x ∷ later) other)) (λ at. followed (two at) (by_success (means_steps o x.1) (means_choice o (choice_tree later other)))) a b c from mid to
-    (subst (λ l. Leads gives Whatever whole (means_choice o (choice_tree l other)) a b from mid) is first)
-    (leads_then gives LeavesMemory (means_steps o x.0) two (by_success (means_steps o x.1) (means_choice o (choice_tree later other))) b c mid to second)
+    leads_on gives LeavesMemory whole (means_choice o next_answer (choice_tree (x ∷ later) other)) (λ at. followed (two at) (by_success (means_steps o next_answer x.1) (means_choice o next_answer (choice_tree later other)))) a b c from mid to
+    (subst (λ l. Leads gives Whatever whole (means_choice o next_answer (choice_tree l other)) a b from mid) is first)
+    (leads_then gives LeavesMemory (means_steps o next_answer x.0) two (by_success (means_steps o next_answer x.1) (means_choice o next_answer (choice_tree later other))) b c mid to second)
 
 pub by_zero : {C D : Type 0} (gives : CallGives C D) (one two whole : Meaning C D) (a b : ScriptRun C) (from to : D)
     (holds : Bool) → (b.status == 0) ≡ holds

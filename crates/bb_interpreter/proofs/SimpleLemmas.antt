@@ -13,7 +13,7 @@ use Rattle.bb_interpreter.specs.declared.commands.SetReply.TheVariants.{Unknown,
 use Rattle.bb_interpreter.specs.declared.run.ScriptRun.{ScriptRun}
 use Rattle.bb_interpreter.specs.declared.stop.ScriptStop.{ScriptStop}
 use Rattle.bb_interpreter.specs.declared.stop.ScriptStop.TheVariants as stop
-use Rattle.bb_interpreter.specs.Means.{answered, assigns, assigns_value, built_in_of, calls, does_built_in, does_expanded, does_fields, does_named, does_outside, loops, loops_over, put_by, puts, replied, rounds, sends, values_at}
+use Rattle.bb_interpreter.specs.Means.{answered, assigns, assigns_value, built_in_of, calls, does_built_in, does_expanded, does_fields, does_named, does_outside, loops, loops_over, put_by, puts, replied, rounds, sends, values_at, next_answer}
 use Rattle.bb_interpreter.specs.Outside.{Outside, set_status, set_reply_of}
 use Rattle.bb_interpreter.specs.Standing.{Act, Answer, Standing, GoesOn, Stops, Meaning, counts_one, either, followed, with_status}
 use Rattle.bb_interpreter.specs.Runs.{CallGives, LeftAt, Leads, more_grants, standing_of, script_values}
@@ -129,7 +129,7 @@ after_grant_assigns o name rest at =
     assigns_value o name (assigned_value (values_at o at) at.status name rest) at
 
 abbrev after_grant_calls : {C D : Type 0} → Outside C → List (List Atom) → Meaning C D
-after_grant_calls o words at = does_expanded o (expansion_of (values_at o at) at.status words) at
+after_grant_calls o words at = does_expanded o next_answer (expansion_of (values_at o at) at.status words) at
 
 abbrev after_grant_loops : {C D : Type 0} → Outside C → List ℕ → List (List Atom) → Meaning C D → Meaning C D
 after_grant_loops o name words body at =
@@ -180,7 +180,7 @@ pub assign_starved : {C D : Type 0} (gives : CallGives C D) (o : Outside C) (nam
 assign_starved gives o name rest a d = lacks_then gives (after_grant_assigns o name rest) a d
 
 pub call_starved : {C D : Type 0} (gives : CallGives C D) (o : Outside C) (words : List (List Atom)) (a : ScriptRun C) (d : D)
-    → Leads gives (LeftAt stop.NoMemory) (calls o words) (λ at. Stops stop.NoMemory at) a a d d
+    → Leads gives (LeftAt stop.NoMemory) (calls o next_answer words) (λ at. Stops stop.NoMemory at) a a d d
 call_starved gives o words a d = lacks_then gives (after_grant_calls o words) a d
 
 pub loop_starved : {C D : Type 0} (gives : CallGives C D) (o : Outside C) (name : List ℕ) (words : List (List Atom)) (body : Meaning C D) (a : ScriptRun C) (d : D)
@@ -242,76 +242,76 @@ assigned_stop gives o e name rest value key text a b d some same_key same_text l
 
 pub called_none : {C D : Type 0} (gives : CallGives C D) (o : Outside C) (words : List (List Atom)) (a : ScriptRun C) (d : D)
     → expansion_of (script_values o a) a.status words ≡ None
-    → Leads gives Whatever (calls o words) GoesOn a (with_new_status a 1) d d
+    → Leads gives Whatever (calls o next_answer words) GoesOn a (with_new_status a 1) d d
 called_none gives o words a d none =
     has_then gives Whatever (after_grant_calls o words) GoesOn a (with_new_status a 1) d d
     (leads_so gives Whatever (after_grant_calls o words) GoesOn a (with_new_status a 1) d
-    (λ before later left is. ap (λ v. does_expanded o v (standing_of a d before later left)) none))
+    (λ before later left is. ap (λ v. does_expanded o next_answer v (standing_of a d before later left)) none))
 
 pub called_some : {C D : Type 0} (gives : CallGives C D) (o : Outside C) (LeavesMemory : Option ℕ → Type 0) (two : Meaning C D)
     (words : List (List Atom)) (fields : List (List ℕ)) (a b : ScriptRun C) (d to : D)
     → expansion_of (script_values o a) a.status words ≡ Some fields
-    → Leads gives LeavesMemory (does_fields o fields) two a b d to
-    → Leads gives LeavesMemory (calls o words) two a b d to
+    → Leads gives LeavesMemory (does_fields o next_answer fields) two a b d to
+    → Leads gives LeavesMemory (calls o next_answer words) two a b d to
 called_some gives o LeavesMemory two words fields a b d to some leads =
     has_then gives LeavesMemory (after_grant_calls o words) two a b d to
-    (leads_as gives LeavesMemory (after_grant_calls o words) (does_fields o fields) two a b d to
-    (λ before later left. ap (λ v. does_expanded o v (standing_of a d before later left)) some) leads)
+    (leads_as gives LeavesMemory (after_grant_calls o words) (does_fields o next_answer fields) two a b d to
+    (λ before later left. ap (λ v. does_expanded o next_answer v (standing_of a d before later left)) some) leads)
 
 pub none_left : (fields : List (List ℕ)) → length fields ≡ 0 → fields ≡ []
 none_left [] h = refl
 none_left (field ∷ later) h = absurd (omega (arith, h))
 
 pub no_fields : {C D : Type 0} (gives : CallGives C D) (o : Outside C) (fields : List (List ℕ)) (a : ScriptRun C) (d : D)
-    → fields ≡ [] → Leads gives Whatever (does_fields o fields) GoesOn a (with_new_status a 0) d d
+    → fields ≡ [] → Leads gives Whatever (does_fields o next_answer fields) GoesOn a (with_new_status a 0) d d
 no_fields gives o fields a d none =
-    leads_so gives Whatever (does_fields o fields) GoesOn a (with_new_status a 0) d
-    (λ before later left is. ap (λ l. does_fields o l (standing_of a d before later left)) none)
+    leads_so gives Whatever (does_fields o next_answer fields) GoesOn a (with_new_status a 0) d
+    (λ before later left is. ap (λ l. does_fields o next_answer l (standing_of a d before later left)) none)
 
 named : {C D : Type 0} (gives : CallGives C D) (o : Outside C) (LeavesMemory : Option ℕ → Type 0) (two : Meaning C D)
     (kind : Option BuiltIn) (name : List ℕ) (words fields : List (List ℕ)) (a b : ScriptRun C) (d to : D)
     → fields ≡ name ∷ words → built_in_of name ≡ kind
-    → Leads gives LeavesMemory (does_named o kind name words) two a b d to
-    → Leads gives LeavesMemory (does_fields o fields) two a b d to
+    → Leads gives LeavesMemory (does_named o next_answer kind name words) two a b d to
+    → Leads gives LeavesMemory (does_fields o next_answer fields) two a b d to
 named gives o LeavesMemory two kind name words fields a b d to is same leads =
-    leads_as gives LeavesMemory (does_fields o fields) (does_named o kind name words) two a b d to
+    leads_as gives LeavesMemory (does_fields o next_answer fields) (does_named o next_answer kind name words) two a b d to
     (λ before later left.
-    ap (λ l. does_fields o l (standing_of a d before later left)) is
-    ∙ ap (λ k. does_named o k name words (standing_of a d before later left)) same) leads
+    ap (λ l. does_fields o next_answer l (standing_of a d before later left)) is
+    ∙ ap (λ k. does_named o next_answer k name words (standing_of a d before later left)) same) leads
 
 pub named_built_in : {C D : Type 0} (gives : CallGives C D) (o : Outside C) (LeavesMemory : Option ℕ → Type 0) (two : Meaning C D)
     (kind : BuiltIn) (name : List ℕ) (words fields : List (List ℕ)) (a b : ScriptRun C) (d to : D)
     → fields ≡ name ∷ words → built_in_of name ≡ Some kind
     → Leads gives LeavesMemory (does_built_in kind words) two a b d to
-    → Leads gives LeavesMemory (does_fields o fields) two a b d to
+    → Leads gives LeavesMemory (does_fields o next_answer fields) two a b d to
 named_built_in gives o LeavesMemory two kind name words fields a b d to is same leads =
     named gives o LeavesMemory two (Some kind) name words fields a b d to is same leads
 
 pub named_outside : {C D : Type 0} (gives : CallGives C D) (o : Outside C) (LeavesMemory : Option ℕ → Type 0) (two : Meaning C D)
     (name : List ℕ) (words fields : List (List ℕ)) (a b : ScriptRun C) (d to : D)
     → fields ≡ name ∷ words → built_in_of name ≡ None
-    → Leads gives LeavesMemory (does_outside o name fields) two a b d to
-    → Leads gives LeavesMemory (does_fields o fields) two a b d to
+    → Leads gives LeavesMemory (does_outside o next_answer name fields) two a b d to
+    → Leads gives LeavesMemory (does_fields o next_answer fields) two a b d to
 named_outside gives o LeavesMemory two name words fields a b d to is same leads =
     named gives o LeavesMemory two None name words fields a b d to is same
-    (subst (λ l. Leads gives LeavesMemory (does_outside o name l) two a b d to) is leads)
+    (subst (λ l. Leads gives LeavesMemory (does_outside o next_answer name l) two a b d to) is leads)
 
 -- ---- commands from outside
 
 pub not_there : {C D : Type 0} (gives : CallGives C D) (o : Outside C) (name : List ℕ) (fields : List (List ℕ)) (a : ScriptRun C) (d : D)
     → o.is_command name ≡ false
-    → Leads gives Whatever (does_outside o name fields) GoesOn a (with_new_status a 127) d d
+    → Leads gives Whatever (does_outside o next_answer name fields) GoesOn a (with_new_status a 127) d d
 not_there gives o name fields a d none =
-    leads_so gives Whatever (does_outside o name fields) GoesOn a (with_new_status a 127) d
+    leads_so gives Whatever (does_outside o next_answer name fields) GoesOn a (with_new_status a 127) d
     (λ before later left is. ap (λ b. either b (λ at'. answered fields at'.answers at') (with_status 127) (standing_of a d before later left)) none)
 
 pub was_called : {C D : Type 0} (gives : CallGives C D) (o : Outside C) (LeavesMemory : Option ℕ → Type 0) (two : Meaning C D)
     (name : List ℕ) (fields : List (List ℕ)) (answer : Reply) (a b c : ScriptRun C) (d mid to : D)
     → o.is_command name ≡ true → gives fields a.commands d answer b.commands mid
     → Leads gives LeavesMemory (replied answer) two (record a { commands = b.commands }) c mid to
-    → Leads gives LeavesMemory (does_outside o name fields) two a c d to
+    → Leads gives LeavesMemory (does_outside o next_answer name fields) two a c d to
 was_called gives o LeavesMemory two name fields answer a b c d mid to is done leads =
-    leads_on gives LeavesMemory (does_outside o name fields) (replied answer) two a (record a { commands = b.commands }) c d mid to
+    leads_on gives LeavesMemory (does_outside o next_answer name fields) (replied answer) two a (record a { commands = b.commands }) c d mid to
     (record {
       acts = (record { words = fields; before = a.commands; on = d; answer = record { reply = answer; outside = b.commands; device = mid } }) ∷ [];
       called = (done, tt);

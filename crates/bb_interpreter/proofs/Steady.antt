@@ -1,5 +1,5 @@
 -- What every command from outside and every variable that is set there keeps is kept by a script.
-use Rattle.std.proofs.Common.{◌≡◌, ℕ, ◌+◌, ◌-◌, ◌==◌, Bool, true, false, not, List, [], ◌∷◌, ◌++◌, map, Option, Some, None, cond, nat_le, nat_lt, refl, subst}
+use Rattle.std.proofs.Common.{◌≡◌, ℕ, ◌+◌, ◌-◌, ◌==◌, Bool, true, false, List, [], ◌∷◌, ◌++◌, map, Option, Some, None, cond, nat_le, nat_lt, refl, subst}
 use Rattle.bb_script.specs.Fields.{expansion_of}
 use Rattle.bb_script.specs.Tree.{ScriptTree, CommandTree, ChoiceTree, no_steps, step, call, set, choose, repeat, no_else, otherwise, branch}
 use Rattle.bb_script.specs.Words.{Atom}
@@ -7,11 +7,10 @@ use Rattle.bb_script.specs.declared.script.When.{When}
 use Rattle.bb_interpreter.specs.Assigned.{assigned_value}
 use Rattle.bb_interpreter.specs.Echo.{echo_text}
 use Rattle.bb_interpreter.specs.Means as means
-use Rattle.bb_interpreter.specs.Means.{built_in_of, does_built_in, does_expanded, does_fields, does_named, does_outside, is_due, loops_over, means_choice, means_command, means_steps, put_by, puts, replied, rounds, sends, values_at, when_due}
+use Rattle.bb_interpreter.specs.Means.{built_in_of, does_built_in, does_expanded, does_fields, does_named, does_outside, is_due, loops_over, means_choice, means_command, means_steps, put_by, puts, replied, rounds, sends, values_at, when_due, next_answer}
 use Rattle.bb_interpreter.specs.Outside.{Outside, set_status}
 use Rattle.bb_interpreter.specs.Runs.{CallGives, RanScript, act_answer, course_of, standing_of}
 use Rattle.bb_interpreter.specs.Standing.{Act, Answer, Course, GoesOn, Meaning, Standing, Stops, counts_one, either, followed, granted, granted_by, with_status}
-use Rattle.bb_interpreter.specs.Test.{brackets_status, test_status}
 use Rattle.bb_interpreter.specs.declared.built_in.BuiltIn.{BuiltIn}
 use Rattle.bb_interpreter.specs.declared.built_in.BuiltIn.TheVariants as built_in
 use Rattle.bb_interpreter.specs.declared.commands.Reply.{Reply}
@@ -147,25 +146,25 @@ module _ {C D : Type 0} (o : Outside C) (P : C → D → List (Act C D) → Type
       })
       (kept.replies at.outside at.device at.acts words a h)
 
-  outside_so : (name : List ℕ) (fields : List (List ℕ)) (at : Standing C D) → At P at → After P Q (does_outside o name fields at)
+  outside_so : (name : List ℕ) (fields : List (List ℕ)) (at : Standing C D) → At P at → After P Q (does_outside o next_answer name fields at)
   outside_so name fields at h =
       one_of (o.is_command name) (λ at'. means.answered fields at'.answers at') (with_status 127) at (answered_so fields at.answers at h) h
 
-  named_so : (built_in : Option BuiltIn) (name : List ℕ) (words : List (List ℕ)) (at : Standing C D) → At P at → After P Q (does_named o built_in name words at)
+  named_so : (built_in : Option BuiltIn) (name : List ℕ) (words : List (List ℕ)) (at : Standing C D) → At P at → After P Q (does_named o next_answer built_in name words at)
   named_so None name words at h = outside_so name (name ∷ words) at h
   named_so (Some kind) name words at h = built_in_so kind words at h
 
-  fields_so : (fields : List (List ℕ)) (at : Standing C D) → At P at → After P Q (does_fields o fields at)
+  fields_so : (fields : List (List ℕ)) (at : Standing C D) → At P at → After P Q (does_fields o next_answer fields at)
   fields_so [] at h = h
   fields_so (name ∷ words) at h = named_so (built_in_of name) name words at h
 
-  expanded_so : (fields : Option (List (List ℕ))) (at : Standing C D) → At P at → After P Q (does_expanded o fields at)
+  expanded_so : (fields : Option (List (List ℕ))) (at : Standing C D) → At P at → After P Q (does_expanded o next_answer fields at)
   expanded_so None at h = h
   expanded_so (Some fields) at h = fields_so fields at h
 
-  calls_so : (words : List (List Atom)) (at : Standing C D) → At P at → After P Q (means.calls o words at)
+  calls_so : (words : List (List Atom)) (at : Standing C D) → At P at → After P Q (means.calls o next_answer words at)
   calls_so words at h =
-      then (granted at) (λ at'. does_expanded o (expansion_of (values_at o at') at'.status words) at') (has_memory at h)
+      then (granted at) (λ at'. does_expanded o next_answer (expansion_of (values_at o at') at'.status words) at') (has_memory at h)
       (λ at' k. expanded_so (expansion_of (values_at o at') at'.status words) at' k)
 
   -- ---- the flow
@@ -195,25 +194,25 @@ module _ {C D : Type 0} (o : Outside C) (P : C → D → List (Act C D) → Type
   due_so due command at k h = one_of (is_due due at.status) command GoesOn at k h
 
   mutual
-    steps_so : (script : ScriptTree) (at : Standing C D) → At P at → After P Q (means_steps o script at)
+    steps_so : (script : ScriptTree) (at : Standing C D) → At P at → After P Q (means_steps o next_answer script at)
     steps_so no_steps at h = h
     steps_so (step due command later) at h =
-        then (when_due due (means_command o command) at) (means_steps o later)
-        (due_so due (means_command o command) at (command_so command at h) h)
+        then (when_due due (means_command o next_answer command) at) (means_steps o next_answer later)
+        (due_so due (means_command o next_answer command) at (command_so command at h) h)
         (λ at' k. steps_so later at' k)
 
-    command_so : (command : CommandTree) (at : Standing C D) → At P at → After P Q (means_command o command at)
-    command_so (call words) at h = then (counts_one at) (means.calls o words) (counted at h) (λ at' k. calls_so words at' k)
+    command_so : (command : CommandTree) (at : Standing C D) → At P at → After P Q (means_command o next_answer command at)
+    command_so (call words) at h = then (counts_one at) (means.calls o next_answer words) (counted at h) (λ at' k. calls_so words at' k)
     command_so (set name rest) at h = then (counts_one at) (means.assigns o name rest) (counted at h) (λ at' k. assigns_so name rest at' k)
     command_so (choose choice) at h = choice_so choice at h
-    command_so (repeat name words body) at h = loops_so name words (means_steps o body) (λ at' k. steps_so body at' k) at h
+    command_so (repeat name words body) at h = loops_so name words (means_steps o next_answer body) (λ at' k. steps_so body at' k) at h
 
-    choice_so : (choice : ChoiceTree) (at : Standing C D) → At P at → After P Q (means_choice o choice at)
+    choice_so : (choice : ChoiceTree) (at : Standing C D) → At P at → After P Q (means_choice o next_answer choice at)
     choice_so no_else at h = h
     choice_so (otherwise steps) at h = steps_so steps at h
     choice_so (branch test body later) at h =
-        then (means_steps o test at) (means.by_success (means_steps o body) (means_choice o later)) (steps_so test at h)
-        (λ at' k. one_of (at'.status == 0) (means_steps o body) (means_choice o later) at' (steps_so body at' k) (choice_so later at' k))
+        then (means_steps o next_answer test at) (means.by_success (means_steps o next_answer body) (means_choice o next_answer later)) (steps_so test at h)
+        (λ at' k. one_of (at'.status == 0) (means_steps o next_answer body) (means_choice o next_answer later) at' (steps_so body at' k) (choice_so later at' k))
 
   by_end : (end : ScriptEnd) (at : Standing C D) → After P Q (course_of end at) → At (Q end) at
   by_end (ends.Done status) at h = kept.done at.outside at.device at.acts status h
@@ -224,7 +223,7 @@ module _ {C D : Type 0} (o : Outside C) (P : C → D → List (Act C D) → Type
 
   from_course : (script : ScriptTree) (old new : ScriptRun C) (from to : D) (end : ScriptEnd) (acts : List (Act C D)) (left leaves : Option ℕ)
       → P old.commands from []
-      → means_steps o script (standing_of old from [] (map act_answer acts ++ []) left) ≡ course_of end (standing_of new to acts [] leaves)
+      → means_steps o next_answer script (standing_of old from [] (map act_answer acts ++ []) left) ≡ course_of end (standing_of new to acts [] leaves)
       → Q end new.commands to acts
   from_course script old new from to end acts left leaves h means =
       by_end end (standing_of new to acts [] leaves)

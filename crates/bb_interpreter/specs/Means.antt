@@ -16,7 +16,7 @@ use Rattle.bb_interpreter.specs.declared.commands.Reply.TheVariants as reply
 use Rattle.bb_interpreter.specs.declared.stop.ScriptStop.TheVariants as stop
 use Rattle.bb_interpreter.specs.Echo.{echo_text}
 use Rattle.bb_interpreter.specs.Outside.{Outside, set_status, known_value}
-use Rattle.bb_interpreter.specs.Standing.{Answer, Standing, GoesOn, Stops, Meaning, counts_one, either, followed, granted, with_status}
+use Rattle.bb_interpreter.specs.Standing.{Answer, Asks, Standing, GoesOn, Stops, Meaning, counts_one, either, followed, granted, with_status}
 use Rattle.bb_interpreter.specs.Test.{brackets_status, test_status}
 use Rattle.bb_interpreter.specs.Variables.{own_set}
 
@@ -85,27 +85,31 @@ answered words (a ∷ later) at =
       acts = at.acts ++ (record { words = words; before = at.outside; on = at.device; answer = a }) ∷ [];
     })
 
+-- by the next of them
+abbrev pub next_answer : {C D : Type 0} → Asks C D
+next_answer words at = answered words at.answers at
+
 -- the outside may have no command of this name
-abbrev pub does_outside : {C D : Type 0} → Outside C → List ℕ → List (List ℕ) → Meaning C D
-does_outside o name fields at =
-    either (o.is_command name) (λ at'. answered fields at'.answers at') (with_status 127) at
+abbrev pub does_outside : {C D : Type 0} → Outside C → Asks C D → List ℕ → List (List ℕ) → Meaning C D
+does_outside o asks name fields at =
+    either (o.is_command name) (asks fields) (with_status 127) at
 
-abbrev pub does_named : {C D : Type 0} → Outside C → Option BuiltIn → List ℕ → List (List ℕ) → Meaning C D
-does_named o None name words at = does_outside o name (name ∷ words) at
-does_named o (Some built_in) name words at = does_built_in built_in words at
+abbrev pub does_named : {C D : Type 0} → Outside C → Asks C D → Option BuiltIn → List ℕ → List (List ℕ) → Meaning C D
+does_named o asks None name words at = does_outside o asks name (name ∷ words) at
+does_named o asks (Some built_in) name words at = does_built_in built_in words at
 
-abbrev pub does_fields : {C D : Type 0} → Outside C → List (List ℕ) → Meaning C D
-does_fields o [] at = with_status 0 at
-does_fields o (name ∷ words) at = does_named o (built_in_of name) name words at
+abbrev pub does_fields : {C D : Type 0} → Outside C → Asks C D → List (List ℕ) → Meaning C D
+does_fields o asks [] at = with_status 0 at
+does_fields o asks (name ∷ words) at = does_named o asks (built_in_of name) name words at
 
-abbrev pub does_expanded : {C D : Type 0} → Outside C → Option (List (List ℕ)) → Meaning C D
-does_expanded o None at = with_status 1 at
-does_expanded o (Some fields) at = does_fields o fields at
+abbrev pub does_expanded : {C D : Type 0} → Outside C → Asks C D → Option (List (List ℕ)) → Meaning C D
+does_expanded o asks None at = with_status 1 at
+does_expanded o asks (Some fields) at = does_fields o asks fields at
 
-abbrev pub calls : {C D : Type 0} → Outside C → List (List Atom) → Meaning C D
-calls o words at =
+abbrev pub calls : {C D : Type 0} → Outside C → Asks C D → List (List Atom) → Meaning C D
+calls o asks words at =
     followed (granted at)
-    (λ at'. does_expanded o (expansion_of (values_at o at') at'.status words) at')
+    (λ at'. does_expanded o asks (expansion_of (values_at o at') at'.status words) at')
 
 -- ---- the flow
 
@@ -140,19 +144,19 @@ loops o name words body at =
     (λ at'. loops_over o name body (expansion_of (values_at o at') at'.status words) at')
 
 abbrev mutual
-  pub means_steps : {C D : Type 0} → Outside C → ScriptTree → Meaning C D
-  means_steps o no_steps at = GoesOn at
-  means_steps o (step due command later) at =
-      followed (when_due due (means_command o command) at) (means_steps o later)
+  pub means_steps : {C D : Type 0} → Outside C → Asks C D → ScriptTree → Meaning C D
+  means_steps o asks no_steps at = GoesOn at
+  means_steps o asks (step due command later) at =
+      followed (when_due due (means_command o asks command) at) (means_steps o asks later)
 
-  pub means_command : {C D : Type 0} → Outside C → CommandTree → Meaning C D
-  means_command o (call words) at = followed (counts_one at) (calls o words)
-  means_command o (set name rest) at = followed (counts_one at) (assigns o name rest)
-  means_command o (choose choice) at = means_choice o choice at
-  means_command o (repeat name words body) at = loops o name words (means_steps o body) at
+  pub means_command : {C D : Type 0} → Outside C → Asks C D → CommandTree → Meaning C D
+  means_command o asks (call words) at = followed (counts_one at) (calls o asks words)
+  means_command o asks (set name rest) at = followed (counts_one at) (assigns o name rest)
+  means_command o asks (choose choice) at = means_choice o asks choice at
+  means_command o asks (repeat name words body) at = loops o name words (means_steps o asks body) at
 
-  pub means_choice : {C D : Type 0} → Outside C → ChoiceTree → Meaning C D
-  means_choice o no_else at = with_status 0 at
-  means_choice o (otherwise steps) at = means_steps o steps at
-  means_choice o (branch test body later) at =
-      followed (means_steps o test at) (by_success (means_steps o body) (means_choice o later))
+  pub means_choice : {C D : Type 0} → Outside C → Asks C D → ChoiceTree → Meaning C D
+  means_choice o asks no_else at = with_status 0 at
+  means_choice o asks (otherwise steps) at = means_steps o asks steps at
+  means_choice o asks (branch test body later) at =
+      followed (means_steps o asks test at) (by_success (means_steps o asks body) (means_choice o asks later))

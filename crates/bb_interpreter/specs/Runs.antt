@@ -8,7 +8,7 @@ use Rattle.bb_interpreter.specs.declared.run.ScriptEnd.TheVariants as ends
 use Rattle.bb_interpreter.specs.declared.run.ScriptRun.{ScriptRun}
 use Rattle.bb_interpreter.specs.declared.stop.ScriptStop.{ScriptStop}
 use Rattle.bb_interpreter.specs.declared.stop.ScriptStop.TheVariants.{Started, StepLimit, Fault, NoMemory}
-use Rattle.bb_interpreter.specs.Means.{means_steps}
+use Rattle.bb_interpreter.specs.Means.{means_steps, next_answer}
 use Rattle.bb_interpreter.specs.Outside.{Outside, known_value}
 use Rattle.bb_interpreter.specs.Standing.{Act, Answer, Standing, GoesOn, Stops, Meaning, with_status}
 use Rattle.bb_interpreter.specs.Variables.{variable_pair}
@@ -73,11 +73,11 @@ pub record RanScript {C D : Type 0} (gives : CallGives C D) (o : Outside C) (scr
   pub acts : List (Act C D)
   pub called : AllByRecursion (IsAct gives) acts
   pub whole : end ≢ ends.NoMemory → (later : List (Answer C D))
-      → means_steps o script (standing_of old from [] (map act_answer acts ++ later) None)
+      → means_steps o next_answer script (standing_of old from [] (map act_answer acts ++ later) None)
       ≡ course_of end (standing_of new to acts later None)
   pub asked : ℕ
   pub front : end ≡ ends.NoMemory → (later : List (Answer C D))
-      → means_steps o script (standing_of old from [] (map act_answer acts ++ later) (Some asked))
+      → means_steps o next_answer script (standing_of old from [] (map act_answer acts ++ later) (Some asked))
       ≡ Stops NoMemory (standing_of new to acts later (Some 0))
 
 -- ---- a part of one

@@ -43,6 +43,10 @@ pub data Course (C D : Type 0) : Type 0 where
 abbrev pub Meaning : Type 0 → Type 0 → Type 0
 Meaning C D = Standing C D → Course C D
 
+-- what a command from outside does there, by its words
+abbrev pub Asks : Type 0 → Type 0 → Type 0
+Asks C D = List (List ℕ) → Meaning C D
+
 -- and what comes after it
 abbrev pub followed : {C D : Type 0} → Course C D → Meaning C D → Course C D
 followed (GoesOn at) next = next at

@@ -3,7 +3,7 @@ ghost use Rattle.bb_interpreter.specs.Means.{built_in_of};
 
 /// A command of the language's own.
 #[derive(Clone, Copy, Debug, PartialEq, Eq)]
-pub(crate) enum BuiltIn {
+pub enum BuiltIn {
     Echo,
     True,
     False,

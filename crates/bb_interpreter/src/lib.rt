@@ -13,7 +13,9 @@ mod stop;
 mod test_words;
 mod variables;
 
+pub use built_in::BuiltIn;
 pub use commands::{Commands, Reply, SetReply};
 pub use echo::echo_text;
 pub use run::{ScriptEnd, ScriptRun};
+pub use stop::ScriptStop;
 pub use test_words::test_status;

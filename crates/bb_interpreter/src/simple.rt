@@ -5,6 +5,7 @@ ghost use Rattle.bb_script.specs.Tree.{call, set_command_of};
 ghost use Rattle.bb_script.specs.Words.{word_atoms};
 ghost use Rattle.bb_interpreter.specs.Echo.{echo_text};
 ghost use Rattle.bb_interpreter.specs.Means.{does_built_in, does_fields, does_outside};
+ghost use Rattle.bb_interpreter.specs.Means.{next_answer};
 ghost use Rattle.bb_interpreter.specs.Means.{means_command, puts, replied, sends};
 ghost use Rattle.bb_interpreter.specs.Outside.{is_done_reply, set_status};
 ghost use Rattle.bb_interpreter.specs.Standing.{counts_one};
@@ -80,7 +81,7 @@ pub(crate) fn run_set<C: Commands>(
     device: &mut C::Device,
 ) -> Result<(), ScriptStop>
     requires { C.can_call run.old.commands device.old }
-    ensures leads { Leads C.call_gives (LeftBy result) (means_command C.outside
+    ensures leads { Leads C.call_gives (LeftBy result) (means_command C.outside next_answer
         (set_command_of assignment.now.name_len (word_atoms assignment.now.word)))
         (ending result) run.old run.new device.old device.new }
     ensures ready { OnOk result (C.can_call run.new.commands device.new) }
@@ -107,7 +108,7 @@ pub(crate) fn run_call<C: Commands>(
 ) -> Result<(), ScriptStop>
     requires { C.can_call run.old.commands device.old }
     ensures leads { Leads C.call_gives (LeftBy result)
-        (means_command C.outside (call (map word_atoms words.now))) (ending result)
+        (means_command C.outside next_answer (call (map word_atoms words.now))) (ending result)
         run.old run.new device.old device.new }
     ensures ready { OnOk result (C.can_call run.new.commands device.new) }
 {
@@ -127,7 +128,7 @@ fn run_fields<C: Commands>(
     device: &mut C::Device,
 ) -> Result<(), ScriptStop>
     requires { C.can_call run.old.commands device.old }
-    ensures leads { Leads C.call_gives (LeftBy result) (does_fields C.outside fields.now)
+    ensures leads { Leads C.call_gives (LeftBy result) (does_fields C.outside next_answer fields.now)
         (ending result) run.old run.new device.old device.new }
     ensures ready { OnOk result (C.can_call run.new.commands device.new) }
 {
@@ -201,7 +202,7 @@ fn run_outside<C: Commands>(
 ) -> Result<(), ScriptStop>
     requires { C.can_call run.old.commands device.old }
     ensures leads { Leads C.call_gives (LeftBy result)
-        (does_outside C.outside name.now fields.now) (ending result)
+        (does_outside C.outside next_answer name.now fields.now) (ending result)
         run.old run.new device.old device.new }
     ensures ready { OnOk result (C.can_call run.new.commands device.new) }
 {

@@ -1,6 +1,7 @@
 ghost use Rattle.std.specs.Prelude.{◌≡◌, OnOk};
 ghost use Rattle.bb_script.specs.Views.{command_tree, if_tree, loop_tree, script_tree, step_pair};
 ghost use Rattle.bb_interpreter.specs.Means.{is_due, means_choice, means_command, means_steps};
+ghost use Rattle.bb_interpreter.specs.Means.{next_answer};
 ghost use Rattle.bb_interpreter.specs.Means.{rounds, when_due};
 ghost use Rattle.bb_interpreter.specs.Runs.{Leads, ending, LeftBy};
 
@@ -20,7 +21,7 @@ pub(crate) fn run_steps<C: Commands>(
 ) -> Result<(), ScriptStop>
     requires { C.can_call run.old.commands device.old }
     ensures leads { Leads C.call_gives (LeftBy result)
-        (means_steps C.outside (script_tree script.now)) (ending result)
+        (means_steps C.outside next_answer (script_tree script.now)) (ending result)
         run.old run.new device.old device.new }
     ensures ready { OnOk result (C.can_call run.new.commands device.new) }
 {
@@ -38,7 +39,7 @@ fn run_step<C: Commands>(
 ) -> Result<(), ScriptStop>
     requires { C.can_call run.old.commands device.old }
     ensures leads { let seen = step_pair step.now in Leads C.call_gives (LeftBy result)
-        (when_due seen.0 (means_command C.outside seen.1)) (ending result)
+        (when_due seen.0 (means_command C.outside next_answer seen.1)) (ending result)
         run.old run.new device.old device.new }
     ensures ready { OnOk result (C.can_call run.new.commands device.new) }
 {
@@ -66,7 +67,7 @@ fn run_command<C: Commands>(
 ) -> Result<(), ScriptStop>
     requires { C.can_call run.old.commands device.old }
     ensures leads { Leads C.call_gives (LeftBy result)
-        (means_command C.outside (command_tree command.now)) (ending result)
+        (means_command C.outside next_answer (command_tree command.now)) (ending result)
         run.old run.new device.old device.new }
     ensures ready { OnOk result (C.can_call run.new.commands device.new) }
 {
@@ -86,7 +87,7 @@ fn run_choice<C: Commands>(
 ) -> Result<(), ScriptStop>
     requires { C.can_call run.old.commands device.old }
     ensures leads { Leads C.call_gives (LeftBy result)
-        (means_choice C.outside (if_tree choice.now)) (ending result)
+        (means_choice C.outside next_answer (if_tree choice.now)) (ending result)
         run.old run.new device.old device.new }
     ensures ready { OnOk result (C.can_call run.new.commands device.new) }
 {
@@ -113,7 +114,7 @@ fn run_loop<C: Commands>(
 ) -> Result<(), ScriptStop>
     requires { C.can_call run.old.commands device.old }
     ensures leads { Leads C.call_gives (LeftBy result)
-        (means_command C.outside (loop_tree for_loop.now)) (ending result)
+        (means_command C.outside next_answer (loop_tree for_loop.now)) (ending result)
         run.old run.new device.old device.new }
     ensures ready { OnOk result (C.can_call run.new.commands device.new) }
 {
@@ -144,7 +145,7 @@ fn run_rounds<C: Commands>(
 ) -> Result<(), ScriptStop>
     requires { C.can_call run.old.commands device.old }
     ensures leads { Leads C.call_gives (LeftBy result)
-        (rounds C.outside name.now (means_steps C.outside (script_tree body.now)) fields.now)
+        (rounds C.outside name.now (means_steps C.outside next_answer (script_tree body.now)) fields.now)
         (ending result) run.old run.new device.old device.new }
     ensures ready { OnOk result (C.can_call run.new.commands device.new) }
 {

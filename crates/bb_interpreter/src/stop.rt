@@ -2,10 +2,14 @@ use bb_base::NoMemory;
 
 /// Why a run doesn't go on.
 #[derive(Clone, Copy, Debug, PartialEq, Eq)]
-pub(crate) enum ScriptStop {
+pub enum ScriptStop {
+    /// A command started a target.
     Started,
+    /// It has more than 10,000 commands and rounds.
     StepLimit,
+    /// The device failed.
     Fault,
+    /// An allocation was refused.
     NoMemory,
 }
 
