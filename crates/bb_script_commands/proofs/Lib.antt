@@ -6,3 +6,6 @@ pub mod Replying
 pub mod Joining
 pub mod Whole
 pub mod Listing
+pub mod PlayedCalls
+pub mod Mirrors
+pub mod PlayedScripts

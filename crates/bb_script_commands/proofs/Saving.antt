@@ -2,30 +2,26 @@
 use Rattle.std.proofs.Common.{◌≡◌, ℕ, Bool, true, false, List, [], ◌∷◌, length, Option, Some, None, ap, inl, inr, refl, sym, subst, ◌∙◌}
 use Rattle.std.proofs.lemmas.Bool.{false≢true}
 use Rattle.std.specs.Option.{option_map_or}
-use Rattle.std.specs.Prelude.{IsSome, is_none, slice_get}
+use Rattle.std.specs.Prelude.{IsSome, is_none}
 use Rattle.bb_copies.specs.declared.answers.CopyFault.{CopyFault}
-use Rattle.bb_copies.proofs.Runs.{later_refl}
 use Rattle.bb_copies.specs.Buckets.{AllAgree}
 use Rattle.bb_flash.specs.Device.{Device}
-use Rattle.bb_flash.specs.declared.plan.Plan.{Plan}
 use Rattle.bb_state.specs.Keyed.{Keyed}
 use Rattle.bb_state.specs.Backed.{Backed}
-use Rattle.bb_state.specs.Kinds.{any_holding, laid_kinds}
-use Rattle.bb_state.specs.State.{IsOn, is_sure, keyed_of, laid_of, last_table_of, used_of}
+use Rattle.bb_state.specs.Kinds.{any_holding}
+use Rattle.bb_state.specs.State.{IsOn, is_sure, keyed_of, last_table_of, used_of}
 use Rattle.bb_state.specs.declared.state.State.{State}
-use Rattle.bb_chooser.specs.Choosing.{last_chosen_of}
 use Rattle.bb_chooser.specs.Counting.{chosen_target, mark_good_of, with_default_attempts}
 use Rattle.bb_interpreter.specs.declared.commands.Reply.{Reply}
 use Rattle.bb_interpreter.specs.declared.commands.Reply.TheVariants as reply
-use Rattle.bb_layout.specs.Layout.{Laid}
-use Rattle.bb_shell.proofs.Joins.{outside_refl}
-use Rattle.bb_shell.proofs.Saves.{save_later, save_outside, save_starts}
+use Rattle.bb_shell.proofs.Sequence.{none_run, none_stops, once_stops, ran_rounds, save_run}
 use Rattle.bb_shell.specs.Boot.{Round}
 use Rattle.bb_shell.specs.Ends.{IsBoundIn, IsReady}
-use Rattle.bb_shell.specs.Running.{AreRun, IsRoundRun, IsSaveRun}
-use Rattle.bb_script_commands.specs.Calling.{Called, Does, HasCalledOne, IsSaving, MarksGood, answering, save_round, saved_reply, saving}
-use Rattle.bb_script_commands.specs.Held.{CanCall, Held, held_of}
-use Rattle.bb_script_commands.specs.Ran.{RanRounds, StopsThere, refused_in}
+use Rattle.bb_shell.specs.Running.{IsSaveRun}
+use Rattle.bb_shell.specs.Sequence.{refused_in, save_round}
+use Rattle.bb_script_commands.specs.Calling.{Called, Does, HasCalledOne, IsSaving, MarksGood, answering, saved_reply, saving}
+use Rattle.bb_script_commands.specs.Held.{CanCall, Held, Known, held_of, known_of}
+use Rattle.bb_script_commands.specs.Ran.{RanFor}
 use Rattle.bb_script_commands.specs.declared.directions.Directions.{Directions}
 use Rattle.bb_script_commands.specs.declared.words.OutsideCommand.{OutsideCommand}
 use Rattle.bb_script_commands.specs.declared.words.OutsideCommand.TheVariants.{MarkGood, Save}
@@ -55,28 +51,27 @@ can_again before after by so_far now from to can keyed sure on unfailed = record
 
 -- ---- nothing was run
 
-pub ran_none : (held : Held) (device : Device) → CanCall held device → RanRounds held held device device []
-unfolding AreRun StopsThere
-ran_none held device can = record {
-  run = (refl, refl);
-  kept = λ _. refl;
-  fault = can.unfailed;
-  sure = can.sure;
-  stops = tt;
-  starts = refl;
-  keyed = refl;
-  by = refl;
-  outside = outside_refl (laid_kinds held.backed.keyed.layout) device;
-  later = later_refl device;
-  ready = λ _. can;
-}
+pub ran_none : (held : Held) (device : Device) → CanCall held device → RanFor held held device device []
+ran_none held device can =
+    let b = held.backed in
+    record {
+      ran =
+          ran_rounds b.keyed held.by.plans [] (Some b.kept) b.used b.used device device can.geometry none_stops
+          (none_run b.keyed held.by.plans (Some b.kept) b.used device);
+      kept = λ none. refl;
+      fault = can.unfailed;
+      sure = can.sure;
+      keyed = refl;
+      by = refl;
+      ready = λ none. can;
+    }
 
 -- a command that answers so
 pub answered_so : (command : OutsideCommand) (held : Held) (device : Device) (answer : Reply) (takes : Bool) (status : ℕ) (text : List ℕ)
-    → CanCall held device → Does command held (answering held takes status text) → answer ≡ reply.Done status text
+    → CanCall held device → Does command (known_of held) (answering (known_of held) takes status text) → answer ≡ reply.Done status text
     → HasCalledOne command held device answer held device
 answered_so command held device answer takes status text can does is = record {
-  called = answering held takes status text;
+  called = answering (known_of held) takes status text;
   does = does;
   replies = inl is;
   table = refl;
@@ -86,10 +81,10 @@ answered_so command held device answer takes status text can does is = record {
 
 -- or has no memory to do so
 pub unanswered : (command : OutsideCommand) (held : Held) (device : Device) (status : ℕ) (text : List ℕ)
-    → CanCall held device → Does command held (answering held true status text)
+    → CanCall held device → Does command (known_of held) (answering (known_of held) true status text)
     → HasCalledOne command held device reply.NoMemory held device
 unanswered command held device status text can does = record {
-  called = answering held true status text;
+  called = answering (known_of held) true status text;
   does = does;
   replies = inr (refl, refl);
   table = refl;
@@ -99,67 +94,43 @@ unanswered command held device status text can does = record {
 
 -- ---- a save
 
-round_of_save : (keyed : Keyed) (plans : List (Option Plan)) (kept : List ℕ) (used now : Option ℕ) (table : List ℕ)
-    (refusal : Option CopyFault) (from to : Device) → IsSaveRun keyed kept used now table refusal from to
-    → IsRoundRun keyed plans kept used now (save_round (length plans) table refusal) from to
-round_of_save keyed plans kept used now table None from to run = record { middle = to; saved = run; tried = refl }
-round_of_save keyed plans kept used now table (Some fault) from to run = record { middle = to; saved = run; tried = refl }
+save_refused : (none : ℕ) (table : List ℕ) (refusal : Option CopyFault) → refused_in (save_round none table refusal ∷ []) ≡ refusal
+save_refused none table None = refl
+save_refused none table (Some fault) = refl
 
 -- its round is the only one
 pub save_ran : (before after : State) (by : Directions) (so_far now : SoFar) (refusal : Option CopyFault) (table : List ℕ) (from to : Device)
-    → CanCall (held_of before by so_far) from → IsSaveRun (keyed_of before) (last_table_of before) (used_of before) (used_of after) table refusal from to
+    → CanCall (held_of before by so_far) from
+    → IsSaveRun (keyed_of before) (Some (last_table_of before)) (used_of before) (used_of after) table refusal from to
     → (refusal ≡ None → last_table_of after ≡ table) → is_sure after ≡ is_none refusal → keyed_of after ≡ keyed_of before → IsOn after to
     → now.fault ≡ refusal
-    → RanRounds (held_of before by so_far) (held_of after by now) from to (save_round (length by.plans) table refusal ∷ [])
-unfolding AreRun StopsThere
-save_ran before after by so_far now None table from to can run kept sure keyed on fault = record {
-  run = record {
-    copy = used_of after;
-    device = to;
-    before = round_of_save (keyed_of before) by.plans (last_table_of before) (used_of before) (used_of after) table None from to run;
-    behind = (refl, refl);
-  };
-  kept = λ none. kept none;
-  fault = fault;
-  sure = sure;
-  stops = (λ _. refl, tt);
-  starts = (save_starts (keyed_of before) (last_table_of before) (used_of before) (used_of after) table None from to run).starts;
-  keyed = keyed;
-  by = refl;
-  outside = save_outside (keyed_of before) (last_table_of before) (used_of before) (used_of after) table None from to run;
-  later = save_later (keyed_of before) (last_table_of before) (used_of before) (used_of after) table None from to run;
-  ready = λ none. can_again before after by so_far now from to can keyed sure on fault;
-}
-save_ran before after by so_far now (Some refused) table from to can run kept sure keyed on fault = record {
-  run = record {
-    copy = used_of after;
-    device = to;
-    before = round_of_save (keyed_of before) by.plans (last_table_of before) (used_of before) (used_of after) table (Some refused) from to run;
-    behind = (refl, refl);
-  };
-  kept = λ none. kept none;
-  fault = fault;
-  sure = sure;
-  stops = (λ _. refl, tt);
-  starts = (save_starts (keyed_of before) (last_table_of before) (used_of before) (used_of after) table (Some refused) from to run).starts;
-  keyed = keyed;
-  by = refl;
-  outside = save_outside (keyed_of before) (last_table_of before) (used_of before) (used_of after) table (Some refused) from to run;
-  later = save_later (keyed_of before) (last_table_of before) (used_of before) (used_of after) table (Some refused) from to run;
-  ready = λ none. absurd (some_none refused none);
-}
-  where
-    some_none : (f : CopyFault) → Some f ≡ None → ⊥
-    some_none f p = cc
+    → RanFor (held_of before by so_far) (held_of after by now) from to (save_round (length by.plans) table refusal ∷ [])
+save_ran before after by so_far now refusal table from to can run kept sure keyed on fault =
+    let round = save_round (length by.plans) table refusal in
+    let last = Some (last_table_of before) in
+    let same = save_refused (length by.plans) table refusal in
+    record {
+      ran =
+          ran_rounds (keyed_of before) by.plans (round ∷ []) last (used_of before) (used_of after) from to can.geometry (once_stops round)
+          (save_run (keyed_of before) by.plans (length by.plans) last (used_of before) (used_of after) table refusal from to run);
+      kept = λ none. ap (λ t. Some t) (kept (sym same ∙ none));
+      fault = fault ∙ sym same;
+      sure = sure ∙ ap (λ (o : Option CopyFault). is_none o) (sym same);
+      keyed = keyed;
+      by = refl;
+      ready = λ none.
+          can_again before after by so_far now from to can keyed (sure ∙ ap (λ (o : Option CopyFault). is_none o) (sym same ∙ none)) on
+          (fault ∙ sym same ∙ none);
+    }
 
 pub save_called : (before after : State) (by : Directions) (so_far now : SoFar) (refusal : Option CopyFault) (answer : Reply) (from to : Device)
     → CanCall (held_of before by so_far) from
-    → IsSaveRun (keyed_of before) (last_table_of before) (used_of before) (used_of after) before.table refusal from to
+    → IsSaveRun (keyed_of before) (Some (last_table_of before)) (used_of before) (used_of after) before.table refusal from to
     → (refusal ≡ None → last_table_of after ≡ before.table) → is_sure after ≡ is_none refusal → keyed_of after ≡ keyed_of before → IsOn after to
     → now.fault ≡ refusal → now.booted ≡ so_far.booted → after.table ≡ before.table → answer ≡ saved_reply refusal
     → HasCalledOne Save (held_of before by so_far) from answer (held_of after by now) to
 save_called before after by so_far now refusal answer from to can run kept sure keyed on fault booted table is = record {
-  called = saving (held_of before by so_far) before.table refusal;
+  called = saving (known_of (held_of before by so_far)) before.table refusal;
   does = record { refusal = refusal; is = refl };
   replies = inl is;
   table = table;
@@ -185,18 +156,18 @@ none_by : (o : Option ℕ) → (IsSome o → ⊥) → o ≡ None
 none_by None h = refl
 none_by (Some x) h = absurd (h refl)
 
-marking_none : (held : Held) (chosen : Option ℕ) (called : Called) → chosen ≡ None → called ≡ answering held false 1 []
-    → MarksGood held called chosen
-marking_none held None called none is = is
-marking_none held (Some target) called none is = absurd (some_none target none)
+marking_none : (known : Known) (chosen : Option ℕ) (called : Called) → chosen ≡ None → called ≡ answering known false 1 []
+    → MarksGood known called chosen
+marking_none known None called none is = is
+marking_none known (Some target) called none is = absurd (some_none target none)
   where
     some_none : (t : ℕ) → Some t ≡ None → ⊥
     some_none t p = cc
 
-marking_some : (held : Held) (chosen : Option ℕ) (called : Called) → IsSome chosen → IsSaving held (mark_good_of held.by.chooser held.table) called
-    → MarksGood held called chosen
-marking_some held None called some saves = absurd (false≢true some)
-marking_some held (Some target) called some saves = saves
+marking_some : (known : Known) (chosen : Option ℕ) (called : Called) → IsSome chosen → IsSaving known (mark_good_of known.by.chooser known.table) called
+    → MarksGood known called chosen
+marking_some known None called some saves = absurd (false≢true some)
+marking_some known (Some target) called some saves = saves
 
 -- there is none
 pub unmarked : (before after : State) (by : Directions) (so_far : SoFar) (answer : Reply) (device : Device) → CanCall (held_of before by so_far) device
@@ -209,25 +180,21 @@ unmarked before after by so_far answer device can is lost marked backing =
     marked ∙ ap (λ chosen. option_map_or (with_default_attempts by.chooser before.table) chosen before.table) none in
     let here : HasCalledOne MarkGood held device answer held device =
     answered_so MarkGood held device answer false 1 [] can
-    (marking_none held (chosen_target by.chooser before.table) (answering held false 1 []) none refl) is in
+    (marking_none (known_of held) (chosen_target by.chooser before.table) (answering (known_of held) false 1 []) none refl) is in
     subst (λ (b : Backed). HasCalledOne MarkGood held device answer (record { table = after.table; backed = b; by = by; so_far = so_far }) device) (sym backing)
     (subst (λ (t : List ℕ). HasCalledOne MarkGood held device answer (record { table = t; backed = before.backing; by = by; so_far = so_far }) device) (sym same) here)
 
 -- what was run doesn't ask for the table that was there before
-ran_from : (before after : Held) (table : List ℕ) (from to : Device) (rounds : List Round) → RanRounds (record before { table = table }) after from to rounds
-    → RanRounds before after from to rounds
-ran_from before after table from to rounds ran = record {
-  run = ran.run;
-  kept = ran.kept;
-  fault = ran.fault;
-  sure = ran.sure;
-  stops = ran.stops;
-  starts = ran.starts;
-  keyed = ran.keyed;
-  by = ran.by;
-  outside = ran.outside;
-  later = ran.later;
-  ready = ran.ready;
+ran_from : (before after : Held) (table : List ℕ) (from to : Device) (rounds : List Round) → RanFor (record before { table = table }) after from to rounds
+    → RanFor before after from to rounds
+ran_from before after table from to rounds run = record {
+  ran = run.ran;
+  kept = run.kept;
+  fault = run.fault;
+  sure = run.sure;
+  keyed = run.keyed;
+  by = run.by;
+  ready = run.ready;
 }
 
 -- there is one, and the table in which it is marked was saved
@@ -240,14 +207,14 @@ marked_so before middle by so_far after answer from to some marked backing has =
     record {
       called = has.called;
       does =
-          marking_some held (chosen_target by.chooser before.table) has.called some
-          (record { refusal = has.does.refusal; is = has.does.is ∙ ap (λ t. saving held t has.does.refusal) marked });
+          marking_some (known_of held) (chosen_target by.chooser before.table) has.called some
+          (record { refusal = has.does.refusal; is = has.does.is ∙ ap (λ t. saving (known_of held) t has.does.refusal) marked });
       replies = has.replies;
       table = has.table;
       booted = has.booted;
       ran =
           ran_from held after middle.table from to has.called.rounds
-          (subst (λ (b : Backed). RanRounds (record { table = middle.table; backed = b; by = by; so_far = so_far }) after from to has.called.rounds) backing has.ran);
+          (subst (λ (b : Backed). RanFor (record { table = middle.table; backed = b; by = by; so_far = so_far }) after from to has.called.rounds) backing has.ran);
     }
 
 -- a command by its words

@@ -1,5 +1,6 @@
 -- All rounds of a script's commands.
-use Rattle.std.proofs.Common.{◌≡◌, ◌≢◌, ℕ, Bool, true, false, List, [], ◌∷◌, ◌++◌, Option, Some, None, ap, append-nil, append_assoc, refl, sym, subst, ◌∙◌}
+use Rattle.std.proofs.Common.{◌≡◌, ℕ, true, List, [], ◌∷◌, ◌++◌, Option, Some, None, ap, append-nil, append_assoc, refl, sym, subst, ◌∙◌}
+use Rattle.std.proofs.lemmas.Option.{none-some, same_Some}
 use Rattle.std.specs.List.{AllByRecursion}
 use Rattle.std.specs.Option.{option_map}
 use Rattle.std.specs.Prelude.{is_some}
@@ -14,26 +15,24 @@ use Rattle.bb_interpreter.specs.declared.commands.Reply.TheVariants as reply
 use Rattle.bb_interpreter.specs.declared.run.ScriptEnd.{ScriptEnd}
 use Rattle.bb_interpreter.specs.declared.run.ScriptEnd.TheVariants as ends
 use Rattle.bb_interpreter.specs.declared.run.ScriptRun.{ScriptRun}
-use Rattle.bb_shell.proofs.Reached.{StopsRefused}
-use Rattle.bb_shell.proofs.Trails.{boot_exit, boot_trail}
-use Rattle.bb_shell.specs.Boot.{Round, has_failed}
-use Rattle.bb_shell.specs.Running.{is_refused_save}
-use Rattle.bb_shell.specs.declared.outcome.Outcome.{Outcome}
-use Rattle.bb_shell.specs.declared.outcome.Outcome.TheVariants.{Refused, Unplanned, Failed, Started}
-use Rattle.std.proofs.lemmas.Bool.{false≢true}
+use Rattle.bb_shell.proofs.Joined.{goes_joined, goes_unrefused, refused_joined, started_unrefused}
+use Rattle.bb_shell.specs.Boot.{Round}
+use Rattle.bb_shell.specs.Sequence.{goes_on}
 use Rattle.bb_script_commands.specs.Calling.{HasCalledOne}
-use Rattle.bb_script_commands.specs.Held.{CanCall, Held}
+use Rattle.bb_script_commands.specs.Held.{CanCall, Held, known_of}
 use Rattle.bb_script_commands.specs.OutsideWords.{outside_command}
-use Rattle.bb_script_commands.specs.Ran.{RanRounds, StopsThere, goes_on, refused_in, started_last}
+use Rattle.bb_script_commands.specs.Playing.{IsPlayed}
+use Rattle.bb_script_commands.specs.Ran.{RanFor}
 use Rattle.bb_script_commands.specs.Scripts.{EndsBy, IsRunEnd, RanAll, RanOver, called_rounds, calls_on}
 use Rattle.bb_script_commands.specs.declared.run_end.RunResult.{RunResult}
-use Rattle.bb_script_commands.specs.StateNames.{below_layout, table_set, state_outside, state_set}
-use Rattle.bb_script_commands.proofs.Joining.{goes_joined, ran_joined, ran_set, refused_joined, started_joined}
-use Rattle.bb_script_commands.proofs.Replying.{Fits, goes_unrefused, reply_fits, start_unrefused}
+use Rattle.bb_script_commands.specs.StateNames.{state_outside, state_set}
+use Rattle.bb_script_commands.proofs.Joining.{for_joined, ran_set, started_joined}
+use Rattle.bb_script_commands.proofs.PlayedScripts.{played_so}
+use Rattle.bb_script_commands.proofs.Replying.{Fits, reply_fits}
 use Rattle.bb_script_commands.proofs.Saving.{ran_none}
 
 record HasRun (before after : Held) (from to : Device) (Which : List Round → Type 0) (rounds : List Round) : Type 0 where
-  ran : RanRounds before after from to rounds
+  ran : RanFor before after from to rounds
   which : Which rounds
 
 abbrev Goes : {D : Type 0} → (D → Device) → Held → D → Held → D → List (Act Held D) → Type 0
@@ -48,32 +47,16 @@ Halts device before from end held d acts =
 
 -- ---- a variable that is set
 
-set_keeps_in : (held after : Held) (table : Option (List ℕ)) → option_map (λ t. record held { table = t }) table ≡ Some after
-    → (t : List ℕ) × (after ≡ record held { table = t })
-set_keeps_in held after None is = absurd (none_some after is)
-  where
-    none_some : (h : Held) → None ≡ Some h → ⊥
-    none_some h p = cc
-set_keeps_in held after (Some t) is = (t, sym (some_is (record held { table = t }) after is))
-  where
-    some_is : (one two : Held) → Some one ≡ Some two → one ≡ two
-    some_is one two p = cc
+set_keeps_by : (held after : Held) (set : Option (Option (List ℕ)))
+    → option_map (λ s. option_map (λ t. record held { table = t }) s) set ≡ Some (Some after) → (t : List ℕ) × (after ≡ record held { table = t })
+set_keeps_by held after None is = absurd (none-some (Some after) is)
+set_keeps_by held after (Some None) is = absurd (none-some after (same_Some None (Some after) is))
+set_keeps_by held after (Some (Some t)) is =
+    (t, sym (same_Some (record held { table = t }) after (same_Some (Some (record held { table = t })) (Some after) is)))
 
-set_keeps_at : (held after : Held) (value : List ℕ) (own : Option (List ℕ))
-    → option_map (λ o. option_map (λ t. record held { table = t }) (table_set held.backed.keyed.layout.vars held.table o value)) own ≡ Some (Some after)
+set_keeps : (held after : Held) (name value : List ℕ) → state_outside.set_by held name value ≡ Some (Some after)
     → (t : List ℕ) × (after ≡ record held { table = t })
-set_keeps_at held after value None is = absurd (none_some after is)
-  where
-    none_some : (h : Held) → None ≡ Some (Some h) → ⊥
-    none_some h p = cc
-set_keeps_at held after value (Some own) is =
-    set_keeps_in held after (table_set held.backed.keyed.layout.vars held.table own value) (some_is _ (Some after) is)
-  where
-    some_is : (one two : Option Held) → Some one ≡ Some two → one ≡ two
-    some_is one two p = cc
-
-set_keeps : (held after : Held) (name value : List ℕ) → state_set held name value ≡ Some (Some after) → (t : List ℕ) × (after ≡ record held { table = t })
-set_keeps held after name value is = set_keeps_at held after value (below_layout held.backed.keyed.layout.name name) is
+set_keeps held after name value is = set_keeps_by held after (state_set (known_of held) name value) is
 
 -- ---- what a call keeps
 
@@ -102,11 +85,11 @@ fits_joined reply.Fault one two goes h = ap (λ o. is_some o) (refused_joined on
 fits_joined reply.NoMemory one two goes h = refused_joined one two goes ∙ h
 
 called_so : {D : Type 0} (device : D → Device) (before : Held) (from : D) (held : Held) (d : D) (words : List (List ℕ)) (a : Answer Held D) (rounds : List Round)
-    → HasRun before held (device from) (device d) (λ rounds. goes_on rounds ≡ true) rounds
+    → (device from).geometry ≡ before.backed.keyed.layout.geometry → HasRun before held (device from) (device d) (λ rounds. goes_on rounds ≡ true) rounds
     → (has : HasCalledOne (outside_command words) held (device d) a.reply a.outside (device a.device))
     → HasRun before a.outside (device from) (device a.device) (Fits a.reply) (rounds ++ has.called.rounds)
-called_so device before from held d words a rounds run has = record {
-  ran = ran_joined before held a.outside (device from) (device d) (device a.device) rounds has.called.rounds run.which run.ran has.ran;
+called_so device before from held d words a rounds geometry run has = record {
+  ran = for_joined before held a.outside (device from) (device d) (device a.device) rounds has.called.rounds geometry run.which run.ran has.ran;
   which =
       fits_joined a.reply rounds has.called.rounds run.which
       (reply_fits (outside_command words) held a.outside (device d) (device a.device) a.reply has);
@@ -121,21 +104,22 @@ as_stands device before from held d acts (reply.Started text) h = λ all. let ru
 as_stands device before from held d acts reply.Fault h = λ all. let run = h all in record { ran = run.ran; which = run.which }
 as_stands device before from held d acts reply.NoMemory h = λ all. let run = h all in record { ran = run.ran; which = run.which }
 
-kept_so : {D : Type 0} (device : D → Device) (before : Held) (from : D) → IsKept state_outside (Goes device before from) (Halts device before from)
-kept_so device before from = record {
+kept_so : {D : Type 0} (device : D → Device) (before : Held) (from : D) → (device from).geometry ≡ before.backed.keyed.layout.geometry
+    → IsKept state_outside (Goes device before from) (Halts device before from)
+kept_so device before from geometry = record {
   done = λ held d acts status h all. let run = h all in record { ran = run.ran; which = run.which };
   limited = λ held d acts h all. let run = h all in record { ran = run.ran; which = run.which };
   starved = λ held d acts h all.
       let run = h all in record { ran = run.ran; which = goes_unrefused (called_rounds device acts all) run.which };
   unsent = λ held d acts h all.
-      let run = h all in record { ran = run.ran; which = start_unrefused (called_rounds device acts all) run.which };
+      let run = h all in record { ran = run.ran; which = started_unrefused (called_rounds device acts all) run.which };
   sets = λ held after d acts name value is h all.
       let run = h all in
       let keeps = set_keeps held after name value is in
       let rounds = called_rounds device acts all in
       record {
         ran =
-            subst (λ (x : Held). RanRounds before x (device from) (device d) rounds) (sym keeps.1)
+            subst (λ (x : Held). RanFor before x (device from) (device d) rounds) (sym keeps.1)
             (ran_set before held keeps.0 (device from) (device d) rounds run.ran);
         which = run.which;
       };
@@ -145,7 +129,7 @@ kept_so device before from = record {
       let both = all_split (IsAct (calls_on device)) acts (record { words = words; before = held; on = d; answer = a }) all in
       subst (λ rounds. HasRun before a.outside (device from) (device a.device) (Fits a.reply) rounds)
       (sym (rounds_split device acts (record { words = words; before = held; on = d; answer = a }) all))
-      (called_so device before from held d words a (called_rounds device acts both.0) (h both.0) both.1));
+      (called_so device before from held d words a (called_rounds device acts both.0) geometry (h both.0) both.1));
 }
 
 -- ---- the end
@@ -158,40 +142,16 @@ run_rounds : {D : Type 0} (device : D → Device) (script : ScriptTree) (old new
     → CanCall old.commands (device from) → (ran : RanScript (calls_on device) state_outside script old new from to end)
     → HasRun old.commands new.commands (device from) (device to) (EndsBy end) (called_rounds device ran.acts ran.called)
 run_rounds device script old new from to end can ran =
-    run_keeps state_outside (Goes device old.commands from) (Halts device old.commands from) (kept_so device old.commands from) (calls_on device)
+    run_keeps state_outside (Goes device old.commands from) (Halts device old.commands from) (kept_so device old.commands from can.geometry)
+    (calls_on device)
     script old new from to end ran (begins device old.commands from can) ran.called
-
--- ---- what the copies stand for
-
-refused_failed : (outcome : Outcome) → is_refused_save outcome ≡ true → has_failed outcome ≡ false
-refused_failed (Refused fault) h = refl
-refused_failed Unplanned h = absurd (false≢true h)
-refused_failed Failed h = absurd (false≢true h)
-refused_failed Started h = refl
-
-stops_refused : (rounds : List Round) → StopsThere rounds → StopsRefused rounds
-unfolding StopsThere
-stops_refused [] stops = tt
-stops_refused (round ∷ later) stops = (λ refused. stops.0 (refused_failed round.outcome refused), stops_refused later stops.1)
 
 pub ran_all : {D : Type 0} (device : D → Device) (script : ScriptTree) (old new : ScriptRun Held) (from to : D) (end : ScriptEnd)
     → CanCall old.commands (device from) → (ran : RanScript (calls_on device) state_outside script old new from to end)
     → RanAll old.commands new.commands (device from) (device to) end (called_rounds device ran.acts ran.called)
 ran_all device script old new from to end can ran =
     let run = run_rounds device script old new from to end can ran in
-    let before = old.commands in
-    let rounds = called_rounds device ran.acts ran.called in
-    let stops = stops_refused rounds run.ran.stops in
-    record {
-      ran = run.ran;
-      ends = run.which;
-      trail =
-          boot_trail before.backed.keyed before.by.plans rounds before.backed.kept before.backed.used new.commands.backed.used (device from) (device to)
-          can.geometry stops run.ran.run;
-      exit =
-          boot_exit before.backed.keyed before.by.plans rounds before.backed.kept before.backed.used new.commands.backed.used (device from) (device to)
-          can.geometry stops run.ran.run;
-    }
+    record { ran = run.ran; ends = run.which }
 
 -- a script that ended in a fault has one
 pub fault_kept : (before after : Held) (from to : Device) (rounds : List Round) → RanAll before after from to ends.Fault rounds
@@ -216,18 +176,26 @@ pub ran_over : {D : Type 0} (device : D → Device) (script : ScriptTree) (befor
     → IsRunEnd end new.commands.so_far.fault result.end → result.text ≡ new.text
     → result.state.table ≡ new.commands.table → result.state.backing ≡ new.commands.backed
     → RanOver device script before from to result
-ran_over device script before old new from to end result can fresh begins ran end_is text table backing = record {
-  old = old;
-  new = new;
-  end = end;
-  fresh = fresh;
-  begins = begins;
-  ran = ran;
-  text = text;
-  end_is = end_is;
-  table = table;
-  backing = backing;
-  all =
-      subst (λ (h : Held). RanAll h new.commands (device from) (device to) end (called_rounds device ran.acts ran.called)) begins
-      (ran_all device script old new from to end (can_begin before old.commands (device from) begins can) ran);
-}
+ran_over device script before old new from to end result can fresh begins ran end_is text table backing =
+    let rounds = called_rounds device ran.acts ran.called in
+    let play = played_so device script old new from to end ran fresh in
+    record {
+      old = old;
+      new = new;
+      end = end;
+      fresh = fresh;
+      begins = begins;
+      ran = ran;
+      text = text;
+      end_is = end_is;
+      table = table;
+      backing = backing;
+      all =
+          subst (λ (h : Held). RanAll h new.commands (device from) (device to) end rounds) begins
+          (ran_all device script old new from to end (can_begin before old.commands (device from) begins can) ran);
+      grants = play.grants;
+      played =
+          subst (λ (l : List ℕ). IsPlayed script (known_of before) rounds play.grants end l) (sym text)
+          (subst (λ (h : Held). IsPlayed script (known_of h) rounds play.grants end new.text) begins play.played);
+      granted = play.granted;
+    }

@@ -1,7 +1,8 @@
 -- What the commands of a script hold, as one value.
-use Rattle.std.specs.Prelude.{◌≡◌, ℕ, true, false, List, None}
+use Rattle.std.specs.Prelude.{◌≡◌, ℕ, Bool, true, false, List, None}
 use Rattle.bb_copies.specs.Buckets.{AllAgree}
 use Rattle.bb_flash.specs.Device.{Device, IsDevice}
+use Rattle.bb_layout.specs.Layout.{Laid}
 use Rattle.bb_state.specs.Backed.{Backed}
 use Rattle.bb_state.specs.Kinds.{any_holding}
 use Rattle.bb_state.specs.declared.state.State.{State}
@@ -22,6 +23,22 @@ pub record Held : Type 0 where
 abbrev pub held_of : State → Directions → SoFar → Held
 held_of state by so_far =
     record { table = state.table; backed = state.backing; by = by; so_far = so_far }
+
+-- what a command goes by, whatever stands on the device
+pub record Known : Type 0 where
+  pub layout : Laid
+  pub by : Directions
+  pub table : List ℕ
+  -- whether a boot was run
+  pub booted : Bool
+
+abbrev pub known_of : Held → Known
+known_of held = record {
+  layout = held.backed.keyed.layout;
+  by = held.by;
+  table = held.table;
+  booted = held.so_far.booted;
+}
 
 -- before any command
 abbrev pub nothing_yet : SoFar

@@ -5,6 +5,7 @@ pub use Rattle.bb_interpreter.specs.Runs
 pub use Rattle.bb_shell.specs.Boot
 pub use Rattle.bb_shell.specs.Ends
 pub use Rattle.bb_shell.specs.Running
+pub use Rattle.bb_shell.specs.Sequence
 pub use Rattle.bb_state.specs.State
 pub mod Held
 pub mod OutsideWords
@@ -12,4 +13,5 @@ pub mod StateNames
 pub mod Sending
 pub mod Ran
 pub mod Calling
+pub mod Playing
 pub mod Scripts

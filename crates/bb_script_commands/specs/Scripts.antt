@@ -1,5 +1,5 @@
 -- What a script over a state and a board did.
-use Rattle.std.specs.Prelude.{◌≡◌, ℕ, true, List, [], ◌∷◌, ◌++◌, Option, Some, None, is_some}
+use Rattle.std.specs.Prelude.{◌≡◌, ◌≢◌, ℕ, true, List, [], ◌∷◌, ◌++◌, Option, Some, None, is_some}
 use Rattle.std.specs.List.{AllByRecursion}
 use Rattle.bb_copies.specs.declared.answers.CopyFault.{CopyFault}
 use Rattle.bb_flash.specs.Device.{Device}
@@ -10,10 +10,11 @@ use Rattle.bb_interpreter.specs.declared.run.ScriptRun.{ScriptRun}
 use Rattle.bb_interpreter.specs.Runs.{CallGives, HasRunNothing, IsAct, RanScript}
 use Rattle.bb_interpreter.specs.Standing.{Act}
 use Rattle.bb_shell.specs.Boot.{Round}
-use Rattle.bb_shell.specs.Stages.{KeepsATrail, KeepsAtExit}
+use Rattle.bb_shell.specs.Sequence.{goes_on, refused_in, started_last}
 use Rattle.bb_script_commands.specs.Calling.{HasCalled}
-use Rattle.bb_script_commands.specs.Held.{Held}
-use Rattle.bb_script_commands.specs.Ran.{RanRounds, goes_on, refused_in, started_last}
+use Rattle.bb_script_commands.specs.Held.{Held, known_of}
+use Rattle.bb_script_commands.specs.Playing.{IsPlayed}
+use Rattle.bb_script_commands.specs.Ran.{RanFor}
 use Rattle.bb_script_commands.specs.StateNames.{state_outside}
 use Rattle.bb_script_commands.specs.declared.run_end.RunEnd.{RunEnd}
 use Rattle.bb_script_commands.specs.declared.run_end.RunEnd.TheVariants as run_ends
@@ -52,17 +53,11 @@ EndsBy ends.NoMemory rounds = refused_in rounds ≡ None
 
 -- ---- all of it
 
--- These rounds were run one after another, as the script's end says. Each image that a cut leaves
--- stands for a stage that their saves had reached, and so do the copies at exit.
+-- These rounds were run one after another, as the script's end says.
 pub record RanAll (before after : Held) (from to : Device) (end : ScriptEnd) (rounds : List Round)
     : Type 0 where
-  pub ran : RanRounds before after from to rounds
+  pub ran : RanFor before after from to rounds
   pub ends : EndsBy end rounds
-  pub trail :
-      KeepsATrail before.backed.keyed before.backed.kept before.backed.used rounds from to
-  pub exit :
-      KeepsAtExit before.backed.keyed before.backed.kept before.backed.used after.backed.used rounds
-      from to
 
 -- it did what it means, by what its commands did and answered, and their rounds were run so
 pub record RanOver {D : Type 0} (device : D → Device) (script : ScriptTree) (before : Held)
@@ -80,3 +75,10 @@ pub record RanOver {D : Type 0} (device : D → Device) (script : ScriptTree) (b
   pub all :
       RanAll before new.commands (device from) (device to) end
       (called_rounds device ran.acts ran.called)
+  -- the rounds, the text and the end follow from what was answered to these rounds, and where memory
+  -- was refused also from how often it was granted
+  pub grants : Option ℕ
+  pub played :
+      IsPlayed script (known_of before) (called_rounds device ran.acts ran.called) grants end
+      result.text
+  pub granted : end ≢ ends.NoMemory → grants ≡ None

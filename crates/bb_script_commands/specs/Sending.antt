@@ -28,26 +28,25 @@ counts_lines b table = flat_map (counts_line_of table) b.targets
 
 -- ---- of a boot
 
-abbrev pub called_target : Binding → ℕ → List ℕ
-called_target b target = unwrap_or (name_of b target) []
+abbrev pub target_name : Binding → ℕ → List ℕ
+target_name targets target = unwrap_or (name_of targets target) []
 
-abbrev pub started_line : List ℕ → ℕ → ℕ → List ℕ
-started_line name left tries =
-    codes "start " ++ (name
-    ++ (codes " left " ++ (decimal left
-    ++ (codes " tries " ++ (decimal tries ++ codes "\n")))))
+abbrev pub start_line : List ℕ → ℕ → ℕ → List ℕ
+start_line name left tries =
+    codes "start "
+    ++ (name ++ (codes " left " ++ (decimal left ++ (codes " tries " ++ (decimal tries ++ codes "\n")))))
 
-abbrev pub tried_line : ℕ → List ℕ
-tried_line tries = codes "tries " ++ (decimal tries ++ codes "\n")
+abbrev pub tries_line : ℕ → List ℕ
+tries_line tries = codes "tries " ++ (decimal tries ++ codes "\n")
 
 -- a start ends the script; without a target that qualifies, and after starts that failed, it goes
 -- on
 abbrev pub boot_reply : Binding → BootEnd → Reply
-boot_reply b (ends.Started target left tries) =
-    reply.Started (started_line (called_target b target) left tries)
-boot_reply b ends.NoTarget = reply.Done 1 []
-boot_reply b (ends.StartFailed target tries) = reply.Done 1 (tried_line tries)
-boot_reply b (ends.Fault fault) = reply.Fault
+boot_reply targets (ends.Started target left tries) =
+    reply.Started (start_line (target_name targets target) left tries)
+boot_reply targets ends.NoTarget = reply.Done 1 []
+boot_reply targets (ends.StartFailed target tries) = reply.Done 1 (tries_line tries)
+boot_reply targets (ends.Fault fault) = reply.Fault
 
 -- it sends a text, which takes memory
 abbrev pub boot_sends : BootEnd → Bool

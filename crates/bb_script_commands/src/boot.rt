@@ -2,7 +2,7 @@ ghost use Rattle.std.specs.Prelude.{◌≡◌, IfOk};
 ghost use Rattle.bb_script_commands.specs.Calling.{HasCalledOne};
 ghost use Rattle.bb_script_commands.specs.Held.{CanCall, held_of};
 ghost use Rattle.bb_script_commands.specs.Sending.{Replies, boot_reply, boot_sends};
-ghost use Rattle.bb_script_commands.specs.Sending.{ended_fault, started_line, tried_line};
+ghost use Rattle.bb_script_commands.specs.Sending.{ended_fault, start_line, tries_line};
 ghost use Rattle.bb_script_commands.specs.declared.words.OutsideCommand.TheVariants.{Boot};
 
 use crate::directions::Directions;
@@ -56,13 +56,13 @@ fn reply_to(alloc: Global, chooser: &Chooser, end: BootEnd) -> Reply
             tries,
         } => {
             let name = target_name(chooser, target as usize);
-            match started_line(alloc, name, left, tries) {
+            match start_line(alloc, name, left, tries) {
                 Ok(line) => Reply::Started(line),
                 Err(_) => Reply::NoMemory,
             }
         }
         BootEnd::NoTarget => Reply::Done(1, Bytes::none(alloc)),
-        BootEnd::StartFailed { tries, .. } => match tried_line(alloc, tries) {
+        BootEnd::StartFailed { tries, .. } => match tries_line(alloc, tries) {
             Ok(line) => Reply::Done(1, line),
             Err(_) => Reply::NoMemory,
         },
@@ -70,8 +70,8 @@ fn reply_to(alloc: Global, chooser: &Chooser, end: BootEnd) -> Reply
     }
 }
 
-fn started_line(alloc: Global, name: &str, left: u32, tries: u64) -> Result<Bytes, NoMemory>
-    ensures { IfOk result (λ line. line ≡ started_line name.now left tries) }
+fn start_line(alloc: Global, name: &str, left: u32, tries: u64) -> Result<Bytes, NoMemory>
+    ensures { IfOk result (λ line. line ≡ start_line name.now left tries) }
 {
     let mut line = Bytes::none(alloc);
     let words = format!(in alloc; "start {name} left {left} tries {tries}\n")?;
@@ -79,8 +79,8 @@ fn started_line(alloc: Global, name: &str, left: u32, tries: u64) -> Result<Byte
     Ok(line)
 }
 
-fn tried_line(alloc: Global, tries: u64) -> Result<Bytes, NoMemory>
-    ensures { IfOk result (λ line. line ≡ tried_line tries) }
+fn tries_line(alloc: Global, tries: u64) -> Result<Bytes, NoMemory>
+    ensures { IfOk result (λ line. line ≡ tries_line tries) }
 {
     let mut line = Bytes::none(alloc);
     let words = format!(in alloc; "tries {tries}\n")?;

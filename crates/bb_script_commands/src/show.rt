@@ -1,5 +1,5 @@
 ghost use Rattle.std.specs.Prelude.{◌≡◌, ◌<◌, ◌++◌, IfOk, OnOk, length, slice_get, Some};
-ghost use Rattle.bb_script_commands.specs.Sending.{called_target, counts_line, counts_lines};
+ghost use Rattle.bb_script_commands.specs.Sending.{target_name, counts_line, counts_lines};
 
 use bb_base::{Bytes, NoMemory};
 use bb_chooser::Chooser;
@@ -40,7 +40,7 @@ fn add_counts_line(
 
 /// The name of a target, empty where there is none at this place.
 pub(crate) fn target_name(chooser: &Chooser, target: usize) -> &str
-    ensures { result.now ≡ called_target chooser.now target }
+    ensures { result.now ≡ target_name chooser.now target }
 {
     match chooser.name(target) {
         Some(name) => name.as_str(),

@@ -1,4 +1,4 @@
-use Rattle.std.proofs.Common.{◌≡◌, ◌∙◌, Some, None, Err, ap, refl, sym}
+use Rattle.std.proofs.Common.{◌∙◌, Some, None, Err, ap, refl, sym}
 use Rattle.std.proofs.lemmas.Bool.{false≢true}
 use Rattle.bb_interpreter.specs.declared.commands.Reply.TheVariants as reply
 use Rattle.bb_shell.proofs.Saves.{saved_err, saved_ok}
