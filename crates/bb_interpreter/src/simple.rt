@@ -128,7 +128,8 @@ fn run_fields<C: Commands>(
     device: &mut C::Device,
 ) -> Result<(), ScriptStop>
     requires { C.can_call run.old.commands device.old }
-    ensures leads { Leads C.call_gives (LeftBy result) (does_fields C.outside next_answer fields.now)
+    ensures leads { Leads C.call_gives (LeftBy result)
+        (does_fields C.outside next_answer fields.now)
         (ending result) run.old run.new device.old device.new }
     ensures ready { OnOk result (C.can_call run.new.commands device.new) }
 {

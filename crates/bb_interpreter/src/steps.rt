@@ -145,7 +145,8 @@ fn run_rounds<C: Commands>(
 ) -> Result<(), ScriptStop>
     requires { C.can_call run.old.commands device.old }
     ensures leads { Leads C.call_gives (LeftBy result)
-        (rounds C.outside name.now (means_steps C.outside next_answer (script_tree body.now)) fields.now)
+        (rounds C.outside name.now
+        (means_steps C.outside next_answer (script_tree body.now)) fields.now)
         (ending result) run.old run.new device.old device.new }
     ensures ready { OnOk result (C.can_call run.new.commands device.new) }
 {

@@ -104,7 +104,8 @@ fn plan_raw(alloc: Global, command: RawCommand, geometry: Geometry) -> Result<Pl
     }
 }
 
-// `state`: the layout that its file describes, with its key, and the actions, bound to its variables.
+// `state`: the layout that its file describes, with its key, and the actions, bound to its
+// variables.
 fn plan_state<N: Files>(
     alloc: Global,
     command: StateCommand,

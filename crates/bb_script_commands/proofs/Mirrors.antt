@@ -73,8 +73,8 @@ abbrev pub Left : {D : Type 0} → Course Held D → Type 0
 Left (GoesOn at) = Unit {0}
 Left (Stops why at) = LeftAlone why at
 
--- A part of a script took this course, by the answers to these acts. Where an answer more was there, and
--- its acts are calls, its play by what their rounds were answered takes the same one.
+-- A part of a script took this course, by the answers to these acts. Where an answer more was
+-- there, and its acts are calls, its play by what their rounds were answered takes the same one.
 pub record Mirrors {D : Type 0} (device : D → Device) (at : Standing Held D) (course : Course Held D) (play : Meaning Played (Unit {0})) : Type 0 where
   pub more : List (Act Held D)
   pub grows : (course_at course).acts ≡ at.acts ++ more

@@ -40,8 +40,8 @@ abbrev pub saved_reply : Option CopyFault → Reply
 saved_reply None = reply.Done 0 []
 saved_reply (Some fault) = reply.Fault
 
--- A save of a table that is then the state's. The target of its round is none of those that may have
--- a plan.
+-- A save of a table that is then the state's. The target of its round is none of those that may
+-- have a plan.
 abbrev pub saving : Known → List ℕ → Option CopyFault → Called
 saving known table refusal = record {
   rounds = save_round (length known.by.plans) table refusal ∷ [];

@@ -106,8 +106,8 @@ abbrev pub course_end : {C D : Type 0} → Course C D → ScriptEnd
 course_end (GoesOn at) = ends.Done at.status
 course_end (Stops why at) = stop_end why
 
--- Whatever would be answered later, the play of a script by what was answered to these rounds ends so,
--- with this text, and with these rounds.
+-- Whatever would be answered later, the play of a script by what was answered to these rounds ends
+-- so, with this text, and with these rounds.
 pub record IsPlayed (script : ScriptTree) (known : Known) (rounds : List Round) (grants : Option ℕ)
     (end : ScriptEnd) (text : List ℕ) : Type 0 where
   pub end_is : (later : List RoundAnswer)

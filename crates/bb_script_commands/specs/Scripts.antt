@@ -75,8 +75,8 @@ pub record RanOver {D : Type 0} (device : D → Device) (script : ScriptTree) (b
   pub all :
       RanAll before new.commands (device from) (device to) end
       (called_rounds device ran.acts ran.called)
-  -- the rounds, the text and the end follow from what was answered to these rounds, and where memory
-  -- was refused also from how often it was granted
+  -- the rounds, the text and the end follow from what was answered to these rounds, and where
+  -- memory was refused also from how often it was granted
   pub grants : Option ℕ
   pub played :
       IsPlayed script (known_of before) (called_rounds device ran.acts ran.called) grants end

@@ -1,5 +1,5 @@
--- What a device tells of the writes to it, and what the writes of copies make of that: sums over all
--- copies.
+-- What a device tells of the writes to it, and what the writes of copies make of that: sums over
+-- all copies.
 use Rattle.std.proofs.Common.{◌≡◌, ℕ, ◌+◌, ◌++◌, Bool, List, [], length, Option, Some, None, refl, sym, ap, ◌∙◌, arith, add-zero, suc, ◌/◌, ◌==◌, ◌&&◌, true, false, cond, ◌∷◌, count_by, sum_by, if◌then◌else◌}
 use Rattle.std.specs.Option.{option_map}
 use Rattle.std.specs.Prelude.{slice_get}

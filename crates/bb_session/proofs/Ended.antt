@@ -1,5 +1,5 @@
--- Why a session was refused after a load that answered Ok: by the table, by its last save, or by the
--- end of a boot.
+-- Why a session was refused after a load that answered Ok: by the table, by its last save, or by
+-- the end of a boot.
 use Rattle.std.proofs.Common.{◌≡◌, ◌≢◌, ℕ, Bool, true, false, List, length, Option, Some, None, Ok, Err, refl, sym, ap, subst, ◌∙◌}
 use Rattle.std.specs.Option.{option_and_then, option_map_or}
 use Rattle.std.proofs.lemmas.Option.{same_Some}

@@ -1,5 +1,5 @@
--- What a session leaves of the copies where no call of the device failed: each to the byte, what all
--- pass, how often it erased each block, and how many calls of it changed the device.
+-- What a session leaves of the copies where no call of the device failed: each to the byte, what
+-- all pass, how often it erased each block, and how many calls of it changed the device.
 use Rattle.std.proofs.Common.{◌≡◌, ℕ, ◌+◌, ◌-◌, ◌≤◌, ◌++◌, Bool, true, false, cond, List, [], ◌∷◌, length, count_by, map, Option, Some, None, is_some, Ok, Err, refl, sym, ap, subst, ◌∙◌, inl, inr, arith, if◌then◌else◌}
 use Rattle.std.specs.Bool.{Decides}
 use Rattle.std.specs.List.{AllByRecursion}

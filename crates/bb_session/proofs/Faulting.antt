@@ -148,7 +148,8 @@ module _ (plan : SessionPlan) (from : Device) where
       (later_refl from) fails.stuck
   load_known used to answers Unsure loaded = absurd loaded.fails.fails
 
-  -- of a save of this area, after a load that answered Ok and what came after it, with `used` in use
+  -- of a save of this area, after a load that answered Ok and what came after it, with `used` in
+  -- use
   pub save_known : (found : Option (List ℕ)) (answers : List RoundAnswer) (used : Option ℕ) (area : List ℕ) (mid to : Device) (fault : CopyFault) →
       2 ≤ plan.keyed.layout.copies → last_area_of None (saves_made plan found answers) ≡ Some area → IsLater from mid → IsLater mid to →
       IsThere plan.keyed used → ((copy : ℕ) → used ≡ Some copy → IsUsed plan from mid (Ok found) answers copy) → (used ≡ None → found ≡ None) →

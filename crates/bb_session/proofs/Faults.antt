@@ -75,7 +75,8 @@ refused_is : (outcome : Outcome) (fault : CopyFault) → refusal_of outcome ≡ 
 refused_is (outcomes.Refused other) fault h = ap (λ f. outcomes.Refused f) (same_Some other fault h)
 refused_is _ fault h = absurd (none_some fault h)
 
--- the copy that is used after a round whose save was made, and the last table that it and the rounds after it save
+-- the copy that is used after a round whose save was made, and the last table that it and the
+-- rounds after it save
 record IsPassed (keyed : Keyed) (kept : Option (List ℕ)) (used copy : Option ℕ) (round : Round) (later : List Round) : Type 0 where
   there : IsThere keyed used → IsThere keyed copy
   lost : copy ≡ None → used ≡ None

@@ -88,8 +88,8 @@ pub record IsSavedOnce (table : List ℕ) (rounds : List Round) : Type 0 where
   pub refusal : Option CopyFault
   pub is : rounds ≡ save_round 0 table refusal ∷ []
 
--- There is a round of a boot, and they go by the rules: each is of the best target in the table that
--- it starts from, one attempt of it is spent, and no start comes before its save answered Ok.
+-- There is a round of a boot, and they go by the rules: each is of the best target in the table
+-- that it starts from, one attempt of it is spent, and no start comes before its save answered Ok.
 pub record AreBootRounds (targets : Binding) (plans : List (Option StartPlan)) (table : List ℕ)
     (rounds : List Round) : Type 0 where
   pub are : AreRounds targets plans table rounds

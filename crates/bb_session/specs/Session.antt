@@ -1,6 +1,6 @@
--- What a session answers: the text that its work gathered, the refusal that ended it, if one did, and
--- the rounds that it ran. It is a function of the words, the device's geometry, and what the files and
--- the device answered.
+-- What a session answers: the text that its work gathered, the refusal that ended it, if one did,
+-- and the rounds that it ran. It is a function of the words, the device's geometry, and what the
+-- files and the device answered.
 use Rattle.std.specs.Prelude.{ℕ, List, [], Option, Some, None, Result, Ok, Err, unwrap_or, if◌then◌else◌}
 use Rattle.std.specs.Option.{option_map_or}
 use Rattle.bb_actions.specs.Actions.{actions_text, after_all}

@@ -78,8 +78,8 @@ pub record IsLoaded (keyed : Keyed) (used : Option ℕ) (from to : Device) (answ
 
 -- ---- rounds after a load
 
--- A work ran rounds after a load of this table, and this is what was answered to each of them. `used`
--- is the copy that the load took, and `now` the one that passes the last table.
+-- A work ran rounds after a load of this table, and this is what was answered to each of them.
+-- `used` is the copy that the load took, and `now` the one that passes the last table.
 pub record IsRunAfter (keyed : Keyed) (work : Work) (table : List ℕ) (used : Option ℕ)
     (from to : Device) (answers : List RoundAnswer) : Type 0 where
   pub rounds : List Round

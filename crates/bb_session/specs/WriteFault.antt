@@ -38,8 +38,8 @@ pub record IsLeftStale (plan : SessionPlan) (from to : Device) (load : LoadAnswe
       PassesAnother area (passes_at (passed_in plan.keyed from.geometry.page image) copy))
   pub cause : RoseBy 2 from.faults to.faults
 
--- The copy is the one that the load took, or one that a save after it left as the first that passes:
--- that of all rounds of the session but the last, whose save was refused.
+-- The copy is the one that the load took, or one that a save after it left as the first that
+-- passes: that of all rounds of the session but the last, whose save was refused.
 pub record IsUsed (plan : SessionPlan) (from middle : Device) (load : LoadAnswer)
     (answers : List RoundAnswer) (copy : ℕ) : Type 0 where
   -- after the load

@@ -22,8 +22,8 @@ target_started rounds =
     (λ round. if is_started round.outcome then Some round.target else None)
     (last_round rounds)
 
--- after a load of the area at this place of the list, where `kept` is the table that it gave, or none
--- where the first save was to be made whatever it gave
+-- after a load of the area at this place of the list, where `kept` is the table that it gave, or
+-- none where the first save was to be made whatever it gave
 abbrev pub turn_of_rounds : ℕ → Option (List ℕ) → List Round → Turn
 turn_of_rounds place kept rounds =
     Loaded place (saves_of kept rounds) (made_of kept rounds) (target_started rounds)

@@ -108,9 +108,9 @@ pub record Between (P Q : Option ℕ → Device → Type 0) : Type 0 where
   pub before : P copy device
   pub behind : Q copy device
 
--- The rounds were run one after another. `kept` was last loaded or saved before them, or their first
--- save was to be made whatever was; `used` is the copy that is used before them, `now` the one after
--- them.
+-- The rounds were run one after another. `kept` was last loaded or saved before them, or their
+-- first save was to be made whatever was; `used` is the copy that is used before them, `now` the
+-- one after them.
 unfoldable pub AreRun :
     Keyed → List (Option Plan) → Option (List ℕ) → Option ℕ → Option ℕ → List Round → Device → Device
     → Type 0

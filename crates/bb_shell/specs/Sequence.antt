@@ -1,5 +1,5 @@
--- Rounds that were run on a device one after another, whatever asked for them. A save alone is a round
--- whose target has no plan, so that no start is tried after it.
+-- Rounds that were run on a device one after another, whatever asked for them. A save alone is a
+-- round whose target has no plan, so that no start is tried after it.
 use Rattle.std.specs.Prelude.{◌≡◌, ℕ, Bool, true, false, List, [], ◌∷◌, Option, Some, None, option_and_then}
 use Rattle.std.specs.Option.{option_map_or}
 use Rattle.bb_copies.specs.Loading.{KeepsOutside}
@@ -57,8 +57,8 @@ AddsLast plans rounds from to = AddsBy plans from to (last_round rounds)
 
 -- ---- all of it
 
--- These rounds were run one after another, from what was last loaded or saved on. `used` is the copy
--- that is used before them, `now` the one after them.
+-- These rounds were run one after another, from what was last loaded or saved on. `used` is the
+-- copy that is used before them, `now` the one after them.
 pub record RanRounds
     (keyed : Keyed) (plans : List (Option Plan)) (kept : Option (List ℕ)) (used now : Option ℕ)
     (rounds : List Round) (from to : Device) : Type 0 where

@@ -141,8 +141,8 @@ pub record LeadsTo (keyed : Keyed) (kept : Option (List ℕ)) (used : Option ℕ
 -- ---- of rounds
 
 -- Each image that counts since the rounds began stands for a stage that their saves had reached by
--- then, or for a later one. `kept` was loaded or saved last before them, and `used` is the copy that
--- passed it.
+-- then, or for a later one. `kept` was loaded or saved last before them, and `used` is the copy
+-- that passed it.
 abbrev pub KeepsATrail :
     Keyed → Option (List ℕ) → Option ℕ → List Round → Device → Device → Type 0
 KeepsATrail keyed kept used rounds from to =
