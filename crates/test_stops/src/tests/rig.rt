@@ -1,6 +1,6 @@
-// The devices of these trials, each with three copies of the state of the example board: in strides
-// of 64 bytes, and in erase blocks of 256 bytes in pages of 32, in blocks of one record or in logs. An
-// entry of a log has two pages, and a block room for four.
+// The devices of these trials, each with three copies of the state of the example board: strides of
+// 64 bytes, or erase blocks of 256 bytes in pages of 32, which hold one record each, or a log each.
+// An entry of a log has two pages, and a block room for four.
 use super::tables::Table;
 use bb_base::{Bytes, NoMemory};
 use bb_flash::{MemBoard, geometry_of};
