@@ -102,6 +102,7 @@ class Corpus:
         self.devices = [case.before for case in self.cases if case.before]
         self.boards = list(self.find_boards(examples, ab))
         self.booting = [board for board in self.boards if board.boots()]
+        self.keyed = [board for board in self.boards if board.layout.keyed]
 
     def find_boards(self, examples, ab):
         pairs = {(text, word): examples for text in examples.values() for word in

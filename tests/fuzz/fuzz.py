@@ -1,5 +1,6 @@
-"""Runs the program on damaged input: fuzz.py ROOT FOLDER SEED COUNT FIRST STOP PROGRAM .., where
-FOLDER is one to work in, and STOP is `yes` or `no`. tests/fuzz/run says what is looked at."""
+"""Runs the program on damaged input: fuzz.py ROOT FOLDER SEED COUNT FIRST STOP WITHIN PROGRAM ..,
+where FOLDER is one to work in, and STOP and WITHIN are `yes` or `no`. tests/fuzz/run says what is
+looked at."""
 import os
 import shutil
 import sys
@@ -21,14 +22,14 @@ PLAIN = set(b'abcdefghijklmnopqrstuvwxyzABCDEFGHIJKLMNOPQRSTUVWXYZ0123456789_./:
 
 
 class Fuzz:
-    def __init__(self, corpus, machine, seed):
-        self.corpus, self.machine, self.seed = corpus, machine, seed
+    def __init__(self, corpus, machine, seed, within):
+        self.corpus, self.machine, self.seed, self.within = corpus, machine, seed, within
         self.commands, self.statuses = Counter(), Counter()
         self.findings = self.unsure = self.left_out = 0
         self.kept = None
 
     def try_one(self, number):
-        run = Maker(self.corpus, self.seed, number).make()
+        run = Maker(self.corpus, self.seed, number, self.within).make()
         furnish(run)
         try:
             wanted, places = prepare(run)
@@ -155,10 +156,11 @@ def told(counter):
 
 
 def main():
-    root, folder, seed, count, first, stop, *program = sys.argv[1:]
+    root, folder, seed, count, first, stop, within, *program = sys.argv[1:]
     corpus = Corpus(root)
     os.chdir(folder)
-    fuzz = Fuzz(corpus, Machine([os.fsencode(word) for word in program]), int(seed))
+    machine = Machine([os.fsencode(word) for word in program])
+    fuzz = Fuzz(corpus, machine, int(seed), within == 'yes')
     tried = 0
     try:
         while tried < int(count) and not (fuzz.findings and stop == 'yes'):

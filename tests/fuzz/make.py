@@ -1,9 +1,9 @@
 """Makes a run of the program from its seed and number: words, files and a device, most of them
 damaged."""
+import shapes
 from devices import device, hurt_device, strides
 from folder import FOLDER
 from hurt import Dice, hurt
-from shapes import SHAPES
 from source import read_tree
 from tree import MAGIC, write_blob
 from values import geometry_of
@@ -28,6 +28,7 @@ GEOMETRIES = [b'ov:0', b'ov:268435457', b'ov:', b'er:16:64:192', b'er:15:15:45',
               b'er:1:2:3:4', b'ov:1', b'ov:3', b'ov:192', b'ov:1000']
 LONGEST_WORD = 131071
 LONGEST_FILE = 1048576
+LONGEST_ENTRY = 65536
 
 
 class Run:
@@ -42,8 +43,12 @@ class Run:
 
 
 class Maker:
-    def __init__(self, corpus, seed, number):
+    """`within` says whether shapes that take more than the limits allow are left out."""
+
+    def __init__(self, corpus, seed, number, within=False):
         self.corpus, self.dice, self.run = corpus, Dice(seed, number), Run()
+        self.sources = shapes.SOURCES + ([] if within else shapes.ABOVE)
+        self.blobs = shapes.BLOBS + ([] if within else shapes.BLOBS_ABOVE)
 
     def make(self):
         dice, run = self.dice, self.run
@@ -94,7 +99,9 @@ class Maker:
         dice, run, corpus = self.dice, self.run, self.corpus
         command = dice.pick([b'state'] * 5 + [b'boot'] * 3 + [b'mark-good'])
         is_any = command == b'state' or dice.once_in(9)
-        board = dice.pick(corpus.boards if is_any else corpus.booting)
+        under_a_key = is_any and dice.once_in(5)
+        boards = corpus.boards if is_any else corpus.booting
+        board = dice.pick(corpus.keyed if under_a_key else boards)
         layout, key = board.layout, None
         run.geometry, run.files = board.geometry, dict(board.files)
         text = write_blob(read_tree(board.tree)) if dice.once_in(3) else board.tree
@@ -264,15 +271,47 @@ class Maker:
         run.geometry = dice.pick([hurt(dice, run.geometry, b'hex', []), dice.pick(near),
                                   dice.pick(GEOMETRIES)])
 
+    # Input of one shape, up to the longest that is read.
+
     def big(self):
-        """A source of one shape, up to the longest that is read."""
         dice, run = self.dice, self.run
         size = dice.pick([20000, 100000, 300000, LONGEST_FILE])
-        run.files[b'big.dts'] = dice.pick(SHAPES)(dice, size)[:LONGEST_FILE + dice.below(2)]
-        run.words = [b'state', b'-i', b'big.dts', b'-d']
         run.geometry, run.bytes = b'ov:192', None
+        others = [self.big_blob, self.big_settings, self.big_settings, self.big_entry, self.big_key]
+        dice.pick([self.big_source] * 7 + others)(size)
         if dice.once_in(2):
             run.starved = dice.among(8, 24) << 20
+
+    def big_file(self, name, kinds, size, most=LONGEST_FILE):
+        text = self.dice.pick(kinds)(self.dice, min(size, most))
+        self.run.files[name] = text[:most + self.dice.below(2)]
+
+    def big_source(self, size):
+        self.big_file(b'big.dts', self.sources, size)
+        self.run.words = [b'state', b'-i', b'big.dts', b'-d']
+
+    def big_blob(self, size):
+        self.big_file(b'big.dtb', self.blobs, size)
+        self.run.words = [b'state', b'-i', b'big.dtb', b'-d']
+
+    def on_board(self, boards, *words):
+        """A session on a blank device of one of these boards."""
+        run, board = self.run, self.dice.pick(boards)
+        run.geometry, run.files = board.geometry, {**self.corpus.examples, **board.files}
+        run.files[b'board.dts'] = board.tree
+        run.words = [words[0], b'-i', b'board.dts', *words[1:]]
+
+    def big_settings(self, size):
+        self.on_board(self.corpus.booting, b'mark-good', b'-c', b'set.txt')
+        self.big_file(b'set.txt', shapes.SETTINGS, size)
+
+    def big_entry(self, size):
+        self.on_board(self.corpus.booting, b'boot', b'-c', b'set.txt')
+        self.big_file(b'loader/entries/system0.conf', shapes.ENTRIES, size, LONGEST_ENTRY)
+
+    def big_key(self, size):
+        self.on_board(self.corpus.keyed, b'state', b'-k', b'key.hex', b'-d')
+        self.big_file(b'key.hex', shapes.KEYS, size)
 
 
 def harmless(word):
