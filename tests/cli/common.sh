@@ -1,6 +1,6 @@
 # shellcheck shell=bash
-# What devices, faults, starts, pairs and memory share: the program, a folder to work in, and checks
-# that are counted.
+# What devices, faults, stops, starts, pairs and memory share: the program, a folder to work in, and
+# checks that are counted.
 #
 # A check is a function that says what is wrong and is silent where nothing is. Each has one line of
 # output, and what cannot be tried on this machine has one that says so. The last line is `N passed,

@@ -1,5 +1,5 @@
 # shellcheck shell=bash
-# What run, devices, faults, starts, pairs, memory and tests/bench begin with: `root` is the
+# What run, devices, faults, stops, starts, pairs, memory and tests/bench begin with: `root` is the
 # repository, and the array `program` the command that is tried. That is the proved program, which
 # is built where it is missing, or COMMAND of the words `--program COMMAND`, as a build for a board
 # under an emulator is: `qemu-aarch64-static FILE`. FILE is the last word of COMMAND.
