@@ -126,7 +126,7 @@ def next_look(run, wanted):
 def acknowledged(wanted, got):
     """The variables that an answer has acknowledged, with their texts."""
     foreseen = wanted.foreseen
-    if not foreseen.sure:
+    if foreseen.ends or not foreseen.sure:
         return []
     if foreseen.command.name == 'state':
         by_name = {var.name: var for var in foreseen.layout.vars}
