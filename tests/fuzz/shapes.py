@@ -52,8 +52,8 @@ SOURCES = [
     source(b'/{a=<', b'1 ', b'>;};'),
     source(b'/{a=[', b'00', b'];};'),
     source(b'/{a="a"', b',"b"', b';};'),
-    source(b'/{x:n{};a=<', b'&x ', b'>;};'),
-    source(b'/{x:n{};a=&x', b',&x', b';};'),
+    source(b'/{a=<', b'&x ', b'>;x:n{};};'),
+    source(b'/{a=&x', b',&x', b';x:n{};};'),
     source(b'/{', b'l%x:', b'a{};};'),
     source(b'/{', b'l%x:a%x{};', b'};'),
     source(b'/{x:a{};};', b'&x{b%x{};};', b''),
@@ -61,11 +61,10 @@ SOURCES = [
     source(STATE, b'v%x{type="uint8";reg=<0x%x 1>;};', b'};};'),
     source(STATE, b'v%x{type="uint8";};', b'};};'),
     source(STATE + b'm{type="enum32";reg=<0 4>;names="n"', b',"n%x"', b';};};};'),
-    deep,
     inside(b'a%x{};'),
     string,
 ]
-ABOVE = [inside(b'l%x:a%x{};'), inside(b'a%x{b=<&x>;};')]
+ABOVE = [deep, inside(b'l%x:a%x{};'), inside(b'a%x{b=<&x>;};')]
 
 
 def blob(structure, strings=b''):
