@@ -236,7 +236,9 @@ def judge_plan(wanted, got, before):
         if (got.plan is None) != (got.status != 0) and got.status not in (14, 20):
             yield f'there is {"no" if got.plan is None else "a"} plan after status {got.status}'
     elif wanted.plans and got.status in (0, 14):
-        if got.plan not in wanted.plans:
+        # Where the text can't be sent either, 14 stands for a save that failed too.
+        has_failed = got.status == 14 and foreseen.call.read_only and wanted.writes
+        if got.plan not in wanted.plans and not (has_failed and got.plan is None):
             yield f'the plan is {shown(got.plan or b"")}, and not {shown(wanted.plans[0])}'
     elif got.plan is not None and got.status != 20:
         yield f'there is a plan after status {got.status}'
