@@ -4,9 +4,10 @@
 
 mod boot;
 mod mark_good;
+mod name;
 mod raw;
 mod report;
-mod state;
+mod store;
 mod work;
 
 pub use report::Report;

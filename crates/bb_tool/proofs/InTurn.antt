@@ -22,9 +22,8 @@ use Rattle.bb_session.specs.SessionTurns.{EachStanding, table_turn, turn_of}
 use Rattle.bb_plan.specs.Plan.{first_area}
 use Rattle.bb_session.specs.Work.{IsLoadedAs, IsTableWork, IsWork}
 use Rattle.bb_session.proofs.Acted.{boot_back, session_rounds}
-use Rattle.bb_session.proofs.Kept.{found_or, load_found}
+use Rattle.bb_session.proofs.Kept.{found_or, load_found, passed_sized}
 use Rattle.bb_plan.proofs.Sizes.{IsSizedWork, planned_sized}
-use Rattle.bb_session.proofs.Passed.{passed_sized}
 use Rattle.bb_session.proofs.Turns.{standing_at, told_content}
 use Rattle.bb_tool.proofs.Followed.{work_of}
 
@@ -62,7 +61,7 @@ boot_in_turn keyed targets cause plans from to (Ok found) answers bound sized wo
       answers = map answer_of run.rounds;
       turn =
           ap (turn_of_rounds (picked before.marks) (Some table))
-          (session_rounds (record { keyed = keyed; work = Boot targets cause plans }) found work.used work.middle to answers run
+          (session_rounds work
           ∙ sym (boot_back targets plans (first_table targets cause true table) run.rounds run.are));
     }
 

@@ -18,8 +18,7 @@ use Rattle.bb_session.specs.Work.{IsWork}
 use Rattle.bb_plan.proofs.Plans.{alone_plan, faulty_plan, plan_held, same_plan}
 use Rattle.bb_tool.proofs.Told.{told_short, told_whole}
 use Rattle.bb_session.proofs.Barred.{HasNoFault, fault_device}
-use Rattle.bb_session.proofs.Sounded.{IsCalm, work_same}
-use Rattle.bb_session.proofs.Unrefused.{unrefused, work_gives}
+use Rattle.bb_session.proofs.Unrefused.{IsCalm, unrefused, work_gives, work_same}
 
 load_same : (plan : SessionPlan) (from to : Device) (load : LoadAnswer) (answers : List RoundAnswer) → IsWork plan from to load answers → HasNoFault (work_session plan load answers) → (image : Image) → content from ≡ Some image →
     let held : LoadAnswer = Ok (first_found (passed_in plan.keyed from.geometry.page image)) in
