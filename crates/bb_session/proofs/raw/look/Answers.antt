@@ -11,7 +11,7 @@ use Rattle.bb_session.proofs.raw.look.Goals as goal
 pub returns-in_err-found-clause-gives : goal.returns-in_err-found-clause-gives
 returns-in_err-found-clause-gives g c =
     let p = err_from_is_err_and c.from_residual-in_err-found.result c.from_residual-in_err-found.ensures.1 in
-    let done = c.in_err-found.ensures in
+    let done = c.in_err-found.ensures.look in
     worked_out (keyed_of c.args.state.now) Show (g.F.Flash.device c.args.flash.now) (g.F.Flash.device c.look.new.flash)
     (Err c.in_err-found.field-0.0) [] c.from_residual-in_err-found.result
     (record {
@@ -22,7 +22,7 @@ returns-in_err-found-clause-gives g c =
 pub returns-in_err-look_text-clause-gives : goal.returns-in_err-look_text-clause-gives
 returns-in_err-look_text-clause-gives g c =
     let p = err_from_is_err_and c.from_residual-in_err-look_text.result c.from_residual-in_err-look_text.ensures.1 in
-    let done = c.in_ok-found.ensures in
+    let done = c.in_ok-found.ensures.look in
     looked_ok (keyed_of c.args.state.now) c.look.new.area c.in_ok-found.found (g.F.Flash.device c.args.flash.now) (g.F.Flash.device c.look.new.flash)
     c.from_residual-in_err-look_text.result done.gives done.faults done.read_faults done.quiet (inr (p.1 ∙ ap (λ e. Err e) p.2))
 
@@ -30,7 +30,7 @@ pub returns-clause-gives : goal.returns-clause-gives
 returns-clause-gives g c =
     let filled = with_items c.in_ok-area.area c.look.new.area in
     let items : filled.items ≡ c.look.new.area = take-refill _ _ _ (omega (arith, c.in_ok-area.ensures.len, c.look.auto.area, c.deref_mut.ensures.len)) in
-    let done = c.in_ok-found.ensures in
+    let done = c.in_ok-found.ensures.look in
     looked_ok (keyed_of c.args.state.now) c.look.new.area c.in_ok-found.found (g.F.Flash.device c.args.flash.now) (g.F.Flash.device c.look.new.flash)
     (Ok c.done.result) done.gives done.faults done.read_faults done.quiet
     (inl

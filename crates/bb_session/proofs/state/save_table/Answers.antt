@@ -12,8 +12,7 @@ returns-in_err-save-clause-saved g c =
       now = c.save.new.self.backing.used;
       run =
           saved_err c.args.state.now c.save.new.self.backing.used c.in_err-save.field-0.0 (g.F.Flash.device c.args.flash.now)
-          (g.F.Flash.device c.save.new.flash) c.requires.sure (λ is. (let h = done.same is in cc))
-          (λ is. (let unsure = done.unsure.0 (ap (λ f. Err f) is) in let sure = c.requires.sure in cc)) done.runs done.fails;
+          (g.F.Flash.device c.save.new.flash) c.requires.sure (λ is. (let h = done.same is in cc)) done.save;
       gives = p.1 ∙ ap (λ e. Err e) p.2;
     }
 
@@ -25,6 +24,6 @@ returns-clause-saved g c =
       now = c.save.new.self.backing.used;
       run =
           saved_ok c.args.state.now c.save.new.self.backing.used (g.F.Flash.device c.args.flash.now)
-          (g.F.Flash.device c.save.new.flash) c.requires.sure done.idle done.runs done.saved done.exact done.erases done.used;
+          (g.F.Flash.device c.save.new.flash) c.requires.sure done.idle done.save done.used;
       gives = refl;
     }
