@@ -28,6 +28,7 @@ pub(super) fn shell(
 }
 
 // A script, what it answers and sends, and how many programs it makes of a fresh board of strides.
+#[derive(Drop)]
 struct Row {
     script: &'static str,
     status: Status,
