@@ -15,7 +15,7 @@ ghost use Rattle.bb_state.specs.Kinds.{laid_buckets, longest};
 ghost use Rattle.bb_state.specs.State.{IsDefault};
 
 use crate::{AnyBucket, AnyFormat};
-use bb_base::NoMemory;
+use bb_base::{Format, NoMemory};
 use bb_bucket::{OneBlock, Stride};
 use bb_circular::Circular;
 use bb_copies::{BucketList, Copies, CopyFault, Loaded};
