@@ -1,5 +1,5 @@
 -- What a bucket's calls make of a device.
-use Rattle.std.specs.Prelude.{◌≡◌, ℕ, ◌+◌, ◌/◌, ◌≤◌, ◌⊎◌, Bool, false, List, [], ◌∷◌, ◌++◌, length, take, slice_get, slice_index, slice_set, Contains, Option, Some, None, option_map, Result, IsErr, OnOk, IsTrue, if◌then◌else◌}
+use Rattle.std.specs.Prelude.{◌≡◌, ℕ, ◌+◌, ◌/◌, ◌≤◌, ◌⊎◌, Bool, false, List, [], ◌∷◌, ◌++◌, length, take, drop, ⊤, slice_get, slice_index, slice_set, Contains, Option, Some, None, option_map, Result, IsErr, OnOk, IsTrue, if◌then◌else◌}
 use Rattle.std.specs.Option.{ForSome}
 use Rattle.bb_base.specs.Faults.{one_more}
 use Rattle.bb_flash.specs.declared.geometry.Geometry.{Geometry}
@@ -11,11 +11,39 @@ use Rattle.bb_flash.specs.Device.{Change, Device, IsDevice, LeavesStarts, Told, 
 use Rattle.bb_bucket.specs.declared.bucket.Found.{Found}
 use Rattle.bb_bucket.specs.Kind.{BucketKind, Holding, BeginsWithRecord, part_of}
 
--- the bucket keeps of its region what stands there, where the device tells it
+-- the candidate in an image of a device
+abbrev pub candidate_in : BucketKind → ℕ → Image → Option (List ℕ)
+candidate_in kind page image = kind.candidate_of (part_of page kind.region image)
+
+-- a length that was found, if one was, is that of the candidate
+abbrev pub HasFound : Option ℕ → Option (List ℕ) → Type 0
+HasFound None candidate = ⊤
+HasFound (Some len) candidate = option_map (λ bytes. length bytes) candidate ≡ Some len
+
+-- a length was found, and reaches to this end
+abbrev pub Reaches : Option ℕ → ℕ → Type 0
+Reaches None end = ⊥
+Reaches (Some len) end = end ≤ len
+
+-- a look found this candidate: its length, and whether a page of it is Worn
+pub record IsFoundOf (candidate : Option (List ℕ)) (is_worn : Bool) (found : Found) : Type 0 where
+  pub len : found.len ≡ option_map (λ bytes. length bytes) candidate
+  pub worn : found.worn ≡ is_worn
+
+-- these are bytes of the candidate, if there is one, from a place on
+abbrev pub IsPieceOf : Option (List ℕ) → ℕ → List ℕ → Type 0
+IsPieceOf candidate from out =
+    ForSome candidate (λ bytes. out ≡ take (length out) (drop from bytes))
+
+-- the bucket keeps of its region what stands there, where the device tells it, and a length that it
+-- found is that of the candidate
 pub record Agrees (holding : Holding) (device : Device) : Type 0 where
   pub here :
       ForSome (content device)
       (λ image. IsTrue (holding.agrees (part_of device.geometry.page holding.kind.region image)))
+  pub found :
+      ForSome (content device)
+      (λ image. HasFound holding.found (candidate_in holding.kind device.geometry.page image))
 
 -- a read found this candidate: its length, its bytes in front of `out`, and whether a page of it is
 -- Worn
@@ -101,10 +129,6 @@ pub record IsWithin (region : Region) (change : Change) : Type 0 where
 -- the bytes that a call touches
 abbrev pub range_of : Change → Region
 range_of change = record { at = change.at; size = change.len }
-
--- the candidate in an image of a device
-abbrev pub candidate_in : BucketKind → ℕ → Image → Option (List ℕ)
-candidate_in kind page image = kind.candidate_of (part_of page kind.region image)
 
 -- the candidate of an image is that of the image before, or none
 abbrev pub IsOldOrNone : BucketKind → ℕ → Image → Image → Type 0

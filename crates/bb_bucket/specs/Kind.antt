@@ -38,6 +38,8 @@ pub record Holding : Type 0 where
   pub agrees : Image → Bool
   -- it knows where a record goes without a look at the device
   pub knows_place : Bool
+  -- the length of the record that it found last, until the next write
+  pub found : Option ℕ
 
 -- a record begins what stands in a region
 pub record BeginsWithRecord (rec : List ℕ) (candidate : Option (List ℕ)) : Type 0 where

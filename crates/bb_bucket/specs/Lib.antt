@@ -8,6 +8,7 @@ pub mod Calls
 pub mod Front
 pub mod Kind
 pub mod OneBlock
+pub mod Seen
 pub mod Stride
 -- Inside: what follows of them, of which the laws of the buckets are made.
 pub mod BlockLaws

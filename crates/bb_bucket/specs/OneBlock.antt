@@ -1,10 +1,12 @@
 -- A block that holds one record: it begins with a front, the record follows, and 0xFF fills the
 -- last page. A write erases the block and programs it from its first page on.
-use Rattle.std.specs.Prelude.{ℕ, ◌+◌, ◌-◌, true, List, [], ◌∷◌, length}
+use Rattle.std.specs.Prelude.{ℕ, ◌+◌, ◌-◌, true, List, [], ◌∷◌, length, Option, IfSome}
 use Rattle.bb_bucket.specs.declared.block.Block.{Block}
-use Rattle.bb_bucket.specs.Blocks.{blank_of, filled_len, filled_to, is_block_of}
+use Rattle.bb_bucket.specs.Blocks.{IsBlockBucket, blank_of, filled_len, filled_to, is_block_of}
 use Rattle.bb_bucket.specs.Front.{with_header, first_bytes, front_candidate, front_is_worn, stride_header_len, put_at}
 use Rattle.bb_bucket.specs.Kind.{BucketKind, Holding}
+use Rattle.bb_bucket.specs.Seen.{IsSeenIn, Sight, is_sight_of, sight_len}
+use Rattle.bb_bucket.specs.declared.seen.Seen.{Seen}
 
 -- how many bytes are programmed for a record of `len` bytes
 abbrev pub block_entry_len : ℕ → ℕ → ℕ
@@ -31,10 +33,23 @@ one_block_kind block = record {
   void_erases = true;
 }
 
--- it keeps nothing of its region, and a record always goes to its start
-abbrev pub one_block_holding : Block → Holding
-one_block_holding block = record {
-  kind = one_block_kind block;
-  agrees = λ old. true;
+-- a block, with what is kept of the record that was found last
+pub record SeenBlock : Type 0 where
+  pub block : Block
+  pub sight : Option Sight
+
+-- a record always goes to its start
+abbrev pub one_block_holding : SeenBlock → Holding
+one_block_holding it = record {
+  kind = one_block_kind it.block;
+  agrees = λ old. is_sight_of it.sight (front_candidate it.block.page old);
   knows_place = true;
+  found = sight_len it.sight;
 }
+
+-- what every bucket over such a block keeps: what is kept of a record lies in it and in its memory
+pub record IsOneBlock (block : Block) (entry : List ℕ) (seen : Option Seen) : Type 0 where
+  pub held : IsBlockBucket block entry
+  pub inside :
+      IfSome seen
+      (IsSeenIn stride_header_len (block.region.size - stride_header_len) (length entry))

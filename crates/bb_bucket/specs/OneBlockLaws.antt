@@ -1,15 +1,14 @@
 -- A block that holds one record is a kind of bucket.
 use Rattle.std.proofs.Common.{ℕ, ◌-◌, List, length, replicate, refl, arith}
-use Rattle.bb_bucket.specs.declared.block.Block.{Block}
 use Rattle.bb_bucket.specs.Blocks.{blank_of}
 use Rattle.bb_bucket.specs.BlockLaws.{block_lies_on, block_of}
 use Rattle.bb_bucket.specs.Front.{with_header}
 use Rattle.bb_bucket.specs.FrontLaws.{blank_holds_none, written_begins}
 use Rattle.bb_bucket.specs.Kind.{IsKind}
-use Rattle.bb_bucket.specs.OneBlock.{block_entry, block_entry_len, one_block_kind}
+use Rattle.bb_bucket.specs.OneBlock.{SeenBlock, block_entry, block_entry_len, one_block_kind}
 
-pub one_block_laws : (block : Block) → IsKind (one_block_kind block)
-one_block_laws block = record {
+pub one_block_laws : (it : SeenBlock) → IsKind (one_block_kind it.block)
+one_block_laws it = let block = it.block in record {
   lies = λ geometry serves. block_lies_on block geometry (block_of block geometry serves);
   written = λ geometry serves rec image fits whole.
       let held = block_of block geometry serves in

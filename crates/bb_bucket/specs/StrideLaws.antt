@@ -9,7 +9,7 @@ use Rattle.bb_flash.specs.declared.region.Region.{Region}
 use Rattle.bb_bucket.specs.Front.{with_header}
 use Rattle.bb_bucket.specs.FrontLaws.{written_begins}
 use Rattle.bb_bucket.specs.Kind.{IsKind, LiesOn, part_of}
-use Rattle.bb_bucket.specs.Stride.{lies_on, stride_kind}
+use Rattle.bb_bucket.specs.Stride.{SeenStride, lies_on, stride_kind}
 
 -- a device that holds a region, and is overwritten in place
 pub record IsHeld (region : Region) (geometry : Geometry) : Type 0 where
@@ -36,8 +36,8 @@ stride_lies_on region geometry held = record {
   whole = ap (λ page. region.size % page) held.page ∙ mod-one region.size;
 }
 
-pub stride_laws : (region : Region) → IsKind (stride_kind region)
-stride_laws region = record {
+pub stride_laws : (it : SeenStride) → IsKind (stride_kind it.region)
+stride_laws it = let region = it.region in record {
   lies = λ geometry serves. stride_lies_on region geometry (held_by region geometry serves);
   written = λ geometry serves rec image fits whole.
       let held = held_by region geometry serves in

@@ -13,10 +13,12 @@ use Rattle.bb_copies.specs.Passing.{passes_at, passings}
 form : Form
 form = record {
   area_len = 1;
-  length = 2;
+  length_of = λ len. 2;
+  reach = 2;
   fits = λ area. true;
   text = λ area. area ++ area;
   passes = passes_twice;
+  aged = λ bytes. false;
 }
   where
     passes_twice : List ℕ → Option (List ℕ)

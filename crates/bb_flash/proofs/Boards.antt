@@ -93,21 +93,21 @@ continued_more first last change before more =
     }
 
 -- reads
-read_whole_by : (m : Memory) (refused : Bool) (fault : Option Fault) → IsDevice (device_of m) → IsDevice (device_of (cond refused (with_read_fault m) (read_by fault m)))
-read_whole_by m true fault whole = whole_of m (with_read_fault m) whole refl refl refl refl
-read_whole_by m false None whole = whole_of m (read_by None m) whole refl refl refl refl
-read_whole_by m false (Some fault) whole = whole_of m (read_by (Some fault) m) whole refl refl refl refl
+read_whole_by : (m : Memory) (len : ℕ) (refused : Bool) (fault : Option Fault) → IsDevice (device_of m) → IsDevice (device_of (cond refused (with_read_fault m) (read_by fault len m)))
+read_whole_by m len true fault whole = whole_of m (with_read_fault m) whole refl refl refl refl
+read_whole_by m len false None whole = whole_of m (read_by None len m) whole refl refl refl refl
+read_whole_by m len false (Some fault) whole = whole_of m (read_by (Some fault) len m) whole refl refl refl refl
 
-pub read_whole : (m : Memory) → IsDevice (device_of m) → IsDevice (device_of (after_read m))
-read_whole m whole = read_whole_by m (is_read_refused m) (fault_of m) whole
+pub read_whole : (m : Memory) (len : ℕ) → IsDevice (device_of m) → IsDevice (device_of (after_read len m))
+read_whole m len whole = read_whole_by m len (is_read_refused m) (fault_of m) whole
 
-read_later_by : (m : Memory) (refused : Bool) (fault : Option Fault) → IsLater (device_of m) (device_of (cond refused (with_read_fault m) (read_by fault m)))
-read_later_by m true fault = later_of m (with_read_fault m) refl (more_is_more m.faults) (more_is_more m.read_faults) (continued_same m.told m.told.reads)
-read_later_by m false None = later_of m (read_by None m) refl (same_number m.faults) (same_number m.read_faults) (continued_same m.told (m.told.reads + 1))
-read_later_by m false (Some fault) = later_of m (read_by (Some fault) m) refl (more_is_more m.faults) (more_is_more m.read_faults) (continued_same m.told m.told.reads)
+read_later_by : (m : Memory) (len : ℕ) (refused : Bool) (fault : Option Fault) → IsLater (device_of m) (device_of (cond refused (with_read_fault m) (read_by fault len m)))
+read_later_by m len true fault = later_of m (with_read_fault m) refl (more_is_more m.faults) (more_is_more m.read_faults) (continued_same m.told m.told.reads)
+read_later_by m len false None = later_of m (read_by None len m) refl (same_number m.faults) (same_number m.read_faults) (continued_same m.told (m.told.reads + 1))
+read_later_by m len false (Some fault) = later_of m (read_by (Some fault) len m) refl (more_is_more m.faults) (more_is_more m.read_faults) (continued_same m.told m.told.reads)
 
-pub read_later : (m : Memory) → IsLater (device_of m) (device_of (after_read m))
-read_later m = read_later_by m (is_read_refused m) (fault_of m)
+pub read_later : (m : Memory) (len : ℕ) → IsLater (device_of m) (device_of (after_read len m))
+read_later m len = read_later_by m len (is_read_refused m) (fault_of m)
 
 -- programs and erases
 written_later : (m : Memory) (fault : Option Fault) (at : ℕ) (bytes : List ℕ) (faults : ℕ) → m.faults ≤ faults → IsLater (device_of m) (device_of (record (with_write fault at bytes m) { faults = faults }))

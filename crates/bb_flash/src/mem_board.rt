@@ -42,6 +42,7 @@ pub struct MemBoard {
     was_cut: bool,
     programs: u64,
     erase_count: u64,
+    largest_read: u32,
     starts: Vec<StartMade>,
     start_faults: u64,
     faults_before: u64,
@@ -81,6 +82,7 @@ impl Model for MemBoard {
           was_cut = board.was_cut;
           programs = board.programs;
           erase_count = board.erase_count;
+          largest_read = board.largest_read;
         } };
 
     ghost invariant = { λ board.
@@ -123,6 +125,7 @@ impl MemBoard {
             was_cut: false,
             programs: 0,
             erase_count: 0,
+            largest_read: 0,
             starts: Vec::new(alloc),
             start_faults: 0,
             faults_before: 0,
@@ -191,7 +194,7 @@ impl Flash for MemBoard {
     fn read(&mut self, at: u32, out: &mut [u8]) -> Result<Health, Failed>
         requires { at + length out.old ≤ self.old.geometry.size }
         ensures answer { is_err result ≡ memory.fails_to_read self.old }
-        ensures after { self.new ≡ memory.after_read self.old }
+        ensures after { self.new ≡ memory.after_read (length out.old) self.old }
         ensures done { IfOk result (λ health. ForSome (content (device_of self.old)) (λ image.
             IsReading self.old.geometry.page image at out.new health)) }
         ensures call { IsReadCall result (device_of self.old) (device_of self.new) }

@@ -65,10 +65,14 @@ kind_there layout copy kind h =
       kind_is = sym (get_or-map-range_with_len (kind_at layout.geometry layout.storage layout.region) 0 layout.copies copy copy kind inside (omega arith)) ∙ get_or_from_slice_get numbers copy kind kind there;
     }
 
--- a bucket stands in its region, with room for a record, on the device
-record IsFit (form : Form) (geometry : Geometry) (region : Region) (kind : BucketKind) : Type 0 where
+-- how many bytes the longest record of a format has
+abbrev pub longest : Form → ℕ
+longest form = form.length_of form.area_len
+
+-- a bucket stands in its region, with room for a record of so many bytes, on the device
+record IsFit (need : ℕ) (geometry : Geometry) (region : Region) (kind : BucketKind) : Type 0 where
   region_is : kind.region ≡ region
-  room : form.length ≤ kind.room
+  room : need ≤ kind.room
   serves : IsTrue (kind.serves geometry)
 
 -- the region of a copy on a device that is erased in blocks
@@ -129,7 +133,7 @@ code_short (Some _) = omega arith
 
 -- a record has no more bytes than its layout counts
 record_short : (format : FormatKind) (keyed : Keyed) → keyed.layout.format ≡ format → IsLaid keyed.layout →
-    (any_form (format_for format keyed)).length ≤ record_len format (recorded_of keyed.layout) keyed.layout.area_len
+    longest (any_form (format_for format keyed)) ≤ record_len format (recorded_of keyed.layout) keyed.layout.area_len
 record_short Raw keyed is facts = omega arith
 record_short RawHmac keyed is facts = let code = code_short keyed.key in omega arith
 record_short Dtb keyed is facts =
@@ -149,11 +153,11 @@ record_some Dtb layout is facts =
 pub laid_some : (layout : Laid) → IsLaid layout → 1 ≤ laid_len layout
 laid_some layout facts = record_some layout.format layout refl facts
 
-fit_of : (storage : Storage) (form : Form) (geometry : Geometry) (partition : Region) (copies len copy : ℕ) → form.length ≤ len → IsGeometry geometry →
+fit_of : (storage : Storage) (need : ℕ) (geometry : Geometry) (partition : Region) (copies len copy : ℕ) → need ≤ len → IsGeometry geometry →
     HasCopies geometry partition storage copies len → copy < copies →
-    IsFit form geometry (region_of geometry storage partition copy) (kind_at geometry storage partition copy)
+    IsFit need geometry (region_of geometry storage partition copy) (kind_at geometry storage partition copy)
 unfolding kind_at any_holding
-fit_of (Stride stride) form geometry partition copies len copy short is has below =
+fit_of (Stride stride) need geometry partition copies len copy short is has below =
     let within = has.inside copy below in
     let room = has.room in
     let none : geometry.block ≡ 0 = eqb-true geometry.block 0 (sym has.strides) in
@@ -166,22 +170,22 @@ fit_of (Stride stride) form geometry partition copies len copy short is has belo
       room = omega arith;
       serves = grind (arith, nat_tests);
     }
-fit_of OneBlock form geometry partition copies len copy short is has below =
+fit_of OneBlock need geometry partition copies len copy short is has below =
     let room = has.room in
     record { region_is = refl; room = omega arith; serves = serves_block OneBlock geometry partition copies len copy is has below refl refl }
-fit_of Circular form geometry partition copies len copy short is has below =
+fit_of Circular need geometry partition copies len copy short is has below =
     let room = has.room in
     record { region_is = refl; room = omega arith; serves = serves_block Circular geometry partition copies len copy is has below refl refl }
 
 -- what the facts of a layout say of a copy
 kind_fit : (keyed : Keyed) (copy : ℕ) (kind : BucketKind) → IsLaid keyed.layout → slice_get (laid_kinds keyed.layout) copy ≡ Some kind →
-    (copy < keyed.layout.copies) × IsFit (laid_form keyed) keyed.layout.geometry (region_of keyed.layout.geometry keyed.layout.storage keyed.layout.region copy) kind
+    (copy < keyed.layout.copies) × IsFit (longest (laid_form keyed)) keyed.layout.geometry (region_of keyed.layout.geometry keyed.layout.storage keyed.layout.region copy) kind
 kind_fit keyed copy kind facts h =
     let layout = keyed.layout in
     let at = kind_there layout copy kind h in (
       at.inside,
-      subst (IsFit (laid_form keyed) layout.geometry (region_of layout.geometry layout.storage layout.region copy)) at.kind_is
-          (fit_of layout.storage (laid_form keyed) layout.geometry layout.region layout.copies (laid_len layout) copy (record_short layout.format keyed refl facts) facts.geometry_is facts.copied at.inside),
+      subst (IsFit (longest (laid_form keyed)) layout.geometry (region_of layout.geometry layout.storage layout.region copy)) at.kind_is
+          (fit_of layout.storage (longest (laid_form keyed)) layout.geometry layout.region layout.copies (laid_len layout) copy (record_short layout.format keyed refl facts) facts.geometry_is facts.copied at.inside),
     )
 
 apart_of : (layout : Laid) (one two : ℕ) → IsLaid layout → one ≢ two →
@@ -205,7 +209,7 @@ apart_of layout one two facts differ =
 regions_apart : (one two a b : Region) → one ≡ a → two ≡ b → IsApart a b → IsApart one two
 regions_apart one two a b ea eb h = subst (λ r. IsApart r two) (sym ea) (subst (IsApart a) (sym eb) h)
 
-pub have_room : (keyed : Keyed) → IsLaid keyed.layout → HaveRoom (laid_form keyed) (laid_kinds keyed.layout)
+pub have_room : (keyed : Keyed) → IsLaid keyed.layout → HaveRoom (longest (laid_form keyed)) (laid_kinds keyed.layout)
 have_room keyed facts = record {
   room = λ copy kind there. (kind_fit keyed copy kind facts there).1.room;
   apart = λ copy kind there other beside found differ.
@@ -222,9 +226,9 @@ all_serve keyed facts copy kind there = (kind_fit keyed copy kind facts there).1
 
 bucket_agrees : (geometry : Geometry) (storage : Storage) (partition : Region) (copy : ℕ) (device : Device) → Agrees (any_holding (bucket_at geometry storage partition copy)) device
 unfolding any_holding
-bucket_agrees geometry (Stride stride) partition copy device = record { here = λ image told. refl }
-bucket_agrees geometry OneBlock partition copy device = record { here = λ image told. refl }
-bucket_agrees geometry Circular partition copy device = record { here = λ image told. refl }
+bucket_agrees geometry (Stride stride) partition copy device = record { here = λ image told. refl; found = λ image told. tt }
+bucket_agrees geometry OneBlock partition copy device = record { here = λ image told. refl; found = λ image told. tt }
+bucket_agrees geometry Circular partition copy device = record { here = λ image told. refl; found = λ image told. tt }
 
 -- the buckets of a layout keep nothing yet
 pub all_agree : (layout : Laid) (device : Device) → AllAgree any_holding device (laid_buckets layout)

@@ -35,14 +35,14 @@ use Rattle.bb_state.specs.declared.any_format.AnyFormat.TheVariants.{Dtb, Raw}
 -- ---- each is what the kind inside is
 
 unfoldable pub any_holding : AnyBucket → Holding
-any_holding (Stride region) = stride_holding region
-any_holding (OneBlock block) = one_block_holding block
+any_holding (Stride it) = stride_holding it
+any_holding (OneBlock it) = one_block_holding it
 any_holding (Circular circle) = circular_holding circle
 
 pub any_bucket_laws : (bucket : AnyBucket) → IsKind (any_holding bucket).kind
 unfolding any_holding
-any_bucket_laws (Stride region) = stride_laws region
-any_bucket_laws (OneBlock block) = one_block_laws block
+any_bucket_laws (Stride it) = stride_laws it
+any_bucket_laws (OneBlock it) = one_block_laws it
 any_bucket_laws (Circular circle) = circle_laws circle
 
 abbrev pub any_form : AnyFormat → Form
@@ -63,11 +63,21 @@ block_at geometry storage partition copy =
 -- its bucket, which keeps nothing yet
 abbrev pub bucket_at : Geometry → Storage → Region → ℕ → AnyBucket
 bucket_at geometry (storages.Stride stride) partition copy =
-    Stride (region_of geometry (storages.Stride stride) partition copy)
+    Stride (record {
+      region = region_of geometry (storages.Stride stride) partition copy;
+      sight = None;
+    })
 bucket_at geometry storages.OneBlock partition copy =
-    OneBlock (block_at geometry storages.OneBlock partition copy)
+    OneBlock (record {
+      block = block_at geometry storages.OneBlock partition copy;
+      sight = None;
+    })
 bucket_at geometry storages.Circular partition copy =
-    Circular (record { block = block_at geometry storages.Circular partition copy; kept = None })
+    Circular (record {
+      block = block_at geometry storages.Circular partition copy;
+      kept = None;
+      sight = None;
+    })
 
 -- the buckets of all copies, in their order, and their kinds
 abbrev pub laid_buckets : Laid → List AnyBucket

@@ -24,6 +24,14 @@ impl MemBoard {
         self.reads
     }
 
+    /// How many bytes the longest read had that answered Ok, or 0 where none did. A restart keeps
+    /// it.
+    pub fn largest_read(&self) -> u32
+        ensures { result ≡ self.now.largest_read }
+    {
+        self.largest_read
+    }
+
     /// How many programs answered Ok.
     pub fn programs(&self) -> u64
         ensures { result ≡ self.now.programs }

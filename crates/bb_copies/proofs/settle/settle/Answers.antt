@@ -18,16 +18,15 @@ returns-then-is_ok-clause-ends g c =
     let kind : BucketKind = (g.B.Bucket.holding c.args.bucket.now).kind in
     let from : Device = g.F.Flash.device c.args.flash.now in
     let mid : Device = g.F.Flash.device c.write.new.flash in
-    let packed = c.deref.ensures.value ∙ c.requires.packed in
     let done = ok_gives c.write.result _ c.write.ensures.done (sym c.is_ok.ensures.value ∙ c.if-is_ok.true) in
-    written_good_as form kind c.args.area.now _ from mid packed (g.met.M.Format.laws c.args.format.now) (g.met.B.Bucket.laws c.args.bucket.now) c.requires.serves c.requires.fits c.requires.room c.requires.whole c.write.ensures.within.later done
+    written_good_as form kind c.args.area.now _ from mid c.requires.packed (g.met.M.Format.laws c.args.format.now) (g.met.B.Bucket.laws c.args.bucket.now) c.requires.serves c.requires.fits c.requires.room c.requires.whole c.write.ensures.within.later done
 
 pub returns-then-is_ok-clause-settles : goal.returns-then-is_ok-clause-settles
 returns-then-is_ok-clause-settles g c =
     let form : Form = g.M.Format.form c.args.format.now in
     let kind : BucketKind = (g.B.Bucket.holding c.args.bucket.now).kind in
     let w = c.write.ensures in
-    written_copy_as form kind c.args.area.now _ (g.F.Flash.device c.args.flash.now) (g.F.Flash.device c.write.new.flash) (c.deref.ensures.value ∙ c.requires.packed) (g.met.M.Format.laws c.args.format.now) c.requires.fits w.calls w.within.ends w.within.images w.within.later w.within.starts w.within.whole
+    written_copy_as form kind c.args.area.now _ (g.F.Flash.device c.args.flash.now) (g.F.Flash.device c.write.new.flash) c.requires.packed (g.met.M.Format.laws c.args.format.now) c.requires.fits w.calls w.within.ends w.within.images w.within.later w.within.starts w.within.whole
 
 pub returns-then-is_ok-2-clause-ends : goal.returns-then-is_ok-2-clause-ends
 returns-then-is_ok-2-clause-ends g c =
@@ -51,7 +50,7 @@ returns-then-is_ok-2-clause-settles g c =
     let w = c.write.ensures in
     let v = c.void.ensures in
     settles_joined_as form kind (g.B.Bucket.holding c.write.new.self).kind c.args.area.now from mid to w.kind
-    (written_copy_as form kind c.args.area.now _ from mid (c.deref.ensures.value ∙ c.requires.packed) (g.met.M.Format.laws c.args.format.now) c.requires.fits w.calls w.within.ends w.within.images w.within.later w.within.starts w.within.whole)
+    (written_copy_as form kind c.args.area.now _ from mid c.requires.packed (g.met.M.Format.laws c.args.format.now) c.requires.fits w.calls w.within.ends w.within.images w.within.later w.within.starts w.within.whole)
     (voided_copy form (g.B.Bucket.holding c.write.new.self).kind c.args.area.now mid to v.calls v.within.ends v.within.images v.within.later v.within.starts v.within.whole)
 
 pub returns-clause-ends : goal.returns-clause-ends
@@ -79,7 +78,7 @@ returns-clause-settles g c =
     let v = c.void.ensures in
     settles_joined_as form kind (g.B.Bucket.holding c.void.new.self).kind c.args.area.now from void to (v.kind ∙ w.kind)
     (settles_joined_as form kind (g.B.Bucket.holding c.write.new.self).kind c.args.area.now from mid void w.kind
-    (written_copy_as form kind c.args.area.now _ from mid (c.deref.ensures.value ∙ c.requires.packed) (g.met.M.Format.laws c.args.format.now) c.requires.fits w.calls w.within.ends w.within.images w.within.later w.within.starts w.within.whole)
+    (written_copy_as form kind c.args.area.now _ from mid c.requires.packed (g.met.M.Format.laws c.args.format.now) c.requires.fits w.calls w.within.ends w.within.images w.within.later w.within.starts w.within.whole)
     (voided_copy form (g.B.Bucket.holding c.write.new.self).kind c.args.area.now mid void v.calls v.within.ends v.within.images v.within.later v.within.starts v.within.whole))
     c.read_back.ensures.settles
 
@@ -118,8 +117,7 @@ returns-then-is_ok-clause-exact g c = λ quiet.
     let w = c.write.ensures in
     let ok = sym c.is_ok.ensures.value ∙ c.if-is_ok.true in
     let kind : BucketKind = (g.B.Bucket.holding c.args.bucket.now).kind in
-    subst (λ (r : List ℕ). IsRepairWritten kind r from mid) c.deref.ensures.value
-    (written_once kind _ c.write.result from mid ok w.done w.erases w.made (not_failed c.write.result from.faults mid.faults ok w.faults) (no_look _ c.write.result from mid c.requires.placed w.read_faults))
+    written_once kind _ c.write.result from mid ok w.done w.erases w.made (not_failed c.write.result from.faults mid.faults ok w.faults) (no_look _ c.write.result from mid c.requires.placed w.read_faults)
 
 pub returns-then-is_ok-2-clause-exact : goal.returns-then-is_ok-2-clause-exact
 returns-then-is_ok-2-clause-exact g c = λ quiet.
@@ -147,8 +145,7 @@ returns-then-is_ok-clause-counts g c =
     let w = c.write.ensures in
     let ok = sym c.is_ok.ensures.value ∙ c.if-is_ok.true in
     let kind : BucketKind = (g.B.Bucket.holding c.args.bucket.now).kind in
-    inl (subst (λ (r : List ℕ). IsRepairWritten kind r from mid) c.deref.ensures.value
-    (written_once kind _ c.write.result from mid ok w.done w.erases w.made (not_failed c.write.result from.faults mid.faults ok w.faults) (no_look _ c.write.result from mid c.requires.placed w.read_faults)))
+    inl (written_once kind _ c.write.result from mid ok w.done w.erases w.made (not_failed c.write.result from.faults mid.faults ok w.faults) (no_look _ c.write.result from mid c.requires.placed w.read_faults))
 
 pub returns-then-is_ok-2-clause-counts : goal.returns-then-is_ok-2-clause-counts
 returns-then-is_ok-2-clause-counts g c =
@@ -170,7 +167,7 @@ returns-clause-counts g c =
     let to : Device = g.F.Flash.device c.read_back.new.flash in
     let once = failed_once c.write.result from.faults mid.faults (sym c.is_ok.ensures.value ∙ c.if-is_ok.false) c.write.ensures.faults in
     let again = failed_once c.void.result mid.faults void.faults (sym c.is_ok-2.ensures.value ∙ c.if-is_ok-2.false) c.void.ensures.faults in
-    counts_read (g.B.Bucket.holding c.args.bucket.now).kind c.args.room.now.record.items from void to c.read_back.result
+    counts_read (g.B.Bucket.holding c.args.bucket.now).kind c.args.rec.now from void to c.read_back.result
     (record {
       faults = again ∙ ap one_more once;
       read_faults = c.void.ensures.read_faults ∙ no_look _ c.write.result from mid c.requires.placed c.write.ensures.read_faults;
@@ -184,8 +181,7 @@ returns-then-is_ok-clause-bounds g c =
     let w = c.write.ensures in
     let kind : BucketKind = (g.B.Bucket.holding c.args.bucket.now).kind in
     let calm = not_failed c.write.result from.faults mid.faults (sym c.is_ok.ensures.value ∙ c.if-is_ok.true) w.faults in
-    subst (λ (r : List ℕ). IsBoundedInSum (kind ∷ []) r from mid) c.deref.ensures.value
-    (bounded_written kind _ c.write.result from mid w.made (omega (arith, calm)))
+    bounded_written kind _ c.write.result from mid w.made (omega (arith, calm))
 
 pub returns-then-is_ok-2-clause-bounds : goal.returns-then-is_ok-2-clause-bounds
 returns-then-is_ok-2-clause-bounds g c =
@@ -198,8 +194,7 @@ returns-then-is_ok-2-clause-bounds g c =
     let once = failed_once c.write.result from.faults mid.faults (sym c.is_ok.ensures.value ∙ c.if-is_ok.false) w.faults in
     let ok = not_failed c.void.result mid.faults void.faults (sym c.is_ok-2.ensures.value ∙ c.if-is_ok-2.true) v.faults in
     let most = one_more_most from.faults in
-    subst (λ (r : List ℕ). IsBoundedInSum (kind ∷ []) r from void) c.deref.ensures.value
-    (bounded_voided kind _ _ c.write.result c.void.result from mid void w.within.later w.made v.made (omega (arith, once, ok, most)))
+    bounded_voided kind _ _ c.write.result c.void.result from mid void w.within.later w.made v.made (omega (arith, once, ok, most))
 
 pub returns-clause-bounds : goal.returns-clause-bounds
 returns-clause-bounds g c =
@@ -215,6 +210,5 @@ returns-clause-bounds g c =
     let twice : void.faults ≡ twice_more from.faults = again ∙ ap one_more once in
     let most = twice_most from.faults in
     let last = read_most void to c.read_back.result c.read_back.ensures.counts in
-    bounded_then (kind ∷ []) c.args.room.now.record.items from void to (later_joined from mid void w.within.later v.within.later) c.read_back.ensures.quiet (omega (arith, twice, most, last))
-    (subst (λ (r : List ℕ). IsBoundedInSum (kind ∷ []) r from void) c.deref.ensures.value
-    (bounded_voided kind _ _ c.write.result c.void.result from mid void w.within.later w.made v.made (omega (arith, twice, most))))
+    bounded_then (kind ∷ []) c.args.rec.now from void to (later_joined from mid void w.within.later v.within.later) c.read_back.ensures.quiet (omega (arith, twice, most, last))
+    (bounded_voided kind _ _ c.write.result c.void.result from mid void w.within.later w.made v.made (omega (arith, twice, most)))

@@ -16,7 +16,8 @@ use std::alloc::Global;
 use std::process::Abort;
 
 pub(super) fn log(alloc: Global) -> Result<Circular, NoMemory>
-    ensures { IfOk result (λ log. log ≡ record { block = tried_block; kept = None }) }
+    ensures { IfOk result (λ log.
+        log ≡ record { block = tried_block; kept = None; sight = None }) }
 {
     Circular::of(alloc, Region { at: 64, size: 64 }, 16)
 }

@@ -1,11 +1,12 @@
-use Rattle.std.proofs.Common.{◌≡◌, sym, ap, ◌∙◌, subst, IsTrue, arith}
+use Rattle.std.proofs.Common.{◌≡◌, ℕ, sym, ap, ◌∙◌, subst, IsTrue, arith}
 use Rattle.std.proofs.lemmas.Grind.{common_steps}
 use Rattle.bb_flash.specs.declared.geometry.Geometry.{Geometry}
 use Rattle.bb_bucket.specs.declared.block.Block.{Block}
 use Rattle.bb_bucket.specs.Blocks.{is_block_of}
 use Rattle.bb_bucket.specs.BlockLaws.{block_of}
-use Rattle.bb_circular.specs.Circular.{Circle}
-use Rattle.bb_circular.proofs.Keeping.{holding_agrees}
+use Rattle.bb_bucket.specs.Kind.{part_of}
+use Rattle.bb_circular.specs.Circular.{Circle, agrees_with}
+use Rattle.bb_circular.proofs.Keeping.{first_agrees, holding_agrees}
 use Rattle.bb_circular.proofs.circular.CircularBucket.write.Goals as goal
 
 pub returns-clause-agrees : goal.returns-clause-agrees
@@ -17,7 +18,13 @@ returns-clause-agrees g c =
     holding_agrees c.self.inside.block c.in_ok-written.written (g.F.Flash.device c.write_log.new.flash) page c.in_ok-written.ensures.kept
 
 pub write_log-requires-clause-agreed : goal.write_log-requires-clause-agreed
-write_log-requires-clause-agreed g c = grind (arith, common_steps)
+write_log-requires-clause-agreed g c = λ image told.
+    let device = (g.F.Flash.device c.args.flash.now).geometry in
+    let held = block_of c.args.self.now.block device c.requires.serves in
+    subst (λ (circle : Circle). IsTrue (agrees_with circle.block.page circle.kept (part_of circle.block.page circle.block.region image)))
+    (sym c.self.view_is)
+    (subst (λ (p : ℕ). IsTrue (agrees_with c.args.self.now.block.page c.args.self.now.kept (part_of p c.args.self.now.block.region image)))
+    held.page (first_agrees _ _ (c.requires.agreed.here image told)))
 
 pub invariant_of-self : goal.invariant_of-self
 invariant_of-self g c = grind (arith, common_steps)

@@ -1,10 +1,11 @@
 use Rattle.std.proofs.Common.{◌≡◌, ℕ, List, Option, arith, ap, subst, sym, ◌∙◌, length}
+use Rattle.bb_base.specs.Form.{Form}
 use Rattle.bb_copies.specs.Buckets.{AllAgree, HaveRoom, kinds_of}
 use Rattle.bb_layout.specs.Layout.{fields_of}
 use Rattle.bb_state.specs.Keyed.{Keyed}
 use Rattle.bb_state.specs.Kinds.{any_form, any_holding, format_of, key_of_format, laid_buckets, laid_form}
 use Rattle.bb_state.specs.declared.any_bucket.AnyBucket.{AnyBucket}
-use Rattle.bb_state.proofs.Mounting.{all_agree, all_serve, buckets_len, have_room, key_is}
+use Rattle.bb_state.proofs.Mounting.{all_agree, all_serve, buckets_len, have_room, key_is, longest}
 use Rattle.bb_state.proofs.backing.Backing.mount.Goals as goal
 
 pub mount-requires-clause-many : goal.mount-requires-clause-many
@@ -24,7 +25,8 @@ mount-requires-clause-room c =
     let keyed : Keyed = record { layout = fields_of c.args.layout; key = c.args.key } in
     let kinds = ap (kinds_of any_holding) c.in_ok-buckets.ensures in
     let form = ap any_form c.in_ok-format.ensures in
-    subst (λ form. HaveRoom form (kinds_of any_holding c.in_ok-buckets.buckets)) (sym form) (subst (HaveRoom (laid_form keyed)) (sym kinds) (have_room keyed c.args.layout.facts))
+    subst (λ (form : Form). HaveRoom (longest form) (kinds_of any_holding c.in_ok-buckets.buckets)) (sym form)
+    (subst (HaveRoom (longest (laid_form keyed))) (sym kinds) (have_room keyed c.args.layout.facts))
 
 pub invariant_of-result : goal.invariant_of-result
 invariant_of-result c =
