@@ -1,13 +1,13 @@
 -- What a bucket's calls make of a device.
-use Rattle.std.specs.Prelude.{◌≡◌, ℕ, ◌+◌, ◌/◌, ◌≤◌, ◌⊎◌, Bool, false, List, [], ◌∷◌, ◌++◌, length, take, drop, ⊤, slice_get, slice_index, slice_set, Contains, Option, Some, None, option_map, Result, IsErr, OnOk, IsTrue, if◌then◌else◌}
+use Rattle.std.specs.Prelude.{◌≡◌, ℕ, ◌+◌, ◌/◌, ◌≤◌, ◌⊎◌, Bool, false, List, [], ◌∷◌, ◌++◌, length, take, drop, ⊤, slice_get, slice_index, slice_set, Contains, Option, Some, None, option_map, Result, IsErr, OnOk, IsTrue, is_err, if◌then◌else◌}
 use Rattle.std.specs.Option.{ForSome}
-use Rattle.bb_base.specs.Faults.{one_more}
+use Rattle.bb_base.specs.Faults.{counted, one_more}
 use Rattle.bb_flash.specs.declared.geometry.Geometry.{Geometry}
 use Rattle.bb_flash.specs.declared.region.Region.{Region}
 use Rattle.bb_flash.specs.Calls.{HasNoChange}
 use Rattle.bb_flash.specs.Image.{Image, Torn}
 use Rattle.bb_flash.specs.Cuts.{EachTorn, IsLater}
-use Rattle.bb_flash.specs.Device.{Change, Device, IsDevice, LeavesStarts, Told, content, erases, moment}
+use Rattle.bb_flash.specs.Device.{Change, Device, IsDevice, LeavesStarts, Told, content, erases, moment, reads}
 use Rattle.bb_bucket.specs.declared.bucket.Found.{Found}
 use Rattle.bb_bucket.specs.Kind.{BucketKind, Holding, BeginsWithRecord, part_of}
 
@@ -203,3 +203,29 @@ pub record FailsToLook
   pub fails : IsErr result
   pub quiet : IsQuiet from to
   pub read_faults : to.read_faults ≡ one_more from.read_faults
+
+-- A write of a record to a bucket: what it made of the device, and what it answered. A bucket that
+-- doesn't know where the record goes looks for that first.
+pub record IsBucketWrite
+    {T E : Type 0} (kind : BucketKind) (knows_place : Bool) (rec : List ℕ) (from to : Device)
+    (result : Result T E) : Type 0 where
+  pub done : OnOk result (Leaves kind.region (kind.after_write rec) from to)
+  pub calls : EachCall (IsWriteCall kind from.geometry.page rec) from to
+  pub within : ChangesWithin kind.region from to
+  pub erases : OnOk result (ErasesWhere kind.region (kind.write_erases rec) from to)
+  pub made : MakesCalls result kind.region (calls_of_write kind rec) from to
+  pub faults : to.faults ≡ counted (is_err result) from.faults
+  pub read_faults :
+      (to.read_faults ≡ from.read_faults) ⊎ FailsToLook knows_place result from to
+  pub reads : IsTrue knows_place → reads to ≡ reads from
+
+-- A void of a bucket: the same.
+pub record IsBucketVoid
+    {T E : Type 0} (kind : BucketKind) (from to : Device) (result : Result T E) : Type 0 where
+  pub done : OnOk result (Leaves kind.region kind.after_void from to)
+  pub calls : EachCall (IsVoidCall kind from.geometry.page) from to
+  pub within : ChangesWithin kind.region from to
+  pub erases : OnOk result (ErasesWhere kind.region (λ region. kind.void_erases) from to)
+  pub made : MakesCalls result kind.region (λ region. 1) from to
+  pub faults : to.faults ≡ counted (is_err result) from.faults
+  pub read_faults : to.read_faults ≡ from.read_faults

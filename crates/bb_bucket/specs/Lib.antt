@@ -13,5 +13,6 @@ pub mod Stride
 -- Inside: what follows of them, of which the laws of the buckets are made.
 pub mod BlockLaws
 pub mod FrontLaws
+pub mod KindLaws
 pub mod OneBlockLaws
 pub mod StrideLaws

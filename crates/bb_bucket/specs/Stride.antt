@@ -6,7 +6,7 @@ use Rattle.bb_flash.specs.Geometry.{size_limit}
 use Rattle.bb_flash.specs.declared.region.Region.{Region}
 use Rattle.bb_flash.specs.Image.{Image}
 use Rattle.bb_bucket.specs.Front.{with_header, first_bytes, front_candidate, front_is_worn, stride_header_len, put_at}
-use Rattle.bb_bucket.specs.Kind.{BucketKind, Holding}
+use Rattle.bb_bucket.specs.Kind.{BucketKind, Holding, with_most}
 use Rattle.bb_bucket.specs.Seen.{IsSeenIn, Sight, is_sight_of, sight_len}
 use Rattle.bb_bucket.specs.declared.seen.Seen.{Seen}
 
@@ -18,11 +18,13 @@ is_in_place geometry = geometry.block == 0 && (geometry.page == 1 && nat_le geom
 abbrev pub lies_on : Region → Geometry → Bool
 lies_on region geometry = is_in_place geometry && nat_le (region.at + region.size) geometry.size
 
--- what every stride keeps: a region with room for a front and a byte, as many bytes of memory, and
--- what is kept of a record lies in both
-pub record IsStride (region : Region) (entry : List ℕ) (seen : Option Seen) : Type 0 where
+-- what every stride keeps: a region with room for a front and a byte, memory for a front and the
+-- longest record that is written, and what is kept of a record lies in both
+pub record IsStride (region : Region) (most : ℕ) (entry : List ℕ) (seen : Option Seen)
+    : Type 0 where
   pub least : stride_header_len + 1 ≤ region.size
-  pub memory : length entry ≡ region.size
+  pub fits : stride_header_len + most ≤ region.size
+  pub memory : length entry ≡ stride_header_len + most
   pub inside :
       IfSome seen (IsSeenIn stride_header_len (region.size - stride_header_len) (length entry))
 
@@ -43,6 +45,7 @@ abbrev pub stride_kind : Region → BucketKind
 stride_kind region = record {
   region = region;
   room = region.size - stride_header_len;
+  most = region.size - stride_header_len;
   serves = lies_on region;
   candidate_of = stride_candidate;
   is_worn = stride_is_worn;
@@ -54,15 +57,17 @@ stride_kind region = record {
   void_erases = false;
 }
 
--- a stride, with what it keeps of the record that it found last
+-- a stride, with how long a record may be that is written, and what it keeps of the record that it
+-- found last
 pub record SeenStride : Type 0 where
   pub region : Region
+  pub most : ℕ
   pub sight : Option Sight
 
 -- a record always goes to its start
 abbrev pub stride_holding : SeenStride → Holding
 stride_holding it = record {
-  kind = stride_kind it.region;
+  kind = with_most it.most (stride_kind it.region);
   agrees = λ stride. is_sight_of it.sight (stride_candidate stride);
   knows_place = true;
   found = sight_len it.sight;

@@ -1,8 +1,8 @@
-ghost use Rattle.std.specs.Prelude.{◌≡◌, ◌≤◌, ◌+◌, ◌⊎◌, IfOk, IfSome, IsTrue, None, OnOk, is_err};
+ghost use Rattle.std.specs.Prelude.{◌≡◌, ◌≤◌, ◌+◌, IfOk, IfSome, IsTrue, None, OnOk, is_err};
 ghost use Rattle.std.specs.Prelude.{length};
 ghost use Rattle.std.specs.Option.{ForSome};
 ghost use Rattle.bb_base.specs.Faults.{counted};
-ghost use Rattle.bb_flash.specs.Device.{content, reads};
+ghost use Rattle.bb_flash.specs.Device.{content};
 
 use bb_base::Failed;
 use bb_flash::{Flash, Region};
@@ -22,10 +22,8 @@ pub struct Found {
 /// one that answers Ok leaves it.
 pub trait Bucket {
     ghost use Rattle.bb_bucket.specs.Kind.{Holding, IsKind, part_of};
-    ghost use Rattle.bb_bucket.specs.Calls.{Agrees, ChangesWithin, EachCall, ErasesWhere, IsFound};
-    ghost use Rattle.bb_bucket.specs.Calls.{IsQuiet, IsVoidCall, IsWriteCall, Leaves, MakesCalls};
-    ghost use Rattle.bb_bucket.specs.Calls.{FailsToLook, IsFoundOf, IsPieceOf, Reaches};
-    ghost use Rattle.bb_bucket.specs.Calls.{calls_of_write, candidate_in};
+    ghost use Rattle.bb_bucket.specs.Calls.{Agrees, IsBucketVoid, IsBucketWrite, IsFound};
+    ghost use Rattle.bb_bucket.specs.Calls.{IsFoundOf, IsPieceOf, IsQuiet, Reaches, candidate_in};
 
     ghost holding: { Self → Holding };
 
@@ -36,6 +34,10 @@ pub trait Bucket {
     /// How many bytes a record may have, at most.
     fn room(&self) -> u32
         ensures { result ≡ (holding self.now).kind.room };
+
+    /// How many bytes a record may have that is written, at most: the bucket has memory for it.
+    fn most(&self) -> u32
+        ensures { result ≡ (holding self.now).kind.most };
 
     /// Looks for the record, in pieces of at most 256 bytes, or a page where that is larger. It
     /// changes nothing on the device. Once it answered Ok the bucket knows the record's length
@@ -110,35 +112,16 @@ pub trait Bucket {
         Ok(found)
     }
 
-    /// Writes a record of at most `room` bytes, which outlives a cut once the call answered Ok: by
+    /// Writes a record of at most `most` bytes, which outlives a cut once the call answered Ok: by
     /// one program, and one erase before it where the bucket's kind says so. A cut while it goes
     /// on, and a call that fails, change nothing outside the ranges that the kind names, which lie
     /// in the region.
     fn write<F: Flash>(&mut self, flash: &mut F, rec: &[u8]) -> Result<(), Failed>
         requires serves { IsTrue ((holding self.old).kind.serves (F.device flash.old).geometry) }
         requires agreed { Agrees (holding self.old) (F.device flash.old) }
-        requires room { length rec.now ≤ (holding self.old).kind.room }
-        ensures done { OnOk result (Leaves (holding self.old).kind.region
-            ((holding self.old).kind.after_write rec.now)
-            (F.device flash.old) (F.device flash.new)) }
-        ensures calls { EachCall
-            (IsWriteCall (holding self.old).kind (F.device flash.old).geometry.page rec.now)
-            (F.device flash.old) (F.device flash.new) }
-        ensures within { ChangesWithin (holding self.old).kind.region
-            (F.device flash.old) (F.device flash.new) }
-        ensures erases { OnOk result (ErasesWhere (holding self.old).kind.region
-            ((holding self.old).kind.write_erases rec.now)
-            (F.device flash.old) (F.device flash.new)) }
-        ensures made { MakesCalls result (holding self.old).kind.region
-            (calls_of_write (holding self.old).kind rec.now)
-            (F.device flash.old) (F.device flash.new) }
-        ensures faults { (F.device flash.new).faults
-            ≡ counted (is_err result) (F.device flash.old).faults }
-        ensures read_faults { ((F.device flash.new).read_faults ≡ (F.device flash.old).read_faults)
-            ⊎ FailsToLook (holding self.old).knows_place result
-            (F.device flash.old) (F.device flash.new) }
-        ensures reads { IsTrue (holding self.old).knows_place →
-            reads (F.device flash.new) ≡ reads (F.device flash.old) }
+        requires most { length rec.now ≤ (holding self.old).kind.most }
+        ensures write { IsBucketWrite (holding self.old).kind (holding self.old).knows_place rec.now
+            (F.device flash.old) (F.device flash.new) result }
         ensures found { (holding self.new).found ≡ None }
         ensures kind { (holding self.new).kind ≡ (holding self.old).kind }
         ensures agrees { Agrees (holding self.new) (F.device flash.new) }
@@ -150,21 +133,8 @@ pub trait Bucket {
     fn void<F: Flash>(&mut self, flash: &mut F) -> Result<(), Failed>
         requires serves { IsTrue ((holding self.old).kind.serves (F.device flash.old).geometry) }
         requires agreed { Agrees (holding self.old) (F.device flash.old) }
-        ensures done { OnOk result (Leaves (holding self.old).kind.region
-            (holding self.old).kind.after_void (F.device flash.old) (F.device flash.new)) }
-        ensures calls { EachCall
-            (IsVoidCall (holding self.old).kind (F.device flash.old).geometry.page)
-            (F.device flash.old) (F.device flash.new) }
-        ensures within { ChangesWithin (holding self.old).kind.region
-            (F.device flash.old) (F.device flash.new) }
-        ensures erases { OnOk result (ErasesWhere (holding self.old).kind.region
-            (λ region. (holding self.old).kind.void_erases)
-            (F.device flash.old) (F.device flash.new)) }
-        ensures made { MakesCalls result (holding self.old).kind.region (λ region. 1)
-            (F.device flash.old) (F.device flash.new) }
-        ensures faults { (F.device flash.new).faults
-            ≡ counted (is_err result) (F.device flash.old).faults }
-        ensures read_faults { (F.device flash.new).read_faults ≡ (F.device flash.old).read_faults }
+        ensures void { IsBucketVoid (holding self.old).kind
+            (F.device flash.old) (F.device flash.new) result }
         ensures found { (holding self.new).found ≡ None }
         ensures kind { (holding self.new).kind ≡ (holding self.old).kind }
         ensures agrees { Agrees (holding self.new) (F.device flash.new) }

@@ -1,9 +1,11 @@
-ghost use Rattle.std.specs.Prelude.{◌≡◌, ◌≤◌, ◌%◌, IfOk, None};
+ghost use Rattle.std.specs.Prelude.{◌≡◌, ◌-◌, ◌≤◌, ◌%◌, min, IfOk, None};
+ghost use Rattle.bb_flash.specs.Geometry.{size_limit};
+ghost use Rattle.bb_bucket.specs.Front.{stride_header_len};
 ghost use Rattle.bb_bucket.specs.OneBlock.{one_block_holding};
 ghost use Rattle.bb_bucket.specs.OneBlockLaws.{one_block_laws};
 
 use crate::block_store::{void_block, write_block};
-use crate::entry::FRONT_LEN;
+use crate::entry::{FRONT_LEN, whole_pages};
 use crate::look::{find_record, front_part};
 use crate::seen::Seen;
 use crate::{Block, Bucket, Found};
@@ -16,10 +18,13 @@ use std::marker::Model;
 /// the magic word 0x2354FDF3 and the record's length, both little endian, the record follows, and
 /// 0xFF fills the last page (barebox User Manual, State Framework, the backend storage type
 /// `noncircular`). Each write erases the block first. Clauses see the
-/// block, and what is kept of the record that was found last.
+/// block, how long a record may be that is written, and what is kept of the record that was found
+/// last.
 #[derive(Debug, Drop)]
 pub struct OneBlock {
     block: Block,
+    // how long a record may be that is written
+    most: u32,
     // front and record, before they are programmed, or a piece of a record that was found
     entry: Vec<u8>,
     seen: Option<Seen>,
@@ -33,28 +38,37 @@ impl Model for OneBlock {
 
     ghost view = { λ one. record {
       block = one.block;
+      most = one.most;
       sight = sight_in one.entry.items one.seen;
     } };
 
-    ghost invariant = { λ one. IsOneBlock one.block one.entry.items one.seen };
+    ghost invariant = { λ one. IsOneBlock one.block one.most one.entry.items one.seen };
 }
 
 impl OneBlock {
     /// A bucket over the block in this region, on a device with this page of at least 16 bytes. The
-    /// region's size is a positive multiple of the page, and its place one of its size. It takes
-    /// memory for as many bytes.
-    pub fn of(alloc: Global, region: Region, page: u32) -> Result<OneBlock, NoMemory>
+    /// region's size is a positive multiple of the page, and its place one of its size. Records of
+    /// at most `most` bytes are written to it, or of as many as there is room for. It takes memory
+    /// for the pages of one and its front.
+    pub fn of(alloc: Global, region: Region, page: u32, most: usize) -> Result<OneBlock, NoMemory>
         requires least { 16 ≤ page }
         requires some { page ≤ region.size }
         requires pages { region.size % page ≡ 0 }
         requires aligned { region.at % region.size ≡ 0 }
-        ensures { IfOk result (λ one. one
-            ≡ record { block = record { region = region; page = page }; sight = None }) }
+        requires small { region.size ≤ size_limit }
+        ensures { IfOk result (λ one. one ≡ record {
+          block = record { region = region; page = page };
+          most = min most (region.size - stride_header_len);
+          sight = None;
+        }) }
     {
-        let entry = vec![in alloc; 0; region.size as usize]?;
+        let most = most.min((region.size - FRONT_LEN) as usize) as u32;
+        let len = whole_pages(page, FRONT_LEN + most);
+        let entry = vec![in alloc; 0; len as usize]?;
         let block = Block { region, page };
         Ok(OneBlock {
             block,
+            most,
             entry,
             seen: None,
         })
@@ -72,6 +86,10 @@ impl Bucket for OneBlock {
 
     fn room(&self) -> u32 {
         self.block.region.size - FRONT_LEN
+    }
+
+    fn most(&self) -> u32 {
+        self.most
     }
 
     fn find<F: Flash>(&mut self, flash: &mut F) -> Result<Found, Failed> {

@@ -1,4 +1,4 @@
-ghost use Rattle.std.specs.Prelude.{◌≡◌, ◌+◌, ◌≤◌, IfOk, None};
+ghost use Rattle.std.specs.Prelude.{◌≡◌, ◌+◌, ◌-◌, ◌≤◌, min, IfOk, None};
 ghost use Rattle.bb_bucket.specs.Front.{stride_header_len};
 ghost use Rattle.bb_bucket.specs.Stride.{stride_holding};
 ghost use Rattle.bb_bucket.specs.StrideLaws.{stride_laws};
@@ -16,10 +16,13 @@ use std::marker::Model;
 /// A bucket on a device that is overwritten in place. Its region begins with 8 bytes in front, the
 /// magic word 0x2354FDF3 and the record's length, both little endian, and the record follows
 /// (barebox User Manual, State Framework, the backend storage type `direct`). It is written by one
-/// program. Clauses see the region, and what is kept of the record that was found last.
+/// program. Clauses see the region, how long a record may be that is written, and what is kept of
+/// the record that was found last.
 #[derive(Debug, Drop)]
 pub struct Stride {
     region: Region,
+    // how long a record may be that is written
+    most: u32,
     // front and record, before they are programmed, or a piece of a record that was found
     entry: Vec<u8>,
     seen: Option<Seen>,
@@ -33,22 +36,31 @@ impl Model for Stride {
 
     ghost view = { λ stride. record {
       region = stride.region;
+      most = stride.most;
       sight = sight_in stride.entry.items stride.seen;
     } };
 
-    ghost invariant = { λ stride. IsStride stride.region stride.entry.items stride.seen };
+    ghost invariant = { λ stride.
+        IsStride stride.region stride.most stride.entry.items stride.seen };
 }
 
 impl Stride {
-    /// A stride in this region, which has a byte more than a front at least. It takes memory for as
-    /// many bytes.
-    pub fn of(alloc: Global, region: Region) -> Result<Stride, NoMemory>
+    /// A stride in this region, which has a byte more than a front at least. Records of at most
+    /// `most` bytes are written to it, or of as many as there is room for. It takes memory for one
+    /// and its front.
+    pub fn of(alloc: Global, region: Region, most: usize) -> Result<Stride, NoMemory>
         requires { stride_header_len + 1 ≤ region.size }
-        ensures { IfOk result (λ stride. stride ≡ record { region = region; sight = None }) }
+        ensures { IfOk result (λ stride. stride ≡ record {
+          region = region;
+          most = min most (region.size - stride_header_len);
+          sight = None;
+        }) }
     {
-        let entry = vec![in alloc; 0; region.size as usize]?;
+        let most = most.min((region.size - FRONT_LEN) as usize) as u32;
+        let entry = vec![in alloc; 0; (FRONT_LEN + most) as usize]?;
         Ok(Stride {
             region,
+            most,
             entry,
             seen: None,
         })
@@ -66,6 +78,10 @@ impl Bucket for Stride {
 
     fn room(&self) -> u32 {
         self.region.size - FRONT_LEN
+    }
+
+    fn most(&self) -> u32 {
+        self.most
     }
 
     fn find<F: Flash>(&mut self, flash: &mut F) -> Result<Found, Failed> {

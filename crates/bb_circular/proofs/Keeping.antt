@@ -61,11 +61,11 @@ kept_agrees page old kept is =
 
 -- what a bucket keeps since a call is what there is to keep
 pub holding_agrees :
-    (block : Block) (kept : Kept) (device : Device) →
+    (block : Block) (most : ℕ) (kept : Kept) (device : Device) →
     device.geometry.page ≡ block.page →
     ForSome (content device) (λ image. kept ≡ kept_of block.page (part_of block.page block.region image)) →
-    Agrees (circular_holding (record { block = block; kept = Some kept; sight = None })) device
-holding_agrees block kept device same is = record {
+    Agrees (circular_holding (record { block = block; most = most; kept = Some kept; sight = None })) device
+holding_agrees block most kept device same is = record {
   here = λ image told. and_from _ _
       (subst (λ page. same_kept kept (kept_of block.page (part_of page block.region image)) ≡ true) (sym same)
       (kept_agrees block.page (part_of block.page block.region image) kept (is image told))) refl;
@@ -74,13 +74,13 @@ holding_agrees block kept device same is = record {
 
 -- the same since a look that found a record
 pub holding_found :
-    (block : Block) (kept : Kept) (sight : Option Sight) (device : Device) →
+    (block : Block) (most : ℕ) (kept : Kept) (sight : Option Sight) (device : Device) →
     device.geometry.page ≡ block.page →
     ForSome (content device) (λ image. kept ≡ kept_of block.page (part_of block.page block.region image)) →
     ForSome (content device) (λ image.
     IsTrue (is_sight_of sight (circular_candidate block.page (part_of block.page block.region image)))) →
-    Agrees (circular_holding (record { block = block; kept = Some kept; sight = sight })) device
-holding_found block kept sight device same is seen =
+    Agrees (circular_holding (record { block = block; most = most; kept = Some kept; sight = sight })) device
+holding_found block most kept sight device same is seen =
     let sighted : ForSome (content device) (λ image.
     IsTrue (is_sight_of sight (circular_candidate block.page (part_of device.geometry.page block.region image)))) =
     λ image told.

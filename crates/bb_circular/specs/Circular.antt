@@ -7,7 +7,7 @@ use Rattle.bb_flash.specs.Image.{Image, health_of}
 use Rattle.bb_bucket.specs.declared.block.Block.{Block}
 use Rattle.bb_bucket.specs.Blocks.{blank_of, is_block_of}
 use Rattle.bb_bucket.specs.Front.{first_bytes, is_lost, is_worn, put_at}
-use Rattle.bb_bucket.specs.Kind.{BucketKind, Holding}
+use Rattle.bb_bucket.specs.Kind.{BucketKind, Holding, with_most}
 use Rattle.bb_bucket.specs.Seen.{IsSeenIn, Sight, is_sight_of, sight_len}
 use Rattle.bb_bucket.specs.declared.seen.Seen.{Seen}
 use Rattle.bb_circular.specs.declared.kept.Entry.{Entry}
@@ -80,6 +80,7 @@ abbrev pub circular_kind : Block → BucketKind
 circular_kind block = record {
   region = block.region;
   room = block.region.size - closing_len;
+  most = block.region.size - closing_len;
   serves = is_block_of block;
   candidate_of = circular_candidate block.page;
   is_worn = circular_is_worn block.page;
@@ -107,9 +108,11 @@ same_newest one two = false
 abbrev pub same_kept : Kept → Kept → Bool
 same_kept one two = one.next == two.next && same_newest one.newest two.newest
 
--- a circular block, with what a bucket keeps of it, and of the record that it found last
+-- a circular block, with how long a record may be that is written, and what a bucket keeps of the
+-- block and of the record that it found last
 pub record Circle : Type 0 where
   pub block : Block
+  pub most : ℕ
   pub kept : Option Kept
   pub sight : Option Sight
 
@@ -121,7 +124,7 @@ agrees_with page (Some kept) old = same_kept kept (kept_of page old)
 -- a record goes to the place that is kept
 abbrev pub circular_holding : Circle → Holding
 circular_holding circle = record {
-  kind = circular_kind circle.block;
+  kind = with_most circle.most (circular_kind circle.block);
   agrees = λ old.
       agrees_with circle.block.page circle.kept old
       && is_sight_of circle.sight (circular_candidate circle.block.page old);
@@ -152,13 +155,15 @@ pub record IsOfEntry (block : Block) (newest : Option Entry) (room : ℕ) (seen 
   pub entry : newest ≡ Some (record { at = seen.at; len = seen.len + closing_len })
   pub inside : IsSeenIn seen.at (block.region.size - closing_len) room seen
 
--- what every bucket over a log keeps
-pub record IsCircular (block : Block) (kept : Option Kept) (seen : Option Seen) (bytes : List ℕ)
+-- what every bucket over a log keeps, with memory for the longest entry that is written
+pub record IsCircular
+    (block : Block) (most : ℕ) (kept : Option Kept) (seen : Option Seen) (bytes : List ℕ)
     : Type 0 where
   pub page_least : 16 ≤ block.page
   pub page_most : block.page ≤ block.region.size
   pub pages : block.region.size % block.page ≡ 0
   pub aligned : block.region.at % block.region.size ≡ 0
   pub inside : IfSome kept (IsKeptIn block)
-  pub memory : length bytes ≡ block.region.size
+  pub fits : most + closing_len ≤ block.region.size
+  pub memory : length bytes ≡ entry_len block.page most
   pub sighted : IfSome seen (IsOfEntry block (newest_kept kept) (length bytes))

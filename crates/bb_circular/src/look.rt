@@ -1,4 +1,4 @@
-ghost use Rattle.std.specs.Prelude.{◌≡◌, IfOk, IfSome, IsTrue, OnErr, Some, None};
+ghost use Rattle.std.specs.Prelude.{◌≡◌, ◌≤◌, IfOk, IfSome, IsTrue, OnErr, Some, None};
 ghost use Rattle.std.specs.Prelude.{false, is_err, is_some, length, option_map, option_and_then};
 ghost use Rattle.std.specs.Prelude.{if◌then◌else◌};
 ghost use Rattle.std.specs.Option.{ForSome};
@@ -34,7 +34,7 @@ pub(crate) fn find_log<F: Flash>(
     requires agreed { ForSome (content (F.device flash.old)) (λ image.
         IsTrue (agrees_with block.page kept (part_of block.page block.region image))) }
     requires inside { IfSome kept (IsKeptIn block) }
-    requires memory { length memory.old.items ≡ block.region.size }
+    requires memory { block.page ≤ length memory.old.items }
     ensures done { IfOk result (λ answer. ForSome (content (F.device flash.old)) (λ image.
         let old = part_of block.page block.region image in
         IsLookOf (circular_candidate block.page old) (circular_is_worn block.page old)
@@ -70,7 +70,7 @@ pub(crate) fn look_up<F: Flash>(
     requires agreed { ForSome (content (F.device flash.old)) (λ image.
         IsTrue (agrees_with block.page kept (part_of block.page block.region image))) }
     requires inside { IfSome kept (IsKeptIn block) }
-    requires memory { length memory.old ≡ block.region.size }
+    requires memory { block.page ≤ length memory.old }
     ensures done { IfOk result (λ known. ForSome (content (F.device flash.old)) (λ image.
         IsKnown block.page (part_of block.page block.region image) known)) }
     ensures inside { IfOk result (IsKeptIn block) }
@@ -93,7 +93,7 @@ pub(crate) fn look_up<F: Flash>(
 // The same by a look from the end.
 fn find_newest<F: Flash>(flash: &mut F, block: Block, memory: &mut [u8]) -> Result<Kept, Failed>
     requires held { IsTrue (is_block_of block (F.device flash.old).geometry) }
-    requires memory { length memory.old ≡ block.region.size }
+    requires memory { block.page ≤ length memory.old }
     ensures done { IfOk result (λ known. ForSome (content (F.device flash.old)) (λ image.
         IsKnown block.page (part_of block.page block.region image) known)) }
     ensures inside { IfOk result (IsKeptIn block) }
@@ -121,7 +121,7 @@ fn see_newest<F: Flash>(
 ) -> Result<Look, Failed>
     requires held { IsTrue (is_block_of block (F.device flash.old).geometry) }
     requires inside { IfSome newest (IsEntryIn block) }
-    requires memory { length memory.old.items ≡ block.region.size }
+    requires memory { block.page ≤ length memory.old.items }
     ensures done { IfOk result (λ look. ForSome (content (F.device flash.old)) (λ image.
         let old = part_of block.page block.region image in
         let read = option_and_then (readable block.page old) newest in

@@ -31,6 +31,7 @@ kind_at : ℕ → BucketKind
 kind_at at = record {
   region = record { at = at; size = 2 };
   room = 2;
+  most = 2;
   serves = λ geometry. true;
   candidate_of = λ region. if get_or region.bytes 0 255 == 255 then None else Some region.bytes;
   is_worn = λ region. false;

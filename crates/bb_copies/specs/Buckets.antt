@@ -35,9 +35,9 @@ AreApart kinds =
     EachCopy kinds
     (λ copy kind. EachCopy kinds (λ other beside. other ≢ copy → IsApart kind.region beside.region))
 
--- the copies have room for a record of this length, and stand apart
+-- a record of this length may be written to each copy, and the copies stand apart
 pub record HaveRoom (len : ℕ) (kinds : List BucketKind) : Type 0 where
-  pub room : EachCopy kinds (λ copy kind. len ≤ kind.room)
+  pub room : EachCopy kinds (λ copy kind. len ≤ kind.most)
   pub apart : AreApart kinds
 
 -- they are made for devices of this geometry

@@ -41,7 +41,7 @@ pub(crate) fn settle<B: Bucket, M: Format, F: Flash>(
     requires placed { IsTrue (B.holding bucket.old).knows_place }
     requires fits { IsTrue ((M.form format.now).fits area.now) }
     requires packed { rec.now ≡ (M.form format.now).text area.now }
-    requires room { length rec.now ≤ (B.holding bucket.old).kind.room }
+    requires room { length rec.now ≤ (B.holding bucket.old).kind.most }
     requires memory { HasMemory (M.form format.now) room.old }
     ensures ends { EndsAs (M.form format.now) (B.holding bucket.old).kind area.now
         (F.device flash.old) (F.device flash.new) result }

@@ -39,6 +39,14 @@ impl Bucket for AnyBucket {
         }
     }
 
+    fn most(&self) -> u32 {
+        match self {
+            AnyBucket::Stride(stride) => stride.most(),
+            AnyBucket::OneBlock(block) => block.most(),
+            AnyBucket::Circular(log) => log.most(),
+        }
+    }
+
     fn find<F: Flash>(&mut self, flash: &mut F) -> Result<Found, Failed> {
         match self {
             AnyBucket::Stride(stride) => stride.find(flash),

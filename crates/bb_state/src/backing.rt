@@ -10,7 +10,8 @@ ghost use Rattle.bb_copies.specs.Store.{used_after};
 ghost use Rattle.bb_layout.specs.Layout.{fields_of};
 ghost use Rattle.bb_state.specs.Backed.{form_in, kinds_in};
 ghost use Rattle.bb_state.specs.Keyed.{FitsKey};
-ghost use Rattle.bb_state.specs.Kinds.{any_holding, bucket_at, format_of, laid_buckets};
+ghost use Rattle.bb_state.specs.Kinds.{any_form, any_holding, bucket_at, buckets_for, format_of};
+ghost use Rattle.bb_state.specs.Kinds.{laid_buckets, longest};
 ghost use Rattle.bb_state.specs.State.{IsDefault};
 
 use crate::{AnyBucket, AnyFormat};
@@ -70,8 +71,9 @@ impl Backing {
         ensures sure { IfOk result (λ b. b.sure ≡ false) }
     {
         let kept = vec![in alloc; 0u8; layout.area_len as usize]?;
-        let buckets = buckets_of(alloc, &layout)?;
         let format = format_of(alloc, &layout, key)?;
+        let most = longest_of(&format);
+        let buckets = buckets_of(alloc, &layout, most)?;
         let copies = Copies::mount(alloc, buckets, format)?;
         Ok(Backing {
             layout,
@@ -173,28 +175,40 @@ impl Backing {
     }
 }
 
+// How many bytes the longest record of a format has.
+fn longest_of(format: &AnyFormat) -> usize
+    ensures { result ≡ longest (any_form format.now) }
+{
+    format.length(format.area_len())
+}
+
 #[tactic(auto, using(crate::proofs::Mounting::buckets_more))]
-fn buckets_of(alloc: Global, layout: &Layout) -> Result<BucketList<AnyBucket>, NoMemory>
-    ensures { IfOk result (λ buckets. buckets ≡ laid_buckets (fields_of layout.now)) }
+// Buckets for records of at most so many bytes.
+fn buckets_of(
+    alloc: Global,
+    layout: &Layout,
+    most: usize,
+) -> Result<BucketList<AnyBucket>, NoMemory>
+    ensures { IfOk result (λ buckets. buckets ≡ buckets_for most (fields_of layout.now)) }
 {
     let mut buckets = BucketList::none(alloc);
     for copy in 0..layout.copies {
-        buckets.push(bucket_at(alloc, layout, copy)?)?;
+        buckets.push(bucket_at(alloc, layout, most, copy)?)?;
     }
     Ok(buckets)
 }
 
-fn bucket_at(alloc: Global, layout: &Layout, copy: u32) -> Result<AnyBucket, NoMemory>
+fn bucket_at(alloc: Global, layout: &Layout, most: usize, copy: u32) -> Result<AnyBucket, NoMemory>
     requires { copy < layout.now.copies }
     ensures { IfOk result (λ bucket. bucket
-        ≡ bucket_at layout.now.geometry layout.now.storage layout.now.region copy) }
+        ≡ bucket_at layout.now.geometry layout.now.storage layout.now.region most copy) }
 {
     let region = layout.region(copy);
     let page = layout.geometry.page;
     match layout.storage {
-        Storage::Stride(_) => Ok(AnyBucket::Stride(Stride::of(alloc, region)?)),
-        Storage::OneBlock => Ok(AnyBucket::OneBlock(OneBlock::of(alloc, region, page)?)),
-        Storage::Circular => Ok(AnyBucket::Circular(Circular::of(alloc, region, page)?)),
+        Storage::Stride(_) => Ok(AnyBucket::Stride(Stride::of(alloc, region, most)?)),
+        Storage::OneBlock => Ok(AnyBucket::OneBlock(OneBlock::of(alloc, region, page, most)?)),
+        Storage::Circular => Ok(AnyBucket::Circular(Circular::of(alloc, region, page, most)?)),
     }
 }
 

@@ -21,9 +21,10 @@ fn worked() -> [u8; 25] {
 
 // The second of three strides of 64 bytes.
 fn stride(alloc: Global) -> Result<Stride, NoMemory>
-    ensures { IfOk result (λ stride. stride ≡ record { region = tried_stride; sight = None }) }
+    ensures { IfOk result (λ stride.
+        stride ≡ record { region = tried_stride; most = 56; sight = None }) }
 {
-    Stride::of(alloc, Region { at: 64, size: 64 })
+    Stride::of(alloc, Region { at: 64, size: 64 }, 56)
 }
 
 fn board(alloc: Global) -> Result<MemBoard, NoMemory>

@@ -1,10 +1,11 @@
 use Rattle.std.proofs.Common.{◌≤◌, arith, sym, ap, subst, rules}
 use Rattle.bb_flash.specs.declared.region.Region.{Region}
+use Rattle.bb_flash.specs.Geometry.{size_limit}
 use Rattle.bb_layout.specs.Copies.{room_for, spacing}
 use Rattle.bb_layout.specs.Facts.{is_stride}
 use Rattle.bb_layout.specs.Layout.{fields_of, laid_len}
 use Rattle.bb_layout.specs.declared.storage.Storage.{Storage}
-use Rattle.bb_state.proofs.Mounting.{block_at_copy, laid_some}
+use Rattle.bb_state.proofs.Mounting.{block_at_copy, laid_some, region_small}
 use Rattle.bb_state.proofs.backing.bucket_at.Goals as goal
 
 pub of-requires : goal.of-requires
@@ -32,8 +33,20 @@ of-requires-in-Circular-clause-some c =
     (ap is_stride c.in-Circular.is) (ap (spacing c.args.layout.now.geometry) c.in-Circular.is) in
     subst (λ (region : Region). c.args.layout.now.geometry.page ≤ region.size) (sym c.region-region.ensures.value) at.page_most
 
+pub of-requires-in-Circular-clause-small : goal.of-requires-in-Circular-clause-small
+of-requires-in-Circular-clause-small c =
+    let facts = c.args.layout.now.facts in
+    subst (λ (region : Region). region.size ≤ size_limit) (sym c.region-region.ensures.value)
+    (region_small c.args.layout.now.storage c.args.layout.now.geometry c.args.layout.now.region c.args.layout.now.copies (laid_len (fields_of c.args.layout.now)) c.args.copy facts.geometry_is facts.copied c.requires)
+
 pub returns-in_ok-of-in-Circular : goal.returns-in_ok-of-in-Circular
 returns-in_ok-of-in-Circular c = search rules
+
+pub of-requires-in-OneBlock-clause-small : goal.of-requires-in-OneBlock-clause-small
+of-requires-in-OneBlock-clause-small c =
+    let facts = c.args.layout.now.facts in
+    subst (λ (region : Region). region.size ≤ size_limit) (sym c.region-region.ensures.value)
+    (region_small c.args.layout.now.storage c.args.layout.now.geometry c.args.layout.now.region c.args.layout.now.copies (laid_len (fields_of c.args.layout.now)) c.args.copy facts.geometry_is facts.copied c.requires)
 
 pub returns-in_ok-of-in-OneBlock : goal.returns-in_ok-of-in-OneBlock
 returns-in_ok-of-in-OneBlock c = search rules

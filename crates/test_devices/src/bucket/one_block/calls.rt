@@ -14,9 +14,10 @@ use std::alloc::Global;
 use std::process::Abort;
 
 pub(super) fn one_block(alloc: Global) -> Result<OneBlock, NoMemory>
-    ensures { IfOk result (λ block. block ≡ record { block = tried_block; sight = None }) }
+    ensures { IfOk result (λ block.
+        block ≡ record { block = tried_block; most = 56; sight = None }) }
 {
-    OneBlock::of(alloc, Region { at: 64, size: 64 }, 16)
+    OneBlock::of(alloc, Region { at: 64, size: 64 }, 16, 56)
 }
 
 fn read(block: &mut OneBlock, board: &mut MemBoard, out: &mut [u8; 56]) -> Result<Found, Failed>

@@ -1,4 +1,5 @@
-use Rattle.std.proofs.Common.{◌≡◌, ◌∙◌, ℕ, sym, ap, subst, Some, IsTrue}
+use Rattle.std.proofs.Common.{◌≡◌, ◌+◌, ◌∙◌, ℕ, sym, ap, subst, arith, Some, IsTrue}
+use Rattle.std.proofs.lemmas.Grind.{div_ceil_times}
 use Rattle.bb_flash.specs.Device.{content}
 use Rattle.bb_flash.specs.declared.geometry.Geometry.{Geometry}
 use Rattle.bb_flash.specs.Image.{Image}
@@ -17,6 +18,14 @@ find_record-requires-clause-lies g c =
     (sym c.self.view_is)
     (block_lies_on c.args.self.now.block (g.F.Flash.device c.args.flash.now).geometry
     (block_of c.args.self.now.block (g.F.Flash.device c.args.flash.now).geometry c.requires.serves))
+
+-- there is memory for a page at least
+pub find_record-requires-clause-memory : goal.find_record-requires-clause-memory
+find_record-requires-clause-memory g c =
+    let ceil =
+    div_ceil_times (8 + c.self.inside.most) c.self.inside.block.page
+    (omega (arith, c.self.invariant.held.page_least)) in
+    omega (arith, c.self.invariant.memory, ceil.0)
 
 pub returns-clause-done : goal.returns-clause-done
 returns-clause-done g c = λ image told.

@@ -1,4 +1,4 @@
-use Rattle.std.proofs.Common.{◌≡◌, ℕ, sym, ap, ◌∙◌, subst, IsTrue}
+use Rattle.std.proofs.Common.{◌≡◌, ℕ, sym, ap, ◌∙◌, subst, arith, IsTrue}
 use Rattle.bb_flash.specs.declared.geometry.Geometry.{Geometry}
 use Rattle.bb_bucket.specs.declared.block.Block.{Block}
 use Rattle.bb_bucket.specs.Blocks.{is_block_of}
@@ -8,6 +8,7 @@ use Rattle.bb_bucket.specs.Seen.{IsLookOf, sight_in}
 use Rattle.bb_bucket.proofs.Quiet.{keeps_of_quiet}
 use Rattle.bb_bucket.proofs.Sights.{len_in}
 use Rattle.bb_circular.specs.Circular.{Circle, agrees_with, circular_candidate, circular_is_worn}
+use Rattle.bb_circular.specs.EntryLaws.{entry_len_is}
 use Rattle.bb_circular.proofs.Keeping.{first_agrees, holding_found}
 use Rattle.bb_circular.proofs.circular.CircularBucket.find.Goals as goal
 
@@ -18,7 +19,7 @@ returns-clause-agrees g c =
     let held = block_of c.self.inside.block (g.F.Flash.device c.args.flash.now).geometry serves in
     let page = ap (λ (geometry : Geometry). geometry.page) c.find_log.ensures.quiet.later.geometry ∙ held.page in
     let keeps = keeps_of_quiet _ _ c.find_log.ensures.quiet in
-    holding_found c.self.inside.block c.in_ok-answer.answer.1 (sight_in c.find_log.new.memory.items c.in_ok-answer.answer.0.seen) (g.F.Flash.device c.find_log.new.flash) page
+    holding_found c.self.inside.block c.self.inside.most c.in_ok-answer.answer.1 (sight_in c.find_log.new.memory.items c.in_ok-answer.answer.0.seen) (g.F.Flash.device c.find_log.new.flash) page
     (λ image told. c.in_ok-answer.ensures.kept image (sym keeps.content ∙ told))
     (λ image told. (c.in_ok-answer.ensures.done image (sym keeps.content ∙ told)).is_seen)
 
@@ -36,6 +37,12 @@ returns-clause-done g c = λ image told.
     (subst (λ (block : Block). IsLookOf (circular_candidate block.page (part_of device_page block.region image)) (circular_is_worn block.page (part_of device_page block.region image)) c.find_log.new.memory.items c.in_ok-answer.answer.0) block_is
     (subst (λ page. IsLookOf (circular_candidate c.self.inside.block.page (part_of page c.self.inside.block.region image)) (circular_is_worn c.self.inside.block.page (part_of page c.self.inside.block.region image)) c.find_log.new.memory.items c.in_ok-answer.answer.0) (sym held.page)
     (c.in_ok-answer.ensures.done image told))).is_found
+
+-- there is memory for a page at least
+pub find_log-requires-clause-memory : goal.find_log-requires-clause-memory
+find_log-requires-clause-memory g c =
+    let entry = entry_len_is c.self.inside.block.page c.self.inside.most (omega (arith, c.self.invariant.page_least)) in
+    omega (arith, c.self.invariant.memory, entry.least)
 
 pub find_log-requires-clause-agreed : goal.find_log-requires-clause-agreed
 find_log-requires-clause-agreed g c = λ image told.
