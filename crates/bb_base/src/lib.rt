@@ -6,6 +6,7 @@
 mod bytes;
 mod crc;
 mod failed;
+mod fault_count;
 mod files;
 mod format;
 mod law;
@@ -22,6 +23,7 @@ mod text_list;
 pub use bytes::Bytes;
 pub use crc::{Crc, crc32};
 pub use failed::Failed;
+pub use fault_count::FaultCount;
 pub use files::{FILE_LIMIT, FileFail, Files};
 pub use format::{AREA_LIMIT, Format, MOST_COPIES, Passed};
 pub use law::law_any_cutting;

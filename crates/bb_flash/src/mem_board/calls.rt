@@ -33,14 +33,14 @@ impl MemBoard {
     fn fail(&mut self) -> Failed
         ensures { self.new ≡ memory.with_fault self.old }
     {
-        self.faults = self.faults.saturating_add(1);
+        self.faults.raise();
         Failed
     }
 
     fn fail_read(&mut self) -> Failed
         ensures { self.new ≡ memory.with_read_fault self.old }
     {
-        self.read_faults = self.read_faults.saturating_add(1);
+        self.read_faults.raise();
         self.fail()
     }
 
