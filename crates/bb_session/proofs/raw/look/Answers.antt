@@ -35,3 +35,9 @@ returns-clause-gives g c =
     (ap (option_map (λ area. area.items)) c.then_some.ensures
     ∙ refilled c.in_ok-found.found filled c.look.new.area items))
     (c.of.ensures _ c.look_text.ensures))
+
+pub returns-in_err-found-clause-later : goal.returns-in_err-found-clause-later
+returns-in_err-found-clause-later g c = c.in_err-found.ensures.look.quiet.later
+
+pub returns-clause-later : goal.returns-clause-later
+returns-clause-later g c = c.in_ok-found.ensures.look.quiet.later

@@ -51,6 +51,9 @@ returns-clause-gives g c =
     (subst (λ (k : Keyed). IsDone k (used_after c.in_ok-load.field-0) table c.args.work mid to c.work_at.result) done.keyed
     (subst (λ (u : Option ℕ). IsDone (keyed_of c.load.new.self) u table c.args.work mid to c.work_at.result) done.used c.work_at.ensures.did))
 
+pub returns-in_err-load-clause-later : goal.returns-in_err-load-clause-later
+returns-in_err-load-clause-later g c = c.in_err-load.ensures.load.runs.later
+
 pub returns-clause-later : goal.returns-clause-later
 returns-clause-later g c =
     done_later (keyed_of c.load.new.self) _ _ c.args.work (g.B.Flash.device c.args.board.now) (g.B.Flash.device c.load.new.flash) _
