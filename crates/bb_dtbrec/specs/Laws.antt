@@ -220,7 +220,6 @@ passed_whole pattern bytes area e = elim (cases_lt (length bytes) (dtb_length pa
 pub dtb_laws : (pattern : Pattern) → IsForm (dtb_form pattern)
 dtb_laws pattern = record {
   most = λ area fits. let same = (fit pattern area fits).whole in omega arith;
-  sized = λ area fits. (fit pattern area fits).whole;
   whole = text_whole pattern;
   text_passes = text_passes pattern;
   text_fresh = λ area rest fits. refl;
