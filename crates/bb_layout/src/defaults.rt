@@ -20,7 +20,8 @@ pub(crate) fn fill_defaults(vars: &VarList, out: &mut [u8])
     }
 }
 
-fn put_default(var: &Var, out: &mut [u8])
+/// Writes a variable's default in its place.
+pub(crate) fn put_default(var: &Var, out: &mut [u8])
     requires { var.now.at + length var.now.default ≤ length out.old }
     ensures put { out.new ≡ table_with out.old var.now.at var.now.default }
     ensures same_length { length out.new ≡ length out.old }
