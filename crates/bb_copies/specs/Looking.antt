@@ -70,6 +70,16 @@ abbrev pub good_by : List ℕ → Option PassingCopy → List ℕ → Bool
 good_by found (Some passed) area = not passed.worn && bytes_eq (take passed.len found) area
 good_by found None area = false
 
+-- The first copy that passes, and the memory in front of which its area stands, once the copy of a
+-- number was read too: both are as before, or that copy is the first, with the area that was found.
+abbrev pub IsFirstNow : ℕ → List ℕ → Option PassingCopy → List ℕ → List ℕ → Option FirstCopy →
+    Option FirstCopy → Type 0
+IsFirstNow copy found passed old new (Some first) now = (now ≡ Some first) × (new ≡ old)
+IsFirstNow copy found (Some passed) old new None now =
+    (now ≡ Some (record { copy = copy; len = passed.len }))
+    × (take passed.len new ≡ take passed.len found)
+IsFirstNow copy found None old new None now = (now ≡ None) × (new ≡ old)
+
 -- the copy of a number was read
 abbrev pub IsReadAt : Form → ℕ → List BucketKind → ℕ → Image → List ℕ → Option PassingCopy → Type 0
 IsReadAt form page kinds copy image out passed =

@@ -33,7 +33,7 @@ pub record HoldsRecords (form : Form) (kinds : List BucketKind) (most rec : ℕ)
 pub record IsMounted (form : Form) (kinds : List BucketKind) (most : ℕ) (used : Option ℕ)
     (marks rec : ℕ) (memory : Room) (placed : Type 0) : Type 0 where
   pub room : HaveRoom (form.length_of most) kinds
-  pub take : TakeEachOther form kinds
+  pub exchange : TakeEachOther form kinds
   pub many : 2 ≤ length kinds
   pub few : length kinds ≤ most_copies
   pub inside : IfSome used (λ copy. copy < length kinds)

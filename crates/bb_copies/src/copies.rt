@@ -64,6 +64,7 @@ impl<B: Bucket + Drop, M: Format + Drop> Model for Copies<B, M> {
 }
 
 impl<B: Bucket + Drop, M: Format + Drop> Copies<B, M> {
+    #[tactic(auto, using(crate::proofs::Rooms::mounted_holds))]
     /// Copies in two or three buckets, which stand apart, for saving areas of `most` bytes. What is
     /// found in one bucket may be written to each. It takes all memory that `load` and `save` use:
     /// one record as long as a bucket takes, a piece, and the longest area.
@@ -77,7 +78,7 @@ impl<B: Bucket + Drop, M: Format + Drop> Copies<B, M> {
         requires few { length buckets ≤ most_copies }
         requires most { most ≤ (M.form format).area_len }
         requires room { HaveRoom ((M.form format).length_of most) (kinds_of B.holding buckets) }
-        requires take { TakeEachOther (M.form format) (kinds_of B.holding buckets) }
+        requires exchange { TakeEachOther (M.form format) (kinds_of B.holding buckets) }
         ensures buckets { IfOk result (λ copies. copies.buckets ≡ buckets) }
         ensures format { IfOk result (λ copies. copies.format ≡ format) }
         ensures most { IfOk result (λ copies. copies.most ≡ most) }

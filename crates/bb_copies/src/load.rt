@@ -27,7 +27,7 @@ pub(crate) fn load_copies<B: Bucket, M: Format, F: Flash>(
     rec: &mut Vec<u8>,
     room: &mut Room,
 ) -> Result<Loaded, CopyFault>
-    requires take { TakeEachOther (M.form format.now) (kinds_of B.holding buckets.old.items) }
+    requires exchange { TakeEachOther (M.form format.now) (kinds_of B.holding buckets.old.items) }
     requires serves { AllServe (kinds_of B.holding buckets.old.items)
         (F.device flash.old).geometry }
     requires agreed { AllAgree B.holding (F.device flash.old) buckets.old.items }
@@ -54,9 +54,10 @@ pub(crate) fn load_copies<B: Bucket, M: Format, F: Flash>(
     let Some(first) = found else {
         return Ok(Loaded::NoCopy);
     };
+    let len = first.len as u32;
     let stored = &area[..first.len];
-    let len = pack(format, stored, rec);
-    let packed = front(rec, len);
+    let count = pack(format, stored, rec);
+    let packed = front(rec, count);
     match settle_all(
         buckets, good, first.copy, format, flash, stored, packed, room,
     ) {
@@ -65,7 +66,7 @@ pub(crate) fn load_copies<B: Bucket, M: Format, F: Flash>(
             Ok(Loaded::Copy {
                 used: taken.used,
                 live: taken.live,
-                len: first.len as u32,
+                len,
                 old: 0,
             })
         }

@@ -7,8 +7,8 @@ ghost use Rattle.bb_bucket.specs.Calls.{IsQuiet};
 ghost use Rattle.std.specs.Str.{bytes_eq};
 ghost use Rattle.bb_copies.specs.Buckets.{AllAgree, AllServe, HasMemory, IsFoundWithin, kinds_of};
 ghost use Rattle.bb_copies.specs.Loading.{LookGives, looked_in};
-ghost use Rattle.bb_copies.specs.Looking.{FindsBelow, IsReadAt, area_by, copy_of, front_of};
-ghost use Rattle.bb_copies.specs.Looking.{good_by, used_by};
+ghost use Rattle.bb_copies.specs.Looking.{FindsBelow, IsFirstNow, IsReadAt, area_by, copy_of};
+ghost use Rattle.bb_copies.specs.Looking.{front_of, good_by};
 ghost use Rattle.bb_copies.specs.Passing.{FitsFront};
 ghost use Rattle.bb_copies.specs.Placing.{AllPlaced, PlacesCopy};
 
@@ -170,7 +170,7 @@ fn read_at<B: Bucket, M: Format, F: Flash>(
     read_copy(&mut buckets[copy], format, flash, piece, area)
 }
 
-#[tactic(auto, using(crate::proofs::Finding::none_area, crate::proofs::Finding::none_used))]
+#[tactic(auto, using(crate::proofs::Finding::nothing_first))]
 // What the copy of a number means for the first that passes, whose area stands in front of `area`:
 // the copy takes its place where none did yet. The answer is the first one now, and whether this
 // copy is fresh.
@@ -184,12 +184,9 @@ fn compare(
     requires found { IfSome passed (λ passed. passed.len ≤ length found.now) }
     requires used { IfSome used (λ first. first.len ≤ length area.old) }
     requires same { length found.now ≡ length area.old }
-    ensures used { copy_of result.0 ≡ used_by copy passed (copy_of used) }
-    ensures area { front_of result.0 area.new
-        ≡ area_by found.now passed (front_of used area.old) (copy_of used) }
+    ensures first { IsFirstNow copy found.now passed area.old area.new used result.0 }
     ensures good { result.1 ≡ good_by found.now passed
         (area_by found.now passed (front_of used area.old) (copy_of used)) }
-    ensures len { length area.new ≡ length area.old }
 {
     let Some(passed) = passed else {
         return (used, false);

@@ -289,6 +289,7 @@ first_count kind m bytes e =
 pub raw_laws : (kind : RawKind) → IsForm (raw_form kind)
 raw_laws kind = record {
   most = λ area fits. leb-true _ _ fits;
+  limit = λ area fits. leb-true _ _ fits;
   whole = λ area fits. text_whole kind area;
   text_passes = λ area rest fits. text_passes kind area rest (leb-true _ _ fits);
   text_fresh = λ area rest fits. refl;

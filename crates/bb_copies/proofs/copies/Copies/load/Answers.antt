@@ -30,3 +30,6 @@ load_copies-requires-clause-many g c = grind (arith, common_steps)
 
 pub load_copies-requires-clause-few : goal.load_copies-requires-clause-few
 load_copies-requires-clause-few g c = grind (arith, common_steps)
+
+pub load_copies-requires-clause-record : goal.load_copies-requires-clause-record
+load_copies-requires-clause-record g c = c.self.invariant.record_fits.found
