@@ -1,6 +1,6 @@
 -- What a load makes of a device, and what it answers.
 use Rattle.std.specs.Prelude.{◌≡◌, ℕ, ◌-◌, ◌<◌, ◌≤◌, Bool, List, [], length, take, Option, Some}
-use Rattle.std.specs.Prelude.{None, is_some, count_by, Result, IfOk, IfErr, IfSome, is_err, IsTrue}
+use Rattle.std.specs.Prelude.{None, is_some, count_by, Result, Ok, Err, IfOk, IfErr, is_err, IsTrue}
 use Rattle.std.specs.Prelude.{option_map}
 use Rattle.std.specs.Bool.{Decides}
 use Rattle.std.specs.Option.{ForSome}
@@ -170,11 +170,17 @@ pub record LoadRuns (form : Form) (kinds : List BucketKind) (from to : Device) :
   pub starts : LeavesStarts from to
   pub whole : IsDevice to
 
--- the stored area after a load: it stands in front of the memory for it, and is the empty one where
--- no copy passed
-abbrev pub stored_in : List ℕ → Loaded → List ℕ
-stored_in area (Copy used live len old) = take len area
-stored_in area NoCopy = []
+-- the stored area after a load, which stands in front of a memory: it is the empty one where no copy
+-- passed, and after a refusal none is given
+abbrev pub stored_in : List ℕ → Result Loaded CopyFault → List ℕ
+stored_in memory (Ok (Copy used live len old)) = take len memory
+stored_in memory (Ok NoCopy) = []
+stored_in memory (Err fault) = []
+
+-- and there are as many bytes
+abbrev pub SaysWithin : ℕ → Loaded → Type 0
+SaysWithin count (Copy used live len old) = len ≤ count
+SaysWithin count NoCopy = Unit {0}
 
 -- the length that a load says is that of the stored area, which fits; no format of today has old
 -- areas
@@ -185,23 +191,22 @@ pub record SaysLength (form : Form) (stored : List ℕ) (len old : ℕ) : Type 0
 
 abbrev pub LoadSays : Form → List ℕ → Loaded → Type 0
 LoadSays form stored (Copy used live len old) = SaysLength form stored len old
-LoadSays form stored NoCopy = Unit {0}
+LoadSays form stored NoCopy = stored ≡ []
 
--- A load: what it made of the device, and what it answered. `area` is what it left in the memory
--- for the area.
-pub record IsLoad (form : Form) (kinds : List BucketKind) (area : List ℕ) (from to : Device)
+-- A load: what it made of the device, and what it answered. `stored` is the area that it gave, as
+-- long as it is stored.
+pub record IsLoad (form : Form) (kinds : List BucketKind) (stored : List ℕ) (from to : Device)
     (answer : Result Loaded CopyFault) : Type 0 where
   pub runs : LoadRuns form kinds from to
-  pub gives : IfOk answer (λ loaded. LoadGives form kinds (stored_in area loaded) from to loaded)
-  pub says : IfOk answer (λ loaded. LoadSays form (stored_in area loaded) loaded)
-  pub exact : IfOk answer (λ loaded. LoadsExactly form kinds (stored_in area loaded) from to loaded)
-  pub erases :
-      IfOk answer (λ loaded. LoadsErasing form kinds (stored_in area loaded) from to loaded)
+  pub gives : IfOk answer (LoadGives form kinds stored from to)
+  pub says : IfOk answer (LoadSays form stored)
+  pub exact : IfOk answer (LoadsExactly form kinds stored from to)
+  pub erases : IfOk answer (LoadsErasing form kinds stored from to)
   pub fails : IfErr answer (LoadFails form kinds from to)
 
--- the area of this length that stands in front of some memory, or none
+-- the area of this length that stands in front of a memory, or none
 abbrev pub looked_in : List ℕ → Option ℕ → Option (List ℕ)
-looked_in area found = option_map (λ len. take len area) found
+looked_in memory found = option_map (λ len. take len memory) found
 
 -- what a look answers: the area of the first copy that passes, or none
 abbrev pub LookGives : Form → List BucketKind → Device → Option (List ℕ) → Type 0
@@ -212,12 +217,10 @@ LookGives form kinds from None =
     ForSome (content from)
     (λ image. SomePasses (passings form from.geometry.page kinds image) → ⊥)
 
--- A look: what it answered, and that it only read. `area` is what it left in the memory for the
--- area.
-pub record IsLook (form : Form) (kinds : List BucketKind) (area : List ℕ) (from to : Device)
-    (answer : Result (Option ℕ) CopyFault) : Type 0 where
-  pub gives : IfOk answer (λ found. LookGives form kinds from (looked_in area found))
-  pub inside : IfOk answer (λ found. IfSome found (λ len. len ≤ length area))
+-- A look: the area that it answered, or none, and that it only read.
+pub record IsLook (form : Form) (kinds : List BucketKind) (from to : Device)
+    (answer : Result (Option (List ℕ)) CopyFault) : Type 0 where
+  pub gives : IfOk answer (LookGives form kinds from)
   pub fails : IfErr answer (λ fault. fault ≡ ReadFault)
   pub quiet : IsQuiet from to
   pub faults : to.faults ≡ counted (is_err answer) from.faults

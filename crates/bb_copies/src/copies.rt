@@ -1,11 +1,11 @@
-ghost use Rattle.std.specs.Prelude.{◌≡◌, ◌<◌, ◌≤◌, ◌&&◌, IfOk, IsTrue, None, OnOk, false, is_ok};
+ghost use Rattle.std.specs.Prelude.{◌≡◌, ◌<◌, ◌≤◌, ◌&&◌, IfOk, IfSome, IsTrue, None, OnOk, false, is_ok};
 ghost use Rattle.std.specs.Prelude.{length};
-ghost use Rattle.std.specs.Result.{result_err};
+ghost use Rattle.std.specs.Result.{result_err, result_map_both};
 ghost use Rattle.bb_base.specs.Form.{most_copies};
 ghost use Rattle.bb_flash.specs.Device.{IsDevice};
 ghost use Rattle.bb_copies.specs.Buckets.{AllAgree, AllServe, EachCopy, HaveRoom, TakeEachOther};
 ghost use Rattle.bb_copies.specs.Buckets.{kinds_of};
-ghost use Rattle.bb_copies.specs.Loading.{IsLoad, IsLook};
+ghost use Rattle.bb_copies.specs.Loading.{IsLoad, IsLook, SaysWithin, looked_in, stored_in};
 ghost use Rattle.bb_copies.specs.Placing.{AllPlaced, ReadsNothing};
 ghost use Rattle.bb_copies.specs.Saving.{IsSave, IsSaved};
 ghost use Rattle.bb_copies.specs.Store.{used_after};
@@ -114,7 +114,8 @@ impl<B: Bucket + Drop, M: Format + Drop> Copies<B, M> {
         requires whole { IsDevice (F.device flash.old) }
         requires area { length area.old ≡ (M.form self.old.format).area_len }
         ensures load { IsLoad (M.form self.old.format) (kinds_of B.holding self.old.buckets)
-            area.new (F.device flash.old) (F.device flash.new) result }
+            (stored_in area.new result) (F.device flash.old) (F.device flash.new) result }
+        ensures inside { IfOk result (λ loaded. SaysWithin (length area.new) loaded) }
         ensures kinds { kinds_of B.holding self.new.buckets ≡ kinds_of B.holding self.old.buckets }
         ensures format { self.new.format ≡ self.old.format }
         ensures most { self.new.most ≡ self.old.most }
@@ -206,7 +207,9 @@ impl<B: Bucket + Drop, M: Format + Drop> Copies<B, M> {
         requires whole { IsDevice (F.device flash.old) }
         requires area { length area.old ≡ (M.form self.old.format).area_len }
         ensures look { IsLook (M.form self.old.format) (kinds_of B.holding self.old.buckets)
-            area.new (F.device flash.old) (F.device flash.new) result }
+            (F.device flash.old) (F.device flash.new)
+            (result_map_both (looked_in area.new) (λ e. e) result) }
+        ensures inside { IfOk result (λ found. IfSome found (λ len. len ≤ length area.new)) }
         ensures kinds { kinds_of B.holding self.new.buckets ≡ kinds_of B.holding self.old.buckets }
         ensures format { self.new.format ≡ self.old.format }
         ensures most { self.new.most ≡ self.old.most }

@@ -1,9 +1,9 @@
-ghost use Rattle.std.specs.Prelude.{◌≡◌, ◌≤◌, IsTrue, OnOk, length, take};
+ghost use Rattle.std.specs.Prelude.{◌≡◌, ◌≤◌, IfOk, IsTrue, OnOk, length, take};
 ghost use Rattle.bb_base.specs.Form.{most_copies};
 ghost use Rattle.bb_flash.specs.Device.{IsDevice};
 ghost use Rattle.bb_copies.specs.Buckets.{AllAgree, AllServe, FindsAtMost, HasMemory};
 ghost use Rattle.bb_copies.specs.Buckets.{TakeEachOther, kinds_of};
-ghost use Rattle.bb_copies.specs.Loading.{IsLoad};
+ghost use Rattle.bb_copies.specs.Loading.{IsLoad, SaysWithin, stored_in};
 ghost use Rattle.bb_copies.specs.Placing.{AllPlaced};
 ghost use Rattle.bb_copies.specs.Store.{used_after};
 
@@ -39,8 +39,9 @@ pub(crate) fn load_copies<B: Bucket, M: Format, F: Flash>(
     requires area { length area.old ≡ (M.form format.now).area_len }
     requires many { 2 ≤ length buckets.old.items }
     requires few { length buckets.old.items ≤ most_copies }
-    ensures load { IsLoad (M.form format.now) (kinds_of B.holding buckets.old.items) area.new
-        (F.device flash.old) (F.device flash.new) result }
+    ensures load { IsLoad (M.form format.now) (kinds_of B.holding buckets.old.items)
+        (stored_in area.new result) (F.device flash.old) (F.device flash.new) result }
+    ensures inside { IfOk result (λ loaded. SaysWithin (length area.new) loaded) }
     ensures kinds { kinds_of B.holding buckets.new.items ≡ kinds_of B.holding buckets.old.items }
     ensures agrees { AllAgree B.holding (F.device flash.new) buckets.new.items }
     ensures placed { OnOk result (AllPlaced B.holding buckets.new.items) }

@@ -53,7 +53,7 @@ returns-in_default-found-clause-load g c =
       gives =
           none_found form kinds bound good from mid many (keeps_of_quiet _ _ k.quiet).content k.quiet.told c.in-Ok.ensures.faults c.in-Ok.ensures.read_faults
           (λ image e. subst (λ (o : Option FirstCopy). FindsBelow form from.geometry.page kinds bound (front_of o area) good image (copy_of o)) c.in_default-found.is (c.in-Ok.ensures.done image e));
-      says = tt;
+      says = refl;
       exact = tt;
       erases = read_erases from mid k.quiet.told;
       fails = tt;
@@ -227,3 +227,10 @@ overflow_cast-len g c =
     let limit = (g.met.M.Format.laws c.args.format.now).limit (take c.in-Some.first.len out) fits.fits in
     let same = length-take-le c.in-Some.first.len out fits.inside in
     omega (arith, limit, same)
+
+pub returns-in-Ok-settle_all-clause-inside : goal.returns-in-Ok-settle_all-clause-inside
+returns-in-Ok-settle_all-clause-inside g c =
+    let form : Form = g.M.Format.form c.args.format.now in
+    let out : List ℕ = c.look_over.new.area in
+    let fits = subst (λ (o : Option FirstCopy). IfSome o (λ first. FitsFront form first.len out)) c.in-Some.is c.in-Ok.ensures.fits in
+    fits.inside
