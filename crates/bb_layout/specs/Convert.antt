@@ -2,6 +2,7 @@
 -- layout.
 use Rattle.std.specs.Prelude.{ℕ, ◌-◌, List, ◌++◌, fold, length, nat_le, replicate, take, if◌then◌else◌}
 use Rattle.bb_vars.specs.Table.{table_with}
+use Rattle.bb_layout.specs.Layout.{Laid}
 use Rattle.bb_layout.specs.Ranges.{end_of}
 use Rattle.bb_layout.specs.declared.var.Var.{Var}
 
@@ -20,3 +21,7 @@ kept_or_default stored_len area v =
 abbrev pub convert_of : ℕ → List Var → List ℕ → List ℕ
 convert_of area_len vars stored =
     fold (kept_or_default (length stored)) (resized area_len stored) vars
+
+-- the same of what a layout says
+abbrev pub convert : Laid → List ℕ → List ℕ
+convert layout stored = convert_of layout.area_len layout.vars stored

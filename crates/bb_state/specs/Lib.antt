@@ -19,3 +19,4 @@ pub mod Named
 pub mod State
 -- Inside: only private contracts and proofs cite it.
 pub mod Room
+pub mod Stored
