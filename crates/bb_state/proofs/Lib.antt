@@ -1,6 +1,7 @@
 -- Lemmas.
 pub mod Blank
 pub mod Examples
+pub mod Families
 pub mod Fitting
 pub mod Handed
 pub mod Lists
