@@ -1,6 +1,6 @@
 -- Which areas are tables of a layout: they have its length, and can be kept as a record.
-use Rattle.std.proofs.Common.{◌≡◌, ◌⊎◌, ℕ, ◌≤◌, List, [], IsTrue, arith, inl, inr, length, refl, subst, sym, ◌∙◌}
-use Rattle.std.proofs.lemmas.Bool.{and_from, and_parts, eq-eqb, eqb-true, le-leb, leb-true}
+use Rattle.std.proofs.Common.{◌≡◌, ◌⊎◌, ℕ, List, [], IsTrue, arith, inl, inr, length, refl, subst, sym, ◌∙◌}
+use Rattle.std.proofs.lemmas.Bool.{and_from, and_parts, eq-eqb, eqb-true, le-leb}
 use Rattle.bb_layout.specs.Convert.{convert}
 use Rattle.bb_layout.specs.Defaults.{defaults_of}
 use Rattle.bb_layout.specs.Outside.{ChangesVarsAlone}

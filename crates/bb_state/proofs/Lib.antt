@@ -9,4 +9,5 @@ pub mod Mounting
 pub mod NamedVars
 pub mod Rooms
 pub mod Sets
+pub mod Showing
 pub mod Tables
