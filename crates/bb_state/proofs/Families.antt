@@ -15,7 +15,7 @@ use Rattle.bb_layout.specs.declared.format_kind.FormatKind.{FormatKind}
 use Rattle.bb_layout.specs.declared.format_kind.FormatKind.TheVariants.{Dtb, Raw, RawHmac}
 use Rattle.bb_layout.specs.declared.storage.Storage.{Storage}
 use Rattle.bb_state.specs.Keyed.{Keyed}
-use Rattle.bb_state.specs.Kinds.{any_form, any_holding, bucket_at, format_for, laid_buckets, laid_form, laid_kinds, laid_passings, longest_area, longest_len}
+use Rattle.bb_state.specs.Kinds.{any_form, any_holding, bucket_at, format_for, laid_buckets, laid_form, laid_kinds, longest_area, longest_len}
 use Rattle.bb_state.specs.declared.any_bucket.AnyBucket.{AnyBucket}
 use Rattle.bb_state.specs.declared.any_format.AnyFormat.{AnyFormat}
 use Rattle.bb_state.specs.declared.any_format.AnyFormat.TheVariants as formats
@@ -76,12 +76,12 @@ form_same one other family key =
     form_of_format one.layout.format one other family key refl
     ∙ ap (λ format. any_form (format_for format other)) family.format
 
--- what each copy passes
-pub passings_same : (one other : Keyed) (image : Image) → SameFamily one.layout other.layout →
-    one.key ≡ other.key → laid_passings one image ≡ laid_passings other image
-passings_same one other image family key =
-    ap (λ (form : Form). passings form one.layout.geometry.page (laid_kinds one.layout) image)
-    (form_same one other family key)
-    ∙ ap (λ (g : Geometry). passings (laid_form other) g.page (laid_kinds one.layout) image) family.geometry
-    ∙ ap (λ (ks : List BucketKind). passings (laid_form other) other.layout.geometry.page ks image)
+-- what each copy passes, in an image of a device with pages of this size
+pub passed_same : (one other : Keyed) (page : ℕ) (image : Image) → SameFamily one.layout other.layout →
+    one.key ≡ other.key →
+    passings (laid_form one) page (laid_kinds one.layout) image
+    ≡ passings (laid_form other) page (laid_kinds other.layout) image
+passed_same one other page image family key =
+    ap (λ (form : Form). passings form page (laid_kinds one.layout) image) (form_same one other family key)
+    ∙ ap (λ (ks : List BucketKind). passings (laid_form other) page ks image)
     (kinds_same one.layout other.layout family)
