@@ -1,5 +1,5 @@
 -- What is found in the copies below one, and in one more.
-use Rattle.std.proofs.Common.{◌≡◌, ◌⊎◌, ◌∙◌, ℕ, ◌+◌, ◌<◌, ◌≤◌, ◌&&◌, Bool, true, false, not, List, length, set, take, Option, Some, None, Result, Ok, Err, IfOk, IfSome, ap, sym, subst, arith, inl, inr, IsTrue, get_or-set_other, get_or-set_same}
+use Rattle.std.proofs.Common.{◌≡◌, ◌⊎◌, ◌∙◌, ℕ, ◌+◌, ◌<◌, ◌≤◌, ◌&&◌, Bool, true, false, not, refl, List, length, set, take, Option, Some, None, Result, Ok, Err, IfOk, IfSome, ap, sym, subst, arith, inl, inr, IsTrue, get_or-set_other, get_or-set_same}
 use Rattle.std.specs.Prelude.{slice_get}
 use Rattle.std.specs.Bool.{Decides}
 use Rattle.std.specs.Str.{bytes_eq}

@@ -101,6 +101,13 @@ impl Backing {
         &self.layout
     }
 
+    /// The area that was last loaded or looked at, as long as it is stored.
+    pub(crate) fn stored(&self) -> &[u8]
+        ensures { result.now ≡ self.now.stored }
+    {
+        front(&self.memory, self.stored_len)
+    }
+
     /// The table that was last loaded or saved.
     pub(crate) fn kept_table(&self) -> &[u8]
         ensures kept { result.now ≡ self.now.kept }

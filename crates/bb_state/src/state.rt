@@ -67,6 +67,14 @@ impl State {
         self.backing.layout()
     }
 
+    /// The area that was last loaded or looked at, as long as it is stored: none of its bytes where
+    /// no copy passed.
+    pub fn stored(&self) -> &[u8]
+        ensures { result.now ≡ stored_of self.now }
+    {
+        self.backing.stored()
+    }
+
     /// Reads all copies. The table is then the area of the first that passes, as the layout reads
     /// it: the stored area may be shorter or longer, as one that was saved under another layout of
     /// the family. All copies then pass the stored area or nothing: those that don't are written, as

@@ -1,5 +1,5 @@
 -- What a session says of rounds and starts, from its work.
-use Rattle.std.proofs.Common.{◌≡◌, ℕ, true, List, length, map, Option, Some, None, Ok, Err, refl, sym, ap, subst, ◌∙◌, inl, inr}
+use Rattle.std.proofs.Common.{◌≡◌, ℕ, true, List, length, map, option_map, Option, Some, None, Ok, Err, refl, sym, ap, subst, ◌∙◌, inl, inr}
 use Rattle.std.specs.Option.{ForSome, IsSomeAnd}
 use Rattle.std.specs.Prelude.{unwrap_or}
 use Rattle.bb_copies.specs.StandsFor.{first_passed, picked}
@@ -26,7 +26,7 @@ use Rattle.bb_plan.specs.declared.refusal.Refusal.TheVariants as refusals
 use Rattle.bb_plan.specs.declared.status.Status.TheVariants as statuses
 use Rattle.bb_plan.proofs.Sizes.{IsSizedWork, planned_sized}
 use Rattle.bb_session.specs.Acting.{AreRoundsOf, WorkAnswers, start_plans_of}
-use Rattle.bb_session.specs.Looking.{passed_in}
+use Rattle.bb_session.specs.Looking.{first_found, passed_in}
 use Rattle.bb_session.specs.Session.{Answers, LoadAnswer, Session, acts_after, loaded_area, work_session}
 use Rattle.bb_session.specs.SessionTurns.{EachStanding, turn_of}
 use Rattle.bb_session.specs.Work.{IsLoadedAs, IsTableWork, IsWork}
