@@ -13,7 +13,7 @@ use Rattle.bb_bucket.proofs.Quiet.{agrees_kept}
 use Rattle.bb_copies.specs.declared.read.PassingCopy.{PassingCopy}
 use Rattle.bb_copies.specs.Buckets.{AllAgree, EachCopy, IsFoundWithin}
 use Rattle.bb_copies.specs.declared.look.FirstCopy.{FirstCopy}
-use Rattle.bb_copies.specs.Looking.{FindsBelow, IsFresh, IsReadAt, IsFirstNow, PassNothing, area_by, copy_of, front_of, good_by, used_by}
+use Rattle.bb_copies.specs.Looking.{FindsBelow, IsFresh, IsReadAt, IsFirstNow, PassNothing, area_by, copy_of, front_kept, good_by, used_by}
 use Rattle.bb_copies.specs.Passing.{FitsFront, IsReading, passing_of}
 use Rattle.bb_copies.specs.Refreshing.{is_marked}
 use Rattle.bb_copies.proofs.Many.{get_set_other, get_set_same, same_or_not}
@@ -110,10 +110,10 @@ first_number copy found passed old new (Some first) now h = ap copy_of h.0
 first_number copy found (Some passed) old new None now h = ap copy_of h.0
 first_number copy found None old new None now h = ap copy_of h.0
 
-pub first_front : (copy : ℕ) (found : List ℕ) (passed : Option PassingCopy) (old new : List ℕ) (used now : Option FirstCopy) → IsFirstNow copy found passed old new used now → front_of now new ≡ area_by found passed (front_of used old) (copy_of used)
-first_front copy found passed old new (Some first) now h = ap (λ u. front_of u new) h.0 ∙ ap (take first.len) h.1
-first_front copy found (Some passed) old new None now h = ap (λ u. front_of u new) h.0 ∙ h.1
-first_front copy found None old new None now h = ap (λ u. front_of u new) h.0
+pub first_front : (copy : ℕ) (found : List ℕ) (passed : Option PassingCopy) (old new : List ℕ) (used now : Option FirstCopy) → IsFirstNow copy found passed old new used now → front_kept now new ≡ area_by found passed (front_kept used old) (copy_of used)
+first_front copy found passed old new (Some first) now h = ap (λ u. front_kept u new) h.0 ∙ ap (take first.len) h.1
+first_front copy found (Some passed) old new None now h = ap (λ u. front_kept u new) h.0 ∙ h.1
+first_front copy found None old new None now h = ap (λ u. front_kept u new) h.0
 
 -- ---- what holds of the first that passes, by its number and its area
 

@@ -49,9 +49,9 @@ abbrev pub copy_of : Option FirstCopy → Option ℕ
 copy_of None = None
 copy_of (Some first) = Some first.copy
 
-abbrev pub front_of : Option FirstCopy → List ℕ → List ℕ
-front_of None area = []
-front_of (Some first) area = take first.len area
+abbrev pub front_kept : Option FirstCopy → List ℕ → List ℕ
+front_kept None area = []
+front_kept (Some first) area = take first.len area
 
 -- the first copy that passes, once the copy of a number was read too
 abbrev pub used_by : ℕ → Option PassingCopy → Option ℕ → Option ℕ

@@ -8,7 +8,7 @@ ghost use Rattle.std.specs.Str.{bytes_eq};
 ghost use Rattle.bb_copies.specs.Buckets.{AllAgree, AllServe, HasMemory, IsFoundWithin, kinds_of};
 ghost use Rattle.bb_copies.specs.Loading.{LookGives, looked_in};
 ghost use Rattle.bb_copies.specs.Looking.{FindsBelow, IsFirstNow, IsReadAt, area_by, copy_of};
-ghost use Rattle.bb_copies.specs.Looking.{front_of, good_by};
+ghost use Rattle.bb_copies.specs.Looking.{front_kept, good_by};
 ghost use Rattle.bb_copies.specs.Passing.{FitsFront};
 ghost use Rattle.bb_copies.specs.Placing.{AllPlaced, PlacesCopy};
 
@@ -49,7 +49,7 @@ pub(crate) fn look_over<B: Bucket, M: Format, F: Flash>(
     ensures done { IfOk result (λ used. ForSome (content (F.device flash.old)) (λ image.
         FindsBelow (M.form format.now) (F.device flash.old).geometry.page
         (kinds_of B.holding buckets.old.items)
-        (length buckets.old.items) (front_of used area.new) good.new.items image
+        (length buckets.old.items) (front_kept used area.new) good.new.items image
         (copy_of used))) }
     ensures inside { IfOk result (λ used. IfSome used (λ first.
         first.copy < length buckets.old.items)) }
@@ -186,7 +186,7 @@ fn compare(
     requires same { length found.now ≡ length area.old }
     ensures first { IsFirstNow copy found.now passed area.old area.new used result.0 }
     ensures good { result.1 ≡ good_by found.now passed
-        (area_by found.now passed (front_of used area.old) (copy_of used)) }
+        (area_by found.now passed (front_kept used area.old) (copy_of used)) }
 {
     let Some(passed) = passed else {
         return (used, false);

@@ -11,7 +11,7 @@ use Rattle.std.specs.Str.{bytes_eq}
 use Rattle.bb_base.specs.Crc.{crc_of}
 use Rattle.bb_base.specs.Checked.{IsPassed}
 use Rattle.bb_base.specs.Form.{Form}
-use Rattle.bb_raw.specs.Feeding.{KeepsFed, answer_of, code_behind, fed_passes, has_come, parts_agree, raw_holds}
+use Rattle.bb_raw.specs.Feeding.{KeepsFed, passed_answer, code_behind, fed_passes, has_come, parts_agree, raw_holds}
 use Rattle.bb_raw.specs.Laws.{agrees_within, and_same, area_within, fails_first, field_within, header_within, len_small, too_few}
 use Rattle.bb_raw.specs.Raw.{RawKind, area_agrees, area_of, code_len, data_len, hmac_text, has_field, header_agrees, passes_as_long, raw_agrees, raw_form, raw_length, raw_passes}
 use Rattle.bb_raw.specs.declared.feed.RawFeed.{RawFeed}
@@ -188,7 +188,7 @@ any_parted kind feed area fed h a c fedded =
 answered :
     (test : Bool) (form : Form) (fed area : List ℕ) (n : ℕ) → n ≤ length area →
     form.passes fed ≡ cond test (Some (take n area)) None → form.aged fed ≡ false →
-    IsPassed form fed area (answer_of n test)
+    IsPassed form fed area (passed_answer n test)
 answered true form fed area n h e f =
     let long = length-take-le n area h in
     record {
@@ -214,7 +214,7 @@ pub raw_ends :
     (kind : RawKind) (feed : RawFeed) (area fed : List ℕ) →
     length feed.header ≡ 16 → length area ≡ 65535 → length feed.code ≡ 32 →
     raw_holds kind feed fed area →
-    IsPassed (raw_form kind) fed area (answer_of (data_len feed.header) (fed_passes kind feed area))
+    IsPassed (raw_form kind) fed area (passed_answer (data_len feed.header) (fed_passes kind feed area))
 raw_ends kind feed area fed h a c held =
     let small = len_small feed.header in
     let few = code_few kind.key in

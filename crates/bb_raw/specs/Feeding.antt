@@ -49,5 +49,5 @@ abbrev pub fed_passes : RawKind → RawFeed → List ℕ → Bool
 fed_passes kind feed area = has_come kind feed area (data_len feed.header)
 
 -- what a check answers of an area of this length, where it passes
-abbrev pub answer_of : ℕ → Bool → Option Passed
-answer_of len passes = if passes then Some (record { len = len; old = false }) else None
+abbrev pub passed_answer : ℕ → Bool → Option Passed
+passed_answer len passes = if passes then Some (record { len = len; old = false }) else None

@@ -2,7 +2,7 @@ ghost use Rattle.std.specs.Prelude.{◌≡◌, ◌+◌, ◌≤◌, ◌++◌, dro
 ghost use Rattle.std.specs.Str.{bytes_eq};
 ghost use Rattle.bb_base.specs.Crc.{crc_of};
 ghost use Rattle.bb_base.specs.Form.{area_limit};
-ghost use Rattle.bb_raw.specs.Feeding.{answer_of, fed_passes, parts_agree};
+ghost use Rattle.bb_raw.specs.Feeding.{passed_answer, fed_passes, parts_agree};
 ghost use Rattle.bb_raw.specs.Raw.{code_len, coded_text, data_len, has_field, header_agrees};
 ghost use Rattle.bb_raw.specs.Raw.{header_len, header_text, hmac_text, raw_form};
 ghost use Rattle.bb_raw.specs.Laws.{raw_laws};
@@ -49,7 +49,7 @@ impl Raw {
 // What all that was fed passes as.
 fn passed_as(magic: u32, key: &Option<Key>, feed: &RawFeed, area: &[u8]) -> Option<Passed>
     requires { length area.now ≡ area_limit }
-    ensures { result ≡ answer_of (data_len feed.now.header)
+    ensures { result ≡ passed_answer (data_len feed.now.header)
         (fed_passes (record { magic = magic; key = key.now }) feed.now area.now) }
 {
     let len = data_len(&feed.header);

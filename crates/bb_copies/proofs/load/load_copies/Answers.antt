@@ -10,7 +10,7 @@ use Rattle.bb_copies.specs.Buckets.{HaveRoom, IsFoundWithin, kinds_of}
 use Rattle.bb_copies.specs.declared.answers.Loaded.TheVariants.{Copy}
 use Rattle.bb_copies.specs.Erasing.{IsBounded}
 use Rattle.bb_copies.specs.declared.look.FirstCopy.{FirstCopy}
-use Rattle.bb_copies.specs.Looking.{FindsBelow, IsFirst, copy_of, front_of}
+use Rattle.bb_copies.specs.Looking.{FindsBelow, IsFirst, copy_of, front_kept}
 use Rattle.bb_copies.specs.Passing.{FitsFront}
 use Rattle.bb_copies.specs.Refreshing.{AllHeld, AllWritten, IsFirstMarked, IsStuckAt, KeepsMarked, PassesAt, Refreshes}
 use Rattle.bb_copies.specs.Saving.{SparesUsed}
@@ -52,7 +52,7 @@ returns-in_default-found-clause-load g c =
       runs = unchanged_runs form kinds from mid k.quiet.told (keeps_of_quiet _ _ k.quiet) k.quiet.later k.quiet.whole;
       gives =
           none_found form kinds bound good from mid many (keeps_of_quiet _ _ k.quiet).content k.quiet.told c.in-Ok.ensures.faults c.in-Ok.ensures.read_faults
-          (λ image e. subst (λ (o : Option FirstCopy). FindsBelow form from.geometry.page kinds bound (front_of o area) good image (copy_of o)) c.in_default-found.is (c.in-Ok.ensures.done image e));
+          (λ image e. subst (λ (o : Option FirstCopy). FindsBelow form from.geometry.page kinds bound (front_kept o area) good image (copy_of o)) c.in_default-found.is (c.in-Ok.ensures.done image e));
       says = refl;
       exact = tt;
       erases = read_erases from mid k.quiet.told;
@@ -74,7 +74,7 @@ settle_all-requires-clause-passed g c =
     let k = c.look_over.ensures in
     let used : ℕ = c.in-Some.first.copy in
     let first : ForSome (content from) (λ image. IsFirst form from.geometry.page kinds bound area good image used) =
-    λ image e. subst (λ (o : Option FirstCopy). FindsBelow form from.geometry.page kinds bound (front_of o out) good image (copy_of o)) c.in-Some.is (c.in-Ok.ensures.done image e) in
+    λ image e. subst (λ (o : Option FirstCopy). FindsBelow form from.geometry.page kinds bound (front_kept o out) good image (copy_of o)) c.in-Some.is (c.in-Ok.ensures.done image e) in
     let again : length c.look_over.new.buckets.items ≡ bound = sym (length-map c.look_over.new.buckets.items _) ∙ ap length k.kinds ∙ sym many in
     fresh_pass form here area good (length c.look_over.new.buckets.items) used mid (sym (length-map c.look_over.new.buckets.items _))
     (first_again form kinds here area good bound (length c.look_over.new.buckets.items) used from mid k.kinds again (keeps_of_quiet _ _ k.quiet) first)
@@ -98,7 +98,7 @@ returns-in-Ok-settle_all-clause-load g c =
     let used : ℕ = c.in-Some.first.copy in
     let packed : rec ≡ form.text area = c.front-packed.ensures ∙ ap (take c.pack-count.result) c.deref.ensures.value ∙ c.pack-count.ensures.packed in
     let first : ForSome (content from) (λ image. IsFirst form from.geometry.page kinds bound area good image used) =
-    λ image e. subst (λ (o : Option FirstCopy). FindsBelow form from.geometry.page kinds bound (front_of o out) good image (copy_of o)) c.in-Some.is (c.in-Ok.ensures.done image e) in
+    λ image e. subst (λ (o : Option FirstCopy). FindsBelow form from.geometry.page kinds bound (front_kept o out) good image (copy_of o)) c.in-Some.is (c.in-Ok.ensures.done image e) in
     let inside : used < bound = subst (λ (o : Option FirstCopy). IfSome o (λ first. first.copy < bound)) c.in-Some.is c.in-Ok.ensures.inside in
     let entry = first_area form kinds area good bound used from many inside first in
     let low : used < length kinds = omega (arith, inside, many) in
@@ -148,7 +148,7 @@ returns-in-Err-clause-load g c =
     let rec : List ℕ = c.front-packed.result.now in
     let packed : rec ≡ form.text area = c.front-packed.ensures ∙ ap (take c.pack-count.result) c.deref.ensures.value ∙ c.pack-count.ensures.packed in
     let first : ForSome (content from) (λ image. IsFirst form from.geometry.page kinds bound area good image used) =
-    λ image e. subst (λ (o : Option FirstCopy). FindsBelow form from.geometry.page kinds bound (front_of o out) good image (copy_of o)) c.in-Some.is (c.in-Ok.ensures.done image e) in
+    λ image e. subst (λ (o : Option FirstCopy). FindsBelow form from.geometry.page kinds bound (front_kept o out) good image (copy_of o)) c.in-Some.is (c.in-Ok.ensures.done image e) in
     let inside : used < bound = subst (λ (o : Option FirstCopy). IfSome o (λ first. first.copy < bound)) c.in-Some.is c.in-Ok.ensures.inside in
     let entry = first_area form kinds area good bound used from many inside first in
     let low : used < length kinds = omega (arith, inside, many) in

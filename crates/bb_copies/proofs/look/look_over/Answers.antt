@@ -7,7 +7,7 @@ use Rattle.bb_bucket.proofs.Quiet.{keeps_of_quiet, quiet_joined}
 use Rattle.bb_copies.specs.Buckets.{IsFoundWithin, kinds_of}
 use Rattle.bb_copies.specs.declared.look.FirstCopy.{FirstCopy}
 use Rattle.bb_copies.specs.declared.read.PassingCopy.{PassingCopy}
-use Rattle.bb_copies.specs.Looking.{FindsBelow, IsFirstNow, area_by, copy_of, front_of, good_by}
+use Rattle.bb_copies.specs.Looking.{FindsBelow, IsFirstNow, area_by, copy_of, front_kept, good_by}
 use Rattle.bb_copies.specs.Passing.{FitsFront}
 use Rattle.bb_copies.proofs.Ends.{whole_slice}
 use Rattle.bb_copies.proofs.Finding.{finds_step, first_front, first_number, inside_step, known_inside, known_parts, known_step, reading_from, some_weaker}
@@ -38,14 +38,14 @@ loop-copy-preserved g c =
     subst (λ (xs : List ℕ). IsFirstNow copy xs passed area new used now) is_out m.first in
     let is_area = first_front copy out passed area new used now step in
     let is_good =
-    m.good ∙ ap (λ xs. good_by xs passed (area_by xs passed (front_of used area) (copy_of used))) is_out
+    m.good ∙ ap (λ xs. good_by xs passed (area_by xs passed (front_kept used area) (copy_of used))) is_out
     ∙ ap (good_by out passed) (sym is_area) in
     let found : length out ≡ length new =
     c.read_at.auto.area ∙ ap length c.deref_mut-in-loop-copy.ensures.value ∙ i.memory.area
     ∙ sym (c.compare-first.auto.area ∙ i.sized ∙ c.requires.area) in
     record {
       finds = λ image e.
-          finds_step form from.geometry.page kinds copy out (front_of used area) (front_of now new) good c.compare-first.result.1 passed image (copy_of used) (copy_of now)
+          finds_step form from.geometry.page kinds copy out (front_kept used area) (front_kept now new) good c.compare-first.result.1 passed image (copy_of used) (copy_of now)
           (first_number copy out passed area new used now step) is_area is_good inside (i.finds image e)
           (reading_from form kinds (kinds_of g.B.Bucket.holding c.loop-copy.buckets.items) copy image out passed from mid (keeps_of_quiet _ _ i.quiet) i.kinds (r.done image ((keeps_of_quiet _ _ i.quiet).content ∙ e)));
       inside = inside_step copy passed used now (first_number copy out passed area new used now step) i.inside;
@@ -77,7 +77,7 @@ returns-clause-done g c =
     let all : c.loop-copy.copy ≡ length c.args.buckets.now.items = omega (arith, c.len-copy-end.ensures, c.args.buckets.now.ok) in
     let used : Option FirstCopy = c.loop-copy.used in
     let area : List ℕ = c.loop-copy.area in
-    λ image e. subst (λ (n : ℕ). FindsBelow form from.geometry.page kinds n (front_of used area) c.loop-copy.good.items image (copy_of used)) all (i.finds image e)
+    λ image e. subst (λ (n : ℕ). FindsBelow form from.geometry.page kinds n (front_kept used area) c.loop-copy.good.items image (copy_of used)) all (i.finds image e)
 
 pub returns-clause-fits : goal.returns-clause-fits
 returns-clause-fits g c =
