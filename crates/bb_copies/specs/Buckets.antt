@@ -40,8 +40,8 @@ pub record HaveRoom (len : ℕ) (kinds : List BucketKind) : Type 0 where
   pub room : EachCopy kinds (λ copy kind. len ≤ kind.most)
   pub apart : AreApart kinds
 
--- What is found in a copy, and passes, may be written to each copy: its record is at most as long as
--- counts when it is checked, and as there is room for. The copies stand apart.
+-- What is found in a copy, and passes, may be written to each copy: its record is at most as long
+-- as counts when it is checked, and as there is room for. The copies stand apart.
 pub record TakeEachOther (form : Form) (kinds : List BucketKind) : Type 0 where
   pub each :
       EachCopy kinds

@@ -170,8 +170,8 @@ pub record LoadRuns (form : Form) (kinds : List BucketKind) (from to : Device) :
   pub starts : LeavesStarts from to
   pub whole : IsDevice to
 
--- the stored area after a load, which stands in front of a memory: it is the empty one where no copy
--- passed, and after a refusal none is given
+-- the stored area after a load, which stands in front of a memory: it is the empty one where no
+-- copy passed, and after a refusal none is given
 abbrev pub stored_in : List ℕ → Result Loaded CopyFault → List ℕ
 stored_in memory (Ok (Copy used live len old)) = take len memory
 stored_in memory (Ok NoCopy) = []

@@ -30,8 +30,8 @@ IsChecked form page kind image out passed =
     ForSome (candidate_in kind page image)
     (λ bytes. option_map (λ found. take found.len out) passed ≡ form.passes bytes)
 
--- what reading a copy gave: the area that it passes as, in front of `out`, and whether a page of its
--- record is Worn
+-- what reading a copy gave: the area that it passes as, in front of `out`, and whether a page of
+-- its record is Worn
 pub record IsReading (form : Form) (page : ℕ) (kind : BucketKind) (image : Image) (out : List ℕ)
     (reading : Option PassingCopy) : Type 0 where
   pub area : option_map (λ found. take found.len out) reading ≡ passing_of form page kind image

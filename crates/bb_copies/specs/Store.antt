@@ -27,8 +27,8 @@ pub record HoldsRecords (form : Form) (kinds : List BucketKind) (most rec : ℕ)
   pub saved : form.length_of most ≤ rec
   pub found : FindsAtMost form rec kinds
 
--- what always holds of copies that are mounted, in which areas of `most` bytes are saved: `marks` of
--- them may be marked, `rec` bytes are at hand for a record, and `memory` to read copies into;
+-- what always holds of copies that are mounted, in which areas of `most` bytes are saved: `marks`
+-- of them may be marked, `rec` bytes are at hand for a record, and `memory` to read copies into;
 -- `placed` says that where they are sure, their buckets know where a record goes
 pub record IsMounted (form : Form) (kinds : List BucketKind) (most : ℕ) (used : Option ℕ)
     (marks rec : ℕ) (memory : Room) (placed : Type 0) : Type 0 where

@@ -1,5 +1,5 @@
-ghost use Rattle.std.specs.Prelude.{◌≡◌, ◌<◌, ◌≤◌, ◌&&◌, IfOk, IfSome, IsTrue, None, OnOk, false, is_ok};
-ghost use Rattle.std.specs.Prelude.{length};
+ghost use Rattle.std.specs.Prelude.{◌≡◌, ◌<◌, ◌≤◌, ◌&&◌, IfOk, IfSome, IsTrue, None, OnOk};
+ghost use Rattle.std.specs.Prelude.{false, is_ok, length};
 ghost use Rattle.std.specs.Result.{result_err, result_map_both};
 ghost use Rattle.bb_base.specs.Form.{most_copies};
 ghost use Rattle.bb_flash.specs.Device.{IsDevice};
@@ -139,11 +139,11 @@ impl<B: Bucket + Drop, M: Format + Drop> Copies<B, M> {
         Ok(loaded)
     }
 
-    /// Writes an area of `most` bytes, which fits the format, to every copy, to the used one last. A copy that
-    /// can't be written is voided. Where no other copy took the area the used one isn't touched,
-    /// and the answer is a WriteFault with its number. Unsure, with no call and nothing changed,
-    /// where no load answered Ok yet, or the last load, save or look was refused. A save in which
-    /// no call fails reads nothing.
+    /// Writes an area of `most` bytes, which fits the format, to every copy, to the used one last.
+    /// A copy that can't be written is voided. Where no other copy took the area the used one
+    /// isn't touched, and the answer is a WriteFault with its number. Unsure, with no call and
+    /// nothing changed, where no load answered Ok yet, or the last load, save or look was refused.
+    /// A save in which no call fails reads nothing.
     pub fn save<F: Flash>(&mut self, flash: &mut F, area: &[u8]) -> Result<Saved, CopyFault>
         requires serves { AllServe (kinds_of B.holding self.old.buckets)
             (F.device flash.old).geometry }

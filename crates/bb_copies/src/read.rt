@@ -19,8 +19,8 @@ pub(crate) struct PassingCopy {
     pub len: usize,
 }
 
-/// Reads a copy, and leaves in front of `area` the area that it passes as, if it does. Its record is
-/// read and checked in pieces as long as `piece`.
+/// Reads a copy, and leaves in front of `area` the area that it passes as, if it does. Its record
+/// is read and checked in pieces as long as `piece`.
 pub(crate) fn read_copy<B: Bucket, M: Format, F: Flash>(
     bucket: &mut B,
     format: &M,

@@ -93,10 +93,11 @@ fn spend(
     table: &mut Table,
 ) -> Result<(), NoMemory>
     requires { length table.old ≡ chooser.now.area_len }
-    ensures { OnOk result ((keyed : Keyed) → IsOwn keyed.layout table.old → table.new ≡ made_by (record {
-      keyed = keyed;
-      work = works.Boot chooser.now cause plans.now;
-    }) table.old) }
+    ensures { OnOk result ((keyed : Keyed) → IsOwn keyed.layout table.old
+        → table.new ≡ made_by (record {
+          keyed = keyed;
+          work = works.Boot chooser.now cause plans.now;
+        }) table.old) }
 {
     let Some(target) = chooser.choose_after(table, cause) else {
         return Ok(());

@@ -1,6 +1,6 @@
 -- Areas that are converted, by computation: two variables, of bytes 1 to 2 and 4 to 7, with
 -- nothing at 0 and 3.
-use Rattle.std.proofs.Common.{◌≡◌, ℕ, List, [], ◌∷◌, codes, refl}
+use Rattle.std.proofs.Common.{◌≡◌, List, [], ◌∷◌, codes, refl}
 use Rattle.bb_vars.specs.declared.kind.Kind.TheVariants.{Chars, Uint32}
 use Rattle.bb_layout.specs.Convert.{convert_of}
 use Rattle.bb_layout.specs.declared.var.Var.{Var}

@@ -1,5 +1,5 @@
 -- Areas that are converted: one variable more, the area of the layout's own length, and none.
-use Rattle.std.proofs.Common.{◌≡◌, ℕ, zero, suc, ◌+◌, ◌-◌, ◌<◌, ◌≤◌, Bool, true, false, List, [], ◌∷◌, ◌++◌, All, AllByRecursion, Some, append-nil, ap, arith, cond, inl, inr, length, length-append, nat_le, refl, replicate, slice_get, subst, sym, take, take_all, ◌∙◌}
+use Rattle.std.proofs.Common.{◌≡◌, ℕ, ◌+◌, ◌-◌, ◌<◌, ◌≤◌, false, List, [], ◌∷◌, ◌++◌, AllByRecursion, Some, append-nil, ap, arith, cond, inl, inr, length, length-append, nat_le, refl, replicate, slice_get, subst, sym, take, take_all, ◌∙◌}
 use Rattle.std.proofs.lemmas.Bool.{cases_lt, le-leb}
 use Rattle.std.proofs.lemmas.Bool.Decides.{leb_tells}
 use Rattle.std.proofs.lemmas.List.{length-replicate, length-take-le}

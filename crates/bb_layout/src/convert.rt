@@ -6,8 +6,8 @@ use crate::{Var, VarList};
 
 #[tactic(auto, using(crate::proofs::Converting::convert_more, crate::proofs::Filling::room_at))]
 /// Fills an area, in which each default has room at its place, with what a stored area of any
-/// length stands for: its bytes, zero bytes behind them, and over both the defaults of the variables
-/// that don't end within it.
+/// length stands for: its bytes, zero bytes behind them, and over both the defaults of the
+/// variables that don't end within it.
 pub(crate) fn convert_area(vars: &VarList, stored: &[u8], out: &mut [u8])
     requires { All (λ v. v.at + length v.default ≤ length out.old) vars.now }
     ensures { out.new ≡ convert_of (length out.old) vars.now stored.now }

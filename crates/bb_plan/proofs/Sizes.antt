@@ -1,5 +1,6 @@
--- The area of a plan's layout has one length: in the table of an empty device, in what its copies pass, and in what
--- a boot is bound to; and no two variables to which a boot is bound share a byte of it.
+-- The area of a plan's layout has one length: in the table of an empty device, in what its copies
+-- pass, and in what a boot is bound to; and no two variables to which a boot is bound share a byte
+-- of it.
 use Rattle.std.proofs.Common.{◌≡◌, ◌&&◌, ℕ, ◌+◌, ◌≤◌, Bool, true, false, not, List, [], ◌∷◌, length, Option, Some, None, Result, Ok, Err, IfOk, All, cond, nat_lt, ok_or, refl, subst, arith}
 use Rattle.std.specs.Prelude.{⊤, map}
 use Rattle.std.proofs.lemmas.Bool.Decides.{nat_tests}

@@ -32,8 +32,8 @@ parts_agree kind header area code =
     header_agrees kind.magic header && has_field 4 8 (crc_of area) header
     && bytes_eq (hmac_text kind.key (header ++ area)) code
 
--- the code of a record whose area has this length: it begins in the memory for the longest area, and
--- goes on in that for the code
+-- the code of a record whose area has this length: it begins in the memory for the longest area,
+-- and goes on in that for the code
 abbrev pub code_behind : RawKind → RawFeed → List ℕ → ℕ → List ℕ
 code_behind kind feed area len =
     take (code_len kind.key) (drop len (area ++ take (code_len kind.key) feed.code))

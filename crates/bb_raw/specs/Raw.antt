@@ -17,8 +17,8 @@ use Rattle.bb_base.specs.Crc.{crc_of}
 use Rattle.bb_base.specs.Form.{Form, area_limit}
 use Rattle.bb_hmac.specs.Hmac.{hmac_of}
 
--- which raw record: its magic, and the block of its key, if it has one; its area may have any length
--- that its header can say
+-- which raw record: its magic, and the block of its key, if it has one; its area may have any
+-- length that its header can say
 pub record RawKind : Type 0 where
   pub magic : ℕ
   pub key : Option (List ℕ)

@@ -74,7 +74,8 @@ ended_status session = option_map_or status_of session.refusal Done
 abbrev pub shown : Laid → Option (List ℕ) → Option (List ℕ)
 shown layout found = option_map (convert layout) found
 
--- the table that is shown: where no copy passed it is that of the empty area, which are the defaults
+-- the table that is shown: where no copy passed it is that of the empty area, which are the
+-- defaults
 abbrev pub table_of : Laid → Option (List ℕ) → List ℕ
 table_of layout shown = unwrap_or shown (convert layout [])
 

@@ -3,7 +3,7 @@ use Rattle.std.proofs.Common.{◌≡◌, ℕ, Bool, true, false, List, Option, S
 use Rattle.std.proofs.lemmas.Bool.{false≢true}
 use Rattle.std.specs.Option.{ForSome, option_map}
 use Rattle.std.specs.Prelude.{is_some}
-use Rattle.bb_copies.specs.Kind.{BucketKind}
+use Rattle.bb_bucket.specs.Kind.{BucketKind}
 use Rattle.bb_copies.specs.Loading.{KeepsOutside}
 use Rattle.bb_copies.proofs.Runs.{same_images}
 use Rattle.bb_flash.proofs.Counting.{images_untouched}

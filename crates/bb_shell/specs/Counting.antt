@@ -33,8 +33,9 @@ abbrev pub ReadsOwn : Binding → (List ℕ → List ℕ) → Type 0
 ReadsOwn b shows = (table : List ℕ) → length table ≡ b.area_len → shows table ≡ table
 
 -- A boot by these files did this with a content: no load answered Ok; or one did, and the rounds
--- after it came of some answers, from the table on that the area which it gave shows. Of a boot that was cut they are those that it had had by then,
--- and a save that it had begun is one that was refused.
+-- after it came of some answers, from the table on that the area which it gave shows. Of a boot
+-- that was cut they are those that it had had by then, and a save that it had begun is one that
+-- was refused.
 pub record IsBootAfter (b : Binding) (cause : Cause) (plans : List (Option Plan))
     (shows : List ℕ → List ℕ) (before : Content) (place : ℕ) (saves : List (List ℕ)) (ok : ℕ) (started : Option ℕ)
     : Type 0 where

@@ -122,8 +122,8 @@ AddsStarts plans from to ends.NoTarget = starts to ≡ starts from
 AddsStarts plans from to (ends.StartFailed target tries) = starts to ≡ starts from
 AddsStarts plans from to (ends.Fault fault) = starts to ≡ starts from
 
--- every copy passes an area that shows the table that was last loaded or saved, if that is known, or
--- nothing
+-- every copy passes an area that shows the table that was last loaded or saved, if that is known,
+-- or nothing
 abbrev pub HoldsKept : Laid → Option (List ℕ) → List (Option (List ℕ)) → Type 0
 HoldsKept layout kept passed = IfSome kept (λ table. EachShowsOrNothing layout table passed)
 

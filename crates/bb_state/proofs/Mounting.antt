@@ -70,8 +70,8 @@ kind_there layout copy kind h =
 abbrev front_len : ℕ
 front_len = 8
 
--- A bucket stands in its region on the device, and records of so many bytes may be written to it: all
--- that have room, up to the longest.
+-- A bucket stands in its region on the device, and records of so many bytes may be written to it:
+-- all that have room, up to the longest.
 record IsFit (need longest : ℕ) (geometry : Geometry) (region : Region) (kind : BucketKind) : Type 0 where
   region_is : kind.region ≡ region
   room : need ≤ kind.most

@@ -116,8 +116,8 @@ impl Backing {
         self.kept.as_slice()
     }
 
-    /// Loads the copies. The stored area, or the empty one where no copy passes, is then at hand, and
-    /// the table that it is to the layout. After a refusal the table is as before.
+    /// Loads the copies. The stored area, or the empty one where no copy passes, is then at hand,
+    /// and the table that it is to the layout. After a refusal the table is as before.
     pub(crate) fn load<F: Flash>(&mut self, flash: &mut F) -> Result<Loaded, CopyFault>
         requires geometry { (F.device flash.old).geometry ≡ self.old.keyed.layout.geometry }
         requires agreed { AllAgree any_holding (F.device flash.old) self.old.buckets }
@@ -165,8 +165,8 @@ impl Backing {
     }
 
     /// Whether a copy passes. Then the stored area of the first is at hand, and what it is to the
-    /// layout in `area`. Nothing changes on the device. Where a copy couldn't be read the copies are
-    /// unsure.
+    /// layout in `area`. Nothing changes on the device. Where a copy couldn't be read the copies
+    /// are unsure.
     pub(crate) fn look<F: Flash>(
         &mut self,
         flash: &mut F,

@@ -77,8 +77,8 @@ impl State {
 
     /// Reads all copies. The table is then the area of the first that passes, as the layout reads
     /// it: the stored area may be shorter or longer, as one that was saved under another layout of
-    /// the family. All copies then pass the stored area or nothing: those that don't are written, as
-    /// it is stored. Where no copy passes the table has the defaults. After a refusal it is as
+    /// the family. All copies then pass the stored area or nothing: those that don't are written,
+    /// as it is stored. Where no copy passes the table has the defaults. After a refusal it is as
     /// before.
     pub fn load<F: Flash>(&mut self, flash: &mut F) -> Result<Loaded, CopyFault>
         requires { IsOn self.old (F.device flash.old) }
@@ -100,9 +100,10 @@ impl State {
     }
 
     /// Saves the table to all copies, where it differs from the one last loaded or saved, as the
-    /// layout reads it; after a load that found no copy that is the defaults. Otherwise it makes no call of the device.
-    /// Unsure, with no call and nothing changed, where no load answered Ok yet or the last load,
-    /// save or look was refused. A save in which no call fails reads nothing.
+    /// layout reads it; after a load that found no copy that is the defaults. Otherwise it makes
+    /// no call of the device. Unsure, with no call and nothing changed, where no load answered Ok
+    /// yet or the last load, save or look was refused. A save in which no call fails reads
+    /// nothing.
     pub fn save<F: Flash>(&mut self, flash: &mut F) -> Result<(), CopyFault>
         requires { IsOn self.old (F.device flash.old) }
         ensures unsure { IsErrOf result Unsure ↔ (is_sure self.old ≡ false) }

@@ -48,9 +48,9 @@ RunsRounds ran =
     (session_for ran answers).rounds)
 
 -- A boot did what the law of starts takes for a boot: where its load answered Ok, the area at the
--- turn's place of the list shows the table that it gave, which has the area's length, and the turn is that of
--- the rounds that come of some answers. No other work is a boot: that law says nothing of a script,
--- which may set attempts as it likes.
+-- turn's place of the list shows the table that it gave, which has the area's length, and the turn
+-- is that of the rounds that come of some answers. No other work is a boot: that law says nothing
+-- of a script, which may set attempts as it likes.
 abbrev pub IsTurnOf : Laid → Work → Content → Turn → Type 0
 IsTurnOf layout (Boot targets cause plans) before turn =
     IsBootTurn targets cause plans (convert layout) before turn

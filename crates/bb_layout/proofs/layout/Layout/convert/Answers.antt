@@ -1,4 +1,4 @@
-use Rattle.std.proofs.Common.{◌∙◌, ap, sym}
+use Rattle.std.proofs.Common.{◌∙◌, ap}
 use Rattle.bb_layout.specs.Convert.{convert_of}
 use Rattle.bb_layout.proofs.Converting.{convert_same, empty_converted}
 use Rattle.bb_layout.proofs.layout.Layout.convert.Goals as goal
