@@ -23,7 +23,7 @@ use Rattle.bb_circular.specs.Circular.{IsEntryIn, IsKeptIn, readable}
 use Rattle.bb_circular.specs.PutLaws.{same_page}
 use Rattle.bb_circular.specs.EntryLaws.{one_at_least}
 use Rattle.bb_circular.specs.Entries.{closed_entry, closes, last_words, closing_len_of}
-use Rattle.bb_circular.specs.Looking.{IsKnown, IsLastPage, kept_at}
+use Rattle.bb_circular.specs.Looking.{IsEndOf, IsKnown, IsLastPage, kept_at}
 use Rattle.bb_circular.specs.Pages.{Page, is_erased, page_at, pages_of, written_pages}
 use Rattle.bb_circular.specs.PagesLaws.{IsLookedAt, IsPaged, page_of, pages_counted, written_from}
 
@@ -148,6 +148,33 @@ closed_read page there out pages health same exact =
           ∙ sym (closed_lost page pages there (ap is_lost (sym same) ∙ lost))
       | inr kept ↦ ap (closed_entry page pages) (same_page (record { bytes = out; health = health }) there (exact (lost_or_kept health kept)) same)
     ]
+
+-- what was read of a page says which entry it ends
+pub end_read :
+    (page : ℕ) (old : Image) (size pages : ℕ) (out : List ℕ) (health : Health) (entry : Option Entry) →
+    IsPart page old size ((pages - 1) * page) out health → length out ≡ page →
+    entry ≡ closed_entry page pages (record { bytes = out; health = health }) →
+    IsEndOf page pages old out entry
+end_read page old size pages out health entry part long is =
+    let there : Page = page_at page old (pages - 1) in
+    let same = page_read_health page old size (pages - 1) out health part long in
+    record {
+      entry_is =
+          is
+          ∙ closed_read page there out pages health same
+          (λ kept. part.exact kept ∙ ap (λ n. take n (drop ((pages - 1) * page) old.bytes)) long);
+      bytes =
+          elim (cases_Bool (is_lost health)) [
+            | inl lost ↦
+                subst (λ (e : Option Entry). IfSome e (λ _. out ≡ there.bytes))
+                (sym (is ∙ closed_lost page pages (record { bytes = out; health = health }) lost)) tt
+            | inr kept ↦ if_some entry (page_read_bytes page old size (pages - 1) out health part long kept)
+          ];
+    }
+  where
+    if_some : {P : Type 0} (e : Option Entry) → P → IfSome e (λ _. P)
+    if_some None p = tt
+    if_some (Some x) p = p
 
 pub closed_same :
     (page : ℕ) (old : Image) (out : List ℕ) (last : LastPage) →

@@ -99,6 +99,13 @@ buckets_for len layout =
     (bucket_at layout.geometry layout.storage layout.region len)
     (range_with_len 0 layout.copies)
 
+-- the regions of all copies, in their order
+abbrev pub laid_regions : Laid → List Region
+laid_regions layout =
+    map
+    (region_of layout.geometry layout.storage layout.region)
+    (range_with_len 0 layout.copies)
+
 -- those for the records of the layout, and their kinds
 abbrev pub laid_buckets : Laid → List AnyBucket
 laid_buckets layout = buckets_for (laid_len layout) layout

@@ -1,0 +1,133 @@
+ghost use Rattle.std.specs.Prelude.{◌≡◌, ◌≤◌, ◌<◌, ◌-◌, ◌/◌, IfOk, IfSome, IsTrue, is_err};
+ghost use Rattle.std.specs.Prelude.{length, take};
+ghost use Rattle.std.specs.Option.{ForSome};
+ghost use Rattle.bb_base.specs.Faults.{counted};
+ghost use Rattle.bb_flash.specs.Device.{content};
+ghost use Rattle.bb_bucket.specs.Blocks.{is_block_of};
+ghost use Rattle.bb_bucket.specs.Calls.{IsQuiet};
+ghost use Rattle.bb_bucket.specs.Front.{is_lost};
+ghost use Rattle.bb_bucket.specs.Kind.{part_of};
+ghost use Rattle.bb_circular.specs.Circular.{IsEntryIn, readable};
+ghost use Rattle.bb_circular.specs.Entries.{closing_len};
+ghost use Rattle.bb_history.specs.Reading.{HasRoom, IsEnded, IsEndedBy, IsLastRead};
+
+use crate::room::Room;
+use bb_base::{Failed, Format};
+use bb_bucket::{Block, read_part};
+use bb_circular::{CLOSING_LEN, Entry, entry_before};
+use bb_flash::{Flash, Health};
+
+/// An entry of a log that was read.
+#[derive(Clone, Copy, Debug, PartialEq, Eq)]
+pub(crate) struct Ended {
+    /// How many pages of its block stand before it.
+    pub before: u32,
+    /// Its record passes as an area.
+    pub passes: bool,
+}
+
+#[tactic(auto, using(bb_bucket::proofs::Quiet::quiet_joined))]
+/// The entry that ends with a block's first `pages` pages, at least one, if one does. The area that
+/// its record passes is then in `memory`. Each of its pages is read once, from the first on, but
+/// for the last one, which is read before them; a page that is Lost ends that.
+pub(crate) fn look_at<M: Format, F: Flash>(
+    flash: &mut F,
+    block: Block,
+    format: &M,
+    pages: u32,
+    memory: &mut Room,
+) -> Result<Option<Ended>, Failed>
+    requires held { IsTrue (is_block_of block (F.device flash.old).geometry) }
+    requires some { 1 ≤ pages }
+    requires inside { pages ≤ block.region.size / block.page }
+    requires memory { HasRoom block.page (M.form format.now).area_len memory.old }
+    ensures done { IfOk result (λ ended. ForSome (content (F.device flash.old)) (λ image.
+        IsEnded (M.form format.now) block.page (part_of block.page block.region image) pages
+        memory.new.area.items ended)) }
+    ensures before { IfOk result (λ ended. IfSome ended (λ e. e.before < pages)) }
+    ensures memory { HasRoom block.page (M.form format.now).area_len memory.new }
+    ensures quiet { IsQuiet (F.device flash.old) (F.device flash.new) }
+    ensures faults { (F.device flash.new).faults
+        ≡ counted (is_err result) (F.device flash.old).faults }
+    ensures read_faults { (F.device flash.new).read_faults
+        ≡ counted (is_err result) (F.device flash.old).read_faults }
+{
+    let Some(entry) = entry_before(flash, block, pages, &mut memory.page)? else {
+        return Ok(None);
+    };
+    check_entry(
+        flash,
+        block,
+        entry,
+        format,
+        &memory.page,
+        &mut memory.piece,
+        &mut memory.area,
+    )
+}
+
+// Reads and checks an entry whose last page was read: none where another page of it is Lost.
+#[tactic(auto, using(bb_bucket::proofs::Quiet::quiet_joined))]
+fn check_entry<M: Format, F: Flash>(
+    flash: &mut F,
+    block: Block,
+    entry: Entry,
+    format: &M,
+    page: &[u8],
+    piece: &mut [u8],
+    area: &mut [u8],
+) -> Result<Option<Ended>, Failed>
+    requires held { IsTrue (is_block_of block (F.device flash.old).geometry) }
+    requires inside { IsEntryIn block entry }
+    requires page { length page.now ≡ block.page }
+    requires last { ForSome (content (F.device flash.old)) (λ image.
+        IsLastRead block.page (part_of block.page block.region image) entry page.now) }
+    requires piece { 0 < length piece.old }
+    requires area { length area.old ≡ (M.form format.now).area_len }
+    ensures done { IfOk result (λ ended. ForSome (content (F.device flash.old)) (λ image.
+        let old = part_of block.page block.region image in
+        IsEndedBy (M.form format.now) block.page old (readable block.page old entry) area.new
+        ended)) }
+    ensures before { IfOk result (λ ended. IfSome ended (λ e. e.before ≡ entry.at / block.page)) }
+    ensures quiet { IsQuiet (F.device flash.old) (F.device flash.new) }
+    ensures faults { (F.device flash.new).faults
+        ≡ counted (is_err result) (F.device flash.old).faults }
+    ensures read_faults { (F.device flash.new).read_faults
+        ≡ counted (is_err result) (F.device flash.old).read_faults }
+    ensures piece { length piece.new ≡ length piece.old }
+    ensures area { length area.new ≡ length area.old }
+{
+    let _ = flash.geometry();
+    let last = entry.len - block.page;
+    let mut feed = format.start();
+    let mut from = 0;
+    while from < last {
+        let count = (piece.len() as u32).min(last - from);
+        let next = &mut piece[..count as usize];
+        let health = read_part(flash, block.region, entry.at + from, next)?;
+        if is_lost(health) {
+            return Ok(None);
+        }
+        format.feed(&mut feed, next, area);
+        from += count;
+    }
+    format.feed(&mut feed, record_end(block, page), area);
+    let passes = format.end(feed, area).is_some();
+    let before = entry.at / block.page;
+    Ok(Some(Ended { before, passes }))
+}
+
+// The bytes of the record in the last page of an entry.
+fn record_end(block: Block, page: &[u8]) -> &[u8]
+    requires least { 16 ≤ block.page }
+    requires page { length page.now ≡ block.page }
+    ensures { result.now ≡ take (block.page - closing_len) page.now }
+{
+    &page[..(block.page - CLOSING_LEN) as usize]
+}
+
+fn is_lost(health: Health) -> bool
+    ensures { result ≡ is_lost health }
+{
+    matches!(health, Health::Lost)
+}

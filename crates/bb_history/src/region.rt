@@ -1,0 +1,86 @@
+ghost use Rattle.std.specs.Prelude.{◌≡◌, IsTrue, option_to_list};
+ghost use Rattle.bb_bucket.specs.Calls.{Agrees};
+ghost use Rattle.bb_copies.specs.Passing.{passing_of};
+ghost use Rattle.bb_state.specs.Kinds.{any_form};
+ghost use Rattle.bb_history.specs.History.{IsRegionOf, ReadsHistory, region_areas};
+ghost use Rattle.bb_history.specs.Lines.{copy_text};
+ghost use Rattle.bb_history.specs.Reading.{HasRoom};
+
+use crate::fault::HistoryFault;
+use crate::lines::{add_count, add_entry};
+use crate::log::read_log;
+use crate::room::Room;
+use bb_base::{Bytes, Format};
+use bb_bucket::{Block, Bucket, OneBlock, Stride};
+use bb_copies::read_copy;
+use bb_flash::{Flash, Region};
+use bb_layout::{Layout, Storage};
+use bb_state::AnyFormat;
+use std::alloc::Global;
+
+/// Adds the history of a region, which is that of the copy of this number.
+pub(crate) fn read_region<F: Flash>(
+    alloc: Global,
+    flash: &mut F,
+    region: Region,
+    layout: &Layout,
+    format: &AnyFormat,
+    copy: usize,
+    memory: &mut Room,
+    out: &mut Bytes,
+) -> Result<(), HistoryFault>
+    requires region { IsRegionOf (F.device flash.old).geometry layout.now.storage region }
+    requires sized { (any_form format.now).area_len ≡ layout.now.area_len }
+    requires memory { HasRoom (F.device flash.old).geometry.page layout.now.area_len memory.old }
+    ensures reads { ReadsHistory (λ image. copy_text layout.now.vars copy
+        (region_areas (any_form format.now) layout.now.storage (F.device flash.old).geometry.page
+        region image)) (F.device flash.old) (F.device flash.new) out.old out.new result }
+    ensures memory { HasRoom (F.device flash.old).geometry.page layout.now.area_len memory.new }
+{
+    let page = flash.geometry().page;
+    let most = format.length(format.area_len());
+    match layout.storage {
+        Storage::Circular => {
+            let block = Block { region, page };
+            read_log(alloc, flash, block, layout, format, copy, memory, out)
+        }
+        Storage::OneBlock => {
+            let mut bucket = OneBlock::of(alloc, region, page, most)?;
+            read_single(alloc, flash, &mut bucket, layout, format, copy, memory, out)
+        }
+        Storage::Stride(_) => {
+            let mut bucket = Stride::of(alloc, region, most)?;
+            read_single(alloc, flash, &mut bucket, layout, format, copy, memory, out)
+        }
+    }
+}
+
+// Adds the history of a region that holds one record.
+fn read_single<B: Bucket, M: Format, F: Flash>(
+    alloc: Global,
+    flash: &mut F,
+    bucket: &mut B,
+    layout: &Layout,
+    format: &M,
+    copy: usize,
+    memory: &mut Room,
+    out: &mut Bytes,
+) -> Result<(), HistoryFault>
+    requires serves { IsTrue ((B.holding bucket.old).kind.serves (F.device flash.old).geometry) }
+    requires agreed { Agrees (B.holding bucket.old) (F.device flash.old) }
+    requires sized { (M.form format.now).area_len ≡ layout.now.area_len }
+    requires memory { HasRoom (F.device flash.old).geometry.page layout.now.area_len memory.old }
+    ensures reads { ReadsHistory (λ image. copy_text layout.now.vars copy
+        (option_to_list (passing_of (M.form format.now) (F.device flash.old).geometry.page
+        (B.holding bucket.old).kind image)))
+        (F.device flash.old) (F.device flash.new) out.old out.new result }
+    ensures memory { HasRoom (F.device flash.old).geometry.page layout.now.area_len memory.new }
+{
+    let _ = flash.geometry();
+    let passing = read_copy(bucket, format, flash, &mut memory.piece, &mut memory.area)?;
+    if passing.is_none() {
+        return Ok(add_count(alloc, copy, 0, out)?);
+    }
+    add_count(alloc, copy, 1, out)?;
+    Ok(add_entry(alloc, layout, 1, &memory.area, out)?)
+}

@@ -1,0 +1,34 @@
+ghost use Rattle.std.specs.Prelude.{◌≤◌, IfOk};
+ghost use Rattle.bb_history.specs.Reading.{HasRoom};
+
+use bb_base::NoMemory;
+use std::alloc::Global;
+
+// In bytes: the most that is read at once, where a page isn't larger.
+const PIECE_LEN: u32 = 256;
+
+/// Memory that records are read into. It is taken once.
+#[derive(Debug, Drop)]
+pub(crate) struct Room {
+    /// The last page of an entry.
+    pub page: Vec<u8>,
+    /// A piece of a record.
+    pub piece: Vec<u8>,
+    /// The area that a record passes.
+    pub area: Vec<u8>,
+}
+
+impl Room {
+    /// For pages of this size, at least one byte, and areas of this length.
+    pub(crate) fn of(alloc: Global, page: u32, area_len: usize) -> Result<Room, NoMemory>
+        requires { 1 ≤ page }
+        ensures { IfOk result (HasRoom page area_len) }
+    {
+        let piece_len = PIECE_LEN.max(page);
+        Ok(Room {
+            page: vec![in alloc; 0; page as usize]?,
+            piece: vec![in alloc; 0; piece_len as usize]?,
+            area: vec![in alloc; 0; area_len]?,
+        })
+    }
+}
