@@ -85,10 +85,13 @@ Adds whole old new (Ok done) = new ≡ old ++ whole
 Adds whole old new (Err fault) = AddsFront whole old new
 
 -- a read of the device failed
+abbrev pub is_read_fault : HistoryFault → Bool
+is_read_fault ReadFault = true
+is_read_fault NoMemory = false
+
 abbrev pub fails_to_read : {T : Type 0} → Result T HistoryFault → Bool
 fails_to_read (Ok done) = false
-fails_to_read (Err ReadFault) = true
-fails_to_read (Err NoMemory) = false
+fails_to_read (Err fault) = is_read_fault fault
 
 -- the device was only read, and the text of what it holds was added, or a front of that
 pub record ReadsHistory

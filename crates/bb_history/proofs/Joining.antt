@@ -1,0 +1,53 @@
+-- Parts of a text that are added one after another.
+use Rattle.std.proofs.Common.{◌≡◌, List, ℕ, [], ◌++◌, append-nil, append_assoc, Result, Ok, Err, IsErrAnd, refl, sym, ap, subst, ◌∙◌}
+use Rattle.bb_history.specs.History.{Adds, AddsFront, fails_to_read, is_read_fault}
+use Rattle.bb_history.specs.declared.fault.HistoryFault.{HistoryFault}
+
+-- nothing was added yet
+pub adds_none : (whole old : List ℕ) → AddsFront whole old old
+adds_none whole old =
+    record { front = []; rest = whole; whole_is = refl; added = sym (append-nil old) }
+
+-- a whole part, and then what was added of the rest
+pub adds_behind : {T : Type 0} (one two whole old middle new : List ℕ) (given : Result T HistoryFault) →
+    whole ≡ one ++ two → middle ≡ old ++ one → Adds two middle new given → Adds whole old new given
+adds_behind one two whole old middle new (Ok done) all first rest =
+    rest ∙ ap (λ l. l ++ two) first ∙ append_assoc old one two ∙ ap (λ l. old ++ l) (sym all)
+adds_behind one two whole old middle new (Err fault) all first rest = record {
+  front = one ++ rest.front;
+  rest = rest.rest;
+  whole_is =
+      all ∙ ap (λ l. one ++ l) rest.whole_is ∙ sym (append_assoc one rest.front rest.rest);
+  added =
+      rest.added ∙ ap (λ l. l ++ rest.front) first ∙ append_assoc old one rest.front;
+}
+
+-- a front of a first part is one of the whole
+pub front_of_first : (one two whole old new : List ℕ) → whole ≡ one ++ two →
+    AddsFront one old new → AddsFront whole old new
+front_of_first one two whole old new all first = record {
+  front = first.front;
+  rest = first.rest ++ two;
+  whole_is =
+      all ∙ ap (λ l. l ++ two) first.whole_is ∙ append_assoc first.front first.rest two;
+  added = first.added;
+}
+
+-- a part that was added whole is a front
+pub front_of_whole : (one two whole old new : List ℕ) → whole ≡ one ++ two → new ≡ old ++ one →
+    AddsFront whole old new
+front_of_whole one two whole old new all added =
+    record { front = one; rest = two; whole_is = all; added = added }
+
+-- what a `?` hands on
+pub refused_adds : {T : Type 0} (whole old new : List ℕ) (given : Result T HistoryFault)
+    {fault : HistoryFault} → IsErrAnd given (λ e. e ≡ fault) → AddsFront whole old new →
+    Adds whole old new given
+refused_adds whole old new (Ok done) is front = absurd is
+refused_adds whole old new (Err fault) is front = front
+
+-- and whether a read failed
+pub handed_failed : {T : Type 0} (given : Result T HistoryFault) {fault : HistoryFault} →
+    IsErrAnd given (λ e. e ≡ fault) → fails_to_read given ≡ is_read_fault fault
+handed_failed (Ok done) is = absurd is
+handed_failed (Err fault) is = ap is_read_fault is

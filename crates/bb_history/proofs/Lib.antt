@@ -1,0 +1,6 @@
+pub mod Examples
+pub mod Joining
+pub mod LastOnes
+pub mod Passing
+pub mod Texts
+pub mod Walking
