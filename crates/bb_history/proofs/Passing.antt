@@ -1,7 +1,8 @@
 -- One entry that is read: its health in pieces, and what its record passes.
-use Rattle.std.proofs.Common.{◌≡◌, ◌≢◌, ℕ, ◌+◌, ◌-◌, ◌*◌, ◌/◌, ◌≤◌, Bool, true, false, List, ◌++◌, drop, take, take-add, length, Option, Some, None, IfSome, is_some, option_map, refl, sym, ap, subst, ◌∙◌, arith, if◌then◌else◌}
+use Rattle.std.proofs.Common.{◌≡◌, ◌≢◌, ℕ, zero, suc, ◌+◌, ◌-◌, ◌*◌, ◌/◌, ◌≤◌, Bool, true, false, List, ◌++◌, drop, take, take-add, length, Option, Some, None, IfSome, is_some, option_map, refl, sym, ap, subst, ◌∙◌, arith, if◌then◌else◌}
 use Rattle.std.specs.Bool.{then_some}
 use Rattle.std.specs.Option.{option_and_then}
+use Rattle.std.proofs.Math.Nat.{add-mul}
 use Rattle.std.proofs.lemmas.List.{drop-drop, take-take}
 use Rattle.bb_base.specs.Checked.{IsPassed}
 use Rattle.bb_base.specs.Form.{Form, IsForm}
@@ -11,11 +12,15 @@ use Rattle.bb_bucket.specs.Front.{is_lost}
 use Rattle.bb_circular.specs.declared.kept.Entry.{Entry}
 use Rattle.bb_circular.specs.Circular.{readable, record_of}
 use Rattle.bb_circular.specs.Entries.{closing_len}
+use Rattle.bb_circular.specs.Looking.{IsEndOf}
+use Rattle.bb_circular.specs.Pages.{page_at}
 use Rattle.bb_copies.proofs.Pieced.{whole_passed}
+use Rattle.bb_flash.proofs.Geometries.{whole_times}
 use Rattle.bb_flash.specs.Image.{Image, health_of, worse_of}
 use Rattle.bb_flash.specs.declared.health.Health.{Health}
 use Rattle.bb_flash.specs.declared.health.Health.TheVariants.{Fine, Worn, Lost}
 use Rattle.bb_history.specs.Reading.{IsEndedBy, IsLastRead}
+use Rattle.bb_history.proofs.Walking.{closed_ends, entry_pages}
 
 -- ---- healths of two parts
 
@@ -127,3 +132,37 @@ module _ (form : Form) (page : ℕ) (block : Image) (entry : Entry) where
       (second ∙ ap (take page) (sym (drop-drop from entry.at block.bytes)))
       ∙ ap (λ l. take from rest ++ l) (take-take (page - closing_len) page (drop from rest) less)
       ∙ sym (take-add from (page - closing_len) rest) ∙ ap (λ n. take n rest) sum
+
+-- ---- its last page
+
+-- what was read of the page that closes it
+pub last_read : (page pages : ℕ) (block : Image) (out last : List ℕ) (closed : Option Entry) (entry : Entry) →
+    1 ≤ page → IsEndOf page pages block out closed → closed ≡ Some entry → last ≡ out →
+    IsLastRead page block entry last
+last_read page pages block out last closed entry some is found same =
+    let there = page_at page block (pages - 1) in
+    let closing = sym (sym found ∙ is.entry_is) in
+    let ends = closed_ends page pages there entry closing in
+    let counted = entry_pages page pages there entry some ends in
+    let at : entry.at + (entry.len - page) ≡ (pages - 1) * page =
+    place page pages entry.at entry.len (entry.len / page) counted.0
+    (whole_times entry.len page ends.whole) ends.ends in
+    record {
+      alive =
+          subst (λ n. health_of page block n page ≢ Lost) (sym at) (alive_is there.health ends.alive);
+      bytes =
+          same
+          ∙ subst (λ (e : Option Entry). IfSome e (λ _. out ≡ there.bytes)) found is.bytes
+          ∙ ap (λ n. take page (drop n block.bytes)) (sym at);
+    }
+  where
+    place : (page pages at len k : ℕ) → 1 ≤ k → k * page ≡ len → at + len ≡ pages * page →
+        at + (len - page) ≡ (pages - 1) * page
+    place page zero at len (suc k) more whole sum =
+        let one = add-mul k 1 page in omega (arith, whole, sum, one)
+    place page (suc pages) at len (suc k) more whole sum =
+        let one = add-mul k 1 page in
+        let two = add-mul pages 1 page in
+        let less : suc pages - 1 ≡ pages = omega arith in
+        (let here : at + (len - page) ≡ pages * page = omega (arith, whole, sum, one, two) in here)
+        ∙ ap (λ n. n * page) (sym less)

@@ -1,18 +1,18 @@
--- Texts of entries, and parts of a history that are added one after another.
-use Rattle.std.proofs.Common.{◌≡◌, ℕ, ◌+◌, List, [], ◌∷◌, ◌++◌, append-nil, append_assoc, filter_map, length, Bool, true, false, Option, Some, None, is_some, Result, Ok, Err, refl, sym, ap, subst, ◌∙◌, arith, if◌then◌else◌}
+-- Texts of the entries at places.
+use Rattle.std.proofs.Common.{◌≡◌, ℕ, zero, suc, ◌+◌, ◌≤◌, List, [], ◌∷◌, ◌++◌, append-nil, append_assoc, drop, filter_map, length, take, Bool, true, false, Option, Some, None, is_some, refl, sym, ap, subst, ◌∙◌, arith, if◌then◌else◌}
 use Rattle.std.specs.Bool.{then_some}
 use Rattle.std.specs.List.{cons_option}
 use Rattle.std.specs.Option.{option_and_then, option_map_or}
-use Rattle.std.proofs.lemmas.Option.{none-some}
+use Rattle.std.specs.Prelude.{slice_get}
+use Rattle.std.proofs.lemmas.List.{length-take-le, take-append-drop}
+use Rattle.std.proofs.lemmas.Option.{none-some, same_Some, slice_get_within}
 use Rattle.bb_base.specs.Form.{Form}
 use Rattle.bb_flash.specs.Image.{Image}
 use Rattle.bb_layout.specs.declared.var.Var.{Var}
-use Rattle.bb_history.specs.Entries.{area_of, entry_at}
-use Rattle.bb_history.specs.History.{Adds, AddsFront}
-use Rattle.bb_history.specs.Lines.{entries_text, entry_text}
-use Rattle.bb_history.specs.Reading.{AllPass, IsEnded, IsEndedBy, area_at, ended_text, place_text, places_text}
+use Rattle.bb_history.specs.Entries.{area_of, entry_at, log_areas}
+use Rattle.bb_history.specs.Lines.{copy_text, count_line, entries_text, entry_text}
+use Rattle.bb_history.specs.Reading.{AllPass, ArePlaces, AreWithin, IsEnded, IsEndedBy, area_at, ended_text, place_text, places_text}
 use Rattle.bb_history.specs.declared.entry.Ended.{Ended}
-use Rattle.bb_history.specs.declared.fault.HistoryFault.{HistoryFault}
 use Rattle.bb_circular.specs.declared.kept.Entry.{Entry}
 
 -- ---- the entries at places
@@ -92,3 +92,79 @@ module _ (vars : List Var) (form : Form) (page : ℕ) (block : Image) where
       (place_text vars form page block (number + 1 + length places) place))
       ∙ ap (λ n. (place_text vars form page block number first
       ++ places_text vars form page block (number + 1) places) ++ place_text vars form page block n place) count
+
+-- the first `number + 1` items are the first `number` and the next
+take_next : (places : List ℕ) (number place : ℕ) → slice_get places number ≡ Some place →
+    take (number + 1) places ≡ take number places ++ place ∷ []
+take_next [] number place there = absurd (none-some place there)
+take_next (first ∷ places) zero place there = ap (λ p. p ∷ []) (same_Some first place there)
+take_next (first ∷ places) (suc number) place there =
+    ap (λ ps. first ∷ ps) (take_next places number place there)
+
+-- ---- the first of them, and those behind
+
+module _ (vars : List Var) (form : Form) (page : ℕ) (block : Image) where
+  Texts : ℕ → List ℕ → List ℕ
+  Texts number places = places_text vars form page block number places
+
+  texts_joined : (one two : List ℕ) (number : ℕ) →
+      Texts number (one ++ two) ≡ Texts number one ++ Texts (number + length one) two
+  unfolding Texts
+  texts_joined [] two number =
+      ap (λ n. places_text vars form page block n two)
+      (let none : number ≡ number + 0 = omega arith in none)
+  texts_joined (place ∷ one) two number =
+      let count : number + 1 + length one ≡ number + length (place ∷ one) = omega arith in
+      ap (λ l. place_text vars form page block number place ++ l) (texts_joined one two (number + 1))
+      ∙ sym
+      (append_assoc (place_text vars form page block number place)
+      (places_text vars form page block (number + 1) one)
+      (places_text vars form page block (number + 1 + length one) two))
+      ∙ ap (λ n. (place_text vars form page block number place
+      ++ places_text vars form page block (number + 1) one) ++ places_text vars form page block n two) count
+
+  -- what stands behind the first `number` of them
+  abbrev pub places_behind : List ℕ → ℕ → List ℕ
+  places_behind places number =
+      places_text vars form page block (1 + length (take number places)) (drop number places)
+
+  pub places_split : (places : List ℕ) (number : ℕ) →
+      places_text vars form page block 1 places
+      ≡ places_text vars form page block 1 (take number places) ++ places_behind places number
+  unfolding Texts
+  places_split places number =
+      ap (λ ps. places_text vars form page block 1 ps) (sym (take-append-drop number places))
+      ∙ texts_joined (take number places) (drop number places) 1
+
+  -- with one more
+  pub places_next_at : (places : List ℕ) (number place : ℕ) → slice_get places number ≡ Some place →
+      places_text vars form page block 1 (take (number + 1) places)
+      ≡ places_text vars form page block 1 (take number places)
+      ++ place_text vars form page block (number + 1) place
+  places_next_at places number place there =
+      let inside = slice_get_within places number place there in
+      let long : 1 + length (take number places) ≡ number + 1 =
+      omega (arith, length-take-le number places (omega (arith, inside))) in
+      ap (λ ps. places_text vars form page block 1 ps) (take_next places number place there)
+      ∙ places_next vars form page block (take number places) 1 place
+      ∙ ap (λ n. places_text vars form page block 1 (take number places) ++ place_text vars form page block n place) long
+
+-- a place of a list that lies within a block
+pub within_at : (count : ℕ) (places : List ℕ) (number place : ℕ) → AreWithin count places →
+    slice_get places number ≡ Some place → (1 ≤ place) × (place ≤ count)
+within_at count [] number place all there = absurd (none-some place there)
+within_at count (first ∷ places) zero place (here, rest) there =
+    subst (λ p. (1 ≤ p) × (p ≤ count)) (same_Some first place there) here
+within_at count (first ∷ places) (suc number) place (here, rest) there =
+    within_at count places number place rest there
+
+-- the text of a log, by the places of its entries that pass
+pub log_text : (vars : List Var) (form : Form) (page : ℕ) (block : Image) (copy : ℕ)
+    (places : List ℕ) → ArePlaces form page block places →
+    copy_text vars copy (log_areas form page block)
+    ≡ count_line copy (length places) ++ places_text vars form page block 1 places
+log_text vars form page block copy places are =
+    ap (copy_text vars copy) are.areas
+    ∙ ap (λ n. count_line copy n ++ entries_text vars 1 (filter_map (area_at form page block) places))
+    (places_counted vars form page block places are.pass)
+    ∙ ap (λ l. count_line copy (length places) ++ l) (sym (places_are vars form page block places 1 are.pass))

@@ -3,6 +3,7 @@ use Rattle.std.proofs.Common.{◌≡◌, ℕ, zero, suc, ◌+◌, ◌-◌, ◌*�
 use Rattle.std.specs.Bool.{then_some}
 use Rattle.std.specs.List.{cons_option}
 use Rattle.std.specs.Option.{option_and_then}
+use Rattle.std.specs.Prelude.{IfSome}
 use Rattle.std.proofs.Math.Nat.{add-mul, mul-le-mul_right, mul-mod_left}
 use Rattle.std.proofs.lemmas.Bool.{and_parts, cases_lt, eqb-true, leb-true}
 use Rattle.std.proofs.lemmas.List.Elements.{filter_map-append}
@@ -17,8 +18,9 @@ use Rattle.bb_circular.specs.declared.kept.Entry.{Entry}
 use Rattle.bb_circular.specs.Circular.{readable}
 use Rattle.bb_circular.specs.Entries.{closed_entry, closes, closing_len_of, last_words}
 use Rattle.bb_circular.specs.Pages.{Page, page_at}
+use Rattle.bb_circular.specs.PagesLaws.{IsPaged}
 use Rattle.bb_history.specs.Entries.{area_of, entries_in, entry_at, pages_over}
-use Rattle.bb_history.specs.Reading.{AreFound, IsEnded, IsEndedBy, area_at, kept_places, pages_left}
+use Rattle.bb_history.specs.Reading.{AreFound, ArePlaces, AreWithin, IsEnded, IsEndedBy, area_at, kept_places, pages_left}
 use Rattle.bb_history.specs.declared.entry.Ended.{Ended}
 
 -- ---- one page less
@@ -263,3 +265,46 @@ module _ (form : Form) (page : ℕ) (block : Image) (all pages : ℕ) (places le
           (λ (before : ℕ). AreFound form page block all before (if e.passes then pages ∷ places else places))
           (sym (same_Some e.before (entry.at / page) is.before))
           (by_pass entry at e.passes is.passes)
+
+-- ---- the places that are kept
+
+-- none, before any look
+pub no_places : (form : Form) (page : ℕ) (block : Image) (all : ℕ) (places : List ℕ) → places ≡ [] →
+    AreFound form page block all all places
+no_places form page block all places none =
+    subst (AreFound form page block all all) (sym none)
+    (record { found = sym (append-nil (filter_map (area_of form block) (entries_in page block all 0))); pass = tt })
+
+pub found_as : (form : Form) (page : ℕ) (block : Image) (all one other : ℕ) (places others : List ℕ) →
+    one ≡ other → places ≡ others → AreFound form page block all one places →
+    AreFound form page block all other others
+found_as form page block all one other places others same alike found =
+    subst (AreFound form page block all other) alike
+    (subst (λ n. AreFound form page block all n places) same found)
+
+-- all of them, once no page is left
+pub all_found : (form : Form) (page size : ℕ) (block : Image) (pages : ℕ) (places : List ℕ) →
+    IsPaged page size block → pages ≡ 0 → AreFound form page block (size / page) pages places →
+    ArePlaces form page block places
+all_found form page size block pages places paged none found = record {
+  areas =
+      ap (λ n. filter_map (area_of form block) (entries_in page block (n / page) 0)) paged.bytes
+      ∙ found.found
+      ∙ ap (λ (es : List Entry). filter_map (area_of form block) es ++ filter_map (area_at form page block) places)
+      (ap (λ n. entries_in page block n 0) none ∙ entries_none page block 0);
+  pass = found.pass;
+}
+
+pub left_less : (pages : ℕ) (ended : Option Ended) → 0 < pages → IfSome ended (λ e. e.before < pages) →
+    pages_left pages ended < pages
+left_less pages None some less = omega arith
+left_less pages (Some ended) some less = less
+
+pub kept_within : (all pages : ℕ) (ended : Option Ended) (places : List ℕ) → 0 < pages → pages ≤ all →
+    AreWithin all places → AreWithin all (kept_places pages ended places)
+kept_within all pages None places some inside within = within
+kept_within all pages (Some ended) places some inside within = by ended.passes
+  where
+    by : (passes : Bool) → AreWithin all (if passes then pages ∷ places else places)
+    by true = ((omega arith, inside), within)
+    by false = within

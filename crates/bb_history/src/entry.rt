@@ -52,7 +52,8 @@ pub(crate) fn look_at<M: Format, F: Flash>(
     ensures read_faults { (F.device flash.new).read_faults
         ≡ counted (is_err result) (F.device flash.old).read_faults }
 {
-    let Some(entry) = entry_before(flash, block, pages, &mut memory.page)? else {
+    let closed = entry_before(flash, block, pages, &mut memory.page)?;
+    let Some(entry) = closed else {
         return Ok(None);
     };
     check_entry(

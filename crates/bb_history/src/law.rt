@@ -4,5 +4,4 @@ ghost use Rattle.bb_history.specs.Newest.{NewestIsLast};
 /// copy's history.
 pub fn law_newest_is_last()
     ensures { NewestIsLast }
-{
-}
+{}

@@ -1,0 +1,67 @@
+use Rattle.std.proofs.Common.{◌≡◌, ◌≢◌, ◌+◌, ◌-◌, ◌*◌, ◌≤◌, ◌∙◌, ℕ, List, Option, Some, None, drop, length, take, refl, sym, ap, subst, arith}
+use Rattle.std.specs.Option.{ForSome, option_and_then}
+use Rattle.std.specs.Prelude.{IfSome}
+use Rattle.bb_base.specs.Form.{Form}
+use Rattle.bb_bucket.proofs.Quiet.{keeps_of_quiet}
+use Rattle.bb_bucket.specs.BlockLaws.{block_of}
+use Rattle.bb_bucket.specs.Kind.{part_of}
+use Rattle.bb_circular.specs.Circular.{IsEntryIn, readable}
+use Rattle.bb_circular.specs.declared.kept.Entry.{Entry}
+use Rattle.bb_copies.proofs.Ends.{whole_slice}
+use Rattle.bb_copies.proofs.Finding.{ok_weaker}
+use Rattle.bb_flash.specs.Device.{content}
+use Rattle.bb_flash.specs.Image.{Image}
+use Rattle.bb_history.specs.Entries.{entry_at}
+use Rattle.bb_history.specs.Reading.{IsEnded, IsEndedBy}
+use Rattle.bb_history.specs.declared.entry.Ended.{Ended}
+use Rattle.bb_history.proofs.Passing.{last_read}
+use Rattle.bb_history.proofs.entry.look_at.Goals as goal
+
+pub check_entry-requires-clause-inside : goal.check_entry-requires-clause-inside
+check_entry-requires-clause-inside g c =
+    subst (λ (e : Option Entry). IfSome e (IsEntryIn c.args.block)) c.in-Some.is c.in_ok-closed.ensures.inside
+
+pub check_entry-requires-clause-last : goal.check_entry-requires-clause-last
+check_entry-requires-clause-last g c = λ image told.
+    let page : ℕ = c.args.block.page in
+    let old : Image = part_of page c.args.block.region image in
+    let held = block_of c.args.block (g.F.Flash.device c.args.flash.now).geometry c.requires.held in
+    let keeps = keeps_of_quiet _ _ c.in_ok-closed.ensures.quiet in
+    last_read page c.args.pages old c.entry_before.new.page _ c.in_ok-closed.closed c.in-Some.entry (omega (arith, held.page_least))
+    (c.in_ok-closed.ensures.done image (sym keeps.content ∙ told)) c.in-Some.is
+    (whole_slice c.entry_before.new.page c.args.memory.now.page.items _ (c.entry_before.auto.page ∙ c.deref_mut.ensures.len))
+
+-- the last page closes none
+pub returns-in-None-clause-done : goal.returns-in-None-clause-done
+returns-in-None-clause-done g c = λ image told.
+    let page : ℕ = c.args.block.page in
+    let old : Image = part_of page c.args.block.region image in
+    let is = c.in_ok-closed.ensures.done image told in
+    let none : entry_at page old c.args.pages ≡ None =
+    ap (option_and_then (readable page old)) (sym is.entry_is ∙ c.in-None.is) in
+    subst (λ (e : Option Entry). IsEndedBy (g.M.Format.form c.args.format.now) page old e _ None) (sym none)
+    (record { before = refl; passes = tt })
+
+pub returns-clause-done : goal.returns-clause-done
+returns-clause-done g c =
+    let form : Form = g.M.Format.form c.args.format.now in
+    let page : ℕ = c.args.block.page in
+    let from = g.F.Flash.device c.args.flash.now in
+    let middle = g.F.Flash.device c.entry_before.new.flash in
+    let area : List ℕ = c.check_entry.new.area in
+    ok_weaker c.check_entry.result
+    (λ (ended : Option Ended). ForSome (content middle) (λ image.
+    let old = part_of page c.args.block.region image in
+    IsEndedBy form page old (readable page old c.in-Some.entry) area ended))
+    (λ (ended : Option Ended). ForSome (content from) (λ image.
+    IsEnded form page (part_of page c.args.block.region image) c.args.pages _ ended))
+    (λ ended is image told.
+    let old : Image = part_of page c.args.block.region image in
+    let keeps = keeps_of_quiet _ _ c.in_ok-closed.ensures.quiet in
+    let there : entry_at page old c.args.pages ≡ readable page old c.in-Some.entry =
+    ap (option_and_then (readable page old)) (sym (c.in_ok-closed.ensures.done image told).entry_is ∙ c.in-Some.is) in
+    let whole = whole_slice area c.args.memory.now.area.items _ (c.check_entry.ensures.area ∙ c.deref_mut-3.ensures.len) in
+    subst (λ (e : Option Entry). IsEndedBy form page old e _ ended) (sym there)
+    (subst (λ (left : List ℕ). IsEndedBy form page old (readable page old c.in-Some.entry) left ended) (sym whole)
+    (is image (keeps.content ∙ told))))
+    c.check_entry.ensures.done
