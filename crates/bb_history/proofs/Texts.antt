@@ -17,6 +17,9 @@ use Rattle.bb_circular.specs.declared.kept.Entry.{Entry}
 
 -- ---- the entries at places
 
+abbrev shown : List Var → ℕ → Option (List ℕ) → List ℕ
+shown vars number area = option_map_or (λ a. entry_text vars number a) area []
+
 module _ (vars : List Var) (form : Form) (page : ℕ) (block : Image) where
   -- what is added of an entry that was read is the text of its place
   pub ended_is : (number place : ℕ) (left : List ℕ) (ended : Option Ended) →
@@ -24,18 +27,14 @@ module _ (vars : List Var) (form : Form) (page : ℕ) (block : Image) where
       ended_text vars number left ended ≡ place_text vars form page block number place
   ended_is number place left ended is = by (entry_at page block place) ended is
     where
-      Text : Option (List ℕ) → List ℕ
-      Text area = option_map_or (λ a. entry_text vars number a) area []
-
       by_pass : (passes : Bool) (area : Option (List ℕ)) → then_some passes left ≡ area →
-          (if passes then entry_text vars number left else []) ≡ Text area
-      unfolding Text
-      by_pass true area e = ap Text e
-      by_pass false area e = ap Text e
+          (if passes then entry_text vars number left else []) ≡ shown vars number area
+      by_pass true area e = ap (shown vars number) e
+      by_pass false area e = ap (shown vars number) e
 
       by : (entry : Option Entry) (e : Option Ended) → IsEndedBy form page block entry left e →
-          ended_text vars number left e ≡ Text (option_and_then (area_of form block) entry)
-      unfolding Text
+          ended_text vars number left e
+          ≡ shown vars number (option_and_then (area_of form block) entry)
       by None None is = refl
       by None (Some e) is = absurd (none-some e.before (sym is.before))
       by (Some entry) None is = absurd (none-some _ is.before)
@@ -104,12 +103,11 @@ take_next (first ∷ places) (suc number) place there =
 -- ---- the first of them, and those behind
 
 module _ (vars : List Var) (form : Form) (page : ℕ) (block : Image) where
-  Texts : ℕ → List ℕ → List ℕ
+  abbrev Texts : ℕ → List ℕ → List ℕ
   Texts number places = places_text vars form page block number places
 
   texts_joined : (one two : List ℕ) (number : ℕ) →
       Texts number (one ++ two) ≡ Texts number one ++ Texts (number + length one) two
-  unfolding Texts
   texts_joined [] two number =
       ap (λ n. places_text vars form page block n two)
       (let none : number ≡ number + 0 = omega arith in none)
@@ -131,7 +129,6 @@ module _ (vars : List Var) (form : Form) (page : ℕ) (block : Image) where
   pub places_split : (places : List ℕ) (number : ℕ) →
       places_text vars form page block 1 places
       ≡ places_text vars form page block 1 (take number places) ++ places_behind places number
-  unfolding Texts
   places_split places number =
       ap (λ ps. places_text vars form page block 1 ps) (sym (take-append-drop number places))
       ∙ texts_joined (take number places) (drop number places) 1

@@ -89,15 +89,18 @@ closed_test : ℕ → ℕ → Page → Bool
 closed_test page pages last =
     leb 1 pages && (not (is_lost last.health) && closes page (pages * page) (last_words page last))
 
+abbrev closed_there : ℕ → ℕ → Page → Entry
+closed_there page pages last = record {
+  at = pages * page - closing_len_of (last_words page last);
+  len = closing_len_of (last_words page last);
+}
+
 not_lost : (lost : Bool) → not lost ≡ true → lost ≡ false
 not_lost false yes = refl
 not_lost true yes = absurd cc
 
 closed_parts : (page pages : ℕ) (last : Page) → closed_test page pages last ≡ true →
-    EndsThere page pages last (record {
-      at = pages * page - closing_len_of (last_words page last);
-      len = closing_len_of (last_words page last);
-    })
+    EndsThere page pages last (closed_there page pages last)
 unfolding closed_test
 closed_parts page pages last yes =
     let words = last_words page last in
@@ -123,15 +126,12 @@ pub closed_ends : (page pages : ℕ) (last : Page) (entry : Entry) →
 unfolding closed_test
 closed_ends page pages last entry is = by (closed_test page pages last) refl is
   where
-    abbrev There : Entry
-    There = record {
-      at = pages * page - closing_len_of (last_words page last);
-      len = closing_len_of (last_words page last);
-    }
-
-    by : (b : Bool) → closed_test page pages last ≡ b → (if b then Some There else None) ≡ Some entry →
+    by : (b : Bool) → closed_test page pages last ≡ b →
+        (if b then Some (closed_there page pages last) else None) ≡ Some entry →
         EndsThere page pages last entry
-    by true yes e = subst (EndsThere page pages last) (same_Some There entry e) (closed_parts page pages last yes)
+    by true yes e =
+        subst (EndsThere page pages last) (same_Some (closed_there page pages last) entry e)
+        (closed_parts page pages last yes)
     by false no e = absurd (none-some entry e)
 
 -- an entry that can be read is the one that its last page closes
@@ -160,8 +160,8 @@ same_factor : (one two page : ℕ) → 1 ≤ page → one * page ≡ two * page 
 same_factor one two page some same = elim (cases_lt one two) [
   | inl less ↦ absurd (let wide = mul-le-mul_right page less in let one_more = add-mul one 1 page in omega arith)
   | inr more ↦ elim (cases_lt two one) [
-      | inl less ↦ absurd (let wide = mul-le-mul_right page less in let one_more = add-mul two 1 page in omega arith)
-      | inr less ↦ omega arith
+    | inl less ↦ absurd (let wide = mul-le-mul_right page less in let one_more = add-mul two 1 page in omega arith)
+    | inr less ↦ omega arith
   ]
 ]
 
@@ -223,7 +223,7 @@ module _ (form : Form) (page : ℕ) (block : Image) (all pages : ℕ) (places le
         record {
           found =
               found.found
-              ∙ ap (λ (as : List (List ℕ)). as ++ Behind places)
+              ∙ ap (λ (found : List (List ℕ)). found ++ Behind places)
               (split ∙ ap (λ (o : Option (List ℕ)). before ++ cons_option o []) passes)
               ∙ append_assoc before (area ∷ []) (Behind places)
               ∙ ap (λ (o : Option (List ℕ)). before ++ cons_option o (Behind places)) (sym (here ∙ passes));
@@ -237,7 +237,7 @@ module _ (form : Form) (page : ℕ) (block : Image) (all pages : ℕ) (places le
         record {
           found =
               found.found
-              ∙ ap (λ (as : List (List ℕ)). as ++ Behind places)
+              ∙ ap (λ (found : List (List ℕ)). found ++ Behind places)
               (split ∙ ap (λ (o : Option (List ℕ)). before ++ cons_option o []) fails ∙ append-nil before);
           pass = found.pass;
         }
@@ -246,9 +246,6 @@ module _ (form : Form) (page : ℕ) (block : Image) (all pages : ℕ) (places le
       AreFound form page block all (pages_left pages ended) (kept_places pages ended places)
   found_next ended is = by (entry_at page block pages) refl ended is
     where
-      abbrev After : Option Ended → Type 0
-      After e = AreFound form page block all (pages_left pages e) (kept_places pages e places)
-
       by_pass : (entry : Entry) → entry_at page block pages ≡ Some entry → (passes : Bool) →
           then_some passes left ≡ area_of form block entry →
           AreFound form page block all (entry.at / page) (if passes then pages ∷ places else places)
@@ -256,7 +253,8 @@ module _ (form : Form) (page : ℕ) (block : Image) (all pages : ℕ) (places le
       by_pass entry at false passed = failing_found entry at (sym passed)
 
       by : (entry : Option Entry) → entry_at page block pages ≡ entry → (e : Option Ended) →
-          IsEndedBy form page block entry left e → After e
+          IsEndedBy form page block entry left e →
+          AreFound form page block all (pages_left pages e) (kept_places pages e places)
       by None at None is = none_found at
       by None at (Some e) is = absurd (none-some e.before (sym is.before))
       by (Some entry) at None is = absurd (none-some (entry.at / page) is.before)
