@@ -97,6 +97,7 @@ row_completed rows.MarkGood given start file = mark_completed start file given g
 row_completed rows.Boot given start file = boot_completed start file given given.settings
 row_completed rows.Shell given start file =
     shell_completed start file given given.settings given.script
+row_completed rows.History given start file = ([], _, refl)
 
 options_completed : (start : ℕ) (row : Row) (given : Given) →
     Continues start (Options row None given) []

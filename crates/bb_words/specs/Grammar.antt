@@ -186,6 +186,7 @@ Spells words (commands.State state) = IsSpelt rows.State words (commands.State s
 Spells words (commands.MarkGood mark) = IsSpelt rows.MarkGood words (commands.MarkGood mark)
 Spells words (commands.Boot boot) = IsSpelt rows.Boot words (commands.Boot boot)
 Spells words (commands.Shell shell) = IsSpelt rows.Shell words (commands.Shell shell)
+Spells words (commands.History history) = IsSpelt rows.History words (commands.History history)
 Spells words (commands.Menu menu) = words ≡ codes "menu" ∷ codes "--dir" ∷ menu.dir ∷ []
 Spells words (commands.Drill numbers) =
     (rest : List (List ℕ)) × (words ≡ codes "drill" ∷ rest) × IsDrill rest numbers

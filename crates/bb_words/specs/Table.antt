@@ -22,6 +22,7 @@ command_name_of rows.State = codes "state"
 command_name_of rows.MarkGood = codes "mark-good"
 command_name_of rows.Boot = codes "boot"
 command_name_of rows.Shell = codes "shell"
+command_name_of rows.History = codes "history"
 
 -- the command that is called so
 abbrev pub row_of : List ℕ → Option Row
@@ -30,6 +31,7 @@ row_of word =
     else if bytes_eq word (command_name_of rows.MarkGood) then Some rows.MarkGood
     else if bytes_eq word (command_name_of rows.Boot) then Some rows.Boot
     else if bytes_eq word (command_name_of rows.Shell) then Some rows.Shell
+    else if bytes_eq word (command_name_of rows.History) then Some rows.History
     else None
 
 -- whether every row has an option: it says which state, or by which key
@@ -79,8 +81,9 @@ boot_in given =
     given.settings)
     (described_in given)
 
--- the command that its options make, where those are given that must be: of `state` the file, of
--- `mark-good`, `boot` and `shell` that of the settings too, and of `shell` that of the script
+-- the command that its options make, where those are given that must be: of `state` and `history`
+-- the file, of `mark-good`, `boot` and `shell` that of the settings too, and of `shell` that of the
+-- script
 abbrev pub command_of : Row → Given → Option Command
 command_of rows.State given =
     option_map
@@ -99,6 +102,10 @@ command_of rows.Shell given =
     (λ boot.
     option_map (λ script. commands.Shell (record { boot = boot; script = script })) given.script)
     (boot_in given)
+command_of rows.History given =
+    option_map
+    (λ described. commands.History (record { described = described }))
+    (described_in given)
 
 -- whether an option may come: the command has it, and it wasn't given before if it comes once
 abbrev pub may_come : Row → Valued → Given → Bool

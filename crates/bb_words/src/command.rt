@@ -9,6 +9,7 @@ pub enum Command {
     MarkGood(MarkGoodCommand),
     Boot(BootCommand),
     Shell(ShellCommand),
+    History(HistoryCommand),
     Menu(MenuCommand),
     Drill(DrillNumbers),
 }
@@ -76,6 +77,12 @@ pub struct ShellCommand {
     pub boot: BootCommand,
     /// `-x`: the file with the script.
     pub script: Text,
+}
+
+/// `history`: what the copies' regions still hold, oldest first.
+#[derive(Debug, Drop)]
+pub struct HistoryCommand {
+    pub described: Described,
 }
 
 /// `menu`: the order of the boot entries in a folder.

@@ -12,8 +12,8 @@ ghost use Rattle.bb_words.specs.Words.{before_value, command_at, next};
 use crate::option::{Valued, cause_of, cut_at_sign, dump_of, value_in, valued_of};
 use crate::row::Row;
 use crate::{
-    Action, ActionList, BootCommand, CauseWord, Command, Described, MarkGoodCommand, ShellCommand,
-    StateCommand, WordsError,
+    Action, ActionList, BootCommand, CauseWord, Command, Described, HistoryCommand,
+    MarkGoodCommand, ShellCommand, StateCommand, WordsError,
 };
 use bb_base::{NoMemory, Text};
 use std::alloc::Global;
@@ -198,6 +198,7 @@ impl Given {
                 boot: boot_by(described, settings, self.cause),
                 script,
             })),
+            (Row::History, _, _) => Ok(Command::History(HistoryCommand { described })),
             _ => Err(WordsError::BadWord(place)),
         }
     }

@@ -18,8 +18,8 @@ mod word;
 
 pub use action_list::ActionList;
 pub use command::{
-    Action, BootCommand, CauseWord, Command, Described, DrillNumbers, MarkGoodCommand, MenuCommand,
-    RawAction, RawCommand, ShellCommand, StateCommand,
+    Action, BootCommand, CauseWord, Command, Described, DrillNumbers, HistoryCommand,
+    MarkGoodCommand, MenuCommand, RawAction, RawCommand, ShellCommand, StateCommand,
 };
 pub use error::WordsError;
 pub use law::{law_accepted_words, law_first_bad_word};

@@ -11,6 +11,7 @@ pub(crate) enum Row {
     MarkGood,
     Boot,
     Shell,
+    History,
 }
 
 impl Row {
@@ -23,6 +24,7 @@ impl Row {
             "mark-good" => Some(Row::MarkGood),
             "boot" => Some(Row::Boot),
             "shell" => Some(Row::Shell),
+            "history" => Some(Row::History),
             _ => None,
         }
     }
