@@ -66,9 +66,10 @@ record IsPlan (given : Result Keyed Refusal) (starts : Bool) (plan : SessionPlan
   keyed : given ≡ Ok plan.keyed
   none : starts ≡ false → start_plans_of plan.work ≡ []
 
--- a request that isn't to boot starts nothing
+-- a request that isn't to boot, nor to run a script, starts nothing
 abbrev starts_by : Request → Bool
 starts_by (requests.Boot settings cause) = true
+starts_by (requests.Run settings file cause) = true
 starts_by _ = false
 
 none_acted : (bound : Result (List BoundAction) Refusal) (work : Work) → acting bound ≡ Ok work →
@@ -79,6 +80,8 @@ none_acted (Err refusal) work h = absurd cc
 none_started : (files : FileMap) (request : Request) (layout : Laid) (work : Work) →
     result_over files (work_reading request layout) ≡ Ok work → starts_by request ≡ false →
     start_plans_of work ≡ []
+none_started files requests.History layout work h e =
+    ap start_plans_of (sym (same_Ok works.History work h))
 none_started files (requests.Act actions) layout work h e =
     let bound = actions_by layout.vars actions in
     none_acted bound work (sym (over_of files (acting bound)) ∙ h)
@@ -87,6 +90,7 @@ none_started files (requests.Good settings) layout work h e =
     let targets = split next files work (binding_reading settings layout) h in
     ap start_plans_of (sym (same_Ok (works.Good targets.value) work targets.second))
 none_started files (requests.Boot settings cause) layout work h e = absurd cc
+none_started files (requests.Run settings file cause) layout work h e = absurd cc
 
 same_plan : (p q : SessionPlan) →
     ◌≡◌ {A = Result Task Refusal} (Ok (OnCopies p)) (Ok (OnCopies q)) → p ≡ q

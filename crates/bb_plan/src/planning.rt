@@ -67,6 +67,9 @@ fn plan_command<N: Files>(
             let request = Request::Run(boot.settings, command.script, boot.cause);
             plan_described(alloc, &boot.described, request, files, geometry)
         }
+        Command::History(command) => {
+            plan_described(alloc, &command.described, Request::History, files, geometry)
+        }
         Command::Menu(command) => {
             let text = read_menu(alloc, files, &command.dir)?;
             Ok(PlannedTask::Prints(text))
