@@ -11,11 +11,11 @@ use Rattle.bb_shell.specs.Sequence.{RanRounds, StopsThere, refused_in, save_roun
 use Rattle.bb_shell.specs.Rounds.{answer_of, best_of, rounds_by}
 use Rattle.bb_shell.proofs.Answering.{rounds_are}
 use Rattle.bb_shell.proofs.Sequence.{none_stops, once_stops, ran_rounds, stops_there}
-use Rattle.bb_session.specs.Acting.{Acts, AreRoundsOf, BootsFrom, NoneBest, Plays, SavesOnce, Stops, WorkAnswers, boots_of, kept_before, needs_table, rounds_for, save_rounds, start_plans_of}
+use Rattle.bb_session.specs.Acting.{Acts, AreRoundsOf, BootsFrom, Lists, NoneBest, Plays, SavesOnce, Stops, WorkAnswers, boots_of, kept_before, needs_table, rounds_for, save_rounds, start_plans_of}
 use Rattle.bb_session.specs.Looking.{look_text}
 use Rattle.bb_plan.specs.Plan.{SessionPlan}
 use Rattle.bb_plan.specs.declared.plan.Work.{Work}
-use Rattle.bb_plan.specs.declared.plan.Work.TheVariants.{Show}
+use Rattle.bb_plan.specs.declared.plan.Work.TheVariants.{History, Show}
 use Rattle.bb_plan.specs.declared.refusal.Refusal.{Refusal}
 use Rattle.bb_session.specs.Session.{LoadAnswer, acts_after, ended_by, loaded_area, refusal_at_end, rounds_after, session_by_acts, text_after, work_session, work_text}
 use Rattle.bb_session.specs.Work.{IsLookWork, IsPlayOf, IsTableWork, IsWork}
@@ -23,20 +23,16 @@ use Rattle.bb_session.proofs.Plays.{plays_to}
 
 -- ---- a look, or rounds after a load
 
-looks_only : (work : Work) → needs_table work ≡ false → work ≡ Show
-looks_only Show none = refl
-looks_only _ none = absurd cc
-
 -- a fact about the work of a plan is one of rounds after a load, or of a look
 pub by_work : {P : Type 0} (plan : SessionPlan) (from to : Device) (load : LoadAnswer) (answers : WorkAnswers) →
     IsWork plan from to load answers →
     (needs_table plan.work ≡ true → IsTableWork plan from to load answers → P) →
-    (plan.work ≡ Show → IsLookWork plan from to load answers → P) → P
+    (needs_table plan.work ≡ false → IsLookWork plan from to load answers → P) → P
 by_work plan from to load answers work table look = elim (cases_Bool (needs_table plan.work)) [
   | inl needs ↦
       table needs (MatchBool-at_true (IsTableWork plan from to load answers) (IsLookWork plan from to load answers) needs work)
   | inr none ↦
-      look (looks_only plan.work none)
+      look none
       (MatchBool-at_false (IsTableWork plan from to load answers) (IsLookWork plan from to load answers) none work)
 ]
 
@@ -78,6 +74,7 @@ acted_rounds : (plan : SessionPlan) (found : Option (List ℕ)) (acts : Acts) (a
     (session_by_acts plan found acts answers).rounds ≡ rounds_for (start_plans_of plan.work) acts answers
 acted_rounds plan found (Stops bar) answers = refl
 acted_rounds plan found (Plays script known) answers = refl
+acted_rounds plan found Lists answers = refl
 acted_rounds plan found acts answers =
     let rounds = rounds_for (start_plans_of plan.work) acts answers in
     ended_rounds (refused_in rounds) (text_after plan found rounds) (refusal_at_end acts rounds) rounds
@@ -106,11 +103,19 @@ module _ {plan : SessionPlan} {from to : Device} {found : Option (List ℕ)} {an
       (work.loaded.later.geometry ∙ work.geometry)
       (acts_stop (start_plans_of plan.work) (acts_after plan found) work.ran.rounds work.ran.are) work.ran.run
 
--- of a look
-pub look_rounds : (plan : SessionPlan) (load : LoadAnswer) (answers : WorkAnswers) → plan.work ≡ Show → (work_session plan load answers).rounds ≡ []
-look_rounds plan (Err fault) answers is = refl
-look_rounds plan (Ok found) answers is =
-    ap (λ (w : Work). (work_session (record { keyed = plan.keyed; work = w }) (Ok found) answers).rounds) is
+-- of a work that only reads there are none
+pub look_after : (plan : SessionPlan) (found : Option (List ℕ)) (answers : WorkAnswers) → needs_table plan.work ≡ false →
+    rounds_after plan found answers ≡ []
+look_after plan found answers none = by plan.work none
+  where
+    by : (w : Work) → needs_table w ≡ false → rounds_after (record { keyed = plan.keyed; work = w }) found answers ≡ []
+    by Show none = refl
+    by History none = refl
+    by _ none = absurd cc
+
+pub look_rounds : (plan : SessionPlan) (load : LoadAnswer) (answers : WorkAnswers) → needs_table plan.work ≡ false → (work_session plan load answers).rounds ≡ []
+look_rounds plan (Err fault) answers none = refl
+look_rounds plan (Ok found) answers none = session_after plan found answers ∙ look_after plan found answers none
 
 -- one on a table hangs on the table alone
 pub table_session : (plan : SessionPlan) (found : Option (List ℕ)) (answers : WorkAnswers) → needs_table plan.work ≡ true →
@@ -127,6 +132,7 @@ table_session plan found answers needs = by (acts_after plan found)
         session_by_acts plan found acts answers ≡ session_by_acts plan (Some (loaded_area plan.keyed.layout found)) acts answers
     by (Stops bar) = refl
     by (Plays script known) = refl
+    by Lists = refl
     by acts =
         let rounds = rounds_for (start_plans_of plan.work) acts answers in
         ap (λ text. ended_by (refused_in rounds) text (refusal_at_end acts rounds) rounds) (texts rounds)

@@ -102,6 +102,7 @@ done_by keyed used table work acts at rounds now from to given are played unscri
         are = subst (λ a. AreRoundsOf (start_plans_of work) a rounds) (sym at) are;
         run = run;
         played = subst (λ a. IsPlayOf a answers rounds) (sym at) played;
+        listed = refl;
       };
       ends =
           subst (λ (s : Session). EndsWith s given)

@@ -37,8 +37,6 @@ use Rattle.bb_shell.proofs.Made.{AllSaved}
 use Rattle.bb_shell.proofs.Reached.{begun_saving, idle_saving, rounds_later}
 use Rattle.bb_shell.proofs.Starts.{by_start, round_later, start_later, unrefused as unrefused_round}
 use Rattle.bb_plan.specs.Plan.{SessionPlan}
-use Rattle.bb_plan.specs.declared.plan.Work.{Work}
-use Rattle.bb_plan.specs.declared.plan.Work.TheVariants.{Show}
 use Rattle.bb_session.specs.Acting.{WorkAnswers, kept_before, needs_table, start_plans_of, taken_by}
 use Rattle.bb_session.specs.Exactly.{LeavesRegions, PassAlike, is_fresh, last_area, last_area_of, loaded_region, saved_region, saves_made, worked_region, writes_of_load, writes_of_saves, writes_of_work}
 use Rattle.bb_session.specs.Looking.{first_found, passed_in}
@@ -307,10 +305,10 @@ module _ (plan : SessionPlan) (from to : Device) (answers : WorkAnswers) (first 
       (run_left plan.keyed (start_plans_of plan.work) run.rounds kept work.used run.now work.middle to run.run
       (rounds_saved work whole) there between.0 last between.1 f)))
 
-  look_left : (found : Option (List ℕ)) → plan.work ≡ Show → IsLookWork plan from to (Ok found) answers → IsWorkLeft found
-  look_left found shows work =
-      work_left found None [] (ap (λ (w : Work). taken_by w found) shows)
-      (ap (tables_of (kept_before plan.work (loaded_area plan.keyed.layout found))) (look_rounds plan (Ok found) answers shows))
+  look_left : (found : Option (List ℕ)) → needs_table plan.work ≡ false → IsLookWork plan from to (Ok found) answers → IsWorkLeft found
+  look_left found reads work =
+      work_left found None [] (ap (λ n. if n then found else None) reads)
+      (ap (tables_of (kept_before plan.work (loaded_area plan.keyed.layout found))) (look_rounds plan (Ok found) answers reads))
       (subst (AreLeftBy plan.keyed from.geometry None [] (account_of first))
       (sym (told_same account_of from to first last (quiet_account from to work.looked.quiet) e f))
       (loaded_none plan.keyed from.geometry (account_of first)))
@@ -322,7 +320,7 @@ module _ (plan : SessionPlan) (from to : Device) (answers : WorkAnswers) (first 
       let whole = unrefused plan from to (Ok found) answers work calm in
       subst IsWorkLeft (work_gives plan from to found answers work first.image (told_content from first e))
       (by_work plan from to (Ok found) answers work (λ needs done. table_left found needs done whole calm)
-      (λ shows done. look_left found shows done))
+      (λ reads done. look_left found reads done))
 
 pub plan_makes : (plan : SessionPlan) (from to : Device) (load : LoadAnswer) (answers : WorkAnswers) → IsWork plan from to load answers →
     NothingFails from to → (first last : Told) → from.told ≡ Some first → to.told ≡ Some last →

@@ -40,7 +40,7 @@ use Rattle.bb_session.specs.Exactly.{last_area_of}
 use Rattle.bb_session.specs.Session.{LoadAnswer, acts_after, loaded_area, rounds_after, work_session}
 use Rattle.bb_session.specs.Work.{IsLoaded, IsLoadedArea, IsTableWork, IsWork, area_taken}
 use Rattle.bb_session.specs.WriteFault.{IsWriteFault}
-use Rattle.bb_session.proofs.Acted.{acts_stop, by_work, rounds_is, session_rounds}
+use Rattle.bb_session.proofs.Acted.{acts_stop, by_work, look_after, rounds_is, session_rounds}
 use Rattle.bb_session.proofs.Barred.{is_device_fault}
 use Rattle.bb_session.proofs.Ended.{session_fault}
 use Rattle.bb_session.proofs.Faulting.{Explains, IsKnown, IsThere, copies_are, load_known, save_known}
@@ -214,7 +214,7 @@ work_explains plan from to (Err fault) answers refusal device work h = record {
       (λ needs done.
       load_known plan from done.used to answers fault
       (subst (λ (d : Device). IsLoaded plan.keyed done.used from d (Err fault)) (sym done.ran.1) done.loaded))
-      (λ shows done.
+      (λ reads done.
       let read : fault ≡ faults.ReadFault = done.looked.fails in
       subst (IsKnown plan from to (Err fault) answers) (sym read)
       (record {
@@ -233,10 +233,10 @@ work_explains plan from to (Ok found) answers refusal device work h =
       known =
           by_work plan from to (Ok found) answers work
           (λ needs done. rounds_explain plan from to found answers fault.fault done fault.last)
-          (λ shows done.
+          (λ reads done.
           absurd
           (none-some fault.fault
-          (sym (ap (λ (w : Work). refused_in (rounds_after (record { keyed = plan.keyed; work = w }) found answers)) shows) ∙ fault.last)));
+          (sym (ap refused_in (look_after plan found answers reads)) ∙ fault.last)));
     }
 
 -- ---- in the words of a call

@@ -87,7 +87,7 @@ module _ (state : State) (targets : Binding) (plans : List (Option StartPlan)) (
     Ran = called_rounds device over.ran.acts over.ran.called
 
     abbrev Answered : WorkAnswers
-    Answered = record { rounds = map answer_of Ran; grants = over.grants }
+    Answered = record { rounds = map answer_of Ran; grants = over.grants; listed = [] }
 
     abbrev AsPlayed : IsPlay script Knows over.grants Ran
     AsPlayed =
@@ -109,6 +109,7 @@ module _ (state : State) (targets : Binding) (plans : List (Option StartPlan)) (
         are = record { are = over.calls; stops = over.all.ran.ran.stops };
         run = run_kept;
         played = AsPlayed;
+        listed = refl;
       };
       ends =
           inl

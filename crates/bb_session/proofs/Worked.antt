@@ -71,7 +71,8 @@ looked_ok keyed area found from to given gives faults read_faults quiet is =
     worked_out keyed Show from to (Ok (then_some found area)) no_answers given
     (record {
       looked = record { told = look_told keyed area found from gives; fails = tt; faults = faults; read_faults = read_faults; quiet = quiet };
-      none = refl;
+      alone = refl;
+      listed = refl;
     }) (text_ends (look_text (then_some found area)) [] given is)
 
 -- ---- a vector that was filled anew

@@ -116,8 +116,8 @@ module _ (plan : SessionPlan) (from to : Device) (load : LoadAnswer) (answers : 
       (λ needs done.
       subst (λ n. Turned plan.keyed from to (λ marks. if n then table_turn plan load answers marks else Looked)) (sym needs)
       (table_turned plan from to load answers done))
-      (λ shows done.
-      subst (λ (w : Work). Turned plan.keyed from to (λ marks. if needs_table w then table_turn plan load answers marks else Looked)) (sym shows)
+      (λ reads done.
+      subst (λ n. Turned plan.keyed from to (λ marks. if n then table_turn plan load answers marks else Looked)) (sym reads)
       (look_turned plan.keyed from to done.looked.quiet))
 
   pub leads_on : LeadsOn plan from to load answers
@@ -131,6 +131,6 @@ module _ (plan : SessionPlan) (from to : Device) (load : LoadAnswer) (answers : 
   keeps_outside =
       by_work plan from to load answers work
       (λ needs done. table_outside plan from to load answers done)
-      (λ shows done.
+      (λ reads done.
       still_outside (laid_kinds plan.keyed.layout) from to (keeps_of_quiet from to done.looked.quiet).content
       (read_changes from to done.looked.quiet.told))

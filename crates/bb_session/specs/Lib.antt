@@ -4,6 +4,7 @@ pub mod Booting
 pub mod Doing
 pub mod DrillLine
 pub mod Exactly
+pub mod Listing
 pub mod Looking
 pub mod Marking
 pub mod Scripting

@@ -3,6 +3,7 @@
 #![tactic(auto)]
 
 mod boot;
+mod history;
 mod mark_good;
 mod raw;
 mod report;

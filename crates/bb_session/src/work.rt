@@ -1,4 +1,4 @@
-ghost use Rattle.std.specs.Prelude.{◌≡◌, IfErr, true};
+ghost use Rattle.std.specs.Prelude.{◌≡◌, IfErr, false, true};
 ghost use Rattle.bb_flash.specs.Cuts.{IsLater};
 ghost use Rattle.bb_flash.specs.Device.{IsDevice};
 ghost use Rattle.bb_state.specs.State.{IsOn, keyed_of, used_of};
@@ -9,17 +9,18 @@ ghost use Rattle.bb_plan.specs.Refusal.{IsSendableRefusal};
 ghost use Rattle.bb_session.specs.Work.{IsWorkedOut};
 
 use crate::boot::boot;
+use crate::history::history;
 use crate::raw::look;
 use crate::report::Report;
 use crate::script::run;
 use crate::store::{store, stores};
-use bb_flash::Board;
+use bb_flash::{Board, Flash};
 use bb_plan::{PlannedWork, Refusal, Work};
 use bb_state::State;
 use std::alloc::Global;
 
 /// Does the work of a plan on the device, and gives what is sent of it. Its layout is mounted once,
-/// and its copies are loaded once, unless the work only looks at them.
+/// and its copies are loaded once, unless the work only reads them.
 pub fn do_work<B: Board>(alloc: Global, board: &mut B, plan: PlannedWork) -> Result<Report, Refusal>
     requires plan { IsPlannedFor (B.device board.old).geometry (plan_as plan) }
     requires whole { IsDevice (B.device board.old) }
@@ -47,7 +48,7 @@ fn work_on<B: Board>(
     ensures later { IsLater (B.device board.old) (B.device board.new) }
 {
     if !needs_table(&work) {
-        return look(alloc, board, &mut state);
+        return read(alloc, board, &mut state, &work);
     }
     state.load(board)?;
     work_at(alloc, board, state, work)
@@ -57,7 +58,28 @@ fn work_on<B: Board>(
 fn needs_table(work: &Work) -> bool
     ensures { result ≡ needs_table work.now }
 {
-    !matches!(work, Work::Show)
+    !matches!(work, Work::Show | Work::History)
+}
+
+// A work that only reads.
+fn read<F: Flash>(
+    alloc: Global,
+    flash: &mut F,
+    state: &mut State,
+    work: &Work,
+) -> Result<Report, Refusal>
+    requires reads { needs_table work.now ≡ false }
+    requires on { IsOn state.old (F.device flash.old) }
+    ensures gives { IsWorkedOut (keyed_of state.old) work.now
+        (F.device flash.old) (F.device flash.new) result }
+    ensures later { IsLater (F.device flash.old) (F.device flash.new) }
+{
+    match work {
+        Work::Show => look(alloc, flash, state),
+        Work::History => history(alloc, flash, state),
+        Work::Write(_) | Work::Act(_) | Work::Good(_) => unreachable!(),
+        Work::Boot(_, _, _) | Work::Run(_, _, _, _) => unreachable!(),
+    }
 }
 
 // The work on a table that was just loaded.
@@ -83,6 +105,7 @@ fn work_at<B: Board>(
         Work::Run(script, chooser, cause, plans) => {
             run(alloc, board, state, &script, chooser, cause, plans)
         }
-        Work::Show | Work::Write(_) | Work::Act(_) | Work::Good(_) => unreachable!(),
+        Work::Show | Work::History => unreachable!(),
+        Work::Write(_) | Work::Act(_) | Work::Good(_) => unreachable!(),
     }
 }
