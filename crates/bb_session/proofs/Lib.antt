@@ -7,6 +7,7 @@ pub mod Exact
 pub mod Faulting
 pub mod Faults
 pub mod Kept
+pub mod Listed
 pub mod Played
 pub mod Plays
 pub mod Regions
