@@ -60,6 +60,12 @@ COMMAND
                        good, and boot. A start ends it, and DEVICE.plan has its plan, as after a
                        boot. Prints what the script sends.
      -x FILE           the script, up to 65536 bytes
+  history -i FILE [-n NAME] [-k FILE]
+                       reads the devicetree as `state` does, and what the copies' regions still
+                       hold. Prints for each copy how many areas pass there, and then each
+                       area's variables, oldest first. A log may hold many, other storage one.
+                       It changes nothing of the device, and doesn't say that an older area was
+                       ever acknowledged.
   menu --dir DIR       prints a line for each boot entry of the folder DIR: its file's name, a
                        space and its title. Where the title is empty, `linux` stands in its
                        place. The first is the one that starts a target whose setting names the
