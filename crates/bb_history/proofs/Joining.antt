@@ -1,6 +1,6 @@
 -- Parts of a text that are added one after another.
 use Rattle.std.proofs.Common.{◌≡◌, List, ℕ, [], ◌++◌, append-nil, append_assoc, Result, Ok, Err, IsErrAnd, refl, sym, ap, subst, ◌∙◌}
-use Rattle.bb_history.specs.History.{Adds, AddsFront, fails_to_read, is_read_fault}
+use Rattle.bb_history.specs.History.{Adds, AddsFront, failed_to_read, is_read_fault}
 use Rattle.bb_history.specs.declared.fault.HistoryFault.{HistoryFault}
 
 -- nothing was added yet
@@ -48,6 +48,6 @@ refused_adds whole old new (Err fault) is front = front
 
 -- and whether a read failed
 pub handed_failed : {T : Type 0} (given : Result T HistoryFault) {fault : HistoryFault} →
-    IsErrAnd given (λ e. e ≡ fault) → fails_to_read given ≡ is_read_fault fault
+    IsErrAnd given (λ e. e ≡ fault) → failed_to_read given ≡ is_read_fault fault
 handed_failed (Ok done) is = absurd is
 handed_failed (Err fault) is = ap is_read_fault is

@@ -16,9 +16,9 @@ use Rattle.bb_circular.proofs.LogDevices.{part_paged}
 use Rattle.bb_copies.specs.Passing.{passing_of}
 use Rattle.bb_flash.specs.Image.{Image}
 use Rattle.bb_layout.specs.declared.storage.Storage.TheVariants as storages
-use Rattle.bb_history.specs.Entries.{area_of, entries_in, entries_of, entry_at, log_areas}
+use Rattle.bb_history.specs.Entries.{entry_area, entries_within, held_entries, entry_at, log_areas}
 use Rattle.bb_history.specs.History.{kind_in}
-use Rattle.bb_history.specs.Newest.{EndsWith, NewestIsLast}
+use Rattle.bb_history.specs.Newest.{HasAsLast, NewestIsLast}
 use Rattle.bb_history.proofs.Walking.{entries_less, entries_more, entry_ends, entry_pages}
 
 module _ (page size : ℕ) (block : Image) (paged : IsPaged page size block) where
@@ -37,58 +37,58 @@ module _ (page size : ℕ) (block : Image) (paged : IsPaged page size block) whe
 
   -- so the pages behind the last that isn't blank add nothing
   written_entries : (extra pages : ℕ) → pages ≡ extra + Written → pages ≤ size / page →
-      entries_in page block pages 0 ≡ entries_in page block Written 0
+      entries_within page block pages 0 ≡ entries_within page block Written 0
   written_entries zero pages is inside =
       let same : pages ≡ Written = omega arith in
-      ap (λ k. entries_in page block k 0) same
+      ap (λ k. entries_within page block k 0) same
   written_entries (suc extra) pages is inside =
       entries_less page block pages (omega arith) (blank_ends pages (omega arith) (omega arith) inside)
       ∙ written_entries extra (pages - 1) (omega arith) (omega arith)
 
-  pub entries_written : entries_of page block ≡ entries_in page block Written 0
+  pub entries_written : held_entries page block ≡ entries_within page block Written 0
   entries_written =
       let inside = written_inside page size block paged in
-      ap (λ n. entries_in page block (n / page) 0) paged.bytes
+      ap (λ n. entries_within page block (n / page) 0) paged.bytes
       ∙ written_entries (size / page - Written) (size / page) (omega arith) (omega arith)
 
   -- the area that the newest entry passes is the last
   module _ (form : Form) (area : List ℕ) where
     newest_passes : (newest : Option Entry) →
         option_and_then form.passes (option_map (record_of block) newest) ≡ Some area →
-        (entry : Entry) × (newest ≡ Some entry) × (area_of form block entry ≡ Some area)
+        (entry : Entry) × (newest ≡ Some entry) × (entry_area form block entry ≡ Some area)
     newest_passes None is = absurd (none-some area is)
     newest_passes (Some entry) is = (entry, (refl, is))
 
     last_area : (pages : ℕ) (entry : Entry) → entry_at page block pages ≡ Some entry →
-        area_of form block entry ≡ Some area →
-        EndsWith (filter_map (area_of form block) (entries_in page block pages 0)) area
+        entry_area form block entry ≡ Some area →
+        HasAsLast (filter_map (entry_area form block) (entries_within page block pages 0)) area
     last_area pages entry is passes =
         let some : 1 ≤ page = omega (arith, paged.page_least) in
         let counted = entry_pages page pages (page_at page block (pages - 1)) entry some
         (entry_ends page block pages entry is) in
-        let before = entries_in page block (entry.at / page) 0 in
+        let before = entries_within page block (entry.at / page) 0 in
         record {
-          earlier = filter_map (area_of form block) before;
+          earlier = filter_map (entry_area form block) before;
           is =
-              ap (filter_map (area_of form block))
+              ap (filter_map (entry_area form block))
               (entries_more page block pages (entry.at / page) entry is counted.0 counted.1)
-              ∙ filter_map-append (area_of form block) before (entry ∷ [])
-              ∙ ap (λ (o : Option (List ℕ)). filter_map (area_of form block) before ++ cons_option o []) passes;
+              ∙ filter_map-append (entry_area form block) before (entry ∷ [])
+              ∙ ap (λ (o : Option (List ℕ)). filter_map (entry_area form block) before ++ cons_option o []) passes;
         }
 
     pub log_ends : option_and_then form.passes (circular_candidate page block) ≡ Some area →
-        EndsWith (log_areas form page block) area
+        HasAsLast (log_areas form page block) area
     log_ends is =
         let found = newest_passes (newest_of page block) is in
-        subst (λ (es : List Entry). EndsWith (filter_map (area_of form block) es) area)
+        subst (λ (es : List Entry). HasAsLast (filter_map (entry_area form block) es) area)
         (sym entries_written) (last_area Written found.0 found.1.0 found.1.1)
 
 -- ---- of all storages
 
 one_ends : (passing : Option (List ℕ)) (area : List ℕ) → passing ≡ Some area →
-    EndsWith (option_to_list passing) area
+    HasAsLast (option_to_list passing) area
 one_ends passing area is =
-    subst (λ (o : Option (List ℕ)). EndsWith (option_to_list o) area) (sym is)
+    subst (λ (o : Option (List ℕ)). HasAsLast (option_to_list o) area) (sym is)
     (record { earlier = []; is = refl })
 
 pub newest_last : NewestIsLast

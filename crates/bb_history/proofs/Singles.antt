@@ -2,7 +2,7 @@
 use Rattle.std.proofs.Common.{◌≡◌, ℕ, List, [], ◌∷◌, ◌++◌, append-nil, Bool, true, false, Option, Some, None, is_some, option_map, option_to_list, refl, sym, ap, ◌∙◌}
 use Rattle.bb_copies.specs.declared.read.PassingCopy.{PassingCopy}
 use Rattle.bb_layout.specs.declared.var.Var.{Var}
-use Rattle.bb_history.specs.Lines.{copy_text, count_line, entry_text}
+use Rattle.bb_history.specs.Lines.{copy_text, count_line, numbered_text}
 
 module _ (vars : List Var) (copy : ℕ) (area : List ℕ) (passes : Option (List ℕ)) where
   -- it passes nothing
@@ -16,8 +16,8 @@ module _ (vars : List Var) (copy : ℕ) (area : List ℕ) (passes : Option (List
   -- it passes this area
   pub one_text : (reading : Option PassingCopy) → option_map (λ _. area) reading ≡ passes →
       is_some reading ≡ true →
-      copy_text vars copy (option_to_list passes) ≡ count_line copy 1 ++ entry_text vars 1 area
+      copy_text vars copy (option_to_list passes) ≡ count_line copy 1 ++ numbered_text vars 1 area
   one_text None is some = absurd cc
   one_text (Some found) is some =
       ap (λ (p : Option (List ℕ)). copy_text vars copy (option_to_list p)) (sym is)
-      ∙ ap (λ l. count_line copy 1 ++ l) (append-nil (entry_text vars 1 area))
+      ∙ ap (λ l. count_line copy 1 ++ l) (append-nil (numbered_text vars 1 area))

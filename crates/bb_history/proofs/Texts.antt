@@ -9,8 +9,8 @@ use Rattle.std.proofs.lemmas.Option.{none-some, same_Some, slice_get_within}
 use Rattle.bb_base.specs.Form.{Form}
 use Rattle.bb_flash.specs.Image.{Image}
 use Rattle.bb_layout.specs.declared.var.Var.{Var}
-use Rattle.bb_history.specs.Entries.{area_of, entry_at, log_areas}
-use Rattle.bb_history.specs.Lines.{copy_text, count_line, entries_text, entry_text}
+use Rattle.bb_history.specs.Entries.{entry_area, entry_at, log_areas}
+use Rattle.bb_history.specs.Lines.{copy_text, count_line, entries_text, numbered_text}
 use Rattle.bb_history.specs.Reading.{AllPass, ArePlaces, AreWithin, IsEnded, IsEndedBy, area_at, ended_text, place_text, places_text}
 use Rattle.bb_history.specs.declared.entry.Ended.{Ended}
 use Rattle.bb_circular.specs.declared.kept.Entry.{Entry}
@@ -18,7 +18,7 @@ use Rattle.bb_circular.specs.declared.kept.Entry.{Entry}
 -- ---- the entries at places
 
 abbrev shown : List Var → ℕ → Option (List ℕ) → List ℕ
-shown vars number area = option_map_or (λ a. entry_text vars number a) area []
+shown vars number area = option_map_or (λ a. numbered_text vars number a) area []
 
 module _ (vars : List Var) (form : Form) (page : ℕ) (block : Image) where
   -- what is added of an entry that was read is the text of its place
@@ -28,17 +28,17 @@ module _ (vars : List Var) (form : Form) (page : ℕ) (block : Image) where
   ended_is number place left ended is = by (entry_at page block place) ended is
     where
       by_pass : (passes : Bool) (area : Option (List ℕ)) → then_some passes left ≡ area →
-          (if passes then entry_text vars number left else []) ≡ shown vars number area
+          (if passes then numbered_text vars number left else []) ≡ shown vars number area
       by_pass true area e = ap (shown vars number) e
       by_pass false area e = ap (shown vars number) e
 
       by : (entry : Option Entry) (e : Option Ended) → IsEndedBy form page block entry left e →
           ended_text vars number left e
-          ≡ shown vars number (option_and_then (area_of form block) entry)
+          ≡ shown vars number (option_and_then (entry_area form block) entry)
       by None None is = refl
       by None (Some e) is = absurd (none-some e.before (sym is.before))
       by (Some entry) None is = absurd (none-some _ is.before)
-      by (Some entry) (Some e) is = by_pass e.passes (area_of form block entry) is.passes
+      by (Some entry) (Some e) is = by_pass e.passes (entry_area form block entry) is.passes
 
   -- those of places at all of which an entry passes are the texts of their areas
   pub places_are : (places : List ℕ) (number : ℕ) → AllPass form page block places →
@@ -53,9 +53,9 @@ module _ (vars : List Var) (form : Form) (page : ℕ) (block : Image) where
           ≡ entries_text vars number (filter_map (area_at form page block) (place ∷ places))
       by None e some = absurd cc
       by (Some a) e some =
-          ap (λ (o : Option (List ℕ)). option_map_or (λ x. entry_text vars number x) o []
+          ap (λ (o : Option (List ℕ)). option_map_or (λ x. numbered_text vars number x) o []
           ++ places_text vars form page block (number + 1) places) e
-          ∙ ap (λ l. entry_text vars number a ++ l) (places_are places (number + 1) rest)
+          ∙ ap (λ l. numbered_text vars number a ++ l) (places_are places (number + 1) rest)
           ∙ ap (λ (o : Option (List ℕ)). entries_text vars number
           (cons_option o (filter_map (area_at form page block) places))) (sym e)
 

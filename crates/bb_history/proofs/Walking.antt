@@ -19,7 +19,7 @@ use Rattle.bb_circular.specs.Circular.{readable}
 use Rattle.bb_circular.specs.Entries.{closed_entry, closes, closing_len_of, last_words}
 use Rattle.bb_circular.specs.Pages.{Page, page_at}
 use Rattle.bb_circular.specs.PagesLaws.{IsPaged}
-use Rattle.bb_history.specs.Entries.{area_of, entries_in, entry_at, pages_over}
+use Rattle.bb_history.specs.Entries.{entry_area, entries_within, entry_at, pages_over}
 use Rattle.bb_history.specs.Reading.{AreFound, ArePlaces, AreWithin, IsEnded, IsEndedBy, area_at, kept_places, pages_left}
 use Rattle.bb_history.specs.declared.entry.Ended.{Ended}
 
@@ -27,23 +27,23 @@ use Rattle.bb_history.specs.declared.entry.Ended.{Ended}
 
 module _ (page : ℕ) (block : Image) where
   abbrev pub Entries : ℕ → ℕ → List Entry
-  Entries pages over = entries_in page block pages over
+  Entries pages over = entries_within page block pages over
 
   abbrev Last : ℕ → Option Entry
   Last pages = entry_at page block pages
 
   pub entries_none : (over : ℕ) → Entries 0 over ≡ []
-  unfolding entries_in
+  unfolding entries_within
   entries_none over = refl
 
   entries_over : (pages over : ℕ) → Entries (suc pages) (suc over) ≡ Entries pages over
-  unfolding entries_in
+  unfolding entries_within
   entries_over pages over = refl
 
   entries_step : (pages : ℕ) →
       Entries (suc pages) 0
       ≡ Entries pages (pages_over page (Last (suc pages))) ++ option_to_list (Last (suc pages))
-  unfolding entries_in
+  unfolding entries_within
   entries_step pages = refl
 
   -- the pages of an entry that was taken
@@ -187,7 +187,7 @@ entry_pages page pages last entry some there =
 module _ (form : Form) (page : ℕ) (block : Image) (all pages : ℕ) (places left : List ℕ)
     (size : 1 ≤ page) (some : 1 ≤ pages) (found : AreFound form page block all pages places) where
   abbrev Areas : List Entry → List (List ℕ)
-  Areas entries = filter_map (area_of form block) entries
+  Areas entries = filter_map (entry_area form block) entries
 
   abbrev Behind : List ℕ → List (List ℕ)
   Behind ends = filter_map (area_at form page block) ends
@@ -206,20 +206,20 @@ module _ (form : Form) (page : ℕ) (block : Image) (all pages : ℕ) (places le
     there : EndsThere page pages (page_at page block (pages - 1)) entry
     there = entry_ends page block pages entry is
 
-    split : Areas (entries_in page block pages 0)
-        ≡ Areas (entries_in page block (entry.at / page) 0) ++ Areas (entry ∷ [])
+    split : Areas (entries_within page block pages 0)
+        ≡ Areas (entries_within page block (entry.at / page) 0) ++ Areas (entry ∷ [])
     split =
         let counted = entry_pages page pages (page_at page block (pages - 1)) entry size there in
         ap Areas (entries_more page block pages (entry.at / page) entry is counted.0 counted.1)
-        ∙ filter_map-append (area_of form block) (entries_in page block (entry.at / page) 0) (entry ∷ [])
+        ∙ filter_map-append (entry_area form block) (entries_within page block (entry.at / page) 0) (entry ∷ [])
 
-    here : area_at form page block pages ≡ area_of form block entry
-    here = ap (option_and_then (area_of form block)) is
+    here : area_at form page block pages ≡ entry_area form block entry
+    here = ap (option_and_then (entry_area form block)) is
 
-    passing_found : (area : List ℕ) → area_of form block entry ≡ Some area →
+    passing_found : (area : List ℕ) → entry_area form block entry ≡ Some area →
         AreFound form page block all (entry.at / page) (pages ∷ places)
     passing_found area passes =
-        let before = Areas (entries_in page block (entry.at / page) 0) in
+        let before = Areas (entries_within page block (entry.at / page) 0) in
         record {
           found =
               found.found
@@ -230,10 +230,10 @@ module _ (form : Form) (page : ℕ) (block : Image) (all pages : ℕ) (places le
           pass = (ap is_some (here ∙ passes), found.pass);
         }
 
-    failing_found : area_of form block entry ≡ None →
+    failing_found : entry_area form block entry ≡ None →
         AreFound form page block all (entry.at / page) places
     failing_found fails =
-        let before = Areas (entries_in page block (entry.at / page) 0) in
+        let before = Areas (entries_within page block (entry.at / page) 0) in
         record {
           found =
               found.found
@@ -247,7 +247,7 @@ module _ (form : Form) (page : ℕ) (block : Image) (all pages : ℕ) (places le
   found_next ended is = by (entry_at page block pages) refl ended is
     where
       by_pass : (entry : Entry) → entry_at page block pages ≡ Some entry → (passes : Bool) →
-          then_some passes left ≡ area_of form block entry →
+          then_some passes left ≡ entry_area form block entry →
           AreFound form page block all (entry.at / page) (if passes then pages ∷ places else places)
       by_pass entry at true passed = passing_found entry at left (sym passed)
       by_pass entry at false passed = failing_found entry at (sym passed)
@@ -271,7 +271,7 @@ pub no_places : (form : Form) (page : ℕ) (block : Image) (all : ℕ) (places :
     AreFound form page block all all places
 no_places form page block all places none =
     subst (AreFound form page block all all) (sym none)
-    (record { found = sym (append-nil (filter_map (area_of form block) (entries_in page block all 0))); pass = tt })
+    (record { found = sym (append-nil (filter_map (entry_area form block) (entries_within page block all 0))); pass = tt })
 
 pub found_as : (form : Form) (page : ℕ) (block : Image) (all one other : ℕ) (places others : List ℕ) →
     one ≡ other → places ≡ others → AreFound form page block all one places →
@@ -286,10 +286,10 @@ pub all_found : (form : Form) (page size : ℕ) (block : Image) (pages : ℕ) (p
     ArePlaces form page block places
 all_found form page size block pages places paged none found = record {
   areas =
-      ap (λ n. filter_map (area_of form block) (entries_in page block (n / page) 0)) paged.bytes
+      ap (λ n. filter_map (entry_area form block) (entries_within page block (n / page) 0)) paged.bytes
       ∙ found.found
-      ∙ ap (λ (es : List Entry). filter_map (area_of form block) es ++ filter_map (area_at form page block) places)
-      (ap (λ n. entries_in page block n 0) none ∙ entries_none page block 0);
+      ∙ ap (λ (es : List Entry). filter_map (entry_area form block) es ++ filter_map (area_at form page block) places)
+      (ap (λ n. entries_within page block n 0) none ∙ entries_none page block 0);
   pass = found.pass;
 }
 

@@ -21,21 +21,21 @@ abbrev pub pages_over : ℕ → Option Entry → ℕ
 pages_over page entry = option_map_or (λ e. e.len / page - 1) entry 0
 
 -- the entries in a block's first pages, the last `over` of which are of an entry that was taken
-unfoldable pub entries_in : ℕ → Image → ℕ → ℕ → List Entry
-entries_in page block zero over = []
-entries_in page block (suc pages) (suc over) = entries_in page block pages over
-entries_in page block (suc pages) zero =
+unfoldable pub entries_within : ℕ → Image → ℕ → ℕ → List Entry
+entries_within page block zero over = []
+entries_within page block (suc pages) (suc over) = entries_within page block pages over
+entries_within page block (suc pages) zero =
     let last = entry_at page block (suc pages) in
-    entries_in page block pages (pages_over page last) ++ option_to_list last
+    entries_within page block pages (pages_over page last) ++ option_to_list last
 
 -- in all of its pages
-abbrev pub entries_of : ℕ → Image → List Entry
-entries_of page block = entries_in page block (length block.bytes / page) 0
+abbrev pub held_entries : ℕ → Image → List Entry
+held_entries page block = entries_within page block (length block.bytes / page) 0
 
 -- the area that the record of an entry passes, if it passes one
-abbrev pub area_of : Form → Image → Entry → Option (List ℕ)
-area_of form block entry = form.passes (record_of block entry)
+abbrev pub entry_area : Form → Image → Entry → Option (List ℕ)
+entry_area form block entry = form.passes (record_of block entry)
 
 -- those that the entries of a block pass; what passes nothing is left out
 abbrev pub log_areas : Form → ℕ → Image → List (List ℕ)
-log_areas form page block = filter_map (area_of form block) (entries_of page block)
+log_areas form page block = filter_map (entry_area form block) (held_entries page block)

@@ -89,9 +89,9 @@ abbrev pub is_read_fault : HistoryFault → Bool
 is_read_fault ReadFault = true
 is_read_fault NoMemory = false
 
-abbrev pub fails_to_read : {T : Type 0} → Result T HistoryFault → Bool
-fails_to_read (Ok done) = false
-fails_to_read (Err fault) = is_read_fault fault
+abbrev pub failed_to_read : {T : Type 0} → Result T HistoryFault → Bool
+failed_to_read (Ok done) = false
+failed_to_read (Err fault) = is_read_fault fault
 
 -- the device was only read, and the text of what it holds was added, or a front of that
 pub record ReadsHistory
@@ -99,5 +99,5 @@ pub record ReadsHistory
     (given : Result T HistoryFault) : Type 0 where
   pub told : ForSome (content from) (λ image. Adds (text image) old new given)
   pub quiet : IsQuiet from to
-  pub faults : to.faults ≡ counted (fails_to_read given) from.faults
-  pub read_faults : to.read_faults ≡ counted (fails_to_read given) from.read_faults
+  pub faults : to.faults ≡ counted (failed_to_read given) from.faults
+  pub read_faults : to.read_faults ≡ counted (failed_to_read given) from.read_faults

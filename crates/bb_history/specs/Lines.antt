@@ -14,14 +14,14 @@ abbrev pub entry_line : ℕ → List ℕ
 entry_line number = codes "entry " ++ (decimal number ++ codes "\n")
 
 -- and after it each variable of its area
-abbrev pub entry_text : List Var → ℕ → List ℕ → List ℕ
-entry_text vars number area = entry_line number ++ flat_map (dump_line area) vars
+abbrev pub numbered_text : List Var → ℕ → List ℕ → List ℕ
+numbered_text vars number area = entry_line number ++ flat_map (dump_line area) vars
 
 -- entries from a number on
 abbrev pub entries_text : List Var → ℕ → List (List ℕ) → List ℕ
 entries_text vars number [] = []
 entries_text vars number (area ∷ areas) =
-    entry_text vars number area ++ entries_text vars (number + 1) areas
+    numbered_text vars number area ++ entries_text vars (number + 1) areas
 
 -- of a copy, by the areas of its history
 abbrev pub copy_text : List Var → ℕ → List (List ℕ) → List ℕ

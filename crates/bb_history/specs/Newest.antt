@@ -9,7 +9,7 @@ use Rattle.bb_layout.specs.declared.storage.Storage.{Storage}
 use Rattle.bb_history.specs.History.{IsRegionOf, kind_in, region_areas}
 
 -- a list ends with an item
-pub record EndsWith (areas : List (List ℕ)) (area : List ℕ) : Type 0 where
+pub record HasAsLast (areas : List (List ℕ)) (area : List ℕ) : Type 0 where
   pub earlier : List (List ℕ)
   pub is : areas ≡ earlier ++ area ∷ []
 
@@ -20,4 +20,4 @@ NewestIsLast =
     (area : List ℕ) →
     IsRegionOf geometry storage region → IsImageOf geometry image →
     passing_of form geometry.page (kind_in storage geometry.page region) image ≡ Some area →
-    EndsWith (region_areas form storage geometry.page region image) area
+    HasAsLast (region_areas form storage geometry.page region image) area

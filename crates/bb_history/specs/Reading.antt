@@ -8,13 +8,13 @@ use Rattle.bb_circular.specs.declared.kept.Entry.{Entry}
 use Rattle.bb_flash.specs.Image.{Image, health_of}
 use Rattle.bb_flash.specs.declared.health.Health.TheVariants.{Lost}
 use Rattle.bb_layout.specs.declared.var.Var.{Var}
-use Rattle.bb_history.specs.Entries.{area_of, entries_in, entry_at, log_areas}
-use Rattle.bb_history.specs.Lines.{entry_text}
+use Rattle.bb_history.specs.Entries.{entry_area, entries_within, entry_at, log_areas}
+use Rattle.bb_history.specs.Lines.{numbered_text}
 use Rattle.bb_history.specs.declared.entry.Ended.{Ended}
-use Rattle.bb_history.specs.declared.room.Room.{Room}
+use Rattle.bb_history.specs.declared.room.PageRoom.{PageRoom}
 
 -- memory for a page of this size, some bytes of a record, and an area of that length
-pub record HasRoom (page area_len : ℕ) (memory : Room) : Type 0 where
+pub record HasPageRoom (page area_len : ℕ) (memory : PageRoom) : Type 0 where
   pub page_is : length memory.page.items ≡ page
   pub piece : 0 < length memory.piece.items
   pub area : length memory.area.items ≡ area_len
@@ -32,7 +32,7 @@ pub record IsEndedBy (form : Form) (page : ℕ) (block : Image) (entry : Option 
     (left : List ℕ) (ended : Option Ended) : Type 0 where
   pub before : option_map (λ e. e.before) ended ≡ option_map (λ e. e.at / page) entry
   pub passes :
-      IfSome ended (λ e. then_some e.passes left ≡ option_and_then (area_of form block) entry)
+      IfSome ended (λ e. then_some e.passes left ≡ option_and_then (entry_area form block) entry)
 
 -- the one that so many first pages of a block end with
 abbrev pub IsEnded : Form → ℕ → Image → ℕ → List ℕ → Option Ended → Type 0
@@ -41,7 +41,7 @@ IsEnded form page block pages left ended =
 
 -- the area that it passes, if it is there and passes one
 abbrev pub area_at : Form → ℕ → Image → ℕ → Option (List ℕ)
-area_at form page block pages = option_and_then (area_of form block) (entry_at page block pages)
+area_at form page block pages = option_and_then (entry_area form block) (entry_at page block pages)
 
 -- ---- all entries
 
@@ -68,8 +68,8 @@ AllPass form page block places =
 pub record AreFound (form : Form) (page : ℕ) (block : Image) (all pages : ℕ) (places : List ℕ)
     : Type 0 where
   pub found :
-      filter_map (area_of form block) (entries_in page block all 0)
-      ≡ filter_map (area_of form block) (entries_in page block pages 0)
+      filter_map (entry_area form block) (entries_within page block all 0)
+      ≡ filter_map (entry_area form block) (entries_within page block pages 0)
       ++ filter_map (area_at form page block) places
   pub pass : AllPass form page block places
 
@@ -84,12 +84,12 @@ pub record ArePlaces (form : Form) (page : ℕ) (block : Image) (places : List �
 abbrev pub ended_text : List Var → ℕ → List ℕ → Option Ended → List ℕ
 ended_text vars number left None = []
 ended_text vars number left (Some ended) =
-    if ended.passes then entry_text vars number left else []
+    if ended.passes then numbered_text vars number left else []
 
 -- of the entry at a place
 abbrev pub place_text : List Var → Form → ℕ → Image → ℕ → ℕ → List ℕ
 place_text vars form page block number place =
-    option_map_or (λ area. entry_text vars number area) (area_at form page block place) []
+    option_map_or (λ area. numbered_text vars number area) (area_at form page block place) []
 
 -- of those at these places, from a number on
 abbrev pub places_text : List Var → Form → ℕ → Image → ℕ → List ℕ → List ℕ

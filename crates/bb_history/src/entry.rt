@@ -9,9 +9,9 @@ ghost use Rattle.bb_bucket.specs.Front.{is_lost};
 ghost use Rattle.bb_bucket.specs.Kind.{part_of};
 ghost use Rattle.bb_circular.specs.Circular.{IsEntryIn, readable};
 ghost use Rattle.bb_circular.specs.Entries.{closing_len};
-ghost use Rattle.bb_history.specs.Reading.{HasRoom, IsEnded, IsEndedBy, IsLastRead};
+ghost use Rattle.bb_history.specs.Reading.{HasPageRoom, IsEnded, IsEndedBy, IsLastRead};
 
-use crate::room::Room;
+use crate::room::PageRoom;
 use bb_base::{Failed, Format};
 use bb_bucket::{Block, read_part};
 use bb_circular::{CLOSING_LEN, Entry, entry_before};
@@ -35,17 +35,17 @@ pub(crate) fn look_at<M: Format, F: Flash>(
     block: Block,
     format: &M,
     pages: u32,
-    memory: &mut Room,
+    memory: &mut PageRoom,
 ) -> Result<Option<Ended>, Failed>
     requires held { IsTrue (is_block_of block (F.device flash.old).geometry) }
     requires some { 1 ≤ pages }
     requires inside { pages ≤ block.region.size / block.page }
-    requires memory { HasRoom block.page (M.form format.now).area_len memory.old }
+    requires memory { HasPageRoom block.page (M.form format.now).area_len memory.old }
     ensures done { IfOk result (λ ended. ForSome (content (F.device flash.old)) (λ image.
         IsEnded (M.form format.now) block.page (part_of block.page block.region image) pages
         memory.new.area.items ended)) }
     ensures before { IfOk result (λ ended. IfSome ended (λ e. e.before < pages)) }
-    ensures memory { HasRoom block.page (M.form format.now).area_len memory.new }
+    ensures memory { HasPageRoom block.page (M.form format.now).area_len memory.new }
     ensures quiet { IsQuiet (F.device flash.old) (F.device flash.new) }
     ensures faults { (F.device flash.new).faults
         ≡ counted (is_err result) (F.device flash.old).faults }

@@ -4,7 +4,7 @@ ghost use Rattle.bb_state.specs.Kinds.{any_form};
 
 use crate::fault::HistoryFault;
 use crate::region::read_region;
-use crate::room::Room;
+use crate::room::PageRoom;
 use bb_base::{Bytes, Format};
 use bb_flash::{Flash, Region};
 use bb_layout::Layout;
@@ -35,7 +35,7 @@ pub fn read_history<F: Flash>(
         (F.device flash.old) (F.device flash.new) out.old out.new result }
 {
     let page = flash.geometry().page;
-    let mut memory = Room::of(alloc, page, format.area_len())?;
+    let mut memory = PageRoom::of(alloc, page, format.area_len())?;
     for copy in 0..regions.len() {
         let region = regions[copy];
         read_region(alloc, flash, region, layout, format, copy, &mut memory, out)?;

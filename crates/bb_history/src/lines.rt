@@ -1,5 +1,5 @@
 ghost use Rattle.std.specs.Prelude.{◌≡◌, ◌++◌, OnErr, OnOk, length};
-ghost use Rattle.bb_history.specs.Lines.{count_line, entry_text};
+ghost use Rattle.bb_history.specs.Lines.{count_line, numbered_text};
 ghost use Rattle.bb_history.specs.Reading.{ended_text};
 
 use crate::entry::Ended;
@@ -34,7 +34,7 @@ pub(crate) fn add_entry(
 ) -> Result<(), NoMemory>
     requires { length area.now ≡ layout.now.area_len }
     ensures added { OnOk result
-        (out.new ≡ out.old ++ entry_text layout.now.vars number area.now) }
+        (out.new ≡ out.old ++ numbered_text layout.now.vars number area.now) }
     ensures unchanged { OnErr result (out.new ≡ out.old) }
 {
     let mut text = Bytes::none(alloc);

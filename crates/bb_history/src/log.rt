@@ -6,16 +6,16 @@ ghost use Rattle.bb_bucket.specs.Blocks.{is_block_of};
 ghost use Rattle.bb_bucket.specs.Calls.{IsQuiet};
 ghost use Rattle.bb_bucket.specs.Kind.{part_of};
 ghost use Rattle.bb_history.specs.Entries.{log_areas};
-ghost use Rattle.bb_history.specs.History.{ReadsHistory, fails_to_read};
+ghost use Rattle.bb_history.specs.History.{ReadsHistory, failed_to_read};
 ghost use Rattle.bb_history.specs.Lines.{copy_text};
-ghost use Rattle.bb_history.specs.Reading.{ArePlaces, AreWithin, HasRoom, kept_places, pages_left};
+ghost use Rattle.bb_history.specs.Reading.{ArePlaces, AreWithin, HasPageRoom, kept_places, pages_left};
 ghost use Rattle.bb_history.specs.Reading.{places_text};
 
 use crate::entry::{Ended, look_at};
 use crate::fault::HistoryFault;
 use crate::lines::{add_count, add_ended};
 use crate::places::Places;
-use crate::room::Room;
+use crate::room::PageRoom;
 use bb_base::{Bytes, Format, NoMemory};
 use bb_bucket::Block;
 use bb_flash::Flash;
@@ -31,16 +31,16 @@ pub(crate) fn read_log<M: Format, F: Flash>(
     layout: &Layout,
     format: &M,
     copy: usize,
-    memory: &mut Room,
+    memory: &mut PageRoom,
     out: &mut Bytes,
 ) -> Result<(), HistoryFault>
     requires held { IsTrue (is_block_of block (F.device flash.old).geometry) }
     requires sized { (M.form format.now).area_len ≡ layout.now.area_len }
-    requires memory { HasRoom block.page layout.now.area_len memory.old }
+    requires memory { HasPageRoom block.page layout.now.area_len memory.old }
     ensures reads { ReadsHistory (λ image. copy_text layout.now.vars copy
         (log_areas (M.form format.now) block.page (part_of block.page block.region image)))
         (F.device flash.old) (F.device flash.new) out.old out.new result }
-    ensures memory { HasRoom block.page layout.now.area_len memory.new }
+    ensures memory { HasPageRoom block.page layout.now.area_len memory.new }
 {
     let places = find_places(alloc, flash, block, format, memory)?;
     add_count(alloc, copy, places.len(), out)?;
@@ -55,20 +55,20 @@ fn find_places<M: Format, F: Flash>(
     flash: &mut F,
     block: Block,
     format: &M,
-    memory: &mut Room,
+    memory: &mut PageRoom,
 ) -> Result<Places, HistoryFault>
     requires held { IsTrue (is_block_of block (F.device flash.old).geometry) }
-    requires memory { HasRoom block.page (M.form format.now).area_len memory.old }
+    requires memory { HasPageRoom block.page (M.form format.now).area_len memory.old }
     ensures found { IfOk result (λ places. ForSome (content (F.device flash.old)) (λ image.
         ArePlaces (M.form format.now) block.page (part_of block.page block.region image)
         places)) }
     ensures within { IfOk result (AreWithin (block.region.size / block.page)) }
-    ensures memory { HasRoom block.page (M.form format.now).area_len memory.new }
+    ensures memory { HasPageRoom block.page (M.form format.now).area_len memory.new }
     ensures quiet { IsQuiet (F.device flash.old) (F.device flash.new) }
     ensures faults { (F.device flash.new).faults
-        ≡ counted (fails_to_read result) (F.device flash.old).faults }
+        ≡ counted (failed_to_read result) (F.device flash.old).faults }
     ensures read_faults { (F.device flash.new).read_faults
-        ≡ counted (fails_to_read result) (F.device flash.old).read_faults }
+        ≡ counted (failed_to_read result) (F.device flash.old).read_faults }
 {
     let _ = flash.geometry();
     let mut places = Places::none(alloc);
@@ -114,17 +114,17 @@ fn add_entries<M: Format, F: Flash>(
     layout: &Layout,
     format: &M,
     places: &Places,
-    memory: &mut Room,
+    memory: &mut PageRoom,
     out: &mut Bytes,
 ) -> Result<(), HistoryFault>
     requires held { IsTrue (is_block_of block (F.device flash.old).geometry) }
     requires sized { (M.form format.now).area_len ≡ layout.now.area_len }
     requires within { AreWithin (block.region.size / block.page) places.now }
-    requires memory { HasRoom block.page layout.now.area_len memory.old }
+    requires memory { HasPageRoom block.page layout.now.area_len memory.old }
     ensures reads { ReadsHistory (λ image. places_text layout.now.vars (M.form format.now)
         block.page (part_of block.page block.region image) 1 places.now)
         (F.device flash.old) (F.device flash.new) out.old out.new result }
-    ensures memory { HasRoom block.page layout.now.area_len memory.new }
+    ensures memory { HasPageRoom block.page layout.now.area_len memory.new }
 {
     let _ = flash.geometry();
     for number in 0..places.len() {

@@ -4,12 +4,12 @@ ghost use Rattle.bb_copies.specs.Passing.{passing_of};
 ghost use Rattle.bb_state.specs.Kinds.{any_form};
 ghost use Rattle.bb_history.specs.History.{IsRegionOf, ReadsHistory, region_areas};
 ghost use Rattle.bb_history.specs.Lines.{copy_text};
-ghost use Rattle.bb_history.specs.Reading.{HasRoom};
+ghost use Rattle.bb_history.specs.Reading.{HasPageRoom};
 
 use crate::fault::HistoryFault;
 use crate::lines::{add_count, add_entry};
 use crate::log::read_log;
-use crate::room::Room;
+use crate::room::PageRoom;
 use bb_base::{Bytes, Format};
 use bb_bucket::{Block, Bucket, OneBlock, Stride};
 use bb_copies::read_copy;
@@ -26,16 +26,16 @@ pub(crate) fn read_region<F: Flash>(
     layout: &Layout,
     format: &AnyFormat,
     copy: usize,
-    memory: &mut Room,
+    memory: &mut PageRoom,
     out: &mut Bytes,
 ) -> Result<(), HistoryFault>
     requires region { IsRegionOf (F.device flash.old).geometry layout.now.storage region }
     requires sized { (any_form format.now).area_len ≡ layout.now.area_len }
-    requires memory { HasRoom (F.device flash.old).geometry.page layout.now.area_len memory.old }
+    requires memory { HasPageRoom (F.device flash.old).geometry.page layout.now.area_len memory.old }
     ensures reads { ReadsHistory (λ image. copy_text layout.now.vars copy
         (region_areas (any_form format.now) layout.now.storage (F.device flash.old).geometry.page
         region image)) (F.device flash.old) (F.device flash.new) out.old out.new result }
-    ensures memory { HasRoom (F.device flash.old).geometry.page layout.now.area_len memory.new }
+    ensures memory { HasPageRoom (F.device flash.old).geometry.page layout.now.area_len memory.new }
 {
     let page = flash.geometry().page;
     let most = format.length(format.area_len());
@@ -63,18 +63,18 @@ fn read_single<B: Bucket, M: Format, F: Flash>(
     layout: &Layout,
     format: &M,
     copy: usize,
-    memory: &mut Room,
+    memory: &mut PageRoom,
     out: &mut Bytes,
 ) -> Result<(), HistoryFault>
     requires serves { IsTrue ((B.holding bucket.old).kind.serves (F.device flash.old).geometry) }
     requires agreed { Agrees (B.holding bucket.old) (F.device flash.old) }
     requires sized { (M.form format.now).area_len ≡ layout.now.area_len }
-    requires memory { HasRoom (F.device flash.old).geometry.page layout.now.area_len memory.old }
+    requires memory { HasPageRoom (F.device flash.old).geometry.page layout.now.area_len memory.old }
     ensures reads { ReadsHistory (λ image. copy_text layout.now.vars copy
         (option_to_list (passing_of (M.form format.now) (F.device flash.old).geometry.page
         (B.holding bucket.old).kind image)))
         (F.device flash.old) (F.device flash.new) out.old out.new result }
-    ensures memory { HasRoom (F.device flash.old).geometry.page layout.now.area_len memory.new }
+    ensures memory { HasPageRoom (F.device flash.old).geometry.page layout.now.area_len memory.new }
 {
     let _ = flash.geometry();
     let passing = read_copy(bucket, format, flash, &mut memory.piece, &mut memory.area)?;

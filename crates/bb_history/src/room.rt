@@ -1,5 +1,5 @@
 ghost use Rattle.std.specs.Prelude.{◌≤◌, IfOk};
-ghost use Rattle.bb_history.specs.Reading.{HasRoom};
+ghost use Rattle.bb_history.specs.Reading.{HasPageRoom};
 
 use bb_base::NoMemory;
 use std::alloc::Global;
@@ -9,7 +9,7 @@ const PIECE_LEN: u32 = 256;
 
 /// Memory that records are read into. It is taken once.
 #[derive(Debug, Drop)]
-pub(crate) struct Room {
+pub(crate) struct PageRoom {
     /// The last page of an entry.
     pub page: Vec<u8>,
     /// A piece of a record.
@@ -18,14 +18,14 @@ pub(crate) struct Room {
     pub area: Vec<u8>,
 }
 
-impl Room {
+impl PageRoom {
     /// For pages of this size, at least one byte, and areas of this length.
-    pub(crate) fn of(alloc: Global, page: u32, area_len: usize) -> Result<Room, NoMemory>
+    pub(crate) fn of(alloc: Global, page: u32, area_len: usize) -> Result<PageRoom, NoMemory>
         requires { 1 ≤ page }
-        ensures { IfOk result (HasRoom page area_len) }
+        ensures { IfOk result (HasPageRoom page area_len) }
     {
         let piece_len = PIECE_LEN.max(page);
-        Ok(Room {
+        Ok(PageRoom {
             page: vec![in alloc; 0; page as usize]?,
             piece: vec![in alloc; 0; piece_len as usize]?,
             area: vec![in alloc; 0; area_len]?,

@@ -5,9 +5,9 @@ use Rattle.bb_base.specs.Form.{Form}
 use Rattle.bb_bucket.proofs.Quiet.{keeps_of_quiet, quiet_joined, quiet_same}
 use Rattle.bb_flash.specs.Device.{Device}
 use Rattle.bb_flash.specs.declared.geometry.Geometry.{Geometry}
-use Rattle.bb_history.specs.History.{AddsFront, IsRegionOf, fails_to_read, region_areas, regions_text}
+use Rattle.bb_history.specs.History.{AddsFront, IsRegionOf, failed_to_read, region_areas, regions_text}
 use Rattle.bb_history.specs.Lines.{copy_text}
-use Rattle.bb_history.specs.Reading.{HasRoom}
+use Rattle.bb_history.specs.Reading.{HasPageRoom}
 use Rattle.bb_history.proofs.Copying.{copies_next, copies_split}
 use Rattle.bb_history.proofs.Joining.{adds_behind, adds_none, front_of_first, handed_failed, refused_adds}
 use Rattle.bb_state.specs.Kinds.{any_form}
@@ -18,8 +18,8 @@ loop-copy-init g c = record {
   added = λ image told. sym (append-nil c.args.out.now);
   memory =
       let page = ap (λ (geometry : Geometry). geometry.page) c.geometry.ensures.value in
-      subst (λ n. HasRoom n c.args.layout.now.area_len c.in_ok-memory.memory) page
-      (subst (λ n. HasRoom c.geometry.result.page n c.in_ok-memory.memory) (c.area_len.ensures ∙ c.requires.sized) c.in_ok-memory.ensures);
+      subst (λ n. HasPageRoom n c.args.layout.now.area_len c.in_ok-memory.memory) page
+      (subst (λ n. HasPageRoom c.geometry.result.page n c.in_ok-memory.memory) (c.area_len.ensures ∙ c.requires.sized) c.in_ok-memory.ensures);
   quiet = quiet_same (g.F.Flash.device c.args.flash.now) c.geometry.ensures.whole;
   faults = refl;
   read_faults = refl;
@@ -51,7 +51,7 @@ loop-copy-preserved g c =
           (ap (λ (geometry : Geometry). geometry.page) keeps.geometry)
           ∙ ap (λ l. c.args.out.now ++ l) (sym (copies_next vars form storage page image c.args.regions.now c.loop-copy.copy c.index.result there));
       memory =
-          subst (λ n. HasRoom n c.args.layout.now.area_len c.read_region.new.memory) (ap (λ (geometry : Geometry). geometry.page) i.quiet.later.geometry)
+          subst (λ n. HasPageRoom n c.args.layout.now.area_len c.read_region.new.memory) (ap (λ (geometry : Geometry). geometry.page) i.quiet.later.geometry)
           c.in_ok-read_region.ensures.memory;
       quiet = quiet_joined from (g.F.Flash.device c.loop-copy.flash) (g.F.Flash.device c.read_region.new.flash) i.quiet r.quiet;
       faults = r.faults ∙ i.faults;
@@ -110,8 +110,8 @@ returns-in_err-read_region g c =
       quiet = quiet_joined from (g.F.Flash.device c.loop-copy.flash) (g.F.Flash.device c.read_region.new.flash) i.quiet r.quiet;
       faults =
           r.faults ∙ ap (λ b. counted b (g.F.Flash.device c.loop-copy.flash).faults) (sym failed)
-          ∙ ap (counted (fails_to_read given)) i.faults;
+          ∙ ap (counted (failed_to_read given)) i.faults;
       read_faults =
           r.read_faults ∙ ap (λ b. counted b (g.F.Flash.device c.loop-copy.flash).read_faults) (sym failed)
-          ∙ ap (counted (fails_to_read given)) i.read_faults;
+          ∙ ap (counted (failed_to_read given)) i.read_faults;
     }

@@ -4,7 +4,7 @@ use Rattle.bb_flash.specs.Device.{content}
 use Rattle.bb_bucket.specs.Calls.{IsQuiet}
 use Rattle.bb_state.specs.Kinds.{any_form}
 use Rattle.bb_history.specs.History.{regions_text}
-use Rattle.bb_history.specs.Reading.{HasRoom}
+use Rattle.bb_history.specs.Reading.{HasPageRoom}
 use Rattle.bb_history.proofs.history.read_history.Given as goal
 
 -- the lines of the copies so far are added
@@ -18,7 +18,7 @@ invariant-loop-copy g l =
           ≡ l.fn.out
           ++ regions_text l.layout.vars (any_form l.format) l.layout.storage from.geometry.page 0
           (take l.copy l.regions) image);
-      memory : HasRoom from.geometry.page l.layout.area_len l.memory;
+      memory : HasPageRoom from.geometry.page l.layout.area_len l.memory;
       quiet : IsQuiet from now;
       faults : now.faults ≡ from.faults;
       read_faults : now.read_faults ≡ from.read_faults;

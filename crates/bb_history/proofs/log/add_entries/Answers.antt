@@ -7,7 +7,7 @@ use Rattle.bb_bucket.specs.Kind.{part_of}
 use Rattle.bb_copies.proofs.Ends.{whole_slice}
 use Rattle.bb_flash.specs.Image.{Image}
 use Rattle.bb_flash.specs.declared.geometry.Geometry.{Geometry}
-use Rattle.bb_history.specs.History.{fails_to_read}
+use Rattle.bb_history.specs.History.{failed_to_read}
 use Rattle.bb_history.specs.Reading.{ended_text, place_text, places_text}
 use Rattle.bb_history.proofs.Joining.{front_of_whole, handed_failed, refused_adds}
 use Rattle.bb_history.proofs.Texts.{ended_is, places_behind, places_next_at, places_split, within_at}
@@ -91,10 +91,10 @@ returns-in_err-ended-clause-reads g c =
       quiet = quiet_joined (g.F.Flash.device c.args.flash.now) (g.F.Flash.device c.loop-number.flash) (g.F.Flash.device c.look_at.new.flash) i.quiet r.quiet;
       faults =
           r.faults ∙ ap (λ b. counted b (g.F.Flash.device c.loop-number.flash).faults) (sym failed)
-          ∙ ap (counted (fails_to_read c.from_residual.result)) i.faults;
+          ∙ ap (counted (failed_to_read c.from_residual.result)) i.faults;
       read_faults =
           r.read_faults ∙ ap (λ b. counted b (g.F.Flash.device c.loop-number.flash).read_faults) (sym failed)
-          ∙ ap (counted (fails_to_read c.from_residual.result)) i.read_faults;
+          ∙ ap (counted (failed_to_read c.from_residual.result)) i.read_faults;
     }
 
 -- so they were where memory was refused

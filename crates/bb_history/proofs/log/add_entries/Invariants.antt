@@ -3,7 +3,7 @@ use Rattle.std.specs.Option.{ForSome}
 use Rattle.bb_flash.specs.Device.{content}
 use Rattle.bb_bucket.specs.Calls.{IsQuiet}
 use Rattle.bb_bucket.specs.Kind.{part_of}
-use Rattle.bb_history.specs.Reading.{HasRoom, places_text}
+use Rattle.bb_history.specs.Reading.{HasPageRoom, places_text}
 use Rattle.bb_history.proofs.log.add_entries.Given as goal
 
 -- the lines of the entries so far are added
@@ -18,7 +18,7 @@ invariant-loop-number g l =
           ≡ l.fn.out
           ++ places_text l.layout.vars form l.block.page (part_of l.block.page l.block.region image) 1
           (take l.number l.places));
-      memory : HasRoom l.block.page l.layout.area_len l.memory;
+      memory : HasPageRoom l.block.page l.layout.area_len l.memory;
       quiet : IsQuiet from now;
       faults : now.faults ≡ from.faults;
       read_faults : now.read_faults ≡ from.read_faults;

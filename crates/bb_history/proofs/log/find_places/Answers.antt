@@ -8,7 +8,7 @@ use Rattle.bb_bucket.specs.Kind.{part_of}
 use Rattle.bb_circular.proofs.LogDevices.{part_paged}
 use Rattle.bb_flash.specs.Image.{Image}
 use Rattle.bb_flash.specs.declared.geometry.Geometry.{Geometry}
-use Rattle.bb_history.specs.History.{fails_to_read}
+use Rattle.bb_history.specs.History.{failed_to_read}
 use Rattle.bb_history.specs.Reading.{AreWithin}
 use Rattle.bb_history.proofs.Joining.{handed_failed}
 use Rattle.bb_history.proofs.Walking.{all_found, found_as, found_next, kept_within, left_less, no_places}
@@ -70,13 +70,13 @@ pub returns-in_err-ended-clause-faults : goal.returns-in_err-ended-clause-faults
 returns-in_err-ended-clause-faults g c =
     c.in_err-ended.ensures.faults
     ∙ ap (λ b. counted b (g.F.Flash.device c.loop-pages.flash).faults) (sym (handed_failed c.from_residual.result c.from_residual.ensures.1))
-    ∙ ap (counted (fails_to_read c.from_residual.result)) c.loop-pages.invariant.faults
+    ∙ ap (counted (failed_to_read c.from_residual.result)) c.loop-pages.invariant.faults
 
 pub returns-in_err-ended-clause-read_faults : goal.returns-in_err-ended-clause-read_faults
 returns-in_err-ended-clause-read_faults g c =
     c.in_err-ended.ensures.read_faults
     ∙ ap (λ b. counted b (g.F.Flash.device c.loop-pages.flash).read_faults) (sym (handed_failed c.from_residual.result c.from_residual.ensures.1))
-    ∙ ap (counted (fails_to_read c.from_residual.result)) c.loop-pages.invariant.read_faults
+    ∙ ap (counted (failed_to_read c.from_residual.result)) c.loop-pages.invariant.read_faults
 
 pub returns-in_err-keep-clause-faults : goal.returns-in_err-keep-clause-faults
 returns-in_err-keep-clause-faults g c =

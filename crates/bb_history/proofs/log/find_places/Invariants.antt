@@ -3,7 +3,7 @@ use Rattle.std.specs.Option.{ForSome}
 use Rattle.bb_flash.specs.Device.{content}
 use Rattle.bb_bucket.specs.Calls.{IsQuiet}
 use Rattle.bb_bucket.specs.Kind.{part_of}
-use Rattle.bb_history.specs.Reading.{AreFound, AreWithin, HasRoom}
+use Rattle.bb_history.specs.Reading.{AreFound, AreWithin, HasPageRoom}
 use Rattle.bb_history.proofs.log.find_places.Given as goal
 
 abbrev pub invariant-loop-pages : goal.invariant-loop-pages
@@ -17,7 +17,7 @@ invariant-loop-pages g l =
       found : ForSome (content from) (λ image.
           AreFound form l.block.page (part_of l.block.page l.block.region image) all l.pages l.places);
       within : AreWithin all l.places;
-      memory : HasRoom l.block.page form.area_len l.memory;
+      memory : HasPageRoom l.block.page form.area_len l.memory;
       quiet : IsQuiet from now;
       faults : now.faults ≡ from.faults;
       read_faults : now.read_faults ≡ from.read_faults;

@@ -4,7 +4,7 @@ use Rattle.bb_base.specs.Form.{Form}
 use Rattle.bb_bucket.proofs.Quiet.{keeps_of_quiet, quiet_joined}
 use Rattle.bb_bucket.specs.Kind.{part_of}
 use Rattle.bb_flash.specs.Image.{Image}
-use Rattle.bb_history.specs.History.{AddsFront, fails_to_read}
+use Rattle.bb_history.specs.History.{AddsFront, failed_to_read}
 use Rattle.bb_history.specs.Lines.{count_line}
 use Rattle.bb_history.specs.Reading.{places_text}
 use Rattle.bb_history.proofs.Joining.{adds_behind, adds_none, handed_failed, refused_adds}
@@ -54,6 +54,6 @@ returns-clause-reads g c =
           (c.in_ok-add_count.ensures.added ∙ ap (λ n. c.args.out.now ++ count_line c.args.copy n) c.len.ensures)
           (then.told image (keeps.content ∙ told));
       quiet = quiet_joined (g.F.Flash.device c.args.flash.now) (g.F.Flash.device c.find_places.new.flash) (g.F.Flash.device c.add_entries.new.flash) first.quiet then.quiet;
-      faults = then.faults ∙ ap (counted (fails_to_read c.add_entries.result)) first.faults;
-      read_faults = then.read_faults ∙ ap (counted (fails_to_read c.add_entries.result)) first.read_faults;
+      faults = then.faults ∙ ap (counted (failed_to_read c.add_entries.result)) first.faults;
+      read_faults = then.read_faults ∙ ap (counted (failed_to_read c.add_entries.result)) first.read_faults;
     }
