@@ -1,5 +1,5 @@
 -- Parts of a text that are added one after another.
-use Rattle.std.proofs.Common.{◌≡◌, List, ℕ, [], ◌++◌, append-nil, append_assoc, Result, Ok, Err, IsErrAnd, refl, sym, ap, subst, ◌∙◌}
+use Rattle.std.proofs.Common.{◌≡◌, List, ℕ, [], ◌++◌, append-nil, append_assoc, Result, Ok, Err, IsErrAnd, OnErr, OnOk, refl, sym, ap, subst, ◌∙◌}
 use Rattle.bb_history.specs.History.{Adds, AddsFront, failed_to_read, is_read_fault}
 use Rattle.bb_history.specs.declared.fault.HistoryFault.{HistoryFault}
 
@@ -8,12 +8,10 @@ pub adds_none : (whole old : List ℕ) → AddsFront whole old old
 adds_none whole old =
     record { front = []; rest = whole; whole_is = refl; added = sym (append-nil old) }
 
--- a whole part, and then what was added of the rest
-pub adds_behind : {T : Type 0} (one two whole old middle new : List ℕ) (given : Result T HistoryFault) →
-    whole ≡ one ++ two → middle ≡ old ++ one → Adds two middle new given → Adds whole old new given
-adds_behind one two whole old middle new (Ok done) all first rest =
-    rest ∙ ap (λ l. l ++ two) first ∙ append_assoc old one two ∙ ap (λ l. old ++ l) (sym all)
-adds_behind one two whole old middle new (Err fault) all first rest = record {
+-- a whole part, and then a front of the rest
+pub front_behind : (one two whole old middle new : List ℕ) → whole ≡ one ++ two →
+    middle ≡ old ++ one → AddsFront two middle new → AddsFront whole old new
+front_behind one two whole old middle new all first rest = record {
   front = one ++ rest.front;
   rest = rest.rest;
   whole_is =
@@ -21,6 +19,21 @@ adds_behind one two whole old middle new (Err fault) all first rest = record {
   added =
       rest.added ∙ ap (λ l. l ++ rest.front) first ∙ append_assoc old one rest.front;
 }
+
+-- a whole part, and then what was added of the rest
+pub adds_behind : {T E : Type 0} (one two whole old middle new : List ℕ) (given : Result T E) →
+    whole ≡ one ++ two → middle ≡ old ++ one → Adds two middle new given → Adds whole old new given
+adds_behind one two whole old middle new (Ok done) all first rest =
+    rest ∙ ap (λ l. l ++ two) first ∙ append_assoc old one two ∙ ap (λ l. old ++ l) (sym all)
+adds_behind one two whole old middle new (Err fault) all first rest =
+    front_behind one two whole old middle new all first rest
+
+-- what was added or left as it was
+pub adds_as : {T E : Type 0} (whole old new : List ℕ) (given : Result T E) →
+    OnOk given (new ≡ old ++ whole) → OnErr given (new ≡ old) → Adds whole old new given
+adds_as whole old new (Ok done) added unchanged = added
+adds_as whole old new (Err fault) added unchanged =
+    subst (AddsFront whole old) (sym unchanged) (adds_none whole old)
 
 -- a front of a first part is one of the whole
 pub front_of_first : (one two whole old new : List ℕ) → whole ≡ one ++ two →
@@ -40,9 +53,8 @@ front_of_whole one two whole old new all added =
     record { front = one; rest = two; whole_is = all; added = added }
 
 -- what a `?` hands on
-pub refused_adds : {T : Type 0} (whole old new : List ℕ) (given : Result T HistoryFault)
-    {fault : HistoryFault} → IsErrAnd given (λ e. e ≡ fault) → AddsFront whole old new →
-    Adds whole old new given
+pub refused_adds : {T E : Type 0} (whole old new : List ℕ) (given : Result T E) {fault : E} →
+    IsErrAnd given (λ e. e ≡ fault) → AddsFront whole old new → Adds whole old new given
 refused_adds whole old new (Ok done) is front = absurd is
 refused_adds whole old new (Err fault) is front = front
 

@@ -80,7 +80,7 @@ pub record AddsFront (whole old new : List ℕ) : Type 0 where
   pub added : new ≡ old ++ front
 
 -- the text was added, or where that was refused a front of it
-abbrev pub Adds : {T : Type 0} → List ℕ → List ℕ → List ℕ → Result T HistoryFault → Type 0
+abbrev pub Adds : {T E : Type 0} → List ℕ → List ℕ → List ℕ → Result T E → Type 0
 Adds whole old new (Ok done) = new ≡ old ++ whole
 Adds whole old new (Err fault) = AddsFront whole old new
 

@@ -1,5 +1,5 @@
 -- What the steps of a reading find of a log, and what they add of it.
-use Rattle.std.specs.Prelude.{◌≡◌, ◌≢◌, ℕ, ◌+◌, ◌-◌, ◌/◌, ◌≤◌, ◌<◌, List, [], ◌∷◌, ◌++◌, drop, filter_map, length, take, Option, None, Some, IfSome, IsSome, option_and_then, option_map, if◌then◌else◌}
+use Rattle.std.specs.Prelude.{◌≡◌, ◌≢◌, ℕ, ◌+◌, ◌-◌, ◌/◌, ◌≤◌, ◌<◌, List, [], ◌∷◌, ◌++◌, Bool, drop, filter_map, length, take, Option, None, Some, IfSome, IsSome, option_and_then, option_map, if◌then◌else◌}
 use Rattle.std.specs.Bool.{then_some}
 use Rattle.std.specs.List.{AllByRecursion}
 use Rattle.std.specs.Option.{option_map_or}
@@ -80,11 +80,14 @@ pub record ArePlaces (form : Form) (page : ℕ) (block : Image) (places : List �
 
 -- ---- what is added
 
--- of an entry that was read, which leaves an area
+-- of an entry that passes or not, and leaves an area
+abbrev pub passing_text : List Var → ℕ → List ℕ → Bool → List ℕ
+passing_text vars number left passes = if passes then numbered_text vars number left else []
+
+-- of one that was read
 abbrev pub ended_text : List Var → ℕ → List ℕ → Option Ended → List ℕ
 ended_text vars number left None = []
-ended_text vars number left (Some ended) =
-    if ended.passes then numbered_text vars number left else []
+ended_text vars number left (Some ended) = passing_text vars number left ended.passes
 
 -- of the entry at a place
 abbrev pub place_text : List Var → Form → ℕ → Image → ℕ → ℕ → List ℕ

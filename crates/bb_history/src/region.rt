@@ -7,7 +7,7 @@ ghost use Rattle.bb_history.specs.Lines.{copy_text};
 ghost use Rattle.bb_history.specs.Reading.{HasPageRoom};
 
 use crate::fault::HistoryFault;
-use crate::lines::{add_count, add_entry};
+use crate::lines::add_single;
 use crate::log::read_log;
 use crate::room::PageRoom;
 use bb_base::{Bytes, Format};
@@ -78,9 +78,7 @@ fn read_single<B: Bucket, M: Format, F: Flash>(
 {
     let _ = flash.geometry();
     let passing = read_copy(bucket, format, flash, &mut memory.piece, &mut memory.area)?;
-    if passing.is_none() {
-        return Ok(add_count(alloc, copy, 0, out)?);
-    }
-    add_count(alloc, copy, 1, out)?;
-    Ok(add_entry(alloc, layout, 1, &memory.area, out)?)
+    let passes = passing.is_some();
+    add_single(alloc, layout, copy, passes, &memory.area, out)?;
+    Ok(())
 }

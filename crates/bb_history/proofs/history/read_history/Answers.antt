@@ -1,4 +1,4 @@
-use Rattle.std.proofs.Common.{◌++◌, ◌∙◌, ℕ, Err, append-nil, append_assoc, refl, sym, ap, subst, arith, length, take, take_all}
+use Rattle.std.proofs.Common.{◌++◌, ◌∙◌, ℕ, append-nil, append_assoc, refl, sym, ap, subst, arith, length, take, take_all}
 use Rattle.std.proofs.lemmas.Option.{slice_get_read}
 use Rattle.bb_base.specs.Faults.{counted}
 use Rattle.bb_base.specs.Form.{Form}
@@ -9,7 +9,7 @@ use Rattle.bb_history.specs.History.{AddsFront, IsRegionOf, failed_to_read, regi
 use Rattle.bb_history.specs.Lines.{copy_text}
 use Rattle.bb_history.specs.Reading.{HasPageRoom}
 use Rattle.bb_history.proofs.Copying.{copies_next, copies_split}
-use Rattle.bb_history.proofs.Joining.{adds_behind, adds_none, front_of_first, handed_failed, refused_adds}
+use Rattle.bb_history.proofs.Joining.{adds_none, front_behind, front_of_first, handed_failed, refused_adds}
 use Rattle.bb_state.specs.Kinds.{any_form}
 use Rattle.bb_history.proofs.history.read_history.Goals as goal
 
@@ -100,8 +100,7 @@ returns-in_err-read_region g c =
       told = λ image told.
           let keeps = keeps_of_quiet _ _ i.quiet in
           refused_adds _ _ _ given c.from_residual-in_err-read_region.ensures.1
-          (adds_behind (regions_text vars form storage page 0 (take c.loop-copy.copy c.args.regions.now) image) _ _ c.args.out.now c.loop-copy.out c.read_region.new.out
-          (Err c.in_err-read_region.field-0.0)
+          (front_behind (regions_text vars form storage page 0 (take c.loop-copy.copy c.args.regions.now) image) _ _ c.args.out.now c.loop-copy.out c.read_region.new.out
           (copies_split vars form storage page image c.args.regions.now c.loop-copy.copy c.index.result there)
           (i.added image told)
           (front_of_first _ _ _ c.loop-copy.out c.read_region.new.out refl

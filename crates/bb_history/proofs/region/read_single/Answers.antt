@@ -1,7 +1,20 @@
-use Rattle.std.proofs.Common.{◌∙◌, ap, sym}
+use Rattle.std.proofs.Common.{◌≡◌, ◌++◌, ◌∙◌, List, Option, ℕ, Bool, option_to_list, length, ap, subst, sym, arith}
+use Rattle.std.specs.Bool.{then_some}
 use Rattle.bb_base.specs.Faults.{counted}
+use Rattle.bb_base.specs.Form.{Form}
+use Rattle.bb_copies.proofs.Ends.{whole_slice}
+use Rattle.bb_history.specs.History.{AddsFront}
+use Rattle.bb_history.specs.Lines.{copy_text}
 use Rattle.bb_history.proofs.Joining.{adds_none, handed_failed, refused_adds}
+use Rattle.bb_history.proofs.Singles.{reading_is}
 use Rattle.bb_history.proofs.region.read_single.Goals as goal
+
+pub add_single-requires : goal.add_single-requires
+add_single-requires g c =
+    let out : List ℕ = c.read_copy.new.area in
+    ap length c.deref.ensures.value
+    ∙ ap length (whole_slice out c.args.memory.now.area.items _ (c.read_copy.auto.area ∙ c.deref_mut-2.ensures.len))
+    ∙ c.read_copy.auto.area ∙ ap length c.deref_mut-2.ensures.value ∙ c.requires.memory.area
 
 pub returns-in_err-passing-clause-reads : goal.returns-in_err-passing-clause-reads
 returns-in_err-passing-clause-reads g c =
@@ -13,4 +26,73 @@ returns-in_err-passing-clause-reads g c =
       quiet = r.quiet;
       faults = r.faults ∙ ap (λ b. counted b (g.F.Flash.device c.args.flash.now).faults) (sym failed);
       read_faults = r.read_faults ∙ ap (λ b. counted b (g.F.Flash.device c.args.flash.now).read_faults) (sym failed);
+    }
+
+-- the area that the copy passes is the one that was left
+pub returns-clause-reads : goal.returns-clause-reads
+returns-clause-reads g c =
+    let r = c.in_ok-passing.ensures in
+    let vars = c.args.layout.now.vars in
+    let out : List ℕ = c.read_copy.new.area in
+    let is_out : c.deref.result.now ≡ out = c.deref.ensures.value ∙ whole_slice out c.args.memory.now.area.items _ (c.read_copy.auto.area ∙ c.deref_mut-2.ensures.len) in
+    record {
+      told = λ image told.
+          c.in_ok-add_single.ensures
+          ∙ ap (λ (o : Option (List ℕ)). c.args.out.now ++ copy_text vars c.args.copy (option_to_list o))
+          (ap (then_some c.is_some-passes.result) is_out
+          ∙ reading_is out _ c.is_some-passes.result c.in_ok-passing.passing c.is_some-passes.ensures (r.done image told).area);
+      quiet = r.quiet;
+      faults = r.faults;
+      read_faults = r.read_faults;
+    }
+
+pub returns-in_err-add_single-clause-reads : goal.returns-in_err-add_single-clause-reads
+returns-in_err-add_single-clause-reads g c =
+    let r = c.in_ok-passing.ensures in
+    let vars = c.args.layout.now.vars in
+    let out : List ℕ = c.read_copy.new.area in
+    let is_out : c.deref.result.now ≡ out = c.deref.ensures.value ∙ whole_slice out c.args.memory.now.area.items _ (c.read_copy.auto.area ∙ c.deref_mut-2.ensures.len) in
+    let given = c.from_residual-in_err-add_single.result in
+    let failed = handed_failed given c.from_residual-in_err-add_single.ensures.1 in
+    record {
+      told = λ image told.
+          refused_adds _ _ _ given c.from_residual-in_err-add_single.ensures.1
+          (subst (λ (o : Option (List ℕ)). AddsFront (copy_text vars c.args.copy (option_to_list o)) c.args.out.now c.add_single.new.out)
+          (ap (then_some c.is_some-passes.result) is_out
+          ∙ reading_is out _ c.is_some-passes.result c.in_ok-passing.passing c.is_some-passes.ensures (r.done image told).area)
+          c.in_err-add_single.ensures);
+      quiet = r.quiet;
+      faults = r.faults ∙ ap (λ b. counted b (g.F.Flash.device c.args.flash.now).faults) (sym failed);
+      read_faults = r.read_faults ∙ ap (λ b. counted b (g.F.Flash.device c.args.flash.now).read_faults) (sym failed);
+    }
+
+-- room stays as it was, whatever was read into it
+pub returns-in_err-passing-clause-memory : goal.returns-in_err-passing-clause-memory
+returns-in_err-passing-clause-memory g c =
+    let m = c.requires.memory in
+    let piece = ap length (whole_slice c.read_copy.new.piece c.args.memory.now.piece.items _ (c.read_copy.auto.piece ∙ c.deref_mut.ensures.len)) ∙ c.read_copy.auto.piece ∙ ap length c.deref_mut.ensures.value in
+    record {
+      page_is = m.page_is;
+      piece = omega (arith, piece, m.piece);
+      area = ap length (whole_slice c.read_copy.new.area c.args.memory.now.area.items _ (c.read_copy.auto.area ∙ c.deref_mut-2.ensures.len)) ∙ c.read_copy.auto.area ∙ ap length c.deref_mut-2.ensures.value ∙ m.area;
+    }
+
+pub returns-clause-memory : goal.returns-clause-memory
+returns-clause-memory g c =
+    let m = c.requires.memory in
+    let piece = ap length (whole_slice c.read_copy.new.piece c.args.memory.now.piece.items _ (c.read_copy.auto.piece ∙ c.deref_mut.ensures.len)) ∙ c.read_copy.auto.piece ∙ ap length c.deref_mut.ensures.value in
+    record {
+      page_is = m.page_is;
+      piece = omega (arith, piece, m.piece);
+      area = ap length (whole_slice c.read_copy.new.area c.args.memory.now.area.items _ (c.read_copy.auto.area ∙ c.deref_mut-2.ensures.len)) ∙ c.read_copy.auto.area ∙ ap length c.deref_mut-2.ensures.value ∙ m.area;
+    }
+
+pub returns-in_err-add_single-clause-memory : goal.returns-in_err-add_single-clause-memory
+returns-in_err-add_single-clause-memory g c =
+    let m = c.requires.memory in
+    let piece = ap length (whole_slice c.read_copy.new.piece c.args.memory.now.piece.items _ (c.read_copy.auto.piece ∙ c.deref_mut.ensures.len)) ∙ c.read_copy.auto.piece ∙ ap length c.deref_mut.ensures.value in
+    record {
+      page_is = m.page_is;
+      piece = omega (arith, piece, m.piece);
+      area = ap length (whole_slice c.read_copy.new.area c.args.memory.now.area.items _ (c.read_copy.auto.area ∙ c.deref_mut-2.ensures.len)) ∙ c.read_copy.auto.area ∙ ap length c.deref_mut-2.ensures.value ∙ m.area;
     }
