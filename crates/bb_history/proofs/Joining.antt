@@ -1,6 +1,10 @@
 -- Parts of a text that are added one after another.
-use Rattle.std.proofs.Common.{◌≡◌, List, ℕ, [], ◌++◌, append-nil, append_assoc, Result, Ok, Err, IsErrAnd, OnErr, OnOk, refl, sym, ap, subst, ◌∙◌}
-use Rattle.bb_history.specs.History.{Adds, AddsFront, failed_to_read, is_read_fault}
+use Rattle.std.proofs.Common.{◌≡◌, List, ℕ, [], ◌++◌, append-nil, append_assoc, false, Result, Ok, Err, IsErrAnd, OnErr, OnOk, refl, sym, ap, subst, ◌∙◌}
+use Rattle.bb_base.specs.Faults.{counted}
+use Rattle.bb_bucket.specs.Calls.{IsQuiet}
+use Rattle.bb_flash.specs.Device.{Device}
+use Rattle.bb_flash.specs.Image.{Image}
+use Rattle.bb_history.specs.History.{Adds, AddsFront, ReadsHistory, failed_to_read, is_read_fault}
 use Rattle.bb_history.specs.declared.fault.HistoryFault.{HistoryFault}
 
 -- nothing was added yet
@@ -63,3 +67,27 @@ pub handed_failed : {T : Type 0} (given : Result T HistoryFault) {fault : Histor
     IsErrAnd given (λ e. e ≡ fault) → failed_to_read given ≡ is_read_fault fault
 handed_failed (Ok done) is = absurd is
 handed_failed (Err fault) is = ap is_read_fault is
+
+-- another word for the same text
+pub reads_as : {T : Type 0} (one two : Image → List ℕ) (from to : Device) (old new : List ℕ)
+    (given : Result T HistoryFault) → ((image : Image) → one image ≡ two image) →
+    ReadsHistory one from to old new given → ReadsHistory two from to old new given
+reads_as one two from to old new given same reads = record {
+  told = λ image told. subst (λ text. Adds text old new given) (same image) (reads.told image told);
+  quiet = reads.quiet;
+  faults = reads.faults;
+  read_faults = reads.read_faults;
+}
+
+-- nothing was read or added
+pub reads_none : {T : Type 0} (text : Image → List ℕ) (from : Device) (old : List ℕ)
+    (given : Result T HistoryFault) {fault : HistoryFault} → IsErrAnd given (λ e. e ≡ fault) →
+    is_read_fault fault ≡ false → IsQuiet from from → ReadsHistory text from from old old given
+reads_none text from old given is unread quiet =
+    let failed = handed_failed given is ∙ unread in
+    record {
+      told = λ image told. refused_adds (text image) old old given is (adds_none (text image) old);
+      quiet = quiet;
+      faults = ap (λ b. counted b from.faults) (sym failed);
+      read_faults = ap (λ b. counted b from.read_faults) (sym failed);
+    }

@@ -1,5 +1,9 @@
-ghost use Rattle.std.specs.Prelude.{◌≡◌, IsTrue, option_to_list};
+ghost use Rattle.std.specs.Prelude.{◌≡◌, ◌+◌, ◌≤◌, IsTrue, option_to_list};
+ghost use Rattle.bb_bucket.specs.Blocks.{is_block_of};
 ghost use Rattle.bb_bucket.specs.Calls.{Agrees};
+ghost use Rattle.bb_bucket.specs.OneBlock.{one_block_kind};
+ghost use Rattle.bb_bucket.specs.Stride.{stride_kind};
+ghost use Rattle.bb_bucket.specs.Front.{stride_header_len};
 ghost use Rattle.bb_copies.specs.Passing.{passing_of};
 ghost use Rattle.bb_state.specs.Kinds.{any_form};
 ghost use Rattle.bb_history.specs.History.{IsRegionOf, ReadsHistory, region_areas};
@@ -38,24 +42,68 @@ pub(crate) fn read_region<F: Flash>(
     ensures memory { HasPageRoom (F.device flash.old).geometry.page layout.now.area_len memory.new }
 {
     let page = flash.geometry().page;
-    let most = format.length(format.area_len());
+    let block = Block { region, page };
     match layout.storage {
-        Storage::Circular => {
-            let block = Block { region, page };
-            read_log(alloc, flash, block, layout, format, copy, memory, out)
-        }
-        Storage::OneBlock => {
-            let mut bucket = OneBlock::of(alloc, region, page, most)?;
-            read_single(alloc, flash, &mut bucket, layout, format, copy, memory, out)
-        }
-        Storage::Stride(_) => {
-            let mut bucket = Stride::of(alloc, region, most)?;
-            read_single(alloc, flash, &mut bucket, layout, format, copy, memory, out)
-        }
+        Storage::Circular => read_log(alloc, flash, block, layout, format, copy, memory, out),
+        Storage::OneBlock => read_block(alloc, flash, block, layout, format, copy, memory, out),
+        Storage::Stride(_) => read_stride(alloc, flash, region, layout, format, copy, memory, out),
     }
 }
 
-// Adds the history of a region that holds one record.
+// Adds the history of a block that holds one record.
+fn read_block<M: Format, F: Flash>(
+    alloc: Global,
+    flash: &mut F,
+    block: Block,
+    layout: &Layout,
+    format: &M,
+    copy: usize,
+    memory: &mut PageRoom,
+    out: &mut Bytes,
+) -> Result<(), HistoryFault>
+    requires held { IsTrue (is_block_of block (F.device flash.old).geometry) }
+    requires sized { (M.form format.now).area_len ≡ layout.now.area_len }
+    requires memory { HasPageRoom (F.device flash.old).geometry.page layout.now.area_len memory.old }
+    ensures reads { ReadsHistory (λ image. copy_text layout.now.vars copy
+        (option_to_list (passing_of (M.form format.now) (F.device flash.old).geometry.page
+        (one_block_kind block) image)))
+        (F.device flash.old) (F.device flash.new) out.old out.new result }
+    ensures memory { HasPageRoom (F.device flash.old).geometry.page layout.now.area_len memory.new }
+{
+    let _ = flash.geometry();
+    let most = format.length(format.area_len());
+    let mut bucket = OneBlock::of(alloc, block.region, block.page, most)?;
+    read_single(alloc, flash, &mut bucket, layout, format, copy, memory, out)
+}
+
+// Adds the history of a stride.
+fn read_stride<M: Format, F: Flash>(
+    alloc: Global,
+    flash: &mut F,
+    region: Region,
+    layout: &Layout,
+    format: &M,
+    copy: usize,
+    memory: &mut PageRoom,
+    out: &mut Bytes,
+) -> Result<(), HistoryFault>
+    requires serves { IsTrue ((stride_kind region).serves (F.device flash.old).geometry) }
+    requires room { stride_header_len + 1 ≤ region.size }
+    requires sized { (M.form format.now).area_len ≡ layout.now.area_len }
+    requires memory { HasPageRoom (F.device flash.old).geometry.page layout.now.area_len memory.old }
+    ensures reads { ReadsHistory (λ image. copy_text layout.now.vars copy
+        (option_to_list (passing_of (M.form format.now) (F.device flash.old).geometry.page
+        (stride_kind region) image)))
+        (F.device flash.old) (F.device flash.new) out.old out.new result }
+    ensures memory { HasPageRoom (F.device flash.old).geometry.page layout.now.area_len memory.new }
+{
+    let _ = flash.geometry();
+    let most = format.length(format.area_len());
+    let mut bucket = Stride::of(alloc, region, most)?;
+    read_single(alloc, flash, &mut bucket, layout, format, copy, memory, out)
+}
+
+// Adds the history of a region that holds one record, by the bucket in it.
 fn read_single<B: Bucket, M: Format, F: Flash>(
     alloc: Global,
     flash: &mut F,
@@ -76,7 +124,6 @@ fn read_single<B: Bucket, M: Format, F: Flash>(
         (F.device flash.old) (F.device flash.new) out.old out.new result }
     ensures memory { HasPageRoom (F.device flash.old).geometry.page layout.now.area_len memory.new }
 {
-    let _ = flash.geometry();
     let passing = read_copy(bucket, format, flash, &mut memory.piece, &mut memory.area)?;
     let passes = passing.is_some();
     add_single(alloc, layout, copy, passes, &memory.area, out)?;

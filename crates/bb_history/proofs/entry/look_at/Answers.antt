@@ -65,3 +65,24 @@ returns-clause-done g c =
     (subst (λ (left : List ℕ). IsEndedBy form page old (readable page old c.in-Some.entry) left ended) (sym whole)
     (is image (keeps.content ∙ told))))
     c.check_entry.ensures.done
+
+pub returns-in_err-closed-clause-memory : goal.returns-in_err-closed-clause-memory
+returns-in_err-closed-clause-memory g c = record {
+  page_is = grind (arith, common_steps, c.requires.memory.page_is);
+  piece = c.requires.memory.piece;
+  area = c.requires.memory.area;
+}
+
+pub returns-in-None-clause-memory : goal.returns-in-None-clause-memory
+returns-in-None-clause-memory g c = record {
+  page_is = grind (arith, common_steps, c.requires.memory.page_is);
+  piece = c.requires.memory.piece;
+  area = c.requires.memory.area;
+}
+
+pub returns-clause-memory : goal.returns-clause-memory
+returns-clause-memory g c = record {
+  page_is = grind (arith, common_steps, c.requires.memory.page_is);
+  piece = grind (arith, common_steps, c.requires.memory.piece);
+  area = grind (arith, common_steps, c.requires.memory.area);
+}

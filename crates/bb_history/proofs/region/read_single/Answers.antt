@@ -1,7 +1,7 @@
-use Rattle.std.proofs.Common.{◌≡◌, ◌++◌, ◌∙◌, List, Option, ℕ, Bool, option_to_list, length, ap, subst, sym, arith}
+use Rattle.std.proofs.Common.{◌≡◌, ◌++◌, ◌∙◌, List, Option, ℕ, option_to_list, ap, subst, sym, arith}
+use Rattle.std.proofs.lemmas.Grind.{common_steps}
 use Rattle.std.specs.Bool.{then_some}
 use Rattle.bb_base.specs.Faults.{counted}
-use Rattle.bb_base.specs.Form.{Form}
 use Rattle.bb_copies.proofs.Ends.{whole_slice}
 use Rattle.bb_history.specs.History.{AddsFront}
 use Rattle.bb_history.specs.Lines.{copy_text}
@@ -10,11 +10,7 @@ use Rattle.bb_history.proofs.Singles.{reading_is}
 use Rattle.bb_history.proofs.region.read_single.Goals as goal
 
 pub add_single-requires : goal.add_single-requires
-add_single-requires g c =
-    let out : List ℕ = c.read_copy.new.area in
-    ap length c.deref.ensures.value
-    ∙ ap length (whole_slice out c.args.memory.now.area.items _ (c.read_copy.auto.area ∙ c.deref_mut-2.ensures.len))
-    ∙ c.read_copy.auto.area ∙ ap length c.deref_mut-2.ensures.value ∙ c.requires.memory.area
+add_single-requires g c = grind (arith, common_steps, c.requires.memory.area)
 
 pub returns-in_err-passing-clause-reads : goal.returns-in_err-passing-clause-reads
 returns-in_err-passing-clause-reads g c =
@@ -68,31 +64,22 @@ returns-in_err-add_single-clause-reads g c =
 
 -- room stays as it was, whatever was read into it
 pub returns-in_err-passing-clause-memory : goal.returns-in_err-passing-clause-memory
-returns-in_err-passing-clause-memory g c =
-    let m = c.requires.memory in
-    let piece = ap length (whole_slice c.read_copy.new.piece c.args.memory.now.piece.items _ (c.read_copy.auto.piece ∙ c.deref_mut.ensures.len)) ∙ c.read_copy.auto.piece ∙ ap length c.deref_mut.ensures.value in
-    record {
-      page_is = m.page_is;
-      piece = omega (arith, piece, m.piece);
-      area = ap length (whole_slice c.read_copy.new.area c.args.memory.now.area.items _ (c.read_copy.auto.area ∙ c.deref_mut-2.ensures.len)) ∙ c.read_copy.auto.area ∙ ap length c.deref_mut-2.ensures.value ∙ m.area;
-    }
+returns-in_err-passing-clause-memory g c = record {
+  page_is = c.requires.memory.page_is;
+  piece = grind (arith, common_steps, c.requires.memory.piece);
+  area = grind (arith, common_steps, c.requires.memory.area);
+}
 
 pub returns-clause-memory : goal.returns-clause-memory
-returns-clause-memory g c =
-    let m = c.requires.memory in
-    let piece = ap length (whole_slice c.read_copy.new.piece c.args.memory.now.piece.items _ (c.read_copy.auto.piece ∙ c.deref_mut.ensures.len)) ∙ c.read_copy.auto.piece ∙ ap length c.deref_mut.ensures.value in
-    record {
-      page_is = m.page_is;
-      piece = omega (arith, piece, m.piece);
-      area = ap length (whole_slice c.read_copy.new.area c.args.memory.now.area.items _ (c.read_copy.auto.area ∙ c.deref_mut-2.ensures.len)) ∙ c.read_copy.auto.area ∙ ap length c.deref_mut-2.ensures.value ∙ m.area;
-    }
+returns-clause-memory g c = record {
+  page_is = c.requires.memory.page_is;
+  piece = grind (arith, common_steps, c.requires.memory.piece);
+  area = grind (arith, common_steps, c.requires.memory.area);
+}
 
 pub returns-in_err-add_single-clause-memory : goal.returns-in_err-add_single-clause-memory
-returns-in_err-add_single-clause-memory g c =
-    let m = c.requires.memory in
-    let piece = ap length (whole_slice c.read_copy.new.piece c.args.memory.now.piece.items _ (c.read_copy.auto.piece ∙ c.deref_mut.ensures.len)) ∙ c.read_copy.auto.piece ∙ ap length c.deref_mut.ensures.value in
-    record {
-      page_is = m.page_is;
-      piece = omega (arith, piece, m.piece);
-      area = ap length (whole_slice c.read_copy.new.area c.args.memory.now.area.items _ (c.read_copy.auto.area ∙ c.deref_mut-2.ensures.len)) ∙ c.read_copy.auto.area ∙ ap length c.deref_mut-2.ensures.value ∙ m.area;
-    }
+returns-in_err-add_single-clause-memory g c = record {
+  page_is = c.requires.memory.page_is;
+  piece = grind (arith, common_steps, c.requires.memory.piece);
+  area = grind (arith, common_steps, c.requires.memory.area);
+}
