@@ -1,3 +1,4 @@
+pub mod Backwards
 pub mod Copying
 pub mod Examples
 pub mod Joining

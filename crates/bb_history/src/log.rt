@@ -1,4 +1,4 @@
-ghost use Rattle.std.specs.Prelude.{◌≡◌, ◌≤◌, ◌<◌, ◌/◌, IfOk, IsTrue, OnOk, Some, length, slice_get};
+ghost use Rattle.std.specs.Prelude.{◌≡◌, ◌≤◌, ◌<◌, ◌/◌, IfOk, IsTrue, OnOk};
 ghost use Rattle.std.specs.Option.{ForSome};
 ghost use Rattle.bb_base.specs.Faults.{counted};
 ghost use Rattle.bb_flash.specs.Device.{content};
@@ -128,19 +128,9 @@ fn add_entries<M: Format, F: Flash>(
 {
     let _ = flash.geometry();
     for number in 0..places.len() {
-        let place = place_at(places, number);
+        let place = places.at(number);
         let ended = look_at(flash, block, format, place, memory)?;
         add_ended(alloc, layout, number + 1, ended, &memory.area, out)?;
     }
     Ok(())
-}
-
-fn place_at(places: &Places, number: usize) -> u32
-    requires { number < length places.now }
-    ensures { slice_get places.now number ≡ Some result }
-{
-    let Some(place) = places.get(number) else {
-        unreachable!()
-    };
-    place
 }

@@ -1,4 +1,4 @@
-ghost use Rattle.std.specs.Prelude.{◌≡◌, ◌∷◌, [], OnErr, OnOk, length, slice_get};
+ghost use Rattle.std.specs.Prelude.{◌≡◌, ◌<◌, ◌∷◌, [], OnErr, OnOk, Some, length, slice_get};
 
 use bb_base::NoMemory;
 use std::alloc::Global;
@@ -45,14 +45,13 @@ impl Places {
         self.found.len()
     }
 
-    /// The place of the entry of this number, from 0. `None` exactly from the length on.
-    pub(crate) fn get(&self, number: usize) -> Option<u32>
-        ensures { result ≡ slice_get self.now number }
+    /// The place of the entry of this number, from 0.
+    pub(crate) fn at(&self, number: usize) -> u32
+        requires { number < length self.now }
+        ensures { slice_get self.now number ≡ Some result }
     {
-        if number < self.found.len() {
-            Some(self.found[self.found.len() - 1 - number])
-        } else {
-            None
-        }
+        let last = self.found.len() - 1;
+        let place = last - number;
+        self.found[place]
     }
 }

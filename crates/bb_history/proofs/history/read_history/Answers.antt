@@ -27,9 +27,9 @@ loop-copy-init g c = record {
 
 pub read_region-requires-clause-region : goal.read_region-requires-clause-region
 read_region-requires-clause-region g c =
-    let there = slice_get_read c.args.regions.now (length c.args.regions.now) c.loop-copy.copy _ refl c.loop-copy-test.true c.index.ensures.value in
-    subst (λ (geometry : Geometry). IsRegionOf geometry c.args.layout.now.storage c.index.result) (sym c.loop-copy.invariant.quiet.later.geometry)
-    (c.requires.regions c.loop-copy.copy c.index.result there)
+    let there = slice_get_read c.args.regions.now (length c.args.regions.now) c.loop-copy.copy _ refl c.loop-copy-test.true c.index-regions-copy.is in
+    subst (λ (geometry : Geometry). IsRegionOf geometry c.args.layout.now.storage c.index-regions-copy.result) (sym c.loop-copy.invariant.quiet.later.geometry)
+    (c.requires.regions c.loop-copy.copy c.index-regions-copy.result there)
 
 pub loop-copy-preserved : goal.loop-copy-preserved
 loop-copy-preserved g c =
@@ -40,16 +40,16 @@ loop-copy-preserved g c =
     let vars = c.args.layout.now.vars in
     let form : Form = any_form c.args.format.now in
     let storage = c.args.layout.now.storage in
-    let there = slice_get_read c.args.regions.now (length c.args.regions.now) c.loop-copy.copy _ refl c.loop-copy-test.true c.index.ensures.value in
+    let there = slice_get_read c.args.regions.now (length c.args.regions.now) c.loop-copy.copy _ refl c.loop-copy-test.true c.index-regions-copy.is in
     record {
       added = λ image told.
           let keeps = keeps_of_quiet _ _ i.quiet in
           r.told image (keeps.content ∙ told)
-          ∙ ap (λ l. l ++ copy_text vars c.loop-copy.copy (region_areas form storage _ c.index.result image)) (i.added image told)
+          ∙ ap (λ l. l ++ copy_text vars c.loop-copy.copy (region_areas form storage _ c.index-regions-copy.result image)) (i.added image told)
           ∙ append_assoc c.args.out.now (regions_text vars form storage page 0 (take c.loop-copy.copy c.args.regions.now) image) _
-          ∙ ap (λ n. c.args.out.now ++ (regions_text vars form storage page 0 (take c.loop-copy.copy c.args.regions.now) image ++ copy_text vars c.loop-copy.copy (region_areas form storage n c.index.result image)))
+          ∙ ap (λ n. c.args.out.now ++ (regions_text vars form storage page 0 (take c.loop-copy.copy c.args.regions.now) image ++ copy_text vars c.loop-copy.copy (region_areas form storage n c.index-regions-copy.result image)))
           (ap (λ (geometry : Geometry). geometry.page) keeps.geometry)
-          ∙ ap (λ l. c.args.out.now ++ l) (sym (copies_next vars form storage page image c.args.regions.now c.loop-copy.copy c.index.result there));
+          ∙ ap (λ l. c.args.out.now ++ l) (sym (copies_next vars form storage page image c.args.regions.now c.loop-copy.copy c.index-regions-copy.result there));
       memory =
           subst (λ n. HasPageRoom n c.args.layout.now.area_len c.read_region.new.memory) (ap (λ (geometry : Geometry). geometry.page) i.quiet.later.geometry)
           c.in_ok-read_region.ensures.memory;
@@ -95,16 +95,16 @@ returns-in_err-read_region g c =
     let storage = c.args.layout.now.storage in
     let given = c.from_residual-in_err-read_region.result in
     let failed = handed_failed given c.from_residual-in_err-read_region.ensures.1 in
-    let there = slice_get_read c.args.regions.now (length c.args.regions.now) c.loop-copy.copy _ refl c.loop-copy-test.true c.index.ensures.value in
+    let there = slice_get_read c.args.regions.now (length c.args.regions.now) c.loop-copy.copy _ refl c.loop-copy-test.true c.index-regions-copy.is in
     record {
       told = λ image told.
           let keeps = keeps_of_quiet _ _ i.quiet in
           refused_adds _ _ _ given c.from_residual-in_err-read_region.ensures.1
           (front_behind (regions_text vars form storage page 0 (take c.loop-copy.copy c.args.regions.now) image) _ _ c.args.out.now c.loop-copy.out c.read_region.new.out
-          (copies_split vars form storage page image c.args.regions.now c.loop-copy.copy c.index.result there)
+          (copies_split vars form storage page image c.args.regions.now c.loop-copy.copy c.index-regions-copy.result there)
           (i.added image told)
           (front_of_first _ _ _ c.loop-copy.out c.read_region.new.out refl
-          (subst (λ n. AddsFront (copy_text vars c.loop-copy.copy (region_areas form storage n c.index.result image)) c.loop-copy.out c.read_region.new.out)
+          (subst (λ n. AddsFront (copy_text vars c.loop-copy.copy (region_areas form storage n c.index-regions-copy.result image)) c.loop-copy.out c.read_region.new.out)
           (ap (λ (geometry : Geometry). geometry.page) keeps.geometry) (r.told image (keeps.content ∙ told)))));
       quiet = quiet_joined from (g.F.Flash.device c.loop-copy.flash) (g.F.Flash.device c.read_region.new.flash) i.quiet r.quiet;
       faults =

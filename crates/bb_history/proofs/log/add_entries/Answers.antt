@@ -20,11 +20,11 @@ look_at-requires-clause-held g c =
 
 pub look_at-requires-clause-some : goal.look_at-requires-clause-some
 look_at-requires-clause-some g c =
-    (within_at (c.args.block.region.size / c.args.block.page) c.args.places.now c.loop-number.number c.place_at-place.result c.requires.within c.place_at-place.ensures).0
+    (within_at (c.args.block.region.size / c.args.block.page) c.args.places.now c.loop-number.number c.at-place.result c.requires.within c.at-place.ensures).0
 
 pub look_at-requires-clause-inside : goal.look_at-requires-clause-inside
 look_at-requires-clause-inside g c =
-    (within_at (c.args.block.region.size / c.args.block.page) c.args.places.now c.loop-number.number c.place_at-place.result c.requires.within c.place_at-place.ensures).1
+    (within_at (c.args.block.region.size / c.args.block.page) c.args.places.now c.loop-number.number c.at-place.result c.requires.within c.at-place.ensures).1
 
 pub loop-number-init : goal.loop-number-init
 loop-number-init g c = record {
@@ -50,9 +50,9 @@ loop-number-preserved g c =
           c.in_ok-add_ended.ensures.added
           ∙ ap (λ l. l ++ ended_text vars (number + 1) _ c.in_ok-ended.ended) (i.added image told)
           ∙ ap (λ l. (c.args.out.now ++ places_text vars form page old 1 (take number c.args.places.now)) ++ l)
-          (ended_is vars form page old (number + 1) c.place_at-place.result _ c.in_ok-ended.ended (r.done image (keeps.content ∙ told)))
-          ∙ append_assoc c.args.out.now (places_text vars form page old 1 (take number c.args.places.now)) (place_text vars form page old (number + 1) c.place_at-place.result)
-          ∙ ap (λ l. c.args.out.now ++ l) (sym (places_next_at vars form page old c.args.places.now number c.place_at-place.result c.place_at-place.ensures));
+          (ended_is vars form page old (number + 1) c.at-place.result _ c.in_ok-ended.ended (r.done image (keeps.content ∙ told)))
+          ∙ append_assoc c.args.out.now (places_text vars form page old 1 (take number c.args.places.now)) (place_text vars form page old (number + 1) c.at-place.result)
+          ∙ ap (λ l. c.args.out.now ++ l) (sym (places_next_at vars form page old c.args.places.now number c.at-place.result c.at-place.ensures));
       memory = r.memory;
       quiet = quiet_joined (g.F.Flash.device c.args.flash.now) (g.F.Flash.device c.loop-number.flash) (g.F.Flash.device c.look_at.new.flash) i.quiet r.quiet;
       faults = r.faults ∙ i.faults;
