@@ -1,10 +1,13 @@
 -- How a history ends, by how its reading ended.
-use Rattle.std.proofs.Common.{◌≡◌, ℕ, List, [], Option, Some, None, Result, Ok, Err, refl, sym, ap, subst, ◌∙◌, inl, inr}
+use Rattle.std.proofs.Common.{◌≡◌, ℕ, Bool, true, false, ⊥, if◌then◌else◌, List, [], Option, Some, None, Result, Ok, Err, refl, sym, ap, subst, ◌∙◌, inl, inr}
 use Rattle.std.specs.Option.{option_and_then, option_map_or}
+use Rattle.std.proofs.lemmas.Bool.{false≢true}
+use Rattle.std.proofs.lemmas.Option.{none-some, same_Some}
 use Rattle.bb_base.specs.Form.{Form}
 use Rattle.bb_copies.specs.declared.answers.CopyFault.TheVariants as copy_faults
 use Rattle.bb_flash.specs.Device.{Device, content}
 use Rattle.bb_flash.specs.Image.{Image}
+use Rattle.bb_flash.specs.declared.region.Region.{Region}
 use Rattle.bb_history.specs.History.{Adds, ReadsHistory, history_text, regions_text}
 use Rattle.bb_history.specs.declared.fault.HistoryFault.{HistoryFault}
 use Rattle.bb_history.specs.declared.fault.HistoryFault.TheVariants as faults
@@ -99,3 +102,15 @@ reads_as one two from to old new given same reads = record {
   faults = reads.faults;
   read_faults = reads.read_faults;
 }
+
+-- ---- where the copies stand
+
+pub region_is : (there : Bool) (region given : Region) (answer : Option Region) →
+    answer ≡ (if there then Some region else None) → answer ≡ Some given → given ≡ region
+region_is true region given answer is some = same_Some given region (sym some ∙ is)
+region_is false region given answer is some = absurd (none-some given (sym is ∙ some))
+
+pub region_missing : (there : Bool) (region : Region) (answer : Option Region) →
+    answer ≡ (if there then Some region else None) → answer ≡ None → there ≡ true → ⊥
+region_missing true region answer is none there = none-some region (sym none ∙ is)
+region_missing false region answer is none there = false≢true there

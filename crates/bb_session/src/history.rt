@@ -37,8 +37,9 @@ pub(crate) fn history<F: Flash>(
 fn regions_of(alloc: Global, state: &State) -> Result<Vec<Region>, NoMemory>
     ensures { IfOk result (λ regions. regions.items ≡ laid_regions (laid_of state.now)) }
 {
+    let layout = state.layout();
     let mut regions = Vec::new(alloc);
-    for copy in 0..state.layout().copies {
+    for copy in 0..layout.copies {
         let Some(region) = state.region(copy) else {
             unreachable!()
         };
