@@ -43,6 +43,7 @@ impl Draws {
 }
 
 // What was written to one copy: its bytes, and the lines of what is to be shown.
+#[derive(Drop)]
 struct Made {
     bytes: Bytes,
     lines: Bytes,
