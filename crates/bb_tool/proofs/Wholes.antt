@@ -1,6 +1,6 @@
 -- Sessions where nothing failed: what was answered is what the files and the device hold. And those
 -- that end early.
-use Rattle.std.proofs.Common.{◌≡◌, ◌⊎◌, false, Option, None, Some, Result, Ok, Err, IsErr, refl, sym, ap, subst, ◌∙◌, inl, inr, true}
+use Rattle.std.proofs.Common.{◌≡◌, ◌⊎◌, ℕ, List, false, Option, None, Some, Result, Ok, Err, IsErr, refl, sym, ap, subst, ◌∙◌, inl, inr, true}
 use Rattle.std.specs.Option.{option_map_or}
 use Rattle.bb_base.proofs.Counts.{one_more_rose}
 use Rattle.bb_base.specs.Faults.{Rose}
