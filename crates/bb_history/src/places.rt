@@ -50,7 +50,8 @@ impl Places {
         requires { number < length self.now }
         ensures { slice_get self.now number ≡ Some result }
     {
-        let last = self.found.len() - 1;
+        let count = self.found.len();
+        let last = count - 1;
         let place = last - number;
         self.found[place]
     }

@@ -105,12 +105,12 @@ reads_as one two from to old new given same reads = record {
 
 -- ---- where the copies stand
 
-pub region_is : (there : Bool) (region given : Region) (answer : Option Region) →
-    answer ≡ (if there then Some region else None) → answer ≡ Some given → given ≡ region
-region_is true region given answer is some = same_Some given region (sym some ∙ is)
-region_is false region given answer is some = absurd (none-some given (sym is ∙ some))
+pub region_is : (there : Bool) (region given : Region) →
+    Some given ≡ (if there then Some region else None) → given ≡ region
+region_is true region given is = same_Some given region is
+region_is false region given is = absurd (none-some given (sym is))
 
-pub region_missing : (there : Bool) (region : Region) (answer : Option Region) →
-    answer ≡ (if there then Some region else None) → answer ≡ None → there ≡ true → ⊥
-region_missing true region answer is none there = none-some region (sym none ∙ is)
-region_missing false region answer is none there = false≢true there
+pub region_missing : (there : Bool) (region : Region) →
+    None ≡ (if there then Some region else None) → there ≡ true → ⊥
+region_missing true region is at = none-some region is
+region_missing false region is at = false≢true at

@@ -109,4 +109,4 @@ returns-clause-done g c = λ image told.
     (subst (λ (l : List ℕ). IsPassed form l c.feed-in-end.new.area c.end.result)
     (ap (λ l. i.fed.0 ++ l) c.record_end.ensures ∙ fed)
     (c.end.ensures (i.fed.0 ++ c.record_end.result.now) (c.feed-in-end.ensures.held i.fed.0 i.fed.1)))
-    c.is_some.ensures refl
+    c.is_some-passes.ensures refl

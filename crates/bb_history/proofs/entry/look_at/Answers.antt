@@ -33,13 +33,13 @@ check_entry-requires-clause-last g c = λ image told.
     (whole_slice c.entry_before.new.page c.args.memory.now.page.items _ (c.entry_before.auto.page ∙ c.deref_mut.ensures.len))
 
 -- the last page closes none
-pub returns-in-None-clause-done : goal.returns-in-None-clause-done
-returns-in-None-clause-done g c = λ image told.
+pub returns-in_default-clause-done : goal.returns-in_default-clause-done
+returns-in_default-clause-done g c = λ image told.
     let page : ℕ = c.args.block.page in
     let old : Image = part_of page c.args.block.region image in
     let is = c.in_ok-closed.ensures.done image told in
     let none : entry_at page old c.args.pages ≡ None =
-    ap (option_and_then (readable page old)) (sym is.entry_is ∙ c.in-None.is) in
+    ap (option_and_then (readable page old)) (sym is.entry_is ∙ c.in_default.is) in
     subst (λ (e : Option Entry). IsEndedBy (g.M.Format.form c.args.format.now) page old e _ None) (sym none)
     (record { before = refl; passes = tt })
 
@@ -74,8 +74,8 @@ returns-in_err-closed-clause-memory g c = record {
   area = c.requires.memory.area;
 }
 
-pub returns-in-None-clause-memory : goal.returns-in-None-clause-memory
-returns-in-None-clause-memory g c = record {
+pub returns-in_default-clause-memory : goal.returns-in_default-clause-memory
+returns-in_default-clause-memory g c = record {
   page_is = grind (arith, common_steps, c.requires.memory.page_is);
   piece = c.requires.memory.piece;
   area = c.requires.memory.area;

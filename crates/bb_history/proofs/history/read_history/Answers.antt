@@ -17,10 +17,10 @@ pub loop-copy-init : goal.loop-copy-init
 loop-copy-init g c = record {
   added = λ image told. sym (append-nil c.args.out.now);
   memory =
-      let page = ap (λ (geometry : Geometry). geometry.page) c.geometry.ensures.value in
+      let page = ap (λ (geometry : Geometry). geometry.page) c.geometry-page.ensures.value in
       subst (λ n. HasPageRoom n c.args.layout.now.area_len c.in_ok-memory.memory) page
-      (subst (λ n. HasPageRoom c.geometry.result.page n c.in_ok-memory.memory) (c.area_len.ensures ∙ c.requires.sized) c.in_ok-memory.ensures);
-  quiet = quiet_same (g.F.Flash.device c.args.flash.now) c.geometry.ensures.whole;
+      (subst (λ n. HasPageRoom c.geometry-page.result.page n c.in_ok-memory.memory) (c.area_len.ensures ∙ c.requires.sized) c.in_ok-memory.ensures);
+  quiet = quiet_same (g.F.Flash.device c.args.flash.now) c.geometry-page.ensures.whole;
   faults = refl;
   read_faults = refl;
 }
@@ -78,7 +78,7 @@ returns-in_err-memory g c =
     let failed = handed_failed c.from_residual.result c.from_residual.ensures.1 in
     record {
       told = λ image told. refused_adds _ _ _ c.from_residual.result c.from_residual.ensures.1 (adds_none _ c.args.out.now);
-      quiet = quiet_same from c.geometry.ensures.whole;
+      quiet = quiet_same from c.geometry-page.ensures.whole;
       faults = ap (λ b. counted b from.faults) (sym failed);
       read_faults = ap (λ b. counted b from.read_faults) (sym failed);
     }

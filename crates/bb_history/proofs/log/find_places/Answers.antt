@@ -39,7 +39,7 @@ loop-pages-preserved g c =
     let page : ℕ = c.args.block.page in
     let all : ℕ = c.args.block.region.size / page in
     let held = block_of c.args.block (g.F.Flash.device c.args.flash.now).geometry c.requires.held in
-    let left = c.pages_left.ensures in
+    let left = c.pages_left-pages.ensures in
     let kept = c.in_ok-keep.ensures in
     record {
       inside = omega (arith, left_less c.loop-pages.pages c.in_ok-ended.ended c.loop-pages-test.true r.before, left, i.inside);

@@ -20,20 +20,20 @@ use Rattle.bb_history.proofs.region.read_region.Goals as goal
 pub read_log-requires-clause-held : goal.read_log-requires-clause-held
 read_log-requires-clause-held g c =
     let geometry : Geometry = (g.F.Flash.device c.args.flash.now).geometry in
-    let page = ap (λ (x : Geometry). x.page) c.geometry.ensures.value in
+    let page = ap (λ (x : Geometry). x.page) c.geometry-page.ensures.value in
     let at = subst (λ (storage : Storage). IsRegionOf geometry storage c.args.region) c.in-Circular.is c.requires.region in
     subst (λ n. IsTrue (is_block_of (record { region = c.args.region; page = n }) geometry)) (sym page) at.serves
 
 pub read_log-requires-clause-memory : goal.read_log-requires-clause-memory
 read_log-requires-clause-memory g c =
-    subst (λ n. HasPageRoom n c.args.layout.now.area_len c.args.memory.now) (sym (ap (λ (x : Geometry). x.page) c.geometry.ensures.value)) c.requires.memory
+    subst (λ n. HasPageRoom n c.args.layout.now.area_len c.args.memory.now) (sym (ap (λ (x : Geometry). x.page) c.geometry-page.ensures.value)) c.requires.memory
 
 pub returns-in-Circular-clause-reads : goal.returns-in-Circular-clause-reads
 returns-in-Circular-clause-reads g c =
     let form : Form = any_form c.args.format.now in
     let vars = c.args.layout.now.vars in
     let region : Region = c.args.region in
-    let page = ap (λ (x : Geometry). x.page) c.geometry.ensures.value in
+    let page = ap (λ (x : Geometry). x.page) c.geometry-page.ensures.value in
     reads_as _ _ _ _ _ _ c.read_log.result
     (λ image. ap (λ n. copy_text vars c.args.copy (log_areas form n (part_of n region image))) page
     ∙ ap (λ (storage : Storage). copy_text vars c.args.copy (region_areas form storage _ region image)) (sym c.in-Circular.is))
@@ -41,14 +41,14 @@ returns-in-Circular-clause-reads g c =
 
 pub returns-in-Circular-clause-memory : goal.returns-in-Circular-clause-memory
 returns-in-Circular-clause-memory g c =
-    subst (λ n. HasPageRoom n c.args.layout.now.area_len c.read_log.new.memory) (ap (λ (x : Geometry). x.page) c.geometry.ensures.value) c.read_log.ensures.memory
+    subst (λ n. HasPageRoom n c.args.layout.now.area_len c.read_log.new.memory) (ap (λ (x : Geometry). x.page) c.geometry-page.ensures.value) c.read_log.ensures.memory
 
 -- ---- blocks of one record
 
 pub read_block-requires-clause-held : goal.read_block-requires-clause-held
 read_block-requires-clause-held g c =
     let geometry : Geometry = (g.F.Flash.device c.args.flash.now).geometry in
-    let page = ap (λ (x : Geometry). x.page) c.geometry.ensures.value in
+    let page = ap (λ (x : Geometry). x.page) c.geometry-page.ensures.value in
     let at = subst (λ (storage : Storage). IsRegionOf geometry storage c.args.region) c.in-OneBlock.is c.requires.region in
     subst (λ n. IsTrue (is_block_of (record { region = c.args.region; page = n }) geometry)) (sym page) at.serves
 
@@ -57,7 +57,7 @@ returns-in-OneBlock-clause-reads g c =
     let form : Form = any_form c.args.format.now in
     let vars = c.args.layout.now.vars in
     let region : Region = c.args.region in
-    let page = ap (λ (x : Geometry). x.page) c.geometry.ensures.value in
+    let page = ap (λ (x : Geometry). x.page) c.geometry-page.ensures.value in
     reads_as _ _ _ _ _ _ c.read_block.result
     (λ image. ap (λ n. copy_text vars c.args.copy (option_to_list (passing_of form (g.F.Flash.device c.args.flash.now).geometry.page (one_block_kind (record { region = region; page = n })) image))) page
     ∙ ap (λ (storage : Storage). copy_text vars c.args.copy (region_areas form storage _ region image)) (sym c.in-OneBlock.is))

@@ -10,13 +10,13 @@ use Rattle.bb_state.specs.State.{keyed_of, laid_of}
 use Rattle.bb_session.proofs.Listed.{history_out, reads_as}
 use Rattle.bb_session.proofs.history.history.Goals as goal
 
-pub read_history-requires-clause-sized : goal.read_history-requires-clause-sized
-read_history-requires-clause-sized g c =
+pub read_history-read-requires-clause-sized : goal.read_history-read-requires-clause-sized
+read_history-read-requires-clause-sized g c =
     ap (λ (form : Form). form.area_len) (ap any_form c.format.ensures) ∙ form_sized (keyed_of c.args.state.now)
     ∙ sym (ap (λ (l : Laid). l.area_len) c.layout-layout.ensures)
 
-pub read_history-requires-clause-regions : goal.read_history-requires-clause-regions
-read_history-requires-clause-regions g c =
+pub read_history-read-requires-clause-regions : goal.read_history-read-requires-clause-regions
+read_history-read-requires-clause-regions g c =
     let laid = laid_of c.args.state.now in
     subst (λ (l : Laid). AreRegionsOf (g.F.Flash.device c.args.flash.now).geometry l.storage c.deref.result.now) (sym c.layout-layout.ensures)
     (subst (λ (regions : List Region). AreRegionsOf (g.F.Flash.device c.args.flash.now).geometry laid.storage regions)
@@ -28,18 +28,18 @@ pub returns-clause-gives : goal.returns-clause-gives
 returns-clause-gives g c =
     let keyed = keyed_of c.args.state.now in
     let from = g.F.Flash.device c.args.flash.now in
-    let to = g.F.Flash.device c.read_history.new.flash in
+    let to = g.F.Flash.device c.read_history-read.new.flash in
     let page : ℕ = from.geometry.page in
     let form = ap any_form c.format.ensures in
     let regions = c.deref.ensures.value ∙ c.in_ok-regions.ensures in
-    history_out keyed from to c.read_history.new.out c.read_history.result c.report.result
-    (reads_as _ (history_text keyed page) from to [] c.read_history.new.out c.read_history.result
+    history_out keyed from to c.read_history-read.new.out c.read_history-read.result c.report.result
+    (reads_as _ (history_text keyed page) from to [] c.read_history-read.new.out c.read_history-read.result
     (λ image.
     ap (λ (l : Laid). regions_text l.vars (any_form c.format.result.now) l.storage page 0 c.deref.result.now image) c.layout-layout.ensures
     ∙ ap (λ (f : Form). regions_text keyed.layout.vars f keyed.layout.storage page 0 c.deref.result.now image) form
     ∙ ap (λ (rs : List Region). regions_text keyed.layout.vars (laid_form keyed) keyed.layout.storage page 0 rs image) regions)
-    (subst (λ (old : List ℕ). ReadsHistory _ from to old c.read_history.new.out c.read_history.result) c.none-text.ensures c.read_history.ensures))
+    (subst (λ (old : List ℕ). ReadsHistory _ from to old c.read_history-read.new.out c.read_history-read.result) c.none-text.ensures c.read_history-read.ensures))
     c.report.ensures
 
 pub returns-clause-later : goal.returns-clause-later
-returns-clause-later g c = c.read_history.ensures.quiet.later
+returns-clause-later g c = c.read_history-read.ensures.quiet.later

@@ -15,7 +15,7 @@ pub unreachable-requires : goal.unreachable-requires
 unreachable-requires c =
     let laid : Laid = laid_of c.args.state.now in
     let copies = ap (λ (l : Laid). l.copies) c.layout-layout.ensures in
-    region_missing _ (region_of laid.geometry laid.storage laid.region c.loop-copy.copy) c.region.result c.region.ensures c.in_default.is
+    region_missing _ (region_of laid.geometry laid.storage laid.region c.loop-copy.copy) c.in_default.ensures
     (lt-ltb c.loop-copy.copy laid.copies (omega (arith, copies, c.loop-copy-test.true)))
 
 pub loop-copy-preserved : goal.loop-copy-preserved
@@ -23,7 +23,7 @@ loop-copy-preserved c =
     let laid : Laid = laid_of c.args.state.now in
     let make = region_of laid.geometry laid.storage laid.region in
     let copy : ℕ = c.loop-copy.copy in
-    let is = region_is _ (make copy) c.in-Some.region c.region.result c.region.ensures c.in-Some.is in
+    let is = region_is _ (make copy) c.in-Some.region c.in-Some.ensures in
     let pushed : c.push.new.self.items ≡ c.loop-copy.regions.items ++ c.in-Some.region ∷ [] = grind (arith, common_steps, c.in_ok-push.ensures.items) in
     pushed ∙ ap (λ (rs : List Region). rs ++ c.in-Some.region ∷ []) c.loop-copy.invariant
     ∙ ap (λ (r : Region). map make (range_with_len 0 copy) ++ r ∷ []) is

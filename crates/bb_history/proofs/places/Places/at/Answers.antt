@@ -5,19 +5,19 @@ use Rattle.bb_history.proofs.places.Places.at.Goals as goal
 pub overflow_sub-last : goal.overflow_sub-last
 overflow_sub-last c =
     let long = as_long c.self.inside.found.items _ c.self.view_is in
-    omega (arith, long, c.requires, c.len.ensures)
+    omega (arith, long, c.requires, c.len-count.ensures)
 
 pub overflow_sub-place : goal.overflow_sub-place
 overflow_sub-place c =
     let long = as_long c.self.inside.found.items _ c.self.view_is in
-    omega (arith, long, c.requires, c.len.ensures)
+    omega (arith, long, c.requires, c.len-count.ensures)
 
 pub index-requires : goal.index-requires
 index-requires c =
     let long = as_long c.self.inside.found.items _ c.self.view_is in
-    omega (arith, long, c.requires, c.len.ensures)
+    omega (arith, long, c.requires, c.len-count.ensures)
 
 pub returns : goal.returns
 returns c =
-    at_back c.self.inside.found.items _ c.args.number _ _ c.self.view_is c.requires (omega (arith, c.len.ensures))
+    at_back c.self.inside.found.items _ c.args.number _ _ c.self.view_is c.requires (omega (arith, c.len-count.ensures))
     c.index.ensures
