@@ -6,6 +6,7 @@ pub mod Handed
 pub mod Lists
 pub mod Mounting
 pub mod NamedVars
+pub mod Places
 pub mod Rooms
 pub mod Sets
 pub mod Tables

@@ -56,7 +56,7 @@ fn closing_words_in_an_area_end_no_entry(rt: HostRuntime) -> Result<(), Fail> {
     shows_first(&rt, rt.alloc(), &[One, Long], ONE_AND_TWO)
 }
 
-// Sixteen entries of two pages, every second of which is torn.
+// Sixteen entries, every second of which is torn in its first page.
 #[test]
 fn every_second_entry_is_torn(rt: HostRuntime) -> Result<(), Fail> {
     let items = [
