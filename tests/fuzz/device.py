@@ -94,6 +94,27 @@ def passing(layout, device, key):
     return found
 
 
+def history(layout, device, key):
+    """What each copy's region holds that passes, oldest first."""
+    if layout.storage != 'log':
+        return [[] if area is None else [area] for area in passing(layout, device, key)]
+    regions = [device[slice(*layout.region(copy))] for copy in range(layout.copies)]
+    found = [[passes(layout, record, key) for record in logged(layout, region)] for region in regions]
+    return [[area for area in areas if area is not None] for areas in found]
+
+
+def logged(layout, region):
+    """The records in a log, oldest first. A page that ends none is passed over alone."""
+    page, end, records = layout.geometry[0], len(region), []
+    while end:
+        magic, length = struct.unpack('<II', region[end - 8:end])
+        is_end = magic == LOG_WORD and length % page == 0 and 0 < length <= end
+        if is_end:
+            records.insert(0, region[end - length:end - 8])
+        end -= length if is_end else page
+    return records
+
+
 class Table:
     """The values of a layout's variables, by name."""
 
