@@ -1,6 +1,6 @@
 //! An area that is kept in two or three copies, and outlives a cut of power at any moment.
-//! It knows of buckets and formats what their traits say. Only bb_state may know it, and bb_history,
-//! which reads a copy as a load does.
+//! It knows of buckets and formats what their traits say. Only bb_state may know it, and
+//! bb_history, which reads a copy as a load does.
 #![tactic(auto)]
 
 mod answers;

@@ -8,8 +8,8 @@ ghost use Rattle.bb_bucket.specs.Kind.{part_of};
 ghost use Rattle.bb_history.specs.Entries.{log_areas};
 ghost use Rattle.bb_history.specs.History.{ReadsHistory, failed_to_read};
 ghost use Rattle.bb_history.specs.Lines.{copy_text};
-ghost use Rattle.bb_history.specs.Reading.{ArePlaces, AreWithin, HasPageRoom, kept_places, pages_left};
-ghost use Rattle.bb_history.specs.Reading.{places_text};
+ghost use Rattle.bb_history.specs.Reading.{ArePlaces, AreWithin, HasPageRoom, kept_places};
+ghost use Rattle.bb_history.specs.Reading.{pages_left, places_text};
 
 use crate::entry::{Ended, look_at};
 use crate::fault::HistoryFault;

@@ -35,11 +35,13 @@ pub(crate) fn read_region<F: Flash>(
 ) -> Result<(), HistoryFault>
     requires region { IsRegionOf (F.device flash.old).geometry layout.now.storage region }
     requires sized { (any_form format.now).area_len ≡ layout.now.area_len }
-    requires memory { HasPageRoom (F.device flash.old).geometry.page layout.now.area_len memory.old }
+    requires memory { HasPageRoom (F.device flash.old).geometry.page layout.now.area_len
+        memory.old }
     ensures reads { ReadsHistory (λ image. copy_text layout.now.vars copy
         (region_areas (any_form format.now) layout.now.storage (F.device flash.old).geometry.page
         region image)) (F.device flash.old) (F.device flash.new) out.old out.new result }
-    ensures memory { HasPageRoom (F.device flash.old).geometry.page layout.now.area_len memory.new }
+    ensures memory { HasPageRoom (F.device flash.old).geometry.page layout.now.area_len
+        memory.new }
 {
     let page = flash.geometry().page;
     let block = Block { region, page };
@@ -63,12 +65,14 @@ fn read_block<M: Format, F: Flash>(
 ) -> Result<(), HistoryFault>
     requires held { IsTrue (is_block_of block (F.device flash.old).geometry) }
     requires sized { (M.form format.now).area_len ≡ layout.now.area_len }
-    requires memory { HasPageRoom (F.device flash.old).geometry.page layout.now.area_len memory.old }
+    requires memory { HasPageRoom (F.device flash.old).geometry.page layout.now.area_len
+        memory.old }
     ensures reads { ReadsHistory (λ image. copy_text layout.now.vars copy
         (option_to_list (passing_of (M.form format.now) (F.device flash.old).geometry.page
         (one_block_kind block) image)))
         (F.device flash.old) (F.device flash.new) out.old out.new result }
-    ensures memory { HasPageRoom (F.device flash.old).geometry.page layout.now.area_len memory.new }
+    ensures memory { HasPageRoom (F.device flash.old).geometry.page layout.now.area_len
+        memory.new }
 {
     let _ = flash.geometry();
     let most = format.length(format.area_len());
@@ -90,12 +94,14 @@ fn read_stride<M: Format, F: Flash>(
     requires serves { IsTrue ((stride_kind region).serves (F.device flash.old).geometry) }
     requires room { stride_header_len + 1 ≤ region.size }
     requires sized { (M.form format.now).area_len ≡ layout.now.area_len }
-    requires memory { HasPageRoom (F.device flash.old).geometry.page layout.now.area_len memory.old }
+    requires memory { HasPageRoom (F.device flash.old).geometry.page layout.now.area_len
+        memory.old }
     ensures reads { ReadsHistory (λ image. copy_text layout.now.vars copy
         (option_to_list (passing_of (M.form format.now) (F.device flash.old).geometry.page
         (stride_kind region) image)))
         (F.device flash.old) (F.device flash.new) out.old out.new result }
-    ensures memory { HasPageRoom (F.device flash.old).geometry.page layout.now.area_len memory.new }
+    ensures memory { HasPageRoom (F.device flash.old).geometry.page layout.now.area_len
+        memory.new }
 {
     let _ = flash.geometry();
     let most = format.length(format.area_len());
@@ -117,12 +123,14 @@ fn read_single<B: Bucket, M: Format, F: Flash>(
     requires serves { IsTrue ((B.holding bucket.old).kind.serves (F.device flash.old).geometry) }
     requires agreed { Agrees (B.holding bucket.old) (F.device flash.old) }
     requires sized { (M.form format.now).area_len ≡ layout.now.area_len }
-    requires memory { HasPageRoom (F.device flash.old).geometry.page layout.now.area_len memory.old }
+    requires memory { HasPageRoom (F.device flash.old).geometry.page layout.now.area_len
+        memory.old }
     ensures reads { ReadsHistory (λ image. copy_text layout.now.vars copy
         (option_to_list (passing_of (M.form format.now) (F.device flash.old).geometry.page
         (B.holding bucket.old).kind image)))
         (F.device flash.old) (F.device flash.new) out.old out.new result }
-    ensures memory { HasPageRoom (F.device flash.old).geometry.page layout.now.area_len memory.new }
+    ensures memory { HasPageRoom (F.device flash.old).geometry.page layout.now.area_len
+        memory.new }
 {
     let passing = read_copy(bucket, format, flash, &mut memory.piece, &mut memory.area)?;
     let passes = passing.is_some();
