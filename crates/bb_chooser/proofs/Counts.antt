@@ -15,7 +15,7 @@ use Rattle.bb_chooser.proofs.Resetting.{first, first_length, prio, prio_room, se
 use Rattle.bb_chooser.proofs.Writing.{EachOf, PairsOf, each_map, each_of, number_length, number_outside, written_length, written_outside}
 use Rattle.bb_chooser.specs.Binding.{Binding, IsBinding, IsInside, ShareNothing}
 use Rattle.bb_chooser.specs.Choosing.{attempts_of, count_in, last_chosen_of, number_at, with_number}
-use Rattle.bb_chooser.specs.Counting.{chosen_target, spend_of}
+use Rattle.bb_chooser.specs.Counting.{chosen_target, disable_of, enable_of, spend_of}
 use Rattle.bb_chooser.specs.Others.{IsOutside, KeepsOthers}
 use Rattle.bb_chooser.specs.declared.bound_target.BoundTarget.{BoundTarget}
 use Rattle.bb_chooser.specs.declared.count.Count.{Count}
@@ -149,3 +149,21 @@ pub disabled_keeps : (b : Binding) → IsBinding b → (table : List ℕ) → le
     → KeepsOthers b table (with_number (spent b table t target left) t.priority_at 0)
 disabled_keeps b is table sized target t left inside at =
     priority_keeps b is table (spent b table t target left) sized (spent_keeps b is table sized target t left inside at) target t 0 inside at
+
+-- ---- targets that are disabled and enabled
+
+pub disable_is : (b : Binding) (table : List ℕ) (target : ℕ) (t : BoundTarget) → target < length b.targets → t ≡ get_or b.targets target t
+    → disable_of b table target ≡ with_number table t.priority_at 0
+disable_is b table target t inside at =
+    ap (λ (o : Option BoundTarget). option_map_or (λ (u : BoundTarget). with_number table u.priority_at 0) o table)
+    (slice_get_read b.targets (length b.targets) target t refl inside at)
+
+pub enable_is : (b : Binding) (table : List ℕ) (target : ℕ) (t : BoundTarget) → target < length b.targets → t ≡ get_or b.targets target t
+    → enable_of b table target ≡ with_number (with_number table t.priority_at t.target.default_priority) t.attempts_at t.target.default_attempts
+enable_is b table target t inside at =
+    ap
+    (λ (o : Option BoundTarget).
+    option_map_or
+    (λ (u : BoundTarget). with_number (with_number table u.priority_at u.target.default_priority) u.attempts_at u.target.default_attempts)
+    o table)
+    (slice_get_read b.targets (length b.targets) target t refl inside at)

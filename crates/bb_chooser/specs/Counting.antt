@@ -1,4 +1,5 @@
--- Attempts that are spent and restored (barebox User Manual, Bootchooser).
+-- Attempts that are spent and restored, and targets that are disabled and enabled (barebox User
+-- Manual, Bootchooser).
 use Rattle.std.specs.Prelude.{ℕ, ◌+◌, ◌-◌, ◌==◌, ◌&&◌, List, Option, Some, None, if◌then◌else◌, length, nat_le, nat_lt, slice_get}
 use Rattle.std.specs.Option.{option_map_or}
 use Rattle.bb_chooser.specs.Binding.{Binding}
@@ -34,3 +35,17 @@ with_default_attempts b table target =
 abbrev pub mark_good_of : Binding → List ℕ → List ℕ
 mark_good_of b table =
     option_map_or (with_default_attempts b table) (chosen_target b table) table
+
+-- the target without a priority, so that it doesn't qualify; its attempts stay
+abbrev pub disable_of : Binding → List ℕ → ℕ → List ℕ
+disable_of b table target =
+    option_map_or (λ t. with_number table t.priority_at 0) (slice_get b.targets target) table
+
+-- the target with its default priority and its default attempts
+abbrev pub enable_of : Binding → List ℕ → ℕ → List ℕ
+enable_of b table target =
+    option_map_or
+    (λ t.
+    with_number (with_number table t.priority_at t.target.default_priority) t.attempts_at
+    t.target.default_attempts)
+    (slice_get b.targets target) table

@@ -1,4 +1,5 @@
-ghost use Rattle.std.specs.Prelude.{◌≡◌, ◌==◌, ◌&&◌, Ok, IfOk, IfErr};
+ghost use Rattle.std.specs.Prelude.{◌≡◌, ◌==◌, ◌&&◌, Ok, IfOk, IfErr, position};
+ghost use Rattle.std.specs.Str.{bytes_eq};
 ghost use Rattle.bb_chooser.specs.Binding.{IsBoundTo, bind_of};
 ghost use Rattle.bb_chooser.specs.Refusals.{Refuses};
 ghost use Rattle.bb_chooser.specs.Resets.{has_cause};
@@ -49,7 +50,9 @@ impl Chooser {
     ghost use Rattle.bb_chooser.specs.Binding.{IsBinding, IsBoundTo, bind_of};
     ghost use Rattle.bb_chooser.specs.Choosing as choosing;
     ghost use Rattle.bb_chooser.specs.Choosing.{IsBest, NoneQualifies, entry_file, name_of};
-    ghost use Rattle.bb_chooser.specs.Counting.{chosen_target, mark_good_of, spend_of};
+    ghost use Rattle.bb_chooser.specs.Choosing.{target_place};
+    ghost use Rattle.bb_chooser.specs.Counting.{chosen_target, disable_of, enable_of};
+    ghost use Rattle.bb_chooser.specs.Counting.{mark_good_of, spend_of};
     ghost use Rattle.bb_chooser.specs.Others.{KeepsOthers};
     ghost use Rattle.bb_chooser.specs.Refusals.{ComesFrom, Refuses};
     ghost use Rattle.bb_chooser.specs.Resets.{reset_of};
@@ -93,6 +96,14 @@ impl Chooser {
     {
         let bound = self.targets.get(target)?;
         Some(&bound.target.name)
+    }
+
+    /// The target of that name, counted from 0, `None` exactly where there is none.
+    pub fn find(&self, name: &str) -> Option<usize>
+        ensures value { result ≡ target_place self.now name.now }
+        ensures inside { IfSome result (λ target. target < length self.now.targets) }
+    {
+        target_place(self.targets.as_slice(), name)
     }
 
     /// The name of a target's entry file, `None` exactly from the count on.
@@ -241,6 +252,29 @@ impl Chooser {
         true
     }
 
+    /// Takes its priority from a target, so that it isn't chosen. Its attempts stay.
+    pub fn disable(&self, table: &mut Table, target: usize)
+        requires sized { length table.old ≡ self.now.area_len }
+        requires there { target < length self.now.targets }
+        ensures disabled { table.new ≡ disable_of self.now table.old target }
+        ensures others { KeepsOthers self.now table.old table.new }
+    {
+        let disabled = &self.targets[target];
+        put_number(table, disabled.priority_at, 0);
+    }
+
+    /// Gives a target its default priority and its default attempts.
+    pub fn enable(&self, table: &mut Table, target: usize)
+        requires sized { length table.old ≡ self.now.area_len }
+        requires there { target < length self.now.targets }
+        ensures enabled { table.new ≡ enable_of self.now table.old target }
+        ensures others { KeepsOthers self.now table.old table.new }
+    {
+        let bound = &self.targets[target];
+        put_number(table, bound.priority_at, bound.target.default_priority);
+        put_number(table, bound.attempts_at, bound.target.default_attempts);
+    }
+
     // The target that was chosen last, from 0.
     fn chosen_target(&self, table: &Table) -> Option<usize>
         requires { length table.now ≡ self.now.area_len }
@@ -255,6 +289,15 @@ impl Chooser {
         }
         Some(place - 1)
     }
+}
+
+// The first of these targets that is called so.
+fn target_place(targets: &[BoundTarget], name: &str) -> Option<usize>
+    ensures { result ≡ position (λ t. bytes_eq t.target.name name.now) targets.now }
+{
+    targets
+        .iter()
+        .position(|bound| bound.target.name.as_str() == name)
 }
 
 // Whether a target loses its priority.

@@ -5,17 +5,18 @@ ghost use Rattle.bb_words.specs.Answer.{IsSized, Refuses};
 ghost use Rattle.bb_words.specs.Options.{given_once, none_given, set_in, joined_value_in};
 ghost use Rattle.bb_words.specs.Options.{valued_of};
 ghost use Rattle.bb_words.specs.Options.{with_option};
-ghost use Rattle.bb_words.specs.Table.{may_come};
+ghost use Rattle.bb_words.specs.Table.{install_by, may_come, slot_words};
 ghost use Rattle.bb_words.specs.Words.{Options, after_joined, after_option, after_value};
 ghost use Rattle.bb_words.specs.Words.{before_value, command_at, next};
 
+use crate::digest::digest_spelt;
 use crate::option::{Valued, cause_of, cut_at_sign, dump_of, value_in, valued_of};
 use crate::row::Row;
 use crate::{
-    Action, ActionList, BootCommand, CauseWord, Command, Described, MarkGoodCommand, ShellCommand,
-    StateCommand, WordsError,
+    Action, ActionList, BootCommand, CauseWord, Command, Described, InstallCommand,
+    MarkGoodCommand, ShellCommand, SlotWords, StateCommand, VerifyCommand, WordsError,
 };
-use bb_base::{NoMemory, Text};
+use bb_base::{Bytes, NoMemory, Text};
 use std::alloc::Global;
 
 /// What the options of a command have given so far.
@@ -26,6 +27,10 @@ pub(crate) struct Given {
     pub settings: Option<Text>,
     pub script: Option<Text>,
     pub key: Option<Text>,
+    pub target: Option<Text>,
+    pub label: Option<Text>,
+    pub image: Option<Text>,
+    pub digest: Option<Bytes>,
     pub cause: Option<CauseWord>,
     pub actions: ActionList,
 }
@@ -41,6 +46,10 @@ impl Given {
             settings: None,
             script: None,
             key: None,
+            target: None,
+            label: None,
+            image: None,
+            digest: None,
             cause: None,
             actions: ActionList::none(alloc),
         }
@@ -127,6 +136,10 @@ impl Given {
             Valued::Settings => self.settings.is_some(),
             Valued::Script => self.script.is_some(),
             Valued::Key => self.key.is_some(),
+            Valued::Target => self.target.is_some(),
+            Valued::Label => self.label.is_some(),
+            Valued::Image => self.image.is_some(),
+            Valued::Digest => self.digest.is_some(),
             Valued::Cause => self.cause.is_some(),
             Valued::Get | Valued::Set => false,
         }
@@ -150,6 +163,13 @@ impl Given {
             Valued::Settings => self.settings = Some(Text::of(alloc, value)?),
             Valued::Script => self.script = Some(Text::of(alloc, value)?),
             Valued::Key => self.key = Some(Text::of(alloc, value)?),
+            Valued::Target => self.target = Some(Text::of(alloc, value)?),
+            Valued::Label => self.label = Some(Text::of(alloc, value)?),
+            Valued::Image => self.image = Some(Text::of(alloc, value)?),
+            Valued::Digest => {
+                let digest = digest_spelt(alloc, value)?;
+                self.digest = Some(digest.ok_or(WordsError::BadWord(place))?);
+            }
             Valued::Cause => self.cause = Some(cause_of(value).ok_or(WordsError::BadWord(place))?),
             Valued::Get => self.actions.push(Action::Get(Text::of(alloc, value)?))?,
             Valued::Set => {
@@ -198,8 +218,51 @@ impl Given {
                 boot: boot_by(described, settings, self.cause),
                 script,
             })),
+            (Row::Install, Some(settings), _) => {
+                let slot = slot_words(self.label, self.image);
+                match install_by(described, settings, self.target, slot, self.digest) {
+                    Some(install) => Ok(Command::Install(install)),
+                    None => Err(WordsError::BadWord(place)),
+                }
+            }
+            (Row::Verify, _, _) => match slot_words(self.label, self.image) {
+                Some(slot) => Ok(Command::Verify(VerifyCommand { described, slot })),
+                None => Err(WordsError::BadWord(place)),
+            },
             _ => Err(WordsError::BadWord(place)),
         }
+    }
+}
+
+// The slot and its image, where both are named.
+fn slot_words(label: Option<Text>, image: Option<Text>) -> Option<SlotWords>
+    ensures { result ≡ slot_words label image }
+{
+    match (label, image) {
+        (Some(label), Some(image)) => Some(SlotWords { label, image }),
+        _ => None,
+    }
+}
+
+// What `install` is given, where nothing is missing.
+fn install_by(
+    described: Described,
+    settings: Text,
+    target: Option<Text>,
+    slot: Option<SlotWords>,
+    digest: Option<Bytes>,
+) -> Option<InstallCommand>
+    ensures { result ≡ install_by described settings target slot digest }
+{
+    match (target, slot, digest) {
+        (Some(target), Some(slot), Some(digest)) => Some(InstallCommand {
+            described,
+            settings,
+            target,
+            slot,
+            digest,
+        }),
+        _ => None,
     }
 }
 

@@ -4,6 +4,7 @@
 
 mod action_list;
 mod command;
+mod digest;
 mod drill;
 mod error;
 mod given;
@@ -18,8 +19,9 @@ mod word;
 
 pub use action_list::ActionList;
 pub use command::{
-    Action, BootCommand, CauseWord, Command, Described, DrillNumbers, MarkGoodCommand, MenuCommand,
-    RawAction, RawCommand, ShellCommand, StateCommand,
+    Action, BootCommand, CauseWord, Command, Described, DrillNumbers, InstallCommand,
+    MarkGoodCommand, MenuCommand, RawAction, RawCommand, ShellCommand, SlotWords, StateCommand,
+    VerifyCommand,
 };
 pub use error::WordsError;
 pub use law::{law_accepted_words, law_first_bad_word};
