@@ -59,7 +59,8 @@ fn read_install<N: Files>(
     let chooser = read_targets(alloc, files, &command.settings, &keyed.layout)?;
     let target = target_named(&chooser, &command.target)?;
     let slot = found_slot(slot)?;
-    let image = read_image(alloc, files, slot, &command.slot.image)?;
+    let file = &command.slot.image;
+    let image = read_image(alloc, files, slot, file)?;
     let checked = digested(alloc, image, command.digest.as_slice())?;
     let place = SlotImage {
         slot,

@@ -1,16 +1,19 @@
 -- The work of a session on a table that was just loaded: the state that it starts from, what it
 -- made of the device, and what it gave.
-use Rattle.std.specs.Prelude.{◌≡◌, ◌⊎◌, ℕ, Bool, true, false, List, [], Option, Some, None, Result, Ok, Err, IsOk}
+use Rattle.std.specs.Prelude.{◌≡◌, ◌⊎◌, ◌<◌, ℕ, Bool, true, false, List, [], length, Option, Some, None, Result, Ok, Err, IsOk}
 use Rattle.bb_actions.specs.Actions.{actions_text}
+use Rattle.bb_chooser.specs.Binding.{Binding}
 use Rattle.bb_copies.specs.declared.answers.CopyFault.{CopyFault}
 use Rattle.bb_flash.specs.Device.{Device}
+use Rattle.bb_flash.specs.declared.geometry.Geometry.{Geometry}
 use Rattle.bb_layout.specs.Layout.{Laid}
 use Rattle.bb_state.specs.Keyed.{Keyed}
-use Rattle.bb_state.specs.State.{IsOn, is_sure, last_table_of}
+use Rattle.bb_state.specs.State.{IsOn, is_sure, laid_of, last_table_of}
 use Rattle.bb_state.specs.declared.state.State.{State}
 use Rattle.bb_shell.specs.Running.{IsSaveRun}
+use Rattle.bb_plan.specs.Plan.{IsBoundAt}
 use Rattle.bb_plan.specs.declared.plan.Work.{Work}
-use Rattle.bb_plan.specs.declared.plan.Work.TheVariants.{Act, Good, Write}
+use Rattle.bb_plan.specs.declared.plan.Work.TheVariants.{Act, Good, Install, Write}
 use Rattle.bb_plan.specs.Refusal.{copy_refusal}
 use Rattle.bb_session.specs.Acting.{Acts, SavesOnce, WorkAnswers, refusal_by_table}
 use Rattle.bb_session.specs.Marking.{good_text}
@@ -47,6 +50,18 @@ pub record IsDone (keyed : Keyed) (used : Option ℕ) (table : List ℕ) (work :
   pub answers : WorkAnswers
   pub ran : IsRunAfter keyed work table used from to answers
   pub ends : EndsWith (session_on keyed work table answers) given
+
+-- how long a page is that a work needs memory for, before its first call of the device
+abbrev pub page_len : Geometry → Work → ℕ
+page_len geometry (Install targets target place) = geometry.page
+page_len geometry _ = 0
+
+-- ---- a target that is disabled, and enabled again
+
+-- targets are bound to the variables of a state's layout, and this is one of them
+pub record IsInstalledBy (state : State) (targets : Binding) (target : ℕ) : Type 0 where
+  pub bound : IsBoundAt (laid_of state) targets
+  pub there : target < length targets.targets
 
 -- ---- one save
 

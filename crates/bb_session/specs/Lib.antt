@@ -1,9 +1,12 @@
 -- Definitions that contracts cite. A reader has to believe all of them.
 pub mod Acting
+pub mod Around
 pub mod Booting
+pub mod Comparing
 pub mod Doing
 pub mod DrillLine
 pub mod Exactly
+pub mod Installing
 pub mod Looking
 pub mod Marking
 pub mod Scripting

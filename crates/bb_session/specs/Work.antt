@@ -21,10 +21,10 @@ use Rattle.bb_script_commands.specs.Held.{Known}
 use Rattle.bb_script_commands.specs.Playing.{IsPlayed}
 use Rattle.bb_script_commands.specs.Scripts.{EndsBy}
 use Rattle.bb_shell.specs.Rounds.{answer_of}
-use Rattle.bb_shell.specs.Running.{AreRun}
 use Rattle.bb_state.specs.Kinds.{laid_form, laid_kinds}
 use Rattle.bb_state.specs.State.{IsDefault, IsRefused}
-use Rattle.bb_session.specs.Acting.{Acts, AreRoundsOf, Plays, WorkAnswers, acts_of, kept_before, needs_table, no_answers, start_plans_of}
+use Rattle.bb_session.specs.Acting.{Acts, AreRoundsOf, IsSavedAround, Plays, SavesAround, WorkAnswers, acts_of, kept_before, needs_table, no_answers, place_in, start_plans_of}
+use Rattle.bb_session.specs.Around.{AreRunAround}
 use Rattle.bb_session.specs.Looking.{first_found, passed_in}
 use Rattle.bb_shell.specs.declared.boot_end.BootEnd.{BootEnd}
 use Rattle.bb_session.specs.Booting.{end_refusal, end_text}
@@ -94,12 +94,16 @@ pub record IsPlay (script : ScriptTree) (known : Known) (grants : Option ℕ) (r
   pub ending : EndsBy end rounds
   pub granted : end ≢ ends.NoMemory → grants ≡ None
 
--- of every other work no memory is asked for among its rounds
+-- of every other work no memory is asked for among its rounds; and those around a slot hang on what
+-- was answered to the calls on it
 abbrev pub IsPlayOf : Acts → WorkAnswers → List Round → Type 0
 IsPlayOf (Plays script known) answers rounds = IsPlay script known answers.grants rounds
+IsPlayOf (SavesAround first place second) answers rounds =
+    (answers.grants ≡ None) × IsSavedAround first second answers.stuck rounds
 IsPlayOf acts answers rounds = answers.grants ≡ None
 
--- A work ran rounds after a load of this table, and this is what was answered to it. `used` is the
+-- A work ran rounds after a load of this table, and wrote its slot between them, if it has one. This
+-- is what was answered to it. `used` is the
 -- copy that the load took, and `now` the one that passes the last table.
 pub record IsRunAfter (keyed : Keyed) (work : Work) (table : List ℕ) (used : Option ℕ)
     (from to : Device) (answers : WorkAnswers) : Type 0 where
@@ -108,7 +112,8 @@ pub record IsRunAfter (keyed : Keyed) (work : Work) (table : List ℕ) (used : O
   pub answers_are : answers.rounds ≡ map answer_of rounds
   pub are : AreRoundsOf (start_plans_of work) (acts_of keyed.layout work table) rounds
   pub run :
-      AreRun keyed (start_plans_of work) (kept_before work table) used now rounds from to
+      AreRunAround keyed (start_plans_of work) (place_in (acts_of keyed.layout work table))
+      (kept_before work table) used now rounds answers.stuck from to
   pub played : IsPlayOf (acts_of keyed.layout work table) answers rounds
 
 -- it comes after a load that answered Ok

@@ -58,7 +58,8 @@ fn put(state: &mut State, work: &Work) -> Result<(), Refusal>
             Ok(())
         }
         Work::Good(chooser) => mark(state, chooser),
-        Work::Show | Work::Boot(_, _, _) | Work::Run(_, _, _, _) => unreachable!(),
+        Work::Show | Work::Boot(_, _, _) => unreachable!(),
+        Work::Run(_, _, _, _) | Work::Install(_, _, _) => unreachable!(),
     }
 }
 
@@ -86,8 +87,8 @@ fn saves_always(work: &Work) -> bool
     matches!(work, Work::Write(_))
 }
 
-// Saves the table: always, or where it is another than the one that was loaded.
-fn save<F: Flash>(flash: &mut F, state: &mut State, always: bool) -> Result<(), Refusal>
+/// Saves the table: always, or where it is another than the one that was loaded or saved last.
+pub(crate) fn save<F: Flash>(flash: &mut F, state: &mut State, always: bool) -> Result<(), Refusal>
     requires on { IsOn state.old (F.device flash.old) }
     requires sure { is_sure state.old ≡ true }
     ensures saved { IsSavedOver (keyed_of state.old) (used_of state.old)
@@ -112,5 +113,6 @@ fn say(alloc: Global, state: &State, work: &Work) -> Result<Bytes, NoMemory>
         Work::Good(chooser) => good_text(alloc, chooser, &state.table),
         Work::Show | Work::Write(_) => Ok(Bytes::none(alloc)),
         Work::Boot(_, _, _) | Work::Run(_, _, _, _) => Ok(Bytes::none(alloc)),
+        Work::Install(_, _, _) => Ok(Bytes::none(alloc)),
     }
 }
