@@ -1,8 +1,12 @@
 -- Rounds between which a slot is written: the calls on the slot come after the saves before them
 -- answered Ok, and before another save is begun.
-use Rattle.std.specs.Prelude.{◌≡◌, ℕ, List, ◌++◌, Option, Some, None, Result, Ok, Err, IsOk, option_map}
+use Rattle.std.specs.Prelude.{◌≡◌, ⊤, ℕ, List, ◌++◌, Option, Some, None, Result, Ok, Err, IsOk, option_map}
+use Rattle.bb_bucket.specs.Kind.{BucketKind}
+use Rattle.bb_copies.specs.Buckets.{IsApart, IsOutside}
 use Rattle.bb_copies.specs.declared.answers.CopyFault.{CopyFault}
 use Rattle.bb_flash.specs.Device.{Device}
+use Rattle.bb_flash.specs.Cuts.{EachImage, IsSameRegion}
+use Rattle.bb_flash.specs.declared.region.Region.{Region}
 use Rattle.bb_flash.specs.declared.plan.Plan.{Plan as StartPlan}
 use Rattle.bb_install.specs.Writing.{IsInstalled, SlotCalls, StopsAt}
 use Rattle.bb_state.specs.Keyed.{Keyed}
@@ -11,6 +15,8 @@ use Rattle.bb_shell.specs.Running.{AreRun}
 use Rattle.bb_shell.specs.Sequence.{refused_in}
 use Rattle.bb_shell.specs.Stages.{kept_after}
 use Rattle.bb_plan.specs.declared.plan.SlotImage.{SlotImage}
+use Rattle.bb_plan.specs.declared.plan.Work.{Work}
+use Rattle.bb_plan.specs.declared.plan.Work.TheVariants.{Install}
 use Rattle.bb_plan.specs.declared.refusal.Refusal.{Refusal}
 use Rattle.bb_plan.specs.declared.refusal.Refusal.TheVariants as refusals
 
@@ -49,6 +55,26 @@ abbrev pub IsSlotRunAfter :
 IsSlotRunAfter None refused stuck from to = to ≡ from
 IsSlotRunAfter (Some place) (Some fault) stuck from to = to ≡ from
 IsSlotRunAfter (Some place) None stuck from to = IsSlotRun place stuck from to
+
+-- ---- what lies outside
+
+-- the region that a work may write besides the copies
+abbrev pub slot_of_work : Work → Option Region
+slot_of_work (Install targets target place) = Some place.slot
+slot_of_work _ = None
+
+abbrev pub IsOutsideSlot : Option Region → Region → Type 0
+IsOutsideSlot None region = ⊤
+IsOutsideSlot (Some slot) region = IsApart slot region
+
+-- in every image what lies outside the copies and the slot is as before, and so are the pages in
+-- which it stands
+abbrev pub KeepsOutsideBoth : List BucketKind → Option Region → Device → Device → Type 0
+KeepsOutsideBoth kinds slot from to =
+    (region : Region) → IsOutside kinds region → IsOutsideSlot slot region →
+    EachImage (IsSameRegion from.geometry.page region.at region.size) from to
+
+-- ---- rounds around the calls on a slot
 
 -- Rounds were run, then the slot was written, if there is one, and then the other rounds were run.
 -- `kept` was loaded or saved last before them; `used` is the copy that is used before them, `now`

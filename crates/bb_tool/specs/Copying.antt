@@ -2,12 +2,12 @@
 -- failed, and why one of them couldn't be written. None of these facts names a command.
 use Rattle.std.specs.Prelude.{◌≡◌, ◌⊎◌, ℕ, true, Some, Result, Ok, is_none}
 use Rattle.std.specs.List.{list_all}
-use Rattle.bb_copies.specs.Loading.{KeepsOutside}
 use Rattle.bb_copies.specs.Settling.{NothingFails}
 use Rattle.bb_flash.specs.Device.{Device, content}
 use Rattle.bb_state.specs.Kinds.{laid_kinds}
 use Rattle.bb_tool.specs.Calls.{MayAnswer, session_plan_for, session_for}
-use Rattle.bb_session.specs.Exactly.{CallsExactly, EndsAlike, ErasesExactly, LeavesExactly}
+use Rattle.bb_session.specs.Around.{KeepsOutsideBoth, slot_of_work}
+use Rattle.bb_session.specs.Exactly.{CallsExactly, EndsAlike, ErasesExactly, HoldsInSlot, LeavesExactly}
 use Rattle.bb_plan.specs.Plan.{EarlyEnd, SessionPlan}
 use Rattle.bb_tool.specs.Ran.{Ran}
 use Rattle.bb_session.specs.Acting.{WorkAnswers}
@@ -40,12 +40,13 @@ KeepsATrail ran =
     (λ plan answers.
     HasTrails plan ran.before.device ran.after.device answers.load answers.work)
 
--- nothing outside the copies changes, in any image
+-- nothing outside the copies and the slot of the plan changes, in any image
 abbrev pub KeepsOutsideCopies : Ran → Type 0
 KeepsOutsideCopies ran =
     EachWork ran
     (λ plan answers.
-    KeepsOutside (laid_kinds plan.keyed.layout) ran.before.device ran.after.device)
+    KeepsOutsideBoth (laid_kinds plan.keyed.layout) (slot_of_work plan.work) ran.before.device
+    ran.after.device)
 
 -- ---- where no call of the device failed
 
@@ -62,15 +63,20 @@ EachCalm ran P =
 abbrev pub WritesExactly : Ran → Type 0
 WritesExactly ran = EachCalm ran LeavesExactly
 
--- The number of each block is higher by exactly the erases of these writes: a write erases where
--- its copy's kind says so of what stood there. No other block is erased.
+-- The number of each block is higher by exactly the erases of these writes, and of the calls on the
+-- slot: a write erases where its copy's kind says so of what stood there, and the calls on a slot
+-- erase each of its blocks once. No other block is erased.
 abbrev pub WearsExactly : Ran → Type 0
 WearsExactly ran = EachCalm ran ErasesExactly
 
 -- Each of these writes is one program, and one erase before it where it erases. No other call
--- changed the device.
+-- changed the device, but for the calls on the slot.
 abbrev pub MakesNoOtherCall : Ran → Type 0
 MakesNoOtherCall ran = EachCalm ran CallsExactly
+
+-- The slot that is written holds its image, and is blank after the image's last page.
+abbrev pub MakesTheSlot : Ran → Type 0
+MakesTheSlot ran = EachCalm ran HoldsInSlot
 
 -- Every copy passes the area that was loaded or saved last; where none was the copies are as at
 -- entry.
