@@ -62,6 +62,8 @@ fn sentence_of(status: Status) -> Option<(&'static str, &'static str)> {
         Status::StartFailed => ("no target could be started, and the last one was ", ""),
         Status::BadSettings => ("the settings can't be used: ", ""),
         Status::BadScript | Status::ScriptFailed | Status::StepLimit => return of_script(status),
+        Status::BadTarget | Status::BadSlot | Status::ImageTooLong => return of_install(status),
+        Status::BadDigest | Status::LastTarget | Status::SlotFault => return of_install(status),
         Status::SinkFault => ("the output can't be written", ""),
         Status::BadKey => (
             "the state's records stand under a key, and there is none: ",
@@ -78,6 +80,19 @@ fn of_script(status: Status) -> Option<(&'static str, &'static str)> {
         Status::BadScript => Some(("the script can't be read: ", "")),
         Status::ScriptFailed => Some(("the script ended with status ", "")),
         Status::StepLimit => Some(("the script has more than 10000 commands and rounds", "")),
+        _ => None,
+    }
+}
+
+// The same of the statuses that only an install has, or a comparison.
+fn of_install(status: Status) -> Option<(&'static str, &'static str)> {
+    match status {
+        Status::BadTarget => Some(("the settings have no target ", "")),
+        Status::BadSlot => Some(("the devicetree has no such slot for the device: ", "")),
+        Status::ImageTooLong => Some(("the image is longer than the slot: it has ", " bytes")),
+        Status::BadDigest => Some(("the image is another, whose SHA-256 is ", "")),
+        Status::LastTarget => Some(("no target has a priority and attempts left beside ", "")),
+        Status::SlotFault => Some(("the slot can't be written at byte ", "")),
         _ => None,
     }
 }
