@@ -1,6 +1,6 @@
 //! Slots of a device, into which images of systems are written: where the slot of a label stands,
-//! how an image gets there, whether it is there, and its digest. No command calls it yet. It knows
-//! flashes, trees and layouts; nothing of targets, states or words.
+//! how an image gets there, whether it is there, and its digest. It knows flashes, trees and
+//! layouts; nothing of targets, states or words.
 #![tactic(auto)]
 
 mod cells;

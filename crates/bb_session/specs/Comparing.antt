@@ -21,7 +21,7 @@ IsFoundIn page place image answer =
     IfSome answer (IsComparison page place.slot place.image image)
 
 -- the slot was read: nothing changed, and a read that failed is counted once
-pub record IsCompared (place : SlotImage) (from to : Device) (answer : CompareAnswer) : Type 0 where
+pub record IsSlotCompared (place : SlotImage) (from to : Device) (answer : CompareAnswer) : Type 0 where
   pub told :
       ForSome (content from) (λ image. IsFoundIn from.geometry.page place image answer)
   pub faults : to.faults ≡ counted (is_none answer) from.faults
@@ -43,7 +43,7 @@ GivesCompared (Some found) given =
 pub record IsCompareDone (place : SlotImage) (from to : Device) (given : Result Report Refusal)
     : Type 0 where
   pub answer : CompareAnswer
-  pub compared : IsCompared place from to answer
+  pub compared : IsSlotCompared place from to answer
   pub gives : GivesCompared answer given
 
 -- so it was, or memory was refused before any call of the device

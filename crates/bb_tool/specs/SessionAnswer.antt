@@ -5,7 +5,7 @@ use Rattle.bb_base.specs.Folder.{Folder}
 use Rattle.bb_flash.specs.Device.{Device}
 use Rattle.bb_plan.specs.Plan.{Compared, Compares, Drilled, Drills, EarlyEnd, OnCopies, Printed, Prints, Refused, SessionPlan, Task, plan_by_words, plan_reading}
 use Rattle.bb_plan.specs.FilesRead.{AreRead}
-use Rattle.bb_session.specs.Comparing.{CompareAnswer, IsCompared, IsComparedAs}
+use Rattle.bb_session.specs.Comparing.{CompareAnswer, IsSlotCompared, IsComparedAs}
 use Rattle.bb_session.specs.Session.{Answers, session_of}
 use Rattle.bb_session.specs.Work.{Gives, IsRefusedMemory, IsWork, IsWorkedOut, SendsByMemory}
 use Rattle.bb_session.specs.declared.report.Report.{Report}
@@ -28,7 +28,7 @@ IsTaskDone (Compares place) from to given = IsComparedAs place from to given
 abbrev pub IsEnded : EarlyEnd → Device → Device → CompareAnswer → Type 0
 IsEnded (Printed text) from to answer = to ≡ from
 IsEnded (Drilled numbers) from to answer = to ≡ from
-IsEnded (Compared place) from to answer = IsCompared place from to answer
+IsEnded (Compared place) from to answer = IsSlotCompared place from to answer
 IsEnded (Refused refusal) from to answer = to ≡ from
 
 -- the work of a plan was done, or its comparison

@@ -98,9 +98,9 @@ boot_in given =
     (described_in given)
 
 -- a slot and its image, where both are named
-abbrev pub slot_words : Option (List ℕ) → Option (List ℕ) → Option SlotWords
-slot_words (Some label) (Some image) = Some (record { label = label; image = image })
-slot_words _ _ = None
+abbrev pub slot_given : Option (List ℕ) → Option (List ℕ) → Option SlotWords
+slot_given (Some label) (Some image) = Some (record { label = label; image = image })
+slot_given _ _ = None
 
 -- what `install` is given besides the state and the settings, where nothing is missing
 abbrev pub install_by :
@@ -123,7 +123,7 @@ install_in given =
     (λ described.
     option_and_then
     (λ settings.
-    install_by described settings given.target (slot_words given.label given.image) given.digest)
+    install_by described settings given.target (slot_given given.label given.image) given.digest)
     given.settings)
     (described_in given)
 
@@ -133,7 +133,7 @@ verify_in given =
     option_and_then
     (λ described.
     option_map (λ slot. record { described = described; slot = slot })
-    (slot_words given.label given.image))
+    (slot_given given.label given.image))
     (described_in given)
 
 -- the command that its options make, where those are given that must be: of `state` the file, of

@@ -5,7 +5,7 @@ ghost use Rattle.bb_words.specs.Answer.{IsSized, Refuses};
 ghost use Rattle.bb_words.specs.Options.{given_once, none_given, set_in, joined_value_in};
 ghost use Rattle.bb_words.specs.Options.{valued_of};
 ghost use Rattle.bb_words.specs.Options.{with_option};
-ghost use Rattle.bb_words.specs.Table.{install_by, may_come, slot_words};
+ghost use Rattle.bb_words.specs.Table.{install_by, may_come, slot_given};
 ghost use Rattle.bb_words.specs.Words.{Options, after_joined, after_option, after_value};
 ghost use Rattle.bb_words.specs.Words.{before_value, command_at, next};
 
@@ -219,13 +219,13 @@ impl Given {
                 script,
             })),
             (Row::Install, Some(settings), _) => {
-                let slot = slot_words(self.label, self.image);
+                let slot = slot_given(self.label, self.image);
                 match install_by(described, settings, self.target, slot, self.digest) {
                     Some(install) => Ok(Command::Install(install)),
                     None => Err(WordsError::BadWord(place)),
                 }
             }
-            (Row::Verify, _, _) => match slot_words(self.label, self.image) {
+            (Row::Verify, _, _) => match slot_given(self.label, self.image) {
                 Some(slot) => Ok(Command::Verify(VerifyCommand { described, slot })),
                 None => Err(WordsError::BadWord(place)),
             },
@@ -235,8 +235,8 @@ impl Given {
 }
 
 // The slot and its image, where both are named.
-fn slot_words(label: Option<Text>, image: Option<Text>) -> Option<SlotWords>
-    ensures { result ≡ slot_words label image }
+fn slot_given(label: Option<Text>, image: Option<Text>) -> Option<SlotWords>
+    ensures { result ≡ slot_given label image }
 {
     match (label, image) {
         (Some(label), Some(image)) => Some(SlotWords { label, image }),

@@ -5,7 +5,7 @@ use crate::device_file::{Access, open_device};
 use crate::disk::{blank_through, write_through};
 use crate::open_error::{Cause, OpenError};
 use crate::plan_file::PlanFile;
-use crate::progress::Progress;
+use crate::progress::ProgressLines;
 use crate::read_ahead::ReadAhead;
 use bb_base::Failed;
 use bb_flash::{Board, Flash, Geometry, Health, Plan};
@@ -20,7 +20,7 @@ pub struct FileBoard<'r> {
     file: File,
     ahead: ReadAhead,
     plan_file: PlanFile,
-    progress: Progress,
+    progress: ProgressLines,
     geometry: Geometry,
     faults: u64,
     read_faults: u64,
@@ -49,7 +49,7 @@ impl<'r> FileBoard<'r> {
             file,
             ahead: ReadAhead::of(rt.alloc(), geometry).map_err(no_memory)?,
             plan_file: PlanFile::of(rt, path, plan).map_err(no_memory)?,
-            progress: Progress::none(),
+            progress: ProgressLines::none(),
             geometry,
             faults: 0,
             read_faults: 0,

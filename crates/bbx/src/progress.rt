@@ -3,7 +3,7 @@ const STEP: u64 = 65_536;
 
 /// How many bytes a session wrote to its device, where that is told.
 #[derive(Clone, Copy, Debug)]
-pub struct Progress {
+pub struct ProgressLines {
     told: Option<Told>,
 }
 
@@ -14,10 +14,10 @@ struct Told {
     printed: u64,
 }
 
-impl Progress {
+impl ProgressLines {
     /// Nothing is told.
-    pub fn none() -> Progress {
-        Progress { told: None }
+    pub fn none() -> ProgressLines {
+        ProgressLines { told: None }
     }
 
     /// From now on lines go to standard error.
