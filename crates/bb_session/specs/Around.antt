@@ -1,6 +1,7 @@
 -- Rounds between which a slot is written: the calls on the slot come after the saves before them
 -- answered Ok, and before another save is begun.
-use Rattle.std.specs.Prelude.{◌≡◌, ⊤, ℕ, List, ◌++◌, Option, Some, None, Result, Ok, Err, IsOk, option_map}
+use Rattle.std.specs.Prelude.{◌≡◌, ⊤, ℕ, List, ◌++◌, length, Option, Some, None, Result, Ok, Err, IsOk, option_map}
+use Rattle.std.specs.Option.{IfSome}
 use Rattle.bb_bucket.specs.Kind.{BucketKind}
 use Rattle.bb_copies.specs.Buckets.{IsApart, IsOutside}
 use Rattle.bb_copies.specs.declared.answers.CopyFault.{CopyFault}
@@ -86,7 +87,9 @@ pub record AreRunAround
   pub front : List Round
   pub back : List Round
   pub split : rounds ≡ front ++ back
-  -- before the calls on the slot, and behind them
+  -- the first alone comes before the calls on the slot
+  pub cut : IfSome place (λ p. length front ≡ 1)
+  -- before these calls, and behind them
   pub copy : Option ℕ
   pub before : Device
   pub behind : Device

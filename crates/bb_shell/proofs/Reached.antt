@@ -239,7 +239,7 @@ module _ (keyed : Keyed) where
 
     -- the images that count since the round began, where those that count after it are known
     module _ (later : List Round) (to : Device) (early : IsLater from device) (late : IsLater device to)
-        (stops : StopsRefused (round ∷ later)) (alone : later ≡ [] → to ≡ device)
+        (stops : StopsRefused (round ∷ later)) (alone : is_refused_save round.outcome ≡ true → later ≡ [] → to ≡ device)
         (rest : EachCounted Luck (Reaches (Some round.table) copy (saving_rounds (Some round.table) later)) device to) where
       idle_reached : same_as_kept kept round.table ≡ true → EachCounted Luck (Reaches kept used (saving_rounds kept (round ∷ later))) from to
       idle_reached e =
@@ -255,7 +255,7 @@ module _ (keyed : Keyed) where
       refused_reached e refused =
           let none : later ≡ [] = stops.0 refused in
           subst (λ l. EachCounted Luck (Reaches kept used (round ∷ saving_rounds (Some round.table) l)) from to) (sym none)
-          (subst (λ d. EachCounted Luck (Reaches kept used (round ∷ [])) from d) (sym (alone none))
+          (subst (λ d. EachCounted Luck (Reaches kept used (round ∷ [])) from d) (sym (alone refused none))
           (counted_weaker Luck (Longer used round.table) (Reaches kept used (round ∷ [])) from device
           (λ x y longer h a settled.
           subst (StandsAtOne (first_area keyed.layout) (Passed y)) (sym (refused_stages h a round refused))
@@ -323,5 +323,5 @@ module _ (keyed : Keyed) where
       let early = round_later keyed plans kept used run.copy round from run.device run.before in
       round_reached plans kept used run.copy round from run.device geometry run.before later to early
       (rounds_later plans later (Some round.table) run.copy now run.device to run.behind) stops
-      (none_alone plans later (Some round.table) run.copy now run.device to run.behind)
+      (λ refused. none_alone plans later (Some round.table) run.copy now run.device to run.behind)
       (rounds_reached plans later (Some round.table) run.copy now run.device to (early.geometry ∙ geometry) stops.1 run.behind)
