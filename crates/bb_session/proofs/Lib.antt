@@ -1,6 +1,8 @@
 pub mod Accounts
 pub mod Acted
+pub mod Around
 pub mod Barred
+pub mod Beside
 pub mod Done
 pub mod Ended
 pub mod Exact

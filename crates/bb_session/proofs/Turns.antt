@@ -16,12 +16,12 @@ use Rattle.bb_flash.specs.Cuts.{IsLater}
 use Rattle.bb_flash.specs.Device.{Change, Device, Told, content, moment}
 use Rattle.bb_flash.specs.Image.{Image}
 use Rattle.bb_flash.specs.declared.plan.Plan.{Plan as StartPlan}
+use Rattle.bb_flash.specs.declared.region.Region.{Region}
 use Rattle.bb_flash.proofs.Counting.{counted_joined_at}
 use Rattle.bb_state.specs.Keyed.{Keyed}
 use Rattle.bb_state.specs.Kinds.{laid_form, laid_kinds, laid_passings}
 use Rattle.bb_shell.specs.Boot.{Round}
 use Rattle.bb_shell.specs.Counting.{target_started}
-use Rattle.bb_shell.specs.Sequence.{RanRounds}
 use Rattle.bb_shell.specs.Stages.{IsCounted as IsCountedHere, IsSettled, made_of, saves_of, stages_reached}
 use Rattle.bb_shell.proofs.Made.{made_least, made_most, made_started}
 use Rattle.bb_shell.proofs.Trails.{fair_from, in_order}
@@ -30,6 +30,7 @@ use Rattle.bb_session.specs.Looking.{passed_in}
 use Rattle.bb_session.specs.Session.{loaded_area}
 use Rattle.bb_session.specs.SessionTurns.{HasEntryTrail, HasTrail, IsCounted, IsFairRun, LeadsTo}
 use Rattle.bb_session.specs.Work.{IsLoaded, IsLoadedAs}
+use Rattle.bb_session.proofs.Around.{RanWork}
 use Rattle.bb_session.proofs.Kept.{loaded_left}
 
 pub told_content : (device : Device) (told : Told) → device.told ≡ Some told → content device ≡ Some told.image
@@ -141,8 +142,8 @@ module _ (keyed : Keyed) (from mid : Device) (first middle : Told) (e : from.tol
 
   module _ (to : Device) (last : Told) (f : to.told ≡ Some last) (late : IsLater mid to)
       (used : Option ℕ) (found : Option (List ℕ)) (gave : IsLoadedAs keyed used from mid found)
-      (plans : List (Option StartPlan)) (kept : Option (List ℕ)) (of_table : IfSome kept (λ table. table ≡ loaded_area keyed.layout found))
-      (rounds : List Round) (now : Option ℕ) (ran : RanRounds keyed plans kept used now rounds mid to) where
+      (plans : List (Option StartPlan)) (slot : Option Region) (kept : Option (List ℕ)) (of_table : IfSome kept (λ table. table ≡ loaded_area keyed.layout found))
+      (rounds : List Round) (now : Option ℕ) (ran : RanWork keyed plans slot kept used now rounds mid to) where
     abbrev Saves : List (List ℕ)
     Saves = saves_of kept rounds
 

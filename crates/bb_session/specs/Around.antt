@@ -3,14 +3,16 @@
 use Rattle.std.specs.Prelude.{◌≡◌, ⊤, ℕ, List, ◌++◌, length, Option, Some, None, Result, Ok, Err, IsOk, option_map}
 use Rattle.std.specs.Option.{IfSome}
 use Rattle.bb_bucket.specs.Kind.{BucketKind}
-use Rattle.bb_copies.specs.Buckets.{IsApart, IsOutside}
+use Rattle.bb_copies.specs.Buckets.{EachCopy, IsApart, IsOutside}
 use Rattle.bb_copies.specs.declared.answers.CopyFault.{CopyFault}
 use Rattle.bb_flash.specs.Device.{Device}
 use Rattle.bb_flash.specs.Cuts.{EachImage, IsSameRegion}
 use Rattle.bb_flash.specs.declared.region.Region.{Region}
 use Rattle.bb_flash.specs.declared.plan.Plan.{Plan as StartPlan}
+use Rattle.bb_install.specs.Slot.{HasPlace, SharesByte}
 use Rattle.bb_install.specs.Writing.{IsInstalled, SlotCalls, StopsAt}
 use Rattle.bb_state.specs.Keyed.{Keyed}
+use Rattle.bb_state.specs.Kinds.{laid_kinds}
 use Rattle.bb_shell.specs.Boot.{Round}
 use Rattle.bb_shell.specs.Running.{AreRun}
 use Rattle.bb_shell.specs.Sequence.{refused_in}
@@ -32,6 +34,7 @@ IsWrittenBy place (Some at) from to = StopsAt place.slot place.image at from to
 
 -- the image was written to the slot, or a call failed
 pub record IsSlotRun (place : SlotImage) (stuck : Option ℕ) (from to : Device) : Type 0 where
+  pub stands : HasPlace from.geometry place.slot
   pub wrote : IsWrittenBy place stuck from to
   pub calls : SlotCalls (slot_result stuck) place.slot from to
 
@@ -56,6 +59,10 @@ abbrev pub IsSlotRunAfter :
 IsSlotRunAfter None refused stuck from to = to ≡ from
 IsSlotRunAfter (Some place) (Some fault) stuck from to = to ≡ from
 IsSlotRunAfter (Some place) None stuck from to = IsSlotRun place stuck from to
+
+-- a slot shares no byte with any copy
+abbrev pub IsBesideCopies : List BucketKind → Region → Type 0
+IsBesideCopies kinds slot = EachCopy kinds (λ copy kind. SharesByte slot kind.region → ⊥)
 
 -- ---- what lies outside
 
@@ -89,6 +96,7 @@ pub record AreRunAround
   pub split : rounds ≡ front ++ back
   -- the first alone comes before the calls on the slot
   pub cut : IfSome place (λ p. length front ≡ 1)
+  pub beside : IfSome place (λ p. IsBesideCopies (laid_kinds keyed.layout) p.slot)
   -- before these calls, and behind them
   pub copy : Option ℕ
   pub before : Device
