@@ -1,10 +1,10 @@
 -- Rounds between which a slot was written: what they make of a device.
-use Rattle.std.proofs.Common.{◌≡◌, ◌×◌, ℕ, ◌%◌, ◌<◌, true, false, List, [], ◌∷◌, ◌++◌, length, Option, Some, None, ap, is_some, refl, sym, subst, ◌∙◌, inl}
+use Rattle.std.proofs.Common.{◌≡◌, ◌×◌, ℕ, ◌%◌, ◌<◌, true, false, List, [], ◌∷◌, ◌++◌, append-nil, length, Option, Some, None, ap, is_some, refl, sym, subst, ◌∙◌, inl}
 use Rattle.std.specs.Option.{IfSome, option_map}
 use Rattle.std.proofs.lemmas.Bool.{false≢true}
 use Rattle.std.proofs.lemmas.List.Sums.{sum_by-cons}
 use Rattle.bb_bucket.specs.Kind.{BucketKind, LiesOn}
-use Rattle.bb_copies.specs.Loading.{KeepsOutside}
+use Rattle.bb_copies.proofs.Runs.{later_refl}
 use Rattle.bb_copies.specs.declared.answers.CopyFault.{CopyFault}
 use Rattle.bb_flash.proofs.Counting.{counted_of_images}
 use Rattle.bb_flash.proofs.Moments.{images_same_joined, images_weaker, later_joined}
@@ -21,7 +21,7 @@ use Rattle.bb_install.specs.Slot.{HasPlace}
 use Rattle.bb_shell.proofs.Joined.{run_joined, stops_joined}
 use Rattle.bb_shell.proofs.LastRounds.{kept_cons, last_cons, refused_cons}
 use Rattle.bb_shell.proofs.Reached.{Luck, Reaches, round_reached, rounds_later, rounds_reached}
-use Rattle.bb_shell.proofs.Sequence.{adds_from, none_stops, once_stops, ran_rounds, stops_refused, stops_there}
+use Rattle.bb_shell.proofs.Sequence.{adds_from, none_run, none_stops, once_stops, ran_rounds, stops_refused, stops_there}
 use Rattle.bb_shell.proofs.Starts.{round_adds, round_later, round_outside, round_rose, round_stored}
 use Rattle.bb_shell.proofs.Still.{IsStill, PassesSame, still_leads, still_reached, still_stored, still_trails}
 use Rattle.bb_shell.proofs.Trails.{round_leads, round_trails, rounds_leads, rounds_trails}
@@ -270,9 +270,44 @@ module _ (keyed : Keyed) (plans : List (Option StartPlan)) (kept : Option (List 
     start_faults = start_faults_is;
   }
 
+-- ---- rounds without a slot, as rounds around one
+
+pub around_of : (keyed : Keyed) (plans : List (Option StartPlan)) (place : Option SlotImage) (kept : Option (List ℕ)) (used now : Option ℕ)
+    (rounds : List Round) (stuck : Option ℕ) (from to : Device) → place ≡ None → AreRun keyed plans kept used now rounds from to →
+    AreRunAround keyed plans place kept used now rounds stuck from to
+around_of keyed plans place kept used now rounds stuck from to none run =
+    subst (λ (p : Option SlotImage). AreRunAround keyed plans p kept used now rounds stuck from to) (sym none)
+    (record {
+      front = rounds;
+      back = [];
+      split = sym (append-nil rounds);
+      cut = tt;
+      beside = tt;
+      copy = now;
+      before = to;
+      behind = to;
+      early = run;
+      wrote = refl;
+      late = none_run keyed plans (kept_after kept rounds) now to;
+    })
+
+slot_later : (place : Option SlotImage) (refused : Option CopyFault) (stuck : Option ℕ) (from to : Device) →
+    IsSlotRunAfter place refused stuck from to → IsLater from to
+slot_later None refused stuck from to wrote = subst (IsLater from) (sym wrote) (later_refl from)
+slot_later (Some place) (Some fault) stuck from to wrote = subst (IsLater from) (sym wrote) (later_refl from)
+slot_later (Some place) None stuck from to wrote = wrote.calls.within.later
+
+pub around_later : (keyed : Keyed) (plans : List (Option StartPlan)) (place : Option SlotImage) (kept : Option (List ℕ)) (used now : Option ℕ)
+    (rounds : List Round) (stuck : Option ℕ) (from to : Device) → AreRunAround keyed plans place kept used now rounds stuck from to →
+    IsLater from to
+around_later keyed plans place kept used now rounds stuck from to run =
+    later_joined from run.before to (rounds_later keyed plans run.front kept used run.copy from run.before run.early)
+    (later_joined run.before run.behind to (slot_later place (refused_in run.front) stuck run.before run.behind run.wrote)
+    (rounds_later keyed plans run.back (kept_after kept run.front) run.copy now run.behind to run.late))
+
 -- ---- of a work
 
-one_round : (keyed : Keyed) (plans : List (Option StartPlan)) (kept : Option (List ℕ)) (used copy : Option ℕ) (round : Round) (from to : Device) →
+pub one_round : (keyed : Keyed) (plans : List (Option StartPlan)) (kept : Option (List ℕ)) (used copy : Option ℕ) (round : Round) (from to : Device) →
     AreRun keyed plans kept used copy (round ∷ []) from to → IsRoundRun keyed plans kept used copy round from to
 unfolding AreRun
 one_round keyed plans kept used copy round from to run =
@@ -295,7 +330,7 @@ first_unplanned first second None None late round back is none =
 
 module _ (keyed : Keyed) (plans : List (Option StartPlan)) (slot : Option Region) (kept : Option (List ℕ)) (used now : Option ℕ) where
   -- no call on a slot was made between them
-  joined_only : (rounds : List Round) (stuck : Option ℕ) (place : Option SlotImage) (from to : Device) →
+  pub joined_only : (rounds : List Round) (stuck : Option ℕ) (place : Option SlotImage) (from to : Device) →
       from.geometry ≡ keyed.layout.geometry → StopsThere rounds →
       (run : AreRunAround keyed plans place kept used now rounds stuck from to) → run.behind ≡ run.before →
       RanRounds keyed plans kept used now rounds from to

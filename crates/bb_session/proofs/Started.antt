@@ -25,13 +25,13 @@ use Rattle.bb_plan.specs.Refusal.{copy_refusal, status_of}
 use Rattle.bb_plan.specs.declared.plan.Work.{Work}
 use Rattle.bb_plan.specs.declared.refusal.Refusal.{Refusal}
 use Rattle.bb_plan.specs.declared.status.Status.TheVariants as statuses
-use Rattle.bb_session.specs.Acting.{Acts, AreBootRounds, AreRoundsOf, LostPlace, NoneBest, Plays, TableBar, WorkAnswers, acts_of, bar_refusal, kept_before, play_of, rounds_for, saves_always, start_plans_of}
+use Rattle.bb_session.specs.Acting.{Acts, AreBootRounds, AreRoundsOf, LastOne, LostPlace, NoneBest, Plays, SavesAround, TableBar, WorkAnswers, acts_of, bar_refusal, kept_before, play_of, rounds_for, saves_always, start_plans_of}
 use Rattle.bb_session.specs.Looking.{passed_in}
-use Rattle.bb_session.specs.Session.{LoadAnswer, acts_after, loaded_area, rounds_after, session_by_acts, work_session, worked_on}
+use Rattle.bb_session.specs.Session.{LoadAnswer, acts_after, around_session, loaded_area, rounds_after, session_by_acts, work_session, worked_on}
 use Rattle.bb_session.specs.Work.{IsTableWork, IsWork}
 use Rattle.bb_session.proofs.Acted.{by_work, look_rounds, ran_of, session_after, session_rounds}
 use Rattle.bb_session.proofs.Barred.{fault_device, is_device_fault}
-use Rattle.bb_session.proofs.Ended.{script_has, worked_has}
+use Rattle.bb_session.proofs.Ended.{around_has, script_has, worked_has}
 use Rattle.bb_session.proofs.Kept.{kept_has, loaded_left}
 
 -- ---- the rounds of a session
@@ -133,6 +133,7 @@ not_fault fault e = both_ways _ (ap is_device_fault e) (fault_device fault)
 not_bar : (bar : TableBar) → IsStartFailed (bar_refusal bar) → ⊥
 not_bar (LostPlace place) e = cc
 not_bar NoneBest e = cc
+not_bar (LastOne name) e = cc
 
 module _ (plans : List (Option StartPlan)) (rounds : List Round) (from to : Device)
     (rose : RaisedBy (failed_starts rounds) from.start_faults to.start_faults) where
@@ -169,6 +170,11 @@ module _ (plans : List (Option StartPlan)) (rounds : List Round) (from to : Devi
       script_has (λ r. IsStartFailed r → FailsBy plans (last_round rounds) from to)
       (record { failed = λ status e. absurd cc; limit = λ e. absurd cc; memory = λ e. absurd cc })
       (course_end play) (refused_in (course_at play).outside.rounds) (λ fault last e. absurd (not_fault fault e)) refusal h
+  -- nor have saves around a slot this one
+  acted_cause plan found (SavesAround first place second) answers are is refusal h =
+      around_has (λ r. IsStartFailed r → FailsBy plans (last_round rounds) from to) (λ bar e. absurd (not_bar bar e)) plan found rounds
+      (λ fault last e. absurd (not_fault fault e)) answers.stuck (λ at is none e. absurd cc) refusal
+      (subst (λ (r : List Round). (around_session plan found answers.stuck r).refusal ≡ Some refusal) is h)
   acted_cause plan found acts answers are is refusal h =
       worked_cause plan found acts are refusal
       (subst (λ (r : List Round). (worked_on plan found acts r).refusal ≡ Some refusal) is h)

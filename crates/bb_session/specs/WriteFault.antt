@@ -1,6 +1,6 @@
 -- Why a session names a copy that it couldn't write. The counts are those of the whole session.
 use Rattle.std.specs.Prelude.{◌≡◌, ◌≢◌, ◌⊎◌, ℕ, ◌+◌, ◌-◌, List, [], ◌∷◌, ◌++◌, Option, Some, None, Ok, Err}
-use Rattle.std.specs.Option.{ForSome}
+use Rattle.std.specs.Option.{ForSome, IfSome}
 use Rattle.bb_copies.specs.Buckets.{EachCopy}
 use Rattle.bb_copies.specs.Passing.{passes_at}
 use Rattle.bb_copies.specs.Refreshing.{IsUntouched}
@@ -10,11 +10,12 @@ use Rattle.bb_flash.specs.Device.{Device, content}
 use Rattle.bb_state.specs.Kinds.{laid_kinds}
 use Rattle.bb_session.specs.Looking.{first_found, passed_in}
 use Rattle.bb_shell.specs.Boot.{Round}
-use Rattle.bb_shell.specs.Running.{AreRun}
-use Rattle.bb_session.specs.Acting.{WorkAnswers, kept_before, start_plans_of}
+use Rattle.bb_session.specs.Acting.{WorkAnswers, kept_before, place_in, start_plans_of}
+use Rattle.bb_session.specs.Around.{AreRunAround}
 use Rattle.bb_session.specs.Exactly.{last_area_of, saves_made}
 use Rattle.bb_plan.specs.Plan.{SessionPlan}
-use Rattle.bb_session.specs.Session.{LoadAnswer, loaded_area, work_session}
+use Rattle.bb_plan.specs.declared.plan.SlotImage.{SlotImage}
+use Rattle.bb_session.specs.Session.{LoadAnswer, acts_after, loaded_area, work_session}
 use Rattle.bb_session.specs.Work.{IsLoaded}
 
 -- The area that the copies were to take: that of the last save that was begun, which is the one
@@ -50,10 +51,14 @@ pub record IsUsed (plan : SessionPlan) (from middle : Device) (load : LoadAnswer
   pub earlier : List Round
   pub last : Round
   pub rounds : (work_session plan load answers).rounds ≡ earlier ++ last ∷ []
+  -- the slot that was written between them, if one was, and the call on it that failed
+  pub place : Option SlotImage
+  pub stuck : Option ℕ
+  pub of_work : IfSome place (λ p. place_in (acts_after plan found) ≡ Some p)
   pub run :
-      AreRun plan.keyed (start_plans_of plan.work)
-      (kept_before plan.work (loaded_area plan.keyed.layout found)) used (Some copy) earlier first
-      middle
+      AreRunAround plan.keyed (start_plans_of plan.work) place
+      (kept_before plan.work (loaded_area plan.keyed.layout found)) used (Some copy) earlier stuck
+      first middle
 
 -- The copy is the one that is used, and the save left it as it was, in every image. No other copy
 -- passes anything, and for each of them a call failed.
