@@ -1,5 +1,5 @@
 -- The rounds of a work after a load: its session, and what they make of a device.
-use Rattle.std.proofs.Common.{◌≡◌, ◌×◌, ℕ, Bool, true, false, List, [], ◌∷◌, map, Option, Some, None, is_none, Ok, Err, refl, sym, ap, subst, ◌∙◌, if◌then◌else◌, inl, inr}
+use Rattle.std.proofs.Common.{◌≡◌, ℕ, Bool, true, false, List, [], ◌∷◌, map, Option, Some, None, is_none, Ok, Err, refl, sym, ap, subst, ◌∙◌, if◌then◌else◌, inl, inr}
 use Rattle.std.specs.Option.{IfSome}
 use Rattle.std.specs.Prelude.{MatchBool}
 use Rattle.std.proofs.lemmas.Bool.{MatchBool-at_false, MatchBool-at_true, cases_Bool}
@@ -108,20 +108,19 @@ session_after plan found answers = acted_rounds plan found (acts_after plan foun
 
 -- ---- the slot of a work
 
+abbrev Unplaced : Acts → Type 0
+Unplaced acts = IfSome (place_in acts) (λ (p : SlotImage). ◌≡◌ {A = Option Region} None (Some p.slot))
+
 slot_is : (layout : Laid) (work : Work) (table : List ℕ) →
     IfSome (place_in (acts_of layout work table)) (λ place. slot_of_work work ≡ Some place.slot)
 slot_is layout (Good targets) table = by (lost_place targets table)
   where
-    by : (lost : Option ℕ) →
-        IfSome (place_in (marks_of lost (mark_good_of targets table))) (λ (p : SlotImage). ◌≡◌ {A = Option Region} None (Some p.slot))
+    by : (lost : Option ℕ) → Unplaced (marks_of lost (mark_good_of targets table))
     by None = tt
     by (Some place) = tt
 slot_is layout (Boot targets cause plans) table = by (is_none (best_of targets (first_table targets cause true table)))
   where
-    abbrev at : Acts → Type 0
-    at acts = IfSome (place_in acts) (λ (p : SlotImage). ◌≡◌ {A = Option Region} None (Some p.slot))
-
-    by : (none : Bool) → at (if none then Stops NoneBest else BootsFrom targets (first_table targets cause true table))
+    by : (none : Bool) → Unplaced (if none then Stops NoneBest else BootsFrom targets (first_table targets cause true table))
     by true = tt
     by false = tt
 slot_is layout (Install targets target place) table = by (is_none (best_of targets (disable_of targets table target)))

@@ -1,9 +1,10 @@
 -- Rounds between which a slot was written: what they make of a device.
-use Rattle.std.proofs.Common.{◌≡◌, ◌×◌, ℕ, ◌%◌, ◌<◌, true, false, List, [], ◌∷◌, ◌++◌, append-nil, length, Option, Some, None, ap, is_some, refl, sym, subst, ◌∙◌, inl}
+use Rattle.std.proofs.Common.{◌≡◌, ℕ, ◌%◌, ◌<◌, true, false, List, [], ◌∷◌, ◌++◌, append-nil, length, Option, Some, None, ap, is_some, refl, sym, subst, ◌∙◌, inl}
 use Rattle.std.specs.Option.{IfSome, option_map}
 use Rattle.std.proofs.lemmas.Bool.{false≢true}
 use Rattle.std.proofs.lemmas.List.Sums.{sum_by-cons}
-use Rattle.bb_bucket.specs.Kind.{BucketKind, LiesOn}
+use Rattle.bb_bucket.specs.Kind.{BucketKind, LiesOn, part_of}
+use Rattle.bb_copies.proofs.Many.{same_part}
 use Rattle.bb_copies.proofs.Runs.{later_refl}
 use Rattle.bb_copies.specs.declared.answers.CopyFault.{CopyFault}
 use Rattle.bb_flash.proofs.Counting.{counted_of_images}
@@ -39,7 +40,8 @@ use Rattle.bb_state.specs.Kinds.{laid_kinds, laid_passings}
 use Rattle.bb_plan.specs.declared.plan.SlotImage.{SlotImage}
 use Rattle.bb_session.specs.Acting.{Acts, AreRoundsOf, BootsFrom, Plays, SavesAround, SavesOnce, around_rounds, place_in}
 use Rattle.bb_session.specs.Around.{AreRunAround, IsBesideCopies, IsOutsideSlot, IsSlotRun, IsSlotRunAfter, KeepsOutsideBoth}
-use Rattle.bb_session.proofs.Beside.{slot_outside, slot_passes}
+use Rattle.bb_session.specs.Exactly.{LeavesRegions}
+use Rattle.bb_session.proofs.Beside.{beside_same, slot_outside, slot_passes}
 
 -- ---- rounds that stop
 
@@ -97,7 +99,7 @@ both_joined kinds slot one two three first second before behind region out besid
 
 -- ---- calls on a slot beside the copies
 
-told_at : (device : Device) (image : Image) → content device ≡ Some image → (told : Told) × (device.told ≡ Some told) × (told.image ≡ image)
+pub told_at : (device : Device) (image : Image) → content device ≡ Some image → (told : Told) × (device.told ≡ Some told) × (told.image ≡ image)
 told_at device image = by device.told
   where
     by : (told : Option Told) → option_map (λ (t : Told). t.image) told ≡ Some image → (t : Told) × (told ≡ Some t) × (t.image ≡ image)
@@ -131,6 +133,21 @@ module _ (keyed : Keyed) (place : SlotImage) (stuck : Option ℕ) (from to : Dev
       subst (λ i. laid_passings keyed i ≡ laid_passings keyed x) two.2
       (subst (λ i. laid_passings keyed two.0.image ≡ laid_passings keyed i) one.2
       (passes_same.each one.0 one.1 two.0 two.1 two.0.image (inl refl)))
+
+  -- each copy's region is as before
+  pub slot_parts : (x y : Image) → content from ≡ Some x → content to ≡ Some y →
+      LeavesRegions (laid_kinds keyed.layout) Page (λ kind region. region) x y
+  slot_parts x y at_x at_y copy kind here =
+      let one = told_at from x at_x in
+      let two = told_at to y at_y in
+      let torn : Torn Page place.slot.at place.slot.size one.0.image two.0.image =
+      subst (λ p. Torn p place.slot.at place.slot.size one.0.image two.0.image) page_is
+      (run.calls.within.images.images.each one.0 one.1 two.0 two.1 two.0.image (inl refl)) in
+      subst (λ i. part_of Page kind.region i ≡ part_of Page kind.region x) two.2
+      (subst (λ i. part_of Page kind.region two.0.image ≡ part_of Page kind.region i) one.2
+      (same_part Page kind.region one.0.image two.0.image
+      (beside_same Page place.slot on_geometry.page_some lies.aligned lies.whole one.0.image two.0.image torn (laid_kinds keyed.layout) beside
+      copy kind here)))
 
   slot_still : IsStill keyed from to
   slot_still = record {

@@ -1,5 +1,5 @@
 -- A slot beside the copies: what the calls on it leave of them, and of what lies outside.
-use Rattle.std.proofs.Common.{◌≡◌, ◌⊎◌, ℕ, suc, ◌+◌, ◌-◌, ◌/◌, ◌%◌, ◌<◌, ◌≤◌, min, max, List, [], ◌∷◌, ◌++◌, take, drop, Some, slice_get, ap, arith, inl, inr, refl, sym, subst, ◌∙◌}
+use Rattle.std.proofs.Common.{◌≡◌, ◌⊎◌, ◌==◌, ℕ, zero, suc, false, ◌+◌, ◌-◌, ◌/◌, ◌%◌, ◌<◌, ◌≤◌, min, max, List, [], ◌∷◌, ◌++◌, take, drop, Some, slice_get, ap, arith, inl, inr, refl, sym, subst, ◌∙◌}
 use Rattle.std.proofs.lemmas.Bool.{cases_lt}
 use Rattle.std.proofs.lemmas.List.{take-append-drop}
 use Rattle.std.proofs.lemmas.List.FromFn.{length-map-range_with_len, get_or-map-range_with_len}
@@ -18,10 +18,10 @@ use Rattle.bb_flash.specs.declared.health.Health.{Health}
 use Rattle.bb_flash.specs.declared.region.Region.{Region}
 use Rattle.bb_install.proofs.Places.{none_or_some}
 use Rattle.bb_install.specs.Slot.{SharesByte}
-use Rattle.bb_layout.specs.Copies.{region_of}
-use Rattle.bb_layout.specs.Facts.{IsWithin}
+use Rattle.bb_layout.specs.Copies.{region_of, spacing}
+use Rattle.bb_layout.specs.Facts.{HasCopies, IsWithin}
 use Rattle.bb_layout.specs.Kept.{IsLaid}
-use Rattle.bb_layout.specs.Layout.{Laid}
+use Rattle.bb_layout.specs.Layout.{Laid, laid_len}
 use Rattle.bb_layout.specs.declared.storage.Storage.{Storage}
 use Rattle.bb_layout.specs.declared.storage.Storage.TheVariants.{Stride, OneBlock, Circular}
 use Rattle.bb_state.specs.Keyed.{Keyed}
@@ -39,8 +39,12 @@ region_is (Stride stride) geometry partition copy = refl
 region_is OneBlock geometry partition copy = refl
 region_is Circular geometry partition copy = refl
 
+record LiesIn (layout : Laid) (region : Region) : Type 0 where
+  within : IsWithin layout.region region
+  size_is : region.size ≡ spacing layout.geometry layout.storage
+
 copy_within : (layout : Laid) → IsLaid layout → (copy : ℕ) (kind : BucketKind) → slice_get (laid_kinds layout) copy ≡ Some kind →
-    IsWithin layout.region kind.region
+    LiesIn layout kind.region
 copy_within layout facts copy kind here =
     let make : ℕ → AnyBucket = bucket_at layout.geometry layout.storage layout.region in
     let buckets = laid_buckets layout in
@@ -55,23 +59,21 @@ copy_within layout facts copy kind here =
     ap (λ (k : BucketKind). k.region) (sym there.2)
     ∙ ap (λ (b : AnyBucket). (any_holding b).kind.region) (sym is)
     ∙ region_is layout.storage layout.geometry layout.region copy in
-    subst (IsWithin layout.region) (sym region) (facts.copied.inside copy inside)
+    subst (LiesIn layout) (sym region) (record { within = facts.copied.inside copy inside; size_is = refl })
 
--- so a slot beside the partition is beside each of them
-pub beside_copies : (layout : Laid) → IsLaid layout → (slot : Region) → IsBeside layout slot → IsBesideCopies (laid_kinds layout) slot
-beside_copies layout facts slot beside copy kind here share =
-    let within = copy_within layout facts copy kind here in
-    beside.apart (record {
-      byte = share.byte;
-      from_one = share.from_one;
-      to_one = share.to_one;
-      from_other = omega (arith, within.from, share.from_other);
-      to_other = omega (arith, within.to, share.to_other);
-    })
+-- and have bytes
+above_zero : (n : ℕ) → (n == 0) ≡ false → 0 < n
+above_zero zero e = absurd cc
+above_zero (suc n) e = omega arith
 
--- ---- a region that shares no byte with the slot
+spacing_some : (storage : Storage) (geometry : Geometry) (partition : Region) (copies len : ℕ) →
+    HasCopies geometry partition storage copies len → 0 < spacing geometry storage
+spacing_some (Stride stride) geometry partition copies len has = let room = has.room in omega arith
+spacing_some OneBlock geometry partition copies len has = above_zero geometry.block (sym has.strides)
+spacing_some Circular geometry partition copies len has = above_zero geometry.block (sym has.strides)
 
-apart_of : (one two : Region) → (SharesByte one two → ⊥) → 0 < one.size → 0 < two.size → IsApart one two
+-- two regions that share no byte, and have some
+apart_of : (one two : Region) → (SharesByte two one → ⊥) → 0 < one.size → 0 < two.size → IsApart one two
 apart_of one two none some_one some_two = elim (cases_lt two.at (one.at + one.size)) [
   | inr before ↦ inl before
   | inl over ↦
@@ -81,12 +83,35 @@ apart_of one two none some_one some_two = elim (cases_lt two.at (one.at + one.si
             absurd (none (record {
               byte = max one.at two.at;
               from_one = omega arith;
-              to_one = omega (arith, over, some_one);
+              to_one = omega (arith, under, some_two);
               from_other = omega arith;
-              to_other = omega (arith, under, some_two);
+              to_other = omega (arith, over, some_one);
             }))
       ]
 ]
+
+-- so a slot beside the partition is beside each of them
+pub beside_copies : (layout : Laid) → IsLaid layout → (slot : Region) → IsBeside layout slot → IsBesideCopies (laid_kinds layout) slot
+beside_copies layout facts slot beside = elim (none_or_some slot.size) [
+  | inl none ↦ inr none
+  | inr some ↦
+      inl (λ copy kind here.
+      let lies = copy_within layout facts copy kind here in
+      apart_of kind.region slot
+      (λ share.
+      beside.apart (record {
+        byte = share.byte;
+        from_one = share.from_one;
+        to_one = share.to_one;
+        from_other = omega (arith, lies.within.from, share.from_other);
+        to_other = omega (arith, lies.within.to, share.to_other);
+      }))
+      (subst (λ n. 0 < n) (sym lies.size_is)
+      (spacing_some layout.storage layout.geometry layout.region layout.copies (laid_len layout) facts.copied))
+      some)
+]
+
+-- ---- what is torn in the slot alone
 
 same_none : {X : Type 0} → (at : ℕ) (xs ys : List X) → SameOutside at 0 xs ys → ys ≡ xs
 same_none at xs ys same =
@@ -119,19 +144,17 @@ module _ (page : ℕ) (slot : Region) (some : 0 < page) (first : slot.at % page 
       turned (inl h) = inr h
       turned (inr h) = inl h
 
-  -- a region of no shared byte
-  pub beside_same : (region : Region) → (SharesByte slot region → ⊥) → IsSameRegion page region.at region.size before image
-  beside_same region none = elim (none_or_some region.size) [
-    | inl empty ↦
-        subst (λ n. IsSameRegion page region.at n before image) (sym empty) (record { bytes = refl; health = refl })
-    | inr some_region ↦
-        elim (none_or_some slot.size) [
-          | inl empty ↦
-              let still = torn_none page slot.at before image first (subst (λ n. Torn page slot.at n before image) empty torn) in
-              subst (IsSameRegion page region.at region.size before) (sym still) (record { bytes = refl; health = refl })
-          | inr some_slot ↦ apart_same region (apart_of slot region none some_slot some_region)
-        ]
-  ]
+  -- a copy that it is beside
+  pub beside_same : (kinds : List BucketKind) → IsBesideCopies kinds slot → (copy : ℕ) (kind : BucketKind) → slice_get kinds copy ≡ Some kind →
+      IsSameRegion page kind.region.at kind.region.size before image
+  beside_same kinds (inl out) copy kind here = apart_same kind.region (turned (out copy kind here))
+    where
+      turned : IsApart kind.region slot → IsApart slot kind.region
+      turned (inl h) = inr h
+      turned (inr h) = inl h
+  beside_same kinds (inr empty) copy kind here =
+      let still = torn_none page slot.at before image first (subst (λ n. Torn page slot.at n before image) empty torn) in
+      subst (IsSameRegion page kind.region.at kind.region.size before) (sym still) (record { bytes = refl; health = refl })
 
 -- ---- the copies pass what they passed
 
@@ -158,8 +181,7 @@ pub slot_passes : (keyed : Keyed) (slot : Region) → 0 < keyed.layout.geometry.
     Torn keyed.layout.geometry.page slot.at slot.size before image → laid_passings keyed image ≡ laid_passings keyed before
 slot_passes keyed slot some first whole beside before image torn =
     same_passings keyed before image
-    (λ copy kind here.
-    beside_same keyed.layout.geometry.page slot some first whole before image torn kind.region (beside copy kind here))
+    (beside_same keyed.layout.geometry.page slot some first whole before image torn (laid_kinds keyed.layout) beside)
 
 -- and a region apart from it is as before
 pub slot_outside : (page : ℕ) (slot region : Region) (from to : Device) → from.geometry.page ≡ page → 0 < page → slot.at % page ≡ 0 →

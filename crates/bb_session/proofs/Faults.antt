@@ -271,21 +271,18 @@ refused_around : (keyed : Keyed) (plans : List (Option StartPlan)) (fault : Copy
 refused_around keyed plans fault (SavesAround first place second) kept used now rounds stuck from to geometry are run refused =
     by (refused_in run.front) refl run.wrote
   where
-    abbrev Does : Acts
-    Does = SavesAround first place second
-
     stops : StopsThere rounds
-    stops = acts_stop plans Does rounds are
+    stops = acts_stop plans (SavesAround first place second) rounds are
 
     by : (o : Option CopyFault) → refused_in run.front ≡ o → IsSlotRunAfter (Some place) o stuck run.before run.behind →
-        IsRefusedAround keyed plans Does kept used rounds fault from to
+        IsRefusedAround keyed plans (SavesAround first place second) kept used rounds fault from to
     by (Some other) e none =
-        around_none keyed plans fault Does kept used now rounds from to
+        around_none keyed plans fault (SavesAround first place second) kept used now rounds from to
         (refused_run keyed plans fault rounds kept used now from to stops
         (joined_only keyed plans None kept used now rounds stuck (Some place) from to geometry stops run none).run refused)
     by None e wrote =
-        subst (λ (rs : List Round). IsRefusedAround keyed plans Does kept used rs fault from to) (sym run.split)
-        (behind_slot keyed plans fault Does kept used now place run.front run.back stuck run.copy from run.before run.behind to geometry
+        subst (λ (rs : List Round). IsRefusedAround keyed plans (SavesAround first place second) kept used rs fault from to) (sym run.split)
+        (behind_slot keyed plans fault (SavesAround first place second) kept used now place run.front run.back stuck run.copy from run.before run.behind to geometry
         refl run.cut run.beside (subst StopsThere run.split stops) e run.early wrote run.late
         (ap refused_in (sym run.split) ∙ refused))
 refused_around keyed plans fault acts kept used now rounds stuck from to geometry are run refused =

@@ -13,6 +13,7 @@ pub mod Played
 pub mod Plays
 pub mod Regions
 pub mod ScriptEnded
+pub mod SlotAccounts
 pub mod Started
 pub mod Turns
 pub mod Unrefused

@@ -2,7 +2,7 @@
 -- was begun answered Ok. What its load gave, which copies it may name, and what its session is.
 use Rattle.std.proofs.Common.{◌≡◌, ◌≢◌, ◌⊎◌, ℕ, ◌≤◌, Bool, true, false, List, [], ◌∷◌, map, Option, Some, None, is_none, is_some, Result, Ok, Err, IfErr, refl, sym, ap, subst, ◌∙◌, inl, inr, arith}
 use Rattle.std.specs.List.{list_all}
-use Rattle.std.specs.Option.{option_map, option_map_or}
+use Rattle.std.specs.Option.{IfSome, option_map, option_map_or}
 use Rattle.std.specs.Prelude.{⊤}
 use Rattle.std.proofs.lemmas.Bool.{and_from, both_ways, false≢true, false_from_ne_true, not_from_false}
 use Rattle.bb_base.specs.Faults.{Rose}
@@ -32,7 +32,7 @@ use Rattle.bb_plan.specs.Plan.{SessionPlan}
 use Rattle.bb_plan.specs.Refusal.{status_of, IsSendableRefusal, copy_refusal}
 use Rattle.bb_plan.specs.declared.refusal.Refusal.{Refusal}
 use Rattle.bb_plan.specs.declared.status.Status.TheVariants.{Done}
-use Rattle.bb_session.specs.Acting.{Acts, ArePlayedRounds, AreRoundsOf, BootsFrom, IsSavedAround, Plays, SavesAround, SavesOnce, Stops, WorkAnswers, around_rounds, most_rounds, play_of, rounds_for, sound_answers, start_plans_of}
+use Rattle.bb_session.specs.Acting.{Acts, ArePlayedRounds, AreRoundsOf, BootsFrom, IsSavedAround, Plays, SavesAround, SavesOnce, Stops, WorkAnswers, around_rounds, most_rounds, place_in, play_of, rounds_for, save_rounds_around, sound_answers, start_plans_of}
 use Rattle.bb_session.specs.Around.{slot_refusal}
 use Rattle.bb_session.specs.Looking.{first_found, passed_in}
 use Rattle.bb_session.specs.Scripting.{refusal_by_end}
@@ -252,6 +252,19 @@ stuck_fault : (o : Option CopyFault) (text : List ℕ) (at : ℕ) (rounds : List
     HasNoFault (ended_by o text (Some (refusals.SlotFault at)) rounds) → ⊥
 stuck_fault None text at rounds whole = false≢true (sym whole)
 stuck_fault (Some fault) text at rounds whole = both_ways _ whole (fault_call fault)
+
+-- where no call failed none did on the slot
+pub acts_unstuck : (plan : SessionPlan) (found : Option (List ℕ)) (acts : Acts) (answers : WorkAnswers) →
+    HasNoFault (session_by_acts plan found acts answers) → IfSome (place_in acts) (λ place. answers.stuck ≡ None)
+acts_unstuck plan found (SavesAround first place second) answers whole = by answers.stuck whole
+  where
+    by : (stuck : Option ℕ) → HasNoFault (around_session plan found stuck (save_rounds_around first second answers.stuck answers.rounds)) →
+        stuck ≡ None
+    by None whole = refl
+    by (Some at) whole =
+        let rounds = save_rounds_around first second answers.stuck answers.rounds in
+        absurd (stuck_fault (refused_in rounds) [] at rounds whole)
+acts_unstuck plan found _ answers whole = tt
 
 around_sound : (first second : List ℕ) (early late : Option CopyFault) → AllSaved (around_rounds first second early None late) →
     around_rounds first second early None late ≡ save_round 0 first None ∷ save_round 0 second None ∷ []

@@ -1,15 +1,15 @@
 -- Rounds between which a slot is written: the calls on the slot come after the saves before them
 -- answered Ok, and before another save is begun.
-use Rattle.std.specs.Prelude.{◌≡◌, ⊤, ℕ, List, ◌++◌, length, Option, Some, None, Result, Ok, Err, IsOk, option_map}
+use Rattle.std.specs.Prelude.{◌≡◌, ◌⊎◌, ⊤, ℕ, List, ◌++◌, length, Option, Some, None, Result, Ok, Err, IsOk, option_map}
 use Rattle.std.specs.Option.{IfSome}
 use Rattle.bb_bucket.specs.Kind.{BucketKind}
-use Rattle.bb_copies.specs.Buckets.{EachCopy, IsApart, IsOutside}
+use Rattle.bb_copies.specs.Buckets.{IsApart, IsOutside}
 use Rattle.bb_copies.specs.declared.answers.CopyFault.{CopyFault}
 use Rattle.bb_flash.specs.Device.{Device}
 use Rattle.bb_flash.specs.Cuts.{EachImage, IsSameRegion}
 use Rattle.bb_flash.specs.declared.region.Region.{Region}
 use Rattle.bb_flash.specs.declared.plan.Plan.{Plan as StartPlan}
-use Rattle.bb_install.specs.Slot.{HasPlace, SharesByte}
+use Rattle.bb_install.specs.Slot.{HasPlace}
 use Rattle.bb_install.specs.Writing.{IsInstalled, SlotCalls, StopsAt}
 use Rattle.bb_state.specs.Keyed.{Keyed}
 use Rattle.bb_state.specs.Kinds.{laid_kinds}
@@ -60,9 +60,9 @@ IsSlotRunAfter None refused stuck from to = to ≡ from
 IsSlotRunAfter (Some place) (Some fault) stuck from to = to ≡ from
 IsSlotRunAfter (Some place) None stuck from to = IsSlotRun place stuck from to
 
--- a slot shares no byte with any copy
+-- a slot shares no byte with any copy, or has no byte at all
 abbrev pub IsBesideCopies : List BucketKind → Region → Type 0
-IsBesideCopies kinds slot = EachCopy kinds (λ copy kind. SharesByte slot kind.region → ⊥)
+IsBesideCopies kinds slot = IsOutside kinds slot ⊎ (slot.size ≡ 0)
 
 -- ---- what lies outside
 
