@@ -61,7 +61,7 @@ once_back table None = refl
 once_back table (Some fault) = refl
 
 -- of two saves around a slot
-around_back : (first second : List ℕ) (early : Option CopyFault) (stuck : Option ℕ) (late : Option CopyFault) →
+pub around_back : (first second : List ℕ) (early : Option CopyFault) (stuck : Option ℕ) (late : Option CopyFault) →
     save_rounds_around first second stuck (map answer_of (around_rounds first second early stuck late))
     ≡ around_rounds first second early stuck late
 around_back first second (Some fault) stuck late = refl

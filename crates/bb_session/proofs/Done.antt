@@ -176,20 +176,20 @@ module _ (keyed : Keyed) (used : Option ℕ) (table new : List ℕ) (from to : D
 
 -- of a state in which that table was put
 pub done_stored : {A : Type 0} (put state : State) (work : Work) (always : Bool) (from to : Device)
-    (saved : Result A Refusal) (given : Result Report Refusal) → stores work ≡ true →
+    (now : Option ℕ) (saved : Result A Refusal) (given : Result Report Refusal) → stores work ≡ true →
     acts_of (laid_of state) work state.table ≡ SavesOnce put.table → put.backing ≡ state.backing →
     last_table_of state ≡ state.table → always ≡ saves_always work →
-    IsSavedOver (keyed_of put) (used_of put) (if always then None else Some (last_table_of put)) put.table from to saved →
+    IsSavedOver (keyed_of put) (used_of put) now (if always then None else Some (last_table_of put)) put.table from to saved →
     GivesSaved (said_of (laid_of state) work put.table) saved given →
     IsDone (keyed_of state) (used_of state) state.table work from to given
-done_stored put state work always from to saved given stored acts backing kept is over =
-    let here : IsSavedOver (keyed_of state) (used_of state) (kept_before work state.table) put.table from to saved =
-    subst (λ t. IsSavedOver (keyed_of state) (used_of state) (kept_before work t) put.table from to saved) kept
-    (subst (λ (b : Backed). IsSavedOver b.keyed b.used (kept_before work b.kept) put.table from to saved) backing
-    (subst (λ a. IsSavedOver (keyed_of put) (used_of put) (if a then None else Some (last_table_of put)) put.table from to saved)
+done_stored put state work always from to now saved given stored acts backing kept is over =
+    let here : IsSavedOver (keyed_of state) (used_of state) now (kept_before work state.table) put.table from to saved =
+    subst (λ t. IsSavedOver (keyed_of state) (used_of state) now (kept_before work t) put.table from to saved) kept
+    (subst (λ (b : Backed). IsSavedOver b.keyed b.used now (kept_before work b.kept) put.table from to saved) backing
+    (subst (λ a. IsSavedOver (keyed_of put) (used_of put) now (if a then None else Some (last_table_of put)) put.table from to saved)
     is over)) in
     done_saved (keyed_of state) (used_of state) state.table put.table from to given work stored acts saved here.refusal
-    here.now here.run here.gives
+    now here.run here.gives
 
 -- ---- a boot
 

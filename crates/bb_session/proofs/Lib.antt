@@ -8,6 +8,7 @@ pub mod Ended
 pub mod Exact
 pub mod Faulting
 pub mod Faults
+pub mod Installed
 pub mod Kept
 pub mod Played
 pub mod Plays

@@ -1,6 +1,6 @@
 -- The work of a session on a table that was just loaded: the state that it starts from, what it
 -- made of the device, and what it gave.
-use Rattle.std.specs.Prelude.{◌≡◌, ◌⊎◌, ◌<◌, ℕ, Bool, true, false, List, [], length, Option, Some, None, Result, Ok, Err, IsOk}
+use Rattle.std.specs.Prelude.{◌≡◌, ◌⊎◌, ◌<◌, ℕ, Bool, true, false, List, [], length, Option, Some, None, Result, Ok, Err, IsOk, is_none}
 use Rattle.bb_actions.specs.Actions.{actions_text}
 use Rattle.bb_chooser.specs.Binding.{Binding}
 use Rattle.bb_copies.specs.declared.answers.CopyFault.{CopyFault}
@@ -10,12 +10,14 @@ use Rattle.bb_layout.specs.Layout.{Laid}
 use Rattle.bb_state.specs.Keyed.{Keyed}
 use Rattle.bb_state.specs.State.{IsOn, is_sure, laid_of, last_table_of}
 use Rattle.bb_state.specs.declared.state.State.{State}
+use Rattle.bb_shell.specs.Rounds.{best_of}
 use Rattle.bb_shell.specs.Running.{IsSaveRun}
 use Rattle.bb_plan.specs.Plan.{IsBoundAt}
 use Rattle.bb_plan.specs.declared.plan.Work.{Work}
 use Rattle.bb_plan.specs.declared.plan.Work.TheVariants.{Act, Good, Install, Write}
 use Rattle.bb_plan.specs.Refusal.{copy_refusal}
 use Rattle.bb_session.specs.Acting.{Acts, SavesOnce, WorkAnswers, refusal_by_table}
+use Rattle.bb_session.specs.Installing.{installed_name}
 use Rattle.bb_session.specs.Marking.{good_text}
 use Rattle.bb_session.specs.Session.{Session, work_session}
 use Rattle.bb_session.specs.Work.{Gives, IsRunAfter, SendsByMemory}
@@ -63,6 +65,15 @@ pub record IsInstalledBy (state : State) (targets : Binding) (target : ℕ) : Ty
   pub bound : IsBoundAt (laid_of state) targets
   pub there : target < length targets.targets
 
+-- another target qualifies in a table in which this one is disabled; or none does, and the refusal
+-- names this one, unless memory was refused for that
+abbrev pub IsOtherLeft : {A : Type 0} → Binding → ℕ → List ℕ → Result A Refusal → Type 0
+IsOtherLeft targets target table (Ok done) = is_none (best_of targets table) ≡ false
+IsOtherLeft targets target table (Err refusal) =
+    (is_none (best_of targets table) ≡ true)
+    × ((refusal ≡ refusals.LastTarget (installed_name targets target))
+    ⊎ (refusal ≡ refusals.NoMemory))
+
 -- ---- one save
 
 -- it saves once, a table that it makes of the loaded one
@@ -88,10 +99,10 @@ abbrev pub SaveGives : {A : Type 0} → Option CopyFault → Result A Refusal �
 SaveGives None given = IsOk given
 SaveGives (Some fault) given = given ≡ Err (copy_refusal fault)
 
--- a table was to be saved where `kept` was loaded, or whatever was
-pub record IsSavedOver {A : Type 0} (keyed : Keyed) (used : Option ℕ) (kept : Option (List ℕ))
+-- A table was to be saved where `kept` was loaded, or whatever was. `used` is the copy that is used
+-- before it, `now` the one after it.
+pub record IsSavedOver {A : Type 0} (keyed : Keyed) (used now : Option ℕ) (kept : Option (List ℕ))
     (table : List ℕ) (from to : Device) (given : Result A Refusal) : Type 0 where
   pub refusal : Option CopyFault
-  pub now : Option ℕ
   pub run : IsSaveRun keyed kept used now table refusal from to
   pub gives : SaveGives refusal given

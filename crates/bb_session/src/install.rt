@@ -1,14 +1,13 @@
-ghost use Rattle.std.specs.Prelude.{◌≡◌, ◌≤◌, IfOk, is_some, length};
+ghost use Rattle.std.specs.Prelude.{◌≡◌, ◌≤◌, IfOk, Some, length};
 ghost use Rattle.bb_chooser.specs.Counting.{disable_of, enable_of};
 ghost use Rattle.bb_install.specs.Slot.{HasPlace};
 ghost use Rattle.bb_plan.specs.Plan.{IsServed};
 ghost use Rattle.bb_plan.specs.declared.plan.Work.TheVariants.{Install};
 ghost use Rattle.bb_plan.specs.declared.refusal.Refusal.TheVariants as refusals;
 ghost use Rattle.bb_session.specs.Around.{IsSlotWritten};
-ghost use Rattle.bb_session.specs.Doing.{IsAtHand, IsDone, IsInstalledBy};
+ghost use Rattle.bb_session.specs.Doing.{IsAtHand, IsDone, IsInstalledBy, IsOtherLeft, IsSavedOver};
 ghost use Rattle.bb_session.specs.Installing.{installed_name, installed_text};
-ghost use Rattle.bb_shell.specs.Rounds.{best_of};
-ghost use Rattle.bb_state.specs.State.{keyed_of, used_of};
+ghost use Rattle.bb_state.specs.State.{keyed_of, last_table_of, used_of};
 
 use crate::report::Report;
 use crate::store::save;
@@ -40,25 +39,47 @@ pub(crate) fn install<F: Flash>(
     ensures did { IsDone (keyed_of state.old) (used_of state.old) state.old.table
         (Install chooser.now target place.now) (F.device flash.old) (F.device flash.new) result }
 {
-    if !disable(state, chooser, target) {
-        return Err(last_target(alloc, chooser, target)?);
-    }
+    disable(alloc, state, chooser, target)?;
     save(flash, state, false)?;
     write(flash, place, page)?;
-    enable(state, chooser, target);
-    save(flash, state, false)?;
+    finish(flash, state, chooser, target)?;
     Report::of(installed_text(alloc, chooser, target, place))
 }
 
-// Disables the target, in the table alone. The answer is whether another one qualifies.
-fn disable(state: &mut State, chooser: &Chooser, target: usize) -> bool
+// Disables the target, in the table alone. Refused where no other one qualifies then.
+fn disable(
+    alloc: Global,
+    state: &mut State,
+    chooser: &Chooser,
+    target: usize,
+) -> Result<(), Refusal>
     requires served { IsInstalledBy state.old chooser.now target }
     ensures table { state.new.table ≡ disable_of chooser.now state.old.table target }
     ensures backing { state.new.backing ≡ state.old.backing }
-    ensures other { result ≡ is_some (best_of chooser.now state.new.table) }
+    ensures other { IsOtherLeft chooser.now target state.new.table result }
 {
     chooser.disable(&mut state.table, target);
-    chooser.choose(&state.table).is_some()
+    if chooser.choose(&state.table).is_some() {
+        return Ok(());
+    }
+    Err(last_target(alloc, chooser, target)?)
+}
+
+// Enables the target, and saves that.
+fn finish<F: Flash>(
+    flash: &mut F,
+    state: &mut State,
+    chooser: &Chooser,
+    target: usize,
+) -> Result<(), Refusal>
+    requires served { IsInstalledBy state.old chooser.now target }
+    requires hand { IsAtHand state.old (F.device flash.old) }
+    ensures saved { IsSavedOver (keyed_of state.old) (used_of state.old) (used_of state.new)
+        (Some (last_table_of state.old)) (enable_of chooser.now state.old.table target)
+        (F.device flash.old) (F.device flash.new) result }
+{
+    enable(state, chooser, target);
+    save(flash, state, false)
 }
 
 // Enables the target, in the table alone.

@@ -1,5 +1,6 @@
-ghost use Rattle.std.specs.Prelude.{◌≡◌, IfOk, None, Some, true, if◌then◌else◌};
+ghost use Rattle.std.specs.Prelude.{◌≡◌, IfOk, None, OnOk, Some, true, if◌then◌else◌};
 ghost use Rattle.bb_actions.specs.Actions.{after_all};
+ghost use Rattle.bb_state.specs.Backed.{HasItsKinds};
 ghost use Rattle.bb_state.specs.State.{IsOn, is_sure, keyed_of, laid_of, last_table_of, used_of};
 ghost use Rattle.bb_session.specs.Acting.{acts_of, saves_always};
 ghost use Rattle.bb_session.specs.Doing.{IsAtHand, IsDone, IsPut, IsSavedOver, said_of, stores};
@@ -91,11 +92,13 @@ fn saves_always(work: &Work) -> bool
 pub(crate) fn save<F: Flash>(flash: &mut F, state: &mut State, always: bool) -> Result<(), Refusal>
     requires on { IsOn state.old (F.device flash.old) }
     requires sure { is_sure state.old ≡ true }
-    ensures saved { IsSavedOver (keyed_of state.old) (used_of state.old)
+    ensures saved { IsSavedOver (keyed_of state.old) (used_of state.old) (used_of state.new)
         (if always then None else Some (last_table_of state.old)) state.old.table
         (F.device flash.old) (F.device flash.new) result }
     ensures table { state.new.table ≡ state.old.table }
     ensures keyed { keyed_of state.new ≡ keyed_of state.old }
+    ensures hand { OnOk result (IsAtHand state.new (F.device flash.new)) }
+    ensures kinds { HasItsKinds state.new.backing }
 {
     if always {
         return Ok(state.save_always(flash)?);

@@ -26,6 +26,10 @@ form_in backed = laid_form backed.keyed
 abbrev pub kinds_in : Backed → List BucketKind
 kinds_in backed = laid_kinds backed.keyed.layout
 
+-- its buckets are those of its layout
+abbrev pub HasItsKinds : Backed → Type 0
+HasItsKinds backed = kinds_of any_holding backed.buckets ≡ kinds_in backed
+
 -- the buckets and the format are those of the layout and its key, and a table of it is at hand
 pub record IsBacked
     (keyed : Keyed) (buckets : List AnyBucket) (format : AnyFormat) (kept : List ℕ) : Type 0 where

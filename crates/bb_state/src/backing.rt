@@ -15,7 +15,7 @@ ghost use Rattle.bb_copies.specs.Settling.{NothingFails};
 ghost use Rattle.bb_copies.specs.Store.{used_after};
 ghost use Rattle.bb_copies.specs.declared.answers.CopyFault.TheVariants.{ReadFault, Unsure};
 ghost use Rattle.bb_layout.specs.Layout.{fields_of};
-ghost use Rattle.bb_state.specs.Backed.{form_in, kinds_in};
+ghost use Rattle.bb_state.specs.Backed.{HasItsKinds, form_in, kinds_in};
 ghost use Rattle.bb_state.specs.Keyed.{FitsKey};
 ghost use Rattle.bb_state.specs.Kinds.{any_holding, bucket_at, format_of, laid_buckets};
 ghost use Rattle.bb_state.specs.State.{IsDefault, IsRefused, IsStored};
@@ -166,6 +166,7 @@ impl Backing {
         ensures reads { ReadsNothing (F.device flash.old) (F.device flash.new) }
         ensures kept { OnOk result (self.new.kept ≡ table.now) }
         ensures sure { self.new.sure ≡ is_ok result }
+        ensures kinds { HasItsKinds self.new }
     {
         self.copies.save(flash, table)?;
         self.kept.copy_from_slice(table);
@@ -204,7 +205,8 @@ impl Backing {
 
     /// Whether that is known to be this table.
     pub(crate) fn holds(&self, table: &[u8]) -> bool
-        ensures { result ≡ (self.now.sure && bytes_eq table.now self.now.kept) }
+        ensures held { result ≡ (self.now.sure && bytes_eq table.now self.now.kept) }
+        ensures kinds { HasItsKinds self.now }
     {
         self.copies.is_sure() && *table == *self.kept
     }

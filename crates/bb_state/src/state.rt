@@ -44,6 +44,7 @@ impl State {
     ghost use Rattle.bb_copies.specs.declared.answers.CopyFault.TheVariants.{ReadFault, Unsure};
     ghost use Rattle.bb_layout.specs.Layout.{fields_of};
     ghost use Rattle.bb_layout.specs.Outside.{ChangesVarsAlone};
+    ghost use Rattle.bb_state.specs.Backed.{HasItsKinds};
     ghost use Rattle.bb_state.specs.Keyed.{FitsKey};
     ghost use Rattle.bb_state.specs.Named.{Refuses, after_set, refusal_for, text_for};
     ghost use Rattle.bb_state.specs.State.{form_of, kinds_of, IsDefault, FitsEveryDevice, IsOn};
@@ -141,6 +142,7 @@ impl State {
         ensures on { IsOn self.new (F.device flash.new) }
         ensures placed { OnOk result (has_changed self.old ≡ true → IsPlaced self.new) }
         ensures reads { ReadsNothing (F.device flash.old) (F.device flash.new) }
+        ensures kinds { HasItsKinds self.new.backing }
     {
         if self.backing.holds(self.table.bytes()) {
             return Ok(());
@@ -174,6 +176,7 @@ impl State {
         ensures on { IsOn self.new (F.device flash.new) }
         ensures placed { OnOk result (IsPlaced self.new) }
         ensures reads { ReadsNothing (F.device flash.old) (F.device flash.new) }
+        ensures kinds { HasItsKinds self.new.backing }
     {
         self.backing.save(flash, self.table.bytes())
     }

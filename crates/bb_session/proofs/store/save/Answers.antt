@@ -9,7 +9,6 @@ returns-then-always-in_err-save_always-clause-saved g c =
     let done = c.in_err-save_always.ensures in
     rw c.if-always.true (record {
       refusal = Some c.in_err-save_always.field-0.0;
-      now = c.save_always.new.self.backing.used;
       run = always_err c.args.state.now _ _ _ _ (λ is. (let unsure = done.unsure.0 (ap (λ f. Err f) is) in cc)) done.runs done.fails;
       gives = refused_by _ _ c.from_residual.ensures.1;
     })
@@ -19,7 +18,6 @@ returns-then-always-clause-saved g c =
     let done = c.in_ok-save_always.ensures in
     rw c.if-always.true (record {
       refusal = None;
-      now = c.save_always.new.self.backing.used;
       run = always_ok c.args.state.now _ _ _ done.runs done.saved done.exact done.erases;
       gives = refl;
     })
@@ -30,7 +28,6 @@ returns-in_err-save-clause-saved g c =
     let done = c.in_err-save.ensures in
     rw c.if-always.false (record {
       refusal = Some c.in_err-save.field-0.0;
-      now = c.save.new.self.backing.used;
       run =
           saved_err c.args.state.now _ _ _ _ sure (λ is. (let h = done.same is in cc))
           (λ is. (let unsure = done.unsure.0 (ap (λ f. Err f) is) in cc)) done.runs done.fails;
@@ -42,9 +39,18 @@ returns-clause-saved g c =
     let done = c.in_ok-save.ensures in
     rw c.if-always.false (record {
       refusal = None;
-      now = c.save.new.self.backing.used;
       run =
           saved_ok c.args.state.now _ _ _ c.requires.sure done.idle done.runs done.saved done.exact done.erases
           done.used;
       gives = refl;
     })
+
+pub returns-then-always-clause-hand : goal.returns-then-always-clause-hand
+returns-then-always-clause-hand g c =
+    let done = c.in_ok-save_always.ensures in
+    record { on = done.on; sure = done.sure; kept = done.kept }
+
+pub returns-clause-hand : goal.returns-clause-hand
+returns-clause-hand g c =
+    let done = c.in_ok-save.ensures in
+    record { on = done.on; sure = done.sure; kept = done.kept }

@@ -21,7 +21,7 @@ pub returns-in_err-save : goal.returns-in_err-save
 returns-in_err-save g c = record {
   did =
       done_stored c.put.new.state c.args.state.now c.args.work.now c.saves_always.result (g.F.Flash.device c.args.flash.now)
-      (g.F.Flash.device c.save.new.flash) _ _ c.requires.stores c.in_ok-put.ensures.put c.in_ok-put.ensures.backing
+      (g.F.Flash.device c.save.new.flash) _ _ _ c.requires.stores c.in_ok-put.ensures.put c.in_ok-put.ensures.backing
       c.requires.hand.kept c.saves_always.ensures c.in_err-save.ensures.saved
       (refused_by c.from_residual-in_err-save.result _ c.from_residual-in_err-save.ensures.1);
 }
@@ -37,7 +37,7 @@ returns g c =
     record {
       did =
           done_stored c.put.new.state state c.args.work.now c.saves_always.result (g.F.Flash.device c.args.flash.now)
-          (g.F.Flash.device c.save.new.flash) _ _ c.requires.stores c.in_ok-put.ensures.put c.in_ok-put.ensures.backing
+          (g.F.Flash.device c.save.new.flash) _ _ _ c.requires.stores c.in_ok-put.ensures.put c.in_ok-put.ensures.backing
           c.requires.hand.kept c.saves_always.ensures c.in_ok-save.ensures.saved
           (subst (λ text. IsTold text c.of.result) same (c.of.ensures _ c.say.ensures));
     }

@@ -1,7 +1,8 @@
-use Rattle.std.proofs.Common.{ℕ, Option, refl, subst}
+use Rattle.std.proofs.Common.{ℕ, Option, ap, arith, refl, subst, sym}
+use Rattle.bb_flash.specs.declared.geometry.Geometry.{Geometry}
 use Rattle.bb_state.specs.Keyed.{Keyed}
 use Rattle.bb_copies.specs.Store.{used_after}
-use Rattle.bb_session.specs.Doing.{IsDone}
+use Rattle.bb_session.specs.Doing.{IsDone, page_len}
 use Rattle.bb_session.specs.Work.{IsLoadedArea}
 use Rattle.bb_state.specs.State.{keyed_of}
 use Rattle.bb_session.proofs.Done.{done_later, done_out, done_unloaded}
@@ -23,6 +24,14 @@ returns-in_err-load-clause-gives g c =
       fails = done.fails;
     })
     (refused_by c.from_residual.result _ c.from_residual.ensures.1)
+
+pub work_at-requires-clause-page : goal.work_at-requires-clause-page
+work_at-requires-clause-page g c =
+    let later = c.in_ok-load.ensures.later in
+    let len = c.page_len.ensures in
+    let made = c.in_ok-page.ensures in
+    let same = ap (λ (geometry : Geometry). page_len geometry c.args.work) (sym later.geometry) in
+    grind (arith, len, made, same)
 
 pub returns-clause-gives : goal.returns-clause-gives
 returns-clause-gives g c =
