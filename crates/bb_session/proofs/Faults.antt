@@ -37,7 +37,9 @@ use Rattle.bb_plan.specs.declared.plan.Work.{Work}
 use Rattle.bb_plan.specs.Refusal.{copy_refusal, status_of}
 use Rattle.bb_plan.specs.declared.refusal.Refusal.{Refusal}
 use Rattle.bb_plan.specs.declared.refusal.Refusal.TheVariants as refusals
-use Rattle.bb_session.specs.Acting.{Acts, AreRoundsOf, LastOne, LostPlace, NoneBest, Plays, SavesAround, TableBar, WorkAnswers, bar_refusal, kept_before, place_in, play_of, rounds_for, start_plans_of}
+use Rattle.bb_plan.specs.declared.status.Status.{Status}
+use Rattle.bb_plan.specs.declared.status.Status.TheVariants as statuses
+use Rattle.bb_session.specs.Acting.{Acts, AreRoundsOf, LastOne, LostPlace, NoneBest, Plays, SavesAround, TableBar, WorkAnswers, bar_refusal, kept_before, place_in, play_of, rounds_for, save_rounds_around, start_plans_of}
 use Rattle.bb_session.specs.Around.{AreRunAround, IsBesideCopies, IsSlotRun, IsSlotRunAfter}
 use Rattle.bb_session.specs.Exactly.{last_area_of}
 use Rattle.bb_session.specs.Session.{LoadAnswer, acts_after, around_session, loaded_area, rounds_after, session_by_acts, work_session}
@@ -379,6 +381,53 @@ work_stuck plan from to (Ok found) answers refusal call other work h =
     absurd
     (none-some refusal
     (sym (ap (λ (w : Work). (work_session (record { keyed = plan.keyed; work = w }) (Ok found) answers).refusal) shows) ∙ h)))
+
+-- ---- the place that a refusal for a slot names
+
+abbrev is_slot : Status → Bool
+is_slot statuses.SlotFault = true
+is_slot _ = false
+
+fault_beside : (fault : CopyFault) → is_slot (status_of (copy_refusal fault)) ≡ false
+fault_beside faults.ReadFault = refl
+fault_beside _ = refl
+
+bar_beside : (bar : TableBar) → is_slot (status_of (bar_refusal bar)) ≡ false
+bar_beside (LostPlace place) = refl
+bar_beside NoneBest = refl
+bar_beside (LastOne name) = refl
+
+no_slot : (refusal : Refusal) (at : ℕ) → is_slot (status_of refusal) ≡ false → refusal ≡ refusals.SlotFault at → ⊥
+no_slot refusal at other is = both_ways _ other (ap (λ (r : Refusal). is_slot (status_of r)) is)
+
+-- it is the one at which the call began that failed
+abbrev IsPlaceOf : Option ℕ → Refusal → Type 0
+IsPlaceOf stuck refusal = (at : ℕ) → refusal ≡ refusals.SlotFault at → stuck ≡ Some at
+
+acts_place : (plan : SessionPlan) (found : Option (List ℕ)) (acts : Acts) (answers : WorkAnswers) (refusal : Refusal) →
+    (session_by_acts plan found acts answers).refusal ≡ Some refusal → IsPlaceOf answers.stuck refusal
+acts_place plan found (Plays script known) answers =
+    let play = play_of script known answers in
+    script_has (IsPlaceOf answers.stuck)
+    (record { failed = λ status at e. absurd cc; limit = λ at e. absurd cc; memory = λ at e. absurd cc })
+    (course_end play) (refused_in (course_at play).outside.rounds)
+    (λ fault last at e. absurd (no_slot (copy_refusal fault) at (fault_beside fault) e))
+acts_place plan found (SavesAround first place second) answers =
+    around_has (IsPlaceOf answers.stuck) (λ bar at e. absurd (no_slot (bar_refusal bar) at (bar_beside bar) e)) plan found
+    (save_rounds_around first second answers.stuck answers.rounds)
+    (λ fault last at e. absurd (no_slot (copy_refusal fault) at (fault_beside fault) e)) answers.stuck
+    (λ at stuck none other e. let same : at ≡ other = cc in stuck ∙ ap (λ n. Some n) same)
+acts_place plan found acts answers =
+    worked_has (IsPlaceOf answers.stuck) (λ bar at e. absurd (no_slot (bar_refusal bar) at (bar_beside bar) e)) plan found
+    (rounds_for (start_plans_of plan.work) acts answers)
+    (λ fault last at e. absurd (no_slot (copy_refusal fault) at (fault_beside fault) e)) acts
+    (λ targets table round name acts_are last fails at e. absurd cc)
+
+pub work_place : (plan : SessionPlan) (load : LoadAnswer) (answers : WorkAnswers) (at : ℕ) →
+    (work_session plan load answers).refusal ≡ Some (refusals.SlotFault at) → answers.stuck ≡ Some at
+work_place plan (Ok found) answers at h = acts_place plan found (acts_after plan found) answers (refusals.SlotFault at) h at refl
+work_place plan (Err fault) answers at h =
+    absurd (no_slot (copy_refusal fault) at (fault_beside fault) (same_Some (copy_refusal fault) (refusals.SlotFault at) h))
 
 -- ---- the fault that refused the work of a plan
 

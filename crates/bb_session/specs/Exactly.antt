@@ -5,11 +5,11 @@ use Rattle.std.specs.Option.{ForSome, IfSome, option_map_or}
 use Rattle.std.specs.Str.{bytes_eq}
 use Rattle.bb_base.specs.Form.{Form}
 use Rattle.bb_bucket.specs.Blocks.{filled_len}
-use Rattle.bb_bucket.specs.Calls.{IsQuiet}
+use Rattle.bb_bucket.specs.Calls.{told_but_reads}
 use Rattle.bb_bucket.specs.Kind.{BucketKind, part_of}
 use Rattle.bb_copies.specs.Buckets.{EachCopy}
 use Rattle.bb_flash.specs.declared.geometry.Geometry.{Geometry}
-use Rattle.bb_flash.specs.Device.{Device, Told, content, moment}
+use Rattle.bb_flash.specs.Device.{Device, LeavesStarts, Told, content, moment}
 use Rattle.bb_flash.specs.Image.{Image, IsBlank}
 use Rattle.bb_install.specs.Holding.{SlotHolds}
 use Rattle.bb_install.specs.Ranges.{slot_ranges}
@@ -149,11 +149,16 @@ EachContent plan from to P =
     ForSome (content to)
     (λ after. P (first_found (passed_in plan.keyed from.geometry.page before)) before after))
 
+-- nothing but reads was done: they change no content, no number of erases, and no count of starts
+pub record OnlyReads (from to : Device) : Type 0 where
+  pub told : told_but_reads to ≡ told_but_reads from
+  pub starts : LeavesStarts from to
+
 -- a session without a work on copies leaves the device; a comparison only reads it
 abbrev pub LeavesAll : EarlyEnd → Device → Device → Type 0
 LeavesAll (Printed text) from to = to ≡ from
 LeavesAll (Drilled numbers) from to = to ≡ from
-LeavesAll (Compared place) from to = IsQuiet from to
+LeavesAll (Compared place) from to = OnlyReads from to
 LeavesAll (Refused refusal) from to = to ≡ from
 
 -- at exit each copy is exactly what the load and the saves of the plan make of it

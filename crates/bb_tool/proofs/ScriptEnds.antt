@@ -34,7 +34,9 @@ Plays plan answers answer = HasPlayed (session_by plan answers) (script_end plan
 -- one with an answer that scripts alone have ran one, or its plan was refused so
 script_or_plan : (plan : PlanEnd) (answers : Answers) (answer : Status) → is_scripts answer ≡ true → answer ≢ statuses.Done →
     IsDrilled plan answers.drill → status_by plan answers ≡ answer → IsRefusedWith answer plan ⊎ Plays plan answers answer
-script_or_plan (Err end) answers answer scripts other drilled e = inl (early_refused end answers.drill answer other drilled e)
+script_or_plan (Err end) answers answer scripts other drilled e =
+    inl
+    (early_refused end answers.drill answers.compared answer other (λ h. false≢true (sym (ap is_scripts h) ∙ scripts)) drilled e)
 script_or_plan (Ok plan) answers answer scripts other drilled e = inr (by answers.load e)
   where
     by : (load : LoadAnswer) → ended_status (work_session plan load answers.work) ≡ answer →

@@ -14,13 +14,14 @@ use Rattle.bb_shell.specs.Rounds.{answer_of}
 use Rattle.bb_shell.specs.Sequence.{AddsBy, AddsLast, started_last}
 use Rattle.bb_shell.specs.declared.outcome.Outcome.{Outcome}
 use Rattle.bb_shell.specs.declared.outcome.Outcome.TheVariants as outcomes
-use Rattle.bb_plan.specs.Plan.{SessionPlan, first_area}
+use Rattle.bb_plan.specs.Plan.{Compared, Drilled, EarlyEnd, Printed, Refused, SessionPlan, first_area}
 use Rattle.bb_plan.specs.declared.plan.Work.{Work}
 use Rattle.bb_plan.specs.declared.plan.Work.TheVariants.{Boot, Run}
 use Rattle.bb_plan.specs.declared.refusal.Refusal.TheVariants as refusals
 use Rattle.bb_plan.specs.declared.status.Status.TheVariants as statuses
 use Rattle.bb_plan.proofs.Sizes.{IsSizedWork, planned_sized}
 use Rattle.bb_session.specs.Acting.{AreRoundsOf, WorkAnswers, start_plans_of}
+use Rattle.bb_session.specs.Comparing.{CompareAnswer}
 use Rattle.bb_session.specs.Looking.{passed_in}
 use Rattle.bb_session.specs.Session.{Answers, LoadAnswer, Session, acts_after, loaded_area, work_session}
 use Rattle.bb_session.specs.SessionTurns.{EachStanding, turn_of}
@@ -32,7 +33,7 @@ use Rattle.bb_session.proofs.Turns.{standing_at, told_content}
 use Rattle.bb_tool.specs.Calls.{IsSession, MayAnswer, SendsText, geometry_of, session_for, session_plan_for}
 use Rattle.bb_tool.specs.Ran.{Ran}
 use Rattle.bb_tool.specs.Sending.{sent_of}
-use Rattle.bb_tool.specs.SessionAnswer.{IsFollowed}
+use Rattle.bb_tool.specs.SessionAnswer.{IsEnded, IsFollowed}
 use Rattle.bb_tool.specs.Starting.{BootsInTurn, CountsFailedStarts, IsBoundWork, IsTurnOf, KnowsStartFaults, NamesTheTarget, RunsRounds, StartsAtMostOne, StartsAfterSave, StartsTheLast}
 use Rattle.bb_tool.proofs.Copying.{followed_is, work_of}
 use Rattle.bb_tool.proofs.Endings.{PlanEnd, by_answers, own_answer}
@@ -90,6 +91,13 @@ module _ (ran : Ran) where
 
   -- ---- whatever it answered
 
+  -- without a work on copies nothing is started
+  ended_starts : (end : EarlyEnd) (from to : Device) (compared : CompareAnswer) → IsEnded end from to compared → starts to ≡ starts from
+  ended_starts (Compared place) from to compared done = done.quiet.starts.starts
+  ended_starts (Printed text) from to compared done = ap starts done
+  ended_starts (Drilled numbers) from to compared done = ap starts done
+  ended_starts (Refused refusal) from to compared done = ap starts done
+
   some_start : (o : Option StartPlan) → IsSomeAnd o (StartsOnce From To) → (plan : StartPlan) × StartsOnce From To plan
   some_start None h = absurd h
   some_start (Some plan) h = (plan, h)
@@ -109,7 +117,7 @@ module _ (ran : Ran) where
   answered_once answers answered (Ok plan) is =
       one_or_none (start_plans_of plan.work) (last_round (session_for ran answers).rounds) (starts_of answers plan answered is)
   answered_once answers answered (Err end) is =
-      inl (ap starts (subst (λ (p : PlanEnd). IsFollowed p From To answers) is answered.followed))
+      inl (ended_starts end From To answers.compared (subst (λ (p : PlanEnd). IsFollowed p From To answers) is answered.followed))
 
   pub starts_once_of : IsSession ran → StartsAtMostOne ran
   starts_once_of s =

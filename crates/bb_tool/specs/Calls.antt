@@ -118,11 +118,14 @@ IsFoundBy (Err (Compared place)) geometry image answer =
     IsSome answer × IsFoundIn geometry.page place image answer
 IsFoundBy _ geometry image answer = ⊤
 
--- over these files and this content it is the session of both, and of what a comparison finds
+-- Over these files and this content it is the session of both, and of what a comparison finds where
+-- no call of the device failed.
 pub record IsWholeAt (ran : Ran) (files : FileMap) (drill : Option DrillCounts) (image : Image)
     : Type 0 where
   pub compared : CompareAnswer
-  pub found : IsFoundBy (plan_over ran files) (geometry_of ran) image compared
+  pub found :
+      (Rose ran.before.device.faults ran.after.device.faults → ⊥)
+      → IsFoundBy (plan_over ran files) (geometry_of ran) image compared
   pub whole :
       IsWhole ran
       (session_for ran (answers_of ran.words (geometry_of ran) files image drill compared))

@@ -1,9 +1,9 @@
 use Rattle.std.proofs.Common.{None, Some, inl, refl}
 use Rattle.bb_session.proofs.compare.compare.Goals as goal
 
-pub returns-in-Err-clause-gives : goal.returns-in-Err-clause-gives
-returns-in-Err-clause-gives g c =
-    let done = c.first_difference.ensures in
+pub returns-in_default-clause-gives : goal.returns-in_default-clause-gives
+returns-in_default-clause-gives g c =
+    let done = c.in_default.ensures in
     inl (record {
       answer = None;
       compared = record { told = λ image told. tt; faults = done.faults; read_faults = done.read_faults; quiet = done.quiet };
