@@ -19,7 +19,6 @@ use Rattle.bb_words.specs.declared.command.VerifyCommand.{VerifyCommand}
 use Rattle.bb_plan.specs.FilesRead.{Reading, Yields, and_then, file_reading, reading_of}
 use Rattle.bb_plan.specs.PlanSteps.{binding_reading, key_after, laid_by, refused_as, tree_in}
 use Rattle.bb_plan.specs.Tasks.{Compares, Install, Task, Work, on_copies}
-use Rattle.bb_plan.specs.declared.plan.SlotImage.{SlotImage}
 use Rattle.bb_plan.specs.declared.refusal.Refusal.{Refusal}
 use Rattle.bb_plan.specs.declared.refusal.Refusal.TheVariants as refusals
 use Rattle.bb_plan.specs.declared.slot.LayoutWithSlot.{LayoutWithSlot}

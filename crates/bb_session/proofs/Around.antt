@@ -1,5 +1,5 @@
 -- Rounds between which a slot was written: what they make of a device.
-use Rattle.std.proofs.Common.{◌≡◌, ℕ, ◌%◌, ◌<◌, true, false, List, [], ◌∷◌, ◌++◌, append-nil, length, Option, Some, None, ap, is_some, refl, sym, subst, ◌∙◌, inl}
+use Rattle.std.proofs.Common.{◌≡◌, ℕ, true, false, List, [], ◌∷◌, ◌++◌, append-nil, length, Option, Some, None, ap, is_some, refl, sym, subst, ◌∙◌, inl}
 use Rattle.std.specs.Option.{IfSome, option_map}
 use Rattle.std.proofs.lemmas.Bool.{false≢true}
 use Rattle.std.proofs.lemmas.List.Sums.{sum_by-cons}
@@ -31,7 +31,7 @@ use Rattle.bb_shell.proofs.Underway.{rose_more}
 use Rattle.bb_shell.specs.Boot.{Round, last_round, plan_at}
 use Rattle.bb_shell.specs.Ends.{AddsStart, RaisedBy, StaysStored, failed_start, failed_starts}
 use Rattle.bb_shell.specs.Running.{AreRun, IsRoundRun, is_refused_save, refusal_of}
-use Rattle.bb_shell.specs.Sequence.{AddsBy, AddsLast, RanRounds, StopsThere, refused_in, save_round, saved_outcome}
+use Rattle.bb_shell.specs.Sequence.{AddsBy, AddsLast, RanRounds, StopsThere, refused_in, save_round}
 use Rattle.bb_shell.specs.Stages.{KeepsATrail, KeepsAtExit, kept_after, saving_rounds}
 use Rattle.bb_shell.specs.declared.outcome.Outcome.{Outcome}
 use Rattle.bb_shell.specs.declared.outcome.Outcome.TheVariants.{Unplanned}
@@ -39,7 +39,7 @@ use Rattle.bb_state.specs.Keyed.{Keyed}
 use Rattle.bb_state.specs.Kinds.{laid_kinds, laid_passings}
 use Rattle.bb_plan.specs.declared.plan.SlotImage.{SlotImage}
 use Rattle.bb_session.specs.Acting.{Acts, AreRoundsOf, BootsFrom, Plays, SavesAround, SavesOnce, around_rounds, place_in}
-use Rattle.bb_session.specs.Around.{AreRunAround, IsBesideCopies, IsOutsideSlot, IsSlotRun, IsSlotRunAfter, KeepsOutsideBoth}
+use Rattle.bb_session.specs.Around.{AreRunAround, IsBesideCopies, IsSlotRun, IsSlotRunAfter, KeepsOutsideBoth}
 use Rattle.bb_session.specs.Exactly.{LeavesRegions}
 use Rattle.bb_session.proofs.Beside.{beside_same, slot_outside, slot_passes}
 

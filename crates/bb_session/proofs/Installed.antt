@@ -1,5 +1,5 @@
 -- The work of an install, as the work of a plan: two saves with a slot between them.
-use Rattle.std.proofs.Common.{◌≡◌, ◌⊎◌, ℕ, Bool, true, false, List, [], ◌∷◌, length, map, Option, Some, None, IfSome, is_none, is_some, Result, Ok, Err, IsTrue, slice_get, refl, sym, ap, subst, ◌∙◌, if◌then◌else◌, inl, inr}
+use Rattle.std.proofs.Common.{◌≡◌, ◌⊎◌, ℕ, true, false, List, [], ◌∷◌, map, Option, Some, None, IfSome, is_none, is_some, Result, Ok, Err, IsTrue, slice_get, refl, sym, ap, subst, ◌∙◌, if◌then◌else◌, inl, inr}
 use Rattle.std.proofs.lemmas.Bool.{false≢true}
 use Rattle.bb_bucket.specs.Kind.{part_of}
 use Rattle.bb_chooser.specs.Binding.{Binding}
@@ -10,7 +10,6 @@ use Rattle.bb_copies.specs.Buckets.{AllAgree}
 use Rattle.bb_copies.specs.declared.answers.CopyFault.{CopyFault}
 use Rattle.bb_flash.specs.Device.{Device, Told}
 use Rattle.bb_flash.specs.declared.geometry.Geometry.{Geometry}
-use Rattle.bb_flash.specs.declared.region.Region.{Region}
 use Rattle.bb_shell.proofs.Answering.{best_is, best_none}
 use Rattle.bb_shell.proofs.Joins.{there}
 use Rattle.bb_shell.proofs.Sequence.{none_run, save_run}
@@ -18,12 +17,10 @@ use Rattle.bb_shell.specs.Boot.{Round}
 use Rattle.bb_shell.specs.Rounds.{answer_of, best_of}
 use Rattle.bb_shell.specs.Running.{IsSaveRun}
 use Rattle.bb_shell.specs.Sequence.{save_round}
-use Rattle.bb_shell.specs.Stages.{kept_after}
 use Rattle.bb_state.specs.Backed.{Backed, HasItsKinds}
 use Rattle.bb_state.specs.Keyed.{Keyed}
 use Rattle.bb_state.specs.Kinds.{any_holding, laid_kinds}
 use Rattle.bb_state.specs.State.{IsOn, keyed_of, laid_of, last_table_of, used_of}
-use Rattle.bb_state.specs.declared.any_bucket.AnyBucket.{AnyBucket}
 use Rattle.bb_state.specs.declared.state.State.{State}
 use Rattle.bb_plan.specs.Plan.{SessionPlan}
 use Rattle.bb_plan.specs.Refusal.{copy_refusal}
@@ -34,7 +31,7 @@ use Rattle.bb_plan.specs.declared.refusal.Refusal.{Refusal}
 use Rattle.bb_plan.specs.declared.refusal.Refusal.TheVariants as refusals
 use Rattle.bb_session.specs.Acting.{Acts, AreRoundsOf, IsSavedAround, LastOne, SavesAround, Stops, WorkAnswers, acts_of, around_rounds, installs_of, place_in}
 use Rattle.bb_session.specs.Around.{AreRunAround, IsBesideCopies, IsSlotRun, IsSlotWritten, SlotGives}
-use Rattle.bb_session.specs.Doing.{EndsWith, IsAtHand, IsDone, IsOtherLeft, IsSavedOver, IsTold, SaveGives}
+use Rattle.bb_session.specs.Doing.{EndsWith, IsAtHand, IsDone, IsSavedOver, IsTold, SaveGives}
 use Rattle.bb_session.specs.Installing.{installed_name, installed_text}
 use Rattle.bb_session.specs.Session.{Session, around_session, session_by_acts}
 use Rattle.bb_session.specs.Work.{IsPlayOf}

@@ -1,5 +1,5 @@
 -- What a device tells of the calls on a slot, beside the writes of the copies.
-use Rattle.std.proofs.Common.{◌≡◌, ◌⊎◌, ℕ, zero, suc, ◌+◌, ◌/◌, ◌<◌, ◌≤◌, ◌++◌, ◌&&◌, Bool, true, false, List, [], ◌∷◌, length, map, Option, Some, None, add-zero, ap, arith, inl, inr, length-append, refl, sym, ◌∙◌, if◌then◌else◌}
+use Rattle.std.proofs.Common.{◌≡◌, ◌⊎◌, ℕ, zero, suc, ◌+◌, ◌/◌, ◌<◌, ◌≤◌, ◌++◌, ◌&&◌, Bool, true, false, List, [], ◌∷◌, length, map, Option, Some, None, add-zero, ap, arith, inl, inr, length-append, sym, ◌∙◌, if◌then◌else◌}
 use Rattle.std.specs.Option.{option_map}
 use Rattle.std.specs.Prelude.{nat_le, nat_lt, slice_get}
 use Rattle.std.proofs.lemmas.Bool.{cases_lt}
@@ -7,8 +7,8 @@ use Rattle.std.proofs.lemmas.Bool.Decides.{nat_tests}
 use Rattle.std.proofs.lemmas.List.{length-map}
 use Rattle.bb_base.specs.Form.{Form}
 use Rattle.bb_bucket.specs.Calls.{range_of}
-use Rattle.bb_bucket.specs.Kind.{BucketKind, part_of}
-use Rattle.bb_flash.specs.Device.{Change, Device, Told}
+use Rattle.bb_bucket.specs.Kind.{BucketKind}
+use Rattle.bb_flash.specs.Device.{Device, Told}
 use Rattle.bb_flash.specs.Image.{Image}
 use Rattle.bb_flash.specs.declared.geometry.Geometry.{Geometry}
 use Rattle.bb_install.specs.Ranges.{slot_ranges}

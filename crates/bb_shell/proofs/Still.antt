@@ -12,7 +12,7 @@ use Rattle.bb_flash.specs.Device.{Device, Told, content, moment}
 use Rattle.bb_flash.specs.Image.{Image}
 use Rattle.bb_state.specs.Keyed.{Keyed}
 use Rattle.bb_state.specs.Kinds.{laid_passings}
-use Rattle.bb_shell.proofs.Reached.{Luck, Reaches, at_entry, reached_by, told_image}
+use Rattle.bb_shell.proofs.Reached.{Luck, Reaches, at_entry, told_image}
 use Rattle.bb_shell.proofs.Trails.{Leads, StandSince, Trails, answered_from, fair_from, in_front, in_order, longer_one, stand_since}
 use Rattle.bb_shell.specs.Boot.{Round}
 use Rattle.bb_shell.specs.Ends.{HoldsKept, StaysStored}

@@ -1,4 +1,4 @@
-use Rattle.std.proofs.Common.{ℕ, List, refl, subst, ap, sym, Ok}
+use Rattle.std.proofs.Common.{ℕ, List, subst, ap, sym, Ok}
 use Rattle.std.specs.Prelude.{IfOk, ◌≤◌, length}
 use Rattle.bb_chooser.specs.Binding.{Binding}
 use Rattle.bb_flash.specs.declared.region.Region.{Region}

@@ -1,4 +1,4 @@
-use Rattle.std.proofs.Common.{◌∙◌, ap, inl, inr, refl, subst, sym}
+use Rattle.std.proofs.Common.{◌∙◌, inl, inr, refl, sym}
 use Rattle.bb_shell.proofs.Saves.{chosen_fits}
 use Rattle.bb_session.proofs.Installed.{chosen_none, chosen_other}
 use Rattle.bb_session.proofs.install.disable.Goals as goal

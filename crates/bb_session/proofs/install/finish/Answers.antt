@@ -1,4 +1,4 @@
-use Rattle.std.proofs.Common.{List, ℕ, Some, subst, sym}
+use Rattle.std.proofs.Common.{List, ℕ, Some, subst}
 use Rattle.bb_state.specs.Backed.{Backed}
 use Rattle.bb_state.specs.State.{keyed_of, last_table_of, used_of}
 use Rattle.bb_session.specs.Doing.{IsSavedOver}
