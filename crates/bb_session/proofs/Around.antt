@@ -120,7 +120,7 @@ module _ (keyed : Keyed) (place : SlotImage) (stuck : Option ℕ) (from to : Dev
   page_is : from.geometry.page ≡ Page
   page_is = ap (λ (g : Geometry). g.page) geometry
 
-  passes_same : EachImage (PassesSame keyed) from to
+  pub passes_same : EachImage (PassesSame keyed) from to
   passes_same =
       images_weaker (Torn Page place.slot.at place.slot.size) (PassesSame keyed) from to
       (slot_passes keyed place.slot on_geometry.page_some lies.aligned lies.whole beside)

@@ -311,7 +311,7 @@ module _ (keyed : Keyed) (plans : List (Option StartPlan)) where
 -- ---- with a slot between them
 
 -- a region in which copies have no byte is as it was before rounds
-part_kept : (keyed : Keyed) (plans : List (Option StartPlan)) (kept : Option (List ℕ)) (used now : Option ℕ) (rounds : List Round) (from to : Device) →
+pub part_kept : (keyed : Keyed) (plans : List (Option StartPlan)) (kept : Option (List ℕ)) (used now : Option ℕ) (rounds : List Round) (from to : Device) →
     AreRun keyed plans kept used now rounds from to → from.geometry ≡ keyed.layout.geometry → StopsThere rounds →
     (first last : Told) → from.told ≡ Some first → to.told ≡ Some last → (region : Region) →
     IsOutside (laid_kinds keyed.layout) region ⊎ (region.size ≡ 0) →
@@ -322,7 +322,7 @@ part_kept keyed plans kept used now rounds from to run geometry stops first last
     subst (λ n. IsSameRegion from.geometry.page region.at n first.image last.image) (sym empty) (record { bytes = refl; health = refl })
 
 -- a part of a region that is beside the copies
-part_beside : (kinds : List BucketKind) (slot : Region) (at n : ℕ) → IsBesideCopies kinds slot → slot.at ≤ at → at + n ≤ slot.at + slot.size →
+pub part_beside : (kinds : List BucketKind) (slot : Region) (at n : ℕ) → IsBesideCopies kinds slot → slot.at ≤ at → at + n ≤ slot.at + slot.size →
     IsOutside kinds (record { at = at; size = n }) ⊎ (n ≡ 0)
 part_beside kinds slot at n (inr empty) low high = inr (omega (arith, empty, low, high))
 part_beside kinds slot at n (inl out) low high = inl (λ copy kind here. apart kind.region (out copy kind here))
@@ -332,7 +332,7 @@ part_beside kinds slot at n (inl out) low high = inl (λ copy kind here. apart k
     apart region (inr behind) = inr (omega (arith, behind, high))
 
 -- what was written to the slot is still there
-held_still : (geometry : Geometry) (place : SlotImage) (x z : Image) → HoldsImage geometry place x →
+pub held_still : (geometry : Geometry) (place : SlotImage) (x z : Image) → HoldsImage geometry place x →
     ((at n : ℕ) → place.slot.at ≤ at → at + n ≤ place.slot.at + place.slot.size → IsSameRegion geometry.page at n x z) →
     HoldsImage geometry place z
 held_still geometry place x z holds same =

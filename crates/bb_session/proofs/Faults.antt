@@ -296,7 +296,7 @@ refused_around keyed plans fault acts kept used now rounds stuck from to geometr
 -- ---- a call on the slot that failed
 
 -- a first save that is refused is the only one
-refused_alone : (front back : List Round) (fault : CopyFault) → length front ≡ 1 → StopsThere (front ++ back) → refused_in front ≡ Some fault →
+pub refused_alone : (front back : List Round) (fault : CopyFault) → length front ≡ 1 → StopsThere (front ++ back) → refused_in front ≡ Some fault →
     refused_in (front ++ back) ≡ Some fault
 unfolding StopsThere
 refused_alone [] back fault cut stops refused = absurd cc

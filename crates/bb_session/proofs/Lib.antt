@@ -13,6 +13,7 @@ pub mod Kept
 pub mod Played
 pub mod Plays
 pub mod Regions
+pub mod Safe
 pub mod ScriptEnded
 pub mod SlotAccounts
 pub mod Started

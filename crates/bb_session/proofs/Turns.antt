@@ -167,13 +167,13 @@ module _ (keyed : Keyed) (from mid : Device) (first middle : Told) (e : from.tol
           uses = left.uses;
         }
 
-    abbrev Place : ℕ
+    abbrev pub Place : ℕ
     Place = picked before.marks
 
-    abbrev Given : List (List ℕ)
+    abbrev pub Given : List (List ℕ)
     Given = take (Place + 1) before.areas
 
-    settled : IsSettled keyed kept used middle.image Given Place
+    pub settled : IsSettled keyed kept used middle.image Given Place
     settled =
         settled_at first.image middle.image (told_content from first e) (told_content mid middle g) before.areas before.acked
         before.marks start

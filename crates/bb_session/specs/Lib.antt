@@ -9,6 +9,7 @@ pub mod Exactly
 pub mod Installing
 pub mod Looking
 pub mod Marking
+pub mod Safe
 pub mod Scripting
 pub mod Session
 pub mod SessionTurns
