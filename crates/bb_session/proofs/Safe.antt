@@ -9,8 +9,8 @@ use Rattle.bb_copies.specs.Loading.{KeepsOutside}
 use Rattle.bb_copies.specs.Luck.{IsLucky}
 use Rattle.bb_copies.specs.StandsFor.{Stands}
 use Rattle.bb_copies.specs.declared.answers.CopyFault.{CopyFault}
-use Rattle.bb_flash.proofs.Counting.{Cuts-Counts, counted_joined_at, counted_of_images, counted_weaker}
-use Rattle.bb_flash.proofs.Moments.{images_same_joined, images_weaker, later_joined}
+use Rattle.bb_flash.proofs.Counting.{counted_joined_at, counted_of_images, counted_weaker}
+use Rattle.bb_flash.proofs.Moments.{images_same_joined, later_joined}
 use Rattle.bb_flash.specs.Counted.{Counts, EachCounted}
 use Rattle.bb_flash.specs.Cuts.{EachImage, IsLater, IsSameRegion}
 use Rattle.bb_flash.specs.Device.{Device, Told, content, moment}
@@ -23,22 +23,20 @@ use Rattle.bb_install.specs.Holding.{SlotHolds}
 use Rattle.bb_shell.proofs.Joins.{there}
 use Rattle.bb_shell.proofs.Reached.{Luck, begun_saving, idle_saving, is_made, made_cons, none_alone, rounds_later}
 use Rattle.bb_shell.proofs.Sequence.{once_stops, ran_rounds}
-use Rattle.bb_shell.proofs.Starts.{unrefused as unrefused_round}
 use Rattle.bb_shell.proofs.Still.{PassesSame}
 use Rattle.bb_shell.specs.Boot.{Round}
 use Rattle.bb_shell.specs.Running.{AreRun, is_refused_save, same_as_kept}
 use Rattle.bb_shell.specs.Sequence.{StopsThere, refused_in, save_round}
-use Rattle.bb_shell.specs.Stages.{IsSettled, kept_after, made_of, saves_of, saving_rounds}
+use Rattle.bb_shell.specs.Stages.{IsSettled, kept_after, made_of, saves_of}
 use Rattle.bb_state.specs.Keyed.{Keyed}
-use Rattle.bb_state.specs.Kinds.{laid_kinds, laid_passings}
+use Rattle.bb_state.specs.Kinds.{laid_kinds}
 use Rattle.bb_plan.specs.Plan.{SessionPlan, first_area}
 use Rattle.bb_plan.specs.Refusal.{copy_refusal}
 use Rattle.bb_plan.specs.declared.plan.SlotImage.{SlotImage}
 use Rattle.bb_plan.specs.declared.plan.Work.{Work}
-use Rattle.bb_plan.specs.declared.refusal.Refusal.{Refusal}
 use Rattle.bb_session.specs.Acting.{Acts, AreRoundsOf, IsSavedAround, SavesAround, WorkAnswers, acts_of, around_rounds, kept_before, place_in, rounds_for, saves_always, start_plans_of}
 use Rattle.bb_session.specs.Around.{AreRunAround, IsBesideCopies, IsSlotRun, IsSlotRunAfter, slot_of_work, slot_refusal}
-use Rattle.bb_session.specs.Exactly.{HoldsImage, place_after}
+use Rattle.bb_session.specs.Exactly.{HoldsImage}
 use Rattle.bb_session.specs.Looking.{passed_in}
 use Rattle.bb_session.specs.Safe.{HoldsAfter, IsSafe, IsSafeBy, StandsForOne}
 use Rattle.bb_session.specs.Session.{LoadAnswer, acts_after, around_session, ended_by, loaded_area, session_by_acts, text_after, text_unstuck, work_session}
@@ -48,7 +46,7 @@ use Rattle.bb_session.proofs.Around.{acts_stop, joined_only, passes_same, told_a
 use Rattle.bb_session.proofs.Exact.{held_still, part_beside, part_kept}
 use Rattle.bb_session.proofs.Faults.{refused_alone}
 use Rattle.bb_session.proofs.Kept.{kept_has}
-use Rattle.bb_session.proofs.Turns.{Given, Place, settled, told_content}
+use Rattle.bb_session.proofs.Turns.{settled, told_content}
 
 -- ---- regions beside the copies
 

@@ -167,10 +167,10 @@ module _ (keyed : Keyed) (from mid : Device) (first middle : Told) (e : from.tol
           uses = left.uses;
         }
 
-    abbrev pub Place : ℕ
+    abbrev Place : ℕ
     Place = picked before.marks
 
-    abbrev pub Given : List (List ℕ)
+    abbrev Given : List (List ℕ)
     Given = take (Place + 1) before.areas
 
     pub settled : IsSettled keyed kept used middle.image Given Place

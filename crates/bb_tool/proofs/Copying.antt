@@ -8,13 +8,14 @@ use Rattle.bb_plan.specs.Plan.{Compared, Drilled, EarlyEnd, Printed, Refused, Se
 use Rattle.bb_plan.specs.declared.refusal.Refusal.TheVariants as refusals
 use Rattle.bb_session.proofs.Exact.{plan_done, plan_makes}
 use Rattle.bb_session.proofs.Faults.{work_explains, write_fault, read_fault}
+use Rattle.bb_session.proofs.Safe.{holds_after, work_safe}
 use Rattle.bb_session.proofs.Works.{has_trails, keeps_outside, leads_on}
 use Rattle.bb_session.specs.Exactly.{CallsExactly, EndsAlike, ErasesExactly, HoldsInSlot, LeavesAll, LeavesExactly}
 use Rattle.bb_session.specs.Comparing.{CompareAnswer}
 use Rattle.bb_session.specs.Session.{Answers, Session, session_by, work_session}
 use Rattle.bb_session.specs.Work.{IsWork}
 use Rattle.bb_tool.specs.Calls.{MayAnswer, session_for, session_plan_for}
-use Rattle.bb_tool.specs.Copying.{EachCalm, KeepsATrail, KeepsAtExit, KeepsOutsideCopies, KnowsWriteFaults, LeavesUnread}
+use Rattle.bb_tool.specs.Copying.{EachCalm, HoldsWhereDone, InstallsSafely, KeepsATrail, KeepsAtExit, KeepsOutsideCopies, KnowsWriteFaults, LeavesUnread}
 use Rattle.bb_tool.specs.Ran.{Ran}
 use Rattle.bb_tool.specs.SessionAnswer.{IsEnded, IsFollowed}
 use Rattle.bb_tool.proofs.Endings.{From, PlanEnd, To}
@@ -43,6 +44,15 @@ on_a_trail ran answers plan answered is =
 pub beside : (ran : Ran) → KeepsOutsideCopies ran
 beside ran answers plan answered is =
     keeps_outside plan ran.before.device ran.after.device answers.load answers.work (work_of ran answers plan answered is)
+
+pub safe_of : (ran : Ran) → InstallsSafely ran
+safe_of ran answers plan answered is =
+    work_safe plan ran.before.device ran.after.device answers.load answers.work (work_of ran answers plan answered is)
+
+pub holds_of : (ran : Ran) → HoldsWhereDone ran
+holds_of ran answers plan answered is done =
+    holds_after plan ran.before.device ran.after.device answers.load answers.work (work_of ran answers plan answered is)
+    (ap (λ (s : Session). s.refusal) (followed_is ran answers plan is) ∙ done)
 
 -- ---- where no call of the device failed
 

@@ -1,6 +1,6 @@
 -- What `run` says of the copies: how they stand at exit and on the way, to the byte where nothing
 -- failed, and why one of them couldn't be written. None of these facts names a command.
-use Rattle.std.specs.Prelude.{◌≡◌, ◌⊎◌, ℕ, true, Some, Result, Ok, is_none}
+use Rattle.std.specs.Prelude.{◌≡◌, ◌⊎◌, ℕ, true, None, Some, Result, Ok, is_none}
 use Rattle.std.specs.List.{list_all}
 use Rattle.bb_copies.specs.Settling.{NothingFails}
 use Rattle.bb_flash.specs.Device.{Device, content}
@@ -11,6 +11,7 @@ use Rattle.bb_session.specs.Exactly.{CallsExactly, EndsAlike, ErasesExactly, Hol
 use Rattle.bb_plan.specs.Plan.{EarlyEnd, SessionPlan}
 use Rattle.bb_tool.specs.Ran.{Ran}
 use Rattle.bb_session.specs.Acting.{WorkAnswers}
+use Rattle.bb_session.specs.Safe.{HoldsAfter, IsSafe}
 use Rattle.bb_session.specs.Session.{Answers}
 use Rattle.bb_session.specs.SessionTurns.{HasTrails, LeadsOn}
 use Rattle.bb_session.specs.WriteFault.{IsWriteFault}
@@ -47,6 +48,21 @@ KeepsOutsideCopies ran =
     (λ plan answers.
     KeepsOutsideBoth (laid_kinds plan.keyed.layout) (slot_of_work plan.work) ran.before.device
     ran.after.device)
+
+-- A slot that is written between two saves is as at entry in each image that counts, or the copies
+-- stand for the first of their tables, in which its target is disabled, or it holds the image.
+abbrev pub InstallsSafely : Ran → Type 0
+InstallsSafely ran =
+    EachWork ran
+    (λ plan answers. IsSafe plan ran.before.device ran.after.device answers.load)
+
+-- where the session is done it holds the image at exit, whatever call failed
+abbrev pub HoldsWhereDone : Ran → Type 0
+HoldsWhereDone ran =
+    EachWork ran
+    (λ plan answers.
+    (session_for ran answers).refusal ≡ None
+    → HoldsAfter plan ran.before.device ran.after.device answers.load)
 
 -- ---- where no call of the device failed
 
