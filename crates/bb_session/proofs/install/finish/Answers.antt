@@ -4,15 +4,19 @@ use Rattle.bb_state.specs.State.{keyed_of, last_table_of, used_of}
 use Rattle.bb_session.specs.Doing.{IsSavedOver}
 use Rattle.bb_session.proofs.install.finish.Goals as goal
 
-pub returns-clause-saved : goal.returns-clause-saved
-returns-clause-saved g c =
+pub returns : goal.returns
+returns g c =
     let from = g.F.Flash.device c.args.flash.now in
     let to = g.F.Flash.device c.save.new.flash in
     let enabled = c.enable.new.state in
     let before = c.args.state.now in
-    subst
-    (λ (t : List ℕ). IsSavedOver (keyed_of before) (used_of before) (used_of c.save.new.state) (Some (last_table_of before)) t from to c.save.result)
-    c.enable.ensures.table
-    (subst
-    (λ (b : Backed). IsSavedOver b.keyed b.used (used_of c.save.new.state) (Some b.kept) enabled.table from to c.save.result)
-    c.enable.ensures.backing c.save.ensures.saved)
+    record {
+      saved =
+          subst
+          (λ (t : List ℕ). IsSavedOver (keyed_of before) (used_of before) (used_of c.save.new.state) (Some (last_table_of before)) t from to
+          c.save.result)
+          c.enable.ensures.table
+          (subst
+          (λ (b : Backed). IsSavedOver b.keyed b.used (used_of c.save.new.state) (Some b.kept) enabled.table from to c.save.result)
+          c.enable.ensures.backing c.save.ensures.saved);
+    }

@@ -104,7 +104,7 @@ returns-in_err-finish g c =
           behind to now (slot_made c.args.place.now before behind _ c.in_ok-write.ensures) _ c.from_residual-in_err-finish.result
           (save_refused (keyed_of state) copy now _ _ behind to _
           (over_second (keyed_of state) c.disable.new.state.table c.args.chooser.now c.args.target c.save.new.state now behind to _ keyed
-          c.in_ok-save.ensures.table c.in_ok-save.ensures.hand.kept c.in_err-finish.ensures))
+          c.in_ok-save.ensures.table c.in_ok-save.ensures.hand.kept c.in_err-finish.ensures.saved))
           (refused_by c.from_residual-in_err-finish.result _ c.from_residual-in_err-finish.ensures.1);
     }
 
@@ -128,6 +128,6 @@ returns g c =
           behind to now (slot_made c.args.place.now before behind _ c.in_ok-write.ensures) c.of.result
           (save_made (keyed_of state) copy now _ _ behind to _
           (over_second (keyed_of state) c.disable.new.state.table c.args.chooser.now c.args.target c.save.new.state now behind to _ keyed
-          c.in_ok-save.ensures.table c.in_ok-save.ensures.hand.kept c.in_ok-finish.ensures))
+          c.in_ok-save.ensures.table c.in_ok-save.ensures.hand.kept c.in_ok-finish.ensures.saved))
           (c.of.ensures _ c.installed_text.ensures);
     }
