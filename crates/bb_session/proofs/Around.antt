@@ -126,7 +126,7 @@ module _ (keyed : Keyed) (place : SlotImage) (stuck : Option ℕ) (from to : Dev
       (slot_passes keyed place.slot on_geometry.page_some lies.aligned lies.whole beside)
       (subst (λ p. EachImage (Torn p place.slot.at place.slot.size) from to) page_is run.calls.within.images.images)
 
-  held_same : (x y : Image) → content from ≡ Some x → content to ≡ Some y → PassesSame keyed x y
+  pub held_same : (x y : Image) → content from ≡ Some x → content to ≡ Some y → PassesSame keyed x y
   held_same x y at_x at_y =
       let one = told_at from x at_x in
       let two = told_at to y at_y in

@@ -44,7 +44,7 @@ rose_from first middle last more rose = omega arith
 pub rose_by : (rise before now : ℕ) → 1 ≤ rise → RoseBy rise before now → Rose before now
 rose_by rise before now some rose = omega arith
 
-rise_from : (rise first middle last : ℕ) → first ≤ middle → RoseBy rise middle last → RoseBy rise first last
+pub rise_from : (rise first middle last : ℕ) → first ≤ middle → RoseBy rise middle last → RoseBy rise first last
 rise_from rise first middle last more rose = omega arith
 
 pub copies_are : (keyed : Keyed) → length (laid_kinds keyed.layout) ≡ keyed.layout.copies

@@ -384,20 +384,20 @@ work_stuck plan from to (Ok found) answers refusal call other work h =
 
 -- ---- the place that a refusal for a slot names
 
-abbrev is_slot : Status → Bool
+abbrev pub is_slot : Status → Bool
 is_slot statuses.SlotFault = true
 is_slot _ = false
 
-fault_beside : (fault : CopyFault) → is_slot (status_of (copy_refusal fault)) ≡ false
+pub fault_beside : (fault : CopyFault) → is_slot (status_of (copy_refusal fault)) ≡ false
 fault_beside faults.ReadFault = refl
 fault_beside _ = refl
 
-bar_beside : (bar : TableBar) → is_slot (status_of (bar_refusal bar)) ≡ false
+pub bar_beside : (bar : TableBar) → is_slot (status_of (bar_refusal bar)) ≡ false
 bar_beside (LostPlace place) = refl
 bar_beside NoneBest = refl
 bar_beside (LastOne name) = refl
 
-no_slot : (refusal : Refusal) (at : ℕ) → is_slot (status_of refusal) ≡ false → refusal ≡ refusals.SlotFault at → ⊥
+pub no_slot : (refusal : Refusal) (at : ℕ) → is_slot (status_of refusal) ≡ false → refusal ≡ refusals.SlotFault at → ⊥
 no_slot refusal at other is = both_ways _ other (ap (λ (r : Refusal). is_slot (status_of r)) is)
 
 -- it is the one at which the call began that failed

@@ -16,6 +16,7 @@ pub mod Regions
 pub mod Safe
 pub mod ScriptEnded
 pub mod SlotAccounts
+pub mod SlotFaults
 pub mod Started
 pub mod Turns
 pub mod Unrefused

@@ -219,7 +219,7 @@ module _ (keyed : Keyed) (plans : List (Option StartPlan)) (kept : Option (List 
       part_images keyed plans kept used run.copy run.front from run.before run.early geometry (front_stops run.front run.back run.cut)
       place.slot.at place.slot.size run.beside
 
-  nothing_behind : (at : ℕ) → stuck ≡ Some at → (front back : List Round) → rounds ≡ front ++ back → length front ≡ 1 →
+  pub nothing_behind : (at : ℕ) → stuck ≡ Some at → (front back : List Round) → rounds ≡ front ++ back → length front ≡ 1 →
       refused_in front ≡ None → back ≡ []
   nothing_behind at is [] back split cut none = absurd cc
   nothing_behind at is (round ∷ []) back split cut none = by saved.early stuck is (sym split ∙ saved.is)

@@ -1,10 +1,12 @@
--- Why a session names a copy that it couldn't write. The counts are those of the whole session.
-use Rattle.std.specs.Prelude.{◌≡◌, ◌≢◌, ◌⊎◌, ℕ, ◌+◌, ◌-◌, List, [], ◌∷◌, ◌++◌, Option, Some, None, Ok, Err}
+-- Why a session names a copy that it couldn't write, or a call on its slot. The counts are those of
+-- the whole session.
+use Rattle.std.specs.Prelude.{◌≡◌, ◌≢◌, ◌⊎◌, ℕ, ◌+◌, ◌-◌, List, [], ◌∷◌, ◌++◌, Option, Some, None, Ok, Err, count_by, is_none}
 use Rattle.std.specs.Option.{ForSome, IfSome}
 use Rattle.bb_copies.specs.Buckets.{EachCopy}
 use Rattle.bb_copies.specs.Passing.{passes_at}
 use Rattle.bb_copies.specs.Refreshing.{IsUntouched}
 use Rattle.bb_copies.specs.Settling.{IsUnread, PassesAnother, RoseBy}
+use Rattle.bb_copies.specs.StandsFor.{SomePasses}
 use Rattle.bb_flash.specs.Cuts.{IsLater}
 use Rattle.bb_flash.specs.Device.{Device, content}
 use Rattle.bb_state.specs.Kinds.{laid_kinds}
@@ -87,6 +89,15 @@ pub record AreAllLost (plan : SessionPlan) (from to : Device) (load : LoadAnswer
       ForSome (content to)
       (λ image. first_found (passed_in plan.keyed from.geometry.page image) ≡ None)
   pub cause : RoseBy plan.keyed.layout.copies from.faults to.faults
+
+-- Why a session names a call on its slot: where a copy passes at exit, more calls failed than there
+-- are copies that pass nothing there.
+abbrev pub RoseAboveLost : SessionPlan → Device → Device → Type 0
+RoseAboveLost plan from to =
+    ForSome (content to)
+    (λ image.
+    let passed = passed_in plan.keyed from.geometry.page image in
+    SomePasses passed → RoseBy (count_by is_none passed + 1) from.faults to.faults)
 
 -- one of these holds of a copy that is named; or it couldn't be read back, and three calls failed,
 -- of which one is a read

@@ -9,13 +9,14 @@ use Rattle.bb_plan.specs.declared.refusal.Refusal.TheVariants as refusals
 use Rattle.bb_session.proofs.Exact.{plan_done, plan_makes}
 use Rattle.bb_session.proofs.Faults.{work_explains, write_fault, read_fault}
 use Rattle.bb_session.proofs.Safe.{holds_after, work_safe}
+use Rattle.bb_session.proofs.SlotFaults.{work_lost}
 use Rattle.bb_session.proofs.Works.{has_trails, keeps_outside, leads_on}
 use Rattle.bb_session.specs.Exactly.{CallsExactly, EndsAlike, ErasesExactly, HoldsInSlot, LeavesAll, LeavesExactly}
 use Rattle.bb_session.specs.Comparing.{CompareAnswer}
 use Rattle.bb_session.specs.Session.{Answers, Session, session_by, work_session}
 use Rattle.bb_session.specs.Work.{IsWork}
 use Rattle.bb_tool.specs.Calls.{MayAnswer, session_for, session_plan_for}
-use Rattle.bb_tool.specs.Copying.{EachCalm, HoldsWhereDone, InstallsSafely, KeepsATrail, KeepsAtExit, KeepsOutsideCopies, KnowsWriteFaults, LeavesUnread}
+use Rattle.bb_tool.specs.Copying.{EachCalm, HoldsWhereDone, InstallsSafely, KeepsATrail, KeepsAtExit, KeepsOutsideCopies, KnowsSlotFaults, KnowsWriteFaults, LeavesUnread}
 use Rattle.bb_tool.specs.Ran.{Ran}
 use Rattle.bb_tool.specs.SessionAnswer.{IsEnded, IsFollowed}
 use Rattle.bb_tool.proofs.Endings.{From, PlanEnd, To}
@@ -104,6 +105,11 @@ unread_by (Ok plan) from to answers done h =
 pub unread_of : (ran : Ran) → LeavesUnread ran
 unread_of ran answers answered h =
     unread_by (session_plan_for ran answers) ran.before.device ran.after.device answers answered.followed h
+
+pub slot_faults_of : (ran : Ran) → KnowsSlotFaults ran
+slot_faults_of ran answers plan answered is at h =
+    work_lost plan ran.before.device ran.after.device answers.load answers.work at (work_of ran answers plan answered is)
+    (ap (λ (s : Session). s.refusal) (followed_is ran answers plan is) ∙ h)
 
 pub write_faults_of : (ran : Ran) → KnowsWriteFaults ran
 write_faults_of ran answers plan answered is copy h =

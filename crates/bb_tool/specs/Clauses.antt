@@ -1,7 +1,7 @@
 -- The clauses of `run`, in the order of its contract: each is a record of named facts about one
 -- call, and none of them names a command.
 use Rattle.bb_tool.specs.Calls.{AsksNothing, ComesByDevice, ComesByFiles, ComesByPlan, ComesByPlanAlone, ComesByReads, ComesBySink, ComesByTable, ComesByWords, CountsFileFaults, CountsSinkFaults, CutsTheText, IsSession, IsUndisturbed, IsUndisturbedAlone, KeepsFiles, KeepsHistory, LeavesUnnamedFiles, NamesTheCopy, NamesThePlace, WantsMemory, EndsDoneAlone, LeavesUnplanned, LeavesUnplannedAlone}
-use Rattle.bb_tool.specs.Copying.{HoldsWhereDone, InstallsSafely, KeepsATrail, KeepsAtExit, KeepsOutsideCopies, KnowsWriteFaults, LeavesUnread, MakesAlike, MakesNoOtherCall, MakesTheSlot, StopsAtFileFault, StopsBetweenSaves, WearsExactly, WritesExactly}
+use Rattle.bb_tool.specs.Copying.{HoldsWhereDone, InstallsSafely, KeepsATrail, KeepsAtExit, KeepsOutsideCopies, KnowsSlotFaults, KnowsWriteFaults, LeavesUnread, MakesAlike, MakesNoOtherCall, MakesTheSlot, StopsAtFileFault, StopsBetweenSaves, WearsExactly, WritesExactly}
 use Rattle.bb_tool.specs.Ran.{Ran}
 use Rattle.bb_tool.specs.ScriptEnds.{ComesByEnd, IsFailedEnd, IsLimitedEnd, ShowsTheStatus}
 use Rattle.bb_tool.specs.Starting.{BootsInTurn, CountsFailedStarts, KnowsStartFaults, NamesTheTarget, RunsRounds, StartsAtMostOne, StartsAfterSave, StartsTheLast}
@@ -139,6 +139,8 @@ pub record KnowsItsCauses (ran : Ran) : Type 0 where
   pub slot_fault : ComesByDevice statuses.SlotFault ran
   -- and shows where the call on the slot began that failed
   pub slot_fault_place : NamesThePlace ran
+  -- where a copy passes at exit, more calls failed than there are copies that pass nothing
+  pub slot_fault_cause : KnowsSlotFaults ran
   -- StartFailed names a target
   pub start_failed : NamesTheTarget ran
   -- which has no plan, or a start failed

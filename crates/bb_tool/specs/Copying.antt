@@ -14,7 +14,7 @@ use Rattle.bb_session.specs.Acting.{WorkAnswers}
 use Rattle.bb_session.specs.Safe.{HoldsAfter, IsSafe}
 use Rattle.bb_session.specs.Session.{Answers}
 use Rattle.bb_session.specs.SessionTurns.{HasTrails, LeadsOn}
-use Rattle.bb_session.specs.WriteFault.{IsWriteFault}
+use Rattle.bb_session.specs.WriteFault.{IsWriteFault, RoseAboveLost}
 use Rattle.bb_plan.specs.declared.refusal.Refusal.TheVariants as refusals
 use Rattle.bb_plan.specs.declared.status.Status.TheVariants as statuses
 
@@ -127,6 +127,15 @@ LeavesUnread ran =
     (answers : Answers) → MayAnswer ran answers →
     (session_for ran answers).refusal ≡ Some refusals.ReadFault →
     content ran.after.device ≡ content ran.before.device
+
+-- a call on a slot is named only where, if a copy passes at exit, more calls failed than there are
+-- copies that pass nothing
+abbrev pub KnowsSlotFaults : Ran → Type 0
+KnowsSlotFaults ran =
+    EachWork ran
+    (λ plan answers.
+    (at : ℕ) → (session_for ran answers).refusal ≡ Some (refusals.SlotFault at) →
+    RoseAboveLost plan ran.before.device ran.after.device)
 
 -- a copy is named as one that couldn't be written only for one of the four causes
 abbrev pub KnowsWriteFaults : Ran → Type 0
