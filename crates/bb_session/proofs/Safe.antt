@@ -53,14 +53,14 @@ use Rattle.bb_session.proofs.Turns.{settled, told_content}
 -- rounds leave such a region in each image
 part_images : (keyed : Keyed) (plans : List (Option StartPlan)) (kept : Option (List ℕ)) (used now : Option ℕ) (rounds : List Round)
     (from to : Device) → AreRun keyed plans kept used now rounds from to → from.geometry ≡ keyed.layout.geometry → StopsThere rounds →
-    (at n : ℕ) → (IsBesideCopies (laid_kinds keyed.layout) (record { at = at; size = n })) →
-    EachImage (IsSameRegion keyed.layout.geometry.page at n) from to
-part_images keyed plans kept used now rounds from to run geometry stops at n (inl out) =
-    subst (λ (g : Geometry). EachImage (IsSameRegion g.page at n) from to) geometry
-    ((ran_rounds keyed plans rounds kept used now from to geometry stops run).outside (record { at = at; size = n }) out)
-part_images keyed plans kept used now rounds from to run geometry stops at n (inr empty) = record {
+    (region : Region) → IsBesideCopies (laid_kinds keyed.layout) region →
+    EachImage (IsSameRegion keyed.layout.geometry.page region.at region.size) from to
+part_images keyed plans kept used now rounds from to run geometry stops region (inl out) =
+    subst (λ (g : Geometry). EachImage (IsSameRegion g.page region.at region.size) from to) geometry
+    ((ran_rounds keyed plans rounds kept used now from to geometry stops run).outside region out)
+part_images keyed plans kept used now rounds from to run geometry stops region (inr empty) = record {
   each = λ first e last f image cut.
-      subst (λ k. IsSameRegion keyed.layout.geometry.page at k first.image image) (sym empty) (record { bytes = refl; health = refl });
+      subst (λ k. IsSameRegion keyed.layout.geometry.page region.at k first.image image) (sym empty) (record { bytes = refl; health = refl });
 }
 
 back_stops : (front back : List Round) → length front ≡ 1 → StopsThere (front ++ back) → StopsThere back
@@ -206,7 +206,7 @@ module _ (keyed : Keyed) (plans : List (Option StartPlan)) (kept : Option (List 
   unwritten none =
       part_images keyed plans kept used now rounds from to
       (joined_only keyed plans None kept used now rounds stuck (Some place) from to geometry stops run none).run geometry stops
-      place.slot.at place.slot.size run.beside
+      place.slot run.beside
 
   front_stops : (front back : List Round) → length front ≡ 1 → StopsThere front
   front_stops [] back cut = absurd cc
@@ -217,7 +217,7 @@ module _ (keyed : Keyed) (plans : List (Option StartPlan)) (kept : Option (List 
   pub untouched : EachImage Same from run.before
   untouched =
       part_images keyed plans kept used run.copy run.front from run.before run.early geometry (front_stops run.front run.back run.cut)
-      place.slot.at place.slot.size run.beside
+      place.slot run.beside
 
   pub nothing_behind : (at : ℕ) → stuck ≡ Some at → (front back : List Round) → rounds ≡ front ++ back → length front ≡ 1 →
       refused_in front ≡ None → back ≡ []
@@ -239,7 +239,7 @@ module _ (keyed : Keyed) (plans : List (Option StartPlan)) (kept : Option (List 
   kept_images at_behind = record {
     each = λ one at_one two at_two image cut fits.
         (part_images keyed plans (kept_after kept run.front) run.copy now run.back run.behind to run.late at_behind
-        (back_stops run.front run.back run.cut parts) place.slot.at (length place.image)
+        (back_stops run.front run.back run.cut parts) (record { at = place.slot.at; size = length place.image })
         (part_beside (laid_kinds keyed.layout) place.slot place.slot.at (length place.image) run.beside (omega arith) (omega (arith, fits)))).each
         one at_one two at_two image cut;
   }
