@@ -320,7 +320,7 @@ read_rose : (ran : Ran) (answers : Answers) (plan : PlanEnd) → (IsRefusedWith 
 read_rose ran answers (Ok plan) none drilled done e =
     let by = worked_fault ran statuses.ReadFault refl (λ h. cc) (λ h. cc) refl answers plan done e in
     read_told by.work.keyed (From ran) (To ran) by.fault by.tells by.status_is
-read_rose ran answers (Err (Printed text)) none drilled done e = absurd cc
+read_rose ran answers (Err (Printed text)) none drilled done e = absurd (let h : statuses.Done ≡ statuses.ReadFault = e in cc)
 read_rose ran answers (Err (Drilled numbers)) none drilled done e =
     absurd (let h : statuses.Done ≡ statuses.ReadFault = sym (drill_done numbers answers.drill drilled) ∙ e in cc)
 read_rose ran answers (Err (Compared place)) none drilled done e = by answers.compared done e
@@ -328,7 +328,7 @@ read_rose ran answers (Err (Compared place)) none drilled done e = by answers.co
     by : (compared : CompareAnswer) → IsSlotCompared place (From ran) (To ran) compared →
         ended_status (compare_session compared) ≡ statuses.ReadFault → Rose (From ran).read_faults (To ran).read_faults
     by None done e = subst (Rose (From ran).read_faults) (sym done.read_faults) (one_more_rose (From ran).read_faults)
-    by (Some found) done e = absurd cc
+    by (Some found) done e = absurd (let h : statuses.Done ≡ statuses.ReadFault = e in cc)
 read_rose ran answers (Err (Refused refusal)) none drilled done e = absurd (none e)
 
 pub read_fault_of : (ran : Ran) → IsSession ran → ran.before.device.read_faults ≤ ran.after.device.read_faults → ComesByReads statuses.ReadFault ran
