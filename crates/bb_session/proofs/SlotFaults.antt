@@ -1,4 +1,5 @@
--- Why a session names a call on its slot: more calls failed than there are copies that pass nothing.
+-- Why a session names a call on its slot: more calls failed than there are copies that pass
+-- nothing.
 use Rattle.std.proofs.Common.{◌≡◌, ℕ, ◌+◌, ◌-◌, ◌≤◌, Bool, true, false, cond, List, [], ◌∷◌, ◌++◌, length, Option, Some, None, is_none, is_some, Ok, Err, ap, arith, refl, sym, subst, ◌∙◌}
 use Rattle.std.specs.Option.{ForSome, IfNone}
 use Rattle.std.specs.Prelude.{count_by}

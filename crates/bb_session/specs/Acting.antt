@@ -149,8 +149,9 @@ pub record IsSavedOnce (table : List ℕ) (rounds : List Round) : Type 0 where
   pub refusal : Option CopyFault
   pub is : rounds ≡ save_round 0 table refusal ∷ []
 
--- two saves around the calls on a slot: the first was refused for this fault, where it was; then the
--- call on the slot that begins here failed, where one did; then the second was refused, where it was
+-- two saves around the calls on a slot: the first was refused for this fault, where it was; then
+-- the call on the slot that begins here failed, where one did; then the second was refused, where
+-- it was
 abbrev pub around_rounds :
     List ℕ → List ℕ → Option CopyFault → Option ℕ → Option CopyFault → List Round
 around_rounds first second (Some fault) stuck late = save_round 0 first (Some fault) ∷ []

@@ -102,9 +102,9 @@ IsPlayOf (SavesAround first place second) answers rounds =
     (answers.grants ≡ None) × IsSavedAround first second answers.stuck rounds
 IsPlayOf acts answers rounds = answers.grants ≡ None
 
--- A work ran rounds after a load of this table, and wrote its slot between them, if it has one. This
--- is what was answered to it. `used` is the
--- copy that the load took, and `now` the one that passes the last table.
+-- A work ran rounds after a load of this table, and wrote its slot between them, if it has one.
+-- This is what was answered to it. `used` is the copy that the load took, and `now` the one that
+-- passes the last table.
 pub record IsRunAfter (keyed : Keyed) (work : Work) (table : List ℕ) (used : Option ℕ)
     (from to : Device) (answers : WorkAnswers) : Type 0 where
   pub rounds : List Round

@@ -1,5 +1,6 @@
 //! The session on the device: the work of a plan, over a layout that is mounted once and copies
-//! that are loaded once; or a comparison of a slot with its image. The program's one call stands on it; it reads no words and no files.
+//! that are loaded once; or a comparison of a slot with its image. The program's one call stands on
+//! it; it reads no words and no files.
 #![tactic(auto)]
 
 mod boot;

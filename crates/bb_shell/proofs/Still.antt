@@ -1,4 +1,5 @@
--- Rounds after a step in which each image passes what was passed before it: calls outside the copies.
+-- Rounds after a step in which each image passes what was passed before it: calls outside the
+-- copies.
 use Rattle.std.proofs.Common.{◌≡◌, ℕ, ◌+◌, ◌≤◌, List, [], ◌∷◌, ◌++◌, map, Option, Some, arith, refl, sym, ap, subst, ◌∙◌}
 use Rattle.std.specs.Prelude.{is_some}
 use Rattle.bb_bucket.proofs.Runs.{some_of}

@@ -51,7 +51,8 @@ pub drill_done : (numbers : DrillNumbers) (drill : Option DrillCounts) → IsCou
 drill_done numbers None counted = absurd counted
 drill_done numbers (Some counts) counted = refl
 
--- where it ends without a work on copies, but not as Done, or for a read of a comparison, it is refused
+-- where it ends without a work on copies, but not as Done, or for a read of a comparison, it is
+-- refused
 pub early_refused : (end : EarlyEnd) (drill : Option DrillCounts) (compared : CompareAnswer) (answer : Status) →
     answer ≢ statuses.Done → answer ≢ statuses.ReadFault → IsDrilled (Err end) drill →
     ended_status (early_session end drill compared) ≡ answer → IsRefusedWith answer (Err end)

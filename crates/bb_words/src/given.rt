@@ -1,11 +1,11 @@
-ghost use Rattle.std.specs.Prelude.{◌≡◌, None, Some, IfOk, IfErr, OnOk, option_and_then};
+ghost use Rattle.std.specs.Prelude.{◌≡◌, None, Some, IfOk, IfErr, IfSome, OnOk, option_and_then};
 ghost use Rattle.std.specs.Prelude.{unwrap_or};
 ghost use Rattle.std.specs.Option.{ok_or, option_map};
 ghost use Rattle.bb_words.specs.Answer.{IsSized, Refuses};
 ghost use Rattle.bb_words.specs.Options.{given_once, none_given, set_in, joined_value_in};
 ghost use Rattle.bb_words.specs.Options.{valued_of};
 ghost use Rattle.bb_words.specs.Options.{with_option};
-ghost use Rattle.bb_words.specs.Table.{install_by, may_come, slot_given};
+ghost use Rattle.bb_words.specs.Table.{command_of, install_by, may_come, slot_given};
 ghost use Rattle.bb_words.specs.Words.{Options, after_joined, after_option, after_value};
 ghost use Rattle.bb_words.specs.Words.{before_value, command_at, next};
 
@@ -194,44 +194,56 @@ impl Given {
         ensures refused { IfErr result (λ cause.
             (cause ≡ WordsError.BadWord place) × (command_at (Options row due self) ≡ None)) }
     {
-        let (Some(file), None) = (self.file, due) else {
+        if due.is_some() {
             return Err(WordsError::BadWord(place));
-        };
-        let described = Described {
-            file,
-            name: self.name,
-            key: self.key,
-        };
+        }
+        match self.made(row) {
+            Some(command) => Ok(command),
+            None => Err(WordsError::BadWord(place)),
+        }
+    }
+
+    // The command, where nothing is missing.
+    fn made(self, row: Row) -> Option<Command>
+        ensures made { result ≡ command_of row self }
+        ensures sized { IfSome result IsSized }
+    {
+        let described = described_by(self.file?, self.name, self.key);
         match (row, self.settings, self.script) {
-            (Row::State, _, _) => Ok(Command::State(StateCommand {
+            (Row::State, _, _) => Some(Command::State(StateCommand {
                 described,
                 actions: self.actions,
             })),
-            (Row::MarkGood, Some(settings), _) => Ok(Command::MarkGood(MarkGoodCommand {
+            (Row::MarkGood, Some(settings), _) => Some(Command::MarkGood(MarkGoodCommand {
                 described,
                 settings,
             })),
             (Row::Boot, Some(settings), _) => {
-                Ok(Command::Boot(boot_by(described, settings, self.cause)))
+                Some(Command::Boot(boot_by(described, settings, self.cause)))
             }
-            (Row::Shell, Some(settings), Some(script)) => Ok(Command::Shell(ShellCommand {
+            (Row::Shell, Some(settings), Some(script)) => Some(Command::Shell(ShellCommand {
                 boot: boot_by(described, settings, self.cause),
                 script,
             })),
             (Row::Install, Some(settings), _) => {
                 let slot = slot_given(self.label, self.image);
-                match install_by(described, settings, self.target, slot, self.digest) {
-                    Some(install) => Ok(Command::Install(install)),
-                    None => Err(WordsError::BadWord(place)),
-                }
+                let install = install_by(described, settings, self.target, slot, self.digest)?;
+                Some(Command::Install(install))
             }
-            (Row::Verify, _, _) => match slot_given(self.label, self.image) {
-                Some(slot) => Ok(Command::Verify(VerifyCommand { described, slot })),
-                None => Err(WordsError::BadWord(place)),
-            },
-            _ => Err(WordsError::BadWord(place)),
+            (Row::Verify, _, _) => {
+                let slot = slot_given(self.label, self.image)?;
+                Some(Command::Verify(VerifyCommand { described, slot }))
+            }
+            _ => None,
         }
     }
+}
+
+// The state that a command names.
+fn described_by(file: Text, name: Option<Text>, key: Option<Text>) -> Described
+    ensures { result ≡ record { file = file; name = name; key = key } }
+{
+    Described { file, name, key }
 }
 
 // The slot and its image, where both are named.
