@@ -1,20 +1,20 @@
 ghost use Rattle.std.specs.Prelude.{◌≡◌, None, Some, IfOk, IfErr, IfSome, OnOk, option_and_then};
-ghost use Rattle.std.specs.Prelude.{unwrap_or};
 ghost use Rattle.std.specs.Option.{ok_or, option_map};
 ghost use Rattle.bb_words.specs.Answer.{IsSized, Refuses};
 ghost use Rattle.bb_words.specs.Options.{given_once, none_given, set_in, joined_value_in};
 ghost use Rattle.bb_words.specs.Options.{valued_of};
 ghost use Rattle.bb_words.specs.Options.{with_option};
-ghost use Rattle.bb_words.specs.Table.{command_of, install_by, may_come, slot_given};
+ghost use Rattle.bb_words.specs.Table.{command_of, may_come};
 ghost use Rattle.bb_words.specs.Words.{Options, after_joined, after_option, after_value};
 ghost use Rattle.bb_words.specs.Words.{before_value, command_at, next};
 
 use crate::digest::digest_spelt;
+use crate::made::{boot_by, described_by, install_by, slot_given};
 use crate::option::{Valued, cause_of, cut_at_sign, dump_of, value_in, valued_of};
 use crate::row::Row;
 use crate::{
-    Action, ActionList, BootCommand, CauseWord, Command, Described, InstallCommand,
-    MarkGoodCommand, ShellCommand, SlotWords, StateCommand, VerifyCommand, WordsError,
+    Action, ActionList, CauseWord, Command, MarkGoodCommand, ShellCommand, StateCommand,
+    VerifyCommand, WordsError,
 };
 use bb_base::{Bytes, NoMemory, Text};
 use std::alloc::Global;
@@ -236,60 +236,6 @@ impl Given {
             }
             _ => None,
         }
-    }
-}
-
-// The state that a command names.
-fn described_by(file: Text, name: Option<Text>, key: Option<Text>) -> Described
-    ensures { result ≡ record { file = file; name = name; key = key } }
-{
-    Described { file, name, key }
-}
-
-// The slot and its image, where both are named.
-fn slot_given(label: Option<Text>, image: Option<Text>) -> Option<SlotWords>
-    ensures { result ≡ slot_given label image }
-{
-    match (label, image) {
-        (Some(label), Some(image)) => Some(SlotWords { label, image }),
-        _ => None,
-    }
-}
-
-// What `install` is given, where nothing is missing.
-fn install_by(
-    described: Described,
-    settings: Text,
-    target: Option<Text>,
-    slot: Option<SlotWords>,
-    digest: Option<Bytes>,
-) -> Option<InstallCommand>
-    ensures { result ≡ install_by described settings target slot digest }
-{
-    match (target, slot, digest) {
-        (Some(target), Some(slot), Some(digest)) => Some(InstallCommand {
-            described,
-            settings,
-            target,
-            slot,
-            digest,
-        }),
-        _ => None,
-    }
-}
-
-// What `boot` is given. The cause is `other` where none is said.
-fn boot_by(described: Described, settings: Text, cause: Option<CauseWord>) -> BootCommand
-    ensures { result ≡ record {
-      described = described;
-      settings = settings;
-      cause = unwrap_or cause CauseWord.Other;
-    } }
-{
-    BootCommand {
-        described,
-        settings,
-        cause: cause.unwrap_or(CauseWord::Other),
     }
 }
 

@@ -9,6 +9,7 @@ mod drill;
 mod error;
 mod given;
 mod law;
+mod made;
 mod menu;
 mod option;
 mod options;

@@ -1,5 +1,5 @@
-// Installs in which each call of the device fails or is cut off, with each filling. Whatever came of
-// one, the next boot starts system0 only where its slot is as it was or holds the whole image.
+// Installs in which each call of the device fails or is cut off, with each filling. Whatever came
+// of one, the next boot starts system0 only where its slot is as it was or holds the whole image.
 use super::rig::{Rig, board, boot, install, is_untouched, is_whole, session};
 use bb_base::MemSink;
 use bb_flash::{Fault, Fill, MemBoard};
