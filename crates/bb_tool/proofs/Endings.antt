@@ -30,7 +30,8 @@ use Rattle.bb_session.proofs.Barred.{is_device_fault}
 use Rattle.bb_session.proofs.Ended.{is_work, not_work, worked_work}
 use Rattle.bb_session.proofs.Faulting.{FaultTells}
 use Rattle.bb_session.proofs.Faults.{work_explains, work_place, work_stuck}
-use Rattle.bb_tool.specs.Calls.{AsksNothing, ComesByDevice, ComesByFiles, ComesByPlan, ComesByPlanAlone, ComesByReads, ComesBySink, ComesByWords, ComesFirst, CountsSinkFaults, CutsTheText, IsAnswered, IsSession, MayAnswer, NamesACopy, NamesNoFile, NamesTheCopy, NamesThePlace, SendsText, geometry_of, plan_over, session_for, session_plan_for}
+use Rattle.bb_tool.specs.Calls.{AsksNothing, ComesByDevice, ComesByFiles, ComesByPlan, ComesByPlanAlone, ComesByReads, ComesBySink, ComesByWords, ComesFirst, CountsSinkFaults, CutsTheText, IsAnswered, IsSession, MayAnswer, NamesNoFile, SendsText, geometry_of, plan_over, session_for, session_plan_for}
+use Rattle.bb_tool.specs.Copying.{NamesACopy, NamesTheCopy, NamesThePlace}
 use Rattle.bb_tool.specs.Drilling.{IsCounted, IsDrilled}
 use Rattle.bb_tool.specs.Lines.{line_of}
 use Rattle.bb_tool.specs.Ran.{Ran}

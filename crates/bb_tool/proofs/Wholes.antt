@@ -22,8 +22,8 @@ use Rattle.bb_session.specs.Work.{IsWork, SendsByMemory}
 use Rattle.bb_session.proofs.Barred.{HasMemory, HasNoFault, fault_call, is_call_fault, is_memory}
 use Rattle.bb_session.proofs.Unrefused.{IsCalm, unrefused, work_gives, work_made, work_same}
 use Rattle.bb_session.specs.Looking.{first_found, passed_in}
-use Rattle.bb_tool.specs.Calls.{AsksNoDevice, CountsFileFaults, EndsDoneAlone, FailsNoStart, IsAnswered, IsFoundBy, IsSession, IsUndisturbed, IsUndisturbedAlone, IsWholeFor, KeepsFiles, LeavesBy, LeavesUnplanned, LeavesUnplannedAlone, MayAnswer, geometry_of, plan_over, session_for, session_plan_for}
-use Rattle.bb_tool.specs.Copying.{LeavesDevice, MakesItsSaves, StopsAtFileFault, StopsBetweenSaves}
+use Rattle.bb_tool.specs.Calls.{CountsFileFaults, FailsNoStart, IsAnswered, IsFoundBy, IsSession, IsUndisturbed, IsUndisturbedAlone, IsWholeFor, KeepsFiles, LeavesBy, LeavesUnplanned, LeavesUnplannedAlone, MayAnswer, geometry_of, plan_over, session_for, session_plan_for}
+use Rattle.bb_tool.specs.Copying.{AsksNoDevice, EndsDoneAlone, LeavesDevice, MakesItsSaves, StopsAtFileFault, StopsBetweenSaves}
 use Rattle.bb_tool.specs.Drilling.{IsDrilled}
 use Rattle.bb_tool.specs.Ran.{Ran}
 use Rattle.bb_tool.specs.SessionAnswer.{IsFollowed}

@@ -1,6 +1,6 @@
 -- What `run` says of each call: every clause of its contract is one of these facts, and none of
 -- them names a command.
-use Rattle.std.specs.Prelude.{◌≡◌, ◌⊎◌, ◌<◌, ⊤, ℕ, Bool, true, false, List, Option, Some, None, Result, Ok, Err, IsErr, IsSome, option_map}
+use Rattle.std.specs.Prelude.{◌≡◌, ◌⊎◌, ⊤, ℕ, Bool, true, false, List, Option, Some, None, Result, Ok, Err, IsErr, IsSome, option_map}
 use Rattle.std.specs.Option.{ForSome}
 use Rattle.bb_base.specs.Faults.{HasCause, Rose, one_more}
 use Rattle.bb_base.specs.Folder.{FileMap}
@@ -17,7 +17,7 @@ use Rattle.bb_tool.specs.Drilling.{IsDrilled}
 use Rattle.bb_tool.specs.SessionAnswer.{AreAnswers}
 use Rattle.bb_session.specs.Comparing.{CompareAnswer, IsFoundIn}
 use Rattle.bb_session.specs.Exactly.{LeavesAll}
-use Rattle.bb_plan.specs.Plan.{Compared, Drilled, IsRefusedWith, EarlyEnd, Printed, SessionPlan, copies_in, names_file, plan_by_words, plan_over_files}
+use Rattle.bb_plan.specs.Plan.{Compared, IsRefusedWith, EarlyEnd, SessionPlan, names_file, plan_by_words, plan_over_files}
 use Rattle.bb_tool.specs.Ran.{Ran}
 use Rattle.bb_plan.specs.FilesRead.{IsFolderLater, after_file_fault}
 use Rattle.bb_tool.specs.Lines.{line_of}
@@ -206,20 +206,6 @@ CountsFileFaults ran =
 
 -- ---- each answer and its cause
 
--- where the words name no file, and the plan is no work on the device and isn't refused, the answer
--- is Done, but for a failing output and refused memory
-abbrev pub AsksNoDevice : Result SessionPlan EarlyEnd → Type 0
-AsksNoDevice (Err (Printed text)) = ⊤
-AsksNoDevice (Err (Drilled numbers)) = ⊤
-AsksNoDevice _ = ⊥
-
-abbrev pub EndsDoneAlone : Ran → Type 0
-EndsDoneAlone ran =
-    NamesNoFile ran → (files : FileMap) → AsksNoDevice (plan_over ran files)
-    → ((answer : Status) → IsRefusedWith answer (plan_over ran files) → ⊥)
-    → (ran.status ≡ statuses.Done)
-    ⊎ ((ran.status ≡ statuses.SinkFault) ⊎ (ran.status ≡ statuses.NoMemory))
-
 -- the statuses that a fault of the files, the device or the output brings
 abbrev pub is_fault_status : Status → Bool
 is_fault_status statuses.FileFault = true
@@ -292,30 +278,6 @@ ComesByDevice answer ran =
 abbrev pub ComesByReads : Status → Ran → Type 0
 ComesByReads answer ran =
     HasCause ran.before.device.read_faults ran.after.device.read_faults (ran.status ≡ answer)
-
--- the copy that couldn't be written is one of the layout's
-pub record NamesACopy (ran : Ran) : Type 0 where
-  pub answers : Answers
-  pub answered : MayAnswer ran answers
-  pub copy : ℕ
-  pub inside : copy < copies_in (session_plan_for ran answers)
-  pub refusal : (session_for ran answers).refusal ≡ Some (refusals.WriteFault copy)
-  pub told : SendsText ran (sent_of (session_for ran answers)) statuses.WriteFault
-
-abbrev pub NamesTheCopy : Ran → Type 0
-NamesTheCopy ran = ran.status ≡ statuses.WriteFault → NamesACopy ran
-
--- the line shows where the call on the slot began that failed
-pub record NamesAPlace (ran : Ran) : Type 0 where
-  pub answers : Answers
-  pub answered : MayAnswer ran answers
-  pub at : ℕ
-  pub stuck : answers.work.stuck ≡ Some at
-  pub refusal : (session_for ran answers).refusal ≡ Some (refusals.SlotFault at)
-  pub told : SendsText ran (sent_of (session_for ran answers)) statuses.SlotFault
-
-abbrev pub NamesThePlace : Ran → Type 0
-NamesThePlace ran = ran.status ≡ statuses.SlotFault → NamesAPlace ran
 
 -- some front of the text of a session was sent
 pub record SendsSessionFront (ran : Ran) : Type 0 where

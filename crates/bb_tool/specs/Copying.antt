@@ -1,14 +1,16 @@
 -- What `run` says of the copies: how they stand at exit and on the way, to the byte where nothing
 -- failed, and why one of them couldn't be written. None of these facts names a command.
-use Rattle.std.specs.Prelude.{◌≡◌, ◌⊎◌, ℕ, true, None, Some, Result, Ok, is_none}
+use Rattle.std.specs.Prelude.{◌≡◌, ◌⊎◌, ◌<◌, ⊤, ℕ, true, None, Some, Result, Ok, Err, is_none}
 use Rattle.std.specs.List.{list_all}
 use Rattle.bb_copies.specs.Settling.{NothingFails}
 use Rattle.bb_flash.specs.Device.{Device, content}
 use Rattle.bb_state.specs.Kinds.{laid_kinds}
-use Rattle.bb_tool.specs.Calls.{MayAnswer, session_plan_for, session_for}
+use Rattle.bb_base.specs.Folder.{FileMap}
+use Rattle.bb_tool.specs.Calls.{MayAnswer, NamesNoFile, SendsText, plan_over, session_plan_for, session_for}
+use Rattle.bb_tool.specs.Sending.{sent_of}
 use Rattle.bb_session.specs.Around.{KeepsOutsideBoth, slot_of_work}
 use Rattle.bb_session.specs.Exactly.{CallsExactly, EndsAlike, ErasesExactly, HoldsInSlot, LeavesExactly}
-use Rattle.bb_plan.specs.Plan.{EarlyEnd, SessionPlan}
+use Rattle.bb_plan.specs.Plan.{Drilled, EarlyEnd, IsRefusedWith, Printed, SessionPlan, copies_in}
 use Rattle.bb_tool.specs.Ran.{Ran}
 use Rattle.bb_session.specs.Acting.{WorkAnswers}
 use Rattle.bb_session.specs.Safe.{HoldsAfter, IsSafe}
@@ -16,6 +18,7 @@ use Rattle.bb_session.specs.Session.{Answers}
 use Rattle.bb_session.specs.SessionTurns.{HasTrails, LeadsOn}
 use Rattle.bb_session.specs.WriteFault.{IsWriteFault, RoseAboveLost}
 use Rattle.bb_plan.specs.declared.refusal.Refusal.TheVariants as refusals
+use Rattle.bb_plan.specs.declared.status.Status.{Status}
 use Rattle.bb_plan.specs.declared.status.Status.TheVariants as statuses
 
 -- ---- whatever happened
@@ -119,7 +122,45 @@ pub record MakesItsSaves (ran : Ran) : Type 0 where
 abbrev pub StopsBetweenSaves : Ran → Type 0
 StopsBetweenSaves ran = ran.status ≡ statuses.NoMemory → LeavesDevice ran ⊎ MakesItsSaves ran
 
+-- where the words name no file, and the plan is no work on the device and isn't refused, the answer
+-- is Done, but for a failing output and refused memory
+abbrev pub AsksNoDevice : Result SessionPlan EarlyEnd → Type 0
+AsksNoDevice (Err (Printed text)) = ⊤
+AsksNoDevice (Err (Drilled numbers)) = ⊤
+AsksNoDevice _ = ⊥
+
+abbrev pub EndsDoneAlone : Ran → Type 0
+EndsDoneAlone ran =
+    NamesNoFile ran → (files : FileMap) → AsksNoDevice (plan_over ran files)
+    → ((answer : Status) → IsRefusedWith answer (plan_over ran files) → ⊥)
+    → (ran.status ≡ statuses.Done)
+    ⊎ ((ran.status ≡ statuses.SinkFault) ⊎ (ran.status ≡ statuses.NoMemory))
+
 -- ---- where a call of the device failed
+
+-- the copy that couldn't be written is one of the layout's
+pub record NamesACopy (ran : Ran) : Type 0 where
+  pub answers : Answers
+  pub answered : MayAnswer ran answers
+  pub copy : ℕ
+  pub inside : copy < copies_in (session_plan_for ran answers)
+  pub refusal : (session_for ran answers).refusal ≡ Some (refusals.WriteFault copy)
+  pub told : SendsText ran (sent_of (session_for ran answers)) statuses.WriteFault
+
+abbrev pub NamesTheCopy : Ran → Type 0
+NamesTheCopy ran = ran.status ≡ statuses.WriteFault → NamesACopy ran
+
+-- the line shows where the call on the slot began that failed
+pub record NamesAPlace (ran : Ran) : Type 0 where
+  pub answers : Answers
+  pub answered : MayAnswer ran answers
+  pub at : ℕ
+  pub stuck : answers.work.stuck ≡ Some at
+  pub refusal : (session_for ran answers).refusal ≡ Some (refusals.SlotFault at)
+  pub told : SendsText ran (sent_of (session_for ran answers)) statuses.SlotFault
+
+abbrev pub NamesThePlace : Ran → Type 0
+NamesThePlace ran = ran.status ≡ statuses.SlotFault → NamesAPlace ran
 
 -- a session that couldn't read the device leaves what it holds
 abbrev pub LeavesUnread : Ran → Type 0
