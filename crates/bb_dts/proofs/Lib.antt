@@ -8,4 +8,5 @@ pub mod WalkLemmas
 pub mod BodyLemmas
 pub mod OuterLemmas
 pub mod CountLemmas
+pub mod Growing
 pub mod SourceLemmas
