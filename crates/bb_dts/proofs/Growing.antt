@@ -67,6 +67,14 @@ pub nodes_read-more : (c d : Content)
     → nodes_read (more_content c d) ≡ nodes_read c + nodes_read d
 nodes_read-more c d = count-more c.nodes d.nodes
 
+pub few_none : (rest all : ℕ) → rest ≤ all → nodes_read no_content + rest ≤ all
+few_none rest all h = let zero : nodes_read no_content ≡ 0 = refl in omega (arith, zero, h)
+
+pub few_prop : (name : List ℕ) (parts : List Part) (rest all : ℕ) → rest ≤ all
+    → nodes_read (content_prop name parts) + rest ≤ all
+few_prop name parts rest all h =
+    let zero : nodes_read (content_prop name parts) ≡ 0 = refl in omega (arith, zero, h)
+
 -- places that are kept
 
 pub names_kept : (a b : Reader) → IsAt a → KeepsPlaces a.draft.places b.draft.places
@@ -172,7 +180,7 @@ ReadsSome-none a level text = record {
   content = no_content;
   walks = refl;
   grows = Grows-none a;
-  few = omega arith;
+  few = few_none (length text) (length text) (omega arith);
 }
 
 walks_on : (walk : Onward) (a b d : Reader) (level : ℕ) (has_nodes : Bool) (item : Item)
@@ -249,8 +257,8 @@ ReadsBody-end a b d level has_nodes whole text rest IsEnd at is s r = record {
   grows = Grows-then a b d s.content r.content at s.grows r.grows;
   few = few_more s.content r.content (length whole) (length text) (length rest) s.few r.few;
 }
-ReadsBody-end a b d level has_nodes whole text rest IsProp at is s r = cc
-ReadsBody-end a b d level has_nodes whole text rest IsNode at is s r = cc
+ReadsBody-end a b d level has_nodes whole text rest IsProp at is s r = absurd (cc is)
+ReadsBody-end a b d level has_nodes whole text rest IsNode at is s r = absurd (cc is)
 
 -- a walk that goes on to an item
 pub walk_to_item : (walk : Onward) (a b : Reader) (level : ℕ) (has_nodes : Bool) (len : ℕ)
@@ -431,36 +439,24 @@ top_body_few a d level text rest here r =
 
 -- where only labels were added
 
-pub names_labelled : (a b : Reader) → LabelsOnly a b → names_at b.draft b.at ≡ names_at a.draft a.at
-names_labelled a b only =
-    ap (names_at b.draft) only.at ∙ ap (λ all. names_of_place all a.at) only.places
-
-pub stem_labelled : (a b : Reader) → LabelsOnly a b → stem b ≡ stem a
-stem_labelled a b only = ap path_behind (names_labelled a b only)
-
-pub at_labelled : (a b : Reader) → IsAt a → LabelsOnly a b → IsAt b
-at_labelled a b at only = record {
-  within = omega (arith, at.within, only.at, ap length only.places);
-  named = subst ArePathNames (sym (names_labelled a b only)) at.named;
-}
-
-pub LabelsOnly-none : (a : Reader) → LabelsOnly a a
-LabelsOnly-none a = record {
-  input = refl;
-  tree = refl;
-  reserved = refl;
-  places = refl;
-  at = refl;
-}
-
-pub LabelsOnly-then : (a b d : Reader) → LabelsOnly a b → LabelsOnly b d → LabelsOnly a d
-LabelsOnly-then a b d g h = record {
-  input = h.input ∙ g.input;
-  tree = h.tree ∙ g.tree;
-  reserved = h.reserved ∙ g.reserved;
-  places = h.places ∙ g.places;
-  at = h.at ∙ g.at;
-}
+pub LabelsOnly-from : (a b : Reader) → IsAt a → b.input ≡ a.input → b.at ≡ a.at
+    → b.draft.places ≡ a.draft.places → b.draft.draft.tree ≡ a.draft.draft.tree
+    → b.draft.draft.reserved ≡ a.draft.draft.reserved → LabelsOnly a b
+LabelsOnly-from a b here input at places tree reserved =
+    let names : names_at b.draft b.at ≡ names_at a.draft a.at =
+    ap (names_at b.draft) at ∙ ap (λ all. names_of_place all a.at) places in
+    record {
+      input = input;
+      tree = tree;
+      reserved = reserved;
+      places = places;
+      at = at;
+      names = names;
+      placed = record {
+        within = omega (arith, here.within, at, ap length places);
+        named = subst ArePathNames (sym names) here.named;
+      };
+    }
 
 -- labels added after a node was opened
 pub GoesInto-labelled : (a b d : Reader) (name : List ℕ) → GoesInto a b name → LabelsOnly b d
@@ -470,8 +466,8 @@ GoesInto-labelled a b d name into only = record {
   tree = only.tree ∙ into.tree;
   reserved = only.reserved ∙ into.reserved;
   older = λ k ns e. ap (λ l. slice_get l k) only.places ∙ into.older k ns e;
-  named = names_labelled b d only ∙ into.named;
-  placed = at_labelled b d into.placed only;
+  named = only.names ∙ into.named;
+  placed = only.placed;
 }
 
 -- a node opened at a place

@@ -44,6 +44,8 @@ pub record LabelsOnly (old new : Reader) : Type 0 where
   pub reserved : new.draft.draft.reserved ≡ old.draft.draft.reserved
   pub places : new.draft.places ≡ old.draft.places
   pub at : new.at ≡ old.at
+  pub names : names_at new.draft new.at ≡ names_at old.draft old.at
+  pub placed : IsAt new
 
 -- labels are added, and the node of that name in the node at hand is opened
 pub record GoesInto (old new : Reader) (name : List ℕ) : Type 0 where

@@ -45,6 +45,7 @@ impl Reader {
 
     // Reads a property or a node, with its `;`, or the `}`.
     #[cycle(body)]
+    #[tactic(auto, using(crate::proofs::BodyLemmas::item_step))]
     fn read_item<'a>(
         &mut self,
         level: usize,
@@ -70,6 +71,7 @@ impl Reader {
 
     // Reads what follows the name of a property or a node.
     #[cycle(body)]
+    #[tactic(auto, using(crate::proofs::BodyLemmas::named_step))]
     fn read_named<'a>(
         &mut self,
         level: usize,
@@ -111,6 +113,7 @@ impl Reader {
 
     // Reads the body of a node inside another one, after its `{`, and its `;`.
     #[cycle(body)]
+    #[tactic(auto, using(crate::proofs::BodyLemmas::inside_unless_memory))]
     fn read_node<'a>(
         &mut self,
         level: usize,

@@ -107,7 +107,7 @@ impl Reader {
             TokenKind::End if at_top && waiting.is_empty() => Ok(Next::IsDone),
             TokenKind::Memreserve if !at_top => Ok(Next::IsHead(self.read_reserve(token.rest)?)),
             TokenKind::Slash => {
-                self.at = self.draft.root();
+                self.go_to_root();
                 Ok(Next::IsTop(self.read_top(1, waiting, token.rest)?))
             }
             TokenKind::Reference => {
@@ -200,6 +200,16 @@ impl Reader {
         }
         let rest = self.read_body(level, text)?;
         Ok(rest)
+    }
+
+    // Goes to the root.
+    fn go_to_root(&mut self)
+        ensures stem { stem self.new ≡ [] }
+        ensures placed { IsAt self.new }
+        ensures draft { self.new.draft ≡ self.old.draft }
+        ensures input { self.new.input ≡ self.old.input }
+    {
+        self.at = self.draft.root();
     }
 
     // Goes to the node that a reference names, and gives its level.

@@ -34,7 +34,8 @@ impl Reader {
             (RefusesResult (labels_of_child self.old waiting.now.items name.now)) }
     {
         self.open(name)?;
-        self.label_all(waiting)
+        self.label_all(waiting)?;
+        Ok(())
     }
 
     // Goes into the node of that name.

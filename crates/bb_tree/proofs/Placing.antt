@@ -307,12 +307,12 @@ pub slashes : (names : List (List ℕ)) → ArePathNames names
     → count_by (λ b. b == 47) (path_behind names) ≡ length names
 slashes [] a = refl
 slashes (n ∷ ns) a =
-    let count : length (slice_split (λ b. b == 47) (n ++ path_behind ns))
-    ≡ count_by (λ b. b == 47) (n ++ path_behind ns) + 1 =
-    length-slice_split (λ b. b == 47) (n ++ path_behind ns) in
-    let first : count_by (λ b. b == 47) (path_behind (n ∷ ns))
-    ≡ 1 + count_by (λ b. b == 47) (n ++ path_behind ns) = refl in
-    omega (arith, first, count, ap length (split_names n ns a.0 a.1))
+    let whole : length (slice_split (λ b. b == 47) (path_behind (n ∷ ns)))
+    ≡ count_by (λ b. b == 47) (path_behind (n ∷ ns)) + 1 =
+    length-slice_split (λ b. b == 47) (path_behind (n ∷ ns)) in
+    let parts : slice_split (λ b. b == 47) (path_behind (n ∷ ns)) ≡ [] ∷ (n ∷ ns) =
+    ap (λ l. [] ∷ l) (split_names n ns a.0 a.1) in
+    omega (arith, whole, ap length parts)
 
 -- slots with the same spine
 

@@ -5,6 +5,13 @@ use Rattle.bb_tree.specs.Places.{names_to}
 use Rattle.bb_tree.proofs.Placing.{within_slots, names_to_own, names_to_root}
 use Rattle.bb_tree.proofs.place.depth.Goals as goal
 
+pub offset_bounds-slots-at : goal.offset_bounds-slots-at
+offset_bounds-slots-at c =
+    let within : c.loop-at.at < length c.args.slots.now =
+    within_slots c.args.slots.now c.loop-at.at (omega (arith, c.loop-at-test.true))
+    (omega (arith, c.loop-at.invariant.below, c.requires.within)) in
+    omega arith
+
 pub bounds-slots-at : goal.bounds-slots-at
 bounds-slots-at c =
     within_slots c.args.slots.now c.loop-at.at (omega (arith, c.loop-at-test.true))

@@ -11,9 +11,16 @@ use Rattle.bb_dts.specs.Tokens.{FoundToken}
 use Rattle.bb_dts.specs.Walk.{Around, Body, state_at, body_at, label_all, node_of}
 use Rattle.bb_dts.proofs.BodyLemmas.{labels_refusal, value_refusal, none_waiting, item_step, item_unexpected, walk_after_prop_at, named_step, node_read, node_refused, close_unexpected}
 use Rattle.bb_dts.proofs.CountLemmas.{count-one}
-use Rattle.bb_dts.proofs.Growing.{more_none, Grows-none, Grows-prop, Grows-node, nodes_read-node, node_walk_refused, node_walk_unread, node_walk_unexpected, node_walk_closed, names_kept, at_kept, ReadsSome-none, ReadsSome-item, ReadsBody-end, walk_to_item}
+use Rattle.bb_dts.proofs.Growing.{more_none, Grows-none, few_none, few_prop, Grows-prop, Grows-node, nodes_read-node, node_walk_refused, node_walk_unread, node_walk_unexpected, node_walk_closed, names_kept, at_kept, ReadsSome-none, ReadsSome-item, ReadsBody-end, walk_to_item}
 use Rattle.bb_dts.proofs.reader.Reader.+body.Goals as goal
 use Rattle.bb_dts.proofs.reader.Reader.+body.Goals.{read_item-in_default-via-in-CloseBrace+else-is_empty, read_item-in_default-via-in_default}
+
+pub read_body-loop-item-init : goal.read_body-loop-item-init
+read_body-loop-item-init t c = record {
+  some = ReadsSome-none c.args.self.now c.args.level c.args.text.now;
+  placed = c.requires.placed;
+  shorter = omega arith;
+}
 
 pub read_item-returns-in_err-waiting-clause-refused : goal.read_item-returns-in_err-waiting-clause-refused
 read_item-returns-in_err-waiting-clause-refused t c before =
@@ -51,7 +58,7 @@ read_item-returns-in-CloseBrace-clause-ok t c =
           ∙ ap (λ content. walk_after_item_read self self c.args.level content IsEnd rest)
           (sym (more_none before));
       grows = Grows-none self;
-      few = omega (arith, c.in_ok-waiting.ensures.within);
+      few = few_none (length rest) (length c.args.text.now) (omega (arith, c.in_ok-waiting.ensures.within));
     }
 
 pub read_item-returns-in-Name-clause-ok : goal.read_item-returns-in-Name-clause-ok
@@ -155,11 +162,8 @@ read_named-returns-in_ok-put-in-Equals-clause-ok t c =
       content = content_prop prop.name prop.parts;
       walks = walks;
       grows = Grows-prop self new prop.name prop.parts puts;
-      few = omega (
-        arith,
-        c.in_ok-prop-in-Equals.ensures.shorter,
-        c.in_ok-token.ensures.within,
-      );
+      few = few_prop prop.name prop.parts (length rest) (length c.args.text.now)
+          (omega (arith, c.in_ok-prop-in-Equals.ensures.shorter, c.in_ok-token.ensures.within));
     }
 
 pub read_named-returns-in_ok-put-in-Semicolon-clause-ok : goal.read_named-returns-in_ok-put-in-Semicolon-clause-ok
@@ -179,7 +183,8 @@ read_named-returns-in_ok-put-in-Semicolon-clause-ok t c =
       content = content_prop prop.name prop.parts;
       walks = walks;
       grows = Grows-prop self new prop.name prop.parts puts;
-      few = omega (arith, c.in_ok-token.ensures.within);
+      few = few_prop prop.name prop.parts (length rest) (length c.args.text.now)
+          (omega (arith, c.in_ok-token.ensures.within));
     }
 
 pub read_named-returns-in_ok-rest-in-OpenBrace-clause-ok : goal.read_named-returns-in_ok-rest-in-OpenBrace-clause-ok

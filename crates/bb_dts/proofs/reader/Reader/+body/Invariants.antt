@@ -15,13 +15,13 @@ abbrev pub decreases-read_node : goal.decreases-read_node
 decreases-read_node l = 2 * length l.text.now + 2
 
 -- the body is read up to here
-abbrev pub invariant-read_body-loop-has_nodes : goal.invariant-read_body-loop-has_nodes
-invariant-read_body-loop-has_nodes l = record {
+abbrev pub invariant-read_body-loop-item : goal.invariant-read_body-loop-item
+invariant-read_body-loop-item l = record {
   some : ReadsSome (body_walk l.fn.self l.level l.text) l.fn.self l.self l.level l.has_nodes
       (length l.text) l.rest;
   placed : IsAt l.self;
   shorter : length l.rest ≤ length l.text;
 }
 
-abbrev pub decreases-read_body-loop-has_nodes : goal.decreases-read_body-loop-has_nodes
-decreases-read_body-loop-has_nodes l = length l.rest
+abbrev pub decreases-read_body-loop-item : goal.decreases-read_body-loop-item
+decreases-read_body-loop-item l = length l.rest
