@@ -15,7 +15,7 @@ use Rattle.bb_tree.proofs.Counting.{count}
 use Rattle.bb_dts.specs.declared.item.Item.{Item}
 use Rattle.bb_dts.specs.declared.item.Item.TheVariants.{IsProp, IsNode, IsEnd}
 use Rattle.bb_dts.specs.declared.reader.Reader.{Reader}
-use Rattle.bb_dts.specs.Descent.{Onward, Content, no_content, content_prop, content_node, more_content, node_of_content, nodes_read, node_count, body_of, items_at, labels_walk_from, walk_after_item, walk_after_body, refusal_walk, close_walk_at_token, close_walk_by_token, unless_memory, RefusesWalk}
+use Rattle.bb_dts.specs.Descent.{Onward, Content, no_content, content_prop, content_node, more_content, node_of_content, is_end, is_node, nodes_read, node_count, body_of, items_at, labels_walk_from, walk_after_item, walk_after_body, refusal_walk, close_walk_at_token, close_walk_by_token, unless_memory, RefusesWalk}
 use Rattle.bb_dts.specs.Readers.{IsAt, LabelsOnly, GoesInto, PutsProp, Grows, Reads, ReadsBody, ReadsSome, stem, body_walk, items_walk, node_walk, labels_of_child, source_end_in_body, source_end_after_body, TreeAddsFewNodes, walk_after_item_read}
 use Rattle.bb_tree.specs.Depth.{depth_limit}
 use Rattle.bb_dts.specs.declared.error.DtsError.{DtsError}
@@ -234,31 +234,30 @@ pub ReadsSome-item : (walk : Onward) (a b d : Reader) (level : ℕ) (has_nodes :
     (text rest : List ℕ) (item : Item) (nodes : Bool) → IsAt a
     → ReadsSome walk a b level has_nodes len text
     → Reads (items_walk b level has_nodes text) b d level item (length text) rest
-    → (item ≡ IsEnd → ⊥) → (item ≡ IsNode → nodes ≡ true) → (item ≡ IsProp → nodes ≡ false)
-    → ReadsSome walk a d level nodes len rest
-ReadsSome-item walk a b d level has_nodes len text rest IsProp nodes at s r no_end is_node is_prop =
-    subst (λ n. ReadsSome walk a d level n len rest) (sym (is_prop refl))
+    → is_end item ≡ false → nodes ≡ is_node item → ReadsSome walk a d level nodes len rest
+ReadsSome-item walk a b d level has_nodes len text rest IsProp nodes at s r end node =
+    subst (λ n. ReadsSome walk a d level n len rest) (sym node)
     (ReadsSome-prop walk a b d level has_nodes len text rest at s r)
-ReadsSome-item walk a b d level has_nodes len text rest IsNode nodes at s r no_end is_node is_prop =
-    subst (λ n. ReadsSome walk a d level n len rest) (sym (is_node refl))
+ReadsSome-item walk a b d level has_nodes len text rest IsNode nodes at s r end node =
+    subst (λ n. ReadsSome walk a d level n len rest) (sym node)
     (ReadsSome-node walk a b d level has_nodes len text rest at s r)
-ReadsSome-item walk a b d level has_nodes len text rest IsEnd nodes at s r no_end is_node is_prop =
-    absurd (no_end refl)
+ReadsSome-item walk a b d level has_nodes len text rest IsEnd nodes at s r end node =
+    absurd (cc end)
 
 pub ReadsBody-end : (a b d : Reader) (level : ℕ) (has_nodes : Bool) (whole text rest : List ℕ)
-    (item : Item) → IsAt a → item ≡ IsEnd
+    (item : Item) → IsAt a → is_end item ≡ true
     → ReadsSome (body_walk a level whole) a b level has_nodes (length whole) text
     → Reads (items_walk b level has_nodes text) b d level item (length text) rest
     → ReadsBody a d level whole rest
-ReadsBody-end a b d level has_nodes whole text rest IsEnd at is s r = record {
+ReadsBody-end a b d level has_nodes whole text rest IsEnd at end s r = record {
   content = more_content s.content r.content;
   walks = walks_on (body_walk a level whole) a b d level has_nodes IsEnd (length whole) text rest
       at s r;
   grows = Grows-then a b d s.content r.content at s.grows r.grows;
   few = few_more s.content r.content (length whole) (length text) (length rest) s.few r.few;
 }
-ReadsBody-end a b d level has_nodes whole text rest IsProp at is s r = absurd (cc is)
-ReadsBody-end a b d level has_nodes whole text rest IsNode at is s r = absurd (cc is)
+ReadsBody-end a b d level has_nodes whole text rest IsProp at end s r = absurd (cc end)
+ReadsBody-end a b d level has_nodes whole text rest IsNode at end s r = absurd (cc end)
 
 -- a walk that goes on to an item
 pub walk_to_item : (walk : Onward) (a b : Reader) (level : ℕ) (has_nodes : Bool) (len : ℕ)

@@ -1,6 +1,6 @@
 -- The walk in the pieces in which a descent goes through it: from a state on, as a function of the
 -- bodies around.
-use Rattle.std.specs.Prelude.{◌≡◌, ℕ, ◌+◌, Bool, false, List, [], ◌∷◌, ◌++◌, length, nat_lt, Option, Some, None, Result, Ok, Err, if◌then◌else◌}
+use Rattle.std.specs.Prelude.{◌≡◌, ℕ, ◌+◌, Bool, true, false, List, [], ◌∷◌, ◌++◌, length, nat_lt, Option, Some, None, Result, Ok, Err, if◌then◌else◌}
 use Rattle.bb_tree.specs.declared.part.Part.{Part}
 use Rattle.bb_tree.specs.Depth.{depth_limit}
 use Rattle.bb_tree.specs.Draft.{Labels}
@@ -199,6 +199,15 @@ labels_walk_by_token total level waiting (Err e) = labels_refusal_walk e
 -- the places of a body's items: its properties, and after the first node its nodes
 abbrev pub items_at : Bool → Level
 items_at has_nodes = if has_nodes then AtNodes else AtProps
+
+-- whether an item is the end of a body, and whether it is a node
+abbrev pub is_end : Item → Bool
+is_end IsEnd = true
+is_end _ = false
+
+abbrev pub is_node : Item → Bool
+is_node IsNode = true
+is_node _ = false
 
 -- the walk after an item of a body
 abbrev pub walk_after_item : ℕ → Item → Labels → Body → List ℕ → Onward

@@ -35,10 +35,10 @@ impl Reader {
         let mut rest = text;
         loop {
             let (item, behind) = self.read_item(level, has_nodes, rest)?;
-            if item == Item::IsEnd {
+            if item.is_end() {
                 return Ok(behind);
             }
-            has_nodes = item == Item::IsNode;
+            has_nodes = item.is_node();
             rest = behind;
         }
     }

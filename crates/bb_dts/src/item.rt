@@ -1,3 +1,5 @@
+ghost use Rattle.std.specs.Prelude.{◌≡◌};
+
 /// What was read in a body.
 #[derive(Clone, Copy, Debug, PartialEq, Eq)]
 pub(crate) enum Item {
@@ -7,4 +9,20 @@ pub(crate) enum Item {
     IsNode,
     /// The `}`.
     IsEnd,
+}
+
+impl Item {
+    ghost use Rattle.bb_dts.specs.Descent.{is_end, is_node};
+
+    pub(crate) fn is_end(self) -> bool
+        ensures { result ≡ is_end self }
+    {
+        matches!(self, Item::IsEnd)
+    }
+
+    pub(crate) fn is_node(self) -> bool
+        ensures { result ≡ is_node self }
+    {
+        matches!(self, Item::IsNode)
+    }
 }

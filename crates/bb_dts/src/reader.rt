@@ -33,13 +33,13 @@ impl Reader {
         ensures refused { IfErr result
             (RefusesResult (labels_of_child self.old waiting.now.items name.now)) }
     {
-        self.open(name)?;
+        self.go_into(name)?;
         self.label_all(waiting)?;
         Ok(())
     }
 
     // Goes into the node of that name.
-    fn open(&mut self, name: &[u8]) -> Result<(), DtsError>
+    fn go_into(&mut self, name: &[u8]) -> Result<(), DtsError>
         requires placed { IsAt self.old }
         requires named { IsNameWord name.now }
         ensures goes { OnOk result (GoesInto self.old self.new name.now) }

@@ -6,7 +6,7 @@ use Rattle.bb_tree.specs.Node.{Branch, forest}
 use Rattle.bb_dts.specs.declared.item.Item.TheVariants.{IsProp, IsNode, IsEnd}
 use Rattle.bb_dts.specs.Descent.{Content, no_content, content_prop, content_node, more_content, labels_walk_from, OnwardLabels, OnwardValue, body_of, nodes_read, unless_memory, value_walk_from, walk_after_body, RefusesWalk}
 use Rattle.bb_dts.specs.Places.{Value, Props}
-use Rattle.bb_dts.specs.Readers.{IsAt, Reads, RefusesAll, stem, items_walk, name_walk, node_walk, walk_after_item_read}
+use Rattle.bb_dts.specs.Readers.{IsAt, Reads, RefusesAll, stem, body_walk, items_walk, name_walk, node_walk, walk_after_item_read}
 use Rattle.bb_dts.specs.Tokens.{FoundToken}
 use Rattle.bb_dts.specs.Walk.{Around, Body, state_at, body_at, label_all, node_of}
 use Rattle.bb_dts.proofs.BodyLemmas.{labels_refusal, value_refusal, none_waiting, item_step, item_unexpected, walk_after_prop_at, named_step, node_read, node_refused, close_unexpected}
@@ -21,6 +21,40 @@ read_body-loop-item-init t c = record {
   placed = c.requires.placed;
   shorter = omega arith;
 }
+
+pub read_body-loop-item-preserved : goal.read_body-loop-item-preserved
+read_body-loop-item-preserved t c =
+    let inv = c.loop-item.invariant in
+    let reads = c.in_ok-item.ensures.ok in
+    record {
+      some = ReadsSome-item (body_walk c.args.self.now c.args.level c.args.text.now)
+          c.args.self.now c.loop-item.self c.read_item.new.self c.args.level
+          c.loop-item.has_nodes (length c.args.text.now) c.loop-item.rest.now
+          c.in_ok-item.behind.now c.in_ok-item.item c.is_node-has_nodes.result
+          c.requires.placed inv.some reads (sym c.is_end.ensures ∙ c.if-is_end.false)
+          c.is_node-has_nodes.ensures;
+      placed = at_kept c.loop-item.self c.read_item.new.self inv.placed reads.grows.older
+          reads.grows.at;
+      shorter = omega (arith, inv.shorter, c.in_ok-item.ensures.shorter);
+    }
+
+pub read_body-returns-in_err-item-clause-refused : goal.read_body-returns-in_err-item-clause-refused
+read_body-returns-in_err-item-clause-refused t c =
+    let inv = c.loop-item.invariant in
+    let e = c.in_err-item.field-0.0 in
+    let refuses = ap (unless_memory e)
+    (walk_to_item (body_walk c.args.self.now c.args.level c.args.text.now) c.args.self.now
+    c.loop-item.self c.args.level c.loop-item.has_nodes (length c.args.text.now)
+    c.loop-item.rest.now c.requires.placed inv.some)
+    ∙ c.in_err-item.ensures.refused inv.some.content in
+    grind (arith, common_steps)
+
+pub read_body-returns-then-is_end-clause-ok : goal.read_body-returns-then-is_end-clause-ok
+read_body-returns-then-is_end-clause-ok t c =
+    ReadsBody-end c.args.self.now c.loop-item.self c.read_item.new.self c.args.level
+    c.loop-item.has_nodes c.args.text.now c.loop-item.rest.now c.in_ok-item.behind.now
+    c.in_ok-item.item c.requires.placed (sym c.is_end.ensures ∙ c.if-is_end.true)
+    c.loop-item.invariant.some c.in_ok-item.ensures.ok
 
 pub read_item-returns-in_err-waiting-clause-refused : goal.read_item-returns-in_err-waiting-clause-refused
 read_item-returns-in_err-waiting-clause-refused t c before =
