@@ -7,28 +7,27 @@ use Rattle.bb_drill.specs.Board.{board_geometry}
 use Rattle.bb_drill.specs.Draws.{may_start}
 use Rattle.bb_drill.specs.declared.command.DrillCommand.{DrillCommand}
 use Rattle.bb_drill.specs.declared.command.DrillCommand.TheVariants.{Priority, Boot, MarkGood, Show}
-use Rattle.bb_flash.specs.declared.plan.Plan.{Plan as StartPlan}
-use Rattle.bb_layout.specs.Results.{result_and_then}
+use Rattle.bb_layout.specs.Layout.{Laid}
 use Rattle.bb_actions.specs.declared.bound_action.BoundAction.{BoundAction}
 use Rattle.bb_plan.proofs.Readings.{same_over}
 use Rattle.bb_plan.specs.FilesRead.{FileAnswer, IsReadAs, Reading, Reads, Yields, Fails, and_then, files_answer, reading_of, result_on, result_over}
-use Rattle.bb_plan.specs.Plan.{Drills, OnCopies, Prints, SessionPlan, Task, boot_after, boot_planned, boot_reading, command_reading, mark_after, mark_reading, plan_as, plan_reading, planned, state_plan, state_reading, task_as, words_reading}
+use Rattle.bb_plan.specs.Plan.{Drills, OnCopies, Prints, SessionPlan, Task, Work, acting, command_reading, described_reading, on_copies, on_keyed, plan_as, plan_reading, planned, task_as, work_reading, words_reading}
 use Rattle.bb_plan.specs.declared.plan.PlannedTask.TheVariants as tasks
 use Rattle.bb_plan.specs.declared.plan.PlannedWork.{PlannedWork}
 use Rattle.bb_plan.specs.declared.refusal.Refusal.TheVariants as refusals
-use Rattle.bb_plan.specs.PlanSteps.{actions_by, binding_reading, cause_of, keyed_reading, plans_reading}
+use Rattle.bb_plan.specs.declared.request.Request.{Request}
+use Rattle.bb_plan.specs.declared.request.Request.TheVariants as requests
+use Rattle.bb_plan.specs.PlanSteps.{actions_by, binding_reading, keyed_reading}
 use Rattle.bb_plan.specs.declared.plan.Work.TheVariants as works
 use Rattle.bb_plan.specs.declared.refusal.Refusal.{Refusal}
 use Rattle.bb_session.specs.Acting.{start_plans_of}
 use Rattle.bb_state.specs.Keyed.{Keyed}
 use Rattle.bb_words.specs.Words.{words_of, words_from}
 use Rattle.bb_words.specs.declared.command.Action.TheVariants.{Set}
-use Rattle.bb_words.specs.declared.command.BootCommand.{BootCommand}
 use Rattle.bb_words.specs.declared.command.CauseWord.TheVariants.{Other}
 use Rattle.bb_words.specs.declared.command.Command.{Command}
 use Rattle.bb_words.specs.declared.command.Command.TheVariants as commands
-use Rattle.bb_words.specs.declared.command.MarkGoodCommand.{MarkGoodCommand}
-use Rattle.bb_words.specs.declared.command.StateCommand.{StateCommand}
+use Rattle.bb_words.specs.declared.command.Described.{Described}
 use Rattle.bb_drill_sessions.specs.Commands.{drill_words}
 use Rattle.bb_drill_sessions.specs.Documents.{board_files, settings_name}
 use Rattle.bb_drill_sessions.specs.Plans.{board_described, board_keyed, drill_plan}
@@ -67,64 +66,45 @@ record IsPlan (given : Result Keyed Refusal) (starts : Bool) (plan : SessionPlan
   keyed : given ≡ Ok plan.keyed
   none : starts ≡ false → start_plans_of plan.work ≡ []
 
-state_known : (command : StateCommand) (keyed : Keyed) (plan : SessionPlan) → state_plan command keyed ≡ Ok plan →
-    IsPlan (Ok keyed) false plan
-state_known command keyed plan h = by (actions_by keyed.layout.vars command.actions) h
-  where
-    by : (bound : Result (List BoundAction) Refusal) →
-        result_and_then (λ actions. Ok (record { keyed = keyed; work = works.Act actions })) bound ≡ Ok plan →
-        IsPlan (Ok keyed) false plan
-    by (Ok actions) g =
-        subst (λ (p : SessionPlan). IsPlan (Ok keyed) false p) (same_Ok (record { keyed = keyed; work = works.Act actions }) plan g)
-        (record { keyed = refl; none = λ e. refl })
-    by (Err refusal) g = absurd cc
+-- a request that isn't to boot starts nothing
+abbrev starts_by : Request → Bool
+starts_by (requests.Boot settings cause) = true
+starts_by _ = false
 
-module _ (files : FileMap) (plan : SessionPlan) where
-  abbrev Over : {A : Type 0} → Reading A → Result A Refusal
-  Over reading = result_over files reading
+none_acted : (bound : Result (List BoundAction) Refusal) (work : Work) → acting bound ≡ Ok work →
+    start_plans_of work ≡ []
+none_acted (Ok actions) work h = ap start_plans_of (sym (same_Ok (works.Act actions) work h))
+none_acted (Err refusal) work h = absurd cc
 
-  from_keyed : (starts : Bool) (given : Result Keyed Refusal) (keyed : Keyed) → given ≡ Ok keyed → IsPlan (Ok keyed) starts plan →
-      IsPlan given starts plan
-  from_keyed starts given keyed first is = record { keyed = first ∙ is.keyed; none = is.none }
+none_started : (files : FileMap) (request : Request) (layout : Laid) (work : Work) →
+    result_over files (work_reading request layout) ≡ Ok work → starts_by request ≡ false →
+    start_plans_of work ≡ []
+none_started files (requests.Act actions) layout work h e =
+    let bound = actions_by layout.vars actions in
+    none_acted bound work (sym (over_of files (acting bound)) ∙ h)
+none_started files (requests.Good settings) layout work h e =
+    let next : Binding → Reading Work = λ t. Yields (works.Good t) in
+    let targets = split next files work (binding_reading settings layout) h in
+    ap start_plans_of (sym (same_Ok (works.Good targets.value) work targets.second))
+none_started files (requests.Boot settings cause) layout work h e = absurd cc
 
-  of_state : (command : StateCommand) → Over (state_reading command board_geometry) ≡ Ok plan →
-      IsPlan (Over (keyed_reading command.described board_geometry)) false plan
-  of_state command h =
-      let keyed = split (λ (k : Keyed). reading_of (state_plan command k)) files plan (keyed_reading command.described board_geometry) h in
-      from_keyed false (Over (keyed_reading command.described board_geometry)) keyed.value keyed.first
-      (state_known command keyed.value plan (sym (over_of files (state_plan command keyed.value)) ∙ keyed.second))
+same_plan : (p q : SessionPlan) →
+    ◌≡◌ {A = Result Task Refusal} (Ok (OnCopies p)) (Ok (OnCopies q)) → p ≡ q
+same_plan p q h = cc
 
-  of_mark : (command : MarkGoodCommand) → Over (mark_reading command board_geometry) ≡ Ok plan →
-      IsPlan (Over (keyed_reading command.described board_geometry)) false plan
-  of_mark command h =
-      let keyed = split (mark_after command) files plan (keyed_reading command.described board_geometry) h in
-      let targets = split (λ (t : Binding). Yields (record { keyed = keyed.value; work = works.Good t })) files plan (binding_reading command.settings keyed.value.layout) keyed.second in
-      from_keyed false (Over (keyed_reading command.described board_geometry)) keyed.value keyed.first
-      (subst (λ (p : SessionPlan). IsPlan (Ok keyed.value) false p)
-      (same_Ok (record { keyed = keyed.value; work = works.Good targets.value }) plan targets.second)
-      (record { keyed = refl; none = λ e. refl }))
-
-  of_boot : (command : BootCommand) → Over (boot_reading command board_geometry) ≡ Ok plan →
-      IsPlan (Over (keyed_reading command.described board_geometry)) true plan
-  of_boot command h =
-      let keyed = split (boot_after command) files plan (keyed_reading command.described board_geometry) h in
-      let targets = split (boot_planned command keyed.value) files plan (binding_reading command.settings keyed.value.layout) keyed.second in
-      let plans = split (λ (ps : List (Option StartPlan)). Yields (record { keyed = keyed.value; work = works.Boot targets.value (cause_of command.cause) ps }))
-      files plan (plans_reading targets.value) targets.second in
-      from_keyed true (Over (keyed_reading command.described board_geometry)) keyed.value keyed.first
-      (subst (λ (p : SessionPlan). IsPlan (Ok keyed.value) true p)
-      (same_Ok (record { keyed = keyed.value; work = works.Boot targets.value (cause_of command.cause) plans.value }) plan plans.second)
-      (record { keyed = refl; none = λ e. absurd cc }))
-
-  -- of a task on copies
-  of_copies : (reading : Reading SessionPlan) → Over (and_then (λ p. Yields (OnCopies p)) reading) ≡ Ok (OnCopies plan) →
-      Over reading ≡ Ok plan
-  of_copies reading h =
-      let task = split (λ (p : SessionPlan). Yields (OnCopies p)) files (OnCopies plan) reading h in
-      task.first ∙ ap (λ (p : SessionPlan). Ok p) (same_task task.value task.second)
-    where
-      same_task : (p : SessionPlan) → ◌≡◌ {A = Result Task Refusal} (Ok (OnCopies p)) (Ok (OnCopies plan)) → p ≡ plan
-      same_task p h = cc
+of_described : (files : FileMap) (plan : SessionPlan) (described : Described) (request : Request) →
+    result_over files (described_reading described board_geometry request) ≡ Ok (OnCopies plan) →
+    IsPlan (result_over files (keyed_reading described board_geometry)) (starts_by request) plan
+of_described files plan described request h =
+    let from = keyed_reading described board_geometry in
+    let keyed = split (on_keyed request) files (OnCopies plan) from h in
+    let layout = keyed.value.layout in
+    let reading = work_reading request layout in
+    let work = split (on_copies keyed.value) files (OnCopies plan) reading keyed.second in
+    let none = none_started files request layout work.value work.first in
+    subst (IsPlan (result_over files from) (starts_by request))
+    (same_plan (record { keyed = keyed.value; work = work.value }) plan work.second)
+    (record { keyed = keyed.first; none = none })
 
 -- ---- the words
 
@@ -161,17 +141,13 @@ by_command : (command : DrillCommand) (plan : SessionPlan) →
     result_over board_files (command_reading (drill_command command) board_geometry) ≡ Ok (OnCopies plan) →
     IsPlan BoardKeyed (may_start command) plan
 by_command (Priority value) plan h =
-    let command : StateCommand = record { described = board_described; actions = Set (codes "bootstate.system1.priority") (decimal value) ∷ [] } in
-    of_state board_files plan command (of_copies board_files plan (state_reading command board_geometry) h)
+    of_described board_files plan board_described
+    (requests.Act (Set (codes "bootstate.system1.priority") (decimal value) ∷ [])) h
 by_command Boot plan h =
-    let command : BootCommand = record { described = board_described; settings = settings_name; cause = Other } in
-    of_boot board_files plan command (of_copies board_files plan (boot_reading command board_geometry) h)
+    of_described board_files plan board_described (requests.Boot settings_name Other) h
 by_command MarkGood plan h =
-    let command : MarkGoodCommand = record { described = board_described; settings = settings_name } in
-    of_mark board_files plan command (of_copies board_files plan (mark_reading command board_geometry) h)
-by_command Show plan h =
-    let command : StateCommand = record { described = board_described; actions = [] } in
-    of_state board_files plan command (of_copies board_files plan (state_reading command board_geometry) h)
+    of_described board_files plan board_described (requests.Good settings_name) h
+by_command Show plan h = of_described board_files plan board_described (requests.Act []) h
 
 -- the plan of a session of the drill: its layout is the board's, and a boot alone may start
 pub record IsOnBoard (command : DrillCommand) (plan : SessionPlan) : Type 0 where

@@ -19,8 +19,7 @@ use Rattle.bb_plan.specs.declared.status.Status.{Status}
 use Rattle.bb_plan.specs.declared.status.Status.TheVariants as statuses
 use Rattle.bb_session.proofs.Barred.{HasNoFault, fault_device, is_device_fault}
 use Rattle.bb_session.proofs.Exact.{plan_done, plan_makes}
-use Rattle.bb_session.proofs.Sounded.{work_same}
-use Rattle.bb_session.proofs.Unrefused.{unrefused, work_gives}
+use Rattle.bb_session.proofs.Unrefused.{unrefused, work_gives, work_same}
 use Rattle.bb_session.specs.Acting.{kept_before, taken_by}
 use Rattle.bb_session.specs.Booting.{start_of}
 use Rattle.bb_session.specs.Exactly.{CopyWrite, EachContent, EachTold, LeavesRegions, PassAlike, erases_in, last_area, last_area_of, loaded_region, saved_region, saves_made, sum_of_writes, worked_region, writes_of_load, writes_of_saves, writes_of_work}

@@ -15,7 +15,7 @@ use Rattle.bb_plan.specs.declared.refusal.Refusal.{Refusal}
 use Rattle.bb_plan.specs.declared.refusal.Refusal.TheVariants as refusals
 use Rattle.bb_plan.specs.declared.status.Status.{Status}
 use Rattle.bb_plan.specs.declared.status.Status.TheVariants as statuses
-use Rattle.bb_plan.proofs.Readings.{HasErr, IsReadOver, by_over, each_more, ends_err, fault_met, one_end, same_over}
+use Rattle.bb_plan.proofs.Readings.{HasErr, IsReadOver, by_over, ends_err, fault_met, one_end, same_over}
 use Rattle.bb_plan.proofs.Sizes.{is_of_file, IsOfText, IsSizedTask, command_ends, is_of_text}
 
 -- ---- refusals
@@ -36,10 +36,10 @@ command_refusal : (answer : Status) → is_of_text answer ≡ false → ((name :
     (command : Command) (geometry : Geometry) (files : FileAnswers) →
     IsRefusedWith answer (planned (result_by (command_reading command geometry) files)) → ⊥
 command_refusal answer other fails command geometry files =
-    let Q : Refusal → Type 0 = λ refusal. status_of refusal ≢ answer in
     unlike answer (result_by (command_reading command geometry) files)
-    (ends_err IsSizedTask Q fails (fails [] file_fails.NoMemory) (command_reading command geometry)
-    (each_more IsSizedTask IsOfText Q (text_other answer other) (command_reading command geometry) (command_ends command geometry)) files)
+    (ends_err IsSizedTask IsOfText (λ refusal. status_of refusal ≢ answer) (text_other answer other)
+    fails (fails [] file_fails.NoMemory) (command_reading command geometry)
+    (command_ends command geometry) files)
 
 not_planning : (a b : Status) → is_planning a ≡ true → is_planning b ≡ false → a ≢ b
 not_planning a b first second e = let h : true ≡ false = sym first ∙ ap is_planning e ∙ second in cc
@@ -111,9 +111,10 @@ fault_of : (command : Result Command ℕ) (geometry : Geometry) (before after : 
     HasErr AtFault (result_by (words_reading command geometry) answers) → after ≡ after_file_fault before
 fault_of (Err place) geometry before after answers are refused = absurd cc
 fault_of (Ok command) geometry before after answers are refused =
-    fault_met IsSizedTask AtFault (λ name h. cc) (λ h. cc) (command_reading command geometry)
-    (each_more IsSizedTask IsOfText (λ refusal. AtFault refusal → ⊥) (text_other statuses.FileFault refl)
-    (command_reading command geometry) (command_ends command geometry)) before after answers are refused
+    fault_met IsSizedTask IsOfText AtFault (text_other statuses.FileFault refl) (λ name h. cc)
+    (λ h. cc)
+    before after (command_reading command geometry) (command_ends command geometry) answers are
+    refused
 
 -- one was counted
 pub faulty_plan : (words : List (List ℕ)) (geometry : Geometry) (before after : Folder) (answers : FileAnswers) →

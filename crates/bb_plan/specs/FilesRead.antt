@@ -7,6 +7,8 @@ use Rattle.bb_base.specs.Folder.{FileMap, Folder, file_of}
 use Rattle.bb_base.specs.declared.files.FileFail.{FileFail}
 use Rattle.bb_base.specs.declared.files.FileFail.TheVariants as file_fails
 use Rattle.bb_menu.specs.Menu.{menu_answer}
+use Rattle.bb_menu.specs.declared.fault.MenuFault.{MenuFault}
+use Rattle.bb_menu.specs.declared.fault.MenuFault.TheVariants as menu_faults
 use Rattle.bb_shell.specs.Plans.{entry_answer}
 use Rattle.bb_plan.specs.declared.refusal.Refusal.{Refusal}
 use Rattle.bb_plan.specs.declared.refusal.Refusal.TheVariants as refusals
@@ -79,6 +81,13 @@ abbrev pub file_refusal : List ℕ → FileFail → Refusal
 file_refusal name file_fails.Fault = refusals.FileFault name
 file_refusal name file_fails.TooLong = refusals.FileTooLong name
 file_refusal name file_fails.NoMemory = refusals.NoMemory
+
+-- of a folder that isn't there, or whose menu can't be read
+abbrev pub menu_refusal : List ℕ → MenuFault → Refusal
+menu_refusal dir menu_faults.NoFolder = refusals.FileMissing dir
+menu_refusal dir menu_faults.FileFault = refusals.FileFault dir
+menu_refusal dir menu_faults.FileTooLong = refusals.FileTooLong dir
+menu_refusal dir menu_faults.NoMemory = refusals.NoMemory
 
 -- by what reading each file gave, in their order. Without an answer for the next one it is as if
 -- memory was refused.

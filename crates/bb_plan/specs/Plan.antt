@@ -2,6 +2,7 @@
 -- by its words and the device's geometry.
 use Rattle.std.specs.Prelude.{◌≡◌, ℕ, Bool, length, List, ⊤, None, Result, Ok, Err}
 use Rattle.bb_actions.specs.Actions.{AreBoundTo}
+use Rattle.bb_actions.specs.declared.bound_action.BoundAction.{BoundAction}
 use Rattle.bb_base.specs.Folder.{FileMap}
 use Rattle.bb_chooser.specs.Binding.{Binding, IsBoundTo}
 use Rattle.bb_flash.specs.declared.geometry.Geometry.{Geometry}
@@ -10,18 +11,16 @@ use Rattle.bb_layout.specs.Layout.{Laid, fields_of}
 use Rattle.bb_layout.specs.Results.{result_and_then}
 use Rattle.bb_layout.specs.Thirds.{raw_layout}
 use Rattle.bb_layout.specs.declared.format_kind.FormatKind.TheVariants as formats
-use Rattle.bb_layout.specs.declared.layout_error.LayoutError.{LayoutError}
 use Rattle.bb_state.specs.Keyed.{FitsKey, Keyed}
 use Rattle.bb_words.specs.Words.{words_of}
-use Rattle.bb_words.specs.declared.command.BootCommand.{BootCommand}
+use Rattle.bb_words.specs.declared.command.CauseWord.{CauseWord}
 use Rattle.bb_words.specs.declared.command.Command.{Command}
 use Rattle.bb_words.specs.declared.command.Command.TheVariants as commands
+use Rattle.bb_words.specs.declared.command.Described.{Described}
 use Rattle.bb_words.specs.declared.command.DrillNumbers.{DrillNumbers}
-use Rattle.bb_words.specs.declared.command.MarkGoodCommand.{MarkGoodCommand}
 use Rattle.bb_words.specs.declared.command.RawAction.{RawAction}
 use Rattle.bb_words.specs.declared.command.RawAction.TheVariants as raw_actions
 use Rattle.bb_words.specs.declared.command.RawCommand.{RawCommand}
-use Rattle.bb_words.specs.declared.command.StateCommand.{StateCommand}
 use Rattle.bb_plan.specs.PlanSteps.{actions_by, binding_reading, cause_of, keyed_reading, plans_reading, refused_as}
 use Rattle.bb_plan.specs.FilesRead.{Fails, FileAnswer, Reading, Yields, and_then, answers_over, menu_reading, result_by, result_over, reading_of, reads_file}
 use Rattle.bb_plan.specs.declared.described.KeyedLayout.{KeyedLayout}
@@ -30,6 +29,8 @@ use Rattle.bb_plan.specs.declared.plan.PlannedTask.TheVariants as tasks
 use Rattle.bb_plan.specs.declared.plan.PlannedWork.{PlannedWork}
 use Rattle.bb_plan.specs.declared.refusal.Refusal.{Refusal}
 use Rattle.bb_plan.specs.declared.refusal.Refusal.TheVariants as refusals
+use Rattle.bb_plan.specs.declared.request.Request.{Request}
+use Rattle.bb_plan.specs.declared.request.Request.TheVariants as requests
 use Rattle.bb_plan.specs.declared.status.Status.{Status}
 use Rattle.bb_plan.specs.Refusal.{status_of}
 pub use Rattle.bb_plan.specs.declared.plan.Work.{Work}
@@ -53,75 +54,67 @@ pub data EarlyEnd : Type 0 where
   Drilled : DrillNumbers → EarlyEnd
   Refused : Refusal → EarlyEnd
 
--- ---- each command
+-- ---- `raw`: no file is read
 
--- `raw`: no file is read
 abbrev pub raw_work : RawAction → Work
 raw_work raw_actions.Look = Show
 raw_work (raw_actions.Write area) = Write area
 
-abbrev pub raw_laid : RawCommand → Result Laid LayoutError → Result SessionPlan Refusal
-raw_laid command laid =
-    result_and_then
-    (λ layout.
-    Ok (record { keyed = record { layout = layout; key = None }; work = raw_work command.action }))
-    (refused_as refusals.BadLayout laid)
+-- on this layout
+abbrev pub raw_on : RawCommand → Laid → Result Task Refusal
+raw_on command layout =
+    Ok (OnCopies (record {
+      keyed = record { layout = layout; key = None };
+      work = raw_work command.action;
+    }))
 
-abbrev pub raw_plan : RawCommand → Geometry → Result SessionPlan Refusal
-raw_plan command geometry = raw_laid command (raw_layout command.magic command.area_len geometry)
+abbrev pub raw_task : RawCommand → Geometry → Result Task Refusal
+raw_task command geometry =
+    result_and_then (raw_on command)
+    (refused_as refusals.BadLayout (raw_layout command.magic command.area_len geometry))
 
--- `state`: its layout and key, and then its actions
-abbrev pub state_plan : StateCommand → Keyed → Result SessionPlan Refusal
-state_plan command keyed =
-    result_and_then (λ actions. Ok (record { keyed = keyed; work = Act actions }))
-    (actions_by keyed.layout.vars command.actions)
+-- ---- what is asked of a state that a file describes
 
-abbrev pub state_reading : StateCommand → Geometry → Reading SessionPlan
-state_reading command geometry =
-    and_then (λ keyed. reading_of (state_plan command keyed))
-    (keyed_reading command.described geometry)
+-- actions, once they are bound
+abbrev pub acting : Result (List BoundAction) Refusal → Result Work Refusal
+acting actions = result_and_then (λ actions. Ok (Act actions)) actions
 
--- `mark-good`: its layout and key, and then its settings
-abbrev pub mark_after : MarkGoodCommand → Keyed → Reading SessionPlan
-mark_after command keyed =
-    and_then (λ targets. Yields (record { keyed = keyed; work = Good targets }))
-    (binding_reading command.settings keyed.layout)
+-- a boot of targets: the entries of these are read
+abbrev pub booting : CauseWord → Binding → Reading Work
+booting cause targets =
+    and_then (λ plans. Yields (Boot targets (cause_of cause) plans)) (plans_reading targets)
 
-abbrev pub mark_reading : MarkGoodCommand → Geometry → Reading SessionPlan
-mark_reading command geometry =
-    and_then (mark_after command) (keyed_reading command.described geometry)
+-- the work that is asked for, by the layout
+abbrev pub work_reading : Request → Laid → Reading Work
+work_reading (requests.Act actions) layout = reading_of (acting (actions_by layout.vars actions))
+work_reading (requests.Good settings) layout =
+    and_then (λ targets. Yields (Good targets)) (binding_reading settings layout)
+work_reading (requests.Boot settings cause) layout =
+    and_then (booting cause) (binding_reading settings layout)
 
--- `boot`: its layout and key, its settings, and then the entries of its targets
-abbrev pub boot_planned : BootCommand → Keyed → Binding → Reading SessionPlan
-boot_planned command keyed targets =
-    and_then
-    (λ plans.
-    Yields (record { keyed = keyed; work = Boot targets (cause_of command.cause) plans }))
-    (plans_reading targets)
+-- the layout and its key, and then the work on its copies
+abbrev pub on_copies : Keyed → Work → Reading Task
+on_copies keyed work = Yields (OnCopies (record { keyed = keyed; work = work }))
 
-abbrev pub boot_after : BootCommand → Keyed → Reading SessionPlan
-boot_after command keyed =
-    and_then (boot_planned command keyed) (binding_reading command.settings keyed.layout)
+abbrev pub on_keyed : Request → Keyed → Reading Task
+on_keyed request keyed = and_then (on_copies keyed) (work_reading request keyed.layout)
 
-abbrev pub boot_reading : BootCommand → Geometry → Reading SessionPlan
-boot_reading command geometry =
-    and_then (boot_after command) (keyed_reading command.described geometry)
+abbrev pub described_reading : Described → Geometry → Request → Reading Task
+described_reading described geometry request =
+    and_then (on_keyed request) (keyed_reading described geometry)
 
 -- ---- all commands
 
-abbrev pub on_copies : Reading SessionPlan → Reading Task
-on_copies reading = and_then (λ plan. Yields (OnCopies plan)) reading
-
--- a text, which takes no layout
-abbrev pub prints : Reading (List ℕ) → Reading Task
-prints reading = and_then (λ text. Yields (Prints text)) reading
-
 abbrev pub command_reading : Command → Geometry → Reading Task
-command_reading (commands.Raw command) geometry = on_copies (reading_of (raw_plan command geometry))
-command_reading (commands.State command) geometry = on_copies (state_reading command geometry)
-command_reading (commands.MarkGood command) geometry = on_copies (mark_reading command geometry)
-command_reading (commands.Boot command) geometry = on_copies (boot_reading command geometry)
-command_reading (commands.Menu command) geometry = prints (menu_reading command.dir)
+command_reading (commands.Raw command) geometry = reading_of (raw_task command geometry)
+command_reading (commands.State command) geometry =
+    described_reading command.described geometry (requests.Act command.actions)
+command_reading (commands.MarkGood command) geometry =
+    described_reading command.described geometry (requests.Good command.settings)
+command_reading (commands.Boot command) geometry =
+    described_reading command.described geometry (requests.Boot command.settings command.cause)
+command_reading (commands.Menu command) geometry =
+    and_then (λ text. Yields (Prints text)) (menu_reading command.dir)
 command_reading (commands.Drill numbers) geometry = Yields (Drills numbers)
 
 abbrev pub words_reading : Result Command ℕ → Geometry → Reading Task

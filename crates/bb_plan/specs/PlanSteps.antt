@@ -5,7 +5,7 @@ use Rattle.std.specs.List.{starts_with}
 use Rattle.bb_actions.specs.Actions.{read_actions}
 use Rattle.bb_actions.specs.declared.bound_action.BoundAction.{BoundAction}
 use Rattle.bb_chooser.specs.Binding.{Binding, bind_from}
-use Rattle.bb_chooser.specs.Settings.{settings_of}
+use Rattle.bb_chooser.specs.Settings.{Configuration, settings_of}
 use Rattle.bb_chooser.specs.declared.cause.Cause.{Cause}
 use Rattle.bb_chooser.specs.declared.cause.Cause.TheVariants.{PowerOn, Reset, Other}
 use Rattle.bb_chooser.specs.declared.settings_error.SettingsError.{SettingsError}
@@ -54,11 +54,12 @@ source_root source =
 abbrev pub tree_in : List ℕ → Result (Branch (List ℕ)) Refusal
 tree_in bytes = if is_blob bytes then blob_root bytes else source_root bytes
 
--- the layout of the state of this name, if one is asked for, by that tree
+-- the layout of the state of this name, if one is asked for, by a tree, and by that of bytes
+abbrev pub laid_by : Option (List ℕ) → Geometry → Branch (List ℕ) → Result Laid Refusal
+laid_by name geometry root = refused_as refusals.BadLayout (layout_from root name geometry)
+
 abbrev pub layout_by : Option (List ℕ) → Geometry → List ℕ → Result Laid Refusal
-layout_by name geometry bytes =
-    result_and_then (λ root. refused_as refusals.BadLayout (layout_from root name geometry))
-    (tree_in bytes)
+layout_by name geometry bytes = result_and_then (laid_by name geometry) (tree_in bytes)
 
 -- `-i`, and `-n`: by the tree in the file
 abbrev pub layout_reading : List ℕ → Option (List ℕ) → Geometry → Reading Laid
@@ -86,10 +87,11 @@ abbrev pub key_reading : Option (List ℕ) → FormatKind → Reading (Option (L
 key_reading file format = if takes_key format then named_block file else Yields None
 
 -- a layout, and then the key of its records
+abbrev pub with_key : Laid → Option (List ℕ) → Reading Keyed
+with_key layout block = Yields (record { layout = layout; key = block })
+
 abbrev pub key_after : Option (List ℕ) → Laid → Reading Keyed
-key_after key layout =
-    and_then (λ block. Yields (record { layout = layout; key = block }))
-    (key_reading key layout.format)
+key_after key layout = and_then (with_key layout) (key_reading key layout.format)
 
 abbrev pub keyed_reading : Described → Geometry → Reading Keyed
 keyed_reading described geometry =
@@ -97,11 +99,12 @@ keyed_reading described geometry =
 
 -- ---- the settings
 
--- settings, bound to the variables of a layout
+-- settings, and those that a text gives, bound to the variables of a layout
+abbrev pub bound_on : Laid → Configuration → Result Binding SettingsError
+bound_on layout settings = bind_from settings layout.name layout.vars layout.area_len
+
 abbrev pub binding_by : Laid → List ℕ → Result Binding SettingsError
-binding_by layout text =
-    result_and_then (λ settings. bind_from settings layout.name layout.vars layout.area_len)
-    (settings_of text)
+binding_by layout text = result_and_then (bound_on layout) (settings_of text)
 
 abbrev pub targets_by : Laid → List ℕ → Result Binding Refusal
 targets_by layout text = refused_as refusals.BadSettings (binding_by layout text)

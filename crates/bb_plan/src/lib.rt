@@ -11,6 +11,7 @@ mod menu;
 mod plan;
 mod planning;
 mod refusal;
+mod request;
 mod status;
 mod targets;
 

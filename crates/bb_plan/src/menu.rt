@@ -1,9 +1,9 @@
-ghost use Rattle.std.specs.Prelude.{IfErr};
-ghost use Rattle.bb_plan.specs.FilesRead.{IsReadAs, menu_reading};
+ghost use Rattle.std.specs.Prelude.{◌≡◌, IfErr, IfOk};
+ghost use Rattle.bb_plan.specs.FilesRead.{IsReadAs, menu_reading, menu_refusal};
 ghost use Rattle.bb_plan.specs.Refusal.{IsSendableRefusal};
 
 use crate::refusal::Refusal;
-use bb_base::{Bytes, Files, Text};
+use bb_base::{Bytes, Files, NoMemory, Text};
 use bb_menu::{MenuFault, read_menu_text};
 use std::alloc::Global;
 
@@ -20,9 +20,19 @@ pub(crate) fn read_menu<N: Files>(
 {
     match read_menu_text(alloc, dir.as_str(), files) {
         Ok(text) => Ok(text),
-        Err(MenuFault::NoFolder) => Err(Refusal::FileMissing(dir.copy()?)),
-        Err(MenuFault::FileFault) => Err(Refusal::FileFault(dir.copy()?)),
-        Err(MenuFault::FileTooLong) => Err(Refusal::FileTooLong(dir.copy()?)),
-        Err(MenuFault::NoMemory) => Err(Refusal::NoMemory),
+        Err(fault) => Err(menu_refusal(dir, fault)?),
+    }
+}
+
+// The refusal that names the folder.
+fn menu_refusal(dir: &Text, fault: MenuFault) -> Result<Refusal, NoMemory>
+    ensures is { IfOk result (λ refusal. refusal ≡ menu_refusal dir.now fault) }
+    ensures tellable { IfOk result IsSendableRefusal }
+{
+    match fault {
+        MenuFault::NoFolder => Ok(Refusal::FileMissing(dir.copy()?)),
+        MenuFault::FileFault => Ok(Refusal::FileFault(dir.copy()?)),
+        MenuFault::FileTooLong => Ok(Refusal::FileTooLong(dir.copy()?)),
+        MenuFault::NoMemory => Ok(Refusal::NoMemory),
     }
 }

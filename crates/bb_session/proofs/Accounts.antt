@@ -4,8 +4,11 @@ use Rattle.std.proofs.Common.{◌≡◌, ℕ, ◌+◌, ◌++◌, Bool, List, [],
 use Rattle.std.specs.Option.{option_map}
 use Rattle.std.specs.Prelude.{slice_get}
 use Rattle.bb_base.specs.Form.{Form}
-use Rattle.bb_bucket.specs.Calls.{but_reads, told_but_reads}
+use Rattle.bb_bucket.specs.Calls.{IsQuiet}
 use Rattle.bb_bucket.specs.Kind.{BucketKind, part_of}
+use Rattle.bb_bucket.proofs.Quiet.{keeps_of_quiet}
+use Rattle.bb_bucket.proofs.Runs.{quiet_erases}
+use Rattle.bb_copies.proofs.Erased.{read_changes}
 use Rattle.bb_copies.specs.Buckets.{EachCopy}
 use Rattle.bb_copies.specs.Erasing.{ErasesBy, unmarked_kinds, erases_block, erases_first}
 use Rattle.bb_copies.specs.Refreshing.{is_marked}
@@ -20,20 +23,11 @@ use Rattle.std.proofs.lemmas.List.Sums.{sum_by-append, sum_by-cons}
 
 sum_same : {X : Type 0} → (f g : X → ℕ) (xs : List X) → ((x : X) → f x ≡ g x) → sum_by f xs ≡ sum_by g xs
 sum_same f g [] same = refl
-sum_same f g (x ∷ xs) same =
-    let one = sum_by-cons f x xs in
-    let two = sum_by-cons g x xs in
-    let here = same x in
-    let rest = sum_same f g xs same in
-    omega (arith, one, two, here, rest)
+sum_same f g (x ∷ xs) same = omega (arith, sum_by-cons f x xs, sum_by-cons g x xs, same x, sum_same f g xs same)
 
-pub sum_none : {X : Type 0} → (f : X → ℕ) (xs : List X) → ((x : X) → f x ≡ 0) → sum_by f xs ≡ 0
-sum_none f [] none = refl
-sum_none f (x ∷ xs) none =
-    let one = sum_by-cons f x xs in
-    let here = none x in
-    let rest = sum_none f xs none in
-    omega (arith, one, here, rest)
+sum_none : {X : Type 0} → (xs : List X) → sum_by (λ (x : X). 0) xs ≡ 0
+sum_none {X} [] = refl
+sum_none {X} (x ∷ xs) = omega (arith, sum_by-cons (λ (y : X). 0) x xs, sum_none xs)
 
 abbrev pub Writes : Type 0
 Writes = BucketKind → Image → List CopyWrite
@@ -49,26 +43,17 @@ sum_joined count one two f page x y (kind ∷ kinds) left =
     sum_by (count k) (one k (part_of page k.region x) ++ two k (f k (part_of page k.region x))) in
     let early : BucketKind → ℕ = λ k. sum_by (count k) (one k (part_of page k.region x)) in
     let late : BucketKind → ℕ = λ k. sum_by (count k) (two k (part_of page k.region y)) in
-    let here : part_of page kind.region y ≡ f kind (part_of page kind.region x) = left 0 kind refl in
     let split : both kind ≡ early kind + late kind =
     sum_by-append (count kind) (one kind (part_of page kind.region x)) (two kind (f kind (part_of page kind.region x)))
-    ∙ ap (λ r. early kind + sum_by (count kind) (two kind r)) (sym here) in
+    ∙ ap (λ r. early kind + sum_by (count kind) (two kind r)) (sym (left 0 kind refl)) in
     let rest = sum_joined count one two f page x y kinds (λ copy other there. left (suc copy) other there) in
-    let all = sum_by-cons both kind kinds in
-    let first = sum_by-cons early kind kinds in
-    let last = sum_by-cons late kind kinds in
-    omega (arith, split, rest, all, first, last)
+    omega (arith, split, rest, sum_by-cons both kind kinds, sum_by-cons early kind kinds, sum_by-cons late kind kinds)
 
 in_block : (erases here : Bool) →
     ◌≡◌ {A = ℕ} (if here then (if erases then 1 else 0) else 0) (cond (erases && here) 1 0)
-in_block true true = refl
-in_block true false = refl
+in_block true here = refl
 in_block false true = refl
 in_block false false = refl
-
-one_and : (erases : Bool) → 1 + (if erases then 1 else 0) ≡ 1 + cond erases 1 0
-one_and true = refl
-one_and false = refl
 
 -- ---- one write of each copy that isn't fresh
 
@@ -84,8 +69,7 @@ once_one : (count : CopyWrite → ℕ) (fresh mark : Bool) (write : CopyWrite) �
     sum_by count (if fresh then [] else write ∷ []) ≡ (if mark then 0 else count write)
 once_one count true true write are = refl
 once_one count false false write are = sum_by-cons count write [] ∙ add-zero (count write)
-once_one count true false write are = absurd cc
-once_one count false true write are = absurd cc
+once_one count _ _ write are = absurd cc
 
 -- the copies that are written are those that aren't marked
 module _ (count : BucketKind → CopyWrite → ℕ) (fresh : BucketKind → Image → Bool) (area : List ℕ) (page : ℕ) (image : Image) where
@@ -95,28 +79,30 @@ module _ (count : BucketKind → CopyWrite → ℕ) (fresh : BucketKind → Imag
   abbrev Counted : BucketKind → ℕ
   Counted kind = count kind (Met page image area kind)
 
-  pub once_sum : (marks : List Bool) (kinds : List BucketKind) →
-      EachCopy kinds (λ copy kind. is_marked marks copy ≡ fresh kind (part_of page kind.region image)) →
+  abbrev AreMarked : List Bool → List BucketKind → Type 0
+  AreMarked marks kinds = EachCopy kinds (λ copy kind. is_marked marks copy ≡ fresh kind (part_of page kind.region image))
+
+  first_one : (marks : List Bool) (kind : BucketKind) (kinds : List BucketKind) → AreMarked marks (kind ∷ kinds) →
+      Written kind ≡ (if is_marked marks 0 then 0 else Counted kind)
+  first_one marks kind kinds are =
+      once_one (count kind) (fresh kind (part_of page kind.region image)) (is_marked marks 0) (Met page image area kind)
+      (are 0 kind refl)
+
+  pub once_sum : (marks : List Bool) (kinds : List BucketKind) → AreMarked marks kinds →
       sum_of_writes count (OnceEach fresh area) kinds page image ≡ sum_by Counted (unmarked_kinds marks kinds)
   once_sum [] [] are = refl
   once_sum (mark ∷ marks) [] are = refl
   once_sum [] (kind ∷ kinds) are =
-      let here = once_one (count kind) (fresh kind (part_of page kind.region image)) false (Met page image area kind) (are 0 kind refl) in
       let rest = once_sum [] kinds (λ copy other there. are (suc copy) other there) in
-      let one = sum_by-cons Written kind kinds in
-      let two = sum_by-cons Counted kind kinds in
-      omega (arith, here, rest, one, two)
+      let here = first_one [] kind kinds are in
+      omega (arith, here, rest, sum_by-cons Written kind kinds, sum_by-cons Counted kind kinds)
   once_sum (true ∷ marks) (kind ∷ kinds) are =
-      let here = once_one (count kind) (fresh kind (part_of page kind.region image)) true (Met page image area kind) (are 0 kind refl) in
       let rest = once_sum marks kinds (λ copy other there. are (suc copy) other there) in
-      let one = sum_by-cons Written kind kinds in
-      omega (arith, here, rest, one)
+      omega (arith, first_one (true ∷ marks) kind kinds are, rest, sum_by-cons Written kind kinds)
   once_sum (false ∷ marks) (kind ∷ kinds) are =
-      let here = once_one (count kind) (fresh kind (part_of page kind.region image)) false (Met page image area kind) (are 0 kind refl) in
       let rest = once_sum marks kinds (λ copy other there. are (suc copy) other there) in
-      let one = sum_by-cons Written kind kinds in
       let two = sum_by-cons Counted kind (unmarked_kinds marks kinds) in
-      omega (arith, here, rest, one, two)
+      omega (arith, first_one (false ∷ marks) kind kinds are, rest, sum_by-cons Written kind kinds, two)
 
 pub erased_count : (form : Form) (geometry : Geometry) (block : ℕ) (area : List ℕ) (image : Image) (kinds : List BucketKind) →
     sum_by (λ kind. erases_in form geometry block kind (Met geometry.page image area kind)) kinds
@@ -135,13 +121,10 @@ calls_count form page area image [] = refl
 calls_count form page area image (kind ∷ kinds) =
     let f : BucketKind → ℕ = λ k. calls_in form k (Met page image area k) in
     let g : BucketKind → ℕ = λ k. cond (erases_first page image (form.text area) k) 1 0 in
-    let here : f kind ≡ 1 + g kind =
-    one_and (kind.write_erases (form.text area) (part_of page kind.region image)) in
+    let here : f kind ≡ 1 + g kind = refl in
     let rest = calls_count form page area image kinds in
-    let one = sum_by-cons f kind kinds in
-    let two = sum_by-cons g kind kinds in
     let size : length (kind ∷ kinds) ≡ length kinds + 1 = omega arith in
-    omega (arith, here, rest, one, two, size)
+    omega (arith, here, rest, sum_by-cons f kind kinds, sum_by-cons g kind kinds, size)
 
 -- ---- what a device tells of writes
 
@@ -165,22 +148,16 @@ same_account from to = by to.told from.told
         option_map (λ (t : Told). t.changes) a ≡ option_map (λ (t : Told). t.changes) b →
         option_map (λ (t : Told). t.erases) a ≡ option_map (λ (t : Told). t.erases) b → option_map account_of a ≡ option_map account_of b
     by None None image changes erases = refl
-    by None (Some b) image changes erases = absurd cc
-    by (Some a) None image changes erases = absurd cc
     by (Some a) (Some b) image changes erases =
         let one : a.image ≡ b.image = cc in
         let two : a.changes ≡ b.changes = cc in
         let three : a.erases ≡ b.erases = cc in
         cc
+    by _ _ image changes erases = absurd cc
 
--- what is told but for the number of reads stays where that does
-pub quiet_same : {X : Type 0} → (f : Told → X) (from to : Device) → ((told : Told) → f (but_reads told) ≡ f told) →
-    told_but_reads to ≡ told_but_reads from → option_map f to.told ≡ option_map f from.told
-quiet_same {X} f from to unread same = sym (by to.told) ∙ ap (option_map f) same ∙ by from.told
-  where
-    by : (o : Option Told) → option_map f (option_map but_reads o) ≡ option_map f o
-    by None = refl
-    by (Some told) = ap (λ (x : X). Some x) (unread told)
+pub quiet_account : (from to : Device) → IsQuiet from to → account to ≡ account from
+quiet_account from to quiet =
+    same_account from to (keeps_of_quiet from to quiet).content (read_changes from to quiet.told) (quiet_erases from to quiet.told)
 
 pub told_same : {X : Type 0} → (f : Told → X) (from to : Device) (first last : Told) → option_map f to.told ≡ option_map f from.told →
     from.told ≡ Some first → to.told ≡ Some last → f last ≡ f first
@@ -200,8 +177,8 @@ module _ (form : Form) (kinds : List BucketKind) (geometry : Geometry) where
   pub makes_none : (x : Account) → Makes (λ kind region. []) x x
   makes_none x = record {
     erased = λ block n there.
-        there ∙ ap (λ k. Some k) (sym (add-zero n) ∙ ap (λ k. n + k) (sym (sum_none (λ (kind : BucketKind). 0) kinds (λ kind. refl))));
-    called = sym (add-zero x.moment) ∙ ap (λ k. x.moment + k) (sym (sum_none (λ (kind : BucketKind). 0) kinds (λ kind. refl)));
+        there ∙ ap (λ k. Some k) (sym (add-zero n) ∙ ap (λ k. n + k) (sym (sum_none kinds)));
+    called = sym (add-zero x.moment) ∙ ap (λ k. x.moment + k) (sym (sum_none kinds));
   }
 
   pub makes_joined : (one two : Writes) (f : BucketKind → Image → Image) (x y z : Account) → LeavesRegions kinds geometry.page f x.image y.image →
@@ -216,9 +193,7 @@ module _ (form : Form) (kinds : List BucketKind) (geometry : Geometry) where
         late.erased block (n + a) (early.erased block n there) ∙ ap (λ k. Some k) added;
     called =
         let sum = sum_joined (calls_in form) one two f geometry.page x.image y.image kinds left in
-        let before = early.called in
-        let after = late.called in
-        omega (arith, sum, before, after);
+        omega (arith, sum, early.called, late.called);
   }
 
 -- one write of each copy that isn't marked

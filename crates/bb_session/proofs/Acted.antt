@@ -1,6 +1,7 @@
 -- The rounds of a work after a load: its session, and what they make of a device.
-use Rattle.std.proofs.Common.{◌≡◌, ℕ, Bool, true, false, List, [], ◌∷◌, map, Option, Some, None, is_none, Ok, Err, refl, sym, ap, subst, ◌∙◌, if◌then◌else◌}
+use Rattle.std.proofs.Common.{◌≡◌, ℕ, Bool, true, false, List, [], ◌∷◌, map, Option, Some, None, is_none, Ok, Err, refl, sym, ap, subst, ◌∙◌, if◌then◌else◌, inl, inr}
 use Rattle.std.specs.Prelude.{MatchBool}
+use Rattle.std.proofs.lemmas.Bool.{MatchBool-at_false, MatchBool-at_true, cases_Bool}
 use Rattle.bb_chooser.specs.Binding.{Binding}
 use Rattle.bb_copies.specs.declared.answers.CopyFault.{CopyFault}
 use Rattle.bb_flash.specs.Device.{Device}
@@ -17,7 +18,7 @@ use Rattle.bb_plan.specs.declared.plan.Work.{Work}
 use Rattle.bb_plan.specs.declared.plan.Work.TheVariants.{Show}
 use Rattle.bb_plan.specs.declared.refusal.Refusal.{Refusal}
 use Rattle.bb_session.specs.Session.{LoadAnswer, acts_after, ended_by, loaded_area, refusal_at_end, rounds_after, text_after, work_session, work_text, worked_on}
-use Rattle.bb_session.specs.Work.{IsLookWork, IsRunAfter, IsTableWork, IsWork}
+use Rattle.bb_session.specs.Work.{IsLookWork, IsTableWork, IsWork}
 
 -- ---- a look, or rounds after a load
 
@@ -30,14 +31,13 @@ pub by_work : {P : Type 0} (plan : SessionPlan) (from to : Device) (load : LoadA
     IsWork plan from to load answers →
     (needs_table plan.work ≡ true → IsTableWork plan from to load answers → P) →
     (plan.work ≡ Show → IsLookWork plan from to load answers → P) → P
-by_work {P} plan from to load answers work table look = by (needs_table plan.work) refl
-  where
-    by : (needs : Bool) → needs_table plan.work ≡ needs → P
-    by true e =
-        table e (subst (λ n. MatchBool n (IsTableWork plan from to load answers) (IsLookWork plan from to load answers)) e work)
-    by false e =
-        look (looks_only plan.work e)
-        (subst (λ n. MatchBool n (IsTableWork plan from to load answers) (IsLookWork plan from to load answers)) e work)
+by_work plan from to load answers work table look = elim (cases_Bool (needs_table plan.work)) [
+  | inl needs ↦
+      table needs (MatchBool-at_true (IsTableWork plan from to load answers) (IsLookWork plan from to load answers) needs work)
+  | inr none ↦
+      look (looks_only plan.work none)
+      (MatchBool-at_false (IsTableWork plan from to load answers) (IsLookWork plan from to load answers) none work)
+]
 
 pub as_work : (plan : SessionPlan) (from to : Device) (load : LoadAnswer) (answers : List RoundAnswer) → needs_table plan.work ≡ true →
     IsTableWork plan from to load answers → IsWork plan from to load answers
@@ -81,26 +81,28 @@ pub session_after : (plan : SessionPlan) (found : Option (List ℕ)) (answers : 
     (work_session plan (Ok found) answers).rounds ≡ rounds_after plan found answers
 session_after plan found answers = worked_rounds plan found (start_plans_of plan.work) (acts_after plan found) answers
 
-module _ (plan : SessionPlan) (found : Option (List ℕ)) (used : Option ℕ) (from to : Device) (answers : List RoundAnswer)
-    (run : IsRunAfter plan.keyed plan.work (loaded_area plan.keyed.layout found) used from to answers) where
-  pub rounds_is : rounds_after plan found answers ≡ run.rounds
+module _ {plan : SessionPlan} {from to : Device} {found : Option (List ℕ)} {answers : List RoundAnswer}
+    (work : IsTableWork plan from to (Ok found) answers) where
+  pub rounds_is : rounds_after plan found answers ≡ work.ran.rounds
   rounds_is =
-      ap (rounds_for (start_plans_of plan.work) (acts_after plan found)) run.answers_are
-      ∙ rounds_back (start_plans_of plan.work) (acts_after plan found) run.rounds run.are
+      ap (rounds_after plan found) work.ran.answers_are
+      ∙ rounds_back (start_plans_of plan.work) (acts_after plan found) work.ran.rounds work.ran.are
 
   -- by the rounds that it ran
-  pub session_is : work_session plan (Ok found) answers ≡ worked_on plan found (acts_after plan found) run.rounds
+  pub session_is : work_session plan (Ok found) answers ≡ worked_on plan found (acts_after plan found) work.ran.rounds
   session_is = ap (λ (r : List Round). worked_on plan found (acts_after plan found) r) rounds_is
 
-  pub session_rounds : (work_session plan (Ok found) answers).rounds ≡ run.rounds
+  pub session_rounds : (work_session plan (Ok found) answers).rounds ≡ work.ran.rounds
   session_rounds = session_after plan found answers ∙ rounds_is
 
   -- what they make of a device
-  pub ran_of : from.geometry ≡ plan.keyed.layout.geometry →
-      RanRounds plan.keyed (start_plans_of plan.work) (kept_before plan.work (loaded_area plan.keyed.layout found)) used run.now run.rounds from to
-  ran_of geometry =
-      ran_rounds plan.keyed (start_plans_of plan.work) run.rounds (kept_before plan.work (loaded_area plan.keyed.layout found)) used run.now from to geometry
-      (acts_stop (start_plans_of plan.work) (acts_after plan found) run.rounds run.are) run.run
+  pub ran_of : RanRounds plan.keyed (start_plans_of plan.work) (kept_before plan.work (loaded_area plan.keyed.layout found))
+      work.used work.ran.now work.ran.rounds work.middle to
+  ran_of =
+      ran_rounds plan.keyed (start_plans_of plan.work) work.ran.rounds
+      (kept_before plan.work (loaded_area plan.keyed.layout found)) work.used work.ran.now work.middle to
+      (work.loaded.later.geometry ∙ work.geometry)
+      (acts_stop (start_plans_of plan.work) (acts_after plan found) work.ran.rounds work.ran.are) work.ran.run
 
 -- of a look
 pub look_rounds : (plan : SessionPlan) (load : LoadAnswer) (answers : List RoundAnswer) → plan.work ≡ Show → (work_session plan load answers).rounds ≡ []

@@ -1,6 +1,8 @@
 -- The work on a table that was loaded, as the work of a plan.
-use Rattle.std.proofs.Common.{◌≡◌, ℕ, ◌≤◌, Bool, true, false, List, [], ◌∷◌, length, map, Option, Some, None, IsSome, is_none, is_some, Result, Ok, Err, refl, sym, ap, subst, ◌∙◌, if◌then◌else◌, inl, inr, arith}
+use Rattle.std.proofs.Common.{◌≡◌, ℕ, ◌≤◌, Bool, true, List, [], ◌∷◌, length, map, Option, Some, None, is_none, is_some, Result, Ok, Err, refl, sym, ap, subst, ◌∙◌, if◌then◌else◌, inl, inr, arith}
 use Rattle.std.specs.Option.{option_and_then, option_map_or}
+use Rattle.std.proofs.lemmas.Option.{same_Some}
+use Rattle.bb_actions.specs.Actions.{actions_text, after_all}
 use Rattle.bb_copies.specs.Store.{used_after}
 use Rattle.bb_copies.specs.declared.answers.CopyFault.{CopyFault}
 use Rattle.bb_copies.specs.declared.answers.Loaded.{Loaded}
@@ -13,12 +15,12 @@ use Rattle.bb_chooser.specs.Counting.{mark_good_of}
 use Rattle.bb_chooser.specs.declared.cause.Cause.{Cause}
 use Rattle.bb_state.specs.Backed.{Backed}
 use Rattle.bb_state.specs.Keyed.{Keyed}
-use Rattle.bb_state.specs.State.{keyed_of, last_table_of, used_of}
+use Rattle.bb_state.specs.State.{keyed_of, laid_of, last_table_of, used_of}
 use Rattle.bb_state.specs.declared.state.State.{State}
 use Rattle.bb_shell.specs.Boot.{AreRounds, Round, boot_end, end_by, first_table, last_round}
 use Rattle.bb_shell.specs.Ends.{IsBooted}
 use Rattle.bb_shell.specs.Sequence.{refused_in, save_round}
-use Rattle.bb_shell.specs.Rounds.{RoundAnswer, answer_of, best_of}
+use Rattle.bb_shell.specs.Rounds.{RoundAnswer, answer_of}
 use Rattle.bb_shell.specs.Running.{AreRun, IsSaveRun, refusal_of}
 use Rattle.bb_shell.specs.declared.boot_end.BootEnd.{BootEnd}
 use Rattle.bb_shell.specs.declared.boot_end.BootEnd.TheVariants as ends
@@ -29,22 +31,21 @@ use Rattle.bb_shell.proofs.Few.{few_rounds, reset_length}
 use Rattle.bb_shell.proofs.LastRounds.{last_there}
 use Rattle.bb_shell.proofs.Sequence.{none_run, save_run}
 use Rattle.bb_shell.proofs.Reached.{rounds_later}
-use Rattle.bb_session.specs.Acting.{AreRoundsOf, BootsFrom, LostPlace, NoneBest, SavesOnce, Stops, TableBar, acts_of, bar_refusal, kept_before, marks_of, most_rounds, needs_table, start_plans_of}
+use Rattle.bb_session.specs.Acting.{Acts, AreRoundsOf, BootsFrom, NoneBest, SavesOnce, Stops, acts_of, bar_refusal, kept_before, marks_of, most_rounds, needs_table, refusal_by_table, saves_always, start_plans_of}
 use Rattle.bb_session.specs.Booting.{end_refusal, end_text}
-use Rattle.bb_session.specs.Doing.{EndsWith, IsDone, IsSavedOver, SaveGives}
-use Rattle.bb_session.specs.Marking.{lost_place}
+use Rattle.bb_session.specs.Doing.{EndsWith, IsDone, IsSavedOver, IsTold, SaveGives, said_of, stores}
+use Rattle.bb_session.specs.Marking.{good_text, lost_place}
 use Rattle.bb_plan.specs.Plan.{SessionPlan}
 use Rattle.bb_plan.specs.declared.plan.Work.{Work}
-use Rattle.bb_plan.specs.declared.plan.Work.TheVariants.{Boot, Good, Write}
+use Rattle.bb_plan.specs.declared.plan.Work.TheVariants.{Act, Boot, Good, Write}
 use Rattle.bb_plan.specs.Refusal.{copy_refusal}
 use Rattle.bb_plan.specs.declared.refusal.Refusal.{Refusal}
-use Rattle.bb_plan.specs.declared.refusal.Refusal.TheVariants as refusals
-use Rattle.bb_session.specs.Session.{Session, ended_by, loaded_area, refused_for, text_after, worked_on}
-use Rattle.bb_session.specs.Work.{IsLoaded, IsLoadedArea, IsReportOf, IsRunAfter, IsWorkedOut, SendsByMemory, area_taken}
+use Rattle.bb_session.specs.Session.{Session, ended_by, loaded_area, text_after, worked_on}
+use Rattle.bb_session.specs.Work.{IsLoaded, IsLoadedArea, IsReportOf, IsRunAfter, IsWorkedOut, area_taken}
 use Rattle.bb_session.specs.declared.report.Report.{Report}
-use Rattle.bb_session.proofs.Acted.{as_work, session_is, table_session}
+use Rattle.bb_session.proofs.Acted.{as_work, rounds_back, table_session}
 use Rattle.bb_session.proofs.Kept.{load_area}
-use Rattle.bb_session.proofs.Worked.{refused_ends, told_whole, worked_out}
+use Rattle.bb_session.proofs.Worked.{refused_ends, text_ends, worked_out}
 
 -- ---- work after a load
 
@@ -75,239 +76,175 @@ done_unloaded keyed work from to fault given geometry needs many load is =
     worked_out keyed work from to (Err fault) [] given
     (as_work (record { keyed = keyed; work = work }) from to (Err fault) [] needs
     (record { middle = to; used = None; geometry = geometry; many = many; loaded = load; ran = (refl, refl) }))
-    (refused_ends (copy_refusal fault) given is)
+    (refused_ends (copy_refusal fault) [] given is)
 
--- ---- a work that saves one table
+-- ---- rounds that were run
 
-module _ (keyed : Keyed) (used : Option ℕ) (table new : List ℕ) (work : Work) (from to : Device)
-    (acts : acts_of keyed.layout work table ≡ SavesOnce new) where
-  abbrev Plan : SessionPlan
-  Plan = record { keyed = keyed; work = work }
+-- a work of these acts ran them, and gave what its session answers
+pub done_by : (keyed : Keyed) (used : Option ℕ) (table : List ℕ) (work : Work) (acts : Acts) →
+    acts_of keyed.layout work table ≡ acts → (rounds : List Round) (now : Option ℕ) (from to : Device)
+    (given : Result Report Refusal) → AreRoundsOf (start_plans_of work) acts rounds → length rounds ≤ most_rounds acts →
+    AreRun keyed (start_plans_of work) (kept_before work table) used now rounds from to →
+    EndsWith (worked_on (record { keyed = keyed; work = work }) (Some table) acts rounds) given →
+    IsDone keyed used table work from to given
+done_by keyed used table work acts at rounds now from to given are few run ends =
+    let plan : SessionPlan = record { keyed = keyed; work = work } in
+    let here = subst (λ a. AreRoundsOf (start_plans_of work) a rounds) (sym at) are in
+    record {
+      answers = map answer_of rounds;
+      ran = record {
+        rounds = rounds;
+        now = now;
+        answers_are = refl;
+        are = here;
+        few = subst (λ a. length rounds ≤ most_rounds a) (sym at) few;
+        run = run;
+      };
+      ends =
+          subst (λ (s : Session). EndsWith s given)
+          (sym
+          (ap (λ (r : List Round). worked_on plan (Some table) (acts_of keyed.layout work table) r)
+          (rounds_back (start_plans_of work) (acts_of keyed.layout work table) rounds here)
+          ∙ ap (λ a. worked_on plan (Some table) a rounds) at)) ends;
+    }
 
-  abbrev Rounds : Option CopyFault → List Round
-  Rounds refusal = save_round 0 new refusal ∷ []
+-- the table ends the session before any save
+pub done_barred : (keyed : Keyed) (used : Option ℕ) (table : List ℕ) (work : Work) (device : Device)
+    (refusal : Refusal) (given : Result Report Refusal) (acts : Acts) → acts_of keyed.layout work table ≡ acts →
+    refusal_by_table acts ≡ Some refusal → given ≡ Err refusal → IsDone keyed used table work device device given
+done_barred keyed used table work device refusal given (Stops bar) at why is =
+    done_by keyed used table work (Stops bar) at [] used device device given refl (omega arith)
+    (none_run keyed (start_plans_of work) (kept_before work table) used device)
+    (refused_ends (bar_refusal bar) [] given (is ∙ ap (λ r. Err r) (sym (same_Some (bar_refusal bar) refusal why))))
+done_barred keyed used table work device refusal given _ at why is = absurd cc
 
-  -- the session that it has
-  abbrev Saved : Option CopyFault → Session
-  Saved refusal = ended_by refusal (text_after Plan (Some table) (Rounds refusal)) None (Rounds refusal)
+-- ---- one save of a table that a work made
 
-  saved_is : (refusal : Option CopyFault) → worked_on Plan (Some table) (SavesOnce new) (Rounds refusal) ≡ Saved refusal
-  saved_is None = refl
-  saved_is (Some fault) = refl
+-- what is given of the work by what its save gave
+abbrev pub GivesSaved : {A : Type 0} → List ℕ → Result A Refusal → Result Report Refusal → Type 0
+GivesSaved text (Ok done) given = IsTold text given
+GivesSaved text (Err refusal) given = given ≡ Err refusal
 
-  once_run : (refusal : Option CopyFault) (now : Option ℕ) → IsSaveRun keyed (kept_before work table) used now new refusal from to →
-      IsRunAfter keyed work table used from to (answer_of (save_round 0 new refusal) ∷ [])
-  once_run refusal now run = record {
-    rounds = Rounds refusal;
-    now = now;
-    answers_are = refl;
-    are = subst (λ a. AreRoundsOf (start_plans_of work) a (Rounds refusal)) (sym acts) (record { refusal = refusal; is = refl });
-    few = subst (λ a. length (Rounds refusal) ≤ most_rounds a) (sym acts) (let one : length (Rounds refusal) ≤ 1 = omega arith in one);
-    run = save_run keyed (start_plans_of work) 0 (kept_before work table) used now new refusal from to run;
-  }
+marks_this : (lost : Option ℕ) (made new : List ℕ) → marks_of lost made ≡ SavesOnce new → made ≡ new
+marks_this None made new e = let this : SavesOnce made ≡ SavesOnce new = e in cc
+marks_this (Some place) made new e = absurd cc
 
-  pub once_ends : (refusal : Option CopyFault) (now : Option ℕ) (given : Result Report Refusal) →
-      IsSaveRun keyed (kept_before work table) used now new refusal from to → EndsWith (Saved refusal) given →
-      IsDone keyed used table work from to given
-  unfolding once_run
-  once_ends refusal now given run ends = record {
-    answers = answer_of (save_round 0 new refusal) ∷ [];
-    ran = once_run refusal now run;
-    ends =
-        subst (λ (s : Session). EndsWith s given)
-        (sym
-        (session_is Plan (Some table) used from to (answer_of (save_round 0 new refusal) ∷ []) (once_run refusal now run)
-        ∙ ap (λ a. worked_on Plan (Some table) a (Rounds refusal)) acts ∙ saved_is refusal)) ends;
-  }
+module _ (keyed : Keyed) (used : Option ℕ) (table new : List ℕ) (from to : Device) (given : Result Report Refusal) where
+  -- what it says of the new table is the text of its session
+  said_text : (work : Work) (rounds : List Round) → stores work ≡ true → acts_of keyed.layout work table ≡ SavesOnce new →
+      said_of keyed.layout work new ≡ text_after (record { keyed = keyed; work = work }) (Some table) rounds
+  said_text (Write area) rounds stored acts = refl
+  said_text (Act actions) rounds stored acts =
+      ap (λ t. actions_text keyed.layout t actions) (sym (marks_this None (after_all table actions) new acts))
+  said_text (Good targets) rounds stored acts =
+      ap (good_text targets) (sym (marks_this (lost_place targets table) (mark_good_of targets table) new acts))
+  said_text _ rounds stored acts = absurd cc
 
-  -- what is given of the work by what the save gave
-  abbrev pub GivesSaved : {A : Type 0} → Result A Refusal → Result Report Refusal → Type 0
-  GivesSaved (Ok done) given = EndsWith (Saved None) given
-  GivesSaved (Err refusal) given = given ≡ Err refusal
+  module _ (work : Work) (stored : stores work ≡ true) (acts : acts_of keyed.layout work table ≡ SavesOnce new) where
+    abbrev Rounds : Option CopyFault → List Round
+    Rounds refusal = save_round 0 new refusal ∷ []
 
-  done_saved : {A : Type 0} (saved : Result A Refusal) (given : Result Report Refusal) →
-      IsSavedOver keyed used (kept_before work table) new from to saved → GivesSaved saved given → IsDone keyed used table work from to given
-  done_saved {A} saved given over gives = by saved over.refusal over.run over.gives gives
-    where
-      by : (saved : Result A Refusal) (o : Option CopyFault) → IsSaveRun keyed (kept_before work table) used over.now new o from to → SaveGives o saved →
-          GivesSaved saved given → IsDone keyed used table work from to given
-      by (Ok done) None run is gives = once_ends None over.now given run gives
-      by (Ok done) (Some fault) run is gives = absurd cc
-      by (Err refusal) None run is gives = absurd cc
-      by (Err refusal) (Some fault) run is gives =
-          let e : ◌≡◌ {A = Result A Refusal} (Err refusal) (Err (copy_refusal fault)) = is in
-          let same : refusal ≡ copy_refusal fault = cc in
-          once_ends (Some fault) over.now given run
-          (subst (EndsWith (Saved (Some fault))) (sym (gives ∙ ap (λ (r : Refusal). Err r) same)) (inl (refl, refl)))
+    once_done : (refusal : Option CopyFault) (now : Option ℕ) →
+        IsSaveRun keyed (kept_before work table) used now new refusal from to →
+        EndsWith (worked_on (record { keyed = keyed; work = work }) (Some table) (SavesOnce new) (Rounds refusal)) given →
+        IsDone keyed used table work from to given
+    once_done refusal now run =
+        done_by keyed used table work (SavesOnce new) acts (Rounds refusal) now from to given
+        (record { refusal = refusal; is = refl }) (let one : length (Rounds refusal) ≤ 1 = omega arith in one)
+        (save_run keyed (start_plans_of work) 0 (kept_before work table) used now new refusal from to run)
 
--- of a state in which a table was put
-pub done_put : {A : Type 0} (put state : State) (new : List ℕ) (work : Work) (from to : Device) (saved : Result A Refusal)
-    (given : Result Report Refusal) → (acts : acts_of (keyed_of state).layout work state.table ≡ SavesOnce new) → put.backing ≡ state.backing →
-    put.table ≡ new → last_table_of state ≡ state.table →
-    IsSavedOver (keyed_of put) (used_of put) (kept_before work (last_table_of put)) put.table from to saved →
-    GivesSaved (keyed_of state) (used_of state) state.table new work from to acts saved given →
+    done_saved : {A : Type 0} (saved : Result A Refusal) (o : Option CopyFault) (now : Option ℕ) →
+        IsSaveRun keyed (kept_before work table) used now new o from to → SaveGives o saved →
+        GivesSaved (said_of keyed.layout work new) saved given → IsDone keyed used table work from to given
+    done_saved {A} (Ok done) None now run is told =
+        once_done None now run
+        (text_ends (text_after (record { keyed = keyed; work = work }) (Some table) (Rounds None)) (Rounds None) given
+        (subst (λ text. IsTold text given) (said_text work (Rounds None) stored acts) told))
+    done_saved {A} (Err refusal) (Some fault) now run is told =
+        let e : ◌≡◌ {A = Result A Refusal} (Err refusal) (Err (copy_refusal fault)) = is in
+        let same : refusal ≡ copy_refusal fault = cc in
+        once_done (Some fault) now run
+        (refused_ends (copy_refusal fault) (Rounds (Some fault)) given (told ∙ ap (λ (r : Refusal). Err r) same))
+    done_saved {A} _ _ now run is told = absurd cc
+
+-- of a state in which that table was put
+pub done_stored : {A : Type 0} (put state : State) (work : Work) (always : Bool) (from to : Device)
+    (saved : Result A Refusal) (given : Result Report Refusal) → stores work ≡ true →
+    acts_of (laid_of state) work state.table ≡ SavesOnce put.table → put.backing ≡ state.backing →
+    last_table_of state ≡ state.table → always ≡ saves_always work →
+    IsSavedOver (keyed_of put) (used_of put) (if always then None else Some (last_table_of put)) put.table from to saved →
+    GivesSaved (said_of (laid_of state) work put.table) saved given →
     IsDone (keyed_of state) (used_of state) state.table work from to given
-done_put put state new work from to saved given acts backing table kept over gives =
-    done_saved (keyed_of state) (used_of state) state.table new work from to acts saved given
-    (subst (λ (k : List ℕ). IsSavedOver (keyed_of state) (used_of state) (kept_before work k) new from to saved) kept
-    (subst (λ (b : Backed). IsSavedOver b.keyed b.used (kept_before work b.kept) new from to saved) backing
-    (subst (λ (t : List ℕ). IsSavedOver (keyed_of put) (used_of put) (kept_before work (last_table_of put)) t from to saved) table over))) gives
-
--- of an area, whatever was loaded
-abbrev anew_gives : Option CopyFault → Result Report Refusal
-anew_gives None = Ok (told_whole [])
-anew_gives (Some fault) = Err (copy_refusal fault)
-
-pub done_anew : (put state : State) (area : List ℕ) (from to : Device) (now : Option ℕ) (refusal : Option CopyFault)
-    (given : Result Report Refusal) → put.backing ≡ state.backing → put.table ≡ area →
-    IsSaveRun (keyed_of put) None (used_of put) now put.table refusal from to → given ≡ anew_gives refusal →
-    IsDone (keyed_of state) (used_of state) state.table (Write area) from to given
-done_anew put state area from to now refusal given backing table run is =
-    once_ends (keyed_of state) (used_of state) state.table area (Write area) from to refl refusal now given
-    (subst (λ (b : Backed). IsSaveRun b.keyed None b.used now area refusal from to) backing
-    (subst (λ (t : List ℕ). IsSaveRun (keyed_of put) None (used_of put) now t refusal from to) table run))
-    (subst (EndsWith (ended_by refusal [] None (save_round 0 area refusal ∷ []))) (sym is) (by refusal))
-  where
-    by : (o : Option CopyFault) → EndsWith (ended_by o [] None (save_round 0 area o ∷ [])) (anew_gives o)
-    by None = inl (refl, refl)
-    by (Some fault) = inl (refl, refl)
-
--- ---- a table that ends the session
-
-module _ (keyed : Keyed) (used : Option ℕ) (table : List ℕ) (work : Work) (bar : TableBar) (acts : acts_of keyed.layout work table ≡ Stops bar) where
-  stopped_run : (from to : Device) (now : Option ℕ) → AreRun keyed (start_plans_of work) (kept_before work table) used now [] from to →
-      IsRunAfter keyed work table used from to []
-  stopped_run from to now run = record {
-    rounds = [];
-    now = now;
-    answers_are = refl;
-    are = subst (λ a. AreRoundsOf (start_plans_of work) a []) (sym acts) refl;
-    few = omega arith;
-    run = run;
-  }
-
-  pub done_stopped : (from to : Device) (now : Option ℕ) (given : Result Report Refusal) →
-      AreRun keyed (start_plans_of work) (kept_before work table) used now [] from to → EndsWith (refused_for (bar_refusal bar)) given →
-      IsDone keyed used table work from to given
-  unfolding stopped_run
-  done_stopped from to now given run ends = record {
-    answers = [];
-    ran = stopped_run from to now run;
-    ends =
-        subst (λ (s : Session). EndsWith s given)
-        (sym
-        (session_is (record { keyed = keyed; work = work }) (Some table) used from to [] (stopped_run from to now run)
-        ∙ ap (λ a. worked_on (record { keyed = keyed; work = work }) (Some table) a []) acts)) ends;
-  }
-
--- no target is to be marked good
-pub done_lost : (keyed : Keyed) (used : Option ℕ) (table : List ℕ) (targets : Binding) (device : Device) (place : ℕ) →
-    lost_place targets table ≡ Some place → (given : Result Report Refusal) → given ≡ Err (refusals.NoGood place) →
-    IsDone keyed used table (Good targets) device device given
-done_lost keyed used table targets device place lost given is =
-    done_stopped keyed used table (Good targets) (LostPlace place) (ap (λ o. marks_of o (mark_good_of targets table)) lost) device device used given
-    (none_run keyed [] (Some table) used device) (refused_ends (refusals.NoGood place) given is)
+done_stored put state work always from to saved given stored acts backing kept is over =
+    let here : IsSavedOver (keyed_of state) (used_of state) (kept_before work state.table) put.table from to saved =
+    subst (λ t. IsSavedOver (keyed_of state) (used_of state) (kept_before work t) put.table from to saved) kept
+    (subst (λ (b : Backed). IsSavedOver b.keyed b.used (kept_before work b.kept) put.table from to saved) backing
+    (subst (λ a. IsSavedOver (keyed_of put) (used_of put) (if a then None else Some (last_table_of put)) put.table from to saved)
+    is over)) in
+    done_saved (keyed_of state) (used_of state) state.table put.table from to given work stored acts saved here.refusal
+    here.now here.run here.gives
 
 -- ---- a boot
-
-end_gives : (text : List ℕ) (refusal : Option Refusal) (rounds : List Round) (targets : Binding) (end : BootEnd) (given : Result Report Refusal) →
-    text ≡ end_text targets end → refusal ≡ end_refusal targets end → IsReportOf targets end given →
-    EndsWith (record { text = text; refusal = refusal; rounds = rounds }) given
-end_gives text refusal rounds targets end (Ok report) text_is refusal_is (inl gives) = inl (text_is ∙ gives.0, refusal_is ∙ gives.1)
-end_gives text refusal rounds targets end (Err refused) text_is refusal_is (inl gives) = inl (text_is ∙ gives.0, refusal_is ∙ gives.1)
-end_gives text refusal rounds targets end given text_is refusal_is (inr memory) =
-    inr (memory.0, subst SendsByMemory (sym refusal_is) memory.1)
 
 -- text and refusal are those of its end
 abbrev Whole : Binding → List Round → BootEnd → Session
 Whole targets rounds end = record { text = end_text targets end; refusal = end_refusal targets end; rounds = rounds }
 
-boot_ended : (targets : Binding) (rounds : List Round) →
-    ended_by (refused_in rounds) (end_text targets (boot_end targets rounds)) (end_refusal targets (boot_end targets rounds)) rounds
-    ≡ Whole targets rounds (boot_end targets rounds)
+end_gives : (targets : Binding) (end : BootEnd) (rounds : List Round) (given : Result Report Refusal) →
+    IsReportOf targets end given → EndsWith (Whole targets rounds end) given
+end_gives targets end rounds (Ok report) (inl gives) = inl gives
+end_gives targets end rounds (Err refused) (inl gives) = inl gives
+end_gives targets end rounds given (inr memory) = inr memory
+
+abbrev IsWhole : Binding → List Round → Option CopyFault → BootEnd → Type 0
+IsWhole targets rounds refusal end =
+    ended_by refusal (end_text targets end) (end_refusal targets end) rounds ≡ Whole targets rounds end
+
+boot_ended : (targets : Binding) (rounds : List Round) → IsWhole targets rounds (refused_in rounds) (boot_end targets rounds)
 boot_ended targets rounds = by (last_round rounds)
   where
-    at : (tries : ℕ) (round : Round) (outcome : Outcome) →
-        ended_by (refusal_of outcome) (end_text targets (end_by targets tries round outcome)) (end_refusal targets (end_by targets tries round outcome)) rounds
-        ≡ Whole targets rounds (end_by targets tries round outcome)
-    at tries round (outcomes.Refused fault) = refl
-    at tries round _ = refl
+    at : (round : Round) (outcome : Outcome) →
+        IsWhole targets rounds (refusal_of outcome) (end_by targets (length rounds) round outcome)
+    at round (outcomes.Refused fault) = refl
+    at round _ = refl
 
-    by : (o : Option Round) →
-        ended_by (option_and_then (λ (r : Round). refusal_of r.outcome) o)
-        (end_text targets (option_map_or (λ (r : Round). end_by targets (length rounds) r r.outcome) o ends.NoTarget))
-        (end_refusal targets (option_map_or (λ (r : Round). end_by targets (length rounds) r r.outcome) o ends.NoTarget)) rounds
-        ≡ Whole targets rounds (option_map_or (λ (r : Round). end_by targets (length rounds) r r.outcome) o ends.NoTarget)
+    by : (o : Option Round) → IsWhole targets rounds (option_and_then (λ (r : Round). refusal_of r.outcome) o)
+        (option_map_or (λ (r : Round). end_by targets (length rounds) r r.outcome) o ends.NoTarget)
     by None = refl
-    by (Some round) = at (length rounds) round round.outcome
-
--- no target qualifies exactly where there is no round
-none_rounds : (targets : Binding) (plans : List (Option StartPlan)) (table : List ℕ) (rounds : List Round) → is_none (best_of targets table) ≡ true →
-    AreRounds targets plans table rounds → rounds ≡ []
-unfolding AreRounds
-none_rounds targets plans table [] none are = refl
-none_rounds targets plans table (round ∷ later) none are =
-    absurd (let e : true ≡ false = sym none ∙ ap is_none (best_is targets table round.target are.0.best) in cc)
-
-some_rounds : (targets : Binding) (plans : List (Option StartPlan)) (table : List ℕ) (rounds : List Round) → is_none (best_of targets table) ≡ false →
-    AreRounds targets plans table rounds → IsSome (last_round rounds)
-unfolding AreRounds
-some_rounds targets plans table [] some are =
-    absurd (let e : true ≡ false = sym (ap is_none (best_none targets table are)) ∙ some in cc)
-some_rounds targets plans table (round ∷ later) some are = ap (λ o. is_some o) (last_there round later).1
+    by (Some round) = at round round.outcome
 
 module _ (targets : Binding) (cause : Cause) (plans : List (Option StartPlan)) (before after : State) (from to : Device)
     (end : BootEnd) (given : Result Report Refusal) (kept : last_table_of before ≡ before.table) (binding : IsBinding targets)
     (sized : length before.table ≡ targets.area_len)
-    (booted : IsBooted targets plans (first_table targets cause true before.table) before after from to end) (report : IsReportOf targets end given) where
-  abbrev Boots : Work
-  Boots = Boot targets cause plans
-
+    (booted : IsBooted targets plans (first_table targets cause true before.table) before after from to end)
+    (report : IsReportOf targets end given) where
   abbrev Table : List ℕ
   Table = first_table targets cause true before.table
 
-  run_kept : AreRun (keyed_of before) plans (Some before.table) (used_of before) (used_of after) booted.rounds from to
-  run_kept = subst (λ (k : List ℕ). AreRun (keyed_of before) plans (Some k) (used_of before) (used_of after) booted.rounds from to) kept booted.run
+  abbrev IsBootDone : Type 0
+  IsBootDone = IsDone (keyed_of before) (used_of before) before.table (Boot targets cause plans) from to given
 
-  booted_run : is_none (best_of targets Table) ≡ false →
-      IsRunAfter (keyed_of before) Boots before.table (used_of before) from to (map answer_of booted.rounds)
-  booted_run some = record {
-    rounds = booted.rounds;
-    now = used_of after;
-    answers_are = refl;
-    are =
-        subst (λ n. AreRoundsOf plans (if n then Stops NoneBest else BootsFrom targets Table) booted.rounds) (sym some)
-        (record { are = booted.are; some = some_rounds targets plans Table booted.rounds some booted.are });
-    few =
-        subst (λ n. length booted.rounds ≤ most_rounds (if n then Stops NoneBest else BootsFrom targets Table)) (sym some)
-        (few_rounds targets plans Table booted.rounds binding (reset_length targets cause before.table binding sized ∙ sized) booted.are);
-    run = run_kept;
-  }
+  -- no target qualifies exactly where there is no round
+  by_rounds : (rounds : List Round) → AreRounds targets plans Table rounds →
+      AreRun (keyed_of before) plans (Some before.table) (used_of before) (used_of after) rounds from to →
+      EndsWith (Whole targets rounds (boot_end targets rounds)) given → IsBootDone
+  unfolding AreRounds
+  by_rounds [] are run ends =
+      done_by (keyed_of before) (used_of before) before.table (Boot targets cause plans) (Stops NoneBest)
+      (ap (λ o. if is_none o then Stops NoneBest else BootsFrom targets Table) (best_none targets Table are)) []
+      (used_of after) from to given refl (omega arith) run ends
+  by_rounds (round ∷ later) are run ends =
+      done_by (keyed_of before) (used_of before) before.table (Boot targets cause plans) (BootsFrom targets Table)
+      (ap (λ o. if is_none o then Stops NoneBest else BootsFrom targets Table) (best_is targets Table round.target are.0.best))
+      (round ∷ later) (used_of after) from to given
+      (record { are = are; some = ap (λ o. is_some o) (last_there round later).1 })
+      (few_rounds targets plans Table (round ∷ later) binding (reset_length targets cause before.table binding sized ∙ sized) are)
+      run (subst (λ (s : Session). EndsWith s given) (sym (boot_ended targets (round ∷ later))) ends)
 
-  pub done_boot : IsDone (keyed_of before) (used_of before) before.table Boots from to given
-  unfolding booted_run
-  done_boot = by (is_none (best_of targets Table)) refl
-    where
-      by : (none : Bool) → is_none (best_of targets Table) ≡ none → IsDone (keyed_of before) (used_of before) before.table Boots from to given
-      by true none =
-          let no : booted.rounds ≡ [] = none_rounds targets plans Table booted.rounds none booted.are in
-          done_stopped (keyed_of before) (used_of before) before.table Boots NoneBest
-          (ap (λ n. if n then Stops NoneBest else BootsFrom targets Table) none) from to (used_of after) given
-          (subst (λ (r : List Round). AreRun (keyed_of before) plans (Some before.table) (used_of before) (used_of after) r from to) no run_kept)
-          (end_gives [] (Some refusals.NoTarget) [] targets end given
-          (ap (end_text targets) (sym (booted.end_is ∙ ap (boot_end targets) no)))
-          (ap (end_refusal targets) (sym (booted.end_is ∙ ap (boot_end targets) no))) report)
-      by false some = record {
-        answers = map answer_of booted.rounds;
-        ran = booted_run some;
-        ends =
-            subst (λ (s : Session). EndsWith s given)
-            (sym
-            (session_is (record { keyed = keyed_of before; work = Boots }) (Some before.table) (used_of before) from to (map answer_of booted.rounds)
-            (booted_run some)
-            ∙ ap (λ n. worked_on (record { keyed = keyed_of before; work = Boots }) (Some before.table)
-            (if n then Stops NoneBest else BootsFrom targets Table) booted.rounds) some
-            ∙ boot_ended targets booted.rounds))
-            (end_gives (end_text targets (boot_end targets booted.rounds)) (end_refusal targets (boot_end targets booted.rounds)) booted.rounds targets end
-            given (ap (end_text targets) (sym booted.end_is)) (ap (end_refusal targets) (sym booted.end_is)) report);
-      }
+  pub done_boot : IsBootDone
+  done_boot =
+      by_rounds booted.rounds booted.are
+      (subst (λ (k : List ℕ). AreRun (keyed_of before) plans (Some k) (used_of before) (used_of after) booted.rounds from to)
+      kept booted.run)
+      (end_gives targets (boot_end targets booted.rounds) booted.rounds given
+      (subst (λ e. IsReportOf targets e given) booted.end_is report))

@@ -2,7 +2,8 @@
 -- the end of a boot.
 use Rattle.std.proofs.Common.{◌≡◌, ◌≢◌, ℕ, Bool, true, false, List, length, Option, Some, None, Ok, Err, refl, sym, ap, subst, ◌∙◌}
 use Rattle.std.specs.Option.{option_and_then, option_map_or}
-use Rattle.std.proofs.lemmas.Option.{same_Some}
+use Rattle.std.proofs.lemmas.Bool.{both_ways}
+use Rattle.std.proofs.lemmas.Option.{none-some, same_Some}
 use Rattle.bb_chooser.specs.Binding.{Binding}
 use Rattle.bb_copies.specs.declared.answers.CopyFault.{CopyFault}
 use Rattle.bb_copies.specs.declared.answers.CopyFault.TheVariants as faults
@@ -24,9 +25,6 @@ use Rattle.bb_session.specs.Booting.{end_refusal}
 use Rattle.bb_session.specs.Session.{LoadAnswer, acts_after, ended_by, ended_status, rounds_after, text_after, work_session, worked_on}
 use Rattle.bb_session.proofs.Barred.{is_device_fault}
 
-pub none_some : {X : Type 0} → (x : X) → ◌≡◌ {A = Option X} None (Some x) → ⊥
-none_some x h = cc
-
 -- ---- a fact about each refusal
 
 module _ (P : Refusal → Type 0) (bar : (bar : TableBar) → P (bar_refusal bar)) (plan : SessionPlan) (found : Option (List ℕ)) (rounds : List Round)
@@ -42,8 +40,8 @@ module _ (P : Refusal → Type 0) (bar : (bar : TableBar) → P (bar_refusal bar
       (failed : (round : Round) (name : List ℕ) → last_round rounds ≡ Some round → has_failed round.outcome ≡ true → P (StartFailed name)) where
     round_has : (round : Round) → last_round rounds ≡ Some round → (outcome : Outcome) → round.outcome ≡ outcome → refusal_of outcome ≡ None →
         (refusal : Refusal) → end_refusal targets (end_by targets (length rounds) round outcome) ≡ Some refusal → P refusal
-    round_has round last (outcomes.Refused fault) e none refusal h = absurd (none_some fault (sym none))
-    round_has round last outcomes.Started e none refusal h = absurd (none_some refusal h)
+    round_has round last (outcomes.Refused fault) e none refusal h = absurd (none-some fault (sym none))
+    round_has round last outcomes.Started e none refusal h = absurd (none-some refusal h)
     round_has round last _ e none refusal h = subst P (same_Some (StartFailed _) refusal h) (failed round _ last (ap has_failed e))
 
     end_has : (refusal : Refusal) → refused_in rounds ≡ None → end_refusal targets (boot_end targets rounds) ≡ Some refusal → P refusal
@@ -64,7 +62,7 @@ module _ (P : Refusal → Type 0) (bar : (bar : TableBar) → P (bar_refusal bar
       ended_has (refused_in rounds) (text_after plan found rounds) (end_refusal targets (boot_end targets rounds)) refl
       (end_has targets (λ round name. failed targets table round name refl)) refusal h
   worked_has _ failed refusal h =
-      ended_has (refused_in rounds) (text_after plan found rounds) None refl (λ r e n. absurd (none_some r n)) refusal h
+      ended_has (refused_in rounds) (text_after plan found rounds) None refl (λ r e n. absurd (none-some r n)) refusal h
 
 session_has : (P : Refusal → Type 0) → ((bar : TableBar) → P (bar_refusal bar)) → ((name : List ℕ) → P (StartFailed name)) →
     (plan : SessionPlan) (found : Option (List ℕ)) (answers : List RoundAnswer) →
@@ -89,7 +87,7 @@ pub session_fault : (plan : SessionPlan) (found : Option (List ℕ)) (answers : 
     IsRefusedFor (rounds_after plan found answers) refusal
 session_fault plan found answers refusal device h =
     session_has (λ r. is_device_fault (status_of r) ≡ true → IsRefusedFor (rounds_after plan found answers) r)
-    (λ bar e. absurd (let h : true ≡ false = sym e ∙ bar_calm bar in cc)) (λ name e. absurd cc) plan found answers
+    (λ bar e. absurd (both_ways _ (bar_calm bar) e)) (λ name e. absurd cc) plan found answers
     (λ fault last e. record { fault = fault; last = last; is = refl }) refusal h device
 
 -- ---- the statuses that the work on the device has
@@ -115,12 +113,10 @@ pub worked_work : (plan : SessionPlan) (load : LoadAnswer) (answers : List Round
 worked_work plan (Err fault) answers = fault_work fault
 worked_work plan (Ok found) answers = by (work_session plan (Ok found) answers).refusal refl
   where
-    by : (refusal : Option Refusal) → (work_session plan (Ok found) answers).refusal ≡ refusal →
-        is_work (option_map_or status_of (work_session plan (Ok found) answers).refusal statuses.Done) ≡ true
-    by None e = ap (λ (r : Option Refusal). is_work (option_map_or status_of r statuses.Done)) e
+    by : (o : Option Refusal) → (work_session plan (Ok found) answers).refusal ≡ o → is_work (option_map_or status_of o statuses.Done) ≡ true
+    by None e = refl
     by (Some refusal) e =
-        ap (λ (r : Option Refusal). is_work (option_map_or status_of r statuses.Done)) e
-        ∙ session_has (λ r. is_work (status_of r) ≡ true) bar_work (λ name. refl) plan found answers (λ fault last. fault_work fault) refusal e
+        session_has (λ r. is_work (status_of r) ≡ true) bar_work (λ name. refl) plan found answers (λ fault last. fault_work fault) refusal e
 
 pub not_work : (status other : Status) → is_work status ≡ true → is_work other ≡ false → status ≢ other
-not_work status other first second = λ e. (let h : true ≡ false = sym first ∙ ap is_work e ∙ second in cc)
+not_work status other first second = λ e. both_ways _ second (sym (ap is_work e) ∙ first)

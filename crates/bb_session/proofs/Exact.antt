@@ -3,10 +3,11 @@
 use Rattle.std.proofs.Common.{◌≡◌, ℕ, ◌+◌, ◌-◌, ◌≤◌, ◌++◌, Bool, true, false, cond, List, [], ◌∷◌, length, count_by, map, Option, Some, None, is_some, Ok, Err, refl, sym, ap, subst, ◌∙◌, inl, inr, arith, if◌then◌else◌}
 use Rattle.std.specs.Bool.{Decides}
 use Rattle.std.specs.List.{AllByRecursion}
-use Rattle.std.specs.Option.{IfNone, option_map, option_map_or}
+use Rattle.std.specs.Option.{option_map, option_map_or}
 use Rattle.std.specs.Prelude.{All, not, ◌&&◌}
 use Rattle.std.specs.Str.{bytes_eq}
-use Rattle.std.proofs.lemmas.Bool.{cases_lt, false≢true}
+use Rattle.std.proofs.lemmas.Bool.{both_ways, cases_lt, cond_both}
+use Rattle.std.proofs.lemmas.Bool.Decides.{same_from_decides}
 use Rattle.std.proofs.lemmas.List.{length-map}
 use Rattle.std.proofs.lemmas.List.Elements.{All-from_recursion, recursion_from_All}
 use Rattle.std.proofs.lemmas.List.Sums.{count_by-le-length, sum_by-cons}
@@ -15,12 +16,10 @@ use Rattle.bb_base.specs.Faults.{Rose}
 use Rattle.bb_base.specs.Form.{Form}
 use Rattle.bb_bucket.proofs.Runs.{some_of}
 use Rattle.bb_bucket.specs.Kind.{BucketKind, part_of}
-use Rattle.bb_copies.specs.Erasing.{ErasesBy}
 use Rattle.bb_copies.specs.Loading.{IsAllKept, IsExact}
 use Rattle.bb_copies.specs.Looking.{IsFresh}
 use Rattle.bb_copies.specs.Passing.{passing_of}
 use Rattle.bb_copies.specs.Refreshing.{is_marked}
-use Rattle.bb_copies.specs.Saving.{EachWritten}
 use Rattle.bb_copies.specs.Settling.{NothingFails, RoseBy}
 use Rattle.bb_copies.specs.StandsFor.{IsAreaOrNone}
 use Rattle.bb_copies.specs.declared.answers.Loaded.{Loaded}
@@ -31,10 +30,9 @@ use Rattle.bb_flash.specs.declared.geometry.Geometry.{Geometry}
 use Rattle.bb_flash.specs.declared.plan.Plan.{Plan as StartPlan}
 use Rattle.bb_state.specs.Keyed.{Keyed}
 use Rattle.bb_state.specs.Kinds.{laid_form, laid_kinds}
-use Rattle.bb_state.specs.State.{IsStored}
 use Rattle.bb_shell.specs.Boot.{Round, plan_at}
 use Rattle.bb_shell.specs.Rounds.{RoundAnswer}
-use Rattle.bb_shell.specs.Running.{AreRun, IsRoundRun, is_refused_save, same_as_kept}
+use Rattle.bb_shell.specs.Running.{AreRun, IsRoundRun, IsSaveRun, is_refused_save, same_as_kept}
 use Rattle.bb_shell.specs.Stages.{saves_of as tables_of}
 use Rattle.bb_shell.proofs.Made.{AllSaved}
 use Rattle.bb_shell.proofs.Reached.{begun_saving, idle_saving, rounds_later}
@@ -46,9 +44,9 @@ use Rattle.bb_session.specs.Acting.{kept_before, needs_table, start_plans_of, ta
 use Rattle.bb_session.specs.Exactly.{LeavesRegions, PassAlike, is_fresh, last_area, last_area_of, loaded_region, saved_region, saves_made, worked_region, writes_of_load, writes_of_saves, writes_of_work}
 use Rattle.bb_session.specs.Looking.{first_found, passed_in}
 use Rattle.bb_session.specs.Session.{LoadAnswer, loaded_area, work_session}
-use Rattle.bb_session.specs.Work.{IsLoadedArea, IsLoadedAs, IsLookWork, IsTableWork, IsWork, area_taken}
-use Rattle.bb_session.proofs.Accounts.{Account, Makes, Writes, account, account_of, makes_by, makes_joined, makes_none, quiet_same, same_account, told_same}
-use Rattle.bb_session.proofs.Acted.{by_work, look_rounds, session_rounds}
+use Rattle.bb_session.specs.Work.{IsLoadedArea, IsLookWork, IsTableWork, IsWork, area_taken}
+use Rattle.bb_session.proofs.Accounts.{Account, Makes, Writes, account, account_of, makes_by, makes_joined, makes_none, quiet_account, same_account, told_same}
+use Rattle.bb_session.proofs.Acted.{by_work, look_rounds, ran_of, session_rounds}
 use Rattle.bb_session.proofs.Barred.{HasNoFault, fault_device}
 use Rattle.bb_session.proofs.Faulting.{rose_by, rose_from, rose_on}
 use Rattle.bb_session.proofs.Turns.{told_content}
@@ -72,21 +70,13 @@ decided form page kind area image = (
       ∙ ap (λ p. option_map_or (λ q. bytes_eq q area) p false) fresh.passes ∙ (bytes_eq-Decides area area).1 refl,
 )
 
-one_or_other : {P : Type 0} → (r s : Bool) → Decides r P → Decides s P → r ≡ s
-one_or_other true s one two = sym (two.1 (one.0 refl))
-one_or_other false true one two = one.1 (two.0 refl)
-one_or_other false false one two = refl
-
 exact_region : (form : Form) (page : ℕ) (kind : BucketKind) (area : List ℕ) (before after : Image) → IsExact form page kind area before after →
     part_of page kind.region after ≡ loaded_region form kind (Some area) (part_of page kind.region before)
 exact_region form page kind area before after exact =
-    by (is_fresh form kind area (part_of page kind.region before)) (decided form page kind area before)
-  where
-    by : (fresh : Bool) → Decides fresh (IsFresh form page kind area before) →
-        part_of page kind.region after
-        ≡ (if fresh then part_of page kind.region before else kind.after_write (form.text area) (part_of page kind.region before))
-    by true decides = exact.fresh (decides.0 refl)
-    by false decides = exact.stale (λ fresh. false≢true (decides.1 fresh))
+    let region = part_of page kind.region before in
+    let fresh = decided form page kind area before in
+    cond_both (is_fresh form kind area region) region (kind.after_write (form.text area) region) (λ r. part_of page kind.region after ≡ r)
+    (λ e. exact.fresh (fresh.0 e)) (λ e. exact.stale (λ is. both_ways _ e (fresh.1 is)))
 
 -- ---- every copy passes
 
@@ -100,16 +90,13 @@ all_pass : (area : List ℕ) (passed : List (Option (List ℕ))) → AllByRecurs
     length passed ≤ count_by is_some passed → AllByRecursion (λ p. p ≡ Some area) passed
 all_pass area [] each many = tt
 all_pass area (p ∷ passed) (one, rest) many =
-    let counted : count_by is_some (p ∷ passed) ≡ cond (is_some p) 1 0 + count_by is_some passed = sum_by-cons (λ x. cond (is_some x) 1 0) p passed in
+    let counted : count_by is_some (p ∷ passed) ≡ cond (is_some p) 1 0 + count_by is_some passed =
+    sum_by-cons (λ x. cond (is_some x) 1 0) p passed in
+    let at : Option (List ℕ) → ℕ = λ o. cond (is_some o) 1 0 + count_by is_some passed in
     let size : length (p ∷ passed) ≡ length passed + 1 = omega arith in
     elim one [
-      | inl same ↦
-          let here = counted ∙ ap (λ o. cond (is_some o) 1 0 + count_by is_some passed) same in
-          (same, all_pass area passed rest (omega (arith, many, here, size)))
-      | inr none ↦
-          let here = counted ∙ ap (λ o. cond (is_some o) 1 0 + count_by is_some passed) none in
-          let most = count_by-le-length is_some passed in
-          absurd (omega (arith, many, here, most, size))
+      | inl same ↦ (same, all_pass area passed rest (omega (arith, many, counted ∙ ap at same, size)))
+      | inr none ↦ absurd (omega (arith, many, counted ∙ ap at none, count_by-le-length is_some passed, size))
     ]
 
 all_kept : (keyed : Keyed) (area : List ℕ) (used live : ℕ) (from to : Device) →
@@ -121,9 +108,8 @@ all_kept keyed area used live from to kept calm z f =
     let whole = live_all (length (laid_kinds keyed.layout)) live from.faults to.faults kept.dead calm in
     let size : length passed ≡ length (laid_kinds keyed.layout) =
     length-map (laid_kinds keyed.layout) (λ kind. passing_of (laid_form keyed) from.geometry.page kind z) in
-    let number = here.counted in
     All-from_recursion (λ p. p ≡ Some area) passed
-    (all_pass area passed (recursion_from_All (IsAreaOrNone area) passed here.each) (omega (arith, whole, size, number)))
+    (all_pass area passed (recursion_from_All (IsAreaOrNone area) passed here.each) (omega (arith, whole, size, here.counted)))
 
 -- ---- what is left of the copies
 
@@ -212,19 +198,13 @@ module _ (keyed : Keyed) (from mid : Device) (calm : NothingFails from mid) (fir
         makes =
             makes_by form (laid_kinds keyed.layout) (λ kind region. is_fresh form kind area region) area erases.fresh from mid first last e f
             (λ copy kind there.
-            one_or_other (is_marked erases.fresh copy) (is_fresh form kind area (part_of page kind.region first.image))
+            same_from_decides (is_marked erases.fresh copy) (is_fresh form kind area (part_of page kind.region first.image))
             (erases.marks first.image x_is copy kind there) (decided form page kind area first.image)) erases.erases;
       }
   taken_left area NoCopy found =
       subst (IsLoadedTo keyed from.geometry None (account_of first))
       (sym (told_same account_of from mid first last (same_account from mid found.gives.content found.gives.changes found.erases) e f))
       (loaded_none keyed from.geometry (account_of first))
-
-  loaded_left : (used : Option ℕ) (found : Option (List ℕ)) → IsLoadedAs keyed used from mid found →
-      IsLoadedTo keyed from.geometry found (account_of first) (account_of last)
-  loaded_left used found gave =
-      subst (λ o. IsLoadedTo keyed from.geometry o (account_of first) (account_of last)) (sym gave.taken)
-      (taken_left gave.area gave.loaded gave.gave)
 
 -- ---- rounds that were run
 
@@ -240,32 +220,27 @@ module _ (keyed : Keyed) (plans : List (Option StartPlan)) where
         (λ made runs. same_account run.middle device runs.keeps.content runs.keeps.changes runs.keeps.erases)
         (plan_at plans round.target) round.outcome run.tried
 
-    idle_left : same_as_kept kept round.table ≡ true → account_of last ≡ account_of first
-    idle_left same = told_same account_of from device first last (started ∙ ap account (run.saved.idle same).device) e f
-
     begun_left : same_as_kept kept round.table ≡ false →
         IsSavedTo keyed from.geometry (round.table ∷ []) (account_of first) (account_of last)
     begun_left other =
         let form = laid_form keyed in
         let kinds = laid_kinds keyed.layout in
-        let begun = run.saved.begun other in
-        let none = unrefused_round round.outcome done in
+        let saved : IsSaveRun keyed kept used copy round.table None from run.middle =
+        subst (λ r. IsSaveRun keyed kept used copy round.table r from run.middle) (unrefused_round round.outcome done) run.saved in
+        let begun = saved.begun other in
         let later = start_later (plan_at plans round.target) round.outcome run.middle device run.tried in
         let quiet : NothingFails from run.middle = λ rose. calm (rose_on from.faults run.middle.faults device.faults rose later.faults) in
-        let written = subst (λ r. IfNone r (EachWritten kinds (form.text round.table) from run.middle)) none (begun.exact quiet) in
-        let erases = subst (λ r. IfNone r (ErasesBy kinds (form.text round.table) from run.middle)) none (begun.erases quiet) in
-        let stored = subst (λ r. IfNone r (IsStored keyed round.table copy from run.middle)) none begun.stored in
         let between = some_of run.middle.told (begun.runs.later.told ∙ ap is_some e) in
         let middle = between.0 in
         let there_is = told_content run.middle middle between.1 in
         subst (IsSavedTo keyed from.geometry (round.table ∷ []) (account_of first))
         (sym (told_same account_of run.middle device middle last started between.1 f))
         (record {
-          left = λ place kind there. (written place kind there).there first.image (told_content from first e) middle.image there_is;
-          alike = λ taken image alike. all_kept keyed round.table stored.saved.used stored.live from run.middle stored.saved.exit quiet middle.image there_is;
+          left = λ place kind there. (begun.exact quiet place kind there).there first.image (told_content from first e) middle.image there_is;
+          alike = λ taken image alike. all_kept keyed round.table begun.stored.saved.used begun.stored.live from run.middle begun.stored.saved.exit quiet middle.image there_is;
           makes =
               makes_by form kinds (λ kind region. false) round.table [] from run.middle first middle e between.1
-              (λ place kind there. refl) erases;
+              (λ place kind there. refl) (begun.erases quiet);
         })
 
     -- it, and what was run after it
@@ -273,7 +248,8 @@ module _ (keyed : Keyed) (plans : List (Option StartPlan)) where
         (same : Bool) → same_as_kept kept round.table ≡ same → IsSavedTo keyed from.geometry (tables_of kept (round ∷ later)) (account_of first) end
     further later end behind true is =
         subst (λ rounds. IsSavedTo keyed from.geometry (map (λ (r : Round). r.table) rounds) (account_of first) end) (sym (idle_saving kept round later is))
-        (subst (λ y. IsSavedTo keyed from.geometry (tables_of (Some round.table) later) y end) (idle_left is) behind)
+        (subst (λ y. IsSavedTo keyed from.geometry (tables_of (Some round.table) later) y end)
+        (told_same account_of from device first last (started ∙ ap account (run.saved.idle is).device) e f) behind)
     further later end behind false is =
         subst (λ rounds. IsSavedTo keyed from.geometry (map (λ (r : Round). r.table) rounds) (account_of first) end) (sym (begun_saving kept round later is))
         (saved_further keyed from.geometry round.table (tables_of (Some round.table) later) (account_of first) (account_of last) end (begun_left is) behind)
@@ -298,67 +274,62 @@ module _ (keyed : Keyed) (plans : List (Option StartPlan)) where
 
 -- ---- the work of a plan
 
-abbrev pub IsWorkLeft : SessionPlan → Option (List ℕ) → List RoundAnswer → Device → Account → Account → Type 0
-IsWorkLeft plan found answers from x z = AreLeftBy plan.keyed from.geometry (taken_by plan.work found) (saves_made plan found answers) x z
+module _ (plan : SessionPlan) (from to : Device) (answers : List RoundAnswer) (first last : Told)
+    (e : from.told ≡ Some first) (f : to.told ≡ Some last) where
+  abbrev AreLeftAfter : Option (List ℕ) → List (List ℕ) → Type 0
+  AreLeftAfter taken areas = AreLeftBy plan.keyed from.geometry taken areas (account_of first) (account_of last)
 
--- by what was taken, and the areas that were saved
-work_left : (plan : SessionPlan) (found taken : Option (List ℕ)) (answers : List RoundAnswer) (areas : List (List ℕ)) (from : Device) (x z : Account) →
-    taken_by plan.work found ≡ taken → saves_made plan found answers ≡ areas → AreLeftBy plan.keyed from.geometry taken areas x z →
-    IsWorkLeft plan found answers from x z
-work_left plan found taken answers areas from x z taken_is made done =
-    subst (λ a. AreLeftBy plan.keyed from.geometry (taken_by plan.work found) a x z) (sym made)
-    (subst (λ t. AreLeftBy plan.keyed from.geometry t areas x z) (sym taken_is) done)
+  abbrev pub IsWorkLeft : Option (List ℕ) → Type 0
+  IsWorkLeft found = AreLeftAfter (taken_by plan.work found) (saves_made plan found answers)
 
-table_left : (plan : SessionPlan) (from to : Device) (found : Option (List ℕ)) (answers : List RoundAnswer) → needs_table plan.work ≡ true →
-    IsTableWork plan from to (Ok found) answers → HasNoFault (work_session plan (Ok found) answers) → NothingFails from to →
-    (first last : Told) → from.told ≡ Some first → to.told ≡ Some last → IsWorkLeft plan found answers from (account_of first) (account_of last)
-table_left plan from to found answers needs work whole calm first last e f =
-    let run = work.ran in
-    let kept = kept_before plan.work (loaded_area plan.keyed.layout found) in
-    let plans = start_plans_of plan.work in
-    let early = work.loaded.later in
-    let late = rounds_later plan.keyed plans run.rounds kept work.used run.now work.middle to run.run in
-    let between = some_of work.middle.told (early.told ∙ ap is_some e) in
-    let here : NothingFails from work.middle = λ rose. calm (rose_on from.faults work.middle.faults to.faults rose late.faults) in
-    let there : NothingFails work.middle to = λ rose. calm (rose_from from.faults work.middle.faults to.faults early.faults rose) in
-    work_left plan found found answers (tables_of kept run.rounds) from (account_of first) (account_of last)
-    (ap (λ n. if n then found else None) needs)
-    (ap (tables_of kept) (session_rounds plan found work.used work.middle to answers run))
-    (saved_after plan.keyed from.geometry found (tables_of kept run.rounds) (account_of first) (account_of between.0) (account_of last)
-    (loaded_left plan.keyed from work.middle here first between.0 e between.1 work.used found work.loaded.gives)
-    (subst (λ g. IsSavedTo plan.keyed g (tables_of kept run.rounds) (account_of between.0) (account_of last)) early.geometry
-    (run_left plan.keyed plans run.rounds kept work.used run.now work.middle to run.run
-    (rounds_saved plan found work.used work.middle to answers run whole) there between.0 last between.1 f)))
+  -- by what was taken, and the areas that were saved
+  work_left : (found taken : Option (List ℕ)) (areas : List (List ℕ)) → taken_by plan.work found ≡ taken →
+      saves_made plan found answers ≡ areas → AreLeftAfter taken areas → IsWorkLeft found
+  work_left found taken areas taken_is made done =
+      subst (AreLeftAfter (taken_by plan.work found)) (sym made) (subst (λ t. AreLeftAfter t areas) (sym taken_is) done)
 
-look_left : (plan : SessionPlan) (from to : Device) (found : Option (List ℕ)) (answers : List RoundAnswer) → plan.work ≡ Show →
-    IsLookWork plan from to (Ok found) answers → (first last : Told) → from.told ≡ Some first → to.told ≡ Some last →
-    IsWorkLeft plan found answers from (account_of first) (account_of last)
-look_left plan from to found answers shows work first last e f =
-    work_left plan found None answers [] from (account_of first) (account_of last) (ap (λ (w : Work). taken_by w found) shows)
-    (ap (tables_of (kept_before plan.work (loaded_area plan.keyed.layout found))) (look_rounds plan (Ok found) answers shows))
-    (subst (AreLeftBy plan.keyed from.geometry None [] (account_of first))
-    (sym (told_same account_of from to first last (quiet_same account_of from to (λ told. refl) work.looked.quiet.told) e f))
-    (loaded_none plan.keyed from.geometry (account_of first)))
+  table_left : (found : Option (List ℕ)) → needs_table plan.work ≡ true → IsTableWork plan from to (Ok found) answers →
+      HasNoFault (work_session plan (Ok found) answers) → NothingFails from to → IsWorkLeft found
+  table_left found needs work whole calm =
+      let run = work.ran in
+      let kept = kept_before plan.work (loaded_area plan.keyed.layout found) in
+      let gave = work.loaded.gives in
+      let early = work.loaded.later in
+      let late = (ran_of work).later in
+      let between = some_of work.middle.told (early.told ∙ ap is_some e) in
+      let here : NothingFails from work.middle = λ rose. calm (rose_on from.faults work.middle.faults to.faults rose late.faults) in
+      let there : NothingFails work.middle to = λ rose. calm (rose_from from.faults work.middle.faults to.faults early.faults rose) in
+      work_left found found (tables_of kept run.rounds) (ap (λ n. if n then found else None) needs)
+      (ap (tables_of kept) (session_rounds work))
+      (saved_after plan.keyed from.geometry found (tables_of kept run.rounds) (account_of first) (account_of between.0) (account_of last)
+      (subst (λ o. IsLoadedTo plan.keyed from.geometry o (account_of first) (account_of between.0)) (sym gave.taken)
+      (taken_left plan.keyed from work.middle here first between.0 e between.1 gave.area gave.loaded gave.gave))
+      (subst (λ g. IsSavedTo plan.keyed g (tables_of kept run.rounds) (account_of between.0) (account_of last)) early.geometry
+      (run_left plan.keyed (start_plans_of plan.work) run.rounds kept work.used run.now work.middle to run.run
+      (rounds_saved work whole) there between.0 last between.1 f)))
 
-pub plan_left : (plan : SessionPlan) (from to : Device) (load : LoadAnswer) (answers : List RoundAnswer) → IsWork plan from to load answers →
-    NothingFails from to → (first last : Told) → from.told ≡ Some first → to.told ≡ Some last →
-    IsWorkLeft plan (first_found (passed_in plan.keyed from.geometry.page first.image)) answers from (account_of first) (account_of last)
-plan_left plan from to (Err fault) answers work calm first last e f =
-    let whole = unrefused plan from to (Err fault) answers work calm in
-    absurd (let h : true ≡ false = sym (fault_device fault) ∙ whole in cc)
-plan_left plan from to (Ok found) answers work calm first last e f =
-    let whole = unrefused plan from to (Ok found) answers work calm in
-    subst (λ o. IsWorkLeft plan o answers from (account_of first) (account_of last))
-    (work_gives plan from to found answers work first.image (told_content from first e))
-    (by_work plan from to (Ok found) answers work
-    (λ needs done. table_left plan from to found answers needs done whole calm first last e f)
-    (λ shows done. look_left plan from to found answers shows done first last e f))
+  look_left : (found : Option (List ℕ)) → plan.work ≡ Show → IsLookWork plan from to (Ok found) answers → IsWorkLeft found
+  look_left found shows work =
+      work_left found None [] (ap (λ (w : Work). taken_by w found) shows)
+      (ap (tables_of (kept_before plan.work (loaded_area plan.keyed.layout found))) (look_rounds plan (Ok found) answers shows))
+      (subst (AreLeftBy plan.keyed from.geometry None [] (account_of first))
+      (sym (told_same account_of from to first last (quiet_account from to work.looked.quiet) e f))
+      (loaded_none plan.keyed from.geometry (account_of first)))
+
+  plan_left : (load : LoadAnswer) → IsWork plan from to load answers → NothingFails from to →
+      IsWorkLeft (first_found (passed_in plan.keyed from.geometry.page first.image))
+  plan_left (Err fault) work calm = absurd (both_ways _ (unrefused plan from to (Err fault) answers work calm) (fault_device fault))
+  plan_left (Ok found) work calm =
+      let whole = unrefused plan from to (Ok found) answers work calm in
+      subst IsWorkLeft (work_gives plan from to found answers work first.image (told_content from first e))
+      (by_work plan from to (Ok found) answers work (λ needs done. table_left found needs done whole calm)
+      (λ shows done. look_left found shows done))
 
 pub plan_makes : (plan : SessionPlan) (from to : Device) (load : LoadAnswer) (answers : List RoundAnswer) → IsWork plan from to load answers →
     NothingFails from to → (first last : Told) → from.told ≡ Some first → to.told ≡ Some last →
     Makes (laid_form plan.keyed) (laid_kinds plan.keyed.layout) from.geometry
     (writes_of_work plan (first_found (passed_in plan.keyed from.geometry.page first.image)) answers) (account_of first) (account_of last)
-plan_makes plan from to load answers work calm first last e f = (plan_left plan from to load answers work calm first last e f).makes
+plan_makes plan from to load answers work calm first last e f = (plan_left plan from to answers first last e f load work calm).makes
 
 -- ---- of the contents at entry and exit
 
@@ -376,6 +347,6 @@ pub plan_done : (plan : SessionPlan) (from to : Device) (load : LoadAnswer) (ans
 plan_done plan from to load answers work calm x z e f =
     let one = told_of from.told x e in
     let two = told_of to.told z f in
-    let done = plan_left plan from to load answers work calm one.0 two.0 one.1.0 two.1.0 in
+    let done = plan_left plan from to answers one.0 two.0 one.1.0 two.1.0 load work calm in
     subst (λ i. IsLeftExact plan from answers i z) one.1.1
     (subst (IsLeftExact plan from answers one.0.image) two.1.1 (record { left = done.left; alike = done.alike }))

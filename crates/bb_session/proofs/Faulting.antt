@@ -16,6 +16,7 @@ use Rattle.bb_copies.specs.Settling.{PassesAnother, RoseBy}
 use Rattle.bb_copies.specs.declared.answers.CopyFault.{CopyFault}
 use Rattle.bb_copies.specs.declared.answers.CopyFault.TheVariants.{ReadFault, WriteFault, Unsure}
 use Rattle.bb_copies.proofs.Many.{passes_kind}
+use Rattle.bb_copies.proofs.Passed.{none_passes}
 use Rattle.bb_copies.proofs.Runs.{later_refl}
 use Rattle.bb_flash.specs.Cuts.{IsLater}
 use Rattle.bb_flash.specs.Device.{Device, content}
@@ -29,7 +30,7 @@ use Rattle.bb_session.specs.Looking.{first_found, passed_in}
 use Rattle.bb_session.specs.Session.{LoadAnswer}
 use Rattle.bb_session.specs.Work.{IsLoaded}
 use Rattle.bb_session.specs.WriteFault.{IsUsed, IsWanted, IsWriteFault}
-use Rattle.bb_session.proofs.Kept.{found_first}
+use Rattle.bb_session.proofs.Kept.{found_first, found_none}
 
 -- ---- counts and lists
 
@@ -61,18 +62,14 @@ get_inside (x ∷ xs) (suc k) h = get_inside xs k (omega arith)
 passes_none : (form : Form) (page : ℕ) (kinds : List BucketKind) (copy : ℕ) (image : Image) →
     ((kind : BucketKind) → slice_get kinds copy ≡ Some kind → passing_of form page kind image ≡ None) →
     passes_at (passings form page kinds image) copy ≡ None
-passes_none form page kinds copy image none = by (slice_get kinds copy) refl
+passes_none form page kinds copy image none =
+    let f : BucketKind → Option (List ℕ) = λ kind. passing_of form page kind image in
+    ap (option_and_then (λ (area : Option (List ℕ)). area)) (slice_get-map f kinds copy) ∙ by (slice_get kinds copy) refl
   where
-    by : (there : Option BucketKind) → slice_get kinds copy ≡ there → passes_at (passings form page kinds image) copy ≡ None
-    by None e =
-        let f : BucketKind → Option (List ℕ) = λ kind. passing_of form page kind image in
-        ap (option_and_then (λ (area : Option (List ℕ)). area)) (slice_get-map f kinds copy ∙ ap (option_map f) e)
-    by (Some kind) e = passes_kind form page kinds copy kind image e ∙ none kind e
-
-none_found : (passed : List (Option (List ℕ))) → ((copy : ℕ) → passes_at passed copy ≡ None) → first_found passed ≡ None
-none_found [] none = refl
-none_found (None ∷ passed) none = none_found passed (λ copy. none (suc copy))
-none_found (Some area ∷ passed) none = absurd (let h = none 0 in cc)
+    by : (there : Option BucketKind) → slice_get kinds copy ≡ there →
+        option_and_then (λ (area : Option (List ℕ)). area) (option_map (λ kind. passing_of form page kind image) there) ≡ None
+    by None e = refl
+    by (Some kind) e = none kind e
 
 -- ---- what a fault tells, and why it came
 
@@ -189,8 +186,9 @@ module _ (plan : SessionPlan) (from : Device) where
           last = last;
           none = λ image f.
               subst (λ p. first_found (passed_in plan.keyed p image) ≡ None) (ap (λ geometry. geometry.page) later.geometry)
-              (none_found (passed_in plan.keyed mid.geometry.page image)
-              (λ place. passes_none form mid.geometry.page kinds place image (λ kind e. hopeless.none place kind e image f)));
+              (sym
+              (found_none (passed_in plan.keyed mid.geometry.page image)
+              (none_passes (λ kind. passing_of form mid.geometry.page kind image) kinds (λ place kind e. hopeless.none place kind e image f))));
           cause = cause;
         })));
       }

@@ -2,9 +2,11 @@
 -- last round.
 use Rattle.std.proofs.Common.{◌≡◌, ℕ, Bool, true, false, List, [], ◌∷◌, ◌++◌, map, Option, Some, None, Ok, Err, refl, sym, ap, subst, ◌∙◌, arith}
 use Rattle.std.specs.Option.{IfNone}
-use Rattle.std.proofs.lemmas.Option.{same_Some}
+use Rattle.std.proofs.lemmas.Bool.{false_from_ne_true}
+use Rattle.std.proofs.lemmas.Option.{none-some, same_Some}
 use Rattle.bb_base.proofs.Counts.{one_more_rose}
 use Rattle.bb_base.specs.Faults.{Rose}
+use Rattle.bb_bucket.proofs.Quiet.{keeps_of_quiet}
 use Rattle.bb_copies.specs.Store.{used_after}
 use Rattle.bb_copies.specs.declared.answers.CopyFault.{CopyFault}
 use Rattle.bb_copies.specs.declared.answers.CopyFault.TheVariants as faults
@@ -13,7 +15,7 @@ use Rattle.bb_copies.specs.declared.answers.Loaded.TheVariants.{Copy, NoCopy}
 use Rattle.bb_copies.proofs.Runs.{later_refl}
 use Rattle.bb_flash.proofs.Moments.{later_joined}
 use Rattle.bb_flash.specs.Cuts.{IsLater}
-use Rattle.bb_flash.specs.Device.{Device, Told, content}
+use Rattle.bb_flash.specs.Device.{Device, content}
 use Rattle.bb_flash.specs.declared.plan.Plan.{Plan as StartPlan}
 use Rattle.bb_state.specs.Keyed.{Keyed}
 use Rattle.bb_state.specs.State.{IsStored}
@@ -30,19 +32,17 @@ use Rattle.bb_shell.proofs.Sequence.{failed_before, failed_unrefused}
 use Rattle.bb_shell.proofs.Starts.{round_later, unrefused}
 use Rattle.bb_plan.specs.Plan.{SessionPlan}
 use Rattle.bb_plan.specs.declared.plan.Work.{Work}
-use Rattle.bb_plan.specs.declared.plan.Work.TheVariants.{Show}
 use Rattle.bb_plan.specs.Refusal.{copy_refusal, status_of}
 use Rattle.bb_plan.specs.declared.refusal.Refusal.{Refusal}
 use Rattle.bb_plan.specs.declared.refusal.Refusal.TheVariants as refusals
 use Rattle.bb_session.specs.Acting.{kept_before, start_plans_of}
 use Rattle.bb_session.specs.Exactly.{last_area_of}
 use Rattle.bb_session.specs.Session.{LoadAnswer, acts_after, loaded_area, rounds_after, work_session}
-use Rattle.bb_session.specs.Work.{IsLoaded, IsLoadedArea, IsLookWork, IsTableWork, IsWork, area_taken}
+use Rattle.bb_session.specs.Work.{IsLoaded, IsLoadedArea, IsTableWork, IsWork, area_taken}
 use Rattle.bb_session.specs.WriteFault.{IsWriteFault}
-use Rattle.bb_session.proofs.Accounts.{quiet_same}
 use Rattle.bb_session.proofs.Acted.{acts_stop, by_work, rounds_is, session_rounds}
 use Rattle.bb_session.proofs.Barred.{is_device_fault}
-use Rattle.bb_session.proofs.Ended.{none_some, session_fault}
+use Rattle.bb_session.proofs.Ended.{session_fault}
 use Rattle.bb_session.proofs.Faulting.{Explains, IsKnown, IsThere, copies_are, load_known, save_known}
 
 -- ---- a load that answered Ok
@@ -50,10 +50,7 @@ use Rattle.bb_session.proofs.Faulting.{Explains, IsKnown, IsThere, copies_are, l
 loaded_there : (keyed : Keyed) (from to : Device) (area : List ℕ) (loaded : Loaded) → IsLoadedArea keyed area loaded from to →
     IsThere keyed (used_after loaded)
 loaded_there keyed from to area (Copy used live) gave copy is =
-    let same : used ≡ copy = cc in
-    let inside = gave.gives.exit.inside in
-    let many = copies_are keyed in
-    omega (arith, same, inside, many)
+    omega (arith, same_Some used copy is, gave.gives.exit.inside, copies_are keyed)
 loaded_there keyed from to area NoCopy gave copy is = absurd cc
 
 -- where it took no copy none was found
@@ -73,7 +70,7 @@ area_behind area other (next ∷ areas) at = at
 
 refused_is : (outcome : Outcome) (fault : CopyFault) → refusal_of outcome ≡ Some fault → outcome ≡ outcomes.Refused fault
 refused_is (outcomes.Refused other) fault h = ap (λ f. outcomes.Refused f) (same_Some other fault h)
-refused_is _ fault h = absurd (none_some fault h)
+refused_is _ fault h = absurd (none-some fault h)
 
 -- the copy that is used after a round whose save was made, and the last table that it and the
 -- rounds after it save
@@ -114,28 +111,22 @@ module _ (keyed : Keyed) (plans : List (Option StartPlan)) (fault : CopyFault) w
           let stored = subst (λ r. IfNone r (IsStored keyed round.table copy from run.middle)) (unrefused round.outcome done) (run.saved.begun e).stored in
           record {
             there = λ before place is.
-                let same = same_Some stored.saved.used place (sym stored.saved.is ∙ is) in
-                let inside = stored.saved.exit.inside in
-                let many = copies_are keyed in
-                omega (arith, same, inside, many);
-            lost = λ none. absurd (none_some stored.saved.used (sym none ∙ stored.saved.is));
-            wants = λ area at.
-                ap last_table (begun_saving kept round later e) ∙ area_behind area round.table (tables_of (Some round.table) later) at;
+                omega (arith, same_Some stored.saved.used place (sym stored.saved.is ∙ is), stored.saved.exit.inside, copies_are keyed);
+            lost = λ none. absurd (none-some stored.saved.used (sym none ∙ stored.saved.is));
+            wants = λ area at. ap last_table (begun_saving kept round later e) ∙ area_behind area round.table (tables_of (Some round.table) later) at;
           }
 
   refused_once : (kept : Option (List ℕ)) (used now : Option ℕ) (round : Round) (from to : Device) → IsRoundRun keyed plans kept used now round from to →
       refusal_of round.outcome ≡ Some fault → IsRefusedRun keyed plans kept used (round ∷ []) fault from to
   unfolding AreRun
   refused_once kept used now round from to run refused =
-      by (subst (λ r. IsSaveRun keyed kept used now round.table r from run.middle) refused run.saved) (same_as_kept kept round.table) refl
-    where
-      alone : to ≡ run.middle
-      alone = subst (λ o. IsTried (plan_at plans round.target) o run.middle to) (refused_is round.outcome fault refused) run.tried
-
-      by : IsSaveRun keyed kept used now round.table (Some fault) from run.middle → (same : Bool) → same_as_kept kept round.table ≡ same →
-          IsRefusedRun keyed plans kept used (round ∷ []) fault from to
-      by saved true e = absurd (none_some fault (sym (saved.idle e).done))
-      by saved false e = record {
+      let saved : IsSaveRun keyed kept used now round.table (Some fault) from run.middle =
+      subst (λ r. IsSaveRun keyed kept used now round.table r from run.middle) refused run.saved in
+      let other : same_as_kept kept round.table ≡ false =
+      false_from_ne_true _ (λ e. none-some fault (sym (saved.idle e).done)) in
+      let alone : to ≡ run.middle =
+      subst (λ o. IsTried (plan_at plans round.target) o run.middle to) (refused_is round.outcome fault refused) run.tried in
+      record {
         earlier = [];
         last = round;
         are = refl;
@@ -144,16 +135,16 @@ module _ (keyed : Keyed) (plans : List (Option StartPlan)) (fault : CopyFault) w
         now = now;
         run = (refl, refl);
         later = later_refl from;
-        begun = subst (IsBegun keyed used now round.table (Some fault) from) (sym alone) (saved.begun e);
+        begun = subst (IsBegun keyed used now round.table (Some fault) from) (sym alone) (saved.begun other);
         there = λ there. there;
         lost = λ none. none;
-        wanted = ap last_table (begun_saving kept round [] e);
+        wanted = ap last_table (begun_saving kept round [] other);
       }
 
   refused_run : (rounds : List Round) (kept : Option (List ℕ)) (used now : Option ℕ) (from to : Device) → StopsThere rounds →
       AreRun keyed plans kept used now rounds from to → refused_in rounds ≡ Some fault → IsRefusedRun keyed plans kept used rounds fault from to
   unfolding AreRun StopsThere
-  refused_run [] kept used now from to stops run refused = absurd (none_some fault refused)
+  refused_run [] kept used now from to stops run refused = absurd (none-some fault refused)
   refused_run (round ∷ []) kept used now from to stops run refused =
       subst (IsRefusedRun keyed plans kept used (round ∷ []) fault from) (sym run.behind.1)
       (refused_once kept used run.copy round from run.device run.before refused)
@@ -192,14 +183,12 @@ rounds_explain plan from to found answers fault work refused =
     let gave = work.loaded.gives in
     let plans = start_plans_of plan.work in
     let kept = kept_before plan.work (loaded_area plan.keyed.layout found) in
-    let rounds = session_rounds plan found work.used work.middle to answers run in
     let last = refused_run plan.keyed plans fault run.rounds kept work.used run.now work.middle to
-    (acts_stop plans (acts_after plan found) run.rounds run.are) run.run
-    (sym (ap refused_in (rounds_is plan found work.used work.middle to answers run)) ∙ refused) in
+    (acts_stop plans (acts_after plan found) run.rounds run.are) run.run (sym (ap refused_in (rounds_is work)) ∙ refused) in
     save_known plan from found answers last.copy last.last.table last.middle to fault work.many
-    (ap (λ rs. last_area_of None (tables_of kept rs)) rounds ∙ last.wanted)
+    (ap (λ rs. last_area_of None (tables_of kept rs)) (session_rounds work) ∙ last.wanted)
     (later_joined from work.middle last.middle work.loaded.later last.later) last.begun.runs.later
-    (last.there (subst (IsThere plan.keyed) (sym gave.used_is) (loaded_there plan.keyed from work.middle gave.area gave.loaded gave.gave)))
+    (last.there (subst (IsThere plan.keyed) (sym gave.used_is) (loaded_there _ _ _ _ _ gave.gave)))
     (λ copy is. record {
       first = work.middle;
       used = work.used;
@@ -208,56 +197,47 @@ rounds_explain plan from to found answers fault work refused =
       found_is = refl;
       earlier = last.earlier;
       last = last.last;
-      rounds = rounds ∙ last.are;
+      rounds = session_rounds work ∙ last.are;
       run = subst (λ used. AreRun plan.keyed plans kept work.used used last.earlier work.middle last.middle) is last.run;
     })
     (λ none. gave.taken ∙ nothing_taken gave.area gave.loaded (sym gave.used_is ∙ last.lost none))
     last.begun.sure last.begun.fails
 
-table_explains : (plan : SessionPlan) (from to : Device) (load : LoadAnswer) (answers : List RoundAnswer) (refusal : Refusal) →
-    is_device_fault (status_of refusal) ≡ true → IsTableWork plan from to load answers →
-    (work_session plan load answers).refusal ≡ Some refusal → IsExplained plan from to load answers refusal
-table_explains plan from to (Err fault) answers refusal device work h = record {
-  fault = fault;
-  is = same_Some refusal (copy_refusal fault) (sym h);
-  known =
-      load_known plan from work.used to answers fault
-      (subst (λ (d : Device). IsLoaded plan.keyed work.used from d (Err fault)) (sym work.ran.1) work.loaded);
-}
-table_explains plan from to (Ok found) answers refusal device work h =
-    let fault = session_fault plan found answers refusal device h in
-    record { fault = fault.fault; is = fault.is; known = rounds_explain plan from to found answers fault.fault work fault.last }
-
-look_known : (plan : SessionPlan) (from to : Device) (load : LoadAnswer) (answers : List RoundAnswer) (fault : CopyFault) → fault ≡ faults.ReadFault →
-    Rose from.faults to.faults → Rose from.read_faults to.read_faults → content to ≡ content from → IsKnown plan from to load answers fault
-look_known plan from to load answers fault is rose read same =
-    subst (IsKnown plan from to load answers) (sym is) (record { tells = (rose, read); explains = same })
-
-look_explains : (plan : SessionPlan) (from to : Device) (load : LoadAnswer) (answers : List RoundAnswer) (refusal : Refusal) →
-    is_device_fault (status_of refusal) ≡ true → plan.work ≡ Show → IsLookWork plan from to load answers →
-    (work_session plan load answers).refusal ≡ Some refusal → IsExplained plan from to load answers refusal
-look_explains plan from to (Err fault) answers refusal device shows work h = record {
-  fault = fault;
-  is = same_Some refusal (copy_refusal fault) (sym h);
-  known =
-      look_known plan from to (Err fault) answers fault work.looked.fails
-      (subst (Rose from.faults) (sym work.looked.faults) (one_more_rose from.faults))
-      (subst (Rose from.read_faults) (sym work.looked.read_faults) (one_more_rose from.read_faults))
-      (quiet_same (λ (told : Told). told.image) from to (λ told. refl) work.looked.quiet.told);
-}
-look_explains plan from to (Ok found) answers refusal device shows work h =
-    let fault = session_fault plan found answers refusal device h in
-    absurd
-    (none_some fault.fault
-    (sym (ap (λ (w : Work). refused_in (rounds_after (record { keyed = plan.keyed; work = w }) found answers)) shows) ∙ fault.last))
-
 pub work_explains : (plan : SessionPlan) (from to : Device) (load : LoadAnswer) (answers : List RoundAnswer) (refusal : Refusal) →
     is_device_fault (status_of refusal) ≡ true → IsWork plan from to load answers →
     (work_session plan load answers).refusal ≡ Some refusal → IsExplained plan from to load answers refusal
-work_explains plan from to load answers refusal device work h =
-    by_work plan from to load answers work
-    (λ needs done. table_explains plan from to load answers refusal device done h)
-    (λ shows done. look_explains plan from to load answers refusal device shows done h)
+work_explains plan from to (Err fault) answers refusal device work h = record {
+  fault = fault;
+  is = same_Some refusal (copy_refusal fault) (sym h);
+  known =
+      by_work plan from to (Err fault) answers work
+      (λ needs done.
+      load_known plan from done.used to answers fault
+      (subst (λ (d : Device). IsLoaded plan.keyed done.used from d (Err fault)) (sym done.ran.1) done.loaded))
+      (λ shows done.
+      let read : fault ≡ faults.ReadFault = done.looked.fails in
+      subst (IsKnown plan from to (Err fault) answers) (sym read)
+      (record {
+        tells = (
+          subst (Rose from.faults) (sym done.looked.faults) (one_more_rose from.faults),
+          subst (Rose from.read_faults) (sym done.looked.read_faults) (one_more_rose from.read_faults),
+        );
+        explains = (keeps_of_quiet from to done.looked.quiet).content;
+      }));
+}
+work_explains plan from to (Ok found) answers refusal device work h =
+    let fault = session_fault plan found answers refusal device h in
+    record {
+      fault = fault.fault;
+      is = fault.is;
+      known =
+          by_work plan from to (Ok found) answers work
+          (λ needs done. rounds_explain plan from to found answers fault.fault done fault.last)
+          (λ shows done.
+          absurd
+          (none-some fault.fault
+          (sym (ap (λ (w : Work). refused_in (rounds_after (record { keyed = plan.keyed; work = w }) found answers)) shows) ∙ fault.last)));
+    }
 
 -- ---- in the words of a call
 

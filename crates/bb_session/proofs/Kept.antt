@@ -1,8 +1,14 @@
--- What a load leaves of the copies, as lists of what they pass.
-use Rattle.std.proofs.Common.{◌≡◌, ℕ, List, [], ◌∷◌, Option, Some, None, is_some, unwrap_or, refl, sym, ap, subst, ◌∙◌}
+-- What a load takes of the copies, and what it leaves of them, as lists of what they pass.
+use Rattle.std.proofs.Common.{◌≡◌, ℕ, Bool, List, [], ◌∷◌, length, Option, Some, None, is_some, unwrap_or, refl, sym, ap, subst, ◌∙◌, if◌then◌else◌}
+use Rattle.std.specs.Option.{IfSome}
 use Rattle.std.specs.Prelude.{All}
 use Rattle.std.specs.List.{AllByRecursion}
+use Rattle.std.proofs.lemmas.Bool.{cond_both}
+use Rattle.std.proofs.lemmas.Option.{option_and_then_some, same_Some}
 use Rattle.std.proofs.lemmas.List.Elements.{All-from_recursion}
+use Rattle.bb_base.specs.Form.{Form}
+use Rattle.bb_bucket.specs.Kind.{BucketKind, part_of}
+use Rattle.bb_copies.specs.Passing.{passing_of, passings}
 use Rattle.bb_copies.specs.Saving.{KeepsUsed}
 use Rattle.bb_copies.specs.StandsFor.{EachPassesOrNothing, IsAreaOrNone, SomeIsSpared, SomePasses, first_passed}
 use Rattle.bb_copies.specs.Store.{used_after}
@@ -13,6 +19,8 @@ use Rattle.bb_flash.specs.Device.{Device, content}
 use Rattle.bb_flash.specs.Image.{Image}
 use Rattle.bb_shell.proofs.Reached.{passes_some}
 use Rattle.bb_state.specs.Keyed.{Keyed}
+use Rattle.bb_state.specs.Kinds.{any_format_laws, format_of, laid_form, laid_kinds}
+use Rattle.bb_state.proofs.Fitting.{fits_sized}
 use Rattle.bb_plan.specs.Plan.{first_area}
 use Rattle.bb_session.specs.Looking.{first_found, passed_in}
 use Rattle.bb_session.specs.Session.{loaded_area}
@@ -81,8 +89,7 @@ load_left keyed area (Copy used live) from to x y found e f =
       table = first;
     }
 load_left keyed area NoCopy from to x y found e f =
-    let same : Some y ≡ Some x = sym f ∙ found.gives.content ∙ e in
-    let is : x ≡ y = cc in
+    let is = sym (same_Some y x (sym f ∙ found.gives.content ∙ e)) in
     let none = found.gives.none x e in
     let before = passed_in keyed from.geometry.page x in
     let first = first_passed (first_area keyed.layout) before in
@@ -103,3 +110,34 @@ loaded_left keyed used found from to x y gave e f page at_page =
     (subst
     (λ u. IsLeft keyed u (area_taken gave.area gave.loaded) (passed_in keyed from.geometry.page x) (passed_in keyed from.geometry.page y))
     (sym gave.used_is) (load_left keyed gave.area gave.loaded from to x y gave.gave e f)))
+
+-- what is kept before the first save is what was loaded, if anything is
+pub kept_has : (P : List ℕ → Type 0) (always : Bool) (table : List ℕ) → P table → IfSome (if always then None else Some table) P
+kept_has P always table is = cond_both always None (Some table) (λ o. IfSome o P) (λ e. tt) (λ e. is)
+
+abbrev PassesSized : Form → ℕ → Type 0
+PassesSized form len = (bytes area : List ℕ) → form.passes bytes ≡ Some area → length area ≡ len
+
+form_sized : (keyed : Keyed) → PassesSized (laid_form keyed) keyed.layout.area_len
+form_sized keyed bytes area passes =
+    fits_sized keyed area ((any_format_laws (format_of keyed)).passed_fits bytes area passes)
+
+first_sized : (form : Form) (len page : ℕ) (image : Image) (first : List ℕ) → PassesSized form len → length first ≡ len →
+    (kinds : List BucketKind) → length (first_passed first (passings form page kinds image)) ≡ len
+first_sized form len page image first each sized [] = sized
+first_sized form len page image first each sized (kind ∷ kinds) =
+    by (first_sized form len page image first each sized kinds) (passing_of form page kind image) refl
+  where
+    by : length (first_passed first (passings form page kinds image)) ≡ len → (o : Option (List ℕ)) →
+        passing_of form page kind image ≡ o → length (first_passed first (o ∷ passings form page kinds image)) ≡ len
+    by later None e = later
+    by later (Some area) e =
+        option_and_then_some form.passes (kind.candidate_of (part_of page kind.region image)) area e
+        (λ bytes is passes. each bytes area passes)
+
+-- the area that a load takes, or the one of an empty device
+pub passed_sized : (keyed : Keyed) (page : ℕ) (image : Image) → length (first_area keyed.layout) ≡ keyed.layout.area_len →
+    length (first_passed (first_area keyed.layout) (passed_in keyed page image)) ≡ keyed.layout.area_len
+passed_sized keyed page image sized =
+    first_sized (laid_form keyed) keyed.layout.area_len page image (first_area keyed.layout) (form_sized keyed) sized
+    (laid_kinds keyed.layout)

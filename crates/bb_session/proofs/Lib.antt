@@ -7,9 +7,7 @@ pub mod Exact
 pub mod Faulting
 pub mod Faults
 pub mod Kept
-pub mod Passed
 pub mod Regions
-pub mod Sounded
 pub mod Started
 pub mod Turns
 pub mod Unrefused

@@ -12,7 +12,7 @@ use Rattle.bb_flash.specs.Image.{Image}
 use Rattle.bb_flash.specs.declared.geometry.Geometry.{Geometry}
 use Rattle.bb_state.specs.Kinds.{any_form}
 use Rattle.bb_state.specs.declared.any_format.AnyFormat.TheVariants.{Raw}
-use Rattle.bb_session.specs.Exactly.{calls_in, erases_in, last_area_of, loaded_region, saved_region, writes_of_load, writes_of_saves}
+use Rattle.bb_session.specs.Exactly.{CopyWrite, calls_in, erases_in, last_area_of, loaded_region, saved_region, writes_of_load, writes_of_saves}
 
 form : Form
 form = any_form (Raw (record { magic = 0x12345678; area_len = 9; key = None }))
@@ -68,33 +68,26 @@ blocks = record { page = 64; block = 256; size = 1024 }
 block_kind : BucketKind
 block_kind = one_block_kind (record { region = record { at = 256; size = 256 }; page = 64 })
 
-two_saves_erase_the_block_twice :
-    sum_by (erases_in form blocks 1 block_kind)
-    (writes_of_saves form block_kind (codes "a" ∷ codes "b" ∷ []) blank)
-    ≡ 2
-unfolding form blocks block_kind
+-- two saves of it
+saves_of : BucketKind → List CopyWrite
+saves_of place = writes_of_saves form place (codes "a" ∷ codes "b" ∷ []) blank
+
+two_saves_erase_the_block_twice : sum_by (erases_in form blocks 1 block_kind) (saves_of block_kind) ≡ 2
+unfolding form blocks block_kind saves_of
 two_saves_erase_the_block_twice = refl
 
-they_erase_no_other_block :
-    sum_by (erases_in form blocks 0 block_kind)
-    (writes_of_saves form block_kind (codes "a" ∷ codes "b" ∷ []) blank)
-    ≡ 0
-unfolding form blocks block_kind
+they_erase_no_other_block : sum_by (erases_in form blocks 0 block_kind) (saves_of block_kind) ≡ 0
+unfolding form blocks block_kind saves_of
 they_erase_no_other_block = refl
 
-they_make_four_calls :
-    sum_by (calls_in form block_kind)
-    (writes_of_saves form block_kind (codes "a" ∷ codes "b" ∷ []) blank)
-    ≡ 4
-unfolding form block_kind
+they_make_four_calls : sum_by (calls_in form block_kind) (saves_of block_kind) ≡ 4
+unfolding form block_kind saves_of
 they_make_four_calls = refl
 
-two_saves_of_a_stride_make_two_calls :
-    sum_by (calls_in form kind) (writes_of_saves form kind (codes "a" ∷ codes "b" ∷ []) blank) ≡ 2
-unfolding form kind
+two_saves_of_a_stride_make_two_calls : sum_by (calls_in form kind) (saves_of kind) ≡ 2
+unfolding form kind saves_of
 two_saves_of_a_stride_make_two_calls = refl
 
-a_load_of_a_fresh_copy_makes_no_write :
-    writes_of_load form kind (Some (codes "123456789")) (stored Fine) ≡ []
+a_load_of_a_fresh_copy_makes_no_write : writes_of_load form kind (Some (codes "123456789")) (stored Fine) ≡ []
 unfolding after_byte after_eight_bits after_bit form kind entry stored
 a_load_of_a_fresh_copy_makes_no_write = refl

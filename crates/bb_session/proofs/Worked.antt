@@ -1,7 +1,8 @@
 -- The ways in which the work of a plan ends.
-use Rattle.std.proofs.Common.{◌≡◌, ◌⊎◌, ℕ, Bool, true, false, List, [], ◌++◌, length, take, Vec, Global, Some, None, Result, Ok, Err, option_map, arith, refl, sym, ap, subst, inl, inr}
+use Rattle.std.proofs.Common.{◌≡◌, ℕ, Bool, true, false, List, [], ◌++◌, length, take, Vec, Global, Some, None, Result, Ok, Err, option_map, arith, refl, sym, ap, subst, inl, inr}
 use Rattle.std.specs.Bool.{then_some}
 use Rattle.std.specs.Option.{ForSome}
+use Rattle.std.specs.Result.{IsErrAnd}
 use Rattle.std.proofs.lemmas.Grind.{common_steps}
 use Rattle.bb_bucket.specs.Calls.{IsQuiet}
 use Rattle.bb_copies.specs.Loading.{LookGives}
@@ -14,11 +15,10 @@ use Rattle.bb_shell.specs.Rounds.{RoundAnswer}
 use Rattle.bb_session.specs.Looking.{first_found, look_text, passed_in}
 use Rattle.bb_plan.specs.declared.plan.Work.TheVariants.{Show}
 use Rattle.bb_plan.specs.declared.plan.Work.{Work}
-use Rattle.bb_session.specs.Doing.{EndsWith}
-use Rattle.bb_session.specs.Session.{LoadAnswer, refused_for, work_session}
+use Rattle.bb_session.specs.Doing.{EndsWith, IsTold}
+use Rattle.bb_session.specs.Session.{LoadAnswer, work_session}
 use Rattle.bb_session.specs.Work.{IsWork, IsWorkedOut}
 use Rattle.bb_plan.specs.declared.refusal.Refusal.{Refusal}
-use Rattle.bb_plan.specs.declared.refusal.Refusal.TheVariants as refusals
 use Rattle.bb_session.specs.declared.report.Report.{Report}
 use Rattle.bb_session.proofs.Kept.{found_first, found_none}
 
@@ -36,14 +36,22 @@ worked_out keyed work from to load answers given done (inr wants) =
     inr (inl (record { load = load; answers = answers; work = done; whole = wants.1; is = wants.0 }))
 
 -- a refusal before any text
-pub refused_ends : (refusal : Refusal) (given : Result Report Refusal) → given ≡ Err refusal → EndsWith (refused_for refusal) given
-refused_ends refusal given is = subst (EndsWith (refused_for refusal)) (sym is) (inl (refl, refl))
+pub refused_ends : (refusal : Refusal) (rounds : List Round) (given : Result Report Refusal) → given ≡ Err refusal →
+    EndsWith (record { text = []; refusal = Some refusal; rounds = rounds }) given
+refused_ends refusal rounds given is =
+    subst (EndsWith (record { text = []; refusal = Some refusal; rounds = rounds })) (sym is) (inl (refl, refl))
 
 -- a text, or that memory was refused for it
-pub text_ends : (text : List ℕ) (rounds : List Round) (given : Result Report Refusal) →
-    (given ≡ Ok (told_whole text)) ⊎ (given ≡ Err refusals.NoMemory) → EndsWith (record { text = text; refusal = None; rounds = rounds }) given
-text_ends text rounds given (inl done) = subst (EndsWith (record { text = text; refusal = None; rounds = rounds })) (sym done) (inl (refl, refl))
+pub text_ends : (text : List ℕ) (rounds : List Round) (given : Result Report Refusal) → IsTold text given →
+    EndsWith (record { text = text; refusal = None; rounds = rounds }) given
+text_ends text rounds given (inl done) =
+    subst (EndsWith (record { text = text; refusal = None; rounds = rounds })) (sym done) (inl (refl, refl))
 text_ends text rounds given (inr memory) = inr (memory, tt)
+
+-- what the exit of a `?` gives, by the refusal that it hands on
+pub refused_by : {A E : Type 0} (given : Result A E) (e : E) → IsErrAnd given (λ r. r ≡ e) → given ≡ Err e
+refused_by (Ok x) e is = absurd is
+refused_by (Err r) e is = ap (λ r. Err r) is
 
 -- ---- a look
 
@@ -58,8 +66,7 @@ look_told keyed area false from gives = λ image told. found_none (passed_in key
 -- it answered Ok
 pub looked_ok : (keyed : Keyed) (area : List ℕ) (found : Bool) (from to : Device) (given : Result Report Refusal) →
     LookGives (laid_form keyed) (laid_kinds keyed.layout) area from found → to.faults ≡ from.faults → to.read_faults ≡ from.read_faults →
-    IsQuiet from to → (given ≡ Ok (told_whole (look_text (then_some found area)))) ⊎ (given ≡ Err refusals.NoMemory) →
-    IsWorkedOut keyed Show from to given
+    IsQuiet from to → IsTold (look_text (then_some found area)) given → IsWorkedOut keyed Show from to given
 looked_ok keyed area found from to given gives faults read_faults quiet is =
     worked_out keyed Show from to (Ok (then_some found area)) [] given
     (record {

@@ -1,15 +1,20 @@
 -- The work of a session on a table that was just loaded: the state that it starts from, what it
 -- made of the device, and what it gave.
-use Rattle.std.specs.Prelude.{◌≡◌, ◌⊎◌, ℕ, true, List, Option, Some, None, Result, Ok, Err, IsOk}
+use Rattle.std.specs.Prelude.{◌≡◌, ◌⊎◌, ℕ, Bool, true, false, List, [], Option, Some, None, Result, Ok, Err, IsOk}
+use Rattle.bb_actions.specs.Actions.{actions_text}
 use Rattle.bb_copies.specs.declared.answers.CopyFault.{CopyFault}
 use Rattle.bb_flash.specs.Device.{Device}
+use Rattle.bb_layout.specs.Layout.{Laid}
 use Rattle.bb_state.specs.Keyed.{Keyed}
 use Rattle.bb_state.specs.State.{IsOn, is_sure, last_table_of}
 use Rattle.bb_state.specs.declared.state.State.{State}
 use Rattle.bb_shell.specs.Rounds.{RoundAnswer}
 use Rattle.bb_shell.specs.Running.{IsSaveRun}
 use Rattle.bb_plan.specs.declared.plan.Work.{Work}
+use Rattle.bb_plan.specs.declared.plan.Work.TheVariants.{Act, Good, Write}
 use Rattle.bb_plan.specs.Refusal.{copy_refusal}
+use Rattle.bb_session.specs.Acting.{Acts, SavesOnce, refusal_by_table}
+use Rattle.bb_session.specs.Marking.{good_text}
 use Rattle.bb_session.specs.Session.{Session, work_session}
 use Rattle.bb_session.specs.Work.{Gives, IsRunAfter, SendsByMemory}
 use Rattle.bb_plan.specs.declared.refusal.Refusal.{Refusal}
@@ -32,6 +37,11 @@ abbrev pub EndsWith : Session → Result Report Refusal → Type 0
 EndsWith session given =
     Gives session given ⊎ ((given ≡ Err refusals.NoMemory) × SendsByMemory session.refusal)
 
+-- a text was given, or memory was refused for it
+abbrev pub IsTold : List ℕ → Result Report Refusal → Type 0
+IsTold text given =
+    (given ≡ Ok (record { text = text; refusal = None })) ⊎ (given ≡ Err refusals.NoMemory)
+
 -- A work was done on a table that was loaded. `used` is the copy that the load took.
 pub record IsDone (keyed : Keyed) (used : Option ℕ) (table : List ℕ) (work : Work)
     (from to : Device) (given : Result Report Refusal) : Type 0 where
@@ -40,6 +50,24 @@ pub record IsDone (keyed : Keyed) (used : Option ℕ) (table : List ℕ) (work :
   pub ends : EndsWith (session_on keyed work table answers) given
 
 -- ---- one save
+
+-- it saves once, a table that it makes of the loaded one
+abbrev pub stores : Work → Bool
+stores (Write area) = true
+stores (Act actions) = true
+stores (Good targets) = true
+stores _ = false
+
+-- that table was made, or the loaded one ends the session
+abbrev pub IsPut : {A : Type 0} → Acts → List ℕ → Result A Refusal → Type 0
+IsPut acts table (Ok done) = acts ≡ SavesOnce table
+IsPut acts table (Err refusal) = refusal_by_table acts ≡ Some refusal
+
+-- what the work says of it
+abbrev pub said_of : Laid → Work → List ℕ → List ℕ
+said_of layout (Act actions) table = actions_text layout table actions
+said_of layout (Good targets) table = good_text targets table
+said_of layout _ table = []
 
 -- what a save gives by why it was refused, if it was
 abbrev pub SaveGives : {A : Type 0} → Option CopyFault → Result A Refusal → Type 0

@@ -6,7 +6,7 @@ mod boot;
 mod mark_good;
 mod raw;
 mod report;
-mod state;
+mod store;
 mod work;
 
 pub use report::Report;

@@ -1,42 +1,31 @@
 ghost use Rattle.std.specs.Prelude.{◌≡◌, ◌↔◌, IfOk, IsSome, IsTrue, length};
 ghost use Rattle.std.specs.Option.{option_map};
 ghost use Rattle.bb_chooser.specs.Counting.{chosen_target, mark_good_of};
-ghost use Rattle.bb_state.specs.State.{keyed_of, used_of};
-ghost use Rattle.bb_session.specs.Doing.{IsAtHand, IsDone};
+ghost use Rattle.bb_state.specs.State.{keyed_of, laid_of};
+ghost use Rattle.bb_session.specs.Acting.{acts_of};
+ghost use Rattle.bb_session.specs.Doing.{IsPut};
 ghost use Rattle.bb_session.specs.Marking.{chosen_name, good_line, good_text};
 ghost use Rattle.bb_plan.specs.Plan.{IsServed};
 ghost use Rattle.bb_plan.specs.declared.plan.Work.TheVariants.{Good};
-ghost use Rattle.bb_session.specs.Work.{IsSendable};
 
-use crate::report::Report;
-use crate::state::save_table;
 use bb_base::{Bytes, NoMemory, Text};
 use bb_chooser::Chooser;
-use bb_flash::Flash;
 use bb_plan::Refusal;
 use bb_state::State;
 use bb_vars::Table;
 use std::alloc::Global;
 
-/// Gives the target that was chosen last its default attempts, saves the table where it is another
-/// than the one that was loaded, and gives the target's line.
-pub(crate) fn mark<F: Flash>(
-    alloc: Global,
-    flash: &mut F,
-    state: &mut State,
-    chooser: &Chooser,
-) -> Result<Report, Refusal>
+/// Marks the target that was chosen last good, in the table alone, or refuses where there is none.
+pub(crate) fn mark(state: &mut State, chooser: &Chooser) -> Result<(), Refusal>
     requires served { IsServed (keyed_of state.old) (Good chooser.now) }
-    requires hand { IsAtHand state.old (F.device flash.old) }
-    ensures did { IsDone (keyed_of state.old) (used_of state.old) state.old.table (Good chooser.now)
-        (F.device flash.old) (F.device flash.new) result }
-    ensures sends { IfOk result IsSendable }
+    ensures put { IsPut (acts_of (laid_of state.old) (Good chooser.now) state.old.table)
+        state.new.table result }
+    ensures backing { state.new.backing ≡ state.old.backing }
 {
-    if !mark_table(state, chooser) {
-        return Err(Refusal::NoGood(chooser.last_chosen(&state.table)));
+    if mark_table(state, chooser) {
+        return Ok(());
     }
-    save_table(flash, state)?;
-    Ok(Report::done(good_text(alloc, chooser, &state.table)?))
+    Err(Refusal::NoGood(chooser.last_chosen(&state.table)))
 }
 
 // Gives the target that was chosen last its default attempts, in the table alone.
@@ -49,7 +38,8 @@ fn mark_table(state: &mut State, chooser: &Chooser) -> bool
     chooser.mark_good(&mut state.table)
 }
 
-fn good_text(alloc: Global, chooser: &Chooser, table: &Table) -> Result<Bytes, NoMemory>
+/// The line of the target that was chosen last.
+pub(crate) fn good_text(alloc: Global, chooser: &Chooser, table: &Table) -> Result<Bytes, NoMemory>
     requires { length table.now ≡ chooser.now.area_len }
     ensures { IfOk result (λ text. text ≡ good_text chooser.now table.now) }
 {

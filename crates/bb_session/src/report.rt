@@ -1,4 +1,4 @@
-use bb_base::Bytes;
+use bb_base::{Bytes, NoMemory};
 use bb_plan::Refusal;
 
 /// What is sent of a session whose work was done: a text, and after it the line of a refusal, where
@@ -10,7 +10,9 @@ pub struct Report {
 }
 
 impl Report {
-    ghost use Rattle.std.specs.Prelude.{◌≡◌, None};
+    ghost use Rattle.std.specs.Prelude.{◌≡◌, ℕ, IfOk, List, None};
+    ghost use Rattle.bb_session.specs.Doing.{IsTold};
+    ghost use Rattle.bb_session.specs.Work.{IsSendable};
 
     /// The work is done, and this is its text.
     pub fn done(text: Bytes) -> Report
@@ -20,5 +22,13 @@ impl Report {
             text,
             refusal: None,
         }
+    }
+
+    /// The same of a text for which memory may have been refused.
+    pub(crate) fn of(text: Result<Bytes, NoMemory>) -> Result<Report, Refusal>
+        ensures told { (told : List ℕ) → IfOk text (λ bytes. bytes ≡ told) → IsTold told result }
+        ensures sends { IfOk result IsSendable }
+    {
+        Ok(Report::done(text?))
     }
 }

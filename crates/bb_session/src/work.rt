@@ -9,10 +9,9 @@ ghost use Rattle.bb_plan.specs.Refusal.{IsSendableRefusal};
 ghost use Rattle.bb_session.specs.Work.{IsSendable, IsWorkedOut};
 
 use crate::boot::boot;
-use crate::mark_good::mark;
-use crate::raw::{look, save};
+use crate::raw::look;
 use crate::report::Report;
-use crate::state::act;
+use crate::store::store;
 use bb_flash::Board;
 use bb_plan::{PlannedWork, Refusal, Work};
 use bb_state::State;
@@ -59,10 +58,7 @@ fn work_on<B: Board>(
 fn needs_table(work: &Work) -> bool
     ensures { result ≡ needs_table work.now }
 {
-    match work {
-        Work::Show => false,
-        Work::Write(_) | Work::Act(_) | Work::Good(_) | Work::Boot(_, _, _) => true,
-    }
+    !matches!(work, Work::Show)
 }
 
 // The work on a table that was just loaded.
@@ -81,9 +77,7 @@ fn work_at<B: Board>(
 {
     match work {
         Work::Show => unreachable!(),
-        Work::Write(area) => save(alloc, board, state, area.as_slice()),
-        Work::Act(actions) => act(alloc, board, state, actions),
-        Work::Good(chooser) => mark(alloc, board, state, chooser),
+        Work::Write(_) | Work::Act(_) | Work::Good(_) => store(alloc, board, state, work),
         Work::Boot(chooser, cause, plans) => boot(alloc, board, state, chooser, plans, *cause),
     }
 }

@@ -1,96 +1,233 @@
 -- What each answer of a session says, from the session as a whole.
-use Rattle.std.proofs.Common.{◌≡◌, ◌≢◌, ◌⊎◌, ℕ, ◌<◌, ◌≤◌, true, false, List, ◌++◌, Option, Some, None, Result, Ok, Err, IsErr, refl, sym, ap, subst, ◌∙◌, inl, inr}
+use Rattle.std.proofs.Common.{◌≡◌, ◌≢◌, ◌⊎◌, ℕ, ◌<◌, ◌≤◌, true, false, List, [], ◌++◌, Option, Some, None, Result, Ok, Err, IsErr, refl, sym, ap, subst, ◌∙◌, inl, inr}
 use Rattle.std.specs.Option.{option_map_or}
 use Rattle.bb_base.specs.Faults.{Rose}
 use Rattle.bb_base.specs.Folder.{FileMap}
 use Rattle.bb_copies.specs.declared.answers.CopyFault.{CopyFault}
 use Rattle.bb_copies.specs.declared.answers.CopyFault.TheVariants as faults
+use Rattle.bb_drill.specs.declared.counts.DrillCounts.{DrillCounts}
 use Rattle.bb_flash.specs.Device.{Device}
 use Rattle.bb_flash.specs.declared.geometry.Geometry.{Geometry}
 use Rattle.bb_state.specs.Keyed.{Keyed}
 use Rattle.bb_words.specs.Words.{words_of}
 use Rattle.bb_words.specs.declared.command.Command.{Command}
-use Rattle.bb_tool.specs.Calls.{ComesByDevice, ComesByFiles, ComesBySink, ComesByPlan, ComesByPlanAlone, ComesByReads, ComesByWords, CountsSinkFaults, IsAnswered, IsSession, IsWithoutMemory, MayAnswer, NamesACopy, SendsSessionFront, SendsText, geometry_of, plan_over, session_for}
-use Rattle.bb_plan.specs.Plan.{EarlyEnd, Printed, Refused, planned, IsRefusedWith, Drilled}
-use Rattle.bb_drill.specs.declared.counts.DrillCounts.{DrillCounts}
 use Rattle.bb_words.specs.declared.command.DrillNumbers.{DrillNumbers}
-use Rattle.bb_tool.specs.Drilling.{IsCounted, IsDrilled}
-use Rattle.bb_plan.specs.Status.{is_planning}
-use Rattle.bb_tool.specs.Copying.{KeepsATrail, KeepsAtExit, KeepsOutsideCopies}
-use Rattle.bb_tool.specs.SessionAnswer.{IsFollowed, IsSessionAnswer}
-use Rattle.bb_plan.specs.Plan.{FileAnswers, SessionPlan, copies_in, plan_by_words, words_reading}
 use Rattle.bb_plan.specs.FilesRead.{result_by}
-use Rattle.bb_tool.specs.Ran.{Ran}
+use Rattle.bb_plan.specs.Plan.{Drilled, EarlyEnd, IsRefusedWith, Printed, Refused, SessionPlan, copies_in, planned, words_reading}
 use Rattle.bb_plan.specs.Refusal.{copy_refusal, status_of}
-use Rattle.bb_tool.specs.Lines.{line_of}
-use Rattle.bb_session.specs.Session.{Answers, Session, drill_session, ended_status, session_by, refused_for, session_of, work_session}
-use Rattle.bb_tool.specs.Sending.{sent_of}
-use Rattle.bb_tool.specs.Sending.{IsTextCut, IsSentAfter, IsSentRefusal}
-use Rattle.bb_session.specs.Work.{SendsByMemory}
+use Rattle.bb_plan.specs.Status.{is_planning}
 use Rattle.bb_plan.specs.declared.refusal.Refusal.{Refusal}
 use Rattle.bb_plan.specs.declared.refusal.Refusal.TheVariants as refusals
-use Rattle.bb_session.specs.declared.report.Report.{Report}
 use Rattle.bb_plan.specs.declared.status.Status.{Status}
 use Rattle.bb_plan.specs.declared.status.Status.TheVariants as statuses
-use Rattle.bb_plan.proofs.Plans.{alone_plan, faulty_plan, plan_refusal, same_plan, words_refused}
-use Rattle.bb_tool.proofs.Followed.{work_of}
-use Rattle.bb_tool.proofs.Refusals.{tells}
-use Rattle.bb_tool.proofs.Told.{memory_sink, told_cases, told_counts, told_front, told_memory, told_other, told_own}
+use Rattle.bb_plan.proofs.Plans.{IsPlanOf, alone_plan, faulty_plan, plan_refusal, same_plan, words_refused}
+use Rattle.bb_session.specs.Session.{Answers, Session, drill_session, early_session, ended_status, session_by, work_session}
+use Rattle.bb_session.specs.Work.{SendsByMemory}
+use Rattle.bb_session.specs.declared.report.Report.{Report}
+use Rattle.bb_session.proofs.Barred.{is_device_fault}
 use Rattle.bb_session.proofs.Ended.{is_work, not_work, worked_work}
 use Rattle.bb_session.proofs.Faulting.{FaultTells}
-use Rattle.bb_session.proofs.Faults.{IsExplained, work_explains}
-use Rattle.bb_session.proofs.Barred.{is_device_fault}
-use Rattle.bb_session.proofs.Works.{has_trails, keeps_outside, leads_on}
+use Rattle.bb_session.proofs.Faults.{work_explains}
+use Rattle.bb_tool.specs.Calls.{AsksNothing, ComesByDevice, ComesByFiles, ComesByPlan, ComesByPlanAlone, ComesByReads, ComesBySink, ComesByWords, ComesFirst, CountsSinkFaults, CutsTheText, IsAnswered, IsSession, MayAnswer, NamesACopy, NamesNoFile, NamesTheCopy, SendsText, WantsMemory, geometry_of, plan_over, session_for, session_plan_for}
+use Rattle.bb_tool.specs.Drilling.{IsCounted, IsDrilled}
+use Rattle.bb_tool.specs.Lines.{line_of}
+use Rattle.bb_tool.specs.Ran.{Ran}
+use Rattle.bb_tool.specs.Sending.{IsSentAfter, IsSentRefusal, IsSentReport, sent_of}
+use Rattle.bb_tool.specs.SessionAnswer.{IsFollowed, IsSessionAnswer}
+use Rattle.bb_tool.proofs.Told.{IsCut, some_refusal, tells, told_cases, told_counts, told_short}
 
--- ---- an answer that is the session's own
+abbrev pub PlanEnd : Type 0
+PlanEnd = Result SessionPlan EarlyEnd
 
-pub record IsOwn (ran : Ran) (answer : Status) : Type 0 where
-  pub ending : IsAnswered ran
-  pub own : ended_status (session_for ran ending.answers) ≡ answer
+abbrev pub status_by : PlanEnd → Answers → Status
+status_by plan answers = ended_status (session_by plan answers)
 
-pub own_answer : (ran : Ran) (answer : Status) → IsSession ran → answer ≢ statuses.SinkFault → answer ≢ statuses.NoMemory → ran.status ≡ answer → IsOwn ran answer
-own_answer ran answer (inl ending) first second e = record {
-  ending = ending;
-  own = told_own _ _ answer ran.before.sink ran.after.sink ran.status ending.told first second e;
-}
-own_answer ran answer (inr memory) first second e = absurd (told_other answer ran.before.sink ran.after.sink ran.status memory.told first second e)
-
--- an answer that a fact about the words and the layout brings comes, but for the two that come
--- first
-pub comes_always : (ran : Ran) (answer : Status) → IsSession ran → ((answers : Answers) → MayAnswer ran answers → ended_status (session_for ran answers) ≡ answer) → (ran.status ≡ answer) ⊎ ((ran.status ≡ statuses.SinkFault) ⊎ (ran.status ≡ statuses.NoMemory))
-comes_always ran answer (inl ending) always = elim (told_cases _ _ ran.before.sink ran.after.sink ran.status ending.told) [ inl own ↦ inl (own ∙ always ending.answers ending.answered) | inr other ↦ inr other ]
-comes_always ran answer (inr memory) always = elim (told_cases _ statuses.NoMemory ran.before.sink ran.after.sink ran.status memory.told) [ inl e ↦ inr (inr e) | inr other ↦ inr other ]
-
--- ---- the statuses of a session
+-- ---- the plan of a session
 
 -- a drill that was run is done
 pub drill_done : (numbers : DrillNumbers) (drill : Option DrillCounts) → IsCounted numbers drill → ended_status (drill_session drill) ≡ statuses.Done
 drill_done numbers None counted = absurd counted
 drill_done numbers (Some counts) counted = refl
 
--- an answer that the work doesn't have is the refusal of the plan
-plan_only : (plan : Result SessionPlan EarlyEnd) (answers : Answers) (answer : Status) → IsDrilled plan answers.drill → is_work answer ≡ false → ended_status (session_by plan answers) ≡ answer → IsRefusedWith answer plan
-plan_only (Ok plan) answers answer drilled other e = absurd (not_work (ended_status (work_session plan answers.load answers.rounds)) answer (worked_work plan answers.load answers.rounds) other e)
-plan_only (Err (Printed text)) answers answer drilled other e = absurd (not_work statuses.Done answer refl other e)
-plan_only (Err (Drilled numbers)) answers answer drilled other e = absurd (not_work statuses.Done answer refl other (sym (drill_done numbers answers.drill drilled) ∙ e))
-plan_only (Err (Refused refusal)) answers answer drilled other e = e
+-- where it ends before the device, but not as Done, it is refused
+pub early_refused : (end : EarlyEnd) (drill : Option DrillCounts) (answer : Status) →
+    answer ≢ statuses.Done → IsDrilled (Err end) drill →
+    ended_status (early_session end drill) ≡ answer → IsRefusedWith answer (Err end)
+early_refused (Refused refusal) drill answer other drilled e = e
+early_refused (Printed text) drill answer other drilled e = absurd (other (sym e))
+early_refused (Drilled numbers) drill answer other drilled e =
+    absurd (other (sym e ∙ drill_done numbers drill drilled))
 
-pub plan_ends : (plan : Result SessionPlan EarlyEnd) (answers : Answers) (answer : Status) → IsRefusedWith answer plan → ended_status (session_by plan answers) ≡ answer
-plan_ends (Ok plan) answers answer refused = absurd refused
-plan_ends (Err (Printed text)) answers answer refused = absurd refused
-plan_ends (Err (Drilled numbers)) answers answer refused = absurd refused
+-- so it is for an answer that the work doesn't have
+plan_only : (plan : PlanEnd) (answers : Answers) (answer : Status) → is_work answer ≡ false →
+    IsDrilled plan answers.drill → status_by plan answers ≡ answer → IsRefusedWith answer plan
+plan_only (Ok plan) answers answer other drilled e =
+    let work = worked_work plan answers.load answers.rounds in
+    absurd (not_work (status_by (Ok plan) answers) answer work other e)
+plan_only (Err end) answers answer other drilled e =
+    let undone : answer ≢ statuses.Done = λ h. not_work statuses.Done answer refl other (sym h) in
+    early_refused end answers.drill answer undone drilled e
+
+pub plan_ends : (plan : PlanEnd) (answers : Answers) (answer : Status) → IsRefusedWith answer plan →
+    status_by plan answers ≡ answer
 plan_ends (Err (Refused refusal)) answers answer refused = refused
+plan_ends _ answers answer refused = absurd refused
 
-refused_one : (a b : Status) (plan : Result SessionPlan EarlyEnd) → IsRefusedWith a plan → IsRefusedWith b plan → a ≡ b
-refused_one a b (Ok plan) one two = absurd one
-refused_one a b (Err (Printed text)) one two = absurd one
-refused_one a b (Err (Drilled numbers)) one two = absurd one
-refused_one a b (Err (Refused refusal)) one two = sym one ∙ two
+pub refused_err : (answer : Status) (plan : PlanEnd) → IsRefusedWith answer plan → IsErr plan
+refused_err answer (Ok plan) refused = absurd refused
+refused_err answer (Err end) refused = refl
 
-refused_memory : (a : Status) (plan : Result SessionPlan EarlyEnd) → plan ≡ Err (Refused refusals.NoMemory) → IsRefusedWith a plan → a ≡ statuses.NoMemory
-refused_memory a plan is refused = sym (subst (IsRefusedWith a) is refused)
+memory_plan : (plan : PlanEnd) → IsRefusedWith statuses.NoMemory plan →
+    plan ≡ Err (Refused refusals.NoMemory)
+memory_plan (Err (Refused refusal)) h =
+    ap (λ (r : Refusal). Err (Refused r)) ((tells refusal).memory h)
+memory_plan _ h = absurd h
 
--- ---- words and plans
+planning_other : (status : Status) → is_planning status ≡ true → is_work status ≡ false
+planning_other statuses.Done planning = cc
+planning_other _ planning = cc
+
+-- ---- an answer that is the session's own
+
+pub record IsOwn (ran : Ran) (answer : Status) : Type 0 where
+  pub by : IsAnswered ran
+  pub own : ended_status (session_for ran by.answers) ≡ answer
+
+-- and this is the plan of the session
+pub record IsOver (ran : Ran) (plan : PlanEnd) (answer : Status) : Type 0 where
+  pub own : IsOwn ran answer
+  pub is : session_plan_for ran own.by.answers ≡ plan
+
+module _ (ran : Ran) where
+  abbrev pub From : Device
+  From = ran.before.device
+
+  abbrev pub To : Device
+  To = ran.after.device
+
+  abbrev pub plan_of : Answers → PlanEnd
+  plan_of answers = session_plan_for ran answers
+
+  own_refused : (answer : Status) → is_work answer ≡ false → (own : IsOwn ran answer) →
+      IsRefusedWith answer (plan_of own.by.answers)
+  own_refused answer other own =
+      plan_only (plan_of own.by.answers) own.by.answers answer other own.by.answered.drilled own.own
+
+  -- and where it is refused, that is the status
+  own_ends : (answer : Status) (own : IsOwn ran ran.status) →
+      IsRefusedWith answer (plan_of own.by.answers) → ran.status ≡ answer
+  own_ends answer own refused =
+      sym own.own ∙ plan_ends (plan_of own.by.answers) own.by.answers answer refused
+
+  -- the status is the session's own, or one of the two that come first
+  pub own_or_first : IsSession ran → IsOwn ran ran.status ⊎ ComesFirst ran
+  own_or_first (inr memory) = inr (inr (told_short ran _ statuses.NoMemory memory.told refl))
+  own_or_first (inl by) = elim (told_cases ran _ _ by.told) [
+    | inl own ↦ inl (record { by = by; own = sym own })
+    | inr off ↦ inr (inl off.0)
+  ]
+
+  -- over files that are told the plan is theirs, unless a fault or refused memory ends the session
+  pub plan_told : (answers : Answers) → MayAnswer ran answers → (files : FileMap) →
+      ran.before.folder.told ≡ Some files → IsPlanOf (plan_of answers) (plan_over ran files)
+  plan_told answers answered files told =
+      same_plan ran.words (geometry_of ran) ran.before.folder ran.after.folder answers.files
+      answered.filed files told
+
+  -- where the words name no file it is that of any files
+  pub alone_is : (files : FileMap) → NamesNoFile ran → (answers : Answers) →
+      plan_of answers ≡ plan_over ran files
+  alone_is files none answers = alone_plan ran.words (geometry_of ran) answers.files files none
+
+  pub unasked_by : (answers : Answers) → MayAnswer ran answers → IsErr (plan_of answers) → To ≡ From
+  unasked_by answers answered = by (plan_of answers) answered.followed
+    where
+      by : (plan : PlanEnd) → IsFollowed plan From To answers → IsErr plan → To ≡ From
+      by (Ok plan) followed refused = absurd cc
+      by (Err end) followed refused = followed
+
+  -- whatever was answered, or no call of the device was made
+  pub by_answers : (P : Type 0) → IsSession ran → (To ≡ From → P) →
+      ((answers : Answers) → MayAnswer ran answers → P) → P
+  by_answers P (inl by) unasked answered = answered by.answers by.answered
+  by_answers P (inr memory) unasked answered = elim memory.work [
+    | inl same ↦ unasked same
+    | inr text ↦ answered text.answers text.answered
+  ]
+
+module _ (ran : Ran) (s : IsSession ran) where
+  -- an answer that every session has comes, but for the two that come first
+  pub comes_always : (answer : Status) →
+      ((given : Answers) → MayAnswer ran given → ended_status (session_for ran given) ≡ answer) →
+      (ran.status ≡ answer) ⊎ ComesFirst ran
+  comes_always answer always = elim (own_or_first ran s) [
+    | inl own ↦ inl (sym own.own ∙ always own.by.answers own.by.answered)
+    | inr first ↦ inr first
+  ]
+
+  -- over files that are told an answer is that of their plan, or one of three that come before it
+  pub over_told : (files : FileMap) → ran.before.folder.told ≡ Some files →
+      IsOver ran (plan_over ran files) ran.status
+      ⊎ ((ran.status ≡ statuses.SinkFault)
+      ⊎ ((ran.status ≡ statuses.NoMemory) ⊎ (ran.status ≡ statuses.FileFault)))
+  over_told files told = elim (own_or_first ran s) [
+    | inr (inl sink) ↦ inr (inl sink)
+    | inr (inr memory) ↦ inr (inr (inl memory))
+    | inl own ↦ elim (plan_told ran own.by.answers own.by.answered files told) [
+      | inl same ↦ inl (record { own = own; is = same })
+      | inr (inl fault) ↦ inr (inr (inr (own_ends ran statuses.FileFault own fault)))
+      | inr (inr memory) ↦
+          let ends : PlanEnd → Status = λ plan. status_by plan own.by.answers in
+          inr (inr (inl (sym own.own ∙ ap ends memory)))
+    ]
+  ]
+
+module _ (ran : Ran) (s : IsSession ran) (answer : Status)
+    (sink : answer ≢ statuses.SinkFault) (memory : answer ≢ statuses.NoMemory) where
+  pub own_answer : ran.status ≡ answer → IsOwn ran answer
+  own_answer e = elim (own_or_first ran s) [
+    | inl own ↦ subst (IsOwn ran) e own
+    | inr (inl h) ↦ absurd (sink (sym e ∙ h))
+    | inr (inr h) ↦ absurd (memory (sym e ∙ h))
+  ]
+
+  pub over_answer : answer ≢ statuses.FileFault → (files : FileMap) →
+      ran.before.folder.told ≡ Some files → ran.status ≡ answer →
+      IsOver ran (plan_over ran files) answer
+  over_answer fault files told e = elim (over_told ran s files told) [
+    | inl over ↦ subst (IsOver ran (plan_over ran files)) e over
+    | inr (inl h) ↦ absurd (sink (sym e ∙ h))
+    | inr (inr (inl h)) ↦ absurd (memory (sym e ∙ h))
+    | inr (inr (inr h)) ↦ absurd (fault (sym e ∙ h))
+  ]
+
+  -- an answer that only a plan brings, over files that are told
+  pub comes_planned : is_work answer ≡ false → answer ≢ statuses.FileFault → ComesByPlan answer ran
+  comes_planned other fault = λ files told. record {
+    only = λ e.
+        let over = over_answer fault files told e in
+        subst (IsRefusedWith answer) over.is (own_refused ran answer other over.own);
+    always = λ refused. elim (over_told ran s files told) [
+      | inr earlier ↦ inr earlier
+      | inl over ↦
+          inl (own_ends ran answer over.own (subst (IsRefusedWith answer) (sym over.is) refused))
+    ];
+  }
+
+  -- and where the words name no file, over any
+  pub comes_alone : is_work answer ≡ false → ComesByPlanAlone answer ran
+  comes_alone other = λ none files.
+      let same = alone_is ran files none in
+      record {
+        only = λ e.
+            let own = own_answer e in
+            subst (IsRefusedWith answer) (same own.by.answers) (own_refused ran answer other own);
+        always = λ refused. comes_always ran s answer (λ answers answered.
+            plan_ends (plan_of ran answers) answers answer
+            (subst (IsRefusedWith answer) (sym (same answers)) refused));
+      }
+
+-- ---- words, files, and answers that come before any call of the device
 
 words_always : (command : Result Command ℕ) (geometry : Geometry) → IsErr command → (answers : Answers) → ended_status (session_by (planned (result_by (words_reading command geometry) answers.files)) answers) ≡ statuses.BadWords
 words_always (Err place) geometry refused answers = refl
@@ -99,328 +236,212 @@ words_always (Ok command) geometry refused answers = absurd cc
 pub bad_words_of : (ran : Ran) → IsSession ran → ComesByWords statuses.BadWords ran
 bad_words_of ran s = record {
   only = λ e.
-      let own = own_answer ran statuses.BadWords s (λ h. cc) (λ h. cc) e in
-      words_refused (words_of ran.words) (geometry_of ran) own.ending.answers.files (plan_only (plan_by_words ran.words (geometry_of ran) own.ending.answers.files) own.ending.answers statuses.BadWords own.ending.answered.drilled refl own.own);
-  always = λ refused. comes_always ran statuses.BadWords s (λ answers answered. words_always (words_of ran.words) (geometry_of ran) refused answers);
+      let own = own_answer ran s statuses.BadWords (λ h. cc) (λ h. cc) e in
+      words_refused (words_of ran.words) (geometry_of ran) own.by.answers.files
+      (own_refused ran statuses.BadWords refl own);
+  always = λ refused. comes_always ran s statuses.BadWords (λ answers answered.
+      words_always (words_of ran.words) (geometry_of ran) refused answers);
 }
-
-always_planned : (ran : Ran) → IsSession ran → (answer : Status) → (files : FileMap) → ran.before.folder.told ≡ Some files → IsRefusedWith answer (plan_over ran files) → (ran.status ≡ answer) ⊎ ((ran.status ≡ statuses.SinkFault) ⊎ ((ran.status ≡ statuses.NoMemory) ⊎ (ran.status ≡ statuses.FileFault)))
-always_planned ran (inr memory) answer files told refused = elim (told_cases _ statuses.NoMemory ran.before.sink ran.after.sink ran.status memory.told) [ inl e ↦ inr (inr (inl e)) | inr other ↦ elim other [ inl sink ↦ inr (inl sink) | inr e ↦ inr (inr (inl e)) ] ]
-always_planned ran (inl ending) answer files told refused =
-    let plan = plan_by_words ran.words (geometry_of ran) ending.answers.files in
-    elim (told_cases _ _ ran.before.sink ran.after.sink ran.status ending.told) [
-      | inr other ↦ elim other [ inl sink ↦ inr (inl sink) | inr e ↦ inr (inr (inl e)) ]
-      | inl own ↦ elim (same_plan ran.words (geometry_of ran) ran.before.folder ran.after.folder ending.answers.files ending.answered.filed files told) [
-        | inl same ↦ inl (own ∙ plan_ends plan ending.answers answer (subst (IsRefusedWith answer) (sym same) refused))
-        | inr odd ↦ elim odd [
-          | inl fault ↦ inr (inr (inr (own ∙ plan_ends plan ending.answers statuses.FileFault fault)))
-          | inr memory ↦ inr (inr (inl (own ∙ ap (λ (p : Result SessionPlan EarlyEnd). ended_status (session_by p ending.answers)) memory)))
-        ]
-      ]
-    ]
-
--- an answer that only a plan brings, over files that are told
-pub comes_planned : (ran : Ran) → IsSession ran → (answer : Status) → is_work answer ≡ false → answer ≢ statuses.SinkFault → answer ≢ statuses.NoMemory → answer ≢ statuses.FileFault → ComesByPlan answer ran
-comes_planned ran s answer other first second third = λ files told. record {
-  only = λ e.
-      let own = own_answer ran answer s first second e in
-      let answers = own.ending.answers in
-      let plan = plan_by_words ran.words (geometry_of ran) answers.files in
-      let refused = plan_only plan answers answer own.ending.answered.drilled other own.own in
-      elim (same_plan ran.words (geometry_of ran) ran.before.folder ran.after.folder answers.files own.ending.answered.filed files told) [
-        | inl same ↦ subst (IsRefusedWith answer) same refused
-        | inr odd ↦ elim odd [
-          | inl fault ↦ absurd (third (refused_one answer statuses.FileFault plan refused fault))
-          | inr memory ↦ absurd (second (refused_memory answer plan memory refused))
-        ]
-      ];
-  always = λ refused. always_planned ran s answer files told refused;
-}
-
--- and where the words name no file, over any
-pub comes_alone : (ran : Ran) → IsSession ran → (answer : Status) → is_work answer ≡ false → answer ≢ statuses.SinkFault → answer ≢ statuses.NoMemory → ComesByPlanAlone answer ran
-comes_alone ran s answer other first second = λ none files.
-    let same : (read : FileAnswers) → plan_by_words ran.words (geometry_of ran) read ≡ plan_over ran files = λ read. alone_plan ran.words (geometry_of ran) read files none in
-    record {
-      only = λ e.
-          let own = own_answer ran answer s first second e in
-          let answers = own.ending.answers in
-          subst (IsRefusedWith answer) (same answers.files) (plan_only (plan_by_words ran.words (geometry_of ran) answers.files) answers answer own.ending.answered.drilled other own.own);
-      always = λ refused. comes_always ran answer s
-          (λ answers answered. plan_ends (plan_by_words ran.words (geometry_of ran) answers.files) answers answer (subst (IsRefusedWith answer) (sym (same answers.files)) refused));
-    }
 
 pub file_fault_of : (ran : Ran) → IsSession ran → ComesByFiles statuses.FileFault ran
 file_fault_of ran s e =
-    let own = own_answer ran statuses.FileFault s (λ h. cc) (λ h. cc) e in
-    let files = own.ending.answers.files in
-    let refused = plan_only (plan_by_words ran.words (geometry_of ran) files) own.ending.answers statuses.FileFault own.ending.answered.drilled refl own.own in
-    faulty_plan ran.words (geometry_of ran) ran.before.folder ran.after.folder files own.ending.answered.filed refused
+    let own = own_answer ran s statuses.FileFault (λ h. cc) (λ h. cc) e in
+    let folder = ran.before.folder in
+    faulty_plan ran.words (geometry_of ran) folder ran.after.folder own.by.answers.files
+    own.by.answered.filed (own_refused ran statuses.FileFault refl own)
 
-planning_work : (status : Status) → is_work status ≡ true → is_planning status ≡ true → ⊥
-planning_work statuses.Done first second = cc
-planning_work statuses.BadWords first second = cc
-planning_work statuses.BadTree first second = cc
-planning_work statuses.BadKey first second = cc
-planning_work statuses.BadLayout first second = cc
-planning_work statuses.BadVariable first second = cc
-planning_work statuses.FileMissing first second = cc
-planning_work statuses.FileFault first second = cc
-planning_work statuses.FileTooLong first second = cc
-planning_work statuses.ReadFault first second = cc
-planning_work statuses.WriteFault first second = cc
-planning_work statuses.NoTarget first second = cc
-planning_work statuses.StartFailed first second = cc
-planning_work statuses.BadSettings first second = cc
-planning_work statuses.NoGood first second = cc
-planning_work statuses.SinkFault first second = cc
-planning_work statuses.NoMemory first second = cc
-
-pub unasked_by : (plan : Result SessionPlan EarlyEnd) (before after : Device) (answers : Answers) → IsFollowed plan before after answers → IsErr plan → after ≡ before
-unasked_by (Ok plan) before after answers followed_so refused = absurd cc
-unasked_by (Err end) before after answers followed_so refused = followed_so
-
--- a refusal of the plan comes without any call of the device
-planning_refused : (plan : Result SessionPlan EarlyEnd) (answers : Answers) → is_planning (ended_status (session_by plan answers)) ≡ true → IsErr plan
-planning_refused (Ok plan) answers h = absurd (planning_work (ended_status (work_session plan answers.load answers.rounds)) (worked_work plan answers.load answers.rounds) h)
-planning_refused (Err end) answers h = refl
-
-pub unasked_of : (ran : Ran) → IsSession ran → is_planning ran.status ≡ true → ran.after.device ≡ ran.before.device
-unasked_of ran s h =
-    let own = own_answer ran ran.status s (λ e. (let n : true ≡ false = sym h ∙ ap is_planning e in cc)) (λ e. (let n : true ≡ false = sym h ∙ ap is_planning e in cc)) refl in
-    unasked_by (plan_by_words ran.words (geometry_of ran) own.ending.answers.files) ran.before.device ran.after.device own.ending.answers own.ending.answered.followed (planning_refused (plan_by_words ran.words (geometry_of ran) own.ending.answers.files) own.ending.answers (ap is_planning own.own ∙ h))
+pub unasked_of : (ran : Ran) → IsSession ran → AsksNothing ran
+unasked_of ran s h = elim (own_or_first ran s) [
+  | inr (inl sink) ↦ absurd (let n : true ≡ false = sym h ∙ ap is_planning sink in cc)
+  | inr (inr memory) ↦ absurd (let n : true ≡ false = sym h ∙ ap is_planning memory in cc)
+  | inl own ↦
+      let refused = own_refused ran ran.status (planning_other ran.status h) own in
+      let answers = own.by.answers in
+      unasked_by ran answers own.by.answered (refused_err ran.status (plan_of ran answers) refused)
+]
 
 -- ---- a fault of the device
 
 -- a session that ends so was refused by its work, for a fault of the device
-record IsFaulted (plan : Result SessionPlan EarlyEnd) (from to : Device) (answers : Answers) (answer : Status) : Type 0 where
-  planned_as : SessionPlan
-  plan_is : plan ≡ Ok planned_as
-  refusal : Refusal
-  refusal_is : (session_by plan answers).refusal ≡ Some refusal
-  status_is : status_of refusal ≡ answer
-  why : IsExplained planned_as from to answers.load answers.rounds refusal
+record IsFaulted (ran : Ran) (answers : Answers) (plan : PlanEnd) (answer : Status) : Type 0 where
+  work : SessionPlan
+  plan_is : plan ≡ Ok work
+  fault : CopyFault
+  refusal_is : (session_by plan answers).refusal ≡ Some (copy_refusal fault)
+  status_is : status_of (copy_refusal fault) ≡ answer
+  tells : FaultTells work.keyed (From ran) (To ran) fault
 
-some_refusal : (refused : Option Refusal) (answer : Status) → answer ≢ statuses.Done → option_map_or status_of refused statuses.Done ≡ answer → (refusal : Refusal) × ((refused ≡ Some refusal) × (status_of refusal ≡ answer))
-some_refusal None answer other e = absurd (other (sym e))
-some_refusal (Some refusal) answer other e = (refusal, (refl, e))
+module _ (ran : Ran) (answer : Status) (late : is_planning answer ≡ false)
+    (memory : answer ≢ statuses.NoMemory) (other : answer ≢ statuses.Done)
+    (device : is_device_fault answer ≡ true) where
+  faulted_by : (answers : Answers) (plan : PlanEnd) → (IsRefusedWith answer plan → ⊥) →
+      IsDrilled plan answers.drill → IsFollowed plan (From ran) (To ran) answers →
+      status_by plan answers ≡ answer → IsFaulted ran answers plan answer
+  faulted_by answers (Err end) none drilled done h =
+      absurd (none (early_refused end answers.drill answer other drilled h))
+  faulted_by answers (Ok plan) none drilled done h =
+      let some = some_refusal (work_session plan answers.load answers.rounds).refusal answer other h in
+      let is = ap is_device_fault some.1.1 ∙ device in
+      let why = work_explains plan (From ran) (To ran) answers.load answers.rounds some.0 is done
+      some.1.0 in
+      record {
+        work = plan;
+        plan_is = refl;
+        fault = why.fault;
+        refusal_is = some.1.0 ∙ ap (λ (r : Refusal). Some r) why.is;
+        status_is = ap status_of (sym why.is) ∙ some.1.1;
+        tells = why.known.tells;
+      }
 
-plan_fault : (plan : Result SessionPlan EarlyEnd) (from to : Device) (answers : Answers) (answer : Status) → answer ≢ statuses.Done → is_device_fault answer ≡ true → (IsRefusedWith answer plan → ⊥) → IsDrilled plan answers.drill → IsFollowed plan from to answers → ended_status (session_by plan answers) ≡ answer → IsFaulted plan from to answers answer
-plan_fault (Ok plan) from to answers answer other device none drilled work h =
-    let some = some_refusal (work_session plan answers.load answers.rounds).refusal answer other h in
-    record {
-      planned_as = plan;
-      plan_is = refl;
-      refusal = some.0;
-      refusal_is = some.1.0;
-      status_is = some.1.1;
-      why = work_explains plan from to answers.load answers.rounds some.0 (ap is_device_fault some.1.1 ∙ device) work some.1.0;
-    }
-plan_fault (Err (Printed text)) from to answers answer other device none drilled work h = absurd (other (sym h))
-plan_fault (Err (Drilled numbers)) from to answers answer other device none drilled work h = absurd (other (sym h ∙ drill_done numbers answers.drill drilled))
-plan_fault (Err (Refused refusal)) from to answers answer other device none drilled work h = absurd (none h)
+  faulted : (own : IsOwn ran answer) →
+      IsFaulted ran own.by.answers (plan_of ran own.by.answers) answer
+  faulted own =
+      let by = own.by in
+      let files = by.answers.files in
+      let none = plan_refusal answer late memory (words_of ran.words) (geometry_of ran) files in
+      faulted_by by.answers (plan_of ran by.answers) none by.answered.drilled by.answered.followed
+      own.own
 
-faulted : (ran : Ran) (answer : Status) → answer ≢ statuses.Done → is_device_fault answer ≡ true → (own : IsOwn ran answer) → (IsRefusedWith answer (plan_by_words ran.words (geometry_of ran) own.ending.answers.files) → ⊥) → IsFaulted (plan_by_words ran.words (geometry_of ran) own.ending.answers.files) ran.before.device ran.after.device own.ending.answers answer
-faulted ran answer other device own none =
-    plan_fault (plan_by_words ran.words (geometry_of ran) own.ending.answers.files) ran.before.device ran.after.device own.ending.answers answer other device none own.ending.answered.drilled own.ending.answered.followed own.own
-
-read_told : (keyed : Keyed) (from to : Device) (refusal : Refusal) (fault : CopyFault) → refusal ≡ copy_refusal fault → FaultTells keyed from to fault → status_of refusal ≡ statuses.ReadFault → Rose from.read_faults to.read_faults
-read_told keyed from to refusal faults.ReadFault is tells h = tells.1
-read_told keyed from to refusal (faults.WriteFault copy) is tells h = absurd (let n : statuses.WriteFault ≡ statuses.ReadFault = ap status_of (sym is) ∙ h in cc)
-read_told keyed from to refusal faults.Unsure is tells h = absurd tells
+read_told : (keyed : Keyed) (from to : Device) (met : CopyFault) → FaultTells keyed from to met →
+    status_of (copy_refusal met) ≡ statuses.ReadFault → Rose from.read_faults to.read_faults
+read_told keyed from to faults.ReadFault tells h = tells.1
+read_told keyed from to (faults.WriteFault copy) tells h = absurd cc
+read_told keyed from to faults.Unsure tells h = absurd tells
 
 pub read_fault_of : (ran : Ran) → IsSession ran → ran.before.device.read_faults ≤ ran.after.device.read_faults → ComesByReads statuses.ReadFault ran
 read_fault_of ran s later = record {
   later = later;
   rose = λ e.
-      let own = own_answer ran statuses.ReadFault s (λ h. cc) (λ h. cc) e in
-      let fault = faulted ran statuses.ReadFault (λ h. cc) refl own (plan_refusal statuses.ReadFault refl (λ h. cc) (words_of ran.words) (geometry_of ran) own.ending.answers.files) in
-      read_told fault.planned_as.keyed ran.before.device ran.after.device fault.refusal fault.why.fault fault.why.is fault.why.known.tells fault.status_is;
+      let own = own_answer ran s statuses.ReadFault (λ h. cc) (λ h. cc) e in
+      let by = faulted ran statuses.ReadFault refl (λ h. cc) (λ h. cc) refl own in
+      read_told by.work.keyed (From ran) (To ran) by.fault by.tells by.status_is;
 }
 
--- the copy that a write fault names
-record IsNamed (keyed : Keyed) (from to : Device) (refusal : Refusal) : Type 0 where
-  copy : ℕ
-  is : refusal ≡ refusals.WriteFault copy
-  inside : copy < keyed.layout.copies
-  rose : Rose from.faults to.faults
+named_copy : (fault : CopyFault) → status_of (copy_refusal fault) ≡ statuses.WriteFault →
+    (copy : ℕ) × (fault ≡ faults.WriteFault copy)
+named_copy (faults.WriteFault copy) h = (copy, refl)
+named_copy _ h = absurd cc
 
-named_copy : (keyed : Keyed) (from to : Device) (refusal : Refusal) (fault : CopyFault) → refusal ≡ copy_refusal fault → FaultTells keyed from to fault → status_of refusal ≡ statuses.WriteFault → IsNamed keyed from to refusal
-named_copy keyed from to refusal faults.ReadFault is tells h = absurd (let n : statuses.ReadFault ≡ statuses.WriteFault = ap status_of (sym is) ∙ h in cc)
-named_copy keyed from to refusal (faults.WriteFault copy) is tells h = record { copy = copy; is = is; inside = tells.1; rose = tells.0 }
-named_copy keyed from to refusal faults.Unsure is tells h = absurd tells
-
-write_named : (ran : Ran) (own : IsOwn ran statuses.WriteFault) → (fault : IsFaulted (plan_by_words ran.words (geometry_of ran) own.ending.answers.files) ran.before.device ran.after.device own.ending.answers statuses.WriteFault) × IsNamed fault.planned_as.keyed ran.before.device ran.after.device fault.refusal
-write_named ran own =
-    let fault = faulted ran statuses.WriteFault (λ h. cc) refl own (plan_refusal statuses.WriteFault refl (λ h. cc) (words_of ran.words) (geometry_of ran) own.ending.answers.files) in
-    (fault, named_copy fault.planned_as.keyed ran.before.device ran.after.device fault.refusal fault.why.fault fault.why.is fault.why.known.tells fault.status_is)
+-- it names one of the layout's copies, and a count rose
+write_fault_named : (ran : Ran) → IsSession ran → ran.status ≡ statuses.WriteFault →
+    NamesACopy ran × Rose (From ran).faults (To ran).faults
+write_fault_named ran s e =
+    let own = own_answer ran s statuses.WriteFault (λ h. cc) (λ h. cc) e in
+    let answers = own.by.answers in
+    let by = faulted ran statuses.WriteFault refl (λ h. cc) (λ h. cc) refl own in
+    let named = named_copy by.fault by.status_is in
+    let tells = subst (FaultTells by.work.keyed (From ran) (To ran)) named.1 by.tells in
+    let copy_named : NamesACopy ran = record {
+      answers = answers;
+      answered = own.by.answered;
+      copy = named.0;
+      inside = subst (λ (p : PlanEnd). named.0 < copies_in p) (sym by.plan_is) tells.1;
+      refusal = by.refusal_is ∙ ap (λ (f : CopyFault). Some (copy_refusal f)) named.1;
+      told = subst (SendsText ran (sent_of (session_for ran answers))) own.own own.by.told;
+    } in
+    (copy_named, tells.0)
 
 pub write_fault_of : (ran : Ran) → IsSession ran → ran.before.device.faults ≤ ran.after.device.faults → ComesByDevice statuses.WriteFault ran
-write_fault_of ran s later = record {
-  later = later;
-  rose = λ e. (write_named ran (own_answer ran statuses.WriteFault s (λ h. cc) (λ h. cc) e)).1.rose;
-}
+write_fault_of ran s later = record { later = later; rose = λ e. (write_fault_named ran s e).1 }
 
-pub copy_of_fault : (ran : Ran) → IsSession ran → ran.status ≡ statuses.WriteFault → NamesACopy ran
-copy_of_fault ran s e =
-    let own = own_answer ran statuses.WriteFault s (λ h. cc) (λ h. cc) e in
-    let answers = own.ending.answers in
-    let named = write_named ran own in
-    record {
-      answers = answers;
-      answered = own.ending.answered;
-      copy = named.1.copy;
-      inside = subst (λ (p : Result SessionPlan EarlyEnd). named.1.copy < copies_in p) (sym named.0.plan_is) named.1.inside;
-      refusal = named.0.refusal_is ∙ ap (λ r. Some r) named.1.is;
-      told = subst (λ (status : Status). SendsText ran (sent_of (session_for ran answers)) status) own.own own.ending.told;
-    }
-
--- ---- the copies
-
-pub at_exit : (ran : Ran) → KeepsAtExit ran
-at_exit ran answers plan answered is =
-    leads_on plan ran.before.device ran.after.device answers.load answers.rounds (work_of ran answers plan answered is)
-
-pub on_a_trail : (ran : Ran) → KeepsATrail ran
-on_a_trail ran answers plan answered is =
-    has_trails plan ran.before.device ran.after.device answers.load answers.rounds (work_of ran answers plan answered is)
-
-pub beside : (ran : Ran) → KeepsOutsideCopies ran
-beside ran answers plan answered is =
-    keeps_outside plan ran.before.device ran.after.device answers.load answers.rounds (work_of ran answers plan answered is)
+pub copy_of_fault : (ran : Ran) → IsSession ran → NamesTheCopy ran
+copy_of_fault ran s e = (write_fault_named ran s e).0
 
 -- ---- refused memory
 
--- the plan was refused since memory was
-record IsMemoryPlan (from to : Device) (session : Session) : Type 0 where
-  is : session ≡ refused_for refusals.NoMemory
-  unasked : to ≡ from
-
-plan_memory : (plan : Result SessionPlan EarlyEnd) (from to : Device) (answers : Answers) → IsDrilled plan answers.drill → IsFollowed plan from to answers → ended_status (session_by plan answers) ≡ statuses.NoMemory → IsMemoryPlan from to (session_by plan answers)
-plan_memory (Ok plan) from to answers drilled work h = absurd (not_work (ended_status (work_session plan answers.load answers.rounds)) statuses.NoMemory (worked_work plan answers.load answers.rounds) refl h)
-plan_memory (Err (Printed text)) from to answers drilled work h = absurd cc
-plan_memory (Err (Drilled numbers)) from to answers drilled work h = absurd (let e : statuses.Done ≡ statuses.NoMemory = sym (drill_done numbers answers.drill drilled) ∙ h in cc)
-plan_memory (Err (Refused refusal)) from to answers drilled work h = record {
-  is = ap refused_for ((tells refusal).memory h);
-  unasked = work;
-}
-
-pub no_memory_of : (ran : Ran) → IsSession ran → ran.status ≡ statuses.NoMemory → IsWithoutMemory ran
+pub no_memory_of : (ran : Ran) → IsSession ran → WantsMemory ran
 no_memory_of ran (inr memory) e = memory
-no_memory_of ran (inl ending) e =
-    let own = told_memory _ _ ran.before.sink ran.after.sink ran.status ending.told e in
-    let memory = plan_memory (plan_by_words ran.words (geometry_of ran) ending.answers.files) ran.before.device ran.after.device ending.answers ending.answered.drilled ending.answered.followed own in
-    record {
-      told = subst (λ (session : Session). SendsText ran (sent_of session) (ended_status session)) memory.is ending.told;
-      work = inl memory.unasked;
-    }
+no_memory_of ran (inl by) e = elim (told_cases ran _ _ by.told) [
+  | inr off ↦ absurd (let h : statuses.SinkFault ≡ statuses.NoMemory = sym off.0 ∙ e in cc)
+  | inl same ↦
+      let own : IsOwn ran statuses.NoMemory = record { by = by; own = sym same ∙ e } in
+      let is = memory_plan (plan_of ran by.answers) (own_refused ran statuses.NoMemory refl own) in
+      let text : Session → Type 0 = λ s. SendsText ran (sent_of s) (ended_status s) in
+      record {
+        told = subst (λ (p : PlanEnd). text (session_by p by.answers)) is by.told;
+        work = inl (unasked_by ran by.answers by.answered (subst IsErr (sym is) refl));
+      }
+]
 
 -- ---- an output that failed
 
-plan_sink : (plan : Result SessionPlan EarlyEnd) (answers : Answers) → IsDrilled plan answers.drill → (IsRefusedWith statuses.SinkFault plan → ⊥) → ended_status (session_by plan answers) ≢ statuses.SinkFault
-plan_sink plan answers drilled none = λ e. none (plan_only plan answers statuses.SinkFault drilled refl e)
+cut_off : (ran : Ran) → IsSession ran → ran.status ≡ statuses.SinkFault → (by : IsAnswered ran)
+    × IsCut ran (sent_of (session_for ran by.answers)) (ended_status (session_for ran by.answers))
+cut_off ran (inr memory) e =
+    let short = told_short ran _ statuses.NoMemory memory.told refl in
+    absurd (let h : statuses.SinkFault ≡ statuses.NoMemory = sym e ∙ short in cc)
+cut_off ran (inl by) e = elim (told_cases ran _ _ by.told) [
+  | inr off ↦ (by, off.1)
+  | inl same ↦
+      let own : IsOwn ran statuses.SinkFault = record { by = by; own = sym same ∙ e } in
+      let none = plan_refusal statuses.SinkFault refl (λ h. cc) in
+      let refused = own_refused ran statuses.SinkFault refl own in
+      absurd (none (words_of ran.words) (geometry_of ran) by.answers.files refused)
+]
 
-session_sink : (words : List (List ℕ)) (geometry : Geometry) (answers : Answers) → IsDrilled (plan_by_words words geometry answers.files) answers.drill → ended_status (session_of words geometry answers) ≢ statuses.SinkFault
-session_sink words geometry answers drilled = plan_sink (plan_by_words words geometry answers.files) answers drilled (plan_refusal statuses.SinkFault refl (λ h. cc) (words_of words) geometry answers.files)
-
-cut_off : (ran : Ran) (ending : IsAnswered ran) → ran.status ≡ statuses.SinkFault → IsTextCut (sent_of (session_for ran ending.answers)) (ended_status (session_for ran ending.answers)) ran.before.sink ran.after.sink ran.status
-cut_off ran ending e = told_front _ _ ran.before.sink ran.after.sink ran.status ending.told (session_sink ran.words (geometry_of ran) ending.answers ending.answered.drilled) e
-
-pub front_of : (ran : Ran) → IsSession ran → ran.status ≡ statuses.SinkFault → SendsSessionFront ran
-front_of ran (inl ending) e = record {
-  answers = ending.answers;
-  answered = ending.answered;
-  front = (cut_off ran ending e).front;
-}
-front_of ran (inr memory) e = absurd (memory_sink ran.before.sink ran.after.sink ran.status memory.told e)
+pub front_of : (ran : Ran) → IsSession ran → CutsTheText ran
+front_of ran s e =
+    let off = cut_off ran s e in
+    record { answers = off.0.answers; answered = off.0.answered; front = off.1.front }
 
 pub sink_fault_of : (ran : Ran) → IsSession ran → ComesBySink statuses.SinkFault ran
-sink_fault_of ran (inl ending) e = (cut_off ran ending e).faults
-sink_fault_of ran (inr memory) e = absurd (memory_sink ran.before.sink ran.after.sink ran.status memory.told e)
+sink_fault_of ran s e = (cut_off ran s e).1.faults
 
 pub sink_faults_of : (ran : Ran) → IsSession ran → CountsSinkFaults ran
-sink_faults_of ran (inl ending) = told_counts _ _ ran.before.sink ran.after.sink ran.status ending.told
-sink_faults_of ran (inr memory) = told_counts _ statuses.NoMemory ran.before.sink ran.after.sink ran.status memory.told
+sink_faults_of ran (inl by) = told_counts ran _ _ by.told
+sink_faults_of ran (inr memory) = told_counts ran _ statuses.NoMemory memory.told
 
 -- ---- what the work gave, and how it was told
 
-ok_err : {X Y : Type 0} → (x : X) (y : Y) → ◌≡◌ {A = Result X Y} (Ok x) (Err y) → ⊥
-ok_err x y h = cc
+-- a text and the line after it were sent, or memory was refused for the line
+told_after : (ran : Ran) (text : List ℕ) (refusal : Option Refusal) →
+    IsSentAfter text refusal ran.before.sink ran.after.sink ran.status →
+    SendsText ran (option_map_or (λ r. text ++ line_of r) refusal text)
+    (option_map_or status_of refusal statuses.Done)
+    ⊎ (SendsByMemory refusal × SendsText ran (line_of refusals.NoMemory) statuses.NoMemory)
+told_after ran text None told = inl told
+told_after ran text (Some refusal) told = told
 
-err_same : (one two : Refusal) → ◌≡◌ {A = Result Report Refusal} (Err one) (Err two) → one ≡ two
-err_same one two h = cc
-
--- the line of refused memory was told
-memory_told : (ran : Ran) (refusal : Refusal) → refusal ≡ refusals.NoMemory → IsSentRefusal refusal ran.before.sink ran.after.sink ran.status → SendsText ran (line_of refusals.NoMemory) statuses.NoMemory
-memory_told ran refusal same (inl told) = subst (λ (r : Refusal). SendsText ran (line_of r) (status_of r)) same told
-memory_told ran refusal same (inr memory) = memory.1
-
--- the line of a refusal was told, before which no text was gathered
-pub refused : (ran : Ran) (refusal : Refusal) → IsSessionAnswer ran.words ran.before.folder ran.after.folder ran.before.device ran.after.device (Err refusal) → IsSentRefusal refusal ran.before.sink ran.after.sink ran.status → IsSession ran
-refused ran refusal (inl given) (inl told) =
-    let session = session_for ran given.answers in
-    let ended : ended_status session ≡ status_of refusal = ap (λ (r : Option Refusal). option_map_or status_of r statuses.Done) given.gives.1 in
-    let line : sent_of session ≡ line_of refusal =
-    ap (λ (r : Option Refusal). option_map_or (λ e. session.text ++ line_of e) r session.text) given.gives.1
-    ∙ ap (λ (text : List ℕ). text ++ line_of refusal) given.gives.0 in
-    inl (record {
-      answers = given.answers;
-      answered = given.answered;
-      told = subst (λ (text : List ℕ). SendsText ran text (ended_status session)) (sym line) (subst (λ (status : Status). SendsText ran (line_of refusal) status) (sym ended) told);
-    })
-refused ran refusal (inl given) (inr memory) = inr (record {
-  told = memory.1;
-  work = inr (record {
-    answers = given.answers;
-    answered = given.answered;
-    whole = subst SendsByMemory (sym given.gives.1) memory.0;
-  });
-})
-refused ran refusal (inr (inl given)) told = inr (record {
-  told = memory_told ran refusal (err_same refusal refusals.NoMemory given.is) told;
-  work = inr (record { answers = given.answers; answered = given.answered; whole = given.whole });
-})
-refused ran refusal (inr (inr given)) told = inr (record {
-  told = memory_told ran refusal (err_same refusal refusals.NoMemory given.is) told;
-  work = inl given.unasked;
-})
-
--- a report was told: the text alone, or the line of a refusal after it
-reported : (ran : Ran) (answers : Answers) (text : List ℕ) (behind : Option Refusal) → MayAnswer ran answers →
-    (session_for ran answers).text ≡ text → (session_for ran answers).refusal ≡ behind →
-    IsSentAfter text behind ran.before.sink ran.after.sink ran.status → IsSession ran
-reported ran answers text None answered text_is none told =
+reported : (ran : Ran) (answers : Answers) (text : List ℕ) (refusal : Option Refusal) →
+    MayAnswer ran answers → (session_for ran answers).text ≡ text →
+    (session_for ran answers).refusal ≡ refusal →
+    IsSentAfter text refusal ran.before.sink ran.after.sink ran.status → IsSession ran
+reported ran answers text refusal answered text_is refusal_is told =
     let session = session_for ran answers in
-    let ended : ended_status session ≡ statuses.Done = ap (λ (r : Option Refusal). option_map_or status_of r statuses.Done) none in
-    let whole : sent_of session ≡ text = ap (λ (r : Option Refusal). option_map_or (λ e. session.text ++ line_of e) r session.text) none ∙ text_is in
-    inl (record {
-      answers = answers;
-      answered = answered;
-      told = subst (λ (t : List ℕ). SendsText ran t (ended_status session)) (sym whole) (subst (λ (status : Status). SendsText ran text status) (sym ended) told);
-    })
-reported ran answers text (Some refusal) answered text_is some (inl told) =
-    let session = session_for ran answers in
-    let ended : ended_status session ≡ status_of refusal = ap (λ (r : Option Refusal). option_map_or status_of r statuses.Done) some in
-    let whole : sent_of session ≡ text ++ line_of refusal =
-    ap (λ (r : Option Refusal). option_map_or (λ e. session.text ++ line_of e) r session.text) some
-    ∙ ap (λ (t : List ℕ). t ++ line_of refusal) text_is in
-    inl (record {
-      answers = answers;
-      answered = answered;
-      told = subst (λ (t : List ℕ). SendsText ran t (ended_status session)) (sym whole) (subst (λ (status : Status). SendsText ran (text ++ line_of refusal) status) (sym ended) told);
-    })
-reported ran answers text (Some refusal) answered text_is some (inr memory) =
-    inr (record {
-      told = memory.1;
-      work = inr (record {
-        answers = answers;
-        answered = answered;
-        whole = subst SendsByMemory (sym some) memory.0;
-      });
-    })
+    let sent : List ℕ → Option Refusal → Type 0 =
+    λ t r. IsSentAfter t r ran.before.sink ran.after.sink ran.status in
+    let here : sent text session.refusal = subst (sent text) (sym refusal_is) told in
+    let there = subst (λ (t : List ℕ). sent t session.refusal) (sym text_is) here in
+    elim (told_after ran session.text session.refusal there) [
+      | inl whole ↦ inl (record { answers = answers; answered = answered; told = whole })
+      | inr memory ↦ inr (record {
+        told = memory.1;
+        work = inr (record { answers = answers; answered = answered; whole = memory.0 });
+      })
+    ]
 
-pub done : (ran : Ran) (report : Report) → IsSessionAnswer ran.words ran.before.folder ran.after.folder ran.before.device ran.after.device (Ok report) → IsSentAfter report.text report.refusal ran.before.sink ran.after.sink ran.status → IsSession ran
-done ran report (inr (inl given)) told = absurd (ok_err report refusals.NoMemory given.is)
-done ran report (inr (inr given)) told = absurd (ok_err report refusals.NoMemory given.is)
-done ran report (inl given) told =
-    reported ran given.answers report.text report.refusal given.answered given.gives.0 given.gives.1 told
+-- a report was told, or the line of a refusal before which no text was gathered
+abbrev pub IsTold : Ran → Result Report Refusal → Type 0
+IsTold ran (Ok report) = IsSentReport report ran.before.sink ran.after.sink ran.status
+IsTold ran (Err refusal) = IsSentRefusal refusal ran.before.sink ran.after.sink ran.status
+
+-- that of refused memory
+memory_told : (ran : Ran) (given : Result Report Refusal) → given ≡ Err refusals.NoMemory →
+    IsTold ran given → SendsText ran (line_of refusals.NoMemory) statuses.NoMemory
+memory_told ran given is told =
+    let line : IsTold ran (Err refusals.NoMemory) = subst (IsTold ran) is told in
+    elim line [ inl whole ↦ whole | inr memory ↦ memory.1 ]
+
+pub answered_so : (ran : Ran) (given : Result Report Refusal) →
+    IsSessionAnswer ran.words ran.before.folder ran.after.folder (From ran) (To ran) given →
+    IsTold ran given → IsSession ran
+answered_so ran (Ok report) (inl by) told =
+    reported ran by.answers report.text report.refusal by.answered by.gives.0 by.gives.1 told
+answered_so ran (Err refusal) (inl by) told =
+    reported ran by.answers [] (Some refusal) by.answered by.gives.0 by.gives.1 told
+answered_so ran given (inr (inl by)) told = inr (record {
+  told = memory_told ran given by.is told;
+  work = inr (record { answers = by.answers; answered = by.answered; whole = by.whole });
+})
+answered_so ran given (inr (inr by)) told =
+    inr (record { told = memory_told ran given by.is told; work = inl by.unasked })

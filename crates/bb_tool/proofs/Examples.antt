@@ -1,5 +1,6 @@
 -- Worked sessions, by computation alone.
-use Rattle.std.proofs.Common.{◌≡◌, ℕ, Bool, List, [], ◌∷◌, true, false, refl, codes, Option, Some, None, Ok, Err}
+use Rattle.std.proofs.Common.{◌≡◌, ◌+◌, ℕ, Bool, List, [], ◌∷◌, true, false, refl, codes, Option, Some, None, Ok, Err}
+use Rattle.bb_copies.specs.declared.answers.CopyFault.{CopyFault}
 use Rattle.bb_copies.specs.declared.answers.CopyFault.TheVariants as faults
 use Rattle.bb_flash.specs.declared.geometry.Geometry.{Geometry}
 use Rattle.bb_words.specs.Words.{words_from}
@@ -9,26 +10,31 @@ use Rattle.bb_layout.specs.declared.layout_error.LayoutError.TheVariants.{BadPro
 use Rattle.bb_state.specs.declared.error.StateError.TheVariants as state_errors
 use Rattle.bb_vars.specs.declared.value_error.ValueError.TheVariants as value_errors
 use Rattle.bb_base.specs.declared.files.FileFail.TheVariants as file_fails
-use Rattle.bb_chooser.specs.Binding.{Binding}
+use Rattle.bb_chooser.specs.Binding.{Binding, binding}
+use Rattle.bb_chooser.specs.declared.bound_target.BoundTarget.{BoundTarget}
+use Rattle.bb_chooser.specs.declared.rules.Rules.{Rules}
+use Rattle.bb_chooser.specs.declared.cause.Cause.{Cause}
 use Rattle.bb_chooser.specs.declared.cause.Cause.TheVariants.{Other, PowerOn}
 use Rattle.bb_copies.specs.Chronicle.{Loaded}
+use Rattle.bb_drill.specs.declared.counts.DrillCounts.{DrillCounts}
 use Rattle.bb_flash.specs.declared.plan.Plan.{Plan as StartPlan}
 use Rattle.bb_state.specs.Keyed.{Keyed}
 use Rattle.bb_shell.specs.Rounds.{RoundAnswer, rounds_by}
 use Rattle.bb_shell.specs.Sequence.{save_round}
 use Rattle.bb_shell.specs.Stages.{saves_of}
 use Rattle.bb_chooser.specs.Counting.{mark_good_of}
-use Rattle.bb_chooser.specs.declared.settings_error.SettingsError.TheVariants as settings_errors
+use Rattle.bb_chooser.specs.declared.settings_error.SettingsError.TheVariants as settings
 use Rattle.bb_session.specs.Looking.{first_found, look_text}
 use Rattle.bb_session.specs.Marking.{good_text, lost_place}
 use Rattle.bb_plan.specs.FilesRead.{result_by}
-use Rattle.bb_plan.specs.Plan.{FileAnswers, SessionPlan}
+use Rattle.bb_plan.specs.Plan.{SessionPlan}
 use Rattle.bb_plan.specs.declared.plan.Work.TheVariants.{Boot}
 use Rattle.bb_plan.specs.PlanSteps.{plans_reading}
 use Rattle.bb_tool.specs.Lines.{line_of}
-use Rattle.bb_session.specs.Session.{done_with, refused_for, session_of, work_session}
+use Rattle.bb_session.specs.Session.{Answers, LoadAnswer, Session, done_with, refused_for, session_of, work_session}
 use Rattle.bb_tool.specs.Sending.{sent_of}
 use Rattle.bb_session.specs.SessionTurns.{turn_of}
+use Rattle.bb_plan.specs.declared.refusal.Refusal.{Refusal}
 use Rattle.bb_plan.specs.declared.refusal.Refusal.TheVariants.{BadSettings, BadWords, BadLayout, BadVariable, FileFault, FileMissing, FileTooLong, NoGood, NoMemory, NoTarget, ReadFault, StartFailed, WriteFault}
 
 in_place : Geometry
@@ -41,22 +47,7 @@ made starts = record { save = None; starts = starts }
 abbrev unmade : RoundAnswer
 unmade = record { save = Some (faults.WriteFault 1); starts = false }
 
--- no file is read
-abbrev no_files : FileAnswers
-no_files = []
-
-with_blocks : Geometry
-with_blocks = record { page = 256; block = 65536; size = 1048576 }
-
-the_first_that_passes : first_found (None ∷ Some (codes "b") ∷ Some (codes "a") ∷ []) ≡ Some (codes "b")
-the_first_that_passes = refl
-
-text_of_an_area : look_text (Some (codes "123456789")) ≡ codes "313233343536373839\n"
-unfolding encode_with
-text_of_an_area = refl
-
-text_of_none : look_text None ≡ codes "none\n"
-text_of_none = refl
+-- ---- sessions, for what was answered
 
 look : List (List ℕ)
 look = codes "raw" ∷ codes "0x12345678" ∷ codes "9" ∷ codes "-g" ∷ []
@@ -64,150 +55,119 @@ look = codes "raw" ∷ codes "0x12345678" ∷ codes "9" ∷ codes "-g" ∷ []
 save : List (List ℕ)
 save = codes "raw" ∷ codes "0x12345678" ∷ codes "9" ∷ codes "-s" ∷ codes "313233343536373839" ∷ []
 
--- a session for what the device answered
-found : session_of look in_place (record { files = no_files; load = Ok (Some (codes "123456789")); rounds = []; drill = None }) ≡ done_with (codes "313233343536373839\n")
-unfolding look in_place words_from encode_with
-found = refl
+-- by the device, where no file is read
+abbrev given : LoadAnswer → List RoundAnswer → Answers
+given load rounds = record { files = []; load = load; rounds = rounds; drill = None }
 
-unread : session_of look in_place (record { files = no_files; load = Err faults.ReadFault; rounds = []; drill = None }) ≡ refused_for ReadFault
-unfolding look in_place words_from
-unread = refl
+abbrev saved : Option Refusal → Option CopyFault → Session
+saved refusal fault =
+    record { text = []; refusal = refusal; rounds = save_round 0 (codes "123456789") fault ∷ [] }
 
--- a save is begun of the area that was loaded too, and sends nothing
-saved_anew : session_of save in_place (record { files = no_files; load = Ok (Some (codes "123456789")); rounds = made false ∷ []; drill = None }) ≡ record { text = []; refusal = None; rounds = save_round 0 (codes "123456789") None ∷ [] }
-unfolding save in_place words_from decode_pairs
-saved_anew = refl
+-- A look; a save of the area that was loaded too, which is begun and sends nothing; one whose
+-- second copy isn't written; one whose load is refused, so that none is begun; one on blocks; and
+-- words of which the third is missing.
+raw_sessions : (session_of look in_place (given (Ok (Some (codes "123456789"))) [])
+    ≡ done_with (codes "313233343536373839\n"))
+    × (session_of look in_place (given (Err faults.ReadFault) []) ≡ refused_for ReadFault)
+    × (session_of save in_place (given (Ok (Some (codes "123456789"))) (made false ∷ []))
+    ≡ saved None None)
+    × (session_of save in_place (given (Ok None) (unmade ∷ []))
+    ≡ saved (Some (WriteFault 1)) (Some (faults.WriteFault 1)))
+    × (session_of save in_place (given (Err (faults.WriteFault 2)) []) ≡ refused_for (WriteFault 2))
+    × (session_of save (record { page = 256; block = 65536; size = 1048576 })
+    (given (Ok None) (made false ∷ []))
+    ≡ refused_for (BadLayout (BadProp (codes "backend-storage-type"))))
+    × (session_of (codes "raw" ∷ codes "1" ∷ []) in_place (given (Ok None) (made false ∷ []))
+    ≡ refused_for (BadWords 2))
+unfolding look save in_place words_from encode_with decode_pairs
+raw_sessions = (refl, refl, refl, refl, refl, refl, refl)
 
-second_copy_not_written : session_of save in_place (record { files = no_files; load = Ok None; rounds = unmade ∷ []; drill = None }) ≡ record { text = []; refusal = Some (WriteFault 1); rounds = save_round 0 (codes "123456789") (Some (faults.WriteFault 1)) ∷ [] }
-unfolding save in_place words_from decode_pairs
-second_copy_not_written = refl
+-- there is no file of the first name
+abbrev without_tree : List ℕ → Session
+without_tree command =
+    session_of (command ∷ codes "-i" ∷ codes "b.dts" ∷ codes "-c" ∷ codes "set.txt" ∷ []) in_place
+    (record { files = Ok None ∷ []; load = Ok None; rounds = []; drill = None })
 
--- where the load is refused no save is begun
-load_not_settled : session_of save in_place (record { files = no_files; load = Err (faults.WriteFault 2); rounds = []; drill = None }) ≡ refused_for (WriteFault 2)
-unfolding save in_place words_from decode_pairs
-load_not_settled = refl
+abbrev drilling : Option DrillCounts → Session
+drilling counts =
+    session_of (codes "drill" ∷ codes "3" ∷ codes "1" ∷ []) in_place
+    (record { files = []; load = Ok None; rounds = []; drill = counts })
 
-save_on_blocks : session_of save with_blocks (record { files = no_files; load = Ok None; rounds = made false ∷ []; drill = None }) ≡ refused_for (BadLayout (BadProp (codes "backend-storage-type")))
-unfolding save with_blocks words_from decode_pairs
-save_on_blocks = refl
+abbrev one_session : DrillCounts
+one_session =
+    record { sessions = 1; cuts = 0; decays = 0; programs = 12; erases = 3; starts = 0; wrong = 0 }
 
--- the third word is missing
-missing_word : session_of (codes "raw" ∷ codes "1" ∷ []) in_place (record { files = no_files; load = Ok None; rounds = made false ∷ []; drill = None }) ≡ refused_for (BadWords 2)
-unfolding in_place words_from
-missing_word = refl
+-- a drill that counted nothing ends as if memory was refused
+early_sessions : (without_tree (codes "mark-good") ≡ refused_for (FileMissing (codes "b.dts")))
+    × (without_tree (codes "boot") ≡ refused_for (FileMissing (codes "b.dts")))
+    × (drilling (Some one_session)
+    ≡ done_with (codes "sessions 1 cuts 0 decays 0 programs 12 erases 3 starts 0 wrong 0\n"))
+    × (drilling None ≡ refused_for NoMemory)
+unfolding in_place words_from digits
+early_sessions = (refl, refl, refl, refl)
 
-line_of_the_third_word : line_of (BadWords 2) ≡ codes "fault 1 BadWords 3\n"
-unfolding digits
-line_of_the_third_word = refl
+-- ---- what is sent
 
-line_of_a_number : line_of (BadVariable (codes "n") (state_errors.Value value_errors.TooLarge)) ≡ codes "fault 4 BadVariable n TooLarge\n"
-unfolding digits
-line_of_a_number = refl
+-- of a look, and of refusals, whose line stands after the text
+lines : (first_found (None ∷ Some (codes "b") ∷ Some (codes "a") ∷ []) ≡ Some (codes "b"))
+    × (look_text (Some (codes "123456789")) ≡ codes "313233343536373839\n")
+    × (look_text None ≡ codes "none\n")
+    × (line_of (BadWords 2) ≡ codes "fault 1 BadWords 3\n")
+    × (line_of (BadVariable (codes "n") (state_errors.Value value_errors.TooLarge))
+    ≡ codes "fault 4 BadVariable n TooLarge\n")
+    × (line_of (BadVariable (codes "nope") state_errors.NoSuchVariable)
+    ≡ codes "fault 4 BadVariable nope NoSuchVariable\n")
+    × (line_of (WriteFault 2) ≡ codes "fault 9 WriteFault 2\n")
+    × (line_of (BadSettings (settings.BadEvent 3)) ≡ codes "fault 13 BadSettings BadEvent 3\n")
+    × (line_of (BadSettings settings.NoTargets) ≡ codes "fault 13 BadSettings NoTargets\n")
+    × (line_of (NoGood 0) ≡ codes "fault 18 NoGood 0\n")
+    × (sent_of (record { text = codes "a\n"; refusal = Some ReadFault; rounds = [] })
+    ≡ codes "a\nfault 8 ReadFault\n")
+unfolding encode_with digits
+lines = (refl, refl, refl, refl, refl, refl, refl, refl, refl, refl, refl)
 
-line_of_a_name : line_of (BadVariable (codes "nope") state_errors.NoSuchVariable) ≡ codes "fault 4 BadVariable nope NoSuchVariable\n"
-unfolding digits
-line_of_a_name = refl
+-- ---- a place that is marked good
 
-line_of_copy_2 : line_of (WriteFault 2) ≡ codes "fault 9 WriteFault 2\n"
-unfolding digits
-line_of_copy_2 = refl
-
--- the line of a refusal stands after the text
-line_behind_the_text : sent_of (record { text = codes "a\n"; refusal = Some ReadFault; rounds = [] }) ≡ codes "a\nfault 8 ReadFault\n"
-unfolding digits
-line_behind_the_text = refl
-
--- ---- `mark-good`
-
-no_tree : session_of (codes "mark-good" ∷ codes "-i" ∷ codes "b.dts" ∷ codes "-c" ∷ codes "set.txt" ∷ []) in_place (record { files = Ok None ∷ []; load = Ok None; rounds = []; drill = None }) ≡ refused_for (FileMissing (codes "b.dts"))
-unfolding in_place words_from
-no_tree = refl
-
-line_of_a_bad_event : line_of (BadSettings (settings_errors.BadEvent 3)) ≡ codes "fault 13 BadSettings BadEvent 3\n"
-unfolding digits
-line_of_a_bad_event = refl
-
-line_of_no_targets : line_of (BadSettings settings_errors.NoTargets) ≡ codes "fault 13 BadSettings NoTargets\n"
-unfolding digits
-line_of_no_targets = refl
-
-line_of_no_place : line_of (NoGood 0) ≡ codes "fault 18 NoGood 0\n"
-unfolding digits
-line_of_no_place = refl
-
--- one target with its attempts, its priority and, after these, the place that was chosen last
-one_target : Binding
-one_target = record {
-  targets =
-      record {
-        target = record { name = codes "a"; entry = []; default_attempts = 3; default_priority = 1 };
-        attempts_at = 0;
-        priority_at = 4;
-      } ∷ [];
-  rules = record {
-    reset_attempts = record { power_on = false; reset = false; all_zero = false };
-    reset_priorities = false;
-    retry = false;
-    disable_on_zero_attempts = false;
-  };
-  last_chosen_at = 8;
-  area_len = 12;
+-- a target whose attempts stand at this place, and its priority after them
+abbrev bound : List ℕ → List ℕ → ℕ → ℕ → BoundTarget
+bound name entry priority place = record {
+  target = record { name = name; entry = entry; default_attempts = 3; default_priority = priority };
+  attempts_at = place;
+  priority_at = place + 4;
 }
+
+-- where another is tried after one that failed, and where attempts are reset at power-on
+abbrev rules_of : Bool → Bool → Rules
+rules_of retry power_on = record {
+  reset_attempts = record { power_on = power_on; reset = false; all_zero = false };
+  reset_priorities = false;
+  retry = retry;
+  disable_on_zero_attempts = false;
+}
+
+-- after the targets stands the place that was chosen last
+one_target : Binding
+one_target = binding (bound (codes "a") [] 1 0 ∷ []) (rules_of false false) 8 12
 
 -- a table with these attempts and this place
 table : ℕ → ℕ → List ℕ
 table attempts place = attempts ∷ 0 ∷ 0 ∷ 0 ∷ 20 ∷ 0 ∷ 0 ∷ 0 ∷ place ∷ 0 ∷ 0 ∷ 0 ∷ []
 
-marked : mark_good_of one_target (table 1 1) ≡ table 3 1
-unfolding one_target table
-marked = refl
-
-line_of_a_target : good_text one_target (table 3 1) ≡ codes "good a 3\n"
+-- the place of a target, which is marked; 0; and one above the number of targets
+marked : (mark_good_of one_target (table 1 1) ≡ table 3 1)
+    × (good_text one_target (table 3 1) ≡ codes "good a 3\n")
+    × (lost_place one_target (table 3 1) ≡ None)
+    × (lost_place one_target (table 3 0) ≡ Some 0)
+    × (lost_place one_target (table 3 2) ≡ Some 2)
 unfolding one_target table digits
-line_of_a_target = refl
-
-place_of_a_target : lost_place one_target (table 3 1) ≡ None
-unfolding one_target table
-place_of_a_target = refl
-
-place_0 : lost_place one_target (table 3 0) ≡ Some 0
-unfolding one_target table
-place_0 = refl
-
-place_behind : lost_place one_target (table 3 2) ≡ Some 2
-unfolding one_target table
-place_behind = refl
+marked = (refl, refl, refl, refl, refl)
 
 -- ---- `boot`
 
-no_tree_to_boot : session_of (codes "boot" ∷ codes "-i" ∷ codes "b.dts" ∷ codes "-c" ∷ codes "set.txt" ∷ []) in_place (record { files = Ok None ∷ []; load = Ok None; rounds = []; drill = None }) ≡ refused_for (FileMissing (codes "b.dts"))
-unfolding in_place words_from
-no_tree_to_boot = refl
-
--- two systems: where another is tried after one that failed, and where attempts are reset at
--- power-on
 abbrev two_targets : Bool → Bool → Binding
-two_targets retry power_on = record {
-  targets =
-      record {
-        target = record { name = codes "a"; entry = codes "a.conf"; default_attempts = 3; default_priority = 20 };
-        attempts_at = 0;
-        priority_at = 4;
-      }
-      ∷ record {
-        target = record { name = codes "b"; entry = codes "b.conf"; default_attempts = 3; default_priority = 10 };
-        attempts_at = 8;
-        priority_at = 12;
-      } ∷ [];
-  rules = record {
-    reset_attempts = record { power_on = power_on; reset = false; all_zero = false };
-    reset_priorities = false;
-    retry = retry;
-    disable_on_zero_attempts = false;
-  };
-  last_chosen_at = 16;
-  area_len = 20;
-}
+two_targets retry power_on =
+    binding (bound (codes "a") (codes "a.conf") 20 0 ∷ bound (codes "b") (codes "b.conf") 10 8 ∷ [])
+    (rules_of retry power_on) 16 20
 
 -- attempts and priority of the first, then of the second, then the place that was chosen last
 abbrev two : ℕ → ℕ → ℕ → List ℕ
@@ -219,95 +179,57 @@ kernel place = record { place = place; linux = codes "/zImage"; initrds = []; op
 abbrev both : List (Option StartPlan)
 both = Some (kernel 1) ∷ Some (kernel 2) ∷ []
 
+abbrev six : List RoundAnswer
+six = made false ∷ made false ∷ made false ∷ made false ∷ made false ∷ made false ∷ []
+
+-- text and refusal of a session
+abbrev told : Session → List ℕ × Option Refusal
+told session = (session.text, session.refusal)
+
 module _ (keyed : Keyed) where
-  abbrev booting : Binding → List (Option StartPlan) → SessionPlan
-  booting targets plans = record { keyed = keyed; work = Boot targets Other plans }
+  abbrev boots : Bool → Bool → Cause → List (Option StartPlan) → SessionPlan
+  boots retry power_on cause plans =
+      record { keyed = keyed; work = Boot (two_targets retry power_on) cause plans }
 
-  -- the first start spends an attempt of the best target, and saves that
-  starts : work_session (booting (two_targets false false) both) (Ok (Some (two 3 3 0))) (made true ∷ [])
-      ≡ record {
-        text = codes "start a left 2 tries 1\n";
-        refusal = None;
-        rounds = (work_session (booting (two_targets false false) both) (Ok (Some (two 3 3 0))) (made true ∷ [])).rounds;
-      }
+  -- where one start is tried, and where another is after one that failed
+  abbrev once : List ℕ → List RoundAnswer → Session
+  once area answers = work_session (boots false false Other both) (Ok (Some area)) answers
+
+  abbrev again : List (Option StartPlan) → List ℕ → List RoundAnswer → Session
+  again plans area answers = work_session (boots true false Other plans) (Ok (Some area)) answers
+
+  -- The first start spends an attempt of the best target, and saves that. Where it fails the target
+  -- is named after the text. Where no entry has a kernel each attempt is tried. Where no attempt is
+  -- left nothing is saved; and a save that is refused comes before its start.
+  starts : (told (once (two 3 3 0) (made true ∷ [])) ≡ (codes "start a left 2 tries 1\n", None))
+      × (saves_of (Some (two 3 3 0)) (once (two 3 3 0) (made true ∷ [])).rounds ≡ two 2 3 1 ∷ [])
+      × (sent_of (once (two 3 3 0) (made false ∷ [])) ≡ codes "tries 1\nfault 11 StartFailed a\n")
+      × (told (again (None ∷ None ∷ []) (two 3 3 0) six)
+      ≡ (codes "tries 6\n", Some (StartFailed (codes "b"))))
+      × (saves_of (Some (two 3 3 0)) (again (None ∷ None ∷ []) (two 3 3 0) six).rounds
+      ≡ two 2 3 1 ∷ two 1 3 1 ∷ two 0 3 1 ∷ two 0 2 2 ∷ two 0 1 2 ∷ two 0 0 2 ∷ [])
+      × (again both (two 0 0 2) [] ≡ refused_for NoTarget)
+      × (sent_of (again both (two 0 0 2) []) ≡ codes "fault 10 NoTarget\n")
+      × (sent_of (again both (two 3 3 0) (unmade ∷ [])) ≡ codes "fault 9 WriteFault 1\n")
   unfolding rounds_by digits
-  starts = refl
+  starts = (refl, refl, refl, refl, refl, refl, refl, refl)
 
-  saves_of_a_start : saves_of (Some (two 3 3 0)) (work_session (booting (two_targets false false) both) (Ok (Some (two 3 3 0))) (made true ∷ [])).rounds
-      ≡ two 2 3 1 ∷ []
+  -- The turn of a start: one save, which is acknowledged, and the first target is started. That of
+  -- one that wasn't saved. And a reset gives back what the last start spent, so that the spent
+  -- table is stored already.
+  turns : let load : LoadAnswer = Ok (Some (two 3 3 0)) in
+      (turn_of (boots false false Other both) load (made true ∷ []) (Some 0 ∷ [])
+      ≡ Loaded 0 (two 2 3 1 ∷ []) 1 (Some 0))
+      × (turn_of (boots true false Other both) load (unmade ∷ []) (Some 0 ∷ [])
+      ≡ Loaded 0 (two 2 3 1 ∷ []) 0 None)
+      × (saves_of (Some (two 2 3 1))
+      (work_session (boots false true PowerOn both) (Ok (Some (two 2 3 1))) (made true ∷ [])).rounds
+      ≡ [])
   unfolding rounds_by digits
-  saves_of_a_start = refl
-
-  -- its turn: one save, which is acknowledged, and the first target is started
-  turn_of_a_start : turn_of (booting (two_targets false false) both) (Ok (Some (two 3 3 0))) (made true ∷ []) (Some 0 ∷ [])
-      ≡ Loaded 0 (two 2 3 1 ∷ []) 1 (Some 0)
-  unfolding rounds_by digits
-  turn_of_a_start = refl
-
-  -- where the start fails the target is named after the text
-  fails : sent_of (work_session (booting (two_targets false false) both) (Ok (Some (two 3 3 0))) (made false ∷ []))
-      ≡ codes "tries 1\nfault 11 StartFailed a\n"
-  unfolding rounds_by digits
-  fails = refl
-
-  -- no entry has a kernel: each attempt is tried
-  tries_all : work_session (booting (two_targets true false) (None ∷ None ∷ [])) (Ok (Some (two 3 3 0)))
-      (made false ∷ made false ∷ made false ∷ made false ∷ made false ∷ made false ∷ [])
-      ≡ record {
-        text = codes "tries 6\n";
-        refusal = Some (StartFailed (codes "b"));
-        rounds = (work_session (booting (two_targets true false) (None ∷ None ∷ [])) (Ok (Some (two 3 3 0)))
-            (made false ∷ made false ∷ made false ∷ made false ∷ made false ∷ made false ∷ [])).rounds;
-      }
-  unfolding rounds_by digits
-  tries_all = refl
-
-  saves_of_all : saves_of (Some (two 3 3 0))
-      (work_session (booting (two_targets true false) (None ∷ None ∷ [])) (Ok (Some (two 3 3 0)))
-      (made false ∷ made false ∷ made false ∷ made false ∷ made false ∷ made false ∷ [])).rounds
-      ≡ two 2 3 1 ∷ two 1 3 1 ∷ two 0 3 1 ∷ two 0 2 2 ∷ two 0 1 2 ∷ two 0 0 2 ∷ []
-  unfolding rounds_by digits
-  saves_of_all = refl
-
-  -- no attempt is left, and nothing is saved
-  none_left : work_session (booting (two_targets true false) both) (Ok (Some (two 0 0 2))) [] ≡ refused_for NoTarget
-  unfolding rounds_by
-  none_left = refl
-
-  line_of_none_left : sent_of (work_session (booting (two_targets true false) both) (Ok (Some (two 0 0 2))) []) ≡ codes "fault 10 NoTarget\n"
-  unfolding rounds_by digits
-  line_of_none_left = refl
-
-  -- a save that is refused comes before its start
-  not_saved : sent_of (work_session (booting (two_targets true false) both) (Ok (Some (two 3 3 0))) (unmade ∷ []))
-      ≡ codes "fault 9 WriteFault 1\n"
-  unfolding rounds_by digits
-  not_saved = refl
-
-  turn_of_one_not_saved : turn_of (booting (two_targets true false) both) (Ok (Some (two 3 3 0))) (unmade ∷ []) (Some 0 ∷ [])
-      ≡ Loaded 0 (two 2 3 1 ∷ []) 0 None
-  unfolding rounds_by digits
-  turn_of_one_not_saved = refl
-
-  -- the reset gives back what the last start spent, so that the spent table is stored already
-  nothing_to_save : saves_of (Some (two 2 3 1))
-      (work_session (record { keyed = keyed; work = Boot (two_targets false true) PowerOn both }) (Ok (Some (two 2 3 1))) (made true ∷ [])).rounds
-      ≡ []
-  unfolding rounds_by digits
-  nothing_to_save = refl
+  turns = (refl, refl, refl)
 
 -- an entry that can't be read is named
-entry_too_long : result_by (plans_reading (two_targets false false)) (Ok None ∷ Err file_fails.TooLong ∷ []) ≡ Err (FileTooLong (codes "b.conf"))
-entry_too_long = refl
-
-entry_with_a_fault : result_by (plans_reading (two_targets false false)) (Err file_fails.Fault ∷ []) ≡ Err (FileFault (codes "a.conf"))
-entry_with_a_fault = refl
-
--- a drill, for what it counted
-drilled : session_of (codes "drill" ∷ codes "3" ∷ codes "1" ∷ []) in_place (record { files = no_files; load = Ok None; rounds = []; drill = Some (record { sessions = 1; cuts = 0; decays = 0; programs = 12; erases = 3; starts = 0; wrong = 0 }) }) ≡ done_with (codes "sessions 1 cuts 0 decays 0 programs 12 erases 3 starts 0 wrong 0\n")
-unfolding in_place words_from digits
-drilled = refl
-
-uncounted : session_of (codes "drill" ∷ codes "3" ∷ codes "1" ∷ []) in_place (record { files = no_files; load = Ok None; rounds = []; drill = None }) ≡ refused_for NoMemory
-unfolding in_place words_from
-uncounted = refl
+unread_entries : let read = result_by (plans_reading (two_targets false false)) in
+    (read (Ok None ∷ Err file_fails.TooLong ∷ []) ≡ Err (FileTooLong (codes "b.conf")))
+    × (read (Err file_fails.Fault ∷ []) ≡ Err (FileFault (codes "a.conf")))
+unread_entries = (refl, refl)

@@ -1,31 +1,42 @@
 -- What a session says of rounds and starts, from its work.
-use Rattle.std.proofs.Common.{◌≡◌, ◌⊎◌, ℕ, List, Option, Some, None, Result, Ok, Err, refl, sym, ap, subst, ◌∙◌, inl, inr}
+use Rattle.std.proofs.Common.{◌≡◌, ℕ, true, List, length, map, Option, Some, None, Ok, Err, refl, sym, ap, subst, ◌∙◌, inl, inr}
 use Rattle.std.specs.Option.{ForSome, IsSomeAnd}
-use Rattle.bb_copies.specs.StandsFor.{EachPassesOrNothing}
+use Rattle.std.specs.Prelude.{unwrap_or}
+use Rattle.bb_copies.specs.StandsFor.{EachPassesOrNothing, first_passed, picked}
+use Rattle.bb_copies.proofs.History.{picked_is_first}
 use Rattle.bb_flash.specs.Device.{Device, content, starts}
 use Rattle.bb_flash.specs.declared.plan.Plan.{Plan as StartPlan}
-use Rattle.bb_shell.specs.Boot.{Round, last_round, plan_at, table_after}
+use Rattle.bb_state.specs.Keyed.{Keyed}
+use Rattle.bb_shell.specs.Boot.{Round, first_table, last_round, plan_at, table_after}
+use Rattle.bb_shell.specs.Counting.{turn_of_rounds}
 use Rattle.bb_shell.specs.Ends.{AddsStart, RaisedBy, StartsOnce, failed_starts}
+use Rattle.bb_shell.specs.Rounds.{RoundAnswer, answer_of}
 use Rattle.bb_shell.specs.Sequence.{AddsBy, AddsLast, started_last}
 use Rattle.bb_shell.specs.declared.outcome.Outcome.{Outcome}
 use Rattle.bb_shell.specs.declared.outcome.Outcome.TheVariants as outcomes
-use Rattle.bb_session.specs.Acting.{AreRoundsOf, start_plans_of}
-use Rattle.bb_tool.specs.Calls.{IsSession, MayAnswer, SendsText, session_plan_for, session_for}
-use Rattle.bb_tool.specs.SessionAnswer.{IsFollowed}
-use Rattle.bb_session.specs.Looking.{passed_in}
-use Rattle.bb_plan.specs.Plan.{EarlyEnd, SessionPlan}
-use Rattle.bb_tool.specs.Ran.{Ran}
-use Rattle.bb_session.specs.Session.{Answers, LoadAnswer, Session, acts_after, loaded_area, work_session}
-use Rattle.bb_tool.specs.Sending.{sent_of}
-use Rattle.bb_tool.specs.Starting.{CountsFailedStarts, KnowsStartFaults, NamesTheTarget, RunsRounds, StartsAtMostOne, StartsAfterSave, StartsTheLast}
-use Rattle.bb_session.specs.Work.{IsWork}
+use Rattle.bb_plan.specs.Plan.{SessionPlan, first_area}
+use Rattle.bb_plan.specs.declared.plan.Work.{Work}
+use Rattle.bb_plan.specs.declared.plan.Work.TheVariants.{Boot}
 use Rattle.bb_plan.specs.declared.refusal.Refusal.TheVariants as refusals
-use Rattle.bb_plan.specs.declared.status.Status.{Status}
 use Rattle.bb_plan.specs.declared.status.Status.TheVariants as statuses
+use Rattle.bb_plan.proofs.Sizes.{IsSizedWork, planned_sized}
+use Rattle.bb_session.specs.Acting.{AreRoundsOf, start_plans_of}
+use Rattle.bb_session.specs.Looking.{passed_in}
+use Rattle.bb_session.specs.Session.{Answers, LoadAnswer, Session, acts_after, loaded_area, work_session}
+use Rattle.bb_session.specs.SessionTurns.{EachStanding, turn_of}
+use Rattle.bb_session.specs.Work.{IsLoadedAs, IsWork}
+use Rattle.bb_session.proofs.Acted.{boot_back, session_rounds}
+use Rattle.bb_session.proofs.Kept.{found_or, load_found, passed_sized}
 use Rattle.bb_session.proofs.Started.{FailsBy, work_cause, work_rounds, work_started, work_stored}
-use Rattle.bb_tool.proofs.Endings.{own_answer}
-use Rattle.bb_tool.proofs.Followed.{followed_is, work_of}
-use Rattle.bb_tool.proofs.Refusals.{named_by}
+use Rattle.bb_session.proofs.Turns.{standing_at, told_content}
+use Rattle.bb_tool.specs.Calls.{IsSession, MayAnswer, SendsText, geometry_of, session_for, session_plan_for}
+use Rattle.bb_tool.specs.Ran.{Ran}
+use Rattle.bb_tool.specs.Sending.{sent_of}
+use Rattle.bb_tool.specs.SessionAnswer.{IsFollowed}
+use Rattle.bb_tool.specs.Starting.{BootsInTurn, CountsFailedStarts, IsBoundWork, IsTurnOf, KnowsStartFaults, NamesTheTarget, RunsRounds, StartsAtMostOne, StartsAfterSave, StartsTheLast}
+use Rattle.bb_tool.proofs.Copying.{followed_is, work_of}
+use Rattle.bb_tool.proofs.Endings.{PlanEnd, by_answers, own_answer}
+use Rattle.bb_tool.proofs.Told.{some_refusal, tells}
 
 module _ (ran : Ran) where
   abbrev From : Device
@@ -83,43 +94,92 @@ module _ (ran : Ran) where
   some_start None h = absurd h
   some_start (Some plan) h = (plan, h)
 
-  one_or_none : (plans : List (Option StartPlan)) (last : Option Round) → AddsBy plans From To last →
-      (starts To ≡ starts From) ⊎ ((plan : StartPlan) × StartsOnce From To plan)
+  one_or_none : (plans : List (Option StartPlan)) (last : Option Round) →
+      AddsBy plans From To last → StartsAtMostOne ran
   one_or_none plans None h = inl h
   one_or_none plans (Some round) h = at round.outcome h
     where
       at : (outcome : Outcome) → AddsStart (plan_at plans round.target) outcome From To →
-          (starts To ≡ starts From) ⊎ ((plan : StartPlan) × StartsOnce From To plan)
-      at (outcomes.Refused fault) h = inl h
-      at outcomes.Unplanned h = inl h
-      at outcomes.Failed h = inl h
+          StartsAtMostOne ran
       at outcomes.Started h = inr (some_start (plan_at plans round.target) h)
+      at _ h = inl h
 
-  answered_once : (answers : Answers) → MayAnswer ran answers → (plan : Result SessionPlan EarlyEnd) → session_plan_for ran answers ≡ plan →
-      (starts To ≡ starts From) ⊎ ((plan : StartPlan) × StartsOnce From To plan)
+  answered_once : (answers : Answers) → MayAnswer ran answers → (plan : PlanEnd) →
+      session_plan_for ran answers ≡ plan → StartsAtMostOne ran
   answered_once answers answered (Ok plan) is =
       one_or_none (start_plans_of plan.work) (last_round (session_for ran answers).rounds) (starts_of answers plan answered is)
   answered_once answers answered (Err end) is =
-      inl (ap starts (subst (λ (p : Result SessionPlan EarlyEnd). IsFollowed p From To answers) is answered.followed))
+      inl (ap starts (subst (λ (p : PlanEnd). IsFollowed p From To answers) is answered.followed))
 
   pub starts_once_of : IsSession ran → StartsAtMostOne ran
-  starts_once_of (inl ending) = answered_once ending.answers ending.answered (session_plan_for ran ending.answers) refl
-  starts_once_of (inr memory) = elim memory.work [
-    | inl unasked ↦ inl (ap starts unasked)
-    | inr without ↦ answered_once without.answers without.answered (session_plan_for ran without.answers) refl
-  ]
+  starts_once_of s =
+      by_answers ran (StartsAtMostOne ran) s (λ same. inl (ap starts same))
+      (λ answers answered. answered_once answers answered (session_plan_for ran answers) refl)
 
 -- ---- the target that is named
 
 pub start_failed_of : (ran : Ran) → IsSession ran → NamesTheTarget ran
 start_failed_of ran s e =
-    let own = own_answer ran statuses.StartFailed s (λ h. cc) (λ h. cc) e in
-    let answers = own.ending.answers in
-    let named = named_by (session_for ran answers).refusal own.own in
+    let own = own_answer ran s statuses.StartFailed (λ h. cc) (λ h. cc) e in
+    let session = session_for ran own.by.answers in
+    let some = some_refusal session.refusal statuses.StartFailed (λ h. cc) own.own in
+    let named = (tells some.0).target some.1.1 in
     record {
-      answers = answers;
-      answered = own.ending.answered;
+      answers = own.by.answers;
+      answered = own.by.answered;
       name = named.0;
-      refusal = named.1;
-      told = subst (λ (status : Status). SendsText ran (sent_of (session_for ran answers)) status) own.own own.ending.told;
+      refusal = some.1.0 ∙ ap (λ r. Some r) named.1;
+      told = subst (SendsText ran (sent_of session)) own.own own.by.told;
+    }
+
+-- ---- the turn of a boot is one of those that the law of starts counts
+
+-- no other work is a boot, and no turn without a load
+work_in_turn : (keyed : Keyed) (work : Work) (from to : Device) (load : LoadAnswer) →
+    (answers : List RoundAnswer) → IsSizedWork work keyed.layout →
+    let plan : SessionPlan = record { keyed = keyed; work = work } in
+    IsWork plan from to load answers → EachStanding keyed from to
+    (λ first last before. IsTurnOf work before (turn_of plan load answers before.marks))
+work_in_turn keyed (Boot targets cause plans) from to (Ok found) answers sized work =
+    λ first e last f before here stands.
+    let none = first_area keyed.layout in
+    let page = from.geometry.page in
+    let passed = passed_in keyed page first.image in
+    let table = loaded_area keyed.layout found in
+    let gave : IsLoadedAs keyed work.used from work.middle found = work.loaded.gives in
+    let told = told_content from first e in
+    let held = load_found keyed gave.area gave.loaded from work.middle first.image gave.gave told in
+    let gives : first_passed none passed ≡ table =
+    sym (found_or none passed) ∙ ap (λ o. unwrap_or o none) (sym (gave.taken ∙ held)) in
+    let standing = standing_at keyed page before first.image here stands in
+    let run = work.ran in
+    let plan : SessionPlan = record { keyed = keyed; work = Boot targets cause plans } in
+    record {
+      table = table;
+      table_is =
+          picked_is_first none passed before.areas before.acked before.marks standing
+          ∙ ap (λ t. Some t) gives;
+      sized =
+          sym (ap length gives)
+          ∙ passed_sized keyed page first.image sized.layout_is.defaults ∙ sym sized.bound;
+      answers = map answer_of run.rounds;
+      turn =
+          ap (turn_of_rounds (picked before.marks) (Some table))
+          (session_rounds work
+          ∙ sym (boot_back targets plans (first_table targets cause true table) run.rounds run.are));
+    }
+work_in_turn keyed _ from to _ answers sized work = λ first e last f before here stands. tt
+
+bound_work : (work : Work) (keyed : Keyed) → IsSizedWork work keyed.layout → IsBoundWork work
+bound_work (Boot targets cause plans) keyed sized = sized.binding
+bound_work _ keyed sized = tt
+
+pub boots_of : (ran : Ran) → BootsInTurn ran
+boots_of ran answers plan answered is =
+    let sized = planned_sized ran.words (geometry_of ran) answers.files plan is in
+    record {
+      binding = bound_work plan.work plan.keyed sized;
+      turns =
+          work_in_turn plan.keyed plan.work ran.before.device ran.after.device answers.load answers.rounds sized
+          (work_of ran answers plan answered is);
     }

@@ -2,22 +2,19 @@
 use Rattle.std.proofs.Common.{◌≡◌, ℕ, zero, suc, ◌+◌, ◌<◌, ◌≤◌, List, [], ◌∷◌, ◌++◌, Option, Some, None, Result, Ok, Err, codes, length, take, replicate, refl, ap, sym, subst, ◌∙◌, arith}
 use Rattle.std.proofs.lemmas.List.{length-replicate}
 use Rattle.std.specs.Option.{ok_or, option_map, option_map_or}
-use Rattle.std.specs.Prelude.{unwrap_or}
 use Rattle.std.specs.Result.{result_ok}
 use Rattle.hex.specs.Hex.{IsBytes, encode_lower}
 use Rattle.hex.proofs.HexLemmas.{decode_sized-encode_lower}
-use Rattle.bb_words.specs.declared.command.Action.{Action}
 use Rattle.bb_words.specs.declared.command.Action.TheVariants.{Set, Get}
-use Rattle.bb_words.specs.declared.command.CauseWord.{CauseWord}
 use Rattle.bb_words.specs.declared.command.CauseWord.TheVariants.{Other}
 use Rattle.bb_words.specs.declared.command.Command.{Command}
-use Rattle.bb_words.specs.declared.command.Command.TheVariants.{State, MarkGood, Boot, Menu}
+use Rattle.bb_words.specs.declared.command.Command.TheVariants as commands
 use Rattle.bb_words.specs.declared.command.RawAction.TheVariants.{Look, Write}
 use Rattle.bb_words.specs.declared.given.Given.{Given}
 use Rattle.bb_words.specs.declared.option.Valued.{Valued}
 use Rattle.bb_words.specs.declared.option.Valued.TheVariants.{Input, Name, Get as GetOption, Set as SetOption, Settings, Key, Cause}
 use Rattle.bb_words.specs.declared.row.Row.{Row}
-use Rattle.bb_words.specs.declared.row.Row.TheVariants.{State as StateRow, MarkGood as MarkGoodRow, Boot as BootRow}
+use Rattle.bb_words.specs.declared.row.Row.TheVariants as rows
 use Rattle.bb_words.specs.FirstBad.{Begins}
 use Rattle.bb_words.specs.Options.{with_action}
 use Rattle.bb_words.specs.Words.{WordStage, Start, Magic, Length, Mode, Area, DirOption, DirValue, DrillNumber, DrillCount, Options, Whole, raw_of, drill_of, next, command_at, words_from, words_of}
@@ -51,42 +48,43 @@ area_completed start magic len =
       ap (λ r. option_map_or (λ behind. words_from (start + 1) behind []) (option_map (λ a. Whole (raw_of magic len (Write a))) (result_ok r)) (Err start)) read,
     )
 
--- a row of the table: what must be there can come
-state_completed : (start : ℕ) (file name settings key : Option (List ℕ)) (cause : Option CauseWord) (actions : List Action) →
-    Continues start (Options StateRow None (record { file = file; name = name; settings = settings; key = key; cause = cause; actions = actions })) []
+-- what must be there can come: in each row the file
+file_completed : (start : ℕ) (row : Row) (given : Given) (file : Option (List ℕ)) →
+    ((start : ℕ) (file : List ℕ) →
+    Continues start (Options row None (record given { file = Some file })) []) →
+    Continues start (Options row None (record given { file = file })) []
 unfolding words_from
-state_completed start None name settings key cause actions = (codes "-i" ∷ [] ∷ [], State (record { described = record { file = []; name = name; key = key }; actions = actions }), refl)
-state_completed start (Some file) name settings key cause actions = ([], State (record { described = record { file = file; name = name; key = key }; actions = actions }), refl)
+file_completed start row given None behind =
+    let rest = behind (start + 1 + 1) [] in (codes "-i" ∷ [] ∷ rest.0, rest.1, rest.2)
+file_completed start row given (Some file) behind = behind start file
 
-mark_completed : (start : ℕ) (file name settings key : Option (List ℕ)) (cause : Option CauseWord) (actions : List Action) →
-    Continues start (Options MarkGoodRow None (record { file = file; name = name; settings = settings; key = key; cause = cause; actions = actions })) []
+-- and the settings, in two of them
+abbrev with_both : Given → List ℕ → Option (List ℕ) → Given
+with_both given file settings = record given { file = Some file; settings = settings }
+
+mark_completed : (start : ℕ) (file : List ℕ) (given : Given) (settings : Option (List ℕ)) →
+    Continues start (Options rows.MarkGood None (with_both given file settings)) []
 unfolding words_from
-mark_completed start None name None key cause actions =
-    (codes "-i" ∷ [] ∷ codes "-c" ∷ [] ∷ [], MarkGood (record { described = record { file = []; name = name; key = key }; settings = [] }), refl)
-mark_completed start None name (Some settings) key cause actions =
-    (codes "-i" ∷ [] ∷ [], MarkGood (record { described = record { file = []; name = name; key = key }; settings = settings }), refl)
-mark_completed start (Some file) name None key cause actions =
-    (codes "-c" ∷ [] ∷ [], MarkGood (record { described = record { file = file; name = name; key = key }; settings = [] }), refl)
-mark_completed start (Some file) name (Some settings) key cause actions =
-    ([], MarkGood (record { described = record { file = file; name = name; key = key }; settings = settings }), refl)
+mark_completed start file given None = (codes "-c" ∷ [] ∷ [], _, refl)
+mark_completed start file given (Some settings) = ([], _, refl)
 
--- what is given, after a file and settings, makes a boot
-abbrev boot_of : List ℕ → List ℕ → Option (List ℕ) → Option (List ℕ) → Option CauseWord → Command
-boot_of file settings name key cause = Boot (record { described = record { file = file; name = name; key = key }; settings = settings; cause = unwrap_or cause Other })
-
-boot_completed : (start : ℕ) (file name settings key : Option (List ℕ)) (cause : Option CauseWord) (actions : List Action) →
-    Continues start (Options BootRow None (record { file = file; name = name; settings = settings; key = key; cause = cause; actions = actions })) []
+boot_completed : (start : ℕ) (file : List ℕ) (given : Given) (settings : Option (List ℕ)) →
+    Continues start (Options rows.Boot None (with_both given file settings)) []
 unfolding words_from
-boot_completed start None name None key cause actions =
-    (codes "-i" ∷ [] ∷ codes "-c" ∷ [] ∷ [], boot_of [] [] name key cause, refl)
-boot_completed start None name (Some settings) key cause actions = (codes "-i" ∷ [] ∷ [], boot_of [] settings name key cause, refl)
-boot_completed start (Some file) name None key cause actions = (codes "-c" ∷ [] ∷ [], boot_of file [] name key cause, refl)
-boot_completed start (Some file) name (Some settings) key cause actions = ([], boot_of file settings name key cause, refl)
+boot_completed start file given None = (codes "-c" ∷ [] ∷ [], _, refl)
+boot_completed start file given (Some settings) = ([], _, refl)
 
-options_completed : (start : ℕ) (row : Row) (given : Given) → Continues start (Options row None given) []
-options_completed start StateRow given = state_completed start given.file given.name given.settings given.key given.cause given.actions
-options_completed start MarkGoodRow given = mark_completed start given.file given.name given.settings given.key given.cause given.actions
-options_completed start BootRow given = boot_completed start given.file given.name given.settings given.key given.cause given.actions
+row_completed : (row : Row) (given : Given) (start : ℕ) (file : List ℕ) →
+    Continues start (Options row None (record given { file = Some file })) []
+unfolding words_from
+row_completed rows.State given start file = ([], _, refl)
+row_completed rows.MarkGood given start file = mark_completed start file given given.settings
+row_completed rows.Boot given start file = boot_completed start file given given.settings
+
+options_completed : (start : ℕ) (row : Row) (given : Given) →
+    Continues start (Options row None given) []
+options_completed start row given =
+    file_completed start row given given.file (row_completed row given)
 
 -- an option has a value that it takes
 value_completed : (start : ℕ) (row : Row) (valued : Valued) (given : Given) → Continues start (Options row (Some valued) given) []
@@ -120,8 +118,8 @@ completed start Magic = (codes "0" ∷ codes "0" ∷ codes "-g" ∷ [], raw_of 0
 completed start (Length magic) = (codes "0" ∷ codes "-g" ∷ [], raw_of magic 0 Look, refl)
 completed start (Mode magic len) = (codes "-g" ∷ [], raw_of magic len Look, refl)
 completed start (Area magic len) = area_completed start magic len
-completed start DirOption = (codes "--dir" ∷ [] ∷ [], Menu (record { dir = [] }), refl)
-completed start DirValue = ([] ∷ [], Menu (record { dir = [] }), refl)
+completed start DirOption = (codes "--dir" ∷ [] ∷ [], commands.Menu (record { dir = [] }), refl)
+completed start DirValue = ([] ∷ [], commands.Menu (record { dir = [] }), refl)
 completed start DrillNumber = (codes "0" ∷ codes "1" ∷ [], drill_of 0 1, refl)
 completed start (DrillCount number) = (codes "1" ∷ [], drill_of number 1, refl)
 completed start (Options row None given) = options_completed start row given

@@ -10,7 +10,9 @@ use Rattle.bb_words.specs.declared.command.Action.{Action}
 use Rattle.bb_words.specs.declared.command.Action.TheVariants.{Set, Get, Dump, DumpShell}
 use Rattle.bb_words.specs.declared.command.CauseWord.{CauseWord}
 use Rattle.bb_words.specs.declared.command.Command.{Command}
-use Rattle.bb_words.specs.declared.command.Command.TheVariants.{Raw, State, MarkGood, Boot, Menu, Drill}
+use Rattle.bb_words.specs.declared.command.Command.TheVariants as commands
+use Rattle.bb_words.specs.declared.command.Command.TheVariants.{Raw, Menu, Drill}
+use Rattle.bb_words.specs.declared.command.Described.{Described}
 use Rattle.bb_words.specs.declared.command.DrillNumbers.{DrillNumbers}
 use Rattle.bb_words.specs.declared.command.RawAction.{RawAction}
 use Rattle.bb_words.specs.declared.command.RawAction.TheVariants.{Look, Write}
@@ -19,7 +21,7 @@ use Rattle.bb_words.specs.declared.given.Given.{Given}
 use Rattle.bb_words.specs.declared.option.Valued.{Valued}
 use Rattle.bb_words.specs.declared.option.Valued.TheVariants.{Input, Name, Get as GetOption, Set as SetOption, Settings, Key, Cause}
 use Rattle.bb_words.specs.declared.row.Row.{Row}
-use Rattle.bb_words.specs.declared.row.Row.TheVariants.{State as StateRow, MarkGood as MarkGoodRow, Boot as BootRow}
+use Rattle.bb_words.specs.declared.row.Row.TheVariants as rows
 use Rattle.bb_words.specs.Grammar.{IsAction, IsRaw, IsDrill, IsSpelt, Spells, OptionForm, Own, Long, Joined, Item, Takes, ShortDump, LongDump, ShellDump, own_form, long_form, item_words, has_long, has_form, is_value, has_item, file_in, state_name_in, settings_in, key_file_in, cause_in, action_in}
 use Rattle.bb_words.specs.Options.{cause_word_of, dump_of, long_of, valued_of, joined_value_in, has_sign, set_in, with_option, with_action, none_given}
 use Rattle.bb_words.specs.Table.{command_name_of, row_of, has_option, has_dumps, may_come, cause_given, command_of, described_in}
@@ -301,9 +303,9 @@ items_made row (item ∷ items) = item_made row item items (items_made row items
 
 row_begins : (row : Row) (rest : List (List ℕ)) → words_of (command_name_of row ∷ rest) ≡ words_from 1 (Options row None none_given) rest
 unfolding words_from
-row_begins StateRow rest = refl
-row_begins MarkGoodRow rest = refl
-row_begins BootRow rest = refl
+row_begins rows.State rest = refl
+row_begins rows.MarkGood rest = refl
+row_begins rows.Boot rest = refl
 
 options_accepted : (row : Row) (words : List (List ℕ)) (command : Command) → IsSpelt row words command → words_of words ≡ Ok command
 unfolding Makes
@@ -340,9 +342,9 @@ drill_accepted rest numbers is =
 
 pub accepted : (words : List (List ℕ)) (command : Command) → Spells words command → words_of words ≡ Ok command
 accepted words (Raw raw) is = ap words_of is.1 ∙ raw_accepted is.0 raw is.2
-accepted words (State state) is = options_accepted StateRow words (State state) is
-accepted words (MarkGood mark) is = options_accepted MarkGoodRow words (MarkGood mark) is
-accepted words (Boot boot) is = options_accepted BootRow words (Boot boot) is
+accepted words (commands.State state) is = options_accepted rows.State words _ is
+accepted words (commands.MarkGood mark) is = options_accepted rows.MarkGood words _ is
+accepted words (commands.Boot boot) is = options_accepted rows.Boot words _ is
 accepted words (Menu menu) is = ap words_of is ∙ menu_accepted menu.dir
 accepted words (Drill numbers) is = ap words_of is.1 ∙ drill_accepted is.0 numbers is.2
 
@@ -606,14 +608,14 @@ takes_begun : (row : Row) (form : OptionForm) (valued : Valued) (value : List �
 takes_begun row form Input value items None name settings key cause actions behind all formed may with g =
     let given = subst (λ behind. Gives behind items all) (sym (some_same _ behind with)) g in
     record {
-      had = item_had row form Input value (both _ _ may).0 formed refl;
+      had = item_had row form Input value refl formed refl;
       gives = record { files = given.files; names = given.names; settings = given.settings; keys = given.keys; causes = given.causes; actions = given.actions };
     }
 takes_begun row form Input value items (Some x) name settings key cause actions behind all formed may with g = absurd (cc ((both (has_option row Input) false may).1))
 takes_begun row form Name value items file None settings key cause actions behind all formed may with g =
     let given = subst (λ behind. Gives behind items all) (sym (some_same _ behind with)) g in
     record {
-      had = item_had row form Name value (both _ _ may).0 formed refl;
+      had = item_had row form Name value refl formed refl;
       gives = record { files = given.files; names = given.names; settings = given.settings; keys = given.keys; causes = given.causes; actions = given.actions };
     }
 takes_begun row form Name value items file (Some x) settings key cause actions behind all formed may with g = absurd (cc ((both (has_option row Name) false may).1))
@@ -627,7 +629,7 @@ takes_begun row form Settings value items file name (Some x) key cause actions b
 takes_begun row form Key value items file name settings None cause actions behind all formed may with g =
     let given = subst (λ behind. Gives behind items all) (sym (some_same _ behind with)) g in
     record {
-      had = item_had row form Key value (both _ _ may).0 formed refl;
+      had = item_had row form Key value refl formed refl;
       gives = record { files = given.files; names = given.names; settings = given.settings; keys = given.keys; causes = given.causes; actions = given.actions };
     }
 takes_begun row form Key value items file name settings (Some x) cause actions behind all formed may with g = absurd (cc ((both (has_option row Key) false may).1))
@@ -793,39 +795,69 @@ drill_of_words w rest command is h =
     let drill = drill_spelt rest command h in
     subst (Spells (w ∷ rest)) (sym drill.1) (rest, ap (λ w. w ∷ rest) (same_bytes w (codes "drill") is), drill.2)
 
--- the command that a row makes
-row_made : (row : Row) (given : Given) (words : List (List ℕ)) (command : Command) → command_of row given ≡ Some command → IsSpelt row words command → Spells words command
-row_made MarkGoodRow given words command made is =
-    let described = on_then (λ d. option_map (λ settings. MarkGood (record { described = d; settings = settings })) given.settings)
-    (described_in given) command made in
-    let mark = on_map (λ settings. MarkGood (record { described = described.0; settings = settings })) given.settings command described.2 in
-    subst (λ command. IsSpelt MarkGoodRow words command → Spells words command) mark.2 (λ is. is) is
-row_made BootRow given words command made is =
-    let described = on_then
-    (λ d. option_map (λ settings. Boot (record { described = d; settings = settings; cause = cause_given given })) given.settings)
-    (described_in given) command made in
-    let boot = on_map (λ settings. Boot (record { described = described.0; settings = settings; cause = cause_given given })) given.settings command described.2 in
-    subst (λ command. IsSpelt BootRow words command → Spells words command) boot.2 (λ is. is) is
-row_made StateRow given words command made is =
-    let state = on_map (λ d. State (record { described = d; actions = given.actions })) (described_in given) command made in
-    subst (λ command. IsSpelt StateRow words command → Spells words command) state.2 (λ is. is) is
+-- the command that a row makes: of what is described alone, or of that and the settings
+abbrev IsSpeltAs : Row → List (List ℕ) → Command → Type 0
+IsSpeltAs row words command = IsSpelt row words command → Spells words command
 
-row_cases : (w : List ℕ) (row : Row) (a b c : Bool) → bytes_eq w (command_name_of StateRow) ≡ a → bytes_eq w (command_name_of MarkGoodRow) ≡ b → bytes_eq w (command_name_of BootRow) ≡ c →
-    (if a then Some StateRow else if b then Some MarkGoodRow else if c then Some BootRow else None) ≡ Some row → w ≡ command_name_of row
-row_cases w row true b c ea eb ec h = same_bytes w (command_name_of StateRow) ea ∙ ap command_name_of (some_same StateRow row h)
-row_cases w row false true c ea eb ec h = same_bytes w (command_name_of MarkGoodRow) eb ∙ ap command_name_of (some_same MarkGoodRow row h)
-row_cases w row false false true ea eb ec h = same_bytes w (command_name_of BootRow) ec ∙ ap command_name_of (some_same BootRow row h)
-row_cases w row false false false ea eb ec h = absurd (cc)
+of_described : (row : Row) (words : List (List ℕ)) (make : Described → Command) →
+    ((d : Described) → IsSpeltAs row words (make d)) → (given : Given) (command : Command) →
+    option_map make (described_in given) ≡ Some command → IsSpeltAs row words command
+of_described row words make each given command made =
+    let described = on_map make (described_in given) command made in
+    subst (IsSpeltAs row words) described.2 (each described.0)
+
+of_settings : (row : Row) (words : List (List ℕ)) (make : Described → List ℕ → Command) →
+    ((d : Described) (settings : List ℕ) → IsSpeltAs row words (make d settings)) →
+    (given : Given) (command : Command) →
+    option_and_then (λ d. option_map (make d) given.settings) (described_in given) ≡ Some command →
+    IsSpeltAs row words command
+of_settings row words make each given command made =
+    let with : Described → Option Command = λ d. option_map (make d) given.settings in
+    let described = on_then with (described_in given) command made in
+    let settings = on_map (make described.0) given.settings command described.2 in
+    subst (IsSpeltAs row words) settings.2 (each described.0 settings.0)
+
+row_made : (row : Row) (words : List (List ℕ)) (given : Given) (command : Command) →
+    command_of row given ≡ Some command → IsSpeltAs row words command
+row_made rows.State words given command made =
+    of_described rows.State words
+    (λ d. commands.State (record { described = d; actions = given.actions }))
+    (λ d is. is) given command made
+row_made rows.MarkGood words given command made =
+    of_settings rows.MarkGood words
+    (λ d settings. commands.MarkGood (record { described = d; settings = settings }))
+    (λ d settings is. is) given command made
+row_made rows.Boot words given command made =
+    of_settings rows.Boot words
+    (λ d settings.
+    commands.Boot (record { described = d; settings = settings; cause = cause_given given }))
+    (λ d settings is. is) given command made
+
+-- a word that is found in the table is a row's name, by each of its rows
+named_step : (w : List ℕ) (row first : Row) (rest : Option Row) →
+    (rest ≡ Some row → w ≡ command_name_of row) →
+    (if bytes_eq w (command_name_of first) then Some first else rest) ≡ Some row →
+    w ≡ command_name_of row
+named_step w row first rest behind named = by (bytes_eq w (command_name_of first)) refl named
+  where
+    by : (is_first : Bool) → bytes_eq w (command_name_of first) ≡ is_first →
+        (if is_first then Some first else rest) ≡ Some row → w ≡ command_name_of row
+    by true is h =
+        same_bytes w (command_name_of first) is ∙ ap command_name_of (some_same first row h)
+    by false is h = behind h
 
 row_named : (w : List ℕ) (row : Row) → row_of w ≡ Some row → w ≡ command_name_of row
-row_named w row named = row_cases w row (bytes_eq w (command_name_of StateRow)) (bytes_eq w (command_name_of MarkGoodRow)) (bytes_eq w (command_name_of BootRow)) refl refl refl named
+row_named w row =
+    named_step w row rows.State _ (
+    named_step w row rows.MarkGood _ (
+    named_step w row rows.Boot None (λ none. absurd (cc))))
 
 options_of_words : (row : Row) (w : List ℕ) (rest : List (List ℕ)) (command : Command) → row_of w ≡ Some row → words_from 1 (Options row None none_given) rest ≡ Ok command →
     Spells (w ∷ rest) command
 unfolding Onward
 options_of_words row w rest command named h =
     let r = onward row rest 1 None none_given command h in
-    row_made row r.all (w ∷ rest) command r.made (record {
+    row_made row (w ∷ rest) r.all command r.made (record {
       items = r.items;
       given = r.all;
       spelt = ap (λ w. w ∷ rest) (row_named w row named) ∙ ap (λ rest. command_name_of row ∷ rest) r.spelt_so;

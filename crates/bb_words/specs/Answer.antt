@@ -2,7 +2,7 @@
 use Rattle.std.specs.Prelude.{◌≡◌, ℕ, ◌≤◌, ⊤, Result, Err, length}
 use Rattle.bb_base.specs.Form.{area_limit}
 use Rattle.bb_words.specs.declared.command.Command.{Command}
-use Rattle.bb_words.specs.declared.command.Command.TheVariants.{Raw, State, MarkGood, Boot, Menu, Drill}
+use Rattle.bb_words.specs.declared.command.Command.TheVariants.{Raw}
 use Rattle.bb_words.specs.declared.command.RawAction.{RawAction}
 use Rattle.bb_words.specs.declared.command.RawAction.TheVariants.{Look, Write}
 use Rattle.bb_words.specs.declared.command.RawCommand.{RawCommand}
@@ -25,11 +25,7 @@ pub record IsSizedRaw (raw : RawCommand) : Type 0 where
   pub bound : raw.area_len ≤ area_limit
   pub exact : IsSizedFor raw.area_len raw.action
 
--- of each command
+-- of each command; no other has an area
 abbrev pub IsSized : Command → Type 0
 IsSized (Raw raw) = IsSizedRaw raw
-IsSized (State state) = ⊤
-IsSized (MarkGood mark) = ⊤
-IsSized (Boot boot) = ⊤
-IsSized (Menu menu) = ⊤
-IsSized (Drill numbers) = ⊤
+IsSized _ = ⊤

@@ -7,7 +7,7 @@ use Rattle.bb_words.specs.declared.command.Action.{Action}
 use Rattle.bb_words.specs.declared.command.Action.TheVariants.{Get, Dump, DumpShell}
 use Rattle.bb_words.specs.declared.command.CauseWord.{CauseWord}
 use Rattle.bb_words.specs.declared.command.Command.{Command}
-use Rattle.bb_words.specs.declared.command.Command.TheVariants.{Raw, State, MarkGood, Boot, Menu, Drill}
+use Rattle.bb_words.specs.declared.command.Command.TheVariants as commands
 use Rattle.bb_words.specs.declared.command.DrillNumbers.{DrillNumbers}
 use Rattle.bb_words.specs.declared.command.RawAction.{RawAction}
 use Rattle.bb_words.specs.declared.command.RawAction.TheVariants.{Look, Write}
@@ -16,7 +16,7 @@ use Rattle.bb_words.specs.declared.given.Given.{Given}
 use Rattle.bb_words.specs.declared.option.Valued.{Valued}
 use Rattle.bb_words.specs.declared.option.Valued.TheVariants.{Input, Name, Get as GetOption, Set as SetOption, Settings, Key, Cause}
 use Rattle.bb_words.specs.declared.row.Row.{Row}
-use Rattle.bb_words.specs.declared.row.Row.TheVariants.{State as StateRow, MarkGood as MarkGoodRow, Boot as BootRow}
+use Rattle.bb_words.specs.declared.row.Row.TheVariants as rows
 use Rattle.bb_words.specs.Options.{cause_word_of, has_sign, set_in}
 use Rattle.bb_words.specs.Table.{command_name_of, has_option, has_dumps, command_of}
 use Rattle.bb_words.specs.Words.{number_up_to, area_spelt, sessions_spelt}
@@ -171,10 +171,11 @@ pub record IsSpelt (row : Row) (words : List (List ℕ)) (command : Command) : T
 
 -- these words, and no others, spell this command
 abbrev pub Spells : List (List ℕ) → Command → Type 0
-Spells words (Raw raw) = (rest : List (List ℕ)) × (words ≡ codes "raw" ∷ rest) × IsRaw rest raw
-Spells words (State state) = IsSpelt StateRow words (State state)
-Spells words (MarkGood mark) = IsSpelt MarkGoodRow words (MarkGood mark)
-Spells words (Boot boot) = IsSpelt BootRow words (Boot boot)
-Spells words (Menu menu) = words ≡ codes "menu" ∷ codes "--dir" ∷ menu.dir ∷ []
-Spells words (Drill numbers) =
+Spells words (commands.Raw raw) =
+    (rest : List (List ℕ)) × (words ≡ codes "raw" ∷ rest) × IsRaw rest raw
+Spells words (commands.State state) = IsSpelt rows.State words (commands.State state)
+Spells words (commands.MarkGood mark) = IsSpelt rows.MarkGood words (commands.MarkGood mark)
+Spells words (commands.Boot boot) = IsSpelt rows.Boot words (commands.Boot boot)
+Spells words (commands.Menu menu) = words ≡ codes "menu" ∷ codes "--dir" ∷ menu.dir ∷ []
+Spells words (commands.Drill numbers) =
     (rest : List (List ℕ)) × (words ≡ codes "drill" ∷ rest) × IsDrill rest numbers

@@ -2,6 +2,7 @@ ghost use Rattle.std.specs.Prelude.{◌≡◌};
 ghost use Rattle.std.specs.Option.{option_map};
 ghost use Rattle.bb_words.specs.Options.{cause_word_of, cut_at_sign, dump_of, long_of, valued_of};
 ghost use Rattle.bb_words.specs.Options.{joined_value_in};
+ghost use Rattle.bb_words.specs.Table.{is_common};
 
 use crate::{Action, CauseWord};
 
@@ -22,6 +23,15 @@ pub(crate) enum Valued {
     Key,
     /// `--cause`, whose value is the next word alone
     Cause,
+}
+
+impl Valued {
+    /// Whether every row has it: it says which state, or by which key.
+    pub(crate) fn is_common(self) -> bool
+        ensures { result ≡ is_common self }
+    {
+        matches!(self, Valued::Input | Valued::Name | Valued::Key)
+    }
 }
 
 /// The action that an option without a value asks for.

@@ -1,5 +1,5 @@
 ghost use Rattle.std.specs.Prelude.{◌≡◌};
-ghost use Rattle.bb_words.specs.Table.{has_option, has_dumps, row_of};
+ghost use Rattle.bb_words.specs.Table.{has_besides, has_dumps, has_option, row_of};
 
 use crate::option::Valued;
 
@@ -29,14 +29,18 @@ impl Row {
     pub(crate) fn has(self, valued: Valued) -> bool
         ensures { result ≡ has_option self valued }
     {
-        match (self, valued) {
-            (_, Valued::Input | Valued::Name | Valued::Key) => true,
-            (Row::State, Valued::Get | Valued::Set) => true,
-            (Row::State, Valued::Settings | Valued::Cause) => false,
-            (Row::MarkGood, Valued::Settings) => true,
-            (Row::MarkGood, Valued::Get | Valued::Set | Valued::Cause) => false,
-            (Row::Boot, Valued::Settings | Valued::Cause) => true,
-            (Row::Boot, Valued::Get | Valued::Set) => false,
+        valued.is_common() || self.has_besides(valued)
+    }
+
+    // Whether it has this option besides those of every row.
+    fn has_besides(self, valued: Valued) -> bool
+        ensures { result ≡ has_besides self valued }
+    {
+        match valued {
+            Valued::Get | Valued::Set => matches!(self, Row::State),
+            Valued::Settings => matches!(self, Row::MarkGood | Row::Boot),
+            Valued::Cause => matches!(self, Row::Boot),
+            Valued::Input | Valued::Name | Valued::Key => false,
         }
     }
 
@@ -44,9 +48,6 @@ impl Row {
     pub(crate) fn has_dumps(self) -> bool
         ensures { result ≡ has_dumps self }
     {
-        match self {
-            Row::State => true,
-            Row::MarkGood | Row::Boot => false,
-        }
+        matches!(self, Row::State)
     }
 }

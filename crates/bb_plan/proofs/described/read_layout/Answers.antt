@@ -1,5 +1,3 @@
-use Rattle.std.proofs.Common.{◌∙◌, Err, ap}
-use Rattle.std.proofs.lemmas.Result.{err_from_is_err_and}
 use Rattle.std.specs.Option.{option_copied}
 use Rattle.bb_layout.specs.Layout.{fields_of}
 use Rattle.bb_plan.specs.PlanSteps.{layout_by}
@@ -8,11 +6,11 @@ use Rattle.bb_plan.proofs.described.read_layout.Goals as goal
 
 pub returns-in_err-bytes-clause-read : goal.returns-in_err-bytes-clause-read
 returns-in_err-bytes-clause-read g c =
-    let p = err_from_is_err_and c.from_residual.result c.from_residual.ensures.1 in
-    file_stopped (layout_by (option_copied c.args.name) c.args.geometry) c.args.file.now fields_of _ _ c.in_err-bytes.field-0.0
-    c.in_err-bytes.ensures.read c.from_residual.result (p.1 ∙ ap (λ e. Err e) p.2)
+    file_stopped (layout_by (option_copied c.args.name) c.args.geometry) fields_of
+    c.in_err-bytes.ensures.read c.from_residual.result c.from_residual.ensures.1
 
 pub returns-clause-read : goal.returns-clause-read
 returns-clause-read g c =
-    file_step (layout_by (option_copied c.args.name) c.args.geometry) c.args.file.now fields_of _ _ c.in_ok-bytes.bytes
-    c.as_slice.result.now c.described_layout.result c.in_ok-bytes.ensures.read c.as_slice.ensures c.described_layout.ensures.gives
+    file_step (layout_by (option_copied c.args.name) c.args.geometry) fields_of
+    c.described_layout.result c.in_ok-bytes.ensures.read c.as_slice.ensures
+    c.described_layout.ensures.gives

@@ -1,38 +1,42 @@
-use Rattle.std.proofs.Common.{◌∙◌, ℕ, List, None, Ok, Err, ap, refl, sym, subst}
-use Rattle.std.proofs.lemmas.Result.{err_from_is_err_and}
+use Rattle.std.proofs.Common.{◌∙◌, None, Ok, ap, sym, subst}
+use Rattle.bb_layout.specs.Formats.{takes_key}
 use Rattle.bb_layout.specs.Layout.{fields_of}
-use Rattle.bb_words.specs.declared.command.RawAction.TheVariants.{Look, Write as WriteAction}
-use Rattle.bb_plan.specs.Plan.{IsPlannedFor, Show, Write}
-use Rattle.bb_plan.proofs.Planned.{raw_given, raw_planned, raw_refused, raw_served}
+use Rattle.bb_layout.specs.Results.{result_and_then}
+use Rattle.bb_layout.specs.Thirds.{raw_layout}
+use Rattle.bb_state.specs.Keyed.{Keyed}
+use Rattle.bb_plan.specs.PlanSteps.{refused_as}
+use Rattle.bb_plan.specs.Plan.{IsServed, OnCopies, raw_on, raw_task, task_as}
+use Rattle.bb_plan.specs.declared.refusal.Refusal.TheVariants.{BadLayout}
+use Rattle.bb_plan.proofs.Planned.{raw_served}
+use Rattle.bb_plan.proofs.Readings.{refused_step}
+use Rattle.bb_plan.proofs.Sources.{layout_refused}
 use Rattle.bb_plan.proofs.planning.plan_raw.Goals as goal
 
 pub returns-in_err-layout-clause-gives : goal.returns-in_err-layout-clause-gives
 returns-in_err-layout-clause-gives c =
-    let p = err_from_is_err_and c.from_residual.result c.from_residual.ensures.1 in
-    raw_refused c.args.command c.args.geometry c.in_err-layout.field-0.0 c.in_err-layout.ensures.refused c.from_residual.result
-    (p.1 ∙ ap (λ e. Err e) p.2)
+    let command = c.args.command in
+    let laid = raw_layout command.magic command.area_len c.args.geometry in
+    refused_step (raw_task command c.args.geometry) task_as c.from_residual.result
+    c.from_residual.ensures.1
+    (λ some. ap (result_and_then (raw_on command))
+    (layout_refused laid c.in_err-layout.field-0.0 c.in_err-layout.ensures.refused some))
 
-pub returns-in-Look-clause-gives : goal.returns-in-Look-clause-gives
-returns-in-Look-clause-gives c =
-    raw_given c.args.command c.args.geometry (fields_of c.in_ok-layout.layout) Look c.in_ok-layout.ensures.ok c.in-Look.is
+pub returns-clause-gives : goal.returns-clause-gives
+returns-clause-gives c =
+    let keyed : Keyed = record { layout = fields_of c.in_ok-layout.layout; key = None } in
+    ap (λ laid. result_and_then (raw_on c.args.command) (refused_as BadLayout laid))
+    c.in_ok-layout.ensures.ok
+    ∙ ap (λ work. Ok (OnCopies (record { keyed = keyed; work = work }))) (sym c.raw_work.ensures)
 
-pub returns-in-Look-clause-planned : goal.returns-in-Look-clause-planned
-returns-in-Look-clause-planned c =
-    raw_planned c.args.command c.args.geometry (fields_of c.in_ok-layout.layout) Show c.in_ok-layout.ensures.format
-    c.in_ok-layout.ensures.device (record { format = c.in_ok-layout.ensures.format; unkeyed = refl })
-
-pub returns-in-Write-clause-gives : goal.returns-in-Write-clause-gives
-returns-in-Write-clause-gives c =
-    raw_given c.args.command c.args.geometry (fields_of c.in_ok-layout.layout) (WriteAction c.in-Write.area) c.in_ok-layout.ensures.ok
-    c.in-Write.is
-    ∙ ap (λ (area : List ℕ). Ok (record { keyed = record { layout = fields_of c.in_ok-layout.layout; key = None }; work = Write area }))
-    (sym c.in-Write.area-is)
-
-pub returns-in-Write-clause-planned : goal.returns-in-Write-clause-planned
-returns-in-Write-clause-planned c =
-    let layout = fields_of c.in_ok-layout.layout in
-    subst (λ (area : List ℕ). IsPlannedFor c.args.geometry (record { keyed = record { layout = layout; key = None }; work = Write area }))
-    (sym c.in-Write.area-is)
-    (raw_planned c.args.command c.args.geometry layout (Write c.in-Write.area) c.in_ok-layout.ensures.format c.in_ok-layout.ensures.device
-    (raw_served c.args.command c.args.geometry layout c.in-Write.area c.in_ok-layout.ensures.ok c.in_ok-layout.ensures.format
-    c.requires.sized c.in-Write.is))
+pub returns-clause-planned : goal.returns-clause-planned
+returns-clause-planned c =
+    let command = c.args.command in
+    let keyed : Keyed = record { layout = fields_of c.in_ok-layout.layout; key = None } in
+    let layout = c.in_ok-layout.ensures in
+    record {
+      laid = record { fits = sym (ap takes_key layout.format); same_geometry = layout.device };
+      served =
+          subst (IsServed keyed) (sym c.raw_work.ensures)
+          (raw_served command.magic command.area_len c.args.geometry keyed.layout command.action
+          layout.ok layout.format c.requires.sized.exact);
+    }

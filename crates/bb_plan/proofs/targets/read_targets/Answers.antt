@@ -1,5 +1,3 @@
-use Rattle.std.proofs.Common.{◌∙◌, Err, ap}
-use Rattle.std.proofs.lemmas.Result.{err_from_is_err_and}
 use Rattle.bb_chooser.specs.Binding.{Binding}
 use Rattle.bb_layout.specs.Layout.{fields_of}
 use Rattle.bb_plan.specs.PlanSteps.{targets_by}
@@ -8,11 +6,11 @@ use Rattle.bb_plan.proofs.targets.read_targets.Goals as goal
 
 pub returns-in_err-text-clause-read : goal.returns-in_err-text-clause-read
 returns-in_err-text-clause-read g c =
-    let p = err_from_is_err_and c.from_residual.result c.from_residual.ensures.1 in
-    file_stopped (targets_by (fields_of c.args.layout.now)) c.args.file.now (λ (b : Binding). b) _ _ c.in_err-text.field-0.0
-    c.in_err-text.ensures.read c.from_residual.result (p.1 ∙ ap (λ e. Err e) p.2)
+    file_stopped (targets_by (fields_of c.args.layout.now)) (λ (b : Binding). b)
+    c.in_err-text.ensures.read c.from_residual.result c.from_residual.ensures.1
 
 pub returns-clause-read : goal.returns-clause-read
 returns-clause-read g c =
-    file_step (targets_by (fields_of c.args.layout.now)) c.args.file.now (λ (b : Binding). b) _ _ c.in_ok-text.text
-    c.as_slice.result.now c.bound_targets.result c.in_ok-text.ensures.read c.as_slice.ensures c.bound_targets.ensures.gives
+    file_step (targets_by (fields_of c.args.layout.now)) (λ (b : Binding). b)
+    c.bound_targets.result c.in_ok-text.ensures.read c.as_slice.ensures
+    c.bound_targets.ensures.gives

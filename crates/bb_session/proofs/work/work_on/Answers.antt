@@ -1,28 +1,28 @@
-use Rattle.std.proofs.Common.{◌∙◌, ℕ, Option, Err, ap, refl, subst}
-use Rattle.std.proofs.lemmas.Result.{err_from_is_err_and}
+use Rattle.std.proofs.Common.{ℕ, Option, refl, subst}
 use Rattle.bb_state.specs.Keyed.{Keyed}
 use Rattle.bb_copies.specs.Store.{used_after}
 use Rattle.bb_session.specs.Doing.{IsDone}
 use Rattle.bb_session.specs.Work.{IsLoadedArea}
 use Rattle.bb_state.specs.State.{keyed_of}
 use Rattle.bb_session.proofs.Done.{done_later, done_out, done_unloaded}
+use Rattle.bb_session.proofs.Worked.{refused_by}
 use Rattle.bb_session.proofs.work.work_on.Goals as goal
 
 pub returns-in_err-load-clause-gives : goal.returns-in_err-load-clause-gives
 returns-in_err-load-clause-gives g c =
-    let p = err_from_is_err_and c.from_residual.result c.from_residual.ensures.1 in
+    let done = c.in_err-load.ensures in
     done_unloaded (keyed_of c.args.state.now) c.args.work.now (g.B.Flash.device c.args.board.now)
     (g.B.Flash.device c.load.new.flash) c.in_err-load.field-0.0 c.from_residual.result
     c.requires.on.geometry (let e = c.needs_table.ensures in cc) c.args.state.now.facts.copied.least
     (record {
-      images = c.in_err-load.ensures.images;
-      outside = c.in_err-load.ensures.outside;
-      later = c.in_err-load.ensures.later;
-      starts = c.in_err-load.ensures.starts;
+      images = done.images;
+      outside = done.outside;
+      later = done.later;
+      starts = done.starts;
       gives = tt;
-      fails = c.in_err-load.ensures.fails;
+      fails = done.fails;
     })
-    (p.1 ∙ ap (λ e. Err e) p.2)
+    (refused_by c.from_residual.result _ c.from_residual.ensures.1)
 
 pub returns-clause-gives : goal.returns-clause-gives
 returns-clause-gives g c =
@@ -34,18 +34,17 @@ returns-clause-gives g c =
     let gave : IsLoadedArea keyed table c.in_ok-load.field-0 (g.B.Flash.device c.args.board.now) mid =
     record { gives = done.gives; defaults = done.defaults; exact = done.exact; erases = done.erases } in
     done_out keyed c.args.work.now (g.B.Flash.device c.args.board.now) mid to table c.in_ok-load.field-0 c.work_at.result
-    c.requires.on.geometry (let e = c.needs_table.ensures in cc) c.args.state.now.facts.copied.least
-    gave
+    c.requires.on.geometry (let e = c.needs_table.ensures in cc) c.args.state.now.facts.copied.least gave
     (record {
-      images = c.in_ok-load.ensures.images;
-      outside = c.in_ok-load.ensures.outside;
-      later = c.in_ok-load.ensures.later;
-      starts = c.in_ok-load.ensures.starts;
+      images = done.images;
+      outside = done.outside;
+      later = done.later;
+      starts = done.starts;
       gives = record { area = table; loaded = c.in_ok-load.field-0; gave = gave; taken = refl; used_is = refl };
       fails = tt;
     })
-    (subst (λ (k : Keyed). IsDone k (used_after c.in_ok-load.field-0) table c.args.work.now mid to c.work_at.result) c.in_ok-load.ensures.keyed
-    (subst (λ (u : Option ℕ). IsDone (keyed_of c.load.new.self) u table c.args.work.now mid to c.work_at.result) c.in_ok-load.ensures.used c.work_at.ensures.did))
+    (subst (λ (k : Keyed). IsDone k (used_after c.in_ok-load.field-0) table c.args.work.now mid to c.work_at.result) done.keyed
+    (subst (λ (u : Option ℕ). IsDone (keyed_of c.load.new.self) u table c.args.work.now mid to c.work_at.result) done.used c.work_at.ensures.did))
 
 pub returns-clause-later : goal.returns-clause-later
 returns-clause-later g c =

@@ -2,7 +2,7 @@ use Rattle.std.proofs.Common.{◌∙◌, sym}
 use Rattle.bb_state.proofs.Fitting.{raw_fits}
 use Rattle.bb_state.proofs.Tables.{table_sized}
 use Rattle.bb_session.proofs.Worked.{put_whole}
-use Rattle.bb_session.proofs.raw.put_area.Goals as goal
+use Rattle.bb_session.proofs.store.put_area.Goals as goal
 
 pub invariant_of-state-clause-fits : goal.invariant_of-state-clause-fits
 invariant_of-state-clause-fits c =

@@ -1,5 +1,5 @@
 use Rattle.std.proofs.Common.{rules}
-use Rattle.bb_plan.proofs.planning.cause_of.Goals as goal
+use Rattle.bb_plan.proofs.request.cause_of.Goals as goal
 
 pub returns-in-PowerOn : goal.returns-in-PowerOn
 returns-in-PowerOn c = search rules
