@@ -26,7 +26,7 @@ returns-clause-gives c =
     let keyed : Keyed = record { layout = fields_of c.in_ok-layout.layout; key = None } in
     ap (λ laid. result_and_then (raw_on c.args.command) (refused_as BadLayout laid))
     c.in_ok-layout.ensures.ok
-    ∙ ap (λ work. Ok (OnCopies (record { keyed = keyed; work = work }))) (sym c.raw_work.ensures)
+    ∙ ap (λ work. Ok (OnCopies (record { keyed = keyed; work = work }))) (sym c.raw_work-work.ensures)
 
 pub returns-clause-planned : goal.returns-clause-planned
 returns-clause-planned c =
@@ -36,7 +36,7 @@ returns-clause-planned c =
     record {
       laid = record { fits = sym (ap takes_key layout.format); same_geometry = layout.device };
       served =
-          subst (IsServed keyed) (sym c.raw_work.ensures)
+          subst (IsServed keyed) (sym c.raw_work-work.ensures)
           (raw_served command.magic command.area_len c.args.geometry keyed.layout command.action
           layout.ok layout.format c.requires.sized.exact);
     }

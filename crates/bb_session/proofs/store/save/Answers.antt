@@ -3,8 +3,8 @@ use Rattle.bb_shell.proofs.Saves.{always_err, always_ok, saved_err, saved_ok}
 use Rattle.bb_session.proofs.Worked.{refused_by}
 use Rattle.bb_session.proofs.store.save.Goals as goal
 
-pub returns-then-always-in_err-save_always-clause-saved : goal.returns-then-always-in_err-save_always-clause-saved
-returns-then-always-in_err-save_always-clause-saved g c =
+pub returns-in_err-save_always-clause-saved : goal.returns-in_err-save_always-clause-saved
+returns-in_err-save_always-clause-saved g c =
     let sure = c.requires.sure in
     let done = c.in_err-save_always.ensures in
     rw c.if-always.true (record {
