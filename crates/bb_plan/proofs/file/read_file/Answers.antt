@@ -13,8 +13,8 @@ returns-in_err-copy-in-Ok-false-clause-read g c =
     file_short (AskedFile c.args.name.now) _ _ call.told false call.counts c.from_residual.result
     c.from_residual.ensures.1
 
-pub returns-in-Ok-false-clause-read : goal.returns-in-Ok-false-clause-read
-returns-in-Ok-false-clause-read g c =
+pub returns-in_ok-copy-in-Ok-false-clause-read : goal.returns-in_ok-copy-in-Ok-false-clause-read
+returns-in_ok-copy-in-Ok-false-clause-read g c =
     let call = c.in-Ok-false.ensures in
     let name = c.in_ok-copy-in-Ok-false in
     file_missing (AskedFile c.args.name.now) _ _ call.told _ (ap FileMissing name.ensures)
