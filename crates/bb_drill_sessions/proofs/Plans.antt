@@ -11,13 +11,14 @@ use Rattle.bb_layout.specs.Layout.{Laid}
 use Rattle.bb_actions.specs.declared.bound_action.BoundAction.{BoundAction}
 use Rattle.bb_plan.proofs.Readings.{same_over}
 use Rattle.bb_plan.specs.FilesRead.{FileAnswer, IsReadAs, Reading, Reads, Yields, Fails, and_then, files_answer, reading_of, result_on, result_over}
-use Rattle.bb_plan.specs.Plan.{Drills, OnCopies, Prints, SessionPlan, Task, Work, acting, command_reading, described_reading, on_copies, on_keyed, plan_as, plan_reading, planned, task_as, work_reading, words_reading}
+use Rattle.bb_plan.specs.Plan.{Drills, OnCopies, Prints, SessionPlan, Task, acting, command_reading, described_reading, on_copies, on_keyed, plan_as, plan_reading, planned, task_as, work_reading, words_reading}
 use Rattle.bb_plan.specs.declared.plan.PlannedTask.TheVariants as tasks
 use Rattle.bb_plan.specs.declared.plan.PlannedWork.{PlannedWork}
 use Rattle.bb_plan.specs.declared.refusal.Refusal.TheVariants as refusals
 use Rattle.bb_plan.specs.declared.request.Request.{Request}
 use Rattle.bb_plan.specs.declared.request.Request.TheVariants as requests
 use Rattle.bb_plan.specs.PlanSteps.{actions_by, binding_reading, keyed_reading}
+use Rattle.bb_plan.specs.declared.plan.Work.{Work}
 use Rattle.bb_plan.specs.declared.plan.Work.TheVariants as works
 use Rattle.bb_plan.specs.declared.refusal.Refusal.{Refusal}
 use Rattle.bb_session.specs.Acting.{start_plans_of}

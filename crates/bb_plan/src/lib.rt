@@ -19,4 +19,5 @@ pub use described::KeyedLayout;
 pub use plan::{PlannedTask, PlannedWork, Work};
 pub use planning::plan_session;
 pub use refusal::Refusal;
+pub use request::Request;
 pub use status::Status;

@@ -18,7 +18,7 @@ use std::alloc::Global;
 
 /// What is asked of a state that a file describes.
 #[derive(Drop)]
-pub(crate) enum Request {
+pub enum Request {
     /// To do these actions.
     Act(ActionList),
     /// To give the target that was chosen last its default attempts, by the settings in this file.
