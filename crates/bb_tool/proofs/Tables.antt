@@ -3,7 +3,7 @@
 use Rattle.std.proofs.Common.{◌≡◌, ◌≢◌, ◌⊎◌, ℕ, Bool, true, false, List, length, Option, Some, None, IsSome, Ok, Err, refl, sym, ap, subst, ◌∙◌, inl, inr}
 use Rattle.std.specs.Option.{option_map_or}
 use Rattle.std.specs.Prelude.{option_map}
-use Rattle.std.proofs.lemmas.Option.{same_Some}
+use Rattle.std.proofs.lemmas.Option.{none-some, same_Some}
 use Rattle.bb_chooser.specs.Binding.{Binding}
 use Rattle.bb_copies.specs.declared.answers.CopyFault.{CopyFault}
 use Rattle.bb_copies.specs.declared.answers.CopyFault.TheVariants as faults
@@ -29,7 +29,6 @@ use Rattle.bb_session.specs.Booting.{end_refusal}
 use Rattle.bb_session.specs.Session.{Answers, LoadAnswer, acts_after, barred_after, ended_by, ended_status, load_for, rounds_after, text_after, work_session, worked_on}
 use Rattle.bb_session.specs.Work.{IsWork}
 use Rattle.bb_session.proofs.Acted.{session_after}
-use Rattle.bb_session.proofs.Ended.{none_some}
 use Rattle.bb_session.proofs.Started.{work_rounds}
 use Rattle.bb_session.proofs.Unrefused.{work_gives}
 use Rattle.bb_tool.specs.Calls.{ComesByTable, IsSession, geometry_of, is_fault_status, plan_over}
@@ -126,7 +125,7 @@ module _ (answer : Status) (bar : is_bar answer ≡ true) where
   comes_by o status (inr (other, inr fault)) = (not_bar status answer bar other, (λ k. inr fault))
   comes_by o status (inr (other, inl none)) =
       let unbarred : option_map status_of o ≡ None = ap (option_map status_of) none in
-      (not_bar status answer bar other, (λ k. absurd (none_some answer (sym unbarred ∙ k))))
+      (not_bar status answer bar other, (λ k. absurd (none-some answer (sym unbarred ∙ k))))
 
   by_plan : (plan : PlanEnd) (from to : Device) (answers : Answers) →
       (IsRefusedWith answer plan → ⊥) → IsDrilled plan answers.drill →
