@@ -9,13 +9,14 @@
 # options, and what completes the value of each: written by tests/style/commands.
 # begin words
 _bbx_first="--plan= --read-only --explain"
-_bbx_commands="raw state mark-good boot menu drill"
+_bbx_commands="raw state mark-good boot shell menu drill"
 declare -gA _bbx_before=() _bbx_options=() _bbx_values=()
 _bbx_before[raw]=2
 _bbx_options[raw]="-g -s"
 _bbx_options[state]="-i --input -n --name -k -s --set -g --get -d --dump --dump-shell"
 _bbx_options[mark-good]="-i --input -c -n --name -k"
 _bbx_options[boot]="-i --input -c -n --name -k --cause"
+_bbx_options[shell]="-i --input -c -x -n --name -k --cause"
 _bbx_options[menu]="--dir"
 _bbx_before[drill]=2
 _bbx_options[drill]=""
@@ -30,6 +31,7 @@ _bbx_values[-g]="variables"
 _bbx_values[--get]="variables"
 _bbx_values[-c]="files"
 _bbx_values[--cause]="power-on reset other"
+_bbx_values[-x]="files"
 _bbx_values[--dir]="files"
 # end words
 

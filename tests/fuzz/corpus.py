@@ -90,7 +90,7 @@ class Corpus:
         folders = sorted(os.listdir(f'{root}/tests/cli/cases'))
         self.examples = examples
         self.cases = [Case(f'{root}/tests/cli/cases/{name}', examples) for name in folders]
-        pools = {b'dts': {}, b'dtb': {}, b'txt': {}, b'conf': {}, b'hex': {}}
+        pools = {b'dts': {}, b'dtb': {}, b'txt': {}, b'conf': {}, b'hex': {}, b'script': {}}
         for files in [examples, ab] + [case.files for case in self.cases]:
             for name, text in files.items():
                 kind = name.rpartition(b'.')[2].replace(b'set', b'txt')

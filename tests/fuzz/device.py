@@ -180,9 +180,10 @@ class Targets:
         ranks = [rank if left else 0 for rank, left in both]
         return ranks.index(max(ranks)) if max(ranks) else None
 
-    def boot(self, cause, plans):
+    def boot(self, cause, plans, resets=True):
         """The status, the text, and the plans one of which stands then."""
-        self.reset(cause)
+        if resets:
+            self.reset(cause)
         place, tries = self.best(), 0
         if place is None:
             return 10, 'fault 10 NoTarget\n', None

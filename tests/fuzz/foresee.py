@@ -4,6 +4,7 @@ import os
 import stat
 
 from layout import Layout
+from script import BadScript, Reader
 from source import read_tree
 from tree import Refused, Unsure
 from values import is_utf8
@@ -30,7 +31,7 @@ class Foreseen:
     def __init__(self, call):
         self.call, self.ends, self.sure = call, None, True
         self.opened = self.cleared = False
-        self.command = self.layout = self.settings = self.key = self.menu = None
+        self.command = self.layout = self.settings = self.key = self.menu = self.steps = None
         self.plans = {}
         try:
             self.run()
@@ -46,7 +47,7 @@ class Foreseen:
         if call.kind != 'session':
             return
         self.open_device()
-        if call.words[:1] == ['boot']:
+        if call.words[:1] in (['boot'], ['shell']):
             self.make_way()
         try:
             self.command = Command(call.words)
@@ -185,12 +186,20 @@ class Foreseen:
             self.settings.bind(self.layout)
         except BadSettings as bad:
             raise Ends(13, f'BadSettings {bad.args[0]}') from None
-        targets = self.settings.targets if self.command.name == 'boot' else []
+        if 'x' in self.command.given:
+            self.foresee_script(self.command.given['x'])
+        targets = self.settings.targets if self.command.name in ('boot', 'shell') else []
         for place, target in enumerate(targets, 1):
             self.plans[target] = self.plans_of(self.settings.boot(target), place)
         path = self.plan_path()
         if is_folder(path) or is_folder(path + '.new') or not has_place(path + '.new'):
             self.plans = dict.fromkeys(self.plans, [])
+
+    def foresee_script(self, name):
+        try:
+            self.steps = Reader(self.named_file(name)).steps
+        except BadScript as bad:
+            raise Ends(12, f'BadScript {bad.args[0]}') from None
 
     def plans_of(self, setting, place):
         """The plans of which a target has one, none where it has none."""

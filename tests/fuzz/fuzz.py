@@ -17,7 +17,7 @@ from words import Call
 
 # The findings of which the files are kept.
 KEPT = 40
-COMMANDS = ('raw', 'state', 'mark-good', 'boot', 'menu', 'drill')
+COMMANDS = ('raw', 'state', 'mark-good', 'boot', 'shell', 'menu', 'drill')
 PLAIN = set(b'abcdefghijklmnopqrstuvwxyzABCDEFGHIJKLMNOPQRSTUVWXYZ0123456789_./:=,@%+-')
 
 
@@ -134,7 +134,7 @@ def acknowledged(wanted, got):
         sets = {name.encode(): value for kind, name, value in actions if kind == 'set'}
         return [(name, by_name[name].text(by_name[name].read(text))) for name, text in sets.items()]
     words = got.text.split()
-    if len(words) < 3:
+    if len(words) < 3 or foreseen.command.name == 'shell':
         return []
     left = words[3] if foreseen.command.name == 'boot' else words[2]
     name = foreseen.settings.variable(words[1].decode() + '.remaining_attempts')

@@ -74,10 +74,34 @@ architecture x64
 efi /e
 #linux /c
 	linux	/e	"""
+SCRIPTS = b"""if true
+then
+elif false; then
+else
+fi
+for a in 1 2 ""; do
+do
+done
+&&
+||
+$?
+${state.bootstate.last_chosen}
+${a
+$a$a$a$a
+"$a"
+'
+\\
+state.bootstate.last_chosen=4294967296
+state.nope=1
+[ $a = 1 ]
+test $a -lt 0x2
+# c
+"""
 PHRASES = {
     b'dts': DTS.split(b'\n'),
     b'txt': [b'global.bootchooser.' + line for line in SETTINGS.split(b'\n')],
     b'conf': ENTRIES.split(b'\n'),
+    b'script': SCRIPTS.split(b'\n'),
 }
 TOKEN = re.compile(rb'"[^"\n]*"|<[^>\n]*>|[A-Za-z0-9,._+*#?@-]+|[^\sA-Za-z0-9]', re.S)
 
@@ -260,6 +284,7 @@ WAYS = {
     b'dtb': BINARY + [header] * 4 + [word] * 4 + [words_moved],
     b'txt': TEXT + [lengthen] + [phrase(b'txt')] * 4,
     b'conf': TEXT + [phrase(b'conf')] * 4,
+    b'script': TEXT + [lengthen] + [phrase(b'script')] * 4,
     b'hex': BINARY,
 }
 

@@ -6,6 +6,8 @@ import sys
 from device import Strides, Table, Targets, passing
 from folder import content
 from foresee import Foreseen
+from shell import Shell
+from tree import Unsure
 from words import Call
 
 sys.path.append(os.path.join(os.path.dirname(os.path.abspath(__file__)), '..', 'drill'))
@@ -27,8 +29,11 @@ FAULTS = {
     9: rb'WriteFault [0-2]',
     10: rb'NoTarget',
     11: rb'StartFailed [A-Za-z0-9_-]+',
+    12: rb'BadScript (TooLong|NotText|(Unclosed|Unexpected|TooDeep) [0-9]+)',
     13: rb'BadSettings ((BadLine|TargetTwice|BadNumber|BadEvent) [0-9]+|NoTargets'
         rb'|(NoSuchVariable|NotUint32) .+)',
+    15: rb'ScriptFailed [0-9]+',
+    16: rb'StepLimit',
     17: rb'BadKey (None|Empty|BadHex)',
     18: rb'NoGood [0-9]+',
     20: rb'NoMemory',
@@ -40,6 +45,7 @@ DONE = {
     'menu': rb'.*\n|',
     'mark-good': rb'good [A-Za-z0-9_-]+ [0-9]+\n',
     'boot': rb'start [A-Za-z0-9_-]+ left [0-9]+ tries [0-9]+\n',
+    'shell': rb'.*',
     'help': rb'bbx DEVICE GEOMETRY COMMAND .*\n',
     'version': rb'bbx [0-9.]+\n',
 }
@@ -75,12 +81,14 @@ class Wanted:
     """What is wanted of a run on a device with the bytes `base`: one of `answers`, each a status
     and a text, and one of `plans`. None stands for what isn't known. `writes` says whether copies
     have to be written, `saves` whether for an area that none of them passes yet, and `area` is what
-    all of them pass then. A copy that can't be written, but passes that area, is no fault."""
+    all of them pass then. A copy that can't be written, but passes that area, is no fault. `front`
+    is what is sent before the line of a copy that can't be written."""
 
     def __init__(self, foreseen, base):
         self.foreseen, self.base, self.layout = foreseen, base, foreseen.layout
         self.answers = self.plans = self.area = None
         self.writes = self.saves = False
+        self.front = b''
         command, ends = foreseen.command, foreseen.ends
         if ends:
             self.answers = [(ends.status, fault(ends.status, line)) for line in ends.lines]
@@ -92,7 +100,10 @@ class Wanted:
         elif foreseen.sure and command and command.name == 'drill':
             self.answers = [(0, COUNTS)]
         elif foreseen.sure and command:
-            self.want_state(command)
+            try:
+                self.want_state(command)
+            except Unsure:
+                foreseen.sure = False
 
     def want_raw(self, command):
         self.layout = Strides(command, self.foreseen.call.geometry)
@@ -107,9 +118,14 @@ class Wanted:
         found = passing(self.layout, self.base, foreseen.key)
         loaded = next((area for area in found if area is not None), None)
         first = self.layout.defaults() if loaded is None else loaded
-        table = Table(self.layout, first)
+        table, begun = Table(self.layout, first), None
         if command.name == 'state':
             status, text = 0, table.act(command.actions)
+        elif command.name == 'shell':
+            targets = Targets(foreseen.settings, table)
+            run = Shell(targets, command.given.get('cause'), foreseen.plans, foreseen.steps)
+            status, text, self.plans, self.front = run.status, run.text, run.stands, run.front
+            table.area[:], begun = run.saved, run.begun
         elif command.name == 'boot':
             targets = Targets(foreseen.settings, table)
             cause = command.given.get('cause')
@@ -122,6 +138,8 @@ class Wanted:
         if last != first or loaded is not None:
             self.area = last
             self.writes = last != first or any(area != last for area in found)
+        if begun is not None:
+            self.area, self.writes, self.saves = last, True, begun not in found
 
 
 def fault(status, line):
@@ -147,7 +165,7 @@ def judge_answer(run, wanted, got):
         answers = [(20, b'fault 20 NoMemory\n' if run.output == 'kept' else b'')]
     if answers and call.read_only and wanted.writes:
         answers = [] if wanted.saves else answers
-        lines = [fault(9, f'WriteFault {copy}') for copy in range(wanted.layout.copies)]
+        lines = [wanted.front + fault(9, f'WriteFault {copy}') for copy in range(wanted.layout.copies)]
         answers = answers + [(9, line) if run.output == 'kept' else (14, b'') for line in lines]
     if answers is None:
         yield from judge_form(run, call, got)
@@ -173,7 +191,7 @@ def judge_form(run, call, got):
     if got.status == 14:
         form = b''
     elif got.status:
-        front = rb'tries [0-9]+\n' if got.status == 11 else b''
+        front = rb'tries [0-9]+\n' if got.status == 11 else b'.*' if name == 'shell' else b''
         form = front + rb'fault %d (?:%s)\n' % (got.status, FAULTS[got.status])
     if not re.fullmatch(form if run.output == 'kept' else b'', got.text, re.S):
         yield f'it ends with {got.status} and sends {shown(got.text)}'
@@ -233,6 +251,8 @@ def judge_plan(wanted, got, before):
         if got.plan != before:
             yield 'the plan of an earlier start was changed'
     elif not foreseen.sure:
+        if foreseen.call.words[:1] == ['shell']:
+            return
         if (got.plan is None) != (got.status != 0) and got.status not in (14, 20):
             yield f'there is {"no" if got.plan is None else "a"} plan after status {got.status}'
     elif wanted.plans and got.status in (0, 14):

@@ -15,6 +15,11 @@ VALUES = ['0', '1', '2', '3', '7', '10', '255', '256', '0x10', '4294967295', '42
 SETTINGS = [b'retry=1', b'disable_on_zero_attempts=1', b'reset_attempts=all-zero',
             b'reset_attempts=reset power-on', b'reset_priorities=all-zero', b'default_attempts=2',
             b'system0.boot=m/', b'system1.default_priority=5']
+STEPS = [b'echo a', b'echo "$a" $?', b'true', b'false', b'test $a = 1', b'test $a -lt 2', b'a=1',
+         b'a="x y"', b'a=$a$a', b'state.bootstate.last_chosen=$a', b'state.bootstate.last_chosen=2',
+         b'state.bootstate.system1.priority=30', b'state.bootstate.system0.priority=0', b'state -s',
+         b'state -s', b'bootchooser -s', b'bootchooser -i', b'boot bootchooser', b'boot', b'ls',
+         b'echo $state.bootstate.system0.remaining_attempts', b'for b in 1 2; do echo $b; done']
 MENU_NAMES = [b'a.conf', b'b-1.2.conf', b'b-1.10.conf', b'b-1.2~rc.conf', b'z.conf', b'.conf',
               b'x.txt', b'01.conf', b'a^1.conf', b'B-1.conf', b'a\nb.conf', '\u00e4.conf'.encode()]
 OPTIONS = [b'-d', b'-g', b'-s', b'-i', b'-n', b'-k', b'-c', b'--cause', b'--dir', b'', b'--', b'-x',
@@ -77,7 +82,7 @@ class Maker:
             run.front.append(b'--read-only')
         if dice.once_in(12):
             run.front.insert(0, b'--explain')
-        if dice.once_in(10 if run.words[:1] == [b'boot'] else 60):
+        if dice.once_in(10 if run.words[:1] in ([b'boot'], [b'shell']) else 60):
             run.front.insert(dice.below(len(run.front) + 1), b'--plan=' + dice.pick(PLANS))
         if dice.once_in(60):
             run.device = dice.pick(OTHER_DEVICES)
@@ -97,7 +102,7 @@ class Maker:
     def board(self):
         """A session of new words on a device that a layout's copies stand on."""
         dice, run, corpus = self.dice, self.run, self.corpus
-        command = dice.pick([b'state'] * 5 + [b'boot'] * 3 + [b'mark-good'])
+        command = dice.pick([b'state'] * 5 + [b'boot'] * 3 + [b'mark-good'] + [b'shell'] * 3)
         is_any = command == b'state' or dice.once_in(9)
         under_a_key = is_any and dice.once_in(5)
         boards = corpus.boards if is_any else corpus.booting
@@ -119,7 +124,10 @@ class Maker:
         else:
             self.targets()
             words += [b'-c', b'set.txt']
-        if command == b'boot' and dice.once_in(3):
+        if command == b'shell':
+            run.files[b'boot.script'] = self.script()
+            words += [b'-x', b'boot.script']
+        if command in (b'boot', b'shell') and dice.once_in(3):
             words += [b'--cause', dice.pick([b'power-on', b'reset', b'other'])]
         run.words = [command] + words
         run.bytes = device(dice, layout, key)
@@ -165,6 +173,17 @@ class Maker:
                 files[b'loader/entries/' + name + b'.conf'] = self.entry()
         if dice.once_in(3):
             self.folder()
+
+    def script(self):
+        """Steps, in loops and tests."""
+        dice = self.dice
+        text = b''.join(dice.pick(STEPS) + dice.pick([b'\n', b'\n', b'; ', b' && ', b' || '])
+                        for _ in range(dice.among(0, 7))) + dice.pick(STEPS)
+        if dice.once_in(3):
+            text = b'for a in 1 2 x; do ' + text + b'; done'
+        if dice.once_in(3):
+            text = b'if ' + text + b'; then echo y; else boot bootchooser; fi'
+        return text
 
     def entry(self):
         if self.dice.once_in(3):

@@ -63,6 +63,8 @@ class Var:
             return bytes.fromhex(text.replace(':', '')) if MAC.fullmatch(text) else 'NotMac'
         if self.kind == b'string':
             value = text.encode()
+            if b'\0' in value:
+                return 'HasZeroByte'
             return value.ljust(self.size, b'\0') if len(value) <= self.size else 'TooLong'
         value = number(text)
         if isinstance(value, int) and value >> 8 * self.size:

@@ -5,7 +5,7 @@ import re
 from values import geometry_of, is_number, is_utf8, number
 
 LONG = {'--input': '-i', '--name': '-n', '--get': '-g', '--set': '-s'}
-ONCE = {'state': 'ink', 'mark-good': 'inkc', 'boot': 'inkc'}
+ONCE = {'state': 'ink', 'mark-good': 'inkc', 'boot': 'inkc', 'shell': 'inkcx'}
 SESSIONS = range(1, 1001)
 TARGET = re.compile(r'[A-Za-z0-9_-]+')
 GENERAL = ('targets', 'state_prefix', 'default_attempts', 'default_priority', 'reset_attempts',
@@ -114,18 +114,18 @@ class Command:
                 continue
             front, sign, value = word.partition('=')
             option = LONG.get(front) if sign or front in LONG else word
-            if option == '--cause' and self.name == 'boot' and 'cause' not in self.given:
+            if option == '--cause' and self.name in ('boot', 'shell') and 'cause' not in self.given:
                 due = option
             elif option in ('-g', '-s') and self.name == 'state':
                 due = option
-            elif option in ('-i', '-n', '-k', '-c') and option[1] in set(once) - set(self.given):
+            elif option in ('-i', '-n', '-k', '-c', '-x') and option[1] in set(once) - set(self.given):
                 due = option
             else:
                 raise Bad(place)
             if sign:
                 self.take(due, value, place)
                 due = None
-        if due or not {'i', 'c'} & set(once) <= set(self.given):
+        if due or not {'i', 'c', 'x'} & set(once) <= set(self.given):
             raise Bad(len(self.words) + 1)
 
     def take(self, option, value, place):

@@ -13,12 +13,11 @@ use Rattle.bb_flash.specs.declared.plan.Plan.{Plan as StartPlan}
 use Rattle.bb_plan.specs.Plan.{SessionPlan}
 use Rattle.bb_plan.specs.declared.plan.Work.{Work}
 use Rattle.bb_plan.specs.declared.refusal.Refusal.{Refusal}
-use Rattle.bb_session.specs.Acting.{start_plans_of}
+use Rattle.bb_session.specs.Acting.{WorkAnswers, start_plans_of}
 use Rattle.bb_session.specs.Booting.{start_of}
 use Rattle.bb_session.specs.Session.{LoadAnswer, work_session}
 use Rattle.bb_session.specs.Work.{IsWork, IsWorkedOut}
 use Rattle.bb_session.specs.declared.report.Report.{Report}
-use Rattle.bb_shell.specs.Rounds.{RoundAnswer}
 use Rattle.bb_state.specs.Keyed.{Keyed}
 use Rattle.bb_drill_sessions.specs.Plans.{drill_plan}
 use Rattle.bb_drill_sessions.proofs.Plans.{on_board}
@@ -30,7 +29,7 @@ record IsStarted (work : Work) (from to : Device) : Type 0 where
   none : start_plans_of work ≡ [] → start ≡ None
   adds : AddsOne start from to
 
-started_by : (plan : SessionPlan) (from to : Device) (load : LoadAnswer) (answers : List RoundAnswer) → IsWork plan from to load answers →
+started_by : (plan : SessionPlan) (from to : Device) (load : LoadAnswer) (answers : WorkAnswers) → IsWork plan from to load answers →
     IsStarted plan.work from to
 started_by plan from to load answers work = record {
   start = start_of plan.work (work_session plan load answers).rounds;

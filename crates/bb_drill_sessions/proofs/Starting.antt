@@ -5,13 +5,13 @@ use Rattle.bb_flash.specs.Device.{Device, starts}
 use Rattle.bb_flash.specs.declared.plan.Plan.{Plan as StartPlan}
 use Rattle.bb_plan.specs.Plan.{SessionPlan}
 use Rattle.bb_session.proofs.Started.{work_started}
-use Rattle.bb_session.specs.Acting.{start_plans_of}
+use Rattle.bb_session.specs.Acting.{WorkAnswers, start_plans_of}
 use Rattle.bb_session.specs.Booting.{start_in, start_of}
 use Rattle.bb_session.specs.Session.{LoadAnswer, work_session}
 use Rattle.bb_session.specs.Work.{IsWork}
 use Rattle.bb_shell.specs.Boot.{Round, last_round, plan_at}
 use Rattle.bb_shell.specs.Ends.{AddsStart, StartsOnce}
-use Rattle.bb_shell.specs.Rounds.{RoundAnswer, is_started}
+use Rattle.bb_shell.specs.Rounds.{is_started}
 use Rattle.bb_shell.specs.Sequence.{AddsBy}
 use Rattle.bb_shell.specs.declared.outcome.Outcome.{Outcome}
 use Rattle.bb_shell.specs.declared.outcome.Outcome.TheVariants as outcomes
@@ -38,7 +38,7 @@ last_start plans (Some round) from to h = at round.outcome h
     at outcomes.Failed h = h
     at outcomes.Started h = planned_start (plan_at plans round.target) from to h
 
-pub work_start : (plan : SessionPlan) (from to : Device) (load : LoadAnswer) (answers : List RoundAnswer) → IsWork plan from to load answers →
+pub work_start : (plan : SessionPlan) (from to : Device) (load : LoadAnswer) (answers : WorkAnswers) → IsWork plan from to load answers →
     AddsOne (start_of plan.work (work_session plan load answers).rounds) from to
 work_start plan from to load answers work =
     last_start (start_plans_of plan.work) (last_round (work_session plan load answers).rounds) from to

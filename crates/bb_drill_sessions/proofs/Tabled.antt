@@ -15,12 +15,11 @@ use Rattle.bb_plan.specs.Plan.{SessionPlan, first_area}
 use Rattle.bb_plan.specs.declared.plan.Work.{Work}
 use Rattle.bb_session.proofs.Acted.{by_work, session_after}
 use Rattle.bb_session.proofs.Faulting.{copies_are}
-use Rattle.bb_session.specs.Acting.{kept_before, needs_table}
+use Rattle.bb_session.specs.Acting.{WorkAnswers, kept_before, needs_table}
 use Rattle.bb_session.specs.Exactly.{PassAlike, last_area, last_area_of, saves_made}
 use Rattle.bb_session.specs.Looking.{first_found, passed_in}
 use Rattle.bb_session.specs.Session.{LoadAnswer, answers_after, loaded_area}
 use Rattle.bb_session.specs.Work.{IsWork}
-use Rattle.bb_shell.specs.Rounds.{RoundAnswer}
 use Rattle.bb_shell.specs.Stages.{saves_of}
 use Rattle.bb_state.specs.Keyed.{Keyed}
 use Rattle.bb_state.specs.Kinds.{laid_form, laid_kinds}
@@ -55,7 +54,7 @@ found_after keyed page (Some area) x z some alike =
 -- ---- the area that was saved last
 
 -- work that loads or saves one has copies
-pub has_copies : (plan : SessionPlan) (from to : Device) (load : LoadAnswer) (answers others : List RoundAnswer) (found : Option (List ℕ)) →
+pub has_copies : (plan : SessionPlan) (from to : Device) (load : LoadAnswer) (answers others : WorkAnswers) (found : Option (List ℕ)) →
     IsWork plan from to load answers → is_some (last_area plan found others) ≡ true → 1 ≤ plan.keyed.layout.copies
 has_copies plan from to load answers others found work some =
     by_work plan from to load answers work
@@ -77,7 +76,7 @@ abbrev LastOf : SessionPlan → Option (List ℕ) → Option (List ℕ)
 LastOf plan found = last_area plan found (answers_after plan (Ok found))
 
 -- and the same is saved then
-same_saves : (plan : SessionPlan) (answers : List RoundAnswer) →
+same_saves : (plan : SessionPlan) (answers : WorkAnswers) →
     saves_made plan None answers ≡ saves_made plan (Some (first_area plan.keyed.layout)) answers
 same_saves plan answers =
     ap (saves_of (kept_before plan.work (loaded_area plan.keyed.layout None)))

@@ -17,17 +17,16 @@ use Rattle.bb_plan.specs.declared.refusal.Refusal.{Refusal}
 use Rattle.bb_plan.specs.declared.refusal.Refusal.TheVariants as refusals
 use Rattle.bb_plan.specs.declared.status.Status.{Status}
 use Rattle.bb_plan.specs.declared.status.Status.TheVariants as statuses
-use Rattle.bb_session.proofs.Barred.{HasNoFault, fault_device, is_device_fault}
+use Rattle.bb_session.proofs.Barred.{HasMemory, HasNoFault, fault_device, is_device_fault, is_memory}
 use Rattle.bb_session.proofs.Exact.{plan_done, plan_makes}
 use Rattle.bb_session.proofs.Unrefused.{unrefused, work_gives, work_same}
-use Rattle.bb_session.specs.Acting.{kept_before, taken_by}
+use Rattle.bb_session.specs.Acting.{WorkAnswers, kept_before, taken_by}
 use Rattle.bb_session.specs.Booting.{start_of}
 use Rattle.bb_session.specs.Exactly.{CopyWrite, EachContent, EachTold, LeavesRegions, PassAlike, erases_in, last_area, last_area_of, loaded_region, saved_region, saves_made, sum_of_writes, worked_region, writes_of_load, writes_of_saves, writes_of_work}
 use Rattle.bb_session.specs.Looking.{first_found, passed_in}
 use Rattle.bb_session.specs.Session.{LoadAnswer, Session, answers_after, ended_status, loaded_area, work_session}
 use Rattle.bb_session.specs.Work.{Gives, IsWork, IsWorkedOut}
 use Rattle.bb_session.specs.declared.report.Report.{Report}
-use Rattle.bb_shell.specs.Rounds.{RoundAnswer}
 use Rattle.bb_shell.specs.Stages.{saves_of}
 use Rattle.bb_state.specs.Keyed.{Keyed}
 use Rattle.bb_state.specs.Kinds.{laid_form, laid_kinds}
@@ -41,7 +40,7 @@ use Rattle.bb_drill_sessions.proofs.Tabled.{has_copies, table_after}
 
 -- ---- where nothing fails: what is left hangs on the saves that are made
 
-module _ (plan : SessionPlan) (found : Option (List ℕ)) (one two : List RoundAnswer)
+module _ (plan : SessionPlan) (found : Option (List ℕ)) (one two : WorkAnswers)
     (same : work_session plan (Ok found) one ≡ work_session plan (Ok found) two) where
   abbrev Taken : Option (List ℕ)
   Taken = taken_by plan.work found
@@ -89,8 +88,8 @@ makes_start None before after adds = same_Some after.told.starts before.told.sta
 makes_start (Some plan) before after adds = adds.added before.told refl after.told refl
 
 module _ (plan : SessionPlan) (before after : Memory) (geometry : before.geometry ≡ board_geometry) (found : Option (List ℕ))
-    (answers : List RoundAnswer) (work : IsWork plan (device_of before) (device_of after) (Ok found) answers)
-    (calm : NothingFailed before after) where
+    (answers : WorkAnswers) (work : IsWork plan (device_of before) (device_of after) (Ok found) answers)
+    (calm : NothingFailed before after) (memory : HasMemory (work_session plan (Ok found) answers)) where
   abbrev X : Image
   X = before.told.image
 
@@ -104,7 +103,7 @@ module _ (plan : SessionPlan) (before after : Memory) (geometry : before.geometr
   Held = FoundAt board_geometry.page
 
   -- what is answered where nothing fails
-  abbrev Sound : List RoundAnswer
+  abbrev Sound : WorkAnswers
   Sound = answers_after plan (Ok Held)
 
   page : before.geometry.page ≡ board_geometry.page
@@ -119,7 +118,7 @@ module _ (plan : SessionPlan) (before after : Memory) (geometry : before.geometr
   same : work_session plan (Ok Held) answers ≡ work_session plan (Ok Held) Sound
   same =
       subst (λ f. work_session plan (Ok f) answers ≡ work_session plan (Ok f) (answers_after plan (Ok f))) held_is
-      (work_same plan (device_of before) (device_of after) found answers work whole (inr calm.starts))
+      (work_same plan (device_of before) (device_of after) found answers work whole memory (inr calm.starts))
 
   left : LeavesRegions (laid_kinds plan.keyed.layout) board_geometry.page (worked_region plan Held answers) X Y
   left =
@@ -186,22 +185,24 @@ TableIs keyed plan x y =
     unwrap_or (table_found keyed y) (table_first keyed) ≡ table_made plan (unwrap_or (table_found keyed x) (table_first keyed))
 
 whole_session : (command : DrillCommand) (plan : SessionPlan) → drill_plan command ≡ Ok plan → (before after : Memory) →
-    before.geometry ≡ board_geometry → (found : Option (List ℕ)) (answers : List RoundAnswer) →
+    before.geometry ≡ board_geometry → (found : Option (List ℕ)) (answers : WorkAnswers) →
     IsWork plan (device_of before) (device_of after) (Ok found) answers → NothingFailed before after →
+    HasMemory (work_session plan (Ok found) answers) →
     IsWholeSession session_rules session_runs command (board_state_of before) (board_state_of after)
-whole_session command plan is before after geometry found answers work calm = record {
+whole_session command plan is before after geometry found answers work calm memory = record {
   ran =
       subst (λ (p : Result SessionPlan EarlyEnd). IsFollowedSound p (board_state_of before) (board_state_of after)) (sym is)
-      (followed_sound plan before after geometry found answers work calm);
+      (followed_sound plan before after geometry found answers work calm memory);
   table =
       subst (λ (k : Option Keyed). TableIs k (drill_plan command) before.told.image after.told.image) (sym (on_board command plan is).keyed)
       (subst (λ (p : Result SessionPlan EarlyEnd). TableIs (Some plan.keyed) p before.told.image after.told.image) (sym is)
-      (table_is plan before after geometry found answers work calm));
+      (table_is plan before after geometry found answers work calm memory));
 }
 
 ends_sound : (command : DrillCommand) (x y : BoardState) (status : Status) → is_device_fault status ≡ false →
-    IsWholeSession session_rules session_runs command x y → EndsSound session_rules session_runs command x y (end_of_status status)
-ends_sound command x y statuses.Done none whole = whole
+    (is_memory status ≡ false → IsWholeSession session_rules session_runs command x y) →
+    EndsSound session_rules session_runs command x y (end_of_status status)
+ends_sound command x y statuses.Done none whole = whole refl
 ends_sound command x y statuses.BadWords none whole = tt
 ends_sound command x y statuses.BadTree none whole = tt
 ends_sound command x y statuses.BadLayout none whole = tt
@@ -211,12 +212,15 @@ ends_sound command x y statuses.FileFault none whole = tt
 ends_sound command x y statuses.FileTooLong none whole = tt
 ends_sound command x y statuses.ReadFault none whole = absurd cc
 ends_sound command x y statuses.WriteFault none whole = absurd cc
-ends_sound command x y statuses.NoTarget none whole = whole
-ends_sound command x y statuses.StartFailed none whole = whole
+ends_sound command x y statuses.NoTarget none whole = whole refl
+ends_sound command x y statuses.StartFailed none whole = whole refl
 ends_sound command x y statuses.BadSettings none whole = tt
+ends_sound command x y statuses.BadScript none whole = tt
+ends_sound command x y statuses.ScriptFailed none whole = tt
+ends_sound command x y statuses.StepLimit none whole = tt
 ends_sound command x y statuses.SinkFault none whole = tt
 ends_sound command x y statuses.BadKey none whole = tt
-ends_sound command x y statuses.NoGood none whole = whole
+ends_sound command x y statuses.NoGood none whole = whole refl
 ends_sound command x y statuses.NoMemory none whole = tt
 
 given_status : (session : Session) (given : Result Report Refusal) → Gives session given → ended_status session ≡ status_given given
@@ -224,7 +228,7 @@ given_status session (Ok report) gives = ap (λ r. option_map_or status_of r sta
 given_status session (Err refusal) gives = ap (λ r. option_map_or status_of r statuses.Done) gives.1
 
 done_sound : (command : DrillCommand) (plan : SessionPlan) → drill_plan command ≡ Ok plan → (before after : Memory) →
-    before.geometry ≡ board_geometry → (load : LoadAnswer) (answers : List RoundAnswer) →
+    before.geometry ≡ board_geometry → (load : LoadAnswer) (answers : WorkAnswers) →
     IsWork plan (device_of before) (device_of after) load answers → NothingFailed before after → (given : Result Report Refusal) →
     Gives (work_session plan load answers) given →
     EndsSound session_rules session_runs command (board_state_of before) (board_state_of after) (end_given given)
@@ -236,7 +240,7 @@ done_sound command plan is before after geometry (Ok found) answers work calm gi
     subst (λ (s : Status). EndsSound session_rules session_runs command (board_state_of before) (board_state_of after) (end_of_status s))
     (given_status (work_session plan (Ok found) answers) given gives)
     (ends_sound command (board_state_of before) (board_state_of after) (ended_status (work_session plan (Ok found) answers)) none
-    (whole_session command plan is before after geometry found answers work calm))
+    (λ memory. whole_session command plan is before after geometry found answers work calm memory))
 
 -- where memory was refused nothing is said
 short_sound : (command : DrillCommand) (x y : BoardState) (given : Result Report Refusal) → given ≡ Err refusals.NoMemory →

@@ -1,16 +1,16 @@
 -- A session of a drill in which nothing fails, as every session of the program: its copies to the
 -- byte, its erases and its start.
-use Rattle.std.specs.Prelude.{◌≡◌, ◌++◌, ◌∷◌, [], List, Option, Some, None}
+use Rattle.std.specs.Prelude.{◌≡◌, ◌++◌, ◌∷◌, [], Option, Some, None}
 use Rattle.std.specs.Prelude.{Result, Ok, Err}
 use Rattle.bb_drill.specs.Board.{BoardState, board_geometry}
 use Rattle.bb_drill.specs.declared.command.DrillCommand.{DrillCommand}
 use Rattle.bb_flash.specs.Device.{Device}
 use Rattle.bb_flash.specs.declared.plan.Plan.{Plan as StartPlan}
 use Rattle.bb_plan.specs.Plan.{EarlyEnd, SessionPlan}
+use Rattle.bb_session.specs.Acting.{WorkAnswers}
 use Rattle.bb_session.specs.Booting.{start_of}
 use Rattle.bb_session.specs.Exactly.{ErasesExactly, LeavesExactly}
 use Rattle.bb_session.specs.Session.{answers_for, load_for, work_session}
-use Rattle.bb_shell.specs.Rounds.{RoundAnswer}
 use Rattle.bb_drill_sessions.specs.Plans.{drill_plan}
 
 -- a board of the drill as a device on which nothing failed
@@ -30,7 +30,7 @@ device_at state = record {
 }
 
 -- what the rounds of a plan are answered there
-abbrev pub answers_at : Result SessionPlan EarlyEnd → BoardState → List RoundAnswer
+abbrev pub answers_at : Result SessionPlan EarlyEnd → BoardState → WorkAnswers
 answers_at plan state = answers_for plan (load_for plan board_geometry state.image)
 
 -- the start that it makes there, if it makes one

@@ -36,6 +36,7 @@ use Rattle.bb_layout.proofs.Apart.{share_no_byte}
 use Rattle.bb_layout.proofs.Outside.{defaults_length}
 use Rattle.bb_layout.proofs.RangeFacts.{ends_inside, names_apart, ranges_apart}
 use Rattle.bb_layout.proofs.WellFormed.{all_well_formed}
+use Rattle.bb_script.specs.Script.{script_of}
 use Rattle.bb_shell.specs.Plans.{entries_of, plan_by}
 use Rattle.bb_state.specs.Keyed.{Keyed}
 use Rattle.bb_tree.specs.Blob.{Devicetree}
@@ -47,8 +48,8 @@ use Rattle.bb_words.specs.declared.command.Described.{Described}
 use Rattle.bb_words.specs.declared.command.RawAction.{RawAction}
 use Rattle.bb_words.specs.declared.command.RawAction.TheVariants as raw_actions
 use Rattle.bb_plan.specs.Status.{is_planning}
-use Rattle.bb_plan.specs.PlanSteps.{actions_by, binding_by, binding_reading, blob_root, block_by, block_reading, bound_on, cause_of, entries_reading, is_blob, key_after, key_reading, keyed_reading, laid_by, layout_by, layout_reading, named_block, plans_reading, refused_as, source_root, targets_by, tree_in, with_key}
-use Rattle.bb_plan.specs.Plan.{Act, Boot, FileAnswers, Good, OnCopies, Prints, SessionPlan, Task, Work, booting, command_reading, described_reading, first_area, on_copies, on_keyed, plan_by_words, plan_reading, planned, raw_on, raw_work, work_reading, words_reading}
+use Rattle.bb_plan.specs.PlanSteps.{actions_by, binding_by, binding_reading, blob_root, block_by, block_reading, bound_on, cause_of, entries_reading, is_blob, key_after, key_reading, keyed_reading, laid_by, layout_by, layout_reading, named_block, plans_reading, refused_as, script_by, script_reading, source_root, targets_by, tree_in, with_key}
+use Rattle.bb_plan.specs.Plan.{Act, Boot, FileAnswers, Good, OnCopies, Prints, Run, SessionPlan, Task, Work, boot_reading, command_reading, described_reading, first_area, on_copies, on_keyed, plan_by_words, plan_reading, planned, raw_on, raw_work, run_of, run_reading, words_reading, work_reading}
 use Rattle.bb_plan.specs.FilesRead.{EachEnd, Reading, Yields, and_then, result_by, reading_of}
 use Rattle.bb_plan.specs.Refusal.{status_of}
 use Rattle.bb_plan.specs.declared.refusal.Refusal.{Refusal}
@@ -174,7 +175,8 @@ bound_so layout text sized =
 
 -- ---- the plan
 
--- of a boot: it was bound to the variables of the layout, of which no two share a byte
+-- of a boot, alone or by a script: it was bound to the variables of the layout, of which no two
+-- share a byte
 pub record IsSizedBoot (layout : Laid) (targets : Binding) : Type 0 where
   pub layout_is : IsSized layout
   pub bound : targets.area_len ≡ layout.area_len
@@ -182,6 +184,7 @@ pub record IsSizedBoot (layout : Laid) (targets : Binding) : Type 0 where
 
 abbrev pub IsSizedWork : Work → Laid → Type 0
 IsSizedWork (Boot targets cause plans) layout = IsSizedBoot layout targets
+IsSizedWork (Run script targets cause plans) layout = IsSizedBoot layout targets
 IsSizedWork _ layout = ⊤
 
 abbrev pub IsSizedPlan : SessionPlan → Type 0
@@ -308,6 +311,11 @@ binding_ends file layout sized =
     (λ targets is. if_ok (IsBoundSo layout) (binding_by layout text) targets is
     (bound_so layout text sized)))
 
+script_ends : (file : List ℕ) → Ends Any (script_reading file)
+script_ends file =
+    file_ends Any script_by file
+    (λ text. as_ends Any (script_of text) refusals.BadScript (λ e. refl) (λ script is. tt))
+
 entries_end : (target : ℕ) (names : List (List ℕ)) → Ends Any (entries_reading target names)
 entries_end target [] = tt
 entries_end target (name ∷ names) = λ text.
@@ -329,13 +337,24 @@ work_ends (requests.Good settings) layout sized =
     then_ends (IsBoundSo layout) (IsSizedOn layout) (λ (targets : Binding). Yields (Good targets))
     (binding_reading settings layout) (binding_ends settings layout sized) (λ targets bound. tt)
 work_ends (requests.Boot settings cause) layout sized =
-    then_ends (IsBoundSo layout) (IsSizedOn layout) (booting cause)
+    then_ends (IsBoundSo layout) (IsSizedOn layout) (boot_reading cause)
     (binding_reading settings layout) (binding_ends settings layout sized)
     (λ targets bound.
     then_ends Any (IsSizedOn layout)
     (λ (plans : List (Option StartPlan)). Yields (Boot targets (cause_of cause) plans))
     (plans_reading targets) (entries_end 0 (entries_of targets))
     (λ plans any. record { layout_is = sized; bound = bound.0; binding = bound.1 }))
+work_ends (requests.Run settings file cause) layout sized =
+    then_ends (IsBoundSo layout) (IsSizedOn layout) (run_reading file cause)
+    (binding_reading settings layout) (binding_ends settings layout sized)
+    (λ targets bound.
+    then_ends Any (IsSizedOn layout) (run_of cause targets) (script_reading file)
+    (script_ends file)
+    (λ script any.
+    then_ends Any (IsSizedOn layout)
+    (λ (plans : List (Option StartPlan)). Yields (Run script targets (cause_of cause) plans))
+    (plans_reading targets) (entries_end 0 (entries_of targets))
+    (λ plans any. record { layout_is = sized; bound = bound.0; binding = bound.1 })))
 
 described_ends : (described : Described) (geometry : Geometry) (request : Request) →
     Ends IsSizedTask (described_reading described geometry request)
@@ -370,6 +389,9 @@ command_ends (commands.MarkGood command) geometry =
     described_ends command.described geometry (requests.Good command.settings)
 command_ends (commands.Boot command) geometry =
     described_ends command.described geometry (requests.Boot command.settings command.cause)
+command_ends (commands.Shell command) geometry =
+    described_ends command.boot.described geometry
+    (requests.Run command.boot.settings command.script command.boot.cause)
 command_ends (commands.Menu command) geometry = λ found. menu_ends command.dir found
 command_ends (commands.Drill numbers) geometry = tt
 

@@ -16,12 +16,15 @@ use Rattle.bb_layout.specs.Layout.{Laid}
 use Rattle.bb_layout.specs.Results.{result_and_then}
 use Rattle.bb_layout.specs.declared.layout_error.LayoutError.{LayoutError}
 use Rattle.bb_layout.specs.declared.layout_error.LayoutError.TheVariants as layout_errors
+use Rattle.bb_script.specs.Tree.{ScriptTree}
+use Rattle.bb_script.specs.declared.error.ScriptError.{ScriptError}
+use Rattle.bb_script.specs.declared.error.ScriptError.TheVariants as script_errors
 use Rattle.bb_menu.specs.Menu.{is_menu_fault, menu_answer}
 use Rattle.bb_menu.specs.declared.fault.MenuFault.{MenuFault}
 use Rattle.bb_menu.specs.declared.fault.MenuFault.TheVariants as menu_faults
 use Rattle.bb_plan.specs.PlanSteps.{block_by, refused_as}
 use Rattle.bb_plan.specs.FilesRead.{Asked, AskedMenu, IsReadAs, IsUnreadable, Reading, Reads, asked_name, files_answer, file_refusal, menu_reading, menu_refusal, needed, after_file_fault}
-use Rattle.bb_plan.specs.Refusal.{layout_refusal, settings_refusal}
+use Rattle.bb_plan.specs.Refusal.{layout_refusal, script_refusal, settings_refusal}
 use Rattle.bb_plan.specs.declared.refusal.Refusal.{Refusal}
 use Rattle.bb_plan.specs.declared.refusal.Refusal.TheVariants as refusals
 use Rattle.bb_plan.proofs.Readings.{counted_later, folder_is, refused_by}
@@ -126,6 +129,12 @@ pub settings_refused : (bound : Result Binding SettingsError) (e : SettingsError
     refused_as refusals.BadSettings bound ≡ Err (settings_refusal e)
 settings_refused bound settings_errors.NoMemory refused some = absurd (some refl)
 settings_refused bound _ refused some = ap (refused_as refusals.BadSettings) (refused (λ h. cc))
+
+pub script_refused : (read : Result ScriptTree ScriptError) (e : ScriptError) →
+    (e ≢ script_errors.NoMemory → read ≡ Err e) → script_refusal e ≢ refusals.NoMemory →
+    refused_as refusals.BadScript read ≡ Err (script_refusal e)
+script_refused read script_errors.NoMemory refused some = absurd (some refl)
+script_refused read _ refused some = ap (refused_as refusals.BadScript) (refused (λ h. cc))
 
 -- ---- the key that a text spells
 

@@ -11,6 +11,7 @@ use Rattle.bb_layout.specs.Layout.{Laid, fields_of}
 use Rattle.bb_layout.specs.Results.{result_and_then}
 use Rattle.bb_layout.specs.Thirds.{raw_layout}
 use Rattle.bb_layout.specs.declared.format_kind.FormatKind.TheVariants as formats
+use Rattle.bb_script.specs.Tree.{ScriptTree}
 use Rattle.bb_state.specs.Keyed.{FitsKey, Keyed}
 use Rattle.bb_words.specs.Words.{words_of}
 use Rattle.bb_words.specs.declared.command.CauseWord.{CauseWord}
@@ -21,7 +22,7 @@ use Rattle.bb_words.specs.declared.command.DrillNumbers.{DrillNumbers}
 use Rattle.bb_words.specs.declared.command.RawAction.{RawAction}
 use Rattle.bb_words.specs.declared.command.RawAction.TheVariants as raw_actions
 use Rattle.bb_words.specs.declared.command.RawCommand.{RawCommand}
-use Rattle.bb_plan.specs.PlanSteps.{actions_by, binding_reading, cause_of, keyed_reading, plans_reading, refused_as}
+use Rattle.bb_plan.specs.PlanSteps.{actions_by, binding_reading, cause_of, keyed_reading, plans_reading, refused_as, script_reading}
 use Rattle.bb_plan.specs.FilesRead.{Fails, FileAnswer, Reading, Yields, and_then, answers_over, menu_reading, result_by, result_over, reading_of, reads_file}
 use Rattle.bb_plan.specs.declared.described.KeyedLayout.{KeyedLayout}
 use Rattle.bb_plan.specs.declared.plan.PlannedTask.{PlannedTask}
@@ -34,7 +35,7 @@ use Rattle.bb_plan.specs.declared.request.Request.TheVariants as requests
 use Rattle.bb_plan.specs.declared.status.Status.{Status}
 use Rattle.bb_plan.specs.Refusal.{status_of}
 pub use Rattle.bb_plan.specs.declared.plan.Work.{Work}
-pub use Rattle.bb_plan.specs.declared.plan.Work.TheVariants.{Act, Boot, Good, Show, Write}
+pub use Rattle.bb_plan.specs.declared.plan.Work.TheVariants.{Act, Boot, Good, Run, Show, Write}
 
 -- the layout with the block of its key, if its records stand under one, and the work
 pub record SessionPlan : Type 0 where
@@ -80,9 +81,17 @@ abbrev pub acting : Result (List BoundAction) Refusal → Result Work Refusal
 acting actions = result_and_then (λ actions. Ok (Act actions)) actions
 
 -- a boot of targets: the entries of these are read
-abbrev pub booting : CauseWord → Binding → Reading Work
-booting cause targets =
+abbrev pub boot_reading : CauseWord → Binding → Reading Work
+boot_reading cause targets =
     and_then (λ plans. Yields (Boot targets (cause_of cause) plans)) (plans_reading targets)
+
+-- a script's run over targets: the script is read, and then their entries
+abbrev pub run_of : CauseWord → Binding → ScriptTree → Reading Work
+run_of cause targets script =
+    and_then (λ plans. Yields (Run script targets (cause_of cause) plans)) (plans_reading targets)
+
+abbrev pub run_reading : List ℕ → CauseWord → Binding → Reading Work
+run_reading file cause targets = and_then (run_of cause targets) (script_reading file)
 
 -- the work that is asked for, by the layout
 abbrev pub work_reading : Request → Laid → Reading Work
@@ -90,7 +99,9 @@ work_reading (requests.Act actions) layout = reading_of (acting (actions_by layo
 work_reading (requests.Good settings) layout =
     and_then (λ targets. Yields (Good targets)) (binding_reading settings layout)
 work_reading (requests.Boot settings cause) layout =
-    and_then (booting cause) (binding_reading settings layout)
+    and_then (boot_reading cause) (binding_reading settings layout)
+work_reading (requests.Run settings file cause) layout =
+    and_then (run_reading file cause) (binding_reading settings layout)
 
 -- the layout and its key, and then the work on its copies
 abbrev pub on_copies : Keyed → Work → Reading Task
@@ -113,6 +124,9 @@ command_reading (commands.MarkGood command) geometry =
     described_reading command.described geometry (requests.Good command.settings)
 command_reading (commands.Boot command) geometry =
     described_reading command.described geometry (requests.Boot command.settings command.cause)
+command_reading (commands.Shell command) geometry =
+    described_reading command.boot.described geometry
+    (requests.Run command.boot.settings command.script command.boot.cause)
 command_reading (commands.Menu command) geometry =
     and_then (λ text. Yields (Prints text)) (menu_reading command.dir)
 command_reading (commands.Drill numbers) geometry = Yields (Drills numbers)
@@ -201,6 +215,7 @@ IsServed keyed (Write area) = IsUnkeyedRaw keyed × (length area ≡ keyed.layou
 IsServed keyed (Act actions) = AreBoundTo keyed.layout.vars actions
 IsServed keyed (Good targets) = IsBoundAt keyed.layout targets
 IsServed keyed (Boot targets cause plans) = IsBoundAt keyed.layout targets
+IsServed keyed (Run script targets cause plans) = IsBoundAt keyed.layout targets
 
 -- a layout for a device of this geometry, with a key exactly where its records stand under one
 pub record IsLaidFor (geometry : Geometry) (keyed : Keyed) : Type 0 where

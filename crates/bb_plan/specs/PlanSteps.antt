@@ -1,5 +1,6 @@
 -- The parts of a plan: the steps over what a file holds, each with its refusal, and what is read of
--- the devicetree, the key, the settings and the entries. Each part is the same for all commands.
+-- the devicetree, the key, the settings, the script and the entries. Each part is the same for all
+-- commands.
 use Rattle.std.specs.Prelude.{ℕ, ◌+◌, Bool, List, [], ◌∷◌, nat_eq, Option, Some, None, Result, Ok, Err, slice_get, unwrap_or, if◌then◌else◌}
 use Rattle.std.specs.List.{starts_with}
 use Rattle.bb_actions.specs.Actions.{read_actions}
@@ -20,6 +21,8 @@ use Rattle.bb_layout.specs.Layout.{Laid, layout_from}
 use Rattle.bb_layout.specs.Results.{result_and_then}
 use Rattle.bb_layout.specs.declared.format_kind.FormatKind.{FormatKind}
 use Rattle.bb_layout.specs.declared.var.Var.{Var}
+use Rattle.bb_script.specs.Script.{script_of}
+use Rattle.bb_script.specs.Tree.{ScriptTree}
 use Rattle.bb_shell.specs.Plans.{entries_of, plan_by}
 use Rattle.bb_shell.specs.declared.plan_fault.PlanFault.{PlanFault}
 use Rattle.bb_shell.specs.declared.plan_fault.PlanFault.TheVariants as plan_faults
@@ -113,6 +116,16 @@ targets_by layout text = refused_as refusals.BadSettings (binding_by layout text
 abbrev pub binding_reading : List ℕ → Laid → Reading Binding
 binding_reading file layout =
     and_then (λ text. reading_of (targets_by layout text)) (file_reading file)
+
+-- ---- the script
+
+-- the script that a text spells
+abbrev pub script_by : List ℕ → Result ScriptTree Refusal
+script_by text = refused_as refusals.BadScript (script_of text)
+
+-- `-x`: that in the file
+abbrev pub script_reading : List ℕ → Reading ScriptTree
+script_reading file = and_then (λ text. reading_of (script_by text)) (file_reading file)
 
 -- ---- the entries
 

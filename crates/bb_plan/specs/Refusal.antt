@@ -12,6 +12,8 @@ use Rattle.bb_layout.specs.declared.layout_error.LayoutError.{LayoutError}
 use Rattle.bb_layout.specs.declared.layout_error.LayoutError.TheVariants as layout_errors
 use Rattle.bb_copies.specs.declared.answers.CopyFault.{CopyFault}
 use Rattle.bb_copies.specs.declared.answers.CopyFault.TheVariants as copy_faults
+use Rattle.bb_script.specs.declared.error.ScriptError.{ScriptError}
+use Rattle.bb_script.specs.declared.error.ScriptError.TheVariants as script_errors
 use Rattle.bb_words.specs.declared.error.WordsError.{WordsError}
 use Rattle.bb_words.specs.declared.error.WordsError.TheVariants as word_errors
 use Rattle.bb_plan.specs.Status.{status_row}
@@ -34,6 +36,9 @@ status_of (refusals.WriteFault copy) = statuses.WriteFault
 status_of refusals.NoTarget = statuses.NoTarget
 status_of (refusals.StartFailed name) = statuses.StartFailed
 status_of (refusals.BadSettings e) = statuses.BadSettings
+status_of (refusals.BadScript e) = statuses.BadScript
+status_of (refusals.ScriptFailed status) = statuses.ScriptFailed
+status_of refusals.StepLimit = statuses.StepLimit
 status_of refusals.NoKey = statuses.BadKey
 status_of (refusals.BadKey e) = statuses.BadKey
 status_of (refusals.NoGood place) = statuses.NoGood
@@ -113,3 +118,11 @@ settings_refusal (settings_errors.NoSuchVariable name) =
 settings_refusal (settings_errors.NotUint32 name) =
     refusals.BadSettings (settings_errors.NotUint32 name)
 settings_refusal settings_errors.NoMemory = refusals.NoMemory
+
+abbrev pub script_refusal : ScriptError → Refusal
+script_refusal script_errors.TooLong = refusals.BadScript script_errors.TooLong
+script_refusal script_errors.NotText = refusals.BadScript script_errors.NotText
+script_refusal (script_errors.Unclosed at) = refusals.BadScript (script_errors.Unclosed at)
+script_refusal (script_errors.Unexpected at) = refusals.BadScript (script_errors.Unexpected at)
+script_refusal (script_errors.TooDeep at) = refusals.BadScript (script_errors.TooDeep at)
+script_refusal script_errors.NoMemory = refusals.NoMemory

@@ -1,7 +1,7 @@
 -- The ways in which a session ends: one table, in the order in which a session comes to them.
 use Rattle.std.specs.Prelude.{ℕ, Bool, true, false, List, codes}
 use Rattle.bb_plan.specs.declared.status.Status.{Status}
-use Rattle.bb_plan.specs.declared.status.Status.TheVariants.{Done, BadWords, BadTree, BadLayout, BadVariable, FileMissing, FileFault, FileTooLong, ReadFault, WriteFault, NoTarget, StartFailed, BadSettings, SinkFault, NoGood, BadKey, NoMemory}
+use Rattle.bb_plan.specs.declared.status.Status.TheVariants.{Done, BadWords, BadTree, BadLayout, BadVariable, FileMissing, FileFault, FileTooLong, ReadFault, WriteFault, NoTarget, StartFailed, BadSettings, BadScript, SinkFault, ScriptFailed, StepLimit, NoGood, BadKey, NoMemory}
 
 pub record StatusRow : Type 0 where
   -- the exit status of the program
@@ -22,7 +22,7 @@ late code name takes = record { code = code; name = name; is_early = false; take
 abbrev pub status_row : Status → StatusRow
 -- of the words
 status_row BadWords = early 1 (codes "BadWords")
--- of the files: devicetree, key, settings and entries
+-- of the files: devicetree, key, settings, script and entries
 status_row FileMissing = early 5 (codes "FileMissing")
 status_row FileFault = early 6 (codes "FileFault")
 status_row FileTooLong = early 7 (codes "FileTooLong")
@@ -31,6 +31,7 @@ status_row BadLayout = early 3 (codes "BadLayout")
 status_row BadKey = early 17 (codes "BadKey")
 status_row BadVariable = early 4 (codes "BadVariable")
 status_row BadSettings = early 13 (codes "BadSettings")
+status_row BadScript = early 12 (codes "BadScript")
 -- of the device
 status_row ReadFault = late 8 (codes "ReadFault") false
 status_row WriteFault = late 9 (codes "WriteFault") false
@@ -39,6 +40,9 @@ status_row NoTarget = late 10 (codes "NoTarget") false
 status_row NoGood = late 18 (codes "NoGood") false
 -- of a start
 status_row StartFailed = late 11 (codes "StartFailed") true
+-- of a script
+status_row ScriptFailed = late 15 (codes "ScriptFailed") false
+status_row StepLimit = late 16 (codes "StepLimit") false
 -- of memory, and of the output
 status_row NoMemory = late 20 (codes "NoMemory") false
 status_row SinkFault = late 14 (codes "SinkFault") false

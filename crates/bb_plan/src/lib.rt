@@ -12,6 +12,7 @@ mod plan;
 mod planning;
 mod refusal;
 mod request;
+mod script;
 mod status;
 mod targets;
 

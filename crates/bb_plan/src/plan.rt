@@ -3,6 +3,7 @@ use bb_actions::BoundActionList;
 use bb_base::Bytes;
 use bb_chooser::{Cause, Chooser};
 use bb_flash::PlanList;
+use bb_script::SpeltScript;
 use bb_words::DrillNumbers;
 
 /// What is done with the copies of a layout.
@@ -21,6 +22,9 @@ pub enum Work {
     /// To load them, to reset by this cause, and then round by round to spend an attempt of the
     /// best target, to save the table, and to start the target by its plan, if it has one.
     Boot(Chooser, Cause, PlanList),
+    /// To load them, and to run this script, which boots by these targets, this cause and these
+    /// plans.
+    Run(SpeltScript, Chooser, Cause, PlanList),
 }
 
 /// What a session is to do.

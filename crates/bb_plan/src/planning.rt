@@ -62,6 +62,11 @@ fn plan_command<N: Files>(
             let request = Request::Boot(command.settings, command.cause);
             plan_described(alloc, &command.described, request, files, geometry)
         }
+        Command::Shell(command) => {
+            let boot = command.boot;
+            let request = Request::Run(boot.settings, command.script, boot.cause);
+            plan_described(alloc, &boot.described, request, files, geometry)
+        }
         Command::Menu(command) => {
             let text = read_menu(alloc, files, &command.dir)?;
             Ok(PlannedTask::Prints(text))

@@ -8,6 +8,7 @@ use bb_dts::DtsError;
 use bb_fdt::FdtError;
 use bb_hmac::KeyError;
 use bb_layout::LayoutError;
+use bb_script::ScriptError;
 use bb_state::{CopyFault, StateError};
 use bb_words::WordsError;
 use std::alloc::AllocError;
@@ -36,6 +37,12 @@ pub enum Refusal {
     /// The target of this name couldn't be started, and no other is tried.
     StartFailed(Text),
     BadSettings(SettingsError),
+    /// The file isn't a script.
+    BadScript(ScriptError),
+    /// The script ended with this status, which isn't 0.
+    ScriptFailed(u32),
+    /// The script has more than 10,000 commands and rounds.
+    StepLimit,
     /// The state's records stand under a key, and no word names its file.
     NoKey,
     /// What the key's file holds is none. Nothing of it is told.
@@ -167,6 +174,20 @@ impl From<SettingsError> for Refusal {
     }
 }
 
+impl From<ScriptError> for Refusal {
+    ghost use Rattle.std.specs.Prelude.{◌≡◌};
+    ghost use Rattle.bb_plan.specs.Refusal.{script_refusal};
+
+    ghost from_gives = { λ error e. e ≡ script_refusal error };
+
+    fn from(error: ScriptError) -> Self {
+        match error {
+            ScriptError::NoMemory => Refusal::NoMemory,
+            other => Refusal::BadScript(other),
+        }
+    }
+}
+
 impl From<KeyError> for Refusal {
     ghost use Rattle.std.specs.Prelude.{◌≡◌};
     ghost use Rattle.bb_plan.specs.declared.refusal.Refusal.TheVariants as refusals;
@@ -198,6 +219,9 @@ impl Refusal {
             Refusal::NoTarget => Status::NoTarget,
             Refusal::StartFailed(_) => Status::StartFailed,
             Refusal::BadSettings(_) => Status::BadSettings,
+            Refusal::BadScript(_) => Status::BadScript,
+            Refusal::ScriptFailed(_) => Status::ScriptFailed,
+            Refusal::StepLimit => Status::StepLimit,
             Refusal::NoKey | Refusal::BadKey(_) => Status::BadKey,
             Refusal::NoGood(_) => Status::NoGood,
             Refusal::NoMemory => Status::NoMemory,

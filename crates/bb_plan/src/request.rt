@@ -9,6 +9,7 @@ use crate::described::KeyedLayout;
 use crate::entries::read_entries;
 use crate::plan::Work;
 use crate::refusal::Refusal;
+use crate::script::read_script_file;
 use crate::targets::read_targets;
 use bb_actions::read_actions;
 use bb_base::{Files, Text};
@@ -25,10 +26,13 @@ pub enum Request {
     Good(Text),
     /// To start the best target by the settings in this file, after a reset of this cause.
     Boot(Text, CauseWord),
+    /// To run the script in the second file over the targets of the settings in the first, after a
+    /// reset of this cause.
+    Run(Text, Text, CauseWord),
 }
 
-/// The work that is asked for, on the copies of that layout: its actions are bound, its settings
-/// and the entries of their targets are read.
+/// The work that is asked for, on the copies of that layout: its actions are bound, its settings,
+/// its script and the entries of their targets are read.
 pub(crate) fn read_work<N: Files>(
     alloc: Global,
     files: &mut N,
@@ -53,6 +57,12 @@ pub(crate) fn read_work<N: Files>(
             let chooser = read_targets(alloc, files, &settings, &keyed.layout)?;
             let plans = read_entries(alloc, files, &chooser)?;
             Ok(Work::Boot(chooser, cause_of(cause), plans))
+        }
+        Request::Run(settings, script_file, cause) => {
+            let chooser = read_targets(alloc, files, &settings, &keyed.layout)?;
+            let script = read_script_file(alloc, files, &script_file)?;
+            let plans = read_entries(alloc, files, &chooser)?;
+            Ok(Work::Run(script, chooser, cause_of(cause), plans))
         }
     }
 }

@@ -29,8 +29,14 @@ pub enum Status {
     StartFailed,
     /// The settings aren't settings, or the layout hasn't their variables.
     BadSettings,
+    /// The file of the script isn't a script.
+    BadScript,
     /// The text couldn't be sent whole. It takes the place of any other status but `NoMemory`.
     SinkFault,
+    /// The script ended with a status other than 0.
+    ScriptFailed,
+    /// The script has more than 10,000 commands and rounds.
+    StepLimit,
     /// The state's records stand under a key, and none is given, or its file holds none.
     BadKey,
     /// No target was chosen last that could be marked good.
@@ -70,11 +76,14 @@ impl Status {
             Status::BadKey => (17, "BadKey"),
             Status::BadVariable => (4, "BadVariable"),
             Status::BadSettings => (13, "BadSettings"),
+            Status::BadScript => (12, "BadScript"),
             Status::ReadFault => (8, "ReadFault"),
             Status::WriteFault => (9, "WriteFault"),
             Status::NoTarget => (10, "NoTarget"),
             Status::NoGood => (18, "NoGood"),
             Status::StartFailed => (11, "StartFailed"),
+            Status::ScriptFailed => (15, "ScriptFailed"),
+            Status::StepLimit => (16, "StepLimit"),
             Status::NoMemory => (20, "NoMemory"),
             Status::SinkFault => (14, "SinkFault"),
             Status::Done => (0, "Done"),

@@ -13,6 +13,7 @@ pub mod Fields
 -- inside: what clauses see of a script, and the same walk in the pieces in which private functions
 -- go through it
 pub mod Views
+pub mod TreeCode
 pub mod Reading
 pub mod Descent
 pub mod TokenWalks

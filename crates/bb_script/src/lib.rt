@@ -18,6 +18,7 @@ mod piece;
 mod read;
 mod reader;
 mod script;
+mod spelt_script;
 mod token;
 mod token_kind;
 mod word;
@@ -30,4 +31,5 @@ pub use read::{SCRIPT_LIMIT, read_script};
 pub use script::{
     Assignment, Choice, ForLoop, Otherwise, Script, ScriptBranch, ScriptCommand, ScriptStep, When,
 };
+pub use spelt_script::SpeltScript;
 pub use word::{Special, Word, WordPart};

@@ -96,10 +96,10 @@ played_by device script old new from to end acts called grants left one fresh is
     let whole : (later : List RoundAnswer) → script_played script (known_of old.commands) (map answer_of rounds ++ later) grants ≡ seen_course (course_of end last) later rounds =
     λ later. ap play (begun old from (map act_answer acts ++ one ∷ []) grants (map answer_of rounds ++ later) fresh)
     ∙ whole_play device script at last end called refl is tt none later in
-    record {
-      end_is = λ later. ap (λ (c : Course Played (Unit {0})). course_end c) (whole later) ∙ (end_seen end last later rounds).0;
-      text_is = λ later. ap (λ (c : Course Played (Unit {0})). (course_at c).text) (whole later) ∙ (end_seen end last later rounds).1;
-      rounds_are = λ later. ap (λ (c : Course Played (Unit {0})). (course_at c).outside.rounds) (whole later) ∙ (end_seen end last later rounds).2;
+    λ later. record {
+      end_is = ap (λ (c : Course Played (Unit {0})). course_end c) (whole later) ∙ (end_seen end last later rounds).0;
+      text_is = ap (λ (c : Course Played (Unit {0})). (course_at c).text) (whole later) ∙ (end_seen end last later rounds).1;
+      rounds_are = ap (λ (c : Course Played (Unit {0})). (course_at c).outside.rounds) (whole later) ∙ (end_seen end last later rounds).2;
     }
 
 -- a run whose memory sufficed

@@ -1,11 +1,12 @@
 -- All rounds of a script's commands.
-use Rattle.std.proofs.Common.{◌≡◌, ℕ, true, List, [], ◌∷◌, ◌++◌, Option, Some, None, ap, append-nil, append_assoc, refl, sym, subst, ◌∙◌}
+use Rattle.std.proofs.Common.{◌≡◌, ℕ, true, List, [], ◌∷◌, ◌++◌, length, Option, Some, None, ap, append-nil, append_assoc, arith, refl, sym, subst, ◌∙◌}
 use Rattle.std.proofs.lemmas.Option.{none-some, same_Some}
-use Rattle.std.specs.List.{AllByRecursion}
+use Rattle.std.specs.List.{AllByRecursion, flat_map}
 use Rattle.std.specs.Option.{option_map}
 use Rattle.std.specs.Prelude.{is_some}
 use Rattle.bb_copies.specs.declared.answers.CopyFault.{CopyFault}
 use Rattle.bb_flash.specs.Device.{Device}
+use Rattle.bb_state.specs.Keyed.{Keyed}
 use Rattle.bb_script.specs.Tree.{ScriptTree}
 use Rattle.bb_interpreter.proofs.Steady.{IsKept, Stands, run_keeps}
 use Rattle.bb_interpreter.specs.Runs.{HasRunNothing, IsAct, RanScript}
@@ -21,11 +22,12 @@ use Rattle.bb_shell.specs.Sequence.{goes_on}
 use Rattle.bb_script_commands.specs.Calling.{HasCalledOne}
 use Rattle.bb_script_commands.specs.Held.{CanCall, Held, known_of}
 use Rattle.bb_script_commands.specs.OutsideWords.{outside_command}
-use Rattle.bb_script_commands.specs.Playing.{IsPlayed}
+use Rattle.bb_script_commands.specs.Playing.{AreScriptRounds, IsCallIn, IsPlayed, PlayedCall, call_rounds}
 use Rattle.bb_script_commands.specs.Ran.{RanFor}
 use Rattle.bb_script_commands.specs.Scripts.{EndsBy, IsRunEnd, RanAll, RanOver, called_rounds, calls_on}
 use Rattle.bb_script_commands.specs.declared.run_end.RunResult.{RunResult}
 use Rattle.bb_script_commands.specs.StateNames.{state_outside, state_set}
+use Rattle.bb_script_commands.proofs.Counted.{few_acts}
 use Rattle.bb_script_commands.proofs.Joining.{for_joined, ran_set, started_joined}
 use Rattle.bb_script_commands.proofs.PlayedScripts.{played_so}
 use Rattle.bb_script_commands.proofs.Replying.{Fits, reply_fits}
@@ -132,6 +134,103 @@ kept_so device before from geometry = record {
       (called_so device before from held d words a (called_rounds device acts both.0) geometry (h both.0) both.1));
 }
 
+-- ---- what its calls knew
+
+-- a call knew the layout and the directions of the beginning
+abbrev IsBegunBy : {D : Type 0} → Held → Act Held D → Type 0
+IsBegunBy before act = (act.before.backed.keyed ≡ before.backed.keyed) × (act.before.by ≡ before.by)
+
+record HasKnown {D : Type 0} (before held : Held) (acts : List (Act Held D)) : Type 0 where
+  keyed : held.backed.keyed ≡ before.backed.keyed
+  by : held.by ≡ before.by
+  acts_are : AllByRecursion (IsBegunBy before) acts
+
+abbrev Knows : {D : Type 0} → (D → Device) → Held → Held → D → List (Act Held D) → Type 0
+Knows device before held d acts = AllByRecursion (IsAct (calls_on device)) acts → HasKnown before held acts
+
+all_pushed : {X : Type 0} (P : X → Type 0) (xs : List X) (x : X) → AllByRecursion P xs → P x → AllByRecursion P (xs ++ x ∷ [])
+all_pushed P [] x all last = (last, tt)
+all_pushed P (y ∷ xs) x all last = (all.0, all_pushed P xs x all.1 last)
+
+knows_next : {D : Type 0} (device : D → Device) (before held : Held) (d : D) (acts : List (Act Held D)) (words : List (List ℕ)) (a : Answer Held D)
+    → Knows device before held d acts → Knows device before a.outside a.device (acts ++ (record { words = words; before = held; on = d; answer = a }) ∷ [])
+knows_next device before held d acts words a h all =
+    let act : Act Held _ = record { words = words; before = held; on = d; answer = a } in
+    let both = all_split (IsAct (calls_on device)) acts act all in
+    let known = h both.0 in
+    let ran = both.1.ran in
+    record {
+      keyed = ran.keyed ∙ known.keyed;
+      by = ran.by ∙ known.by;
+      acts_are = all_pushed (IsBegunBy before) acts act known.acts_are (known.keyed, known.by);
+    }
+
+knows_stands : {D : Type 0} (device : D → Device) (before held : Held) (d : D) (acts : List (Act Held D)) (answer : Reply) → Knows device before held d acts
+    → Stands (Knows device before) (λ end. Knows device before) answer held d acts
+knows_stands device before held d acts (reply.Done status text) h = h
+knows_stands device before held d acts (reply.Started text) h = h
+knows_stands device before held d acts reply.Fault h = h
+knows_stands device before held d acts reply.NoMemory h = h
+
+knows_so : {D : Type 0} (device : D → Device) (before : Held) → IsKept state_outside (Knows device before) (λ end. Knows device before)
+knows_so device before = record {
+  done = λ held d acts status h. h;
+  limited = λ held d acts h. h;
+  starved = λ held d acts h. h;
+  unsent = λ held d acts h. h;
+  sets = λ held after d acts name value is h.
+      let keeps = set_keeps held after name value is in
+      subst (λ (x : Held). Knows device before x d acts) (sym keeps.1)
+      (λ all. let known = h all in record { keyed = known.keyed; by = known.by; acts_are = known.acts_are });
+  replies = λ held d acts words a h.
+      knows_stands device before a.outside a.device (acts ++ (record { words = words; before = held; on = d; answer = a }) ∷ []) a.reply
+      (knows_next device before held d acts words a h);
+}
+
+-- the calls of a run
+calls_of : {D : Type 0} (device : D → Device) (acts : List (Act Held D)) → AllByRecursion (IsAct (calls_on device)) acts → List PlayedCall
+calls_of device [] all = []
+calls_of device (act ∷ acts) all =
+    (record { words = act.words; known = known_of act.before; called = all.0.called }) ∷ calls_of device acts all.1
+
+calls_length : {D : Type 0} (device : D → Device) (acts : List (Act Held D)) (all : AllByRecursion (IsAct (calls_on device)) acts)
+    → length (calls_of device acts all) ≡ length acts
+unfolding calls_of
+calls_length device [] all = refl
+calls_length device (act ∷ acts) all =
+    let later = calls_length device acts all.1 in
+    omega (arith, later)
+
+calls_each : {D : Type 0} (device : D → Device) (before : Held) (acts : List (Act Held D)) (all : AllByRecursion (IsAct (calls_on device)) acts)
+    → AllByRecursion (IsBegunBy before) acts → AllByRecursion (IsCallIn (known_of before)) (calls_of device acts all)
+unfolding calls_of
+calls_each device before [] all known = tt
+calls_each device before (act ∷ acts) all known =
+    let call : IsCallIn (known_of before) (record { words = act.words; known = known_of act.before; called = all.0.called }) =
+    record { layout = ap (λ (k : Keyed). k.layout) known.0.0; by = known.0.1; does = all.0.does } in
+    (call, calls_each device before acts all.1 known.1)
+
+calls_rounds : {D : Type 0} (device : D → Device) (acts : List (Act Held D)) (all : AllByRecursion (IsAct (calls_on device)) acts)
+    → called_rounds device acts all ≡ flat_map call_rounds (calls_of device acts all)
+unfolding called_rounds calls_of
+calls_rounds device [] all = refl
+calls_rounds device (act ∷ acts) all = ap (λ rounds. all.0.called.rounds ++ rounds) (calls_rounds device acts all.1)
+
+script_calls : {D : Type 0} (device : D → Device) (script : ScriptTree) (old new : ScriptRun Held) (from to : D) (end : ScriptEnd)
+    (ran : RanScript (calls_on device) state_outside script old new from to end) → HasRunNothing old
+    → AreScriptRounds (known_of old.commands) (called_rounds device ran.acts ran.called)
+script_calls device script old new from to end ran fresh =
+    let known =
+    run_keeps state_outside (Knows device old.commands) (λ last. Knows device old.commands) (knows_so device old.commands) (calls_on device) script old new from to end
+    ran (λ all. record { keyed = refl; by = refl; acts_are = tt }) ran.called in
+    let few = few_acts state_outside (calls_on device) script old new from to end ran fresh in
+    record {
+      calls = calls_of device ran.acts ran.called;
+      few = omega (arith, few, calls_length device ran.acts ran.called);
+      each = calls_each device old.commands ran.acts ran.called known.acts_are;
+      rounds_are = calls_rounds device ran.acts ran.called;
+    }
+
 -- ---- the end
 
 begins : {D : Type 0} (device : D → Device) (before : Held) (from : D) → CanCall before (device from) → Goes device before from before from []
@@ -193,6 +292,9 @@ ran_over device script before old new from to end result can fresh begins ran en
       all =
           subst (λ (h : Held). RanAll h new.commands (device from) (device to) end rounds) begins
           (ran_all device script old new from to end (can_begin before old.commands (device from) begins can) ran);
+      calls =
+          subst (λ (h : Held). AreScriptRounds (known_of h) rounds) begins
+          (script_calls device script old new from to end ran fresh);
       grants = play.grants;
       played =
           subst (λ (l : List ℕ). IsPlayed script (known_of before) rounds play.grants end l) (sym text)

@@ -1,12 +1,12 @@
 -- What a call of a command from outside does and answers, by what the device answers to it.
-use Rattle.std.specs.Prelude.{◌≡◌, ℕ, Bool, true, false, not, List, [], ◌∷◌, length, Option, Some, None}
+use Rattle.std.specs.Prelude.{◌≡◌, ℕ, ◌<◌, ◌^◌, Bool, true, false, not, List, [], ◌∷◌, length, Option, Some, None}
 use Rattle.bb_chooser.specs.Counting.{chosen_target, mark_good_of}
 use Rattle.bb_copies.specs.declared.answers.CopyFault.{CopyFault}
 use Rattle.bb_flash.specs.Device.{Device}
 use Rattle.bb_interpreter.specs.declared.commands.Reply.{Reply}
 use Rattle.bb_interpreter.specs.declared.commands.Reply.TheVariants as reply
 use Rattle.bb_shell.specs.Boot.{AreRounds, Round, boot_end, first_table, table_after}
-use Rattle.bb_shell.specs.Sequence.{save_round}
+use Rattle.bb_shell.specs.Sequence.{refused_in, save_round}
 use Rattle.bb_script_commands.specs.Held.{Held, Known, known_of}
 use Rattle.bb_script_commands.specs.OutsideWords.{outside_command}
 use Rattle.bb_script_commands.specs.Ran.{RanFor}
@@ -87,6 +87,8 @@ pub record IsBooting (known : Known) (called : Called) : Type 0 where
   pub rounds : List Round
   pub are : AreRounds known.by.chooser known.by.plans (table_to_boot known) rounds
   pub is : called ≡ booting known rounds
+  -- they are counted in 64 bits
+  pub few : refused_in rounds ≡ None → length rounds < 2 ^ 64
 
 -- ---- each command
 

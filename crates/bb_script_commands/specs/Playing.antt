@@ -1,6 +1,7 @@
 -- What a script does by what its saves and starts are answered, one answer a round: a function, for
 -- which no device is asked.
-use Rattle.std.specs.Prelude.{◌≡◌, ℕ, false, true, List, [], ◌∷◌, ◌++◌, drop, length, map, Option, Some, None}
+use Rattle.std.specs.Prelude.{◌≡◌, ℕ, ◌*◌, ◌^◌, ◌≤◌, false, true, List, [], ◌∷◌, ◌++◌, drop, length, map, Option, Some, None}
+use Rattle.std.specs.List.{AllByRecursion, flat_map}
 use Rattle.bb_chooser.specs.Counting.{chosen_target, mark_good_of}
 use Rattle.bb_script.specs.Tree.{ScriptTree}
 use Rattle.bb_interpreter.specs.Means.{means_steps, replied}
@@ -12,7 +13,8 @@ use Rattle.bb_interpreter.specs.declared.stop.ScriptStop.{ScriptStop}
 use Rattle.bb_interpreter.specs.declared.stop.ScriptStop.TheVariants as stop
 use Rattle.bb_shell.specs.Boot.{Round}
 use Rattle.bb_shell.specs.Rounds.{RoundAnswer, answer_of, rounds_by}
-use Rattle.bb_script_commands.specs.Calling.{Called, answering, booting, saving, table_to_boot}
+use Rattle.bb_shell.specs.Sequence.{StopsThere, refused_in}
+use Rattle.bb_script_commands.specs.Calling.{Called, Does, answering, booting, saving, table_to_boot}
 use Rattle.bb_script_commands.specs.Held.{Known}
 use Rattle.bb_script_commands.specs.OutsideWords.{outside_command}
 use Rattle.bb_script_commands.specs.Sending.{counts_lines}
@@ -106,14 +108,70 @@ abbrev pub course_end : {C D : Type 0} → Course C D → ScriptEnd
 course_end (GoesOn at) = ends.Done at.status
 course_end (Stops why at) = stop_end why
 
--- Whatever would be answered later, the play of a script by what was answered to these rounds ends
--- so, with this text, and with these rounds.
-pub record IsPlayed (script : ScriptTree) (known : Known) (rounds : List Round) (grants : Option ℕ)
-    (end : ScriptEnd) (text : List ℕ) : Type 0 where
-  pub end_is : (later : List RoundAnswer)
-      → course_end (script_played script known (map answer_of rounds ++ later) grants) ≡ end
-  pub text_is : (later : List RoundAnswer)
-      → (course_at (script_played script known (map answer_of rounds ++ later) grants)).text ≡ text
-  pub rounds_are : (later : List RoundAnswer)
-      → (course_at (script_played script known (map answer_of rounds ++ later) grants)).outside.rounds
-      ≡ rounds
+-- the rounds that it ran
+abbrev pub script_rounds : ScriptTree → Known → List RoundAnswer → Option ℕ → List Round
+script_rounds script known answers grants =
+    (course_at (script_played script known answers grants)).outside.rounds
+
+-- by these answers the play of a script ends so, with this text, and with these rounds
+pub record PlaysTo (script : ScriptTree) (known : Known) (answers : List RoundAnswer)
+    (grants : Option ℕ) (end : ScriptEnd) (text : List ℕ) (rounds : List Round) : Type 0 where
+  pub end_is : course_end (script_played script known answers grants) ≡ end
+  pub text_is : (course_at (script_played script known answers grants)).text ≡ text
+  pub rounds_are : script_rounds script known answers grants ≡ rounds
+
+-- it does so by what was answered to these rounds, whatever would be answered later
+abbrev pub IsPlayed : ScriptTree → Known → List Round → Option ℕ → ScriptEnd → List ℕ → Type 0
+IsPlayed script known rounds grants end text =
+    (later : List RoundAnswer) →
+    PlaysTo script known (map answer_of rounds ++ later) grants end text rounds
+
+-- ---- where memory is refused
+
+-- these rounds come first of all
+pub record ComeFirst (rounds all : List Round) : Type 0 where
+  pub later : List Round
+  pub is : all ≡ rounds ++ later
+
+-- By the same answers a script that is refused memory at some point runs the first rounds of the
+-- script that is always granted it.
+abbrev pub FrontLaw : Type 0
+FrontLaw =
+    (script : ScriptTree) (known : Known) (answers : List RoundAnswer) (grants : Option ℕ) →
+    ComeFirst (script_rounds script known answers grants) (script_rounds script known answers None)
+
+-- ---- the calls of a script, whatever stands on the device
+
+-- a call of a command from outside: its words, what it knew, and what it did
+pub record PlayedCall : Type 0 where
+  pub words : List (List ℕ)
+  pub known : Known
+  pub called : Called
+
+abbrev pub call_rounds : PlayedCall → List Round
+call_rounds call = call.called.rounds
+
+-- it knew the layout and the directions that are there when the script begins, and did what its
+-- command may do
+pub record IsCallIn (begun : Known) (call : PlayedCall) : Type 0 where
+  pub layout : call.known.layout ≡ begun.layout
+  pub by : call.known.by ≡ begun.by
+  pub does : Does (outside_command call.words) call.known call.called
+
+-- these are the rounds of commands that were called one after another, of which there are 10,000 at
+-- most
+pub record AreScriptRounds (begun : Known) (rounds : List Round) : Type 0 where
+  pub calls : List PlayedCall
+  pub few : length calls ≤ 10000
+  pub each : AllByRecursion (IsCallIn begun) calls
+  pub rounds_are : rounds ≡ flat_map call_rounds calls
+
+-- Where no save was refused there are no more rounds than this, since each call counts its rounds
+-- in 64 bits.
+unfoldable pub most_script_rounds : ℕ
+most_script_rounds = 10000 * 2 ^ 64
+
+abbrev pub FewLaw : Type 0
+FewLaw =
+    (begun : Known) (rounds : List Round) → AreScriptRounds begun rounds → StopsThere rounds →
+    refused_in rounds ≡ None → length rounds ≤ most_script_rounds

@@ -13,7 +13,7 @@ use Rattle.bb_shell.specs.Boot.{Round}
 use Rattle.bb_shell.specs.Sequence.{goes_on, refused_in, started_last}
 use Rattle.bb_script_commands.specs.Calling.{HasCalled}
 use Rattle.bb_script_commands.specs.Held.{Held, known_of}
-use Rattle.bb_script_commands.specs.Playing.{IsPlayed}
+use Rattle.bb_script_commands.specs.Playing.{AreScriptRounds, IsPlayed}
 use Rattle.bb_script_commands.specs.Ran.{RanFor}
 use Rattle.bb_script_commands.specs.StateNames.{state_outside}
 use Rattle.bb_script_commands.specs.declared.run_end.RunEnd.{RunEnd}
@@ -75,6 +75,8 @@ pub record RanOver {D : Type 0} (device : D → Device) (script : ScriptTree) (b
   pub all :
       RanAll before new.commands (device from) (device to) end
       (called_rounds device ran.acts ran.called)
+  -- they are those of so many calls
+  pub calls : AreScriptRounds (known_of before) (called_rounds device ran.acts ran.called)
   -- the rounds, the text and the end follow from what was answered to these rounds, and where
   -- memory was refused also from how often it was granted
   pub grants : Option ℕ

@@ -1,5 +1,5 @@
 -- What the commands of a script send.
-use Rattle.std.specs.Prelude.{◌≡◌, ◌⊎◌, ℕ, Bool, true, false, List, [], ◌++◌, codes, decimal, Option, Some, None, unwrap_or}
+use Rattle.std.specs.Prelude.{◌≡◌, ◌⊎◌, ℕ, ◌<◌, ◌^◌, ⊤, Bool, true, false, List, [], ◌++◌, codes, decimal, Option, Some, None, unwrap_or}
 use Rattle.std.specs.List.{flat_map}
 use Rattle.bb_chooser.specs.Binding.{Binding}
 use Rattle.bb_chooser.specs.Choosing.{name_of, number_at}
@@ -34,7 +34,9 @@ target_name targets target = unwrap_or (name_of targets target) []
 abbrev pub start_line : List ℕ → ℕ → ℕ → List ℕ
 start_line name left tries =
     codes "start "
-    ++ (name ++ (codes " left " ++ (decimal left ++ (codes " tries " ++ (decimal tries ++ codes "\n")))))
+    ++ (name
+    ++ (codes " left "
+    ++ (decimal left ++ (codes " tries " ++ (decimal tries ++ codes "\n")))))
 
 abbrev pub tries_line : ℕ → List ℕ
 tries_line tries = codes "tries " ++ (decimal tries ++ codes "\n")
@@ -54,6 +56,13 @@ boot_sends (ends.Started target left tries) = true
 boot_sends ends.NoTarget = false
 boot_sends (ends.StartFailed target tries) = true
 boot_sends (ends.Fault fault) = false
+
+-- the number of its rounds, where it names one, fits 64 bits
+abbrev pub FitsCount : BootEnd → Type 0
+FitsCount (ends.Started target left tries) = tries < 2 ^ 64
+FitsCount ends.NoTarget = ⊤
+FitsCount (ends.StartFailed target tries) = tries < 2 ^ 64
+FitsCount (ends.Fault fault) = ⊤
 
 -- the fault by which it ended, if one did
 abbrev pub ended_fault : BootEnd → Option CopyFault

@@ -52,7 +52,8 @@ state_set known name value =
 abbrev pub outside_over : {C : Type 0} → (C → Known) → (C → List ℕ → C) → Outside C
 outside_over known put = record {
   value_of = λ c name. state_value (known c) name;
-  set_by = λ c name value. option_map (λ set. option_map (put c) set) (state_set (known c) name value);
+  set_by = λ c name value.
+      option_map (λ set. option_map (put c) set) (state_set (known c) name value);
   is_command = is_outside_name;
 }
 

@@ -1,7 +1,7 @@
 ghost use Rattle.std.specs.Prelude.{◌≡◌, IfOk};
 ghost use Rattle.bb_script_commands.specs.Calling.{HasCalledOne};
 ghost use Rattle.bb_script_commands.specs.Held.{CanCall, held_of};
-ghost use Rattle.bb_script_commands.specs.Sending.{Replies, boot_reply, boot_sends};
+ghost use Rattle.bb_script_commands.specs.Sending.{FitsCount, Replies, boot_reply, boot_sends};
 ghost use Rattle.bb_script_commands.specs.Sending.{ended_fault, start_line, tries_line};
 ghost use Rattle.bb_script_commands.specs.declared.words.OutsideCommand.TheVariants.{Boot};
 
@@ -47,7 +47,8 @@ fn ended_fault(end: BootEnd) -> Option<CopyFault>
 
 // What is replied to the end of a boot.
 fn reply_to(alloc: Global, chooser: &Chooser, end: BootEnd) -> Reply
-    ensures { Replies (boot_reply chooser.now end) (boot_sends end) result }
+    ensures replies { Replies (boot_reply chooser.now end) (boot_sends end) result }
+    ensures counted { FitsCount end }
 {
     match end {
         BootEnd::Started {

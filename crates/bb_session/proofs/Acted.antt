@@ -8,17 +8,18 @@ use Rattle.bb_flash.specs.Device.{Device}
 use Rattle.bb_flash.specs.declared.plan.Plan.{Plan as StartPlan}
 use Rattle.bb_shell.specs.Boot.{Round}
 use Rattle.bb_shell.specs.Sequence.{RanRounds, StopsThere, refused_in, save_round}
-use Rattle.bb_shell.specs.Rounds.{RoundAnswer, answer_of, best_of, rounds_by}
+use Rattle.bb_shell.specs.Rounds.{answer_of, best_of, rounds_by}
 use Rattle.bb_shell.proofs.Answering.{rounds_are}
 use Rattle.bb_shell.proofs.Sequence.{none_stops, once_stops, ran_rounds, stops_there}
-use Rattle.bb_session.specs.Acting.{Acts, AreRoundsOf, BootsFrom, NoneBest, SavesOnce, Stops, boots_of, kept_before, needs_table, rounds_for, save_rounds, start_plans_of}
+use Rattle.bb_session.specs.Acting.{Acts, AreRoundsOf, BootsFrom, NoneBest, Plays, SavesOnce, Stops, WorkAnswers, boots_of, kept_before, needs_table, rounds_for, save_rounds, start_plans_of}
 use Rattle.bb_session.specs.Looking.{look_text}
 use Rattle.bb_plan.specs.Plan.{SessionPlan}
 use Rattle.bb_plan.specs.declared.plan.Work.{Work}
 use Rattle.bb_plan.specs.declared.plan.Work.TheVariants.{Show}
 use Rattle.bb_plan.specs.declared.refusal.Refusal.{Refusal}
-use Rattle.bb_session.specs.Session.{LoadAnswer, acts_after, ended_by, loaded_area, refusal_at_end, rounds_after, text_after, work_session, work_text, worked_on}
-use Rattle.bb_session.specs.Work.{IsLookWork, IsTableWork, IsWork}
+use Rattle.bb_session.specs.Session.{LoadAnswer, acts_after, ended_by, loaded_area, refusal_at_end, rounds_after, session_by_acts, text_after, work_session, work_text}
+use Rattle.bb_session.specs.Work.{IsLookWork, IsPlayOf, IsTableWork, IsWork}
+use Rattle.bb_session.proofs.Plays.{plays_to}
 
 -- ---- a look, or rounds after a load
 
@@ -27,7 +28,7 @@ looks_only Show none = refl
 looks_only _ none = absurd cc
 
 -- a fact about the work of a plan is one of rounds after a load, or of a look
-pub by_work : {P : Type 0} (plan : SessionPlan) (from to : Device) (load : LoadAnswer) (answers : List RoundAnswer) →
+pub by_work : {P : Type 0} (plan : SessionPlan) (from to : Device) (load : LoadAnswer) (answers : WorkAnswers) →
     IsWork plan from to load answers →
     (needs_table plan.work ≡ true → IsTableWork plan from to load answers → P) →
     (plan.work ≡ Show → IsLookWork plan from to load answers → P) → P
@@ -39,7 +40,7 @@ by_work plan from to load answers work table look = elim (cases_Bool (needs_tabl
       (MatchBool-at_false (IsTableWork plan from to load answers) (IsLookWork plan from to load answers) none work)
 ]
 
-pub as_work : (plan : SessionPlan) (from to : Device) (load : LoadAnswer) (answers : List RoundAnswer) → needs_table plan.work ≡ true →
+pub as_work : (plan : SessionPlan) (from to : Device) (load : LoadAnswer) (answers : WorkAnswers) → needs_table plan.work ≡ true →
     IsTableWork plan from to load answers → IsWork plan from to load answers
 as_work plan from to load answers needs work =
     subst (λ n. MatchBool n (IsTableWork plan from to load answers) (IsLookWork plan from to load answers)) (sym needs) work
@@ -51,16 +52,20 @@ once_back : (table : List ℕ) (refusal : Option CopyFault) →
 once_back table None = refl
 once_back table (Some fault) = refl
 
-pub rounds_back : (plans : List (Option StartPlan)) (acts : Acts) (rounds : List Round) → AreRoundsOf plans acts rounds →
-    rounds_for plans acts (map answer_of rounds) ≡ rounds
-rounds_back plans (SavesOnce table) rounds are =
-    subst (λ (r : List Round). save_rounds table (map answer_of r) ≡ r) (sym are.is) (once_back table are.refusal)
-rounds_back plans (BootsFrom targets table) rounds are = rounds_are targets plans table rounds are.are
-rounds_back plans _ rounds are = sym are
+pub rounds_back : (plans : List (Option StartPlan)) (acts : Acts) (answers : WorkAnswers) (rounds : List Round) → answers.rounds ≡ map answer_of rounds →
+    AreRoundsOf plans acts rounds → IsPlayOf acts answers rounds → rounds_for plans acts answers ≡ rounds
+rounds_back plans (SavesOnce table) answers rounds is are played =
+    ap (save_rounds table) is
+    ∙ subst (λ (r : List Round). save_rounds table (map answer_of r) ≡ r) (sym are.is) (once_back table are.refusal)
+rounds_back plans (BootsFrom targets table) answers rounds is are played =
+    ap (rounds_by targets plans table) is ∙ rounds_are targets plans table rounds are.are
+rounds_back plans (Plays script known) answers rounds is are played = (plays_to script known answers rounds is played).rounds_are
+rounds_back plans _ answers rounds is are played = sym are
 
 pub acts_stop : (plans : List (Option StartPlan)) (acts : Acts) (rounds : List Round) → AreRoundsOf plans acts rounds → StopsThere rounds
 acts_stop plans (SavesOnce table) rounds are = subst StopsThere (sym are.is) (once_stops (save_round 0 table are.refusal))
 acts_stop plans (BootsFrom targets table) rounds are = stops_there targets plans table rounds are.are
+acts_stop plans (Plays script known) rounds are = are.stops
 acts_stop plans _ rounds are = subst StopsThere (sym are) none_stops
 
 -- ---- the session
@@ -69,28 +74,25 @@ ended_rounds : (o : Option CopyFault) (text : List ℕ) (refusal : Option Refusa
 ended_rounds None text refusal rounds = refl
 ended_rounds (Some fault) text refusal rounds = refl
 
-worked_rounds : (plan : SessionPlan) (found : Option (List ℕ)) (plans : List (Option StartPlan)) (acts : Acts) (answers : List RoundAnswer) →
-    (worked_on plan found acts (rounds_for plans acts answers)).rounds ≡ rounds_for plans acts answers
-worked_rounds plan found plans (Stops bar) answers = refl
-worked_rounds plan found plans acts answers =
-    let rounds = rounds_for plans acts answers in
+acted_rounds : (plan : SessionPlan) (found : Option (List ℕ)) (acts : Acts) (answers : WorkAnswers) →
+    (session_by_acts plan found acts answers).rounds ≡ rounds_for (start_plans_of plan.work) acts answers
+acted_rounds plan found (Stops bar) answers = refl
+acted_rounds plan found (Plays script known) answers = refl
+acted_rounds plan found acts answers =
+    let rounds = rounds_for (start_plans_of plan.work) acts answers in
     ended_rounds (refused_in rounds) (text_after plan found rounds) (refusal_at_end acts rounds) rounds
 
 -- its rounds are those that come of its answers
-pub session_after : (plan : SessionPlan) (found : Option (List ℕ)) (answers : List RoundAnswer) →
+pub session_after : (plan : SessionPlan) (found : Option (List ℕ)) (answers : WorkAnswers) →
     (work_session plan (Ok found) answers).rounds ≡ rounds_after plan found answers
-session_after plan found answers = worked_rounds plan found (start_plans_of plan.work) (acts_after plan found) answers
+session_after plan found answers = acted_rounds plan found (acts_after plan found) answers
 
-module _ {plan : SessionPlan} {from to : Device} {found : Option (List ℕ)} {answers : List RoundAnswer}
+module _ {plan : SessionPlan} {from to : Device} {found : Option (List ℕ)} {answers : WorkAnswers}
     (work : IsTableWork plan from to (Ok found) answers) where
   pub rounds_is : rounds_after plan found answers ≡ work.ran.rounds
   rounds_is =
-      ap (rounds_after plan found) work.ran.answers_are
-      ∙ rounds_back (start_plans_of plan.work) (acts_after plan found) work.ran.rounds work.ran.are
-
-  -- by the rounds that it ran
-  pub session_is : work_session plan (Ok found) answers ≡ worked_on plan found (acts_after plan found) work.ran.rounds
-  session_is = ap (λ (r : List Round). worked_on plan found (acts_after plan found) r) rounds_is
+      rounds_back (start_plans_of plan.work) (acts_after plan found) answers work.ran.rounds work.ran.answers_are
+      work.ran.are work.ran.played
 
   pub session_rounds : (work_session plan (Ok found) answers).rounds ≡ work.ran.rounds
   session_rounds = session_after plan found answers ∙ rounds_is
@@ -105,15 +107,15 @@ module _ {plan : SessionPlan} {from to : Device} {found : Option (List ℕ)} {an
       (acts_stop (start_plans_of plan.work) (acts_after plan found) work.ran.rounds work.ran.are) work.ran.run
 
 -- of a look
-pub look_rounds : (plan : SessionPlan) (load : LoadAnswer) (answers : List RoundAnswer) → plan.work ≡ Show → (work_session plan load answers).rounds ≡ []
+pub look_rounds : (plan : SessionPlan) (load : LoadAnswer) (answers : WorkAnswers) → plan.work ≡ Show → (work_session plan load answers).rounds ≡ []
 look_rounds plan (Err fault) answers is = refl
 look_rounds plan (Ok found) answers is =
     ap (λ (w : Work). (work_session (record { keyed = plan.keyed; work = w }) (Ok found) answers).rounds) is
 
 -- one on a table hangs on the table alone
-pub table_session : (plan : SessionPlan) (found : Option (List ℕ)) (answers : List RoundAnswer) → needs_table plan.work ≡ true →
+pub table_session : (plan : SessionPlan) (found : Option (List ℕ)) (answers : WorkAnswers) → needs_table plan.work ≡ true →
     work_session plan (Ok found) answers ≡ work_session plan (Ok (Some (loaded_area plan.keyed.layout found))) answers
-table_session plan found answers needs = by (acts_after plan found) (rounds_after plan found answers)
+table_session plan found answers needs = by (acts_after plan found)
   where
     texts : (rounds : List Round) → text_after plan found rounds ≡ text_after plan (Some (loaded_area plan.keyed.layout found)) rounds
     texts rounds =
@@ -121,10 +123,13 @@ table_session plan found answers needs = by (acts_after plan found) (rounds_afte
         ap (λ n. if n then text else look_text found) needs
         ∙ sym (ap (λ n. if n then text else look_text (Some (loaded_area plan.keyed.layout found))) needs)
 
-    by : (acts : Acts) (rounds : List Round) →
-        worked_on plan found acts rounds ≡ worked_on plan (Some (loaded_area plan.keyed.layout found)) acts rounds
-    by (Stops bar) rounds = refl
-    by acts rounds = ap (λ text. ended_by (refused_in rounds) text (refusal_at_end acts rounds) rounds) (texts rounds)
+    by : (acts : Acts) →
+        session_by_acts plan found acts answers ≡ session_by_acts plan (Some (loaded_area plan.keyed.layout found)) acts answers
+    by (Stops bar) = refl
+    by (Plays script known) = refl
+    by acts =
+        let rounds = rounds_for (start_plans_of plan.work) acts answers in
+        ap (λ text. ended_by (refused_in rounds) text (refusal_at_end acts rounds) rounds) (texts rounds)
 
 -- ---- a boot
 

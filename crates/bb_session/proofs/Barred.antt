@@ -27,6 +27,17 @@ is_device_fault _ = false
 abbrev pub HasNoFault : Session → Type 0
 HasNoFault session = is_device_fault (ended_status session) ≡ false
 
+-- ---- refused memory
+
+abbrev pub is_memory : Status → Bool
+is_memory statuses.NoMemory = true
+is_memory _ = false
+
+abbrev pub HasMemory : Session → Type 0
+HasMemory session = is_memory (ended_status session) ≡ false
+
+-- ---- faults, and the sessions that end so
+
 pub fault_device : (fault : CopyFault) → is_device_fault (status_of (copy_refusal fault)) ≡ true
 fault_device faults.ReadFault = refl
 fault_device _ = refl

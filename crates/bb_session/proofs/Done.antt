@@ -1,5 +1,5 @@
 -- The work on a table that was loaded, as the work of a plan.
-use Rattle.std.proofs.Common.{◌≡◌, ℕ, ◌≤◌, Bool, true, List, [], ◌∷◌, length, map, Option, Some, None, is_none, is_some, Result, Ok, Err, refl, sym, ap, subst, ◌∙◌, if◌then◌else◌, inl, inr, arith}
+use Rattle.std.proofs.Common.{◌≡◌, ℕ, ◌≤◌, Bool, true, List, [], ◌∷◌, length, Option, Some, None, is_none, is_some, Result, Ok, Err, refl, sym, ap, subst, ◌∙◌, if◌then◌else◌, inl, inr}
 use Rattle.std.specs.Option.{option_and_then, option_map_or}
 use Rattle.std.proofs.lemmas.Option.{same_Some}
 use Rattle.bb_actions.specs.Actions.{actions_text, after_all}
@@ -20,7 +20,6 @@ use Rattle.bb_state.specs.declared.state.State.{State}
 use Rattle.bb_shell.specs.Boot.{AreRounds, Round, boot_end, end_by, first_table, last_round}
 use Rattle.bb_shell.specs.Ends.{IsBooted}
 use Rattle.bb_shell.specs.Sequence.{refused_in, save_round}
-use Rattle.bb_shell.specs.Rounds.{RoundAnswer, answer_of}
 use Rattle.bb_shell.specs.Running.{AreRun, IsSaveRun, refusal_of}
 use Rattle.bb_shell.specs.declared.boot_end.BootEnd.{BootEnd}
 use Rattle.bb_shell.specs.declared.boot_end.BootEnd.TheVariants as ends
@@ -31,7 +30,7 @@ use Rattle.bb_shell.proofs.Few.{few_rounds, reset_length}
 use Rattle.bb_shell.proofs.LastRounds.{last_there}
 use Rattle.bb_shell.proofs.Sequence.{none_run, save_run}
 use Rattle.bb_shell.proofs.Reached.{rounds_later}
-use Rattle.bb_session.specs.Acting.{Acts, AreRoundsOf, BootsFrom, NoneBest, SavesOnce, Stops, acts_of, bar_refusal, kept_before, marks_of, most_rounds, needs_table, refusal_by_table, saves_always, start_plans_of}
+use Rattle.bb_session.specs.Acting.{Acts, AreRoundsOf, BootsFrom, NoneBest, SavesOnce, Stops, WorkAnswers, acts_of, answers_to_rounds, bar_refusal, kept_before, marks_of, needs_table, no_answers, refusal_by_table, rounds_for, saves_always, start_plans_of}
 use Rattle.bb_session.specs.Booting.{end_refusal, end_text}
 use Rattle.bb_session.specs.Doing.{EndsWith, IsDone, IsSavedOver, IsTold, SaveGives, said_of, stores}
 use Rattle.bb_session.specs.Marking.{good_text, lost_place}
@@ -40,8 +39,8 @@ use Rattle.bb_plan.specs.declared.plan.Work.{Work}
 use Rattle.bb_plan.specs.declared.plan.Work.TheVariants.{Act, Boot, Good, Write}
 use Rattle.bb_plan.specs.Refusal.{copy_refusal}
 use Rattle.bb_plan.specs.declared.refusal.Refusal.{Refusal}
-use Rattle.bb_session.specs.Session.{Session, ended_by, loaded_area, text_after, worked_on}
-use Rattle.bb_session.specs.Work.{IsLoaded, IsLoadedArea, IsReportOf, IsRunAfter, IsWorkedOut, area_taken}
+use Rattle.bb_session.specs.Session.{Session, ended_by, loaded_area, session_by_acts, text_after, worked_on}
+use Rattle.bb_session.specs.Work.{IsLoaded, IsLoadedArea, IsPlayOf, IsReportOf, IsRunAfter, IsWorkedOut, area_taken}
 use Rattle.bb_session.specs.declared.report.Report.{Report}
 use Rattle.bb_session.proofs.Acted.{as_work, rounds_back, table_session}
 use Rattle.bb_session.proofs.Kept.{load_area}
@@ -50,7 +49,7 @@ use Rattle.bb_session.proofs.Worked.{refused_ends, text_ends, worked_out}
 -- ---- work after a load
 
 pub done_later : (keyed : Keyed) (used : Option ℕ) (table : List ℕ) (work : Work) (from mid to : Device)
-    (answers : List RoundAnswer) → IsRunAfter keyed work table used mid to answers → IsLater from mid → IsLater from to
+    (answers : WorkAnswers) → IsRunAfter keyed work table used mid to answers → IsLater from mid → IsLater from to
 done_later keyed used table work from mid to answers ran later =
     later_joined from mid to later (rounds_later keyed (start_plans_of work) ran.rounds (kept_before work table) used ran.now mid to ran.run)
 
@@ -73,39 +72,43 @@ pub done_unloaded : (keyed : Keyed) (work : Work) (from to : Device) (fault : Co
     (given : Result Report Refusal) → from.geometry ≡ keyed.layout.geometry → needs_table work ≡ true →
     2 ≤ keyed.layout.copies → IsLoaded keyed None from to (Err fault) → given ≡ Err (copy_refusal fault) → IsWorkedOut keyed work from to given
 done_unloaded keyed work from to fault given geometry needs many load is =
-    worked_out keyed work from to (Err fault) [] given
-    (as_work (record { keyed = keyed; work = work }) from to (Err fault) [] needs
+    worked_out keyed work from to (Err fault) no_answers given
+    (as_work (record { keyed = keyed; work = work }) from to (Err fault) no_answers needs
     (record { middle = to; used = None; geometry = geometry; many = many; loaded = load; ran = (refl, refl) }))
     (refused_ends (copy_refusal fault) [] given is)
 
 -- ---- rounds that were run
 
--- a work of these acts ran them, and gave what its session answers
+-- a work of these acts, which plays no script, ran them and gave what its session answers
 pub done_by : (keyed : Keyed) (used : Option ℕ) (table : List ℕ) (work : Work) (acts : Acts) →
     acts_of keyed.layout work table ≡ acts → (rounds : List Round) (now : Option ℕ) (from to : Device)
-    (given : Result Report Refusal) → AreRoundsOf (start_plans_of work) acts rounds → length rounds ≤ most_rounds acts →
+    (given : Result Report Refusal) → AreRoundsOf (start_plans_of work) acts rounds →
+    IsPlayOf acts (answers_to_rounds rounds) rounds →
+    session_by_acts (record { keyed = keyed; work = work }) (Some table) acts (answers_to_rounds rounds)
+    ≡ worked_on (record { keyed = keyed; work = work }) (Some table) acts
+    (rounds_for (start_plans_of work) acts (answers_to_rounds rounds)) →
     AreRun keyed (start_plans_of work) (kept_before work table) used now rounds from to →
     EndsWith (worked_on (record { keyed = keyed; work = work }) (Some table) acts rounds) given →
     IsDone keyed used table work from to given
-done_by keyed used table work acts at rounds now from to given are few run ends =
+done_by keyed used table work acts at rounds now from to given are played unscripted run ends =
     let plan : SessionPlan = record { keyed = keyed; work = work } in
-    let here = subst (λ a. AreRoundsOf (start_plans_of work) a rounds) (sym at) are in
+    let answers = answers_to_rounds rounds in
     record {
-      answers = map answer_of rounds;
+      answers = answers;
       ran = record {
         rounds = rounds;
         now = now;
         answers_are = refl;
-        are = here;
-        few = subst (λ a. length rounds ≤ most_rounds a) (sym at) few;
+        are = subst (λ a. AreRoundsOf (start_plans_of work) a rounds) (sym at) are;
         run = run;
+        played = subst (λ a. IsPlayOf a answers rounds) (sym at) played;
       };
       ends =
           subst (λ (s : Session). EndsWith s given)
           (sym
-          (ap (λ (r : List Round). worked_on plan (Some table) (acts_of keyed.layout work table) r)
-          (rounds_back (start_plans_of work) (acts_of keyed.layout work table) rounds here)
-          ∙ ap (λ a. worked_on plan (Some table) a rounds) at)) ends;
+          (ap (λ a. session_by_acts plan (Some table) a answers) at ∙ unscripted
+          ∙ ap (λ (r : List Round). worked_on plan (Some table) acts r)
+          (rounds_back (start_plans_of work) acts answers rounds refl are played))) ends;
     }
 
 -- the table ends the session before any save
@@ -113,7 +116,7 @@ pub done_barred : (keyed : Keyed) (used : Option ℕ) (table : List ℕ) (work :
     (refusal : Refusal) (given : Result Report Refusal) (acts : Acts) → acts_of keyed.layout work table ≡ acts →
     refusal_by_table acts ≡ Some refusal → given ≡ Err refusal → IsDone keyed used table work device device given
 done_barred keyed used table work device refusal given (Stops bar) at why is =
-    done_by keyed used table work (Stops bar) at [] used device device given refl (omega arith)
+    done_by keyed used table work (Stops bar) at [] used device device given refl refl refl
     (none_run keyed (start_plans_of work) (kept_before work table) used device)
     (refused_ends (bar_refusal bar) [] given (is ∙ ap (λ r. Err r) (sym (same_Some (bar_refusal bar) refusal why))))
 done_barred keyed used table work device refusal given _ at why is = absurd cc
@@ -150,7 +153,7 @@ module _ (keyed : Keyed) (used : Option ℕ) (table new : List ℕ) (from to : D
         IsDone keyed used table work from to given
     once_done refusal now run =
         done_by keyed used table work (SavesOnce new) acts (Rounds refusal) now from to given
-        (record { refusal = refusal; is = refl }) (let one : length (Rounds refusal) ≤ 1 = omega arith in one)
+        (record { refusal = refusal; is = refl }) refl refl
         (save_run keyed (start_plans_of work) 0 (kept_before work table) used now new refusal from to run)
 
     done_saved : {A : Type 0} (saved : Result A Refusal) (o : Option CopyFault) (now : Option ℕ) →
@@ -232,14 +235,16 @@ module _ (targets : Binding) (cause : Cause) (plans : List (Option StartPlan)) (
   by_rounds [] are run ends =
       done_by (keyed_of before) (used_of before) before.table (Boot targets cause plans) (Stops NoneBest)
       (ap (λ o. if is_none o then Stops NoneBest else BootsFrom targets Table) (best_none targets Table are)) []
-      (used_of after) from to given refl (omega arith) run ends
+      (used_of after) from to given refl refl refl run ends
   by_rounds (round ∷ later) are run ends =
       done_by (keyed_of before) (used_of before) before.table (Boot targets cause plans) (BootsFrom targets Table)
       (ap (λ o. if is_none o then Stops NoneBest else BootsFrom targets Table) (best_is targets Table round.target are.0.best))
       (round ∷ later) (used_of after) from to given
-      (record { are = are; some = ap (λ o. is_some o) (last_there round later).1 })
-      (few_rounds targets plans Table (round ∷ later) binding (reset_length targets cause before.table binding sized ∙ sized) are)
-      run (subst (λ (s : Session). EndsWith s given) (sym (boot_ended targets (round ∷ later))) ends)
+      (record {
+        are = are;
+        some = ap (λ o. is_some o) (last_there round later).1;
+        few = few_rounds targets plans Table (round ∷ later) binding (reset_length targets cause before.table binding sized ∙ sized) are;
+      }) refl refl run (subst (λ (s : Session). EndsWith s given) (sym (boot_ended targets (round ∷ later))) ends)
 
   pub done_boot : IsBootDone
   done_boot =

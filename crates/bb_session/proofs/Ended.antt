@@ -1,15 +1,17 @@
 -- Why a session was refused after a load that answered Ok: by the table, by its last save, or by
 -- the end of a boot.
-use Rattle.std.proofs.Common.{◌≡◌, ◌≢◌, ℕ, Bool, true, false, List, length, Option, Some, None, Ok, Err, refl, sym, ap, subst, ◌∙◌}
+use Rattle.std.proofs.Common.{◌≡◌, ◌≢◌, ℕ, ◌==◌, Bool, true, false, List, length, Option, Some, None, Ok, Err, refl, sym, ap, subst, ◌∙◌, if◌then◌else◌}
 use Rattle.std.specs.Option.{option_and_then, option_map_or}
 use Rattle.std.proofs.lemmas.Bool.{both_ways}
 use Rattle.std.proofs.lemmas.Option.{none-some, same_Some}
 use Rattle.bb_chooser.specs.Binding.{Binding}
 use Rattle.bb_copies.specs.declared.answers.CopyFault.{CopyFault}
 use Rattle.bb_copies.specs.declared.answers.CopyFault.TheVariants as faults
+use Rattle.bb_interpreter.specs.declared.run.ScriptEnd.{ScriptEnd}
+use Rattle.bb_interpreter.specs.declared.run.ScriptEnd.TheVariants as script_ends
+use Rattle.bb_script_commands.specs.Playing.{course_at, course_end}
 use Rattle.bb_shell.specs.Boot.{Round, boot_end, end_by, has_failed, last_round}
 use Rattle.bb_shell.specs.Sequence.{refused_in}
-use Rattle.bb_shell.specs.Rounds.{RoundAnswer}
 use Rattle.bb_shell.specs.Running.{refusal_of}
 use Rattle.bb_shell.specs.declared.boot_end.BootEnd.TheVariants as ends
 use Rattle.bb_shell.specs.declared.outcome.Outcome.{Outcome}
@@ -17,12 +19,13 @@ use Rattle.bb_shell.specs.declared.outcome.Outcome.TheVariants as outcomes
 use Rattle.bb_plan.specs.Plan.{SessionPlan}
 use Rattle.bb_plan.specs.Refusal.{copy_refusal, status_of}
 use Rattle.bb_plan.specs.declared.refusal.Refusal.{Refusal}
-use Rattle.bb_plan.specs.declared.refusal.Refusal.TheVariants.{NoTarget, StartFailed}
+use Rattle.bb_plan.specs.declared.refusal.Refusal.TheVariants.{NoMemory, NoTarget, ScriptFailed, StartFailed, StepLimit}
 use Rattle.bb_plan.specs.declared.status.Status.{Status}
 use Rattle.bb_plan.specs.declared.status.Status.TheVariants as statuses
-use Rattle.bb_session.specs.Acting.{Acts, BootsFrom, LostPlace, NoneBest, Stops, TableBar, bar_refusal}
+use Rattle.bb_session.specs.Acting.{Acts, BootsFrom, LostPlace, NoneBest, Plays, Stops, TableBar, WorkAnswers, bar_refusal, play_of, rounds_for, start_plans_of}
 use Rattle.bb_session.specs.Booting.{end_refusal}
-use Rattle.bb_session.specs.Session.{LoadAnswer, acts_after, ended_by, ended_status, rounds_after, text_after, work_session, worked_on}
+use Rattle.bb_session.specs.Scripting.{refusal_by_end}
+use Rattle.bb_session.specs.Session.{LoadAnswer, acts_after, ended_by, ended_status, rounds_after, session_by_acts, text_after, work_session, worked_on}
 use Rattle.bb_session.proofs.Barred.{is_device_fault}
 
 -- ---- a fact about each refusal
@@ -64,13 +67,39 @@ module _ (P : Refusal → Type 0) (bar : (bar : TableBar) → P (bar_refusal bar
   worked_has _ failed refusal h =
       ended_has (refused_in rounds) (text_after plan found rounds) None refl (λ r e n. absurd (none-some r n)) refusal h
 
-session_has : (P : Refusal → Type 0) → ((bar : TableBar) → P (bar_refusal bar)) → ((name : List ℕ) → P (StartFailed name)) →
-    (plan : SessionPlan) (found : Option (List ℕ)) (answers : List RoundAnswer) →
+-- of a script
+pub record HoldsOfScripts (P : Refusal → Type 0) : Type 0 where
+  pub failed : (status : ℕ) → P (ScriptFailed status)
+  pub limit : P StepLimit
+  pub memory : P NoMemory
+
+pub script_has : (P : Refusal → Type 0) → HoldsOfScripts P → (end : ScriptEnd) (fault : Option CopyFault) →
+    ((f : CopyFault) → fault ≡ Some f → P (copy_refusal f)) → (refusal : Refusal) → refusal_by_end end fault ≡ Some refusal → P refusal
+script_has P scripts (script_ends.Done status) fault refused refusal h = by (status == 0) h
+  where
+    by : (zero : Bool) → (if zero then None else Some (ScriptFailed status)) ≡ Some refusal → P refusal
+    by true h = absurd (none-some refusal h)
+    by false h = subst P (same_Some (ScriptFailed status) refusal h) (scripts.failed status)
+script_has P scripts script_ends.Started fault refused refusal h = absurd (none-some refusal h)
+script_has P scripts script_ends.StepLimit fault refused refusal h = subst P (same_Some StepLimit refusal h) scripts.limit
+script_has P scripts script_ends.Fault None refused refusal h = absurd (none-some refusal h)
+script_has P scripts script_ends.Fault (Some f) refused refusal h = subst P (same_Some (copy_refusal f) refusal h) (refused f refl)
+script_has P scripts script_ends.NoMemory fault refused refusal h = subst P (same_Some NoMemory refusal h) scripts.memory
+
+session_has : (P : Refusal → Type 0) → ((bar : TableBar) → P (bar_refusal bar)) → ((name : List ℕ) → P (StartFailed name)) → HoldsOfScripts P →
+    (plan : SessionPlan) (found : Option (List ℕ)) (answers : WorkAnswers) →
     ((fault : CopyFault) → refused_in (rounds_after plan found answers) ≡ Some fault → P (copy_refusal fault)) → (refusal : Refusal) →
     (work_session plan (Ok found) answers).refusal ≡ Some refusal → P refusal
-session_has P bar failed plan found answers refused refusal h =
-    worked_has P bar plan found (rounds_after plan found answers) refused (acts_after plan found)
-    (λ targets table round name acts last fails. failed name) refusal h
+session_has P bar failed scripts plan found answers refused refusal h = by (acts_after plan found) refused h
+  where
+    by : (acts : Acts) → ((f : CopyFault) → refused_in (rounds_for (start_plans_of plan.work) acts answers) ≡ Some f → P (copy_refusal f)) →
+        (session_by_acts plan found acts answers).refusal ≡ Some refusal → P refusal
+    by (Plays script known) refused h =
+        let play = play_of script known answers in
+        script_has P scripts (course_end play) (refused_in (course_at play).outside.rounds) refused refusal h
+    by acts refused h =
+        worked_has P bar plan found (rounds_for (start_plans_of plan.work) acts answers) refused acts
+        (λ targets table round name is last fails. failed name) refusal h
 
 -- a fault of the device is that for which the last save was refused
 pub record IsRefusedFor (rounds : List Round) (refusal : Refusal) : Type 0 where
@@ -82,12 +111,13 @@ pub bar_calm : (bar : TableBar) → is_device_fault (status_of (bar_refusal bar)
 bar_calm (LostPlace place) = refl
 bar_calm NoneBest = refl
 
-pub session_fault : (plan : SessionPlan) (found : Option (List ℕ)) (answers : List RoundAnswer) (refusal : Refusal) →
+pub session_fault : (plan : SessionPlan) (found : Option (List ℕ)) (answers : WorkAnswers) (refusal : Refusal) →
     is_device_fault (status_of refusal) ≡ true → (work_session plan (Ok found) answers).refusal ≡ Some refusal →
     IsRefusedFor (rounds_after plan found answers) refusal
 session_fault plan found answers refusal device h =
     session_has (λ r. is_device_fault (status_of r) ≡ true → IsRefusedFor (rounds_after plan found answers) r)
-    (λ bar e. absurd (both_ways _ (bar_calm bar) e)) (λ name e. absurd cc) plan found answers
+    (λ bar e. absurd (both_ways _ (bar_calm bar) e)) (λ name e. absurd cc)
+    (record { failed = λ status e. absurd cc; limit = λ e. absurd cc; memory = λ e. absurd cc }) plan found answers
     (λ fault last e. record { fault = fault; last = last; is = refl }) refusal h device
 
 -- ---- the statuses that the work on the device has
@@ -99,6 +129,9 @@ is_work statuses.WriteFault = true
 is_work statuses.NoTarget = true
 is_work statuses.StartFailed = true
 is_work statuses.NoGood = true
+is_work statuses.ScriptFailed = true
+is_work statuses.StepLimit = true
+is_work statuses.NoMemory = true
 is_work _ = false
 
 fault_work : (fault : CopyFault) → is_work (status_of (copy_refusal fault)) ≡ true
@@ -109,14 +142,15 @@ bar_work : (bar : TableBar) → is_work (status_of (bar_refusal bar)) ≡ true
 bar_work (LostPlace place) = refl
 bar_work NoneBest = refl
 
-pub worked_work : (plan : SessionPlan) (load : LoadAnswer) (answers : List RoundAnswer) → is_work (ended_status (work_session plan load answers)) ≡ true
+pub worked_work : (plan : SessionPlan) (load : LoadAnswer) (answers : WorkAnswers) → is_work (ended_status (work_session plan load answers)) ≡ true
 worked_work plan (Err fault) answers = fault_work fault
 worked_work plan (Ok found) answers = by (work_session plan (Ok found) answers).refusal refl
   where
     by : (o : Option Refusal) → (work_session plan (Ok found) answers).refusal ≡ o → is_work (option_map_or status_of o statuses.Done) ≡ true
     by None e = refl
     by (Some refusal) e =
-        session_has (λ r. is_work (status_of r) ≡ true) bar_work (λ name. refl) plan found answers (λ fault last. fault_work fault) refusal e
+        session_has (λ r. is_work (status_of r) ≡ true) bar_work (λ name. refl)
+        (record { failed = λ status. refl; limit = refl; memory = refl }) plan found answers (λ fault last. fault_work fault) refusal e
 
 pub not_work : (status other : Status) → is_work status ≡ true → is_work other ≡ false → status ≢ other
 not_work status other first second = λ e. both_ways _ second (sym (ap is_work e) ∙ first)

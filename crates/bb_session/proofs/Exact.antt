@@ -31,7 +31,6 @@ use Rattle.bb_flash.specs.declared.plan.Plan.{Plan as StartPlan}
 use Rattle.bb_state.specs.Keyed.{Keyed}
 use Rattle.bb_state.specs.Kinds.{laid_form, laid_kinds}
 use Rattle.bb_shell.specs.Boot.{Round, plan_at}
-use Rattle.bb_shell.specs.Rounds.{RoundAnswer}
 use Rattle.bb_shell.specs.Running.{AreRun, IsRoundRun, IsSaveRun, is_refused_save, same_as_kept}
 use Rattle.bb_shell.specs.Stages.{saves_of as tables_of}
 use Rattle.bb_shell.proofs.Made.{AllSaved}
@@ -40,7 +39,7 @@ use Rattle.bb_shell.proofs.Starts.{by_start, round_later, start_later, unrefused
 use Rattle.bb_plan.specs.Plan.{SessionPlan}
 use Rattle.bb_plan.specs.declared.plan.Work.{Work}
 use Rattle.bb_plan.specs.declared.plan.Work.TheVariants.{Show}
-use Rattle.bb_session.specs.Acting.{kept_before, needs_table, start_plans_of, taken_by}
+use Rattle.bb_session.specs.Acting.{WorkAnswers, kept_before, needs_table, start_plans_of, taken_by}
 use Rattle.bb_session.specs.Exactly.{LeavesRegions, PassAlike, is_fresh, last_area, last_area_of, loaded_region, saved_region, saves_made, worked_region, writes_of_load, writes_of_saves, writes_of_work}
 use Rattle.bb_session.specs.Looking.{first_found, passed_in}
 use Rattle.bb_session.specs.Session.{LoadAnswer, loaded_area, work_session}
@@ -274,7 +273,7 @@ module _ (keyed : Keyed) (plans : List (Option StartPlan)) where
 
 -- ---- the work of a plan
 
-module _ (plan : SessionPlan) (from to : Device) (answers : List RoundAnswer) (first last : Told)
+module _ (plan : SessionPlan) (from to : Device) (answers : WorkAnswers) (first last : Told)
     (e : from.told ≡ Some first) (f : to.told ≡ Some last) where
   abbrev AreLeftAfter : Option (List ℕ) → List (List ℕ) → Type 0
   AreLeftAfter taken areas = AreLeftBy plan.keyed from.geometry taken areas (account_of first) (account_of last)
@@ -325,7 +324,7 @@ module _ (plan : SessionPlan) (from to : Device) (answers : List RoundAnswer) (f
       (by_work plan from to (Ok found) answers work (λ needs done. table_left found needs done whole calm)
       (λ shows done. look_left found shows done))
 
-pub plan_makes : (plan : SessionPlan) (from to : Device) (load : LoadAnswer) (answers : List RoundAnswer) → IsWork plan from to load answers →
+pub plan_makes : (plan : SessionPlan) (from to : Device) (load : LoadAnswer) (answers : WorkAnswers) → IsWork plan from to load answers →
     NothingFails from to → (first last : Told) → from.told ≡ Some first → to.told ≡ Some last →
     Makes (laid_form plan.keyed) (laid_kinds plan.keyed.layout) from.geometry
     (writes_of_work plan (first_found (passed_in plan.keyed from.geometry.page first.image)) answers) (account_of first) (account_of last)
@@ -333,7 +332,7 @@ plan_makes plan from to load answers work calm first last e f = (plan_left plan 
 
 -- ---- of the contents at entry and exit
 
-pub record IsLeftExact (plan : SessionPlan) (from : Device) (answers : List RoundAnswer) (x z : Image) : Type 0 where
+pub record IsLeftExact (plan : SessionPlan) (from : Device) (answers : WorkAnswers) (x z : Image) : Type 0 where
   pub left : LeavesRegions (laid_kinds plan.keyed.layout) from.geometry.page
       (worked_region plan (first_found (passed_in plan.keyed from.geometry.page x)) answers) x z
   pub alike : PassAlike plan.keyed from.geometry.page (last_area plan (first_found (passed_in plan.keyed from.geometry.page x)) answers) x z
@@ -342,7 +341,7 @@ told_of : (o : Option Told) (x : Image) → option_map (λ (t : Told). t.image) 
 told_of None x is = absurd cc
 told_of (Some told) x is = (told, (refl, (let same : told.image ≡ x = cc in same)))
 
-pub plan_done : (plan : SessionPlan) (from to : Device) (load : LoadAnswer) (answers : List RoundAnswer) → IsWork plan from to load answers →
+pub plan_done : (plan : SessionPlan) (from to : Device) (load : LoadAnswer) (answers : WorkAnswers) → IsWork plan from to load answers →
     NothingFails from to → (x z : Image) → content from ≡ Some x → content to ≡ Some z → IsLeftExact plan from answers x z
 plan_done plan from to load answers work calm x z e f =
     let one = told_of from.told x e in

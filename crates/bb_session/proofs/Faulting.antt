@@ -23,7 +23,7 @@ use Rattle.bb_flash.specs.Device.{Device, content}
 use Rattle.bb_flash.specs.Image.{Image}
 use Rattle.bb_state.specs.Keyed.{Keyed}
 use Rattle.bb_state.specs.Kinds.{any_holding, bucket_at, laid_buckets, laid_form, laid_kinds}
-use Rattle.bb_shell.specs.Rounds.{RoundAnswer}
+use Rattle.bb_session.specs.Acting.{WorkAnswers}
 use Rattle.bb_plan.specs.Plan.{SessionPlan}
 use Rattle.bb_session.specs.Exactly.{last_area_of, saves_made}
 use Rattle.bb_session.specs.Looking.{first_found, passed_in}
@@ -80,12 +80,12 @@ FaultTells keyed from to (WriteFault copy) = Rose from.faults to.faults × (copy
 FaultTells keyed from to Unsure = ⊥
 
 -- the device is as before, or a copy is named for one of its causes
-abbrev pub Explains : SessionPlan → Device → Device → LoadAnswer → List RoundAnswer → CopyFault → Type 0
+abbrev pub Explains : SessionPlan → Device → Device → LoadAnswer → WorkAnswers → CopyFault → Type 0
 Explains plan from to load answers ReadFault = content to ≡ content from
 Explains plan from to load answers (WriteFault copy) = IsWriteFault plan from to load answers copy
 Explains plan from to load answers Unsure = ⊥
 
-pub record IsKnown (plan : SessionPlan) (from to : Device) (load : LoadAnswer) (answers : List RoundAnswer) (fault : CopyFault) : Type 0 where
+pub record IsKnown (plan : SessionPlan) (from to : Device) (load : LoadAnswer) (answers : WorkAnswers) (fault : CopyFault) : Type 0 where
   pub tells : FaultTells plan.keyed from to fault
   pub explains : Explains plan from to load answers fault
 
@@ -103,7 +103,7 @@ module _ (plan : SessionPlan) (from : Device) where
   abbrev form : Form
   form = laid_form plan.keyed
 
-  stuck_known : (load : LoadAnswer) (answers : List RoundAnswer) (area : List ℕ) (copy : ℕ) (mid to : Device) →
+  stuck_known : (load : LoadAnswer) (answers : WorkAnswers) (area : List ℕ) (copy : ℕ) (mid to : Device) →
       IsWanted plan from load answers area → IsLater from mid → IsStuckAt form kinds area copy mid to →
       IsKnown plan from to load answers (WriteFault copy)
   stuck_known load answers area copy mid to wanted later stuck =
@@ -131,7 +131,7 @@ module _ (plan : SessionPlan) (from : Device) where
             }
       ]
 
-  pub load_known : (used : Option ℕ) (to : Device) (answers : List RoundAnswer) (fault : CopyFault) → IsLoaded plan.keyed used from to (Err fault) →
+  pub load_known : (used : Option ℕ) (to : Device) (answers : WorkAnswers) (fault : CopyFault) → IsLoaded plan.keyed used from to (Err fault) →
       IsKnown plan from to (Err fault) answers fault
   load_known used to answers ReadFault loaded =
       record { tells = (loaded.fails.fails.cause, loaded.fails.fails.read); explains = loaded.fails.fails.content }
@@ -147,7 +147,7 @@ module _ (plan : SessionPlan) (from : Device) where
 
   -- of a save of this area, after a load that answered Ok and what came after it, with `used` in
   -- use
-  pub save_known : (found : Option (List ℕ)) (answers : List RoundAnswer) (used : Option ℕ) (area : List ℕ) (mid to : Device) (fault : CopyFault) →
+  pub save_known : (found : Option (List ℕ)) (answers : WorkAnswers) (used : Option ℕ) (area : List ℕ) (mid to : Device) (fault : CopyFault) →
       2 ≤ plan.keyed.layout.copies → last_area_of None (saves_made plan found answers) ≡ Some area → IsLater from mid → IsLater mid to →
       IsThere plan.keyed used → ((copy : ℕ) → used ≡ Some copy → IsUsed plan from mid (Ok found) answers copy) → (used ≡ None → found ≡ None) →
       fault ≢ Unsure → SaveFails form kinds used area mid to fault → IsKnown plan from to (Ok found) answers fault

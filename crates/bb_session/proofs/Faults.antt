@@ -20,7 +20,6 @@ use Rattle.bb_flash.specs.declared.plan.Plan.{Plan as StartPlan}
 use Rattle.bb_state.specs.Keyed.{Keyed}
 use Rattle.bb_state.specs.State.{IsStored}
 use Rattle.bb_shell.specs.Boot.{Round, plan_at}
-use Rattle.bb_shell.specs.Rounds.{RoundAnswer}
 use Rattle.bb_shell.specs.Running.{AreRun, IsBegun, IsRoundRun, IsSaveRun, IsTried, is_refused_save, refusal_of, same_as_kept}
 use Rattle.bb_shell.specs.Sequence.{StopsThere, refused_in}
 use Rattle.bb_shell.specs.Stages.{saves_of as tables_of}
@@ -35,7 +34,7 @@ use Rattle.bb_plan.specs.declared.plan.Work.{Work}
 use Rattle.bb_plan.specs.Refusal.{copy_refusal, status_of}
 use Rattle.bb_plan.specs.declared.refusal.Refusal.{Refusal}
 use Rattle.bb_plan.specs.declared.refusal.Refusal.TheVariants as refusals
-use Rattle.bb_session.specs.Acting.{kept_before, start_plans_of}
+use Rattle.bb_session.specs.Acting.{WorkAnswers, kept_before, start_plans_of}
 use Rattle.bb_session.specs.Exactly.{last_area_of}
 use Rattle.bb_session.specs.Session.{LoadAnswer, acts_after, loaded_area, rounds_after, work_session}
 use Rattle.bb_session.specs.Work.{IsLoaded, IsLoadedArea, IsTableWork, IsWork, area_taken}
@@ -170,12 +169,12 @@ module _ (keyed : Keyed) (plans : List (Option StartPlan)) (fault : CopyFault) w
 
 -- ---- the fault that refused the work of a plan
 
-pub record IsExplained (plan : SessionPlan) (from to : Device) (load : LoadAnswer) (answers : List RoundAnswer) (refusal : Refusal) : Type 0 where
+pub record IsExplained (plan : SessionPlan) (from to : Device) (load : LoadAnswer) (answers : WorkAnswers) (refusal : Refusal) : Type 0 where
   pub fault : CopyFault
   pub is : refusal ≡ copy_refusal fault
   pub known : IsKnown plan from to load answers fault
 
-rounds_explain : (plan : SessionPlan) (from to : Device) (found : Option (List ℕ)) (answers : List RoundAnswer) (fault : CopyFault) →
+rounds_explain : (plan : SessionPlan) (from to : Device) (found : Option (List ℕ)) (answers : WorkAnswers) (fault : CopyFault) →
     IsTableWork plan from to (Ok found) answers → refused_in (rounds_after plan found answers) ≡ Some fault →
     IsKnown plan from to (Ok found) answers fault
 rounds_explain plan from to found answers fault work refused =
@@ -203,7 +202,7 @@ rounds_explain plan from to found answers fault work refused =
     (λ none. gave.taken ∙ nothing_taken gave.area gave.loaded (sym gave.used_is ∙ last.lost none))
     last.begun.sure last.begun.fails
 
-pub work_explains : (plan : SessionPlan) (from to : Device) (load : LoadAnswer) (answers : List RoundAnswer) (refusal : Refusal) →
+pub work_explains : (plan : SessionPlan) (from to : Device) (load : LoadAnswer) (answers : WorkAnswers) (refusal : Refusal) →
     is_device_fault (status_of refusal) ≡ true → IsWork plan from to load answers →
     (work_session plan load answers).refusal ≡ Some refusal → IsExplained plan from to load answers refusal
 work_explains plan from to (Err fault) answers refusal device work h = record {
@@ -241,7 +240,7 @@ work_explains plan from to (Ok found) answers refusal device work h =
 
 -- ---- in the words of a call
 
-pub write_fault : (plan : SessionPlan) (from to : Device) (load : LoadAnswer) (answers : List RoundAnswer) (fault : CopyFault) (copy : ℕ) →
+pub write_fault : (plan : SessionPlan) (from to : Device) (load : LoadAnswer) (answers : WorkAnswers) (fault : CopyFault) (copy : ℕ) →
     refusals.WriteFault copy ≡ copy_refusal fault → Explains plan from to load answers fault →
     IsWriteFault plan from to load answers copy
 write_fault plan from to load answers faults.ReadFault copy is explains = absurd cc
@@ -250,7 +249,7 @@ write_fault plan from to load answers (faults.WriteFault other) copy is explains
     subst (IsWriteFault plan from to load answers) same explains
 write_fault plan from to load answers faults.Unsure copy is explains = absurd explains
 
-pub read_fault : (plan : SessionPlan) (from to : Device) (load : LoadAnswer) (answers : List RoundAnswer) (fault : CopyFault) →
+pub read_fault : (plan : SessionPlan) (from to : Device) (load : LoadAnswer) (answers : WorkAnswers) (fault : CopyFault) →
     refusals.ReadFault ≡ copy_refusal fault → Explains plan from to load answers fault →
     content to ≡ content from
 read_fault plan from to load answers faults.ReadFault is explains = explains

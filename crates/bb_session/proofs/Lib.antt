@@ -7,7 +7,10 @@ pub mod Exact
 pub mod Faulting
 pub mod Faults
 pub mod Kept
+pub mod Played
+pub mod Plays
 pub mod Regions
+pub mod ScriptEnded
 pub mod Started
 pub mod Turns
 pub mod Unrefused

@@ -11,10 +11,10 @@ use Rattle.bb_flash.specs.Device.{Device, LeavesStarts, Told, content}
 use Rattle.bb_flash.specs.declared.plan.Plan.{Plan as StartPlan}
 use Rattle.bb_flash.specs.declared.geometry.Geometry.{Geometry}
 use Rattle.bb_state.specs.Kinds.{laid_passings}
+use Rattle.bb_script_commands.specs.Playing.{course_at, course_end}
 use Rattle.bb_shell.specs.Boot.{AreRounds, IsOutcome, Round, has_failed, last_round, plan_at, table_after}
 use Rattle.bb_shell.specs.Ends.{HoldsKept, RaisedBy, failed_starts, is_failed_start}
-use Rattle.bb_shell.specs.Rounds.{RoundAnswer}
-use Rattle.bb_shell.specs.Sequence.{AddsLast, started_last}
+use Rattle.bb_shell.specs.Sequence.{AddsLast, refused_in, started_last}
 use Rattle.bb_shell.specs.declared.outcome.Outcome.{Outcome}
 use Rattle.bb_shell.specs.declared.outcome.Outcome.TheVariants as outcomes
 use Rattle.bb_shell.proofs.Joins.{there}
@@ -25,18 +25,18 @@ use Rattle.bb_plan.specs.Refusal.{copy_refusal, status_of}
 use Rattle.bb_plan.specs.declared.plan.Work.{Work}
 use Rattle.bb_plan.specs.declared.refusal.Refusal.{Refusal}
 use Rattle.bb_plan.specs.declared.status.Status.TheVariants as statuses
-use Rattle.bb_session.specs.Acting.{Acts, AreBootRounds, AreRoundsOf, LostPlace, NoneBest, TableBar, acts_of, bar_refusal, kept_before, saves_always, start_plans_of}
+use Rattle.bb_session.specs.Acting.{Acts, AreBootRounds, AreRoundsOf, LostPlace, NoneBest, Plays, TableBar, WorkAnswers, acts_of, bar_refusal, kept_before, play_of, rounds_for, saves_always, start_plans_of}
 use Rattle.bb_session.specs.Looking.{passed_in}
-use Rattle.bb_session.specs.Session.{LoadAnswer, acts_after, loaded_area, rounds_after, work_session, worked_on}
+use Rattle.bb_session.specs.Session.{LoadAnswer, acts_after, loaded_area, rounds_after, session_by_acts, work_session, worked_on}
 use Rattle.bb_session.specs.Work.{IsTableWork, IsWork}
 use Rattle.bb_session.proofs.Acted.{by_work, look_rounds, ran_of, session_after, session_rounds}
 use Rattle.bb_session.proofs.Barred.{fault_device, is_device_fault}
-use Rattle.bb_session.proofs.Ended.{worked_has}
+use Rattle.bb_session.proofs.Ended.{script_has, worked_has}
 use Rattle.bb_session.proofs.Kept.{kept_has, loaded_left}
 
 -- ---- the rounds of a session
 
-pub work_rounds : (plan : SessionPlan) (from to : Device) (found : Option (List ℕ)) (answers : List RoundAnswer) → IsWork plan from to (Ok found) answers →
+pub work_rounds : (plan : SessionPlan) (from to : Device) (found : Option (List ℕ)) (answers : WorkAnswers) → IsWork plan from to (Ok found) answers →
     AreRoundsOf (start_plans_of plan.work) (acts_after plan found) (work_session plan (Ok found) answers).rounds
 work_rounds plan from to found answers work =
     by_work plan from to (Ok found) answers work
@@ -60,7 +60,7 @@ none_started plans rounds from to none keeps =
     let same = keeps.start_faults in
     subst (λ r. IsStarted plans r from to) (sym none) (record { adds = keeps.starts; rose = omega (arith, same) })
 
-table_started : (plan : SessionPlan) (from to : Device) (load : LoadAnswer) (answers : List RoundAnswer) → IsTableWork plan from to load answers →
+table_started : (plan : SessionPlan) (from to : Device) (load : LoadAnswer) (answers : WorkAnswers) → IsTableWork plan from to load answers →
     IsStarted (start_plans_of plan.work) (work_session plan load answers).rounds from to
 table_started plan from to (Err fault) answers work =
     none_started (start_plans_of plan.work) [] from to refl (subst (LeavesStarts from) (sym work.ran.1) work.loaded.starts)
@@ -74,7 +74,7 @@ table_started plan from to (Ok found) answers work =
       rose = subst (λ n. RaisedBy (failed_starts work.ran.rounds) n to.start_faults) load.starts.start_faults did.start_faults;
     })
 
-pub work_started : (plan : SessionPlan) (from to : Device) (load : LoadAnswer) (answers : List RoundAnswer) → IsWork plan from to load answers →
+pub work_started : (plan : SessionPlan) (from to : Device) (load : LoadAnswer) (answers : WorkAnswers) → IsWork plan from to load answers →
     IsStarted (start_plans_of plan.work) (work_session plan load answers).rounds from to
 work_started plan from to load answers work =
     by_work plan from to load answers work
@@ -90,7 +90,7 @@ PassAfter plan found from to rounds =
     ForSome (content to)
     (λ image. EachPassesOrNothing (table_after (loaded_area plan.keyed.layout found) rounds) (passed_in plan.keyed from.geometry.page image))
 
-table_stored : (plan : SessionPlan) (from to : Device) (found : Option (List ℕ)) (answers : List RoundAnswer) →
+table_stored : (plan : SessionPlan) (from to : Device) (found : Option (List ℕ)) (answers : WorkAnswers) →
     (work : IsTableWork plan from to (Ok found) answers) → started_last work.ran.rounds ≡ true → PassAfter plan found from to work.ran.rounds
 table_stored plan from to found answers work started = λ image at_to.
     let keyed = plan.keyed in
@@ -108,7 +108,7 @@ table_stored plan from to found answers work started = λ image at_to.
     subst (λ p. EachPassesOrNothing (table_after table rounds) (passed_in keyed p image)) (sym at_page)
     (subst (λ k. HoldsKept k (laid_passings keyed image)) (started_kept (kept_before plan.work table) table rounds started) here)
 
-pub work_stored : (plan : SessionPlan) (from to : Device) (found : Option (List ℕ)) (answers : List RoundAnswer) → IsWork plan from to (Ok found) answers →
+pub work_stored : (plan : SessionPlan) (from to : Device) (found : Option (List ℕ)) (answers : WorkAnswers) → IsWork plan from to (Ok found) answers →
     started_last (work_session plan (Ok found) answers).rounds ≡ true → PassAfter plan found from to (work_session plan (Ok found) answers).rounds
 work_stored plan from to found answers work started =
     by_work plan from to (Ok found) answers work
@@ -160,7 +160,20 @@ module _ (plans : List (Option StartPlan)) (rounds : List Round) (from to : Devi
       let there : AreBootRounds targets plans table rounds = subst (λ a. AreRoundsOf plans a rounds) acts_are are in
       last_cause targets table there.are round last fails)
 
-pub work_cause : (plan : SessionPlan) (from to : Device) (load : LoadAnswer) (answers : List RoundAnswer) → IsWork plan from to load answers →
+  -- a script that ends so has another status
+  acted_cause : (plan : SessionPlan) (found : Option (List ℕ)) (acts : Acts) (answers : WorkAnswers) → AreRoundsOf plans acts rounds →
+      rounds_for (start_plans_of plan.work) acts answers ≡ rounds → (refusal : Refusal) →
+      (session_by_acts plan found acts answers).refusal ≡ Some refusal → IsStartFailed refusal → FailsBy plans (last_round rounds) from to
+  acted_cause plan found (Plays script known) answers are is refusal h =
+      let play = play_of script known answers in
+      script_has (λ r. IsStartFailed r → FailsBy plans (last_round rounds) from to)
+      (record { failed = λ status e. absurd cc; limit = λ e. absurd cc; memory = λ e. absurd cc })
+      (course_end play) (refused_in (course_at play).outside.rounds) (λ fault last e. absurd (not_fault fault e)) refusal h
+  acted_cause plan found acts answers are is refusal h =
+      worked_cause plan found acts are refusal
+      (subst (λ (r : List Round). (worked_on plan found acts r).refusal ≡ Some refusal) is h)
+
+pub work_cause : (plan : SessionPlan) (from to : Device) (load : LoadAnswer) (answers : WorkAnswers) → IsWork plan from to load answers →
     (refusal : Refusal) → (work_session plan load answers).refusal ≡ Some refusal → IsStartFailed refusal →
     FailsBy (start_plans_of plan.work) (last_round (work_session plan load answers).rounds) from to
 work_cause plan from to (Err fault) answers work refusal h failed =
@@ -169,7 +182,7 @@ work_cause plan from to (Ok found) answers work refusal h failed =
     let plans = start_plans_of plan.work in
     let same = session_after plan found answers in
     subst (λ (r : List Round). FailsBy plans (last_round r) from to) (sym same)
-    (worked_cause plans (rounds_after plan found answers) from to
+    (acted_cause plans (rounds_after plan found answers) from to
     (subst (λ (r : List Round). RaisedBy (failed_starts r) from.start_faults to.start_faults) same
-    (work_started plan from to (Ok found) answers work).rose) plan found (acts_after plan found)
-    (subst (AreRoundsOf plans (acts_after plan found)) same (work_rounds plan from to found answers work)) refusal h failed)
+    (work_started plan from to (Ok found) answers work).rose) plan found (acts_after plan found) answers
+    (subst (AreRoundsOf plans (acts_after plan found)) same (work_rounds plan from to found answers work)) refl refusal h failed)

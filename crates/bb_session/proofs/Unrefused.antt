@@ -1,8 +1,9 @@
 -- The work of a plan that met no fault of the device: no part of it was refused, and each save that
 -- was begun answered Ok. What its load gave, which copies it may name, and what its session is.
-use Rattle.std.proofs.Common.{◌≡◌, ◌⊎◌, ℕ, ◌≤◌, Bool, true, false, List, [], ◌∷◌, length, map, Option, Some, None, is_none, is_some, Result, Ok, Err, IfErr, refl, sym, ap, subst, ◌∙◌, inl, inr, arith}
+use Rattle.std.proofs.Common.{◌≡◌, ◌≢◌, ◌⊎◌, ℕ, ◌≤◌, Bool, true, false, List, [], ◌∷◌, map, Option, Some, None, is_none, is_some, Result, Ok, Err, IfErr, refl, sym, ap, subst, ◌∙◌, inl, inr, arith}
 use Rattle.std.specs.List.{list_all}
-use Rattle.std.specs.Option.{option_map_or}
+use Rattle.std.specs.Option.{option_map, option_map_or}
+use Rattle.std.specs.Prelude.{⊤}
 use Rattle.std.proofs.lemmas.Bool.{and_from, both_ways, false≢true, false_from_ne_true, not_from_false}
 use Rattle.bb_base.specs.Faults.{Rose}
 use Rattle.bb_copies.specs.declared.answers.CopyFault.{CopyFault}
@@ -10,27 +11,38 @@ use Rattle.bb_copies.specs.declared.answers.CopyFault.TheVariants as faults
 use Rattle.bb_flash.specs.Device.{Device, content}
 use Rattle.bb_flash.specs.Image.{Image}
 use Rattle.bb_state.specs.Keyed.{Keyed}
+use Rattle.bb_interpreter.specs.declared.run.ScriptEnd.{ScriptEnd}
+use Rattle.bb_interpreter.specs.declared.run.ScriptEnd.TheVariants as ends
+use Rattle.bb_script.specs.Tree.{ScriptTree}
+use Rattle.bb_script_commands.specs.Held.{Known}
+use Rattle.bb_script_commands.specs.Playing.{IsPlayed, most_script_rounds, script_rounds}
+use Rattle.bb_script_commands.specs.Scripts.{EndsBy}
+use Rattle.bb_script_commands.proofs.FewRounds.{few_law, saved_none}
+use Rattle.bb_script_commands.proofs.Unfailing.{unfailing_played, unstarted_unfailed}
 use Rattle.bb_shell.specs.Boot.{Round}
 use Rattle.bb_flash.specs.declared.plan.Plan.{Plan as StartPlan}
 use Rattle.bb_shell.specs.Counting.{target_started}
 use Rattle.bb_shell.specs.Sequence.{refused_in, save_round}
 use Rattle.bb_shell.specs.Rounds.{RoundAnswer, answer_of}
 use Rattle.bb_shell.specs.Running.{refusal_of}
+use Rattle.bb_shell.proofs.Joined.{goes_unrefused, started_unrefused}
 use Rattle.bb_shell.proofs.Made.{AllSaved, all_saved}
-use Rattle.bb_shell.proofs.Sound.{NoneFailed, good_rounds, none_failed, unstarted_fine}
+use Rattle.bb_shell.proofs.Sound.{NoneFailed, good_rounds, none_failed, sounds, unstarted_fine}
 use Rattle.bb_plan.specs.Plan.{SessionPlan}
 use Rattle.bb_plan.specs.Refusal.{status_of, IsSendableRefusal, copy_refusal}
 use Rattle.bb_plan.specs.declared.refusal.Refusal.{Refusal}
 use Rattle.bb_plan.specs.declared.status.Status.TheVariants.{Done}
-use Rattle.bb_session.specs.Acting.{Acts, AreRoundsOf, BootsFrom, SavesOnce, Stops, most_rounds, rounds_for, sound_answers, start_plans_of}
+use Rattle.bb_session.specs.Acting.{Acts, ArePlayedRounds, AreRoundsOf, BootsFrom, Plays, SavesOnce, Stops, WorkAnswers, most_rounds, play_of, rounds_for, sound_answers, start_plans_of}
 use Rattle.bb_session.specs.Looking.{first_found, passed_in}
-use Rattle.bb_session.specs.Session.{LoadAnswer, Session, acts_after, answers_after, ended_by, refusal_at_end, text_after, work_session, worked_on}
-use Rattle.bb_session.specs.Work.{IsLoadedAs, IsTableWork, IsWork, IsWorkedOut}
-use Rattle.bb_session.proofs.Acted.{acts_stop, by_work, ran_of, rounds_is, session_after, session_is}
-use Rattle.bb_session.proofs.Barred.{HasNoFault, fault_device, is_device_fault}
+use Rattle.bb_session.specs.Scripting.{refusal_by_end}
+use Rattle.bb_session.specs.Session.{LoadAnswer, Session, acts_after, answers_after, ended_by, played_session, refusal_at_end, session_by_acts, text_after, work_session, worked_on}
+use Rattle.bb_session.specs.Work.{IsLoadedAs, IsPlay, IsPlayOf, IsTableWork, IsWork, IsWorkedOut}
+use Rattle.bb_session.proofs.Acted.{acts_stop, by_work, ran_of, rounds_back, session_after}
+use Rattle.bb_session.proofs.Barred.{HasMemory, HasNoFault, fault_device, is_device_fault, is_memory}
 use Rattle.bb_session.proofs.Faulting.{FaultTells}
 use Rattle.bb_session.proofs.Faults.{work_explains}
 use Rattle.bb_session.proofs.Kept.{load_found}
+use Rattle.bb_session.proofs.Plays.{ended_play, plays_session, plays_to}
 use Rattle.bb_plan.specs.declared.plan.Work.{Work}
 use Rattle.bb_plan.specs.declared.refusal.Refusal.TheVariants as refusals
 use Rattle.bb_session.specs.declared.report.Report.{Report}
@@ -42,7 +54,7 @@ fault_rose keyed from to faults.Unsure tells = absurd tells
 fault_rose keyed from to _ tells = tells.0
 
 -- where no call of the device failed no part of the work was refused
-pub unrefused : (plan : SessionPlan) (from to : Device) (load : LoadAnswer) (answers : List RoundAnswer) → IsWork plan from to load answers →
+pub unrefused : (plan : SessionPlan) (from to : Device) (load : LoadAnswer) (answers : WorkAnswers) → IsWork plan from to load answers →
     (Rose from.faults to.faults → ⊥) → HasNoFault (work_session plan load answers)
 unrefused plan from to load answers work whole = false_from_ne_true _ (by (work_session plan load answers).refusal refl)
   where
@@ -60,19 +72,38 @@ none_refused : (o : Option CopyFault) (text : List ℕ) (refusal : Option Refusa
 none_refused None text refusal rounds whole = refl
 none_refused (Some fault) text refusal rounds whole = absurd (both_ways _ whole (fault_device fault))
 
-worked_saved : (plan : SessionPlan) (found : Option (List ℕ)) (plans : List (Option StartPlan)) (acts : Acts) (rounds : List Round) →
-    AreRoundsOf plans acts rounds → HasNoFault (worked_on plan found acts rounds) → AllSaved rounds
-worked_saved plan found plans (Stops bar) rounds are whole = subst AllSaved (sym are) tt
-worked_saved plan found plans acts rounds are whole =
-    all_saved rounds (acts_stop plans acts rounds are)
-    (none_refused (refused_in rounds) (text_after plan found rounds) (refusal_at_end acts rounds) rounds whole)
+-- nor was one of a script
+script_unrefused : (end : ScriptEnd) (rounds : List Round) → EndsBy end rounds →
+    is_device_fault (option_map_or status_of (refusal_by_end end (refused_in rounds)) Done) ≡ false → refused_in rounds ≡ None
+script_unrefused (ends.Done status) rounds ending whole = goes_unrefused rounds ending
+script_unrefused ends.Started rounds ending whole = started_unrefused rounds ending
+script_unrefused ends.StepLimit rounds ending whole = goes_unrefused rounds ending
+script_unrefused ends.Fault rounds ending whole = by (refused_in rounds) whole
+  where
+    by : (fault : Option CopyFault) → is_device_fault (option_map_or status_of (option_map copy_refusal fault) Done) ≡ false → fault ≡ None
+    by None whole = refl
+    by (Some fault) whole = absurd (both_ways _ whole (fault_device fault))
+script_unrefused ends.NoMemory rounds ending whole = ending
 
-module _ {plan : SessionPlan} {from to : Device} {found : Option (List ℕ)} {answers : List RoundAnswer}
+acted_saved : (plan : SessionPlan) (found : Option (List ℕ)) (acts : Acts) (answers : WorkAnswers) (rounds : List Round) → answers.rounds ≡ map answer_of rounds →
+    AreRoundsOf (start_plans_of plan.work) acts rounds → IsPlayOf acts answers rounds → HasNoFault (session_by_acts plan found acts answers) → AllSaved rounds
+acted_saved plan found (Stops bar) answers rounds is are played whole = subst AllSaved (sym are) tt
+acted_saved plan found (Plays script known) answers rounds is are played whole =
+    all_saved rounds are.stops
+    (script_unrefused played.end rounds played.ending
+    (subst HasNoFault
+    (plays_session script known answers played.end played.text rounds (plays_to script known answers rounds is played)) whole))
+acted_saved plan found acts answers rounds is are played whole =
+    let plans = start_plans_of plan.work in
+    all_saved rounds (acts_stop plans acts rounds are)
+    (none_refused (refused_in rounds) (text_after plan found rounds) (refusal_at_end acts rounds) rounds
+    (subst (λ (r : List Round). HasNoFault (worked_on plan found acts r)) (rounds_back plans acts answers rounds is are played) whole))
+
+module _ {plan : SessionPlan} {from to : Device} {found : Option (List ℕ)} {answers : WorkAnswers}
     (work : IsTableWork plan from to (Ok found) answers) where
   pub rounds_saved : HasNoFault (work_session plan (Ok found) answers) → AllSaved work.ran.rounds
   rounds_saved whole =
-      worked_saved plan found (start_plans_of plan.work) (acts_after plan found) work.ran.rounds work.ran.are
-      (subst HasNoFault (session_is work) whole)
+      acted_saved plan found (acts_after plan found) answers work.ran.rounds work.ran.answers_are work.ran.are work.ran.played whole
 
 -- each answered Ok
 abbrev pub AllMade : List RoundAnswer → Type 0
@@ -84,17 +115,17 @@ rounds_made (round ∷ later) all =
     and_from (is_none (refusal_of round.outcome)) (list_all (λ (a : RoundAnswer). is_none a.save) (map answer_of later))
     (not_from_false (is_some (refusal_of round.outcome)) all.0) (rounds_made later all.1)
 
-pub work_made : (plan : SessionPlan) (from to : Device) (load : LoadAnswer) (answers : List RoundAnswer) → IsWork plan from to load answers →
-    HasNoFault (work_session plan load answers) → AllMade answers
+pub work_made : (plan : SessionPlan) (from to : Device) (load : LoadAnswer) (answers : WorkAnswers) → IsWork plan from to load answers →
+    HasNoFault (work_session plan load answers) → AllMade answers.rounds
 work_made plan from to (Err fault) answers work whole = absurd (both_ways _ whole (fault_device fault))
 work_made plan from to (Ok found) answers work whole =
     by_work plan from to (Ok found) answers work
     (λ needs done. subst AllMade (sym done.ran.answers_are) (rounds_made done.ran.rounds (rounds_saved done whole)))
-    (λ shows done. subst AllMade (sym done.none) refl)
+    (λ shows done. subst (λ (a : WorkAnswers). AllMade a.rounds) (sym done.none) refl)
 
 -- ---- what a load gives is what the device holds
 
-pub work_gives : (plan : SessionPlan) (from to : Device) (found : Option (List ℕ)) (answers : List RoundAnswer) → IsWork plan from to (Ok found) answers →
+pub work_gives : (plan : SessionPlan) (from to : Device) (found : Option (List ℕ)) (answers : WorkAnswers) → IsWork plan from to (Ok found) answers →
     (image : Image) → content from ≡ Some image → found ≡ first_found (passed_in plan.keyed from.geometry.page image)
 work_gives plan from to found answers work image held =
     by_work plan from to (Ok found) answers work
@@ -146,36 +177,79 @@ saved_sound : (table : List ℕ) (refusal : Option CopyFault) → AllSaved (save
 saved_sound table None saved = refl
 saved_sound table (Some fault) saved = absurd (let e : true ≡ false = saved.0 in cc)
 
-sound_rounds : (plans : List (Option StartPlan)) (acts : Acts) (rounds : List Round) → AreRoundsOf plans acts rounds → length rounds ≤ most_rounds acts →
-    AllSaved rounds → (target_started (rounds_for plans acts (sound_answers acts)) ≡ None) ⊎ NoneFailed rounds →
-    rounds_for plans acts (sound_answers acts) ≡ rounds
-sound_rounds plans (SavesOnce table) rounds are few saved calm =
+-- of a work that plays no script
+abbrev PlaysNone : Acts → Type 0
+PlaysNone (Plays script known) = ⊥
+PlaysNone _ = ⊤
+
+sound_rounds : (plans : List (Option StartPlan)) (acts : Acts) (rounds : List Round) → PlaysNone acts → AreRoundsOf plans acts rounds → AllSaved rounds →
+    (target_started (rounds_for plans acts (sound_answers acts)) ≡ None) ⊎ NoneFailed rounds → rounds_for plans acts (sound_answers acts) ≡ rounds
+sound_rounds plans (SavesOnce table) rounds unplayed are saved calm =
     saved_sound table are.refusal (subst AllSaved are.is saved) ∙ sym are.is
-sound_rounds plans (BootsFrom targets table) rounds are few saved calm =
-    good_rounds targets plans table rounds (most_rounds (BootsFrom targets table)) few are.are saved
+sound_rounds plans (BootsFrom targets table) rounds unplayed are saved calm =
+    good_rounds targets plans table rounds (most_rounds (BootsFrom targets table)) are.few are.are saved
     (elim calm [
-      | inl unstarted ↦ unstarted_fine targets plans table rounds (most_rounds (BootsFrom targets table)) few are.are saved unstarted
+      | inl unstarted ↦ unstarted_fine targets plans table rounds (most_rounds (BootsFrom targets table)) are.few are.are saved unstarted
       | inr none ↦ none
     ])
-sound_rounds plans _ rounds are few saved calm = sym are
+sound_rounds plans (Plays script known) rounds unplayed are saved calm = absurd unplayed
+sound_rounds plans _ rounds unplayed are saved calm = sym are
 
-pub work_same : (plan : SessionPlan) (from to : Device) (found : Option (List ℕ)) (answers : List RoundAnswer) → IsWork plan from to (Ok found) answers →
-    HasNoFault (work_session plan (Ok found) answers) → IsCalm from to (work_session plan (Ok found) (answers_after plan (Ok found))) →
+-- ---- a script
+
+-- where memory was granted to its session it was granted to it
+granted_by : (end : ScriptEnd) (text : List ℕ) (rounds : List Round) → HasMemory (ended_play end text rounds) → end ≢ ends.NoMemory
+granted_by end text rounds memory = λ is.
+    false≢true
+    (sym memory ∙ ap (λ (e : ScriptEnd). is_memory (option_map_or status_of (refusal_by_end e (refused_in rounds)) Done)) is)
+
+played_same : (script : ScriptTree) (known : Known) (answers : WorkAnswers) (rounds : List Round) → answers.rounds ≡ map answer_of rounds →
+    ArePlayedRounds known rounds → IsPlay script known answers.grants rounds → AllSaved rounds →
+    (target_started (script_rounds script known (sounds most_script_rounds) None) ≡ None) ⊎ NoneFailed rounds →
+    HasMemory (played_session (play_of script known answers)) →
+    played_session (play_of script known answers) ≡ played_session (play_of script known (sound_answers (Plays script known)))
+played_same script known answers rounds is are play saved calm memory =
+    let here = plays_session script known answers play.end play.text rounds (plays_to script known answers rounds is play) in
+    let free = play.granted (granted_by play.end play.text rounds (subst HasMemory here memory)) in
+    let played : IsPlayed script known rounds None play.end play.text =
+    subst (λ (g : Option ℕ). IsPlayed script known rounds g play.end play.text) free play.played in
+    let few = few_law known rounds are.are are.stops (saved_none rounds saved) in
+    let unfailed : NoneFailed rounds =
+    elim calm [
+      | inl unstarted ↦ unstarted_unfailed script known rounds None play.end play.text most_script_rounds played saved few unstarted
+      | inr none ↦ none
+    ] in
+    here
+    ∙ sym
+    (plays_session script known (sound_answers (Plays script known)) play.end play.text rounds
+    (unfailing_played script known rounds None play.end play.text most_script_rounds played saved unfailed few))
+
+acted_same : (plan : SessionPlan) (found : Option (List ℕ)) (acts : Acts) (answers : WorkAnswers) (rounds : List Round) → answers.rounds ≡ map answer_of rounds →
+    AreRoundsOf (start_plans_of plan.work) acts rounds → IsPlayOf acts answers rounds → AllSaved rounds →
+    (target_started (rounds_for (start_plans_of plan.work) acts (sound_answers acts)) ≡ None) ⊎ NoneFailed rounds →
+    HasMemory (session_by_acts plan found acts answers) → session_by_acts plan found acts answers ≡ session_by_acts plan found acts (sound_answers acts)
+acted_same plan found (Plays script known) answers rounds is are played saved calm memory =
+    played_same script known answers rounds is are played saved calm memory
+acted_same plan found acts answers rounds is are played saved calm memory =
+    let plans = start_plans_of plan.work in
+    ap (λ (r : List Round). worked_on plan found acts r)
+    (rounds_back plans acts answers rounds is are played ∙ sym (sound_rounds plans acts rounds tt are saved calm))
+
+pub work_same : (plan : SessionPlan) (from to : Device) (found : Option (List ℕ)) (answers : WorkAnswers) → IsWork plan from to (Ok found) answers →
+    HasNoFault (work_session plan (Ok found) answers) → HasMemory (work_session plan (Ok found) answers) →
+    IsCalm from to (work_session plan (Ok found) (answers_after plan (Ok found))) →
     work_session plan (Ok found) answers ≡ work_session plan (Ok found) (answers_after plan (Ok found))
-work_same plan from to found answers work whole calm =
+work_same plan from to found answers work whole memory calm =
     by_work plan from to (Ok found) answers work
     (λ needs done.
-    ap (λ (r : List Round). worked_on plan found (acts_after plan found) r)
-    (rounds_is done
-    ∙ sym
-    (sound_rounds (start_plans_of plan.work) (acts_after plan found) done.ran.rounds done.ran.are done.ran.few
+    acted_same plan found (acts_after plan found) answers done.ran.rounds done.ran.answers_are done.ran.are done.ran.played
     (rounds_saved done whole)
     (elim calm [
       | inl unstarted ↦ inl (sym (ap target_started (session_after plan found (answers_after plan (Ok found)))) ∙ unstarted)
       | inr none ↦
           inr (none_failed done.ran.rounds done.middle.start_faults to.start_faults (ran_of done).start_faults
           (λ r. none (subst (λ k. Rose k to.start_faults) done.loaded.starts.start_faults r)))
-    ]))))
+    ]) memory)
     (λ shows done.
     ap (work_session plan (Ok found))
     (done.none ∙ sym (ap (λ (w : Work). answers_after (record { keyed = plan.keyed; work = w }) (Ok found)) shows)))

@@ -11,7 +11,7 @@ use Rattle.bb_state.specs.Keyed.{Keyed}
 use Rattle.bb_vars.specs.Table.{table_with}
 use Rattle.bb_state.specs.Kinds.{laid_form, laid_kinds}
 use Rattle.bb_shell.specs.Boot.{Round}
-use Rattle.bb_shell.specs.Rounds.{RoundAnswer}
+use Rattle.bb_session.specs.Acting.{WorkAnswers, no_answers}
 use Rattle.bb_session.specs.Looking.{first_found, look_text, passed_in}
 use Rattle.bb_plan.specs.declared.plan.Work.TheVariants.{Show}
 use Rattle.bb_plan.specs.declared.plan.Work.{Work}
@@ -28,7 +28,7 @@ told_whole text = record { text = text; refusal = None }
 
 -- ---- the work of a plan
 
-pub worked_out : (keyed : Keyed) (work : Work) (from to : Device) (load : LoadAnswer) (answers : List RoundAnswer) (given : Result Report Refusal) →
+pub worked_out : (keyed : Keyed) (work : Work) (from to : Device) (load : LoadAnswer) (answers : WorkAnswers) (given : Result Report Refusal) →
     IsWork (record { keyed = keyed; work = work }) from to load answers →
     EndsWith (work_session (record { keyed = keyed; work = work }) load answers) given → IsWorkedOut keyed work from to given
 worked_out keyed work from to load answers given done (inl gives) = inl (record { load = load; answers = answers; work = done; gives = gives })
@@ -68,7 +68,7 @@ pub looked_ok : (keyed : Keyed) (area : List ℕ) (found : Bool) (from to : Devi
     LookGives (laid_form keyed) (laid_kinds keyed.layout) area from found → to.faults ≡ from.faults → to.read_faults ≡ from.read_faults →
     IsQuiet from to → IsTold (look_text (then_some found area)) given → IsWorkedOut keyed Show from to given
 looked_ok keyed area found from to given gives faults read_faults quiet is =
-    worked_out keyed Show from to (Ok (then_some found area)) [] given
+    worked_out keyed Show from to (Ok (then_some found area)) no_answers given
     (record {
       looked = record { told = look_told keyed area found from gives; fails = tt; faults = faults; read_faults = read_faults; quiet = quiet };
       none = refl;

@@ -16,11 +16,10 @@ use Rattle.bb_state.specs.Keyed.{Keyed}
 use Rattle.bb_state.specs.Kinds.{laid_kinds}
 use Rattle.bb_shell.specs.Boot.{Round}
 use Rattle.bb_shell.specs.Counting.{turn_of_rounds}
-use Rattle.bb_shell.specs.Rounds.{RoundAnswer}
 use Rattle.bb_shell.proofs.Joins.{outside_joined, still_outside}
 use Rattle.bb_plan.specs.Plan.{SessionPlan, first_area}
 use Rattle.bb_plan.specs.declared.plan.Work.{Work}
-use Rattle.bb_session.specs.Acting.{kept_before, needs_table, saves_always, start_plans_of}
+use Rattle.bb_session.specs.Acting.{WorkAnswers, kept_before, needs_table, saves_always, start_plans_of}
 use Rattle.bb_session.specs.Looking.{passed_in}
 use Rattle.bb_session.specs.Session.{LoadAnswer, loaded_area}
 use Rattle.bb_session.specs.SessionTurns.{HasTrail, HasTrails, IsFairRun, LeadsOn, LeadsTo, table_turn, turn_of}
@@ -67,7 +66,7 @@ look_turned keyed from to quiet = λ first e last f before is stands.
 
 -- ---- the work of a plan
 
-table_turned : (plan : SessionPlan) (from to : Device) (load : LoadAnswer) (answers : List RoundAnswer) →
+table_turned : (plan : SessionPlan) (from to : Device) (load : LoadAnswer) (answers : WorkAnswers) →
     IsTableWork plan from to load answers → Turned plan.keyed from to (table_turn plan load answers)
 table_turned plan from to (Err fault) answers work =
     subst (λ d. Turned plan.keyed from d (λ marks. Unloaded)) (sym work.ran.1)
@@ -101,7 +100,7 @@ table_turned plan from to (Ok found) answers work =
           did.later work.used found load.gives (start_plans_of plan.work) kept of_table run.rounds run.now did load;
     }))
 
-table_outside : (plan : SessionPlan) (from to : Device) (load : LoadAnswer) (answers : List RoundAnswer) →
+table_outside : (plan : SessionPlan) (from to : Device) (load : LoadAnswer) (answers : WorkAnswers) →
     IsTableWork plan from to load answers → KeepsOutside (laid_kinds plan.keyed.layout) from to
 table_outside plan from to (Ok found) answers work =
     let did = ran_of work in
@@ -109,7 +108,7 @@ table_outside plan from to (Ok found) answers work =
 table_outside plan from to (Err fault) answers work =
     subst (λ d. KeepsOutside (laid_kinds plan.keyed.layout) from d) (sym work.ran.1) work.loaded.outside
 
-module _ (plan : SessionPlan) (from to : Device) (load : LoadAnswer) (answers : List RoundAnswer)
+module _ (plan : SessionPlan) (from to : Device) (load : LoadAnswer) (answers : WorkAnswers)
     (work : IsWork plan from to load answers) where
   work_turned : Turned plan.keyed from to (turn_of plan load answers)
   work_turned =

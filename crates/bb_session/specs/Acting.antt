@@ -1,17 +1,21 @@
 -- What a work does on a table that was loaded: the rounds that it runs, each a save, and perhaps a
 -- start after it. A save alone is a round whose target has no plan.
-use Rattle.std.specs.Prelude.{◌≡◌, ℕ, Bool, true, false, List, [], ◌∷◌, Option, Some, None, IsSome, is_none, replicate, if◌then◌else◌}
+use Rattle.std.specs.Prelude.{◌≡◌, ℕ, ◌≤◌, Bool, true, false, List, [], ◌∷◌, Option, Some, None, IsSome, is_none, length, map, replicate, if◌then◌else◌}
 use Rattle.bb_actions.specs.Actions.{after_all}
 use Rattle.bb_chooser.specs.Binding.{Binding}
 use Rattle.bb_chooser.specs.Counting.{mark_good_of}
 use Rattle.bb_copies.specs.declared.answers.CopyFault.{CopyFault}
 use Rattle.bb_flash.specs.declared.plan.Plan.{Plan as StartPlan}
 use Rattle.bb_layout.specs.Layout.{Laid}
+use Rattle.bb_script.specs.Tree.{ScriptTree}
+use Rattle.bb_interpreter.specs.Standing.{Course}
 use Rattle.bb_shell.specs.Boot.{AreRounds, Round, all_attempts, first_table, last_round}
-use Rattle.bb_shell.specs.Sequence.{save_round}
-use Rattle.bb_shell.specs.Rounds.{RoundAnswer, best_of, rounds_by, sound_answer}
+use Rattle.bb_shell.specs.Sequence.{StopsThere, save_round}
+use Rattle.bb_shell.specs.Rounds.{RoundAnswer, answer_of, best_of, rounds_by, sound_answer}
+use Rattle.bb_script_commands.specs.Held.{Known}
+use Rattle.bb_script_commands.specs.Playing.{AreScriptRounds, Played, most_script_rounds, script_played, script_rounds}
 use Rattle.bb_plan.specs.declared.plan.Work.{Work}
-use Rattle.bb_plan.specs.declared.plan.Work.TheVariants.{Act, Boot, Good, Show, Write}
+use Rattle.bb_plan.specs.declared.plan.Work.TheVariants.{Act, Boot, Good, Run, Show, Write}
 use Rattle.bb_plan.specs.declared.refusal.Refusal.{Refusal}
 use Rattle.bb_plan.specs.declared.refusal.Refusal.TheVariants as refusals
 use Rattle.bb_session.specs.Marking.{lost_place}
@@ -33,12 +37,14 @@ pub data TableBar : Type 0 where
   LostPlace : ℕ → TableBar
   NoneBest : TableBar
 
--- nothing is saved; the table ends the session; one table is saved; or it is booted from a table on
+-- nothing is saved; the table ends the session; one table is saved; it is booted from a table on;
+-- or a script is run
 pub data Acts : Type 0 where
   SavesNone : Acts
   Stops : TableBar → Acts
   SavesOnce : List ℕ → Acts
   BootsFrom : Binding → List ℕ → Acts
+  Plays : ScriptTree → Known → Acts
 
 abbrev pub marks_of : Option ℕ → List ℕ → Acts
 marks_of None table = SavesOnce table
@@ -47,6 +53,15 @@ marks_of (Some place) table = Stops (LostPlace place)
 abbrev pub boots_of : Binding → List ℕ → Acts
 boots_of targets table =
     if is_none (best_of targets table) then Stops NoneBest else BootsFrom targets table
+
+-- what a script goes by before its first command: no boot was run
+abbrev pub known_at : Laid → Binding → Cause → List (Option StartPlan) → List ℕ → Known
+known_at layout targets cause plans table = record {
+  layout = layout;
+  by = record { chooser = targets; plans = plans; cause = cause };
+  table = table;
+  booted = false;
+}
 
 -- after a load of this table
 abbrev pub acts_of : Laid → Work → List ℕ → Acts
@@ -57,6 +72,8 @@ acts_of layout (Good targets) table =
     marks_of (lost_place targets table) (mark_good_of targets table)
 acts_of layout (Boot targets cause plans) table =
     boots_of targets (first_table targets cause true table)
+acts_of layout (Run script targets cause plans) table =
+    Plays script (known_at layout targets cause plans table)
 
 -- an area that is given is saved whatever was loaded
 abbrev pub saves_always : Work → Bool
@@ -70,6 +87,7 @@ kept_before work table = if saves_always work then None else Some table
 -- the plans by which it may start a system
 abbrev pub start_plans_of : Work → List (Option StartPlan)
 start_plans_of (Boot targets cause plans) = plans
+start_plans_of (Run script targets cause plans) = plans
 start_plans_of _ = []
 
 abbrev pub bar_refusal : TableBar → Refusal
@@ -81,6 +99,25 @@ abbrev pub refusal_by_table : Acts → Option Refusal
 refusal_by_table (Stops bar) = Some (bar_refusal bar)
 refusal_by_table _ = None
 
+-- ---- what it is answered
+
+-- To each of its rounds, in their order. A script asks for memory between them too: `grants` is how
+-- often it was granted before it was refused, where it was, and none for every other work.
+pub record WorkAnswers : Type 0 where
+  pub rounds : List RoundAnswer
+  pub grants : Option ℕ
+
+-- to a work that ran these rounds, and is no script
+abbrev pub answers_to_rounds : List Round → WorkAnswers
+answers_to_rounds rounds = record { rounds = map answer_of rounds; grants = None }
+
+abbrev pub no_answers : WorkAnswers
+no_answers = answers_to_rounds []
+
+-- the play of a script by these answers
+abbrev pub play_of : ScriptTree → Known → WorkAnswers → Course Played (Unit {0})
+play_of script known answers = script_played script known answers.rounds answers.grants
+
 -- ---- its rounds
 
 -- one save, whatever it answered
@@ -90,37 +127,52 @@ pub record IsSavedOnce (table : List ℕ) (rounds : List Round) : Type 0 where
 
 -- There is a round of a boot, and they go by the rules: each is of the best target in the table
 -- that it starts from, one attempt of it is spent, and no start comes before its save answered Ok.
+-- So they are no more than all attempts.
 pub record AreBootRounds (targets : Binding) (plans : List (Option StartPlan)) (table : List ℕ)
     (rounds : List Round) : Type 0 where
   pub are : AreRounds targets plans table rounds
   pub some : IsSome (last_round rounds)
+  pub few : length rounds ≤ all_attempts targets table
+
+-- The rounds of a script are those of the commands that it called, one after another, each of which
+-- did what it may do: those of a boot go by the same rules. None comes after a start that was made,
+-- or after a save that was refused.
+pub record ArePlayedRounds (known : Known) (rounds : List Round) : Type 0 where
+  pub are : AreScriptRounds known rounds
+  pub stops : StopsThere rounds
 
 abbrev pub AreRoundsOf : List (Option StartPlan) → Acts → List Round → Type 0
 AreRoundsOf plans SavesNone rounds = rounds ≡ []
 AreRoundsOf plans (Stops bar) rounds = rounds ≡ []
 AreRoundsOf plans (SavesOnce table) rounds = IsSavedOnce table rounds
 AreRoundsOf plans (BootsFrom targets table) rounds = AreBootRounds targets plans table rounds
+AreRoundsOf plans (Plays script known) rounds = ArePlayedRounds known rounds
 
 abbrev pub save_rounds : List ℕ → List RoundAnswer → List Round
 save_rounds table [] = []
 save_rounds table (answer ∷ answers) = save_round 0 table answer.save ∷ []
 
 -- so they come of what they are answered, one answer a round
-abbrev pub rounds_for : List (Option StartPlan) → Acts → List RoundAnswer → List Round
+abbrev pub rounds_for : List (Option StartPlan) → Acts → WorkAnswers → List Round
 rounds_for plans SavesNone answers = []
 rounds_for plans (Stops bar) answers = []
-rounds_for plans (SavesOnce table) answers = save_rounds table answers
-rounds_for plans (BootsFrom targets table) answers = rounds_by targets plans table answers
+rounds_for plans (SavesOnce table) answers = save_rounds table answers.rounds
+rounds_for plans (BootsFrom targets table) answers = rounds_by targets plans table answers.rounds
+rounds_for plans (Plays script known) answers =
+    script_rounds script known answers.rounds answers.grants
 
 -- ---- where nothing fails
 
--- there are no more rounds than this: each of a boot spends an attempt
+-- there are no more rounds than this: each of a boot spends an attempt, and a script calls 10,000
+-- commands at most
 abbrev pub most_rounds : Acts → ℕ
 most_rounds SavesNone = 0
 most_rounds (Stops bar) = 0
 most_rounds (SavesOnce table) = 1
 most_rounds (BootsFrom targets table) = all_attempts targets table
+most_rounds (Plays script known) = most_script_rounds
 
--- each save is made, and each start
-abbrev pub sound_answers : Acts → List RoundAnswer
-sound_answers acts = replicate (most_rounds acts) sound_answer
+-- each save is made, and each start, and memory is never refused
+abbrev pub sound_answers : Acts → WorkAnswers
+sound_answers acts =
+    record { rounds = replicate (most_rounds acts) sound_answer; grants = None }

@@ -8,12 +8,11 @@ use Rattle.bb_layout.specs.Layout.{Laid}
 use Rattle.bb_state.specs.Keyed.{Keyed}
 use Rattle.bb_state.specs.State.{IsOn, is_sure, last_table_of}
 use Rattle.bb_state.specs.declared.state.State.{State}
-use Rattle.bb_shell.specs.Rounds.{RoundAnswer}
 use Rattle.bb_shell.specs.Running.{IsSaveRun}
 use Rattle.bb_plan.specs.declared.plan.Work.{Work}
 use Rattle.bb_plan.specs.declared.plan.Work.TheVariants.{Act, Good, Write}
 use Rattle.bb_plan.specs.Refusal.{copy_refusal}
-use Rattle.bb_session.specs.Acting.{Acts, SavesOnce, refusal_by_table}
+use Rattle.bb_session.specs.Acting.{Acts, SavesOnce, WorkAnswers, refusal_by_table}
 use Rattle.bb_session.specs.Marking.{good_text}
 use Rattle.bb_session.specs.Session.{Session, work_session}
 use Rattle.bb_session.specs.Work.{Gives, IsRunAfter, SendsByMemory}
@@ -28,7 +27,7 @@ pub record IsAtHand (state : State) (device : Device) : Type 0 where
   pub kept : last_table_of state ≡ state.table
 
 -- its session after a load of this table
-abbrev pub session_on : Keyed → Work → List ℕ → List RoundAnswer → Session
+abbrev pub session_on : Keyed → Work → List ℕ → WorkAnswers → Session
 session_on keyed work table answers =
     work_session (record { keyed = keyed; work = work }) (Ok (Some table)) answers
 
@@ -45,7 +44,7 @@ IsTold text given =
 -- A work was done on a table that was loaded. `used` is the copy that the load took.
 pub record IsDone (keyed : Keyed) (used : Option ℕ) (table : List ℕ) (work : Work)
     (from to : Device) (given : Result Report Refusal) : Type 0 where
-  pub answers : List RoundAnswer
+  pub answers : WorkAnswers
   pub ran : IsRunAfter keyed work table used from to answers
   pub ends : EndsWith (session_on keyed work table answers) given
 

@@ -12,10 +12,9 @@ use Rattle.bb_flash.specs.Image.{Image}
 use Rattle.bb_state.specs.Keyed.{Keyed}
 use Rattle.bb_state.specs.Kinds.{laid_form, laid_kinds}
 use Rattle.bb_session.specs.Looking.{first_found, passed_in}
-use Rattle.bb_shell.specs.Rounds.{RoundAnswer}
 use Rattle.bb_shell.specs.Stages.{saves_of}
 use Rattle.bb_plan.specs.Plan.{EarlyEnd, SessionPlan}
-use Rattle.bb_session.specs.Acting.{kept_before, taken_by}
+use Rattle.bb_session.specs.Acting.{WorkAnswers, kept_before, taken_by}
 use Rattle.bb_session.specs.Session.{loaded_area, work_session}
 
 -- ---- the region of one copy
@@ -42,14 +41,14 @@ saved_region form kind (area ∷ areas) region =
 -- ---- the work of a plan, where the first copy that passed had this area, or none passed
 
 -- the areas that are saved after the load
-abbrev pub saves_made : SessionPlan → Option (List ℕ) → List RoundAnswer → List (List ℕ)
+abbrev pub saves_made : SessionPlan → Option (List ℕ) → WorkAnswers → List (List ℕ)
 saves_made plan found answers =
     saves_of (kept_before plan.work (loaded_area plan.keyed.layout found))
     (work_session plan (Ok found) answers).rounds
 
 -- after the load, and the saves after it; a look loads none, and saves none
 abbrev pub worked_region :
-    SessionPlan → Option (List ℕ) → List RoundAnswer → BucketKind → Image → Image
+    SessionPlan → Option (List ℕ) → WorkAnswers → BucketKind → Image → Image
 worked_region plan found answers kind region =
     let form = laid_form plan.keyed in
     saved_region form kind (saves_made plan found answers)
@@ -60,7 +59,7 @@ abbrev pub last_area_of : Option (List ℕ) → List (List ℕ) → Option (List
 last_area_of found [] = found
 last_area_of found (area ∷ areas) = last_area_of (Some area) areas
 
-abbrev pub last_area : SessionPlan → Option (List ℕ) → List RoundAnswer → Option (List ℕ)
+abbrev pub last_area : SessionPlan → Option (List ℕ) → WorkAnswers → Option (List ℕ)
 last_area plan found answers =
     last_area_of (taken_by plan.work found) (saves_made plan found answers)
 
@@ -88,7 +87,7 @@ writes_of_saves form kind (area ∷ areas) region =
 
 -- by the load, and by the saves after it; a look makes none
 abbrev pub writes_of_work :
-    SessionPlan → Option (List ℕ) → List RoundAnswer → BucketKind → Image → List CopyWrite
+    SessionPlan → Option (List ℕ) → WorkAnswers → BucketKind → Image → List CopyWrite
 writes_of_work plan found answers kind region =
     let form = laid_form plan.keyed in
     writes_of_load form kind (taken_by plan.work found) region
@@ -147,7 +146,7 @@ EachContent plan from to P =
 
 -- at exit each copy is exactly what the load and the saves of the plan make of it; a plan that was
 -- refused leaves the device
-abbrev pub LeavesExactly : Result SessionPlan EarlyEnd → List RoundAnswer → Device → Device → Type 0
+abbrev pub LeavesExactly : Result SessionPlan EarlyEnd → WorkAnswers → Device → Device → Type 0
 LeavesExactly (Err end) answers from to = to ≡ from
 LeavesExactly (Ok plan) answers from to =
     EachContent plan from to
@@ -156,7 +155,7 @@ LeavesExactly (Ok plan) answers from to =
     (worked_region plan found answers) before after)
 
 -- at exit every copy passes the area that was loaded or saved last
-abbrev pub EndsAlike : Result SessionPlan EarlyEnd → List RoundAnswer → Device → Device → Type 0
+abbrev pub EndsAlike : Result SessionPlan EarlyEnd → WorkAnswers → Device → Device → Type 0
 EndsAlike (Err end) answers from to = to ≡ from
 EndsAlike (Ok plan) answers from to =
     EachContent plan from to
@@ -175,7 +174,7 @@ EachTold plan from to P =
     P (first_found (passed_in plan.keyed from.geometry.page first.image)) first last))
 
 -- at exit the number of each block is higher by exactly as many as the writes of the plan erase it
-abbrev pub ErasesExactly : Result SessionPlan EarlyEnd → List RoundAnswer → Device → Device → Type 0
+abbrev pub ErasesExactly : Result SessionPlan EarlyEnd → WorkAnswers → Device → Device → Type 0
 ErasesExactly (Err end) answers from to = to ≡ from
 ErasesExactly (Ok plan) answers from to =
     EachTold plan from to
@@ -189,7 +188,7 @@ ErasesExactly (Ok plan) answers from to =
     from.geometry.page first.image))
 
 -- at exit exactly so many calls changed the device as the writes of the plan make
-abbrev pub CallsExactly : Result SessionPlan EarlyEnd → List RoundAnswer → Device → Device → Type 0
+abbrev pub CallsExactly : Result SessionPlan EarlyEnd → WorkAnswers → Device → Device → Type 0
 CallsExactly (Err end) answers from to = to ≡ from
 CallsExactly (Ok plan) answers from to =
     EachTold plan from to

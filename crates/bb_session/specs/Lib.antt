@@ -6,6 +6,7 @@ pub mod DrillLine
 pub mod Exactly
 pub mod Looking
 pub mod Marking
+pub mod Scripting
 pub mod Session
 pub mod SessionTurns
 pub mod Work

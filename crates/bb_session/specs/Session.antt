@@ -12,12 +12,15 @@ use Rattle.bb_flash.specs.declared.geometry.Geometry.{Geometry}
 use Rattle.bb_flash.specs.Image.{Image}
 use Rattle.bb_layout.specs.Defaults.{defaults_of}
 use Rattle.bb_layout.specs.Layout.{Laid}
-use Rattle.bb_session.specs.Acting.{Acts, BootsFrom, Stops, acts_of, bar_refusal, needs_table, refusal_by_table, rounds_for, sound_answers, start_plans_of}
+use Rattle.bb_session.specs.Acting.{Acts, BootsFrom, Plays, Stops, WorkAnswers, acts_of, bar_refusal, needs_table, no_answers, play_of, refusal_by_table, rounds_for, sound_answers, start_plans_of}
 use Rattle.bb_session.specs.DrillLine.{drill_line}
 use Rattle.bb_session.specs.Looking.{first_found, look_text, passed_in}
 use Rattle.bb_session.specs.Marking.{good_text}
+use Rattle.bb_session.specs.Scripting.{refusal_by_end, script_text}
+use Rattle.bb_interpreter.specs.Standing.{Course}
+use Rattle.bb_interpreter.specs.declared.run.ScriptEnd.{ScriptEnd}
+use Rattle.bb_script_commands.specs.Playing.{Played, course_at, course_end}
 use Rattle.bb_shell.specs.Boot.{Round, boot_end}
-use Rattle.bb_shell.specs.Rounds.{RoundAnswer}
 use Rattle.bb_shell.specs.Sequence.{refused_in}
 use Rattle.bb_session.specs.Booting.{end_refusal, end_text}
 use Rattle.bb_plan.specs.Plan.{Drilled, EarlyEnd, FileAnswers, Printed, Refused, SessionPlan, files_for, plan_by_words}
@@ -35,13 +38,17 @@ use Rattle.bb_plan.specs.declared.status.Status.TheVariants.{Done}
 abbrev pub LoadAnswer : Type 0
 LoadAnswer = Result (Option (List ℕ)) CopyFault
 
--- what was answered: by the files that were read, by the load or the look, and to each round after
--- it, in their order; and what a drill counted, where one was run
+-- what was answered: by the files that were read, by the load or the look, and to the work after
+-- it; and what a drill counted, where one was run
 pub record Answers : Type 0 where
   pub files : FileAnswers
   pub load : LoadAnswer
-  pub rounds : List RoundAnswer
+  pub work : WorkAnswers
   pub drill : Option DrillCounts
+
+-- the same, where the work is never refused memory
+abbrev pub granted_all : Answers → Answers
+granted_all answers = record answers { work = record answers.work { grants = None } }
 
 -- ---- what a session answers
 
@@ -98,17 +105,34 @@ worked_on plan found (Stops bar) rounds = refused_for (bar_refusal bar)
 worked_on plan found acts rounds =
     ended_by (refused_in rounds) (text_after plan found rounds) (refusal_at_end acts rounds) rounds
 
+-- a script's session: it has what its play sent, and ends as its play did
+abbrev pub played_session : Course Played (Unit {0}) → Session
+played_session play =
+    let rounds = (course_at play).outside.rounds in
+    record {
+      text = script_text play;
+      refusal = refusal_by_end (course_end play) (refused_in rounds);
+      rounds = rounds;
+    }
+
+-- by what it was answered
+abbrev pub session_by_acts : SessionPlan → Option (List ℕ) → Acts → WorkAnswers → Session
+session_by_acts plan found (Plays script known) answers =
+    played_session (play_of script known answers)
+session_by_acts plan found acts answers =
+    worked_on plan found acts (rounds_for (start_plans_of plan.work) acts answers)
+
 abbrev pub acts_after : SessionPlan → Option (List ℕ) → Acts
 acts_after plan found = acts_of plan.keyed.layout plan.work (loaded_area plan.keyed.layout found)
 
 -- the rounds that come of these answers
-abbrev pub rounds_after : SessionPlan → Option (List ℕ) → List RoundAnswer → List Round
+abbrev pub rounds_after : SessionPlan → Option (List ℕ) → WorkAnswers → List Round
 rounds_after plan found answers =
     rounds_for (start_plans_of plan.work) (acts_after plan found) answers
 
-abbrev pub work_session : SessionPlan → LoadAnswer → List RoundAnswer → Session
+abbrev pub work_session : SessionPlan → LoadAnswer → WorkAnswers → Session
 work_session plan (Ok found) answers =
-    worked_on plan found (acts_after plan found) (rounds_after plan found answers)
+    session_by_acts plan found (acts_after plan found) answers
 work_session plan (Err fault) answers = refused_for (copy_refusal fault)
 
 -- why the table that was loaded ends the session before any save, where it does
@@ -116,6 +140,17 @@ abbrev pub barred_after : Result SessionPlan EarlyEnd → LoadAnswer → Option 
 barred_after (Ok plan) (Ok found) = refusal_by_table (acts_after plan found)
 barred_after (Ok plan) (Err fault) = None
 barred_after (Err end) load = None
+
+-- how the script ends that a work is to run, if it is to run one
+abbrev pub end_by_acts : Acts → WorkAnswers → Option ScriptEnd
+end_by_acts (Plays script known) answers = Some (course_end (play_of script known answers))
+end_by_acts _ answers = None
+
+-- and of a plan after its load
+abbrev pub script_end : Result SessionPlan EarlyEnd → LoadAnswer → WorkAnswers → Option ScriptEnd
+script_end (Ok plan) (Ok found) answers = end_by_acts (acts_after plan found) answers
+script_end (Ok plan) (Err fault) answers = None
+script_end (Err end) load answers = None
 
 -- a drill is done with the line of its counts; without them it is as if memory was refused
 abbrev pub drill_session : Option DrillCounts → Session
@@ -129,7 +164,7 @@ early_session (Drilled numbers) drill = drill_session drill
 early_session (Refused refusal) drill = refused_for refusal
 
 abbrev pub session_by : Result SessionPlan EarlyEnd → Answers → Session
-session_by (Ok plan) answers = work_session plan answers.load answers.rounds
+session_by (Ok plan) answers = work_session plan answers.load answers.work
 session_by (Err end) answers = early_session end answers.drill
 
 -- the plan, and then the work
@@ -143,21 +178,21 @@ abbrev pub load_for : Result SessionPlan EarlyEnd → Geometry → Image → Loa
 load_for (Ok plan) geometry image = Ok (first_found (passed_in plan.keyed geometry.page image))
 load_for (Err end) geometry image = Ok None
 
--- what is answered to each round after it
-abbrev pub answers_after : SessionPlan → LoadAnswer → List RoundAnswer
+-- what is answered to the work after it
+abbrev pub answers_after : SessionPlan → LoadAnswer → WorkAnswers
 answers_after plan (Ok found) = sound_answers (acts_after plan found)
-answers_after plan (Err fault) = []
+answers_after plan (Err fault) = no_answers
 
-abbrev pub answers_for : Result SessionPlan EarlyEnd → LoadAnswer → List RoundAnswer
+abbrev pub answers_for : Result SessionPlan EarlyEnd → LoadAnswer → WorkAnswers
 answers_for (Ok plan) load = answers_after plan load
-answers_for (Err end) load = []
+answers_for (Err end) load = no_answers
 
 -- what is answered to a plan at a device with this content, where a drill counted this
 abbrev pub answers_to :
     FileAnswers → Result SessionPlan EarlyEnd → Geometry → Image → Option DrillCounts → Answers
 answers_to files plan geometry image drill =
     let load = load_for plan geometry image in
-    record { files = files; load = load; rounds = answers_for plan load; drill = drill }
+    record { files = files; load = load; work = answers_for plan load; drill = drill }
 
 -- what these files and a device with this content answer, where a drill counted this
 abbrev pub answers_of :

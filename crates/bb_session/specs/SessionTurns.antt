@@ -14,9 +14,8 @@ use Rattle.bb_state.specs.Keyed.{Keyed}
 use Rattle.bb_session.specs.Looking.{passed_in}
 use Rattle.bb_shell.specs.Counting.{turn_of_rounds}
 use Rattle.bb_shell.specs.Stages.{AreAnswered}
-use Rattle.bb_shell.specs.Rounds.{RoundAnswer}
 use Rattle.bb_plan.specs.Plan.{first_area, SessionPlan}
-use Rattle.bb_session.specs.Acting.{kept_before, needs_table}
+use Rattle.bb_session.specs.Acting.{WorkAnswers, kept_before, needs_table}
 use Rattle.bb_session.specs.Session.{LoadAnswer, loaded_area, work_session}
 use Rattle.bb_session.specs.Work.{IsLoaded}
 
@@ -37,7 +36,7 @@ BlankLaw =
 -- ---- the turn of a session
 
 -- of a work that loads: what its rounds did after the load that gave a table
-abbrev pub table_turn : SessionPlan → LoadAnswer → List RoundAnswer → List (Option ℕ) → Turn
+abbrev pub table_turn : SessionPlan → LoadAnswer → WorkAnswers → List (Option ℕ) → Turn
 table_turn plan (Ok found) answers marks =
     turn_of_rounds (picked marks)
     (kept_before plan.work (loaded_area plan.keyed.layout found))
@@ -45,7 +44,7 @@ table_turn plan (Ok found) answers marks =
 table_turn plan (Err fault) answers marks = Unloaded
 
 -- of a plan, at copies with these marks
-abbrev pub turn_of : SessionPlan → LoadAnswer → List RoundAnswer → List (Option ℕ) → Turn
+abbrev pub turn_of : SessionPlan → LoadAnswer → WorkAnswers → List (Option ℕ) → Turn
 turn_of plan load answers marks =
     if needs_table plan.work then table_turn plan load answers marks else Looked
 
@@ -125,7 +124,7 @@ IsFairRun keyed page first last =
     IsFair (IsLucky (passed_in keyed page)) last (moment first) (moment last)
 
 -- at exit, in a fair run, the copies stand for what the session's turn makes of the list
-abbrev pub LeadsOn : SessionPlan → Device → Device → LoadAnswer → List RoundAnswer → Type 0
+abbrev pub LeadsOn : SessionPlan → Device → Device → LoadAnswer → WorkAnswers → Type 0
 LeadsOn plan from to load answers =
     EachStanding plan.keyed from to
     (λ first last before.
@@ -134,7 +133,7 @@ LeadsOn plan from to load answers =
     (passed_in plan.keyed from.geometry.page last.image))
 
 -- each image on the way that counts stands for the stage that it reached, or for a later one
-abbrev pub HasTrails : SessionPlan → Device → Device → LoadAnswer → List RoundAnswer → Type 0
+abbrev pub HasTrails : SessionPlan → Device → Device → LoadAnswer → WorkAnswers → Type 0
 HasTrails plan from to load answers =
     EachStanding plan.keyed from to
     (λ first last before.

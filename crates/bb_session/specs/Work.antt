@@ -1,6 +1,6 @@
 -- The work of a session on the copies of a layout: what was answered, and what became of the
 -- device.
-use Rattle.std.specs.Prelude.{◌≡◌, ◌⊎◌, ℕ, ◌≤◌, List, [], length, map, ⊤, true, MatchBool, Option, Some, None, Result, Ok, Err, IfOk, IfErr, is_err}
+use Rattle.std.specs.Prelude.{◌≡◌, ◌≢◌, ◌⊎◌, ℕ, ◌≤◌, List, [], map, ⊤, true, MatchBool, Option, Some, None, Result, Ok, Err, IfOk, IfErr, is_err}
 use Rattle.std.specs.Option.{ForSome}
 use Rattle.bb_base.specs.Faults.{counted}
 use Rattle.bb_bucket.specs.Calls.{IsQuiet}
@@ -14,11 +14,17 @@ use Rattle.bb_chooser.specs.Binding.{Binding}
 use Rattle.bb_flash.specs.Device.{Device, LeavesStarts, content}
 use Rattle.bb_state.specs.Keyed.{Keyed}
 use Rattle.bb_shell.specs.Boot.{Round}
-use Rattle.bb_shell.specs.Rounds.{RoundAnswer, answer_of}
+use Rattle.bb_script.specs.Tree.{ScriptTree}
+use Rattle.bb_interpreter.specs.declared.run.ScriptEnd.{ScriptEnd}
+use Rattle.bb_interpreter.specs.declared.run.ScriptEnd.TheVariants as ends
+use Rattle.bb_script_commands.specs.Held.{Known}
+use Rattle.bb_script_commands.specs.Playing.{IsPlayed}
+use Rattle.bb_script_commands.specs.Scripts.{EndsBy}
+use Rattle.bb_shell.specs.Rounds.{answer_of}
 use Rattle.bb_shell.specs.Running.{AreRun}
 use Rattle.bb_state.specs.Kinds.{laid_form, laid_kinds}
 use Rattle.bb_state.specs.State.{IsDefault, IsRefused}
-use Rattle.bb_session.specs.Acting.{AreRoundsOf, acts_of, kept_before, most_rounds, needs_table, start_plans_of}
+use Rattle.bb_session.specs.Acting.{Acts, AreRoundsOf, Plays, WorkAnswers, acts_of, kept_before, needs_table, no_answers, start_plans_of}
 use Rattle.bb_session.specs.Looking.{first_found, passed_in}
 use Rattle.bb_shell.specs.declared.boot_end.BootEnd.{BootEnd}
 use Rattle.bb_session.specs.Booting.{end_refusal, end_text}
@@ -78,30 +84,45 @@ pub record IsLoaded (keyed : Keyed) (used : Option ℕ) (from to : Device) (answ
 
 -- ---- rounds after a load
 
--- A work ran rounds after a load of this table, and this is what was answered to each of them.
--- `used` is the copy that the load took, and `now` the one that passes the last table.
+-- The play of a script by what was answered to these rounds ran them, whatever would be answered
+-- later, and ended as they say. Memory was refused among its answers only where it ended so.
+pub record IsPlay (script : ScriptTree) (known : Known) (grants : Option ℕ) (rounds : List Round)
+    : Type 0 where
+  pub end : ScriptEnd
+  pub text : List ℕ
+  pub played : IsPlayed script known rounds grants end text
+  pub ending : EndsBy end rounds
+  pub granted : end ≢ ends.NoMemory → grants ≡ None
+
+-- of every other work no memory is asked for among its rounds
+abbrev pub IsPlayOf : Acts → WorkAnswers → List Round → Type 0
+IsPlayOf (Plays script known) answers rounds = IsPlay script known answers.grants rounds
+IsPlayOf acts answers rounds = answers.grants ≡ None
+
+-- A work ran rounds after a load of this table, and this is what was answered to it. `used` is the
+-- copy that the load took, and `now` the one that passes the last table.
 pub record IsRunAfter (keyed : Keyed) (work : Work) (table : List ℕ) (used : Option ℕ)
-    (from to : Device) (answers : List RoundAnswer) : Type 0 where
+    (from to : Device) (answers : WorkAnswers) : Type 0 where
   pub rounds : List Round
   pub now : Option ℕ
-  pub answers_are : answers ≡ map answer_of rounds
+  pub answers_are : answers.rounds ≡ map answer_of rounds
   pub are : AreRoundsOf (start_plans_of work) (acts_of keyed.layout work table) rounds
-  pub few : length rounds ≤ most_rounds (acts_of keyed.layout work table)
   pub run :
       AreRun keyed (start_plans_of work) (kept_before work table) used now rounds from to
+  pub played : IsPlayOf (acts_of keyed.layout work table) answers rounds
 
 -- it comes after a load that answered Ok
 abbrev pub IsRunAfterLoad :
-    SessionPlan → Option ℕ → Device → Device → LoadAnswer → List RoundAnswer → Type 0
+    SessionPlan → Option ℕ → Device → Device → LoadAnswer → WorkAnswers → Type 0
 IsRunAfterLoad plan used from to (Ok found) answers =
     IsRunAfter plan.keyed plan.work (loaded_area plan.keyed.layout found) used from to answers
-IsRunAfterLoad plan used from to (Err fault) answers = (answers ≡ []) × (to ≡ from)
+IsRunAfterLoad plan used from to (Err fault) answers = (answers ≡ no_answers) × (to ≡ from)
 
 -- ---- the work of a plan
 
 -- the copies were loaded, and then the rounds were run
 pub record IsTableWork (plan : SessionPlan) (from to : Device) (load : LoadAnswer)
-    (answers : List RoundAnswer) : Type 0 where
+    (answers : WorkAnswers) : Type 0 where
   -- between the load and the first round
   pub middle : Device
   pub used : Option ℕ
@@ -111,11 +132,11 @@ pub record IsTableWork (plan : SessionPlan) (from to : Device) (load : LoadAnswe
   pub ran : IsRunAfterLoad plan used middle to load answers
 
 pub record IsLookWork (plan : SessionPlan) (from to : Device) (load : LoadAnswer)
-    (answers : List RoundAnswer) : Type 0 where
+    (answers : WorkAnswers) : Type 0 where
   pub looked : IsLooked plan.keyed from to load
-  pub none : answers ≡ []
+  pub none : answers ≡ no_answers
 
-abbrev pub IsWork : SessionPlan → Device → Device → LoadAnswer → List RoundAnswer → Type 0
+abbrev pub IsWork : SessionPlan → Device → Device → LoadAnswer → WorkAnswers → Type 0
 IsWork plan from to load answers =
     MatchBool (needs_table plan.work) (IsTableWork plan from to load answers)
     (IsLookWork plan from to load answers)
@@ -130,7 +151,7 @@ Gives session (Err refusal) = (session.text ≡ []) × (session.refusal ≡ Some
 pub record IsWorkDone (plan : SessionPlan) (from to : Device) (given : Result Report Refusal)
     : Type 0 where
   pub load : LoadAnswer
-  pub answers : List RoundAnswer
+  pub answers : WorkAnswers
   pub work : IsWork plan from to load answers
   pub gives : Gives (work_session plan load answers) given
 
@@ -138,10 +159,6 @@ pub record IsWorkDone (plan : SessionPlan) (from to : Device) (given : Result Re
 abbrev pub SendsByMemory : Option Refusal → Type 0
 SendsByMemory None = ⊤
 SendsByMemory (Some refusal) = takes_memory refusal ≡ true
-
--- a report that is sent where its refusal, if it has one, takes memory
-abbrev pub IsSendable : Report → Type 0
-IsSendable report = SendsByMemory report.refusal
 
 -- what is given of the end of a boot, unless memory is refused for it
 abbrev pub GivesEnd : Binding → BootEnd → Result Report Refusal → Type 0
@@ -160,7 +177,7 @@ IsReportOf targets end given =
 pub record IsTextRefused (plan : SessionPlan) (from to : Device) (given : Result Report Refusal)
     : Type 0 where
   pub load : LoadAnswer
-  pub answers : List RoundAnswer
+  pub answers : WorkAnswers
   pub work : IsWork plan from to load answers
   pub whole : SendsByMemory (work_session plan load answers).refusal
   pub is : given ≡ Err refusals.NoMemory

@@ -11,8 +11,7 @@ use Rattle.bb_state.specs.Kinds.{laid_kinds}
 use Rattle.bb_session.specs.Looking.{first_found, passed_in}
 use Rattle.bb_shell.specs.Boot.{Round}
 use Rattle.bb_shell.specs.Running.{AreRun}
-use Rattle.bb_shell.specs.Rounds.{RoundAnswer}
-use Rattle.bb_session.specs.Acting.{kept_before, start_plans_of}
+use Rattle.bb_session.specs.Acting.{WorkAnswers, kept_before, start_plans_of}
 use Rattle.bb_session.specs.Exactly.{last_area_of, saves_made}
 use Rattle.bb_plan.specs.Plan.{SessionPlan}
 use Rattle.bb_session.specs.Session.{LoadAnswer, loaded_area, work_session}
@@ -20,7 +19,7 @@ use Rattle.bb_session.specs.Work.{IsLoaded}
 
 -- The area that the copies were to take: that of the last save that was begun, which is the one
 -- that was refused. In a load that was refused it is that of the first copy that passed at entry.
-abbrev pub IsWanted : SessionPlan → Device → LoadAnswer → List RoundAnswer → List ℕ → Type 0
+abbrev pub IsWanted : SessionPlan → Device → LoadAnswer → WorkAnswers → List ℕ → Type 0
 IsWanted plan from (Ok found) answers area =
     last_area_of None (saves_made plan found answers) ≡ Some area
 IsWanted plan from (Err fault) answers area =
@@ -29,7 +28,7 @@ IsWanted plan from (Err fault) answers area =
 
 -- the copy passes another area than the copies were to take, and two calls failed
 pub record IsLeftStale (plan : SessionPlan) (from to : Device) (load : LoadAnswer)
-    (answers : List RoundAnswer) (copy : ℕ) : Type 0 where
+    (answers : WorkAnswers) (copy : ℕ) : Type 0 where
   pub area : List ℕ
   pub wanted : IsWanted plan from load answers area
   pub passes :
@@ -41,7 +40,7 @@ pub record IsLeftStale (plan : SessionPlan) (from to : Device) (load : LoadAnswe
 -- The copy is the one that the load took, or one that a save after it left as the first that
 -- passes: that of all rounds of the session but the last, whose save was refused.
 pub record IsUsed (plan : SessionPlan) (from middle : Device) (load : LoadAnswer)
-    (answers : List RoundAnswer) (copy : ℕ) : Type 0 where
+    (answers : WorkAnswers) (copy : ℕ) : Type 0 where
   -- after the load
   pub first : Device
   pub used : Option ℕ
@@ -59,7 +58,7 @@ pub record IsUsed (plan : SessionPlan) (from middle : Device) (load : LoadAnswer
 -- The copy is the one that is used, and the save left it as it was, in every image. No other copy
 -- passes anything, and for each of them a call failed.
 pub record IsLeftAlone (plan : SessionPlan) (from to : Device) (load : LoadAnswer)
-    (answers : List RoundAnswer) (copy : ℕ) : Type 0 where
+    (answers : WorkAnswers) (copy : ℕ) : Type 0 where
   -- before the save
   pub middle : Device
   pub used : IsUsed plan from middle load answers copy
@@ -87,7 +86,7 @@ pub record AreAllLost (plan : SessionPlan) (from to : Device) (load : LoadAnswer
 -- one of these holds of a copy that is named; or it couldn't be read back, and three calls failed,
 -- of which one is a read
 abbrev pub IsWriteFault :
-    SessionPlan → Device → Device → LoadAnswer → List RoundAnswer → ℕ → Type 0
+    SessionPlan → Device → Device → LoadAnswer → WorkAnswers → ℕ → Type 0
 IsWriteFault plan from to load answers copy =
     IsLeftStale plan from to load answers copy
     ⊎ (IsUnread from to

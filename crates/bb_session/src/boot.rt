@@ -4,7 +4,7 @@ ghost use Rattle.bb_session.specs.Booting.{start_line, target_name, tries_line};
 ghost use Rattle.bb_session.specs.Doing.{IsAtHand, IsDone};
 ghost use Rattle.bb_plan.specs.Plan.{IsServed};
 ghost use Rattle.bb_plan.specs.declared.plan.Work.TheVariants.{Boot};
-ghost use Rattle.bb_session.specs.Work.{IsReportOf, IsSendable};
+ghost use Rattle.bb_session.specs.Work.{IsReportOf};
 
 use crate::report::Report;
 use bb_base::{AREA_LIMIT, Bytes, NoMemory, Text};
@@ -28,7 +28,6 @@ pub(crate) fn boot<B: Board>(
     requires hand { IsAtHand state.old (B.device board.old) }
     ensures did { IsDone (keyed_of state.old) (used_of state.old) state.old.table
         (Boot chooser.now cause plans.now) (B.device board.old) (B.device board.new) result }
-    ensures sends { IfOk result IsSendable }
 {
     prove!(chooser.count() <= AREA_LIMIT as usize);
     let end = boot_run(state, chooser, plans, cause, true, board);
@@ -38,7 +37,6 @@ pub(crate) fn boot<B: Board>(
 // What is sent of the end of a boot.
 fn report(alloc: Global, chooser: &Chooser, end: BootEnd) -> Result<Report, Refusal>
     ensures gives { IsReportOf chooser.now end result }
-    ensures sends { IfOk result IsSendable }
 {
     match end {
         BootEnd::Started {

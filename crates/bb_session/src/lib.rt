@@ -6,6 +6,7 @@ mod boot;
 mod mark_good;
 mod raw;
 mod report;
+mod script;
 mod store;
 mod work;
 

@@ -3,7 +3,7 @@ ghost use Rattle.bb_flash.specs.Cuts.{IsLater};
 ghost use Rattle.bb_state.specs.State.{IsOn, keyed_of};
 ghost use Rattle.bb_session.specs.Looking.{look_text};
 ghost use Rattle.bb_plan.specs.declared.plan.Work.TheVariants.{Show};
-ghost use Rattle.bb_session.specs.Work.{IsSendable, IsWorkedOut};
+ghost use Rattle.bb_session.specs.Work.{IsWorkedOut};
 
 use crate::report::Report;
 use bb_base::{Bytes, NoMemory};
@@ -21,7 +21,6 @@ pub(crate) fn look<F: Flash>(
     requires { IsOn state.old (F.device flash.old) }
     ensures gives { IsWorkedOut (keyed_of state.old) Show
         (F.device flash.old) (F.device flash.new) result }
-    ensures sends { IfOk result IsSendable }
     ensures later { IsLater (F.device flash.old) (F.device flash.new) }
 {
     let mut area = vec![in alloc; 0u8; state.layout().area_len as usize]?;

@@ -12,7 +12,6 @@ pub struct Report {
 impl Report {
     ghost use Rattle.std.specs.Prelude.{◌≡◌, ℕ, IfOk, List, None};
     ghost use Rattle.bb_session.specs.Doing.{IsTold};
-    ghost use Rattle.bb_session.specs.Work.{IsSendable};
 
     /// The work is done, and this is its text.
     pub fn done(text: Bytes) -> Report
@@ -26,8 +25,7 @@ impl Report {
 
     /// The same of a text for which memory may have been refused.
     pub(crate) fn of(text: Result<Bytes, NoMemory>) -> Result<Report, Refusal>
-        ensures told { (told : List ℕ) → IfOk text (λ bytes. bytes ≡ told) → IsTold told result }
-        ensures sends { IfOk result IsSendable }
+        ensures { (told : List ℕ) → IfOk text (λ bytes. bytes ≡ told) → IsTold told result }
     {
         Ok(Report::done(text?))
     }

@@ -5,7 +5,6 @@ ghost use Rattle.bb_session.specs.Acting.{acts_of, saves_always};
 ghost use Rattle.bb_session.specs.Doing.{IsAtHand, IsDone, IsPut, IsSavedOver, said_of, stores};
 ghost use Rattle.bb_plan.specs.Plan.{IsServed};
 ghost use Rattle.bb_plan.specs.declared.plan.Work.TheVariants.{Act, Write};
-ghost use Rattle.bb_session.specs.Work.{IsSendable};
 
 use crate::mark_good::{good_text, mark};
 use crate::report::Report;
@@ -15,6 +14,13 @@ use bb_flash::Flash;
 use bb_plan::{Refusal, Work};
 use bb_state::State;
 use std::alloc::Global;
+
+/// Whether a work saves once, a table that it makes of the loaded one.
+pub(crate) fn stores(work: &Work) -> bool
+    ensures { result ≡ stores work.now }
+{
+    matches!(work, Work::Write(_) | Work::Act(_) | Work::Good(_))
+}
 
 /// Makes the table of a work, saves it, and gives what the work says of it.
 pub(crate) fn store<F: Flash>(
@@ -28,7 +34,6 @@ pub(crate) fn store<F: Flash>(
     requires hand { IsAtHand state.old (F.device flash.old) }
     ensures did { IsDone (keyed_of state.old) (used_of state.old) state.old.table work.now
         (F.device flash.old) (F.device flash.new) result }
-    ensures sends { IfOk result IsSendable }
 {
     put(state, work)?;
     save(flash, state, saves_always(work))?;
@@ -53,7 +58,7 @@ fn put(state: &mut State, work: &Work) -> Result<(), Refusal>
             Ok(())
         }
         Work::Good(chooser) => mark(state, chooser),
-        Work::Show | Work::Boot(_, _, _) => unreachable!(),
+        Work::Show | Work::Boot(_, _, _) | Work::Run(_, _, _, _) => unreachable!(),
     }
 }
 
@@ -105,6 +110,7 @@ fn say(alloc: Global, state: &State, work: &Work) -> Result<Bytes, NoMemory>
     match work {
         Work::Act(actions) => actions_text(alloc, state.layout(), state.table.bytes(), actions),
         Work::Good(chooser) => good_text(alloc, chooser, &state.table),
-        Work::Show | Work::Write(_) | Work::Boot(_, _, _) => Ok(Bytes::none(alloc)),
+        Work::Show | Work::Write(_) => Ok(Bytes::none(alloc)),
+        Work::Boot(_, _, _) | Work::Run(_, _, _, _) => Ok(Bytes::none(alloc)),
     }
 }

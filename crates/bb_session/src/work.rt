@@ -1,4 +1,4 @@
-ghost use Rattle.std.specs.Prelude.{◌≡◌, IfErr, IfOk, true};
+ghost use Rattle.std.specs.Prelude.{◌≡◌, IfErr, true};
 ghost use Rattle.bb_flash.specs.Cuts.{IsLater};
 ghost use Rattle.bb_flash.specs.Device.{IsDevice};
 ghost use Rattle.bb_state.specs.State.{IsOn, keyed_of, used_of};
@@ -6,12 +6,13 @@ ghost use Rattle.bb_session.specs.Acting.{needs_table};
 ghost use Rattle.bb_session.specs.Doing.{IsAtHand, IsDone};
 ghost use Rattle.bb_plan.specs.Plan.{IsPlannedFor, IsServed, plan_as};
 ghost use Rattle.bb_plan.specs.Refusal.{IsSendableRefusal};
-ghost use Rattle.bb_session.specs.Work.{IsSendable, IsWorkedOut};
+ghost use Rattle.bb_session.specs.Work.{IsWorkedOut};
 
 use crate::boot::boot;
 use crate::raw::look;
 use crate::report::Report;
-use crate::store::store;
+use crate::script::run;
+use crate::store::{store, stores};
 use bb_flash::Board;
 use bb_plan::{PlannedWork, Refusal, Work};
 use bb_state::State;
@@ -25,30 +26,28 @@ pub fn do_work<B: Board>(alloc: Global, board: &mut B, plan: PlannedWork) -> Res
     ensures gives { IsWorkedOut (plan_as plan).keyed plan.work
         (B.device board.old) (B.device board.new) result }
     ensures tellable { IfErr result IsSendableRefusal }
-    ensures sends { IfOk result IsSendable }
     ensures later { IsLater (B.device board.old) (B.device board.new) }
 {
     let PlannedWork { keyed, work } = plan;
-    let mut state = State::mount(alloc, keyed.layout, keyed.key)?;
-    work_on(alloc, board, &mut state, &work)
+    let state = State::mount(alloc, keyed.layout, keyed.key)?;
+    work_on(alloc, board, state, work)
 }
 
 // The work over a state that is mounted.
 fn work_on<B: Board>(
     alloc: Global,
     board: &mut B,
-    state: &mut State,
-    work: &Work,
+    mut state: State,
+    work: Work,
 ) -> Result<Report, Refusal>
-    requires on { IsOn state.old (B.device board.old) }
-    requires served { IsServed (keyed_of state.old) work.now }
-    ensures gives { IsWorkedOut (keyed_of state.old) work.now
+    requires on { IsOn state (B.device board.old) }
+    requires served { IsServed (keyed_of state) work }
+    ensures gives { IsWorkedOut (keyed_of state) work
         (B.device board.old) (B.device board.new) result }
-    ensures sends { IfOk result IsSendable }
     ensures later { IsLater (B.device board.old) (B.device board.new) }
 {
-    if !needs_table(work) {
-        return look(alloc, board, state);
+    if !needs_table(&work) {
+        return look(alloc, board, &mut state);
     }
     state.load(board)?;
     work_at(alloc, board, state, work)
@@ -65,19 +64,25 @@ fn needs_table(work: &Work) -> bool
 fn work_at<B: Board>(
     alloc: Global,
     board: &mut B,
-    state: &mut State,
-    work: &Work,
+    mut state: State,
+    work: Work,
 ) -> Result<Report, Refusal>
-    requires needs { needs_table work.now ≡ true }
-    requires served { IsServed (keyed_of state.old) work.now }
-    requires hand { IsAtHand state.old (B.device board.old) }
-    ensures did { IsDone (keyed_of state.old) (used_of state.old) state.old.table work.now
+    requires needs { needs_table work ≡ true }
+    requires served { IsServed (keyed_of state) work }
+    requires hand { IsAtHand state (B.device board.old) }
+    ensures did { IsDone (keyed_of state) (used_of state) state.table work
         (B.device board.old) (B.device board.new) result }
-    ensures sends { IfOk result IsSendable }
 {
+    if stores(&work) {
+        return store(alloc, board, &mut state, &work);
+    }
     match work {
-        Work::Show => unreachable!(),
-        Work::Write(_) | Work::Act(_) | Work::Good(_) => store(alloc, board, state, work),
-        Work::Boot(chooser, cause, plans) => boot(alloc, board, state, chooser, plans, *cause),
+        Work::Boot(chooser, cause, plans) => {
+            boot(alloc, board, &mut state, &chooser, &plans, cause)
+        }
+        Work::Run(script, chooser, cause, plans) => {
+            run(alloc, board, state, &script, chooser, cause, plans)
+        }
+        Work::Show | Work::Write(_) | Work::Act(_) | Work::Good(_) => unreachable!(),
     }
 }

@@ -1,7 +1,8 @@
 -- What a session leaves of the copies and of the device, by the work of its plan.
-use Rattle.std.proofs.Common.{◌≡◌, ◌∙◌, List, Some, Result, Ok, Err, refl, sym, ap, subst}
+use Rattle.std.proofs.Common.{◌≡◌, ◌∙◌, Some, Result, Ok, Err, refl, sym, ap, subst}
 use Rattle.bb_copies.specs.Settling.{NothingFails}
 use Rattle.bb_flash.specs.Device.{Device, content}
+use Rattle.bb_session.specs.Acting.{WorkAnswers}
 use Rattle.bb_plan.specs.Plan.{EarlyEnd, SessionPlan}
 use Rattle.bb_plan.specs.declared.refusal.Refusal.TheVariants as refusals
 use Rattle.bb_session.proofs.Exact.{plan_done, plan_makes}
@@ -10,7 +11,6 @@ use Rattle.bb_session.proofs.Works.{has_trails, keeps_outside, leads_on}
 use Rattle.bb_session.specs.Exactly.{CallsExactly, EndsAlike, ErasesExactly, LeavesExactly}
 use Rattle.bb_session.specs.Session.{Answers, Session, session_by, work_session}
 use Rattle.bb_session.specs.Work.{IsWork}
-use Rattle.bb_shell.specs.Rounds.{RoundAnswer}
 use Rattle.bb_tool.specs.Calls.{MayAnswer, session_for, session_plan_for}
 use Rattle.bb_tool.specs.Copying.{EachCalm, KeepsATrail, KeepsAtExit, KeepsOutsideCopies, KnowsWriteFaults, LeavesUnread}
 use Rattle.bb_tool.specs.Ran.{Ran}
@@ -21,31 +21,31 @@ use Rattle.bb_tool.proofs.Endings.{From, PlanEnd, To}
 
 -- the session of the call is that of the plan
 pub followed_is : (ran : Ran) (answers : Answers) (plan : SessionPlan) → session_plan_for ran answers ≡ Ok plan →
-    work_session plan answers.load answers.rounds ≡ session_for ran answers
+    work_session plan answers.load answers.work ≡ session_for ran answers
 followed_is ran answers plan is = sym (ap (λ (p : Result SessionPlan EarlyEnd). session_by p answers) is)
 
 -- whose work was done
 pub work_of : (ran : Ran) (answers : Answers) (plan : SessionPlan) → MayAnswer ran answers → session_plan_for ran answers ≡ Ok plan →
-    IsWork plan ran.before.device ran.after.device answers.load answers.rounds
+    IsWork plan ran.before.device ran.after.device answers.load answers.work
 work_of ran answers plan answered is =
     subst (λ (p : Result SessionPlan EarlyEnd). IsFollowed p ran.before.device ran.after.device answers) is answered.followed
 
 pub at_exit : (ran : Ran) → KeepsAtExit ran
 at_exit ran answers plan answered is =
-    leads_on plan ran.before.device ran.after.device answers.load answers.rounds (work_of ran answers plan answered is)
+    leads_on plan ran.before.device ran.after.device answers.load answers.work (work_of ran answers plan answered is)
 
 pub on_a_trail : (ran : Ran) → KeepsATrail ran
 on_a_trail ran answers plan answered is =
-    has_trails plan ran.before.device ran.after.device answers.load answers.rounds (work_of ran answers plan answered is)
+    has_trails plan ran.before.device ran.after.device answers.load answers.work (work_of ran answers plan answered is)
 
 pub beside : (ran : Ran) → KeepsOutsideCopies ran
 beside ran answers plan answered is =
-    keeps_outside plan ran.before.device ran.after.device answers.load answers.rounds (work_of ran answers plan answered is)
+    keeps_outside plan ran.before.device ran.after.device answers.load answers.work (work_of ran answers plan answered is)
 
 -- ---- where no call of the device failed
 
 -- what is left of copies and blocks
-pub record LeavesAll (plan : PlanEnd) (answers : List RoundAnswer) (from to : Device) : Type 0 where
+pub record LeavesAll (plan : PlanEnd) (answers : WorkAnswers) (from to : Device) : Type 0 where
   pub left : LeavesExactly plan answers from to
   pub alike : EndsAlike plan answers from to
   pub erased : ErasesExactly plan answers from to
@@ -53,14 +53,14 @@ pub record LeavesAll (plan : PlanEnd) (answers : List RoundAnswer) (from to : De
 
 -- all of it, where the plan was refused
 leaves_all : (plan : PlanEnd) (from to : Device) (answers : Answers) →
-    IsFollowed plan from to answers → NothingFails from to → LeavesAll plan answers.rounds from to
+    IsFollowed plan from to answers → NothingFails from to → LeavesAll plan answers.work from to
 leaves_all (Err end) from to answers same calm =
     record { left = same; alike = same; erased = same; called = same }
 leaves_all (Ok plan) from to answers did calm = record {
-  left = λ x e z f. (plan_done plan from to answers.load answers.rounds did calm x z e f).left;
-  alike = λ x e z f. (plan_done plan from to answers.load answers.rounds did calm x z e f).alike;
-  erased = λ x e z f. (plan_makes plan from to answers.load answers.rounds did calm x z e f).erased;
-  called = λ x e z f. (plan_makes plan from to answers.load answers.rounds did calm x z e f).called;
+  left = λ x e z f. (plan_done plan from to answers.load answers.work did calm x z e f).left;
+  alike = λ x e z f. (plan_done plan from to answers.load answers.work did calm x z e f).alike;
+  erased = λ x e z f. (plan_makes plan from to answers.load answers.work did calm x z e f).erased;
+  called = λ x e z f. (plan_makes plan from to answers.load answers.work did calm x z e f).called;
 }
 
 pub calm_of : (ran : Ran) → EachCalm ran LeavesAll
@@ -73,8 +73,8 @@ unread_by : (plan : Result SessionPlan EarlyEnd) (from to : Device) (answers : A
     (session_by plan answers).refusal ≡ Some refusals.ReadFault → content to ≡ content from
 unread_by (Err end) from to answers done h = ap content done
 unread_by (Ok plan) from to answers done h =
-    let is = work_explains plan from to answers.load answers.rounds refusals.ReadFault refl done h in
-    read_fault plan from to answers.load answers.rounds is.fault is.is is.known.explains
+    let is = work_explains plan from to answers.load answers.work refusals.ReadFault refl done h in
+    read_fault plan from to answers.load answers.work is.fault is.is is.known.explains
 
 pub unread_of : (ran : Ran) → LeavesUnread ran
 unread_of ran answers answered h =
@@ -84,6 +84,6 @@ pub write_faults_of : (ran : Ran) → KnowsWriteFaults ran
 write_faults_of ran answers plan answered is copy h =
     let from = ran.before.device in
     let to = ran.after.device in
-    let why = work_explains plan from to answers.load answers.rounds (refusals.WriteFault copy) refl (work_of ran answers plan answered is)
+    let why = work_explains plan from to answers.load answers.work (refusals.WriteFault copy) refl (work_of ran answers plan answered is)
     (ap (λ (s : Session). s.refusal) (followed_is ran answers plan is) ∙ h) in
-    write_fault plan from to answers.load answers.rounds why.fault copy why.is why.known.explains
+    write_fault plan from to answers.load answers.work why.fault copy why.is why.known.explains

@@ -21,14 +21,14 @@ use Rattle.bb_plan.specs.declared.refusal.Refusal.TheVariants as refusals
 use Rattle.bb_plan.specs.declared.status.Status.{Status}
 use Rattle.bb_plan.specs.declared.status.Status.TheVariants as statuses
 use Rattle.bb_plan.proofs.Plans.{IsPlanOf, alone_plan, faulty_plan, plan_refusal, same_plan, words_refused}
-use Rattle.bb_session.specs.Session.{Answers, Session, drill_session, early_session, ended_status, session_by, work_session}
+use Rattle.bb_session.specs.Session.{Answers, drill_session, early_session, ended_status, session_by, work_session}
 use Rattle.bb_session.specs.Work.{SendsByMemory}
 use Rattle.bb_session.specs.declared.report.Report.{Report}
 use Rattle.bb_session.proofs.Barred.{is_device_fault}
 use Rattle.bb_session.proofs.Ended.{is_work, not_work, worked_work}
 use Rattle.bb_session.proofs.Faulting.{FaultTells}
 use Rattle.bb_session.proofs.Faults.{work_explains}
-use Rattle.bb_tool.specs.Calls.{AsksNothing, ComesByDevice, ComesByFiles, ComesByPlan, ComesByPlanAlone, ComesByReads, ComesBySink, ComesByWords, ComesFirst, CountsSinkFaults, CutsTheText, IsAnswered, IsSession, MayAnswer, NamesACopy, NamesNoFile, NamesTheCopy, SendsText, WantsMemory, geometry_of, plan_over, session_for, session_plan_for}
+use Rattle.bb_tool.specs.Calls.{AsksNothing, ComesByDevice, ComesByFiles, ComesByPlan, ComesByPlanAlone, ComesByReads, ComesBySink, ComesByWords, ComesFirst, CountsSinkFaults, CutsTheText, IsAnswered, IsSession, MayAnswer, NamesACopy, NamesNoFile, NamesTheCopy, SendsText, geometry_of, plan_over, session_for, session_plan_for}
 use Rattle.bb_tool.specs.Drilling.{IsCounted, IsDrilled}
 use Rattle.bb_tool.specs.Lines.{line_of}
 use Rattle.bb_tool.specs.Ran.{Ran}
@@ -62,7 +62,7 @@ early_refused (Drilled numbers) drill answer other drilled e =
 plan_only : (plan : PlanEnd) (answers : Answers) (answer : Status) → is_work answer ≡ false →
     IsDrilled plan answers.drill → status_by plan answers ≡ answer → IsRefusedWith answer plan
 plan_only (Ok plan) answers answer other drilled e =
-    let work = worked_work plan answers.load answers.rounds in
+    let work = worked_work plan answers.load answers.work in
     absurd (not_work (status_by (Ok plan) answers) answer work other e)
 plan_only (Err end) answers answer other drilled e =
     let undone : answer ≢ statuses.Done = λ h. not_work statuses.Done answer refl other (sym h) in
@@ -76,12 +76,6 @@ plan_ends _ answers answer refused = absurd refused
 pub refused_err : (answer : Status) (plan : PlanEnd) → IsRefusedWith answer plan → IsErr plan
 refused_err answer (Ok plan) refused = absurd refused
 refused_err answer (Err end) refused = refl
-
-memory_plan : (plan : PlanEnd) → IsRefusedWith statuses.NoMemory plan →
-    plan ≡ Err (Refused refusals.NoMemory)
-memory_plan (Err (Refused refusal)) h =
-    ap (λ (r : Refusal). Err (Refused r)) ((tells refusal).memory h)
-memory_plan _ h = absurd h
 
 planning_other : (status : Status) → is_planning status ≡ true → is_work status ≡ false
 planning_other statuses.Done planning = cc
@@ -152,7 +146,8 @@ module _ (ran : Ran) where
   by_answers P (inl by) unasked answered = answered by.answers by.answered
   by_answers P (inr memory) unasked answered = elim memory.work [
     | inl same ↦ unasked same
-    | inr text ↦ answered text.answers text.answered
+    | inr (inl text) ↦ answered text.answers text.answered
+    | inr (inr cut) ↦ answered cut.answers cut.answered
   ]
 
 module _ (ran : Ran) (s : IsSession ran) where
@@ -280,9 +275,9 @@ module _ (ran : Ran) (answer : Status) (late : is_planning answer ≡ false)
   faulted_by answers (Err end) none drilled done h =
       absurd (none (early_refused end answers.drill answer other drilled h))
   faulted_by answers (Ok plan) none drilled done h =
-      let some = some_refusal (work_session plan answers.load answers.rounds).refusal answer other h in
+      let some = some_refusal (work_session plan answers.load answers.work).refusal answer other h in
       let is = ap is_device_fault some.1.1 ∙ device in
-      let why = work_explains plan (From ran) (To ran) answers.load answers.rounds some.0 is done
+      let why = work_explains plan (From ran) (To ran) answers.load answers.work some.0 is done
       some.1.0 in
       record {
         work = plan;
@@ -347,22 +342,6 @@ write_fault_of ran s later = record { later = later; rose = λ e. (write_fault_n
 pub copy_of_fault : (ran : Ran) → IsSession ran → NamesTheCopy ran
 copy_of_fault ran s e = (write_fault_named ran s e).0
 
--- ---- refused memory
-
-pub no_memory_of : (ran : Ran) → IsSession ran → WantsMemory ran
-no_memory_of ran (inr memory) e = memory
-no_memory_of ran (inl by) e = elim (told_cases ran _ _ by.told) [
-  | inr off ↦ absurd (let h : statuses.SinkFault ≡ statuses.NoMemory = sym off.0 ∙ e in cc)
-  | inl same ↦
-      let own : IsOwn ran statuses.NoMemory = record { by = by; own = sym same ∙ e } in
-      let is = memory_plan (plan_of ran by.answers) (own_refused ran statuses.NoMemory refl own) in
-      let text : Session → Type 0 = λ s. SendsText ran (sent_of s) (ended_status s) in
-      record {
-        told = subst (λ (p : PlanEnd). text (session_by p by.answers)) is by.told;
-        work = inl (unasked_by ran by.answers by.answered (subst IsErr (sym is) refl));
-      }
-]
-
 -- ---- an output that failed
 
 cut_off : (ran : Ran) → IsSession ran → ran.status ≡ statuses.SinkFault → (by : IsAnswered ran)
@@ -416,7 +395,7 @@ reported ran answers text refusal answered text_is refusal_is told =
       | inl whole ↦ inl (record { answers = answers; answered = answered; told = whole })
       | inr memory ↦ inr (record {
         told = memory.1;
-        work = inr (record { answers = answers; answered = answered; whole = memory.0 });
+        work = inr (inl (record { answers = answers; answered = answered; whole = memory.0 }));
       })
     ]
 
@@ -441,7 +420,7 @@ answered_so ran (Err refusal) (inl by) told =
     reported ran by.answers [] (Some refusal) by.answered by.gives.0 by.gives.1 told
 answered_so ran given (inr (inl by)) told = inr (record {
   told = memory_told ran given by.is told;
-  work = inr (record { answers = by.answers; answered = by.answered; whole = by.whole });
+  work = inr (inl (record { answers = by.answers; answered = by.answered; whole = by.whole }));
 })
 answered_so ran given (inr (inr by)) told =
     inr (record { told = memory_told ran given by.is told; work = inl by.unasked })

@@ -31,6 +31,7 @@ use Rattle.bb_plan.specs.Plan.{SessionPlan}
 use Rattle.bb_plan.specs.declared.plan.Work.TheVariants.{Boot}
 use Rattle.bb_plan.specs.PlanSteps.{plans_reading}
 use Rattle.bb_tool.specs.Lines.{line_of}
+use Rattle.bb_session.specs.Acting.{WorkAnswers, no_answers}
 use Rattle.bb_session.specs.Session.{Answers, LoadAnswer, Session, done_with, refused_for, session_of, work_session}
 use Rattle.bb_tool.specs.Sending.{sent_of}
 use Rattle.bb_session.specs.SessionTurns.{turn_of}
@@ -47,6 +48,9 @@ made starts = record { save = None; starts = starts }
 abbrev unmade : RoundAnswer
 unmade = record { save = Some (faults.WriteFault 1); starts = false }
 
+abbrev answered : List RoundAnswer → WorkAnswers
+answered rounds = record { rounds = rounds; grants = None }
+
 -- ---- sessions, for what was answered
 
 look : List (List ℕ)
@@ -57,7 +61,7 @@ save = codes "raw" ∷ codes "0x12345678" ∷ codes "9" ∷ codes "-s" ∷ codes
 
 -- by the device, where no file is read
 abbrev given : LoadAnswer → List RoundAnswer → Answers
-given load rounds = record { files = []; load = load; rounds = rounds; drill = None }
+given load rounds = record { files = []; load = load; work = answered rounds; drill = None }
 
 abbrev saved : Option Refusal → Option CopyFault → Session
 saved refusal fault =
@@ -86,12 +90,12 @@ raw_sessions = (refl, refl, refl, refl, refl, refl, refl)
 abbrev without_tree : List ℕ → Session
 without_tree command =
     session_of (command ∷ codes "-i" ∷ codes "b.dts" ∷ codes "-c" ∷ codes "set.txt" ∷ []) in_place
-    (record { files = Ok None ∷ []; load = Ok None; rounds = []; drill = None })
+    (record { files = Ok None ∷ []; load = Ok None; work = no_answers; drill = None })
 
 abbrev drilling : Option DrillCounts → Session
 drilling counts =
     session_of (codes "drill" ∷ codes "3" ∷ codes "1" ∷ []) in_place
-    (record { files = []; load = Ok None; rounds = []; drill = counts })
+    (record { files = []; load = Ok None; work = no_answers; drill = counts })
 
 abbrev one_session : DrillCounts
 one_session =
@@ -193,10 +197,10 @@ module _ (keyed : Keyed) where
 
   -- where one start is tried, and where another is after one that failed
   abbrev once : List ℕ → List RoundAnswer → Session
-  once area answers = work_session (boots false false Other both) (Ok (Some area)) answers
+  once area answers = work_session (boots false false Other both) (Ok (Some area)) (answered answers)
 
   abbrev again : List (Option StartPlan) → List ℕ → List RoundAnswer → Session
-  again plans area answers = work_session (boots true false Other plans) (Ok (Some area)) answers
+  again plans area answers = work_session (boots true false Other plans) (Ok (Some area)) (answered answers)
 
   -- The first start spends an attempt of the best target, and saves that. Where it fails the target
   -- is named after the text. Where no entry has a kernel each attempt is tried. Where no attempt is
@@ -218,12 +222,12 @@ module _ (keyed : Keyed) where
   -- one that wasn't saved. And a reset gives back what the last start spent, so that the spent
   -- table is stored already.
   turns : let load : LoadAnswer = Ok (Some (two 3 3 0)) in
-      (turn_of (boots false false Other both) load (made true ∷ []) (Some 0 ∷ [])
+      (turn_of (boots false false Other both) load (answered (made true ∷ [])) (Some 0 ∷ [])
       ≡ Loaded 0 (two 2 3 1 ∷ []) 1 (Some 0))
-      × (turn_of (boots true false Other both) load (unmade ∷ []) (Some 0 ∷ [])
+      × (turn_of (boots true false Other both) load (answered (unmade ∷ [])) (Some 0 ∷ [])
       ≡ Loaded 0 (two 2 3 1 ∷ []) 0 None)
       × (saves_of (Some (two 2 3 1))
-      (work_session (boots false true PowerOn both) (Ok (Some (two 2 3 1))) (made true ∷ [])).rounds
+      (work_session (boots false true PowerOn both) (Ok (Some (two 2 3 1))) (answered (made true ∷ []))).rounds
       ≡ [])
   unfolding rounds_by digits
   turns = (refl, refl, refl)

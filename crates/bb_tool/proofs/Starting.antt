@@ -10,21 +10,21 @@ use Rattle.bb_state.specs.Keyed.{Keyed}
 use Rattle.bb_shell.specs.Boot.{Round, first_table, last_round, plan_at, table_after}
 use Rattle.bb_shell.specs.Counting.{turn_of_rounds}
 use Rattle.bb_shell.specs.Ends.{AddsStart, RaisedBy, StartsOnce, failed_starts}
-use Rattle.bb_shell.specs.Rounds.{RoundAnswer, answer_of}
+use Rattle.bb_shell.specs.Rounds.{answer_of}
 use Rattle.bb_shell.specs.Sequence.{AddsBy, AddsLast, started_last}
 use Rattle.bb_shell.specs.declared.outcome.Outcome.{Outcome}
 use Rattle.bb_shell.specs.declared.outcome.Outcome.TheVariants as outcomes
 use Rattle.bb_plan.specs.Plan.{SessionPlan, first_area}
 use Rattle.bb_plan.specs.declared.plan.Work.{Work}
-use Rattle.bb_plan.specs.declared.plan.Work.TheVariants.{Boot}
+use Rattle.bb_plan.specs.declared.plan.Work.TheVariants.{Boot, Run}
 use Rattle.bb_plan.specs.declared.refusal.Refusal.TheVariants as refusals
 use Rattle.bb_plan.specs.declared.status.Status.TheVariants as statuses
 use Rattle.bb_plan.proofs.Sizes.{IsSizedWork, planned_sized}
-use Rattle.bb_session.specs.Acting.{AreRoundsOf, start_plans_of}
+use Rattle.bb_session.specs.Acting.{AreRoundsOf, WorkAnswers, start_plans_of}
 use Rattle.bb_session.specs.Looking.{passed_in}
 use Rattle.bb_session.specs.Session.{Answers, LoadAnswer, Session, acts_after, loaded_area, work_session}
 use Rattle.bb_session.specs.SessionTurns.{EachStanding, turn_of}
-use Rattle.bb_session.specs.Work.{IsLoadedAs, IsWork}
+use Rattle.bb_session.specs.Work.{IsLoadedAs, IsTableWork, IsWork}
 use Rattle.bb_session.proofs.Acted.{boot_back, session_rounds}
 use Rattle.bb_session.proofs.Kept.{found_or, load_found, passed_sized}
 use Rattle.bb_session.proofs.Started.{FailsBy, work_cause, work_rounds, work_started, work_stored}
@@ -47,24 +47,24 @@ module _ (ran : Ran) where
 
   -- of a load that answered Ok
   loaded_work : (answers : Answers) (plan : SessionPlan) → MayAnswer ran answers → session_plan_for ran answers ≡ Ok plan →
-      (found : Option (List ℕ)) → answers.load ≡ Ok found → IsWork plan From To (Ok found) answers.rounds
+      (found : Option (List ℕ)) → answers.load ≡ Ok found → IsWork plan From To (Ok found) answers.work
   loaded_work answers plan answered is found load =
-      subst (λ l. IsWork plan From To l answers.rounds) load (work_of ran answers plan answered is)
+      subst (λ l. IsWork plan From To l answers.work) load (work_of ran answers plan answered is)
 
   loaded_session : (answers : Answers) (plan : SessionPlan) → session_plan_for ran answers ≡ Ok plan →
-      (found : Option (List ℕ)) → answers.load ≡ Ok found → work_session plan (Ok found) answers.rounds ≡ session_for ran answers
+      (found : Option (List ℕ)) → answers.load ≡ Ok found → work_session plan (Ok found) answers.work ≡ session_for ran answers
   loaded_session answers plan is found load =
-      ap (λ (l : LoadAnswer). work_session plan l answers.rounds) (sym load) ∙ followed_is ran answers plan is
+      ap (λ (l : LoadAnswer). work_session plan l answers.work) (sym load) ∙ followed_is ran answers plan is
 
   pub rounds_of : RunsRounds ran
   rounds_of answers plan answered is found load =
       subst (λ (s : Session). AreRoundsOf (start_plans_of plan.work) (acts_after plan found) s.rounds) (loaded_session answers plan is found load)
-      (work_rounds plan From To found answers.rounds (loaded_work answers plan answered is found load))
+      (work_rounds plan From To found answers.work (loaded_work answers plan answered is found load))
 
   pub starts_of : StartsTheLast ran
   starts_of answers plan answered is =
       subst (λ (s : Session). AddsLast (start_plans_of plan.work) s.rounds From To) (followed_is ran answers plan is)
-      (work_started plan From To answers.load answers.rounds (work_of ran answers plan answered is)).adds
+      (work_started plan From To answers.load answers.work (work_of ran answers plan answered is)).adds
 
   pub starts_saved_of : StartsAfterSave ran
   starts_saved_of answers plan answered is found load some =
@@ -73,19 +73,19 @@ module _ (ran : Ran) where
       (λ (s : Session). ForSome (content To)
       (λ image. EachPassesOrNothing (table_after (loaded_area plan.keyed.layout found) s.rounds) (passed_in plan.keyed From.geometry.page image)))
       session
-      (work_stored plan From To found answers.rounds (loaded_work answers plan answered is found load)
+      (work_stored plan From To found answers.work (loaded_work answers plan answered is found load)
       (ap (λ (s : Session). started_last s.rounds) session ∙ some))
 
   pub start_faults_of : CountsFailedStarts ran
   start_faults_of answers plan answered is =
       subst (λ (s : Session). RaisedBy (failed_starts s.rounds) From.start_faults To.start_faults) (followed_is ran answers plan is)
-      (work_started plan From To answers.load answers.rounds (work_of ran answers plan answered is)).rose
+      (work_started plan From To answers.load answers.work (work_of ran answers plan answered is)).rose
 
   pub start_causes_of : KnowsStartFaults ran
   start_causes_of answers plan answered is name refusal =
       let session = followed_is ran answers plan is in
       subst (λ (s : Session). FailsBy (start_plans_of plan.work) (last_round s.rounds) From To) session
-      (work_cause plan From To answers.load answers.rounds (work_of ran answers plan answered is)
+      (work_cause plan From To answers.load answers.work (work_of ran answers plan answered is)
       (refusals.StartFailed name) (ap (λ (s : Session). s.refusal) session ∙ refusal) refl)
 
   -- ---- whatever it answered
@@ -136,12 +136,14 @@ start_failed_of ran s e =
 
 -- no other work is a boot, and no turn without a load
 work_in_turn : (keyed : Keyed) (work : Work) (from to : Device) (load : LoadAnswer) →
-    (answers : List RoundAnswer) → IsSizedWork work keyed.layout →
+    (answers : WorkAnswers) → IsSizedWork work keyed.layout →
     let plan : SessionPlan = record { keyed = keyed; work = work } in
     IsWork plan from to load answers → EachStanding keyed from to
     (λ first last before. IsTurnOf work before (turn_of plan load answers before.marks))
-work_in_turn keyed (Boot targets cause plans) from to (Ok found) answers sized work =
+work_in_turn keyed (Boot targets cause plans) from to (Ok found) answers sized done =
     λ first e last f before here stands.
+    let plan : SessionPlan = record { keyed = keyed; work = Boot targets cause plans } in
+    let work : IsTableWork plan from to (Ok found) answers = done in
     let none = first_area keyed.layout in
     let page = from.geometry.page in
     let passed = passed_in keyed page first.image in
@@ -153,7 +155,6 @@ work_in_turn keyed (Boot targets cause plans) from to (Ok found) answers sized w
     sym (found_or none passed) ∙ ap (λ o. unwrap_or o none) (sym (gave.taken ∙ held)) in
     let standing = standing_at keyed page before first.image here stands in
     let run = work.ran in
-    let plan : SessionPlan = record { keyed = keyed; work = Boot targets cause plans } in
     record {
       table = table;
       table_is =
@@ -168,10 +169,11 @@ work_in_turn keyed (Boot targets cause plans) from to (Ok found) answers sized w
           (session_rounds work
           ∙ sym (boot_back targets plans (first_table targets cause true table) run.rounds run.are));
     }
-work_in_turn keyed _ from to _ answers sized work = λ first e last f before here stands. tt
+work_in_turn keyed _ from to _ answers sized done = λ first e last f before here stands. tt
 
 bound_work : (work : Work) (keyed : Keyed) → IsSizedWork work keyed.layout → IsBoundWork work
 bound_work (Boot targets cause plans) keyed sized = sized.binding
+bound_work (Run script targets cause plans) keyed sized = sized.binding
 bound_work _ keyed sized = tt
 
 pub boots_of : (ran : Ran) → BootsInTurn ran
@@ -180,6 +182,6 @@ boots_of ran answers plan answered is =
     record {
       binding = bound_work plan.work plan.keyed sized;
       turns =
-          work_in_turn plan.keyed plan.work ran.before.device ran.after.device answers.load answers.rounds sized
+          work_in_turn plan.keyed plan.work ran.before.device ran.after.device answers.load answers.work sized
           (work_of ran answers plan answered is);
     }

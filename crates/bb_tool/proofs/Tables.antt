@@ -1,6 +1,6 @@
 -- The answers that a table brings: no target has the place that is to be marked good, or none
 -- qualifies.
-use Rattle.std.proofs.Common.{◌≡◌, ◌≢◌, ◌⊎◌, ℕ, Bool, true, false, List, length, Option, Some, None, IsSome, Ok, Err, refl, sym, ap, subst, ◌∙◌, inl, inr}
+use Rattle.std.proofs.Common.{◌≡◌, ◌≢◌, ◌⊎◌, ℕ, ◌==◌, Bool, true, false, List, length, Option, Some, None, IsSome, Ok, Err, refl, sym, ap, subst, ◌∙◌, if◌then◌else◌, inl, inr}
 use Rattle.std.specs.Option.{option_map_or}
 use Rattle.std.specs.Prelude.{option_map}
 use Rattle.std.proofs.lemmas.Option.{none-some, same_Some}
@@ -11,22 +11,26 @@ use Rattle.bb_flash.specs.Device.{Device, content}
 use Rattle.bb_flash.specs.Image.{Image}
 use Rattle.bb_flash.specs.declared.plan.Plan.{Plan as StartPlan}
 use Rattle.bb_shell.specs.Boot.{Round, end_by, boot_end, last_round}
-use Rattle.bb_shell.specs.Rounds.{RoundAnswer}
 use Rattle.bb_shell.specs.Sequence.{refused_in}
 use Rattle.bb_shell.specs.declared.boot_end.BootEnd.TheVariants as ends
 use Rattle.bb_shell.specs.declared.outcome.Outcome.{Outcome}
 use Rattle.bb_shell.specs.declared.outcome.Outcome.TheVariants as outcomes
+use Rattle.bb_interpreter.specs.declared.run.ScriptEnd.{ScriptEnd}
+use Rattle.bb_interpreter.specs.declared.run.ScriptEnd.TheVariants as script_ends
+use Rattle.bb_script_commands.specs.Playing.{course_at, course_end}
 use Rattle.bb_words.specs.Words.{words_of}
 use Rattle.bb_plan.specs.Plan.{IsRefusedWith, SessionPlan}
 use Rattle.bb_plan.specs.Refusal.{copy_refusal, status_of}
 use Rattle.bb_plan.specs.Status.{is_planning}
 use Rattle.bb_plan.specs.declared.refusal.Refusal.{Refusal}
+use Rattle.bb_plan.specs.declared.refusal.Refusal.TheVariants as refusals
 use Rattle.bb_plan.specs.declared.status.Status.{Status}
 use Rattle.bb_plan.specs.declared.status.Status.TheVariants as statuses
 use Rattle.bb_plan.proofs.Plans.{plan_refusal}
-use Rattle.bb_session.specs.Acting.{Acts, AreRoundsOf, BootsFrom, Stops, refusal_by_table, start_plans_of}
+use Rattle.bb_session.specs.Acting.{Acts, AreRoundsOf, BootsFrom, Plays, Stops, WorkAnswers, play_of, refusal_by_table, rounds_for, start_plans_of}
 use Rattle.bb_session.specs.Booting.{end_refusal}
-use Rattle.bb_session.specs.Session.{Answers, LoadAnswer, acts_after, barred_after, ended_by, ended_status, load_for, rounds_after, text_after, work_session, worked_on}
+use Rattle.bb_session.specs.Scripting.{refusal_by_end}
+use Rattle.bb_session.specs.Session.{Answers, LoadAnswer, acts_after, barred_after, ended_by, ended_status, load_for, session_by_acts, text_after, work_session, worked_on}
 use Rattle.bb_session.specs.Work.{IsWork}
 use Rattle.bb_session.proofs.Acted.{session_after}
 use Rattle.bb_session.proofs.Started.{work_rounds}
@@ -92,12 +96,34 @@ acts_end plan found plans (BootsFrom targets table) rounds are =
 acts_end plan found plans _ rounds are =
     inr (ended_else (refused_in rounds) (text_after plan found rounds) None rounds refl, inl refl)
 
+-- nor does the end of a script
+play_else : (end : ScriptEnd) (fault : Option CopyFault) → IsElse (refusal_by_end end fault)
+play_else (script_ends.Done status) fault = by (status == 0)
+  where
+    by : (zero : Bool) → IsElse (if zero then None else Some (refusals.ScriptFailed status))
+    by true = refl
+    by false = refl
+play_else script_ends.Fault (Some fault) = (fault_else fault).0
+play_else script_ends.Fault None = refl
+play_else _ fault = refl
+
+acted_end : (plan : SessionPlan) (found : Option (List ℕ)) (acts : Acts) (answers : WorkAnswers) →
+    let plans = start_plans_of plan.work in
+    AreRoundsOf plans acts (rounds_for plans acts answers) →
+    EndsBy (refusal_by_table acts) (ended_status (session_by_acts plan found acts answers))
+acted_end plan found (Plays script known) answers are =
+    let play = play_of script known answers in
+    inr (play_else (course_end play) (refused_in (course_at play).outside.rounds), inl refl)
+acted_end plan found acts answers are =
+    let plans = start_plans_of plan.work in
+    acts_end plan found plans acts (rounds_for plans acts answers) are
+
 -- what bars a session over this content
 abbrev bars_in : PlanEnd → Device → Image → Option Refusal
 bars_in plan device image = barred_after plan (load_for plan device.geometry image)
 
 work_ends : (plan : SessionPlan) (from to : Device) (load : LoadAnswer) →
-    (answers : List RoundAnswer) → IsWork plan from to load answers → (image : Image) →
+    (answers : WorkAnswers) → IsWork plan from to load answers → (image : Image) →
     content from ≡ Some image → let status = ended_status (work_session plan load answers) in
     EndsBy (bars_in (Ok plan) from image) status
 work_ends plan from to (Err fault) answers done image held =
@@ -109,7 +135,7 @@ work_ends plan from to (Ok found) answers done image held =
     let status = ended_status (work_session plan (Ok found) answers) in
     subst (λ (f : Option (List ℕ)). EndsBy (refusal_by_table (acts_after plan f)) status)
     (work_gives plan from to found answers done image held)
-    (acts_end plan found plans (acts_after plan found) (rounds_after plan found answers) are)
+    (acted_end plan found (acts_after plan found) answers are)
 
 -- ---- so an answer of the two comes where the table brings it, and only there
 
@@ -132,7 +158,7 @@ module _ (answer : Status) (bar : is_bar answer ≡ true) where
       IsFollowed plan from to answers → (image : Image) → content from ≡ Some image →
       ComesBy (bars_in plan from image) (status_by plan answers)
   by_plan (Ok plan) from to answers none drilled done image held =
-      comes_by _ _ (work_ends plan from to answers.load answers.rounds done image held)
+      comes_by _ _ (work_ends plan from to answers.load answers.work done image held)
   by_plan (Err end) from to answers none drilled done image held =
       let h : answer ≢ statuses.Done = λ k. not_bar statuses.Done answer bar refl (sym k) in
       ((λ e. absurd (none (early_refused end answers.drill answer h drilled e))), (λ k. absurd cc))

@@ -1,13 +1,13 @@
 -- Sessions where nothing failed: what was answered is what the files and the device hold. And those
 -- that end early.
-use Rattle.std.proofs.Common.{◌≡◌, ◌⊎◌, false, Option, None, Some, Result, Ok, Err, IsErr, refl, sym, ap, subst, ◌∙◌, inl, inr, true, List}
+use Rattle.std.proofs.Common.{◌≡◌, ◌⊎◌, false, Option, None, Some, Result, Ok, Err, IsErr, refl, sym, ap, subst, ◌∙◌, inl, inr, true}
 use Rattle.std.specs.Option.{option_map_or}
 use Rattle.bb_base.proofs.Counts.{one_more_rose}
 use Rattle.bb_base.specs.Faults.{Rose}
 use Rattle.bb_base.specs.Folder.{FileMap, Folder}
 use Rattle.bb_flash.specs.Device.{Device, content}
 use Rattle.bb_flash.specs.Image.{Image}
-use Rattle.bb_shell.specs.Rounds.{RoundAnswer}
+use Rattle.bb_session.specs.Acting.{WorkAnswers}
 use Rattle.bb_plan.specs.Plan.{Drilled, EarlyEnd, FileAnswers, IsRefusedWith, Printed, Refused, SessionPlan, Task, files_for, plan_reading, planned}
 use Rattle.bb_plan.specs.Refusal.{status_of}
 use Rattle.bb_plan.specs.declared.refusal.Refusal.{Refusal}
@@ -17,62 +17,76 @@ use Rattle.bb_plan.proofs.Readings.{EndsAtFault, one_fault}
 use Rattle.bb_plan.proofs.Plans.{faulty_plan, plan_held}
 use Rattle.bb_session.specs.Session.{Answers, LoadAnswer, Session, answers_after, answers_of, answers_to, ended_status, session_by, work_session}
 use Rattle.bb_session.specs.Work.{IsWork, SendsByMemory}
-use Rattle.bb_session.proofs.Barred.{HasNoFault, fault_device, is_device_fault}
+use Rattle.bb_session.proofs.Barred.{HasMemory, HasNoFault, fault_device, is_device_fault, is_memory}
 use Rattle.bb_session.proofs.Unrefused.{IsCalm, unrefused, work_gives, work_made, work_same}
 use Rattle.bb_session.specs.Looking.{first_found, passed_in}
-use Rattle.bb_tool.specs.Calls.{CountsFileFaults, EndsDoneAlone, FailsNoStart, IsAnswered, IsSession, IsUndisturbed, IsUndisturbedAlone, IsWholeFor, IsWithoutText, KeepsFiles, LeavesUnplanned, LeavesUnplannedAlone, MayAnswer, geometry_of, plan_over, session_for, session_plan_for}
+use Rattle.bb_tool.specs.Calls.{CountsFileFaults, EndsDoneAlone, FailsNoStart, IsAnswered, IsSession, IsUndisturbed, IsUndisturbedAlone, IsWholeFor, KeepsFiles, LeavesUnplanned, LeavesUnplannedAlone, MayAnswer, geometry_of, plan_over, session_for, session_plan_for}
 use Rattle.bb_tool.specs.Copying.{LeavesDevice, MakesItsSaves, StopsAtFileFault, StopsBetweenSaves}
 use Rattle.bb_tool.specs.Drilling.{IsDrilled}
 use Rattle.bb_tool.specs.Ran.{Ran}
 use Rattle.bb_tool.specs.SessionAnswer.{IsFollowed}
-use Rattle.bb_tool.proofs.Endings.{From, PlanEnd, To, alone_is, by_answers, comes_always, drill_done, no_memory_of, own_or_first, plan_of, plan_told, refused_err, status_by, unasked_by}
+use Rattle.bb_tool.proofs.Endings.{From, PlanEnd, To, alone_is, by_answers, comes_always, drill_done, own_or_first, plan_of, plan_told, refused_err, status_by, unasked_by}
+use Rattle.bb_tool.proofs.ScriptEnds.{no_memory_of}
 use Rattle.bb_tool.proofs.Told.{tells, told_short, told_whole}
 use Rattle.bb_tool.specs.Sending.{IsSent, sent_of}
 
 -- ---- nothing failed
 
-load_same : (plan : SessionPlan) (from to : Device) (load : LoadAnswer) (answers : List RoundAnswer) → IsWork plan from to load answers → HasNoFault (work_session plan load answers) → (image : Image) → content from ≡ Some image →
+load_same : (plan : SessionPlan) (from to : Device) (load : LoadAnswer) (answers : WorkAnswers) → IsWork plan from to load answers → HasNoFault (work_session plan load answers) →
+    HasMemory (work_session plan load answers) → (image : Image) → content from ≡ Some image →
     let held : LoadAnswer = Ok (first_found (passed_in plan.keyed from.geometry.page image)) in
     IsCalm from to (work_session plan held (answers_after plan held)) → work_session plan load answers ≡ work_session plan held (answers_after plan held)
-load_same plan from to (Err fault) answers done none image told calm =
+load_same plan from to (Err fault) answers done none memory image told calm =
     absurd (let e : true ≡ false = sym (fault_device fault) ∙ none in cc)
-load_same plan from to (Ok found) answers done none image told calm =
+load_same plan from to (Ok found) answers done none memory image told calm =
     let same = work_gives plan from to found answers done image told in
-    work_same plan from to found answers done none
+    work_same plan from to found answers done none memory
     (subst (λ f. IsCalm from to (work_session plan (Ok f) (answers_after plan (Ok f)))) (sym same) calm)
     ∙ ap (λ f. work_session plan (Ok f) (answers_after plan (Ok f))) same
 
-plan_same : (plan : Result SessionPlan EarlyEnd) (before after : Device) (answers : Answers) (files : FileAnswers) → IsFollowed plan before after answers → (Rose before.faults after.faults → ⊥) → (image : Image) → content before ≡ Some image → IsCalm before after (session_by plan (answers_to files plan before.geometry image answers.drill)) → session_by plan answers ≡ session_by plan (answers_to files plan before.geometry image answers.drill)
-plan_same (Err end) before after answers files done whole image told calm = refl
-plan_same (Ok plan) before after answers files done whole image told calm =
-    load_same plan before after answers.load answers.rounds done (unrefused plan before after answers.load answers.rounds done whole) image told calm
+plan_same : (plan : Result SessionPlan EarlyEnd) (before after : Device) (answers : Answers) (files : FileAnswers) → IsFollowed plan before after answers → (Rose before.faults after.faults → ⊥) → HasMemory (session_by plan answers) → (image : Image) → content before ≡ Some image → IsCalm before after (session_by plan (answers_to files plan before.geometry image answers.drill)) → session_by plan answers ≡ session_by plan (answers_to files plan before.geometry image answers.drill)
+plan_same (Err end) before after answers files done whole memory image told calm = refl
+plan_same (Ok plan) before after answers files done whole memory image told calm =
+    load_same plan before after answers.load answers.work done (unrefused plan before after answers.load answers.work done whole) memory image told calm
 
 -- the session is that of what is held, where the plan is
 session_same : (ran : Ran) (answers : Answers) → MayAnswer ran answers → (files : FileMap) →
     session_plan_for ran answers ≡ plan_over ran files → (image : Image) →
     content (From ran) ≡ Some image → (Rose (From ran).faults (To ran).faults → ⊥) →
+    HasMemory (session_for ran answers) →
     let held = answers_of ran.words (geometry_of ran) files image answers.drill in
     FailsNoStart ran (session_for ran held) → session_for ran answers ≡ session_for ran held
-session_same ran answers answered files same image told whole =
+session_same ran answers answered files same image told whole memory =
     let read = files_for ran.words (geometry_of ran) files in
     let held : PlanEnd → Session =
     λ p. session_by p (answers_to read p (geometry_of ran) image answers.drill) in
     subst (λ (p : PlanEnd). FailsNoStart ran (held p) → session_for ran answers ≡ held p)
     (same ∙ sym (plan_held ran.words (geometry_of ran) files))
     (plan_same (session_plan_for ran answers) (From ran) (To ran) answers read answered.followed
-    whole image told)
+    whole memory image told)
+
+-- memory was refused to it, or never
+memory_or : (ran : Ran) (by : IsAnswered ran) →
+    (ran.status ≡ statuses.NoMemory) ⊎ HasMemory (session_for ran by.answers)
+memory_or ran by = at (ended_status (session_for ran by.answers)) refl
+  where
+    at : (status : Status) → ended_status (session_for ran by.answers) ≡ status →
+        (ran.status ≡ statuses.NoMemory) ⊎ HasMemory (session_for ran by.answers)
+    at statuses.NoMemory e = inl (told_short ran _ _ by.told e)
+    at _ e = inr (ap is_memory e)
 
 -- so is what was sent of it
 whole_for : (ran : Ran) (by : IsAnswered ran) (files : FileMap) →
-    session_plan_for ran by.answers ≡ plan_over ran files → IsWholeFor ran files
-whole_for ran by files same =
+    session_plan_for ran by.answers ≡ plan_over ran files → HasMemory (session_for ran by.answers) →
+    IsWholeFor ran files
+whole_for ran by files same memory =
     let sends : Session → Type 0 = λ session.
     IsSent (sent_of session) (ended_status session) ran.before.sink ran.after.sink ran.status in
     record {
       drill = by.answers.drill;
       allowed = subst (λ (p : PlanEnd). IsDrilled p by.answers.drill) same by.answered.drilled;
       whole = λ image told whole started sent.
-          subst sends (session_same ran by.answers by.answered files same image told whole started)
+          subst sends (session_same ran by.answers by.answered files same image told whole memory started)
           (told_whole ran _ _ by.told sent);
     }
 
@@ -81,7 +95,10 @@ undisturbed_of ran (inr memory) = λ calm files known. inr (told_short ran _ _ m
 undisturbed_of ran (inl by) = λ calm files known.
     let answers = by.answers in
     elim (plan_told ran answers by.answered files known) [
-      | inl same ↦ inl (whole_for ran by files same)
+      | inl same ↦ elim (memory_or ran by) [
+        | inl short ↦ inr short
+        | inr memory ↦ inl (whole_for ran by files same memory)
+      ]
       | inr (inl fault) ↦
           let before = ran.before.folder in
           let met = faulty_plan ran.words (geometry_of ran) before ran.after.folder answers.files
@@ -96,7 +113,10 @@ undisturbed_of ran (inl by) = λ calm files known.
 pub undisturbed_alone_of : (ran : Ran) → IsSession ran → IsUndisturbedAlone ran
 undisturbed_alone_of ran (inr memory) = λ none files. inr (told_short ran _ _ memory.told refl)
 undisturbed_alone_of ran (inl by) = λ none files.
-    inl (whole_for ran by files (alone_is ran files none by.answers))
+    elim (memory_or ran by) [
+      | inl short ↦ inr short
+      | inr memory ↦ inl (whole_for ran by files (alone_is ran files none by.answers) memory)
+    ]
 
 -- ---- a file that met a fault
 
@@ -169,24 +189,28 @@ sent_whole : (refusal : Option Refusal) → SendsByMemory refusal →
 sent_whole None sends = refl
 sent_whole (Some refusal) sends = (tells refusal).line sends
 
--- the saves before the text that wasn't sent
-saves_before : (ran : Ran) → IsWithoutText ran → LeavesDevice ran ⊎ MakesItsSaves ran
-saves_before ran text = by (session_plan_for ran text.answers) text.answered.followed text.whole
+-- the saves of a session in which no call of the device failed
+saves_of : (ran : Ran) (answers : Answers) → MayAnswer ran answers →
+    HasNoFault (session_for ran answers) → LeavesDevice ran ⊎ MakesItsSaves ran
+saves_of ran answers answered whole = by (session_plan_for ran answers) answered.followed whole
   where
-    by : (plan : PlanEnd) → IsFollowed plan ran.before.device ran.after.device text.answers →
-        SendsByMemory (session_by plan text.answers).refusal → LeavesDevice ran ⊎ MakesItsSaves ran
+    by : (plan : PlanEnd) → IsFollowed plan (From ran) (To ran) answers →
+        HasNoFault (session_by plan answers) → LeavesDevice ran ⊎ MakesItsSaves ran
     by (Err end) done whole = inl done
-    by (Ok plan) done whole =
-        let answers = text.answers in
-        let sent = sent_whole (work_session plan answers.load answers.rounds).refusal whole in
-        inr (record {
-          answers = answers;
-          answered = text.answered;
-          made = work_made plan (From ran) (To ran) answers.load answers.rounds done sent;
-        })
+    by (Ok plan) done whole = inr (record {
+      answers = answers;
+      answered = answered;
+      made = work_made plan (From ran) (To ran) answers.load answers.work done whole;
+    })
 
+-- before the text that wasn't sent, or before the work was cut short
 pub early_memory_of : (ran : Ran) → IsSession ran → StopsBetweenSaves ran
 early_memory_of ran s e = elim (no_memory_of ran s e).work [
   | inl same ↦ inl same
-  | inr text ↦ saves_before ran text
+  | inr (inl text) ↦
+      let session = session_for ran text.answers in
+      saves_of ran text.answers text.answered (sent_whole session.refusal text.whole)
+  | inr (inr cut) ↦
+      let status : Option Refusal → Status = λ refusal. option_map_or status_of refusal statuses.Done in
+      saves_of ran cut.answers cut.answered (ap (λ r. is_device_fault (status r)) cut.cut)
 ]

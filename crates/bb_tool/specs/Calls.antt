@@ -8,6 +8,7 @@ use Rattle.bb_base.specs.SinkRecord.{SendsFront}
 use Rattle.bb_flash.specs.Cuts.{IsLater}
 use Rattle.bb_flash.specs.Device.{content}
 use Rattle.bb_flash.specs.declared.geometry.Geometry.{Geometry}
+use Rattle.bb_script_commands.specs.Playing.{ComeFirst}
 use Rattle.bb_shell.specs.Counting.{target_started}
 use Rattle.bb_words.specs.Words.{words_of}
 use Rattle.bb_drill.specs.declared.counts.DrillCounts.{DrillCounts}
@@ -18,7 +19,7 @@ use Rattle.bb_tool.specs.Ran.{Ran}
 use Rattle.bb_plan.specs.FilesRead.{IsFolderLater, after_file_fault}
 use Rattle.bb_tool.specs.Lines.{line_of}
 use Rattle.bb_plan.specs.Refusal.{status_of}
-use Rattle.bb_session.specs.Session.{Answers, Session, answers_of, barred_after, ended_status, load_for, session_of}
+use Rattle.bb_session.specs.Session.{Answers, Session, answers_of, barred_after, ended_status, granted_all, load_for, session_of}
 use Rattle.bb_tool.specs.Sending.{sent_of}
 use Rattle.bb_tool.specs.Sending.{IsSent, IsSentOrCut}
 use Rattle.bb_session.specs.Work.{SendsByMemory}
@@ -73,11 +74,20 @@ pub record IsWithoutText (ran : Ran) : Type 0 where
   pub answered : MayAnswer ran answers
   pub whole : SendsByMemory (session_for ran answers).refusal
 
--- memory was refused, before any call of the device or after all work on it, and only that one line
--- was sent
+-- Memory was refused in the midst of the work, where a script asks for it between two commands. The
+-- rounds that were run come first of those of the same session with memory.
+pub record IsCutShort (ran : Ran) : Type 0 where
+  pub answers : Answers
+  pub answered : MayAnswer ran answers
+  pub cut : (session_for ran answers).refusal ≡ Some refusals.NoMemory
+  pub front :
+      ComeFirst (session_for ran answers).rounds (session_for ran (granted_all answers)).rounds
+
+-- memory was refused, before any call of the device, after all work on it or in its midst, and
+-- only that one line was sent
 pub record IsWithoutMemory (ran : Ran) : Type 0 where
   pub told : SendsText ran (line_of refusals.NoMemory) statuses.NoMemory
-  pub work : (ran.after.device ≡ ran.before.device) ⊎ IsWithoutText ran
+  pub work : (ran.after.device ≡ ran.before.device) ⊎ (IsWithoutText ran ⊎ IsCutShort ran)
 
 abbrev pub IsSession : Ran → Type 0
 IsSession ran = IsAnswered ran ⊎ IsWithoutMemory ran
@@ -276,7 +286,7 @@ pub record SendsSessionFront (ran : Ran) : Type 0 where
 abbrev pub CutsTheText : Ran → Type 0
 CutsTheText ran = ran.status ≡ statuses.SinkFault → SendsSessionFront ran
 
--- where memory was refused, nothing else is sent, and the work on the device wasn't begun, or was
--- done
+-- where memory was refused, nothing else is sent, and the work on the device wasn't begun, was
+-- done, or was cut short between two commands of a script
 abbrev pub WantsMemory : Ran → Type 0
 WantsMemory ran = ran.status ≡ statuses.NoMemory → IsWithoutMemory ran

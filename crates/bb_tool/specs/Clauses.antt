@@ -3,6 +3,7 @@
 use Rattle.bb_tool.specs.Calls.{AsksNothing, ComesByDevice, ComesByFiles, ComesByPlan, ComesByPlanAlone, ComesByReads, ComesBySink, ComesByTable, ComesByWords, CountsFileFaults, CountsSinkFaults, CutsTheText, IsSession, IsUndisturbed, IsUndisturbedAlone, KeepsFiles, KeepsHistory, LeavesUnnamedFiles, NamesTheCopy, WantsMemory, EndsDoneAlone, LeavesUnplanned, LeavesUnplannedAlone}
 use Rattle.bb_tool.specs.Copying.{KeepsATrail, KeepsAtExit, KeepsOutsideCopies, KnowsWriteFaults, LeavesUnread, MakesAlike, MakesNoOtherCall, StopsAtFileFault, StopsBetweenSaves, WearsExactly, WritesExactly}
 use Rattle.bb_tool.specs.Ran.{Ran}
+use Rattle.bb_tool.specs.ScriptEnds.{ComesByEnd, IsFailedEnd, IsLimitedEnd, ShowsTheStatus}
 use Rattle.bb_tool.specs.Starting.{BootsInTurn, CountsFailedStarts, KnowsStartFaults, NamesTheTarget, RunsRounds, StartsAtMostOne, StartsAfterSave, StartsTheLast}
 use Rattle.bb_plan.specs.declared.status.Status.TheVariants as statuses
 
@@ -104,6 +105,8 @@ pub record KnowsItsCauses (ran : Ran) : Type 0 where
   pub bad_variable : ComesByPlan statuses.BadVariable ran
   -- so does BadSettings
   pub bad_settings : ComesByPlan statuses.BadSettings ran
+  -- so does BadScript
+  pub bad_script : ComesByPlan statuses.BadScript ran
   -- ReadFault comes only where the device's count of failed reads rose
   pub read_fault : ComesByReads statuses.ReadFault ran
   -- and then the device holds what it held at entry
@@ -122,7 +125,14 @@ pub record KnowsItsCauses (ran : Ran) : Type 0 where
   pub start_failed : NamesTheTarget ran
   -- which has no plan, or a start failed
   pub start_failed_cause : KnowsStartFaults ran
+  -- ScriptFailed comes exactly where the play of a script ends with a status other than 0
+  pub script_failed : ComesByEnd statuses.ScriptFailed IsFailedEnd ran
+  -- which its line shows
+  pub script_failed_status : ShowsTheStatus ran
+  -- StepLimit comes exactly where it would run one command more than it may
+  pub step_limit : ComesByEnd statuses.StepLimit IsLimitedEnd ran
   -- SinkFault comes only where the output's count of faults rose by one
   pub sink_fault : ComesBySink statuses.SinkFault ran
-  -- with NoMemory nothing else is sent, and no call of the device was made or all work was done
+  -- with NoMemory nothing else is sent, and no call of the device was made, all work was done, or
+  -- it was cut short between two commands of a script
   pub no_memory : WantsMemory ran

@@ -1,6 +1,6 @@
 -- What `run` says of the copies: how they stand at exit and on the way, to the byte where nothing
 -- failed, and why one of them couldn't be written. None of these facts names a command.
-use Rattle.std.specs.Prelude.{◌≡◌, ◌⊎◌, ℕ, true, List, Some, Result, Ok, is_none}
+use Rattle.std.specs.Prelude.{◌≡◌, ◌⊎◌, ℕ, true, Some, Result, Ok, is_none}
 use Rattle.std.specs.List.{list_all}
 use Rattle.bb_copies.specs.Loading.{KeepsOutside}
 use Rattle.bb_copies.specs.Settling.{NothingFails}
@@ -10,7 +10,7 @@ use Rattle.bb_tool.specs.Calls.{MayAnswer, session_plan_for, session_for}
 use Rattle.bb_session.specs.Exactly.{CallsExactly, EndsAlike, ErasesExactly, LeavesExactly}
 use Rattle.bb_plan.specs.Plan.{EarlyEnd, SessionPlan}
 use Rattle.bb_tool.specs.Ran.{Ran}
-use Rattle.bb_shell.specs.Rounds.{RoundAnswer}
+use Rattle.bb_session.specs.Acting.{WorkAnswers}
 use Rattle.bb_session.specs.Session.{Answers}
 use Rattle.bb_session.specs.SessionTurns.{HasTrails, LeadsOn}
 use Rattle.bb_session.specs.WriteFault.{IsWriteFault}
@@ -31,14 +31,14 @@ abbrev pub KeepsAtExit : Ran → Type 0
 KeepsAtExit ran =
     EachWork ran
     (λ plan answers.
-    LeadsOn plan ran.before.device ran.after.device answers.load answers.rounds)
+    LeadsOn plan ran.before.device ran.after.device answers.load answers.work)
 
 -- each image on the way that counts stands for a stage that it reached, or for a later one
 abbrev pub KeepsATrail : Ran → Type 0
 KeepsATrail ran =
     EachWork ran
     (λ plan answers.
-    HasTrails plan ran.before.device ran.after.device answers.load answers.rounds)
+    HasTrails plan ran.before.device ran.after.device answers.load answers.work)
 
 -- nothing outside the copies changes, in any image
 abbrev pub KeepsOutsideCopies : Ran → Type 0
@@ -51,10 +51,10 @@ KeepsOutsideCopies ran =
 
 -- a fact about what was left, whatever the session was answered
 abbrev pub EachCalm :
-    Ran → (Result SessionPlan EarlyEnd → List RoundAnswer → Device → Device → Type 0) → Type 0
+    Ran → (Result SessionPlan EarlyEnd → WorkAnswers → Device → Device → Type 0) → Type 0
 EachCalm ran P =
     NothingFails ran.before.device ran.after.device → (answers : Answers) → MayAnswer ran answers →
-    P (session_plan_for ran answers) answers.rounds ran.before.device ran.after.device
+    P (session_plan_for ran answers) answers.work ran.before.device ran.after.device
 
 -- Each copy holds exactly what the load and the saves make of it: a save writes every copy; a load
 -- that took one writes those that don't pass its area, or have a Worn page in their record. A look,
@@ -91,7 +91,7 @@ StopsAtFileFault ran = (ran.after.folder ≡ ran.before.folder) ⊎ LeavesDevice
 pub record MakesItsSaves (ran : Ran) : Type 0 where
   pub answers : Answers
   pub answered : MayAnswer ran answers
-  pub made : list_all (λ answer. is_none answer.save) answers.rounds ≡ true
+  pub made : list_all (λ answer. is_none answer.save) answers.work.rounds ≡ true
 
 -- where memory was refused that was before any call of the device, or after saves that were made
 abbrev pub StopsBetweenSaves : Ran → Type 0
@@ -112,4 +112,4 @@ KnowsWriteFaults ran =
     EachWork ran
     (λ plan answers.
     (copy : ℕ) → (session_for ran answers).refusal ≡ Some (refusals.WriteFault copy) →
-    IsWriteFault plan ran.before.device ran.after.device answers.load answers.rounds copy)
+    IsWriteFault plan ran.before.device ran.after.device answers.load answers.work copy)

@@ -25,6 +25,7 @@ pub mod Copying
 pub mod Drilling
 pub mod Lines
 pub mod Ran
+pub mod ScriptEnds
 pub mod Sending
 pub mod SessionAnswer
 pub mod Starting

@@ -12,6 +12,8 @@ use Rattle.bb_hmac.specs.declared.error.KeyError.{KeyError}
 use Rattle.bb_hmac.specs.declared.error.KeyError.TheVariants as key_errors
 use Rattle.bb_layout.specs.declared.layout_error.LayoutError.{LayoutError}
 use Rattle.bb_layout.specs.declared.layout_error.LayoutError.TheVariants as layout_errors
+use Rattle.bb_script.specs.declared.error.ScriptError.{ScriptError}
+use Rattle.bb_script.specs.declared.error.ScriptError.TheVariants as script_errors
 use Rattle.bb_vars.specs.declared.value_error.ValueError.{ValueError}
 use Rattle.bb_vars.specs.declared.value_error.ValueError.TheVariants as value_errors
 use Rattle.bb_state.specs.declared.error.StateError.{StateError}
@@ -95,6 +97,15 @@ settings_words (settings_errors.NoSuchVariable name) = codes "NoSuchVariable " +
 settings_words (settings_errors.NotUint32 name) = codes "NotUint32 " ++ name
 settings_words settings_errors.NoMemory = codes "NoMemory"
 
+-- the words for a text that is no script: the refusal's name, and its offset
+abbrev pub script_words : ScriptError → List ℕ
+script_words script_errors.TooLong = codes "TooLong"
+script_words script_errors.NotText = codes "NotText"
+script_words (script_errors.Unclosed at) = codes "Unclosed " ++ decimal at
+script_words (script_errors.Unexpected at) = codes "Unexpected " ++ decimal at
+script_words (script_errors.TooDeep at) = codes "TooDeep " ++ decimal at
+script_words script_errors.NoMemory = codes "NoMemory"
+
 -- the words for a text that is no key: nothing of what stands in it, nor where
 abbrev pub key_words : KeyError → List ℕ
 key_words key_errors.Empty = codes "Empty"
@@ -116,6 +127,9 @@ detail_of refusals.NoKey = spaced (codes "None")
 detail_of (refusals.BadKey e) = spaced (key_words e)
 detail_of (refusals.BadVariable name cause) = spaced (name ++ spaced (variable_words cause))
 detail_of (refusals.BadSettings e) = spaced (settings_words e)
+detail_of (refusals.BadScript e) = spaced (script_words e)
+detail_of (refusals.ScriptFailed status) = spaced (decimal status)
+detail_of refusals.StepLimit = []
 detail_of refusals.ReadFault = []
 detail_of (refusals.WriteFault copy) = spaced (decimal copy)
 detail_of refusals.NoTarget = []

@@ -24,7 +24,7 @@ IsTaskDone (Drills numbers) from to given =
 
 -- the work of a plan was done; a session that is refused before it makes no call of the device
 abbrev pub IsFollowed : Result SessionPlan EarlyEnd → Device → Device → Answers → Type 0
-IsFollowed (Ok plan) before after answers = IsWork plan before after answers.load answers.rounds
+IsFollowed (Ok plan) before after answers = IsWork plan before after answers.load answers.work
 IsFollowed (Err end) before after answers = after ≡ before
 
 -- these are what the files, the device and a drill answered

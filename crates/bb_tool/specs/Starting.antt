@@ -18,7 +18,7 @@ use Rattle.bb_tool.specs.Copying.{EachWork}
 use Rattle.bb_session.specs.Looking.{passed_in}
 use Rattle.bb_plan.specs.Plan.{SessionPlan}
 use Rattle.bb_plan.specs.declared.plan.Work.{Work}
-use Rattle.bb_plan.specs.declared.plan.Work.TheVariants.{Boot}
+use Rattle.bb_plan.specs.declared.plan.Work.TheVariants.{Boot, Run}
 use Rattle.bb_tool.specs.Ran.{Ran}
 use Rattle.bb_session.specs.Session.{Answers, loaded_area}
 use Rattle.bb_tool.specs.Sending.{sent_of}
@@ -47,7 +47,8 @@ RunsRounds ran =
 
 -- A boot did what the law of starts takes for a boot: where its load answered Ok, the table that it
 -- gave stands at the turn's place of the list and has the area's length, and the turn is that of
--- the rounds that come of some answers. No other work is a boot.
+-- the rounds that come of some answers. No other work is a boot: that law says nothing of a script,
+-- which may set attempts as it likes.
 abbrev pub IsTurnOf : Work → Content → Turn → Type 0
 IsTurnOf (Boot targets cause plans) before turn = IsBootTurn targets cause plans before turn
 IsTurnOf _ before turn = ⊤
@@ -56,6 +57,7 @@ IsTurnOf _ before turn = ⊤
 -- them share a byte
 abbrev pub IsBoundWork : Work → Type 0
 IsBoundWork (Boot targets cause plans) = IsBinding targets
+IsBoundWork (Run script targets cause plans) = IsBinding targets
 IsBoundWork _ = ⊤
 
 -- so are the targets of a session, and so is its turn, at each content that its copies stood for at
@@ -65,7 +67,7 @@ pub record BootsByPlan (ran : Ran) (plan : SessionPlan) (answers : Answers) : Ty
   pub turns :
       EachStanding plan.keyed ran.before.device ran.after.device
       (λ first last before.
-      IsTurnOf plan.work before (turn_of plan answers.load answers.rounds before.marks))
+      IsTurnOf plan.work before (turn_of plan answers.load answers.work before.marks))
 
 abbrev pub BootsInTurn : Ran → Type 0
 BootsInTurn ran = EachWork ran (BootsByPlan ran)

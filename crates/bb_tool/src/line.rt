@@ -1,7 +1,8 @@
 ghost use Rattle.std.specs.Prelude.{◌≡◌, ◌≤◌, ◌++◌, true, IfOk, IfSome, None, codes, decimal};
 ghost use Rattle.std.specs.Prelude.{length, string_bytes};
 ghost use Rattle.bb_tool.specs.Lines.{blob_words, fault_text, field_name, key_words};
-ghost use Rattle.bb_tool.specs.Lines.{detail_of, layout_words, line_of, settings_words, spaced};
+ghost use Rattle.bb_tool.specs.Lines.{detail_of, layout_words, line_of, script_words};
+ghost use Rattle.bb_tool.specs.Lines.{settings_words, spaced};
 ghost use Rattle.bb_tool.specs.Lines.{tree_words, value_words, variable_words};
 ghost use Rattle.bb_plan.specs.Refusal.{takes_memory};
 ghost use Rattle.bb_plan.specs.Status.{status_name};
@@ -13,6 +14,7 @@ use bb_fdt::{FdtError, Field};
 use bb_hmac::KeyError;
 use bb_layout::LayoutError;
 use bb_plan::{Refusal, Status};
+use bb_script::ScriptError;
 use bb_state::StateError;
 use bb_vars::ValueError;
 use itoa::Buffer;
@@ -27,8 +29,8 @@ pub(crate) fn line(alloc: Global, refusal: &Refusal) -> Result<String, AllocErro
     format!(in alloc; "fault {} {}{detail}\n", status.code(), status.name())
 }
 
-/// A line of at most 32 bytes, which takes no memory.
-pub(crate) type ShortLine = ArrayString<32>;
+/// A line of at most 34 bytes, which takes no memory.
+pub(crate) type ShortLine = ArrayString<34>;
 
 /// The line of a refusal that takes no memory, where it is one.
 pub(crate) fn fixed_line(refusal: &Refusal) -> Option<ShortLine>
@@ -41,19 +43,21 @@ pub(crate) fn fixed_line(refusal: &Refusal) -> Option<ShortLine>
         Refusal::WriteFault(copy) => Some(numbered_line(status, *copy)),
         Refusal::NoTarget => Some(fault_line(status, status.name())),
         Refusal::NoGood(place) => Some(numbered_line(status, *place)),
+        Refusal::ScriptFailed(ended) => Some(numbered_line(status, *ended)),
+        Refusal::StepLimit => Some(fault_line(status, status.name())),
         Refusal::NoMemory => Some(fault_line(status, status.name())),
         Refusal::BadWords(_) | Refusal::BadTree(_) | Refusal::BadBlob(_) => None,
         Refusal::BadLayout(_) => None,
         Refusal::BadVariable(_, _) => None,
         Refusal::FileMissing(_) | Refusal::FileFault(_) | Refusal::FileTooLong(_) => None,
-        Refusal::StartFailed(_) | Refusal::BadSettings(_) => None,
+        Refusal::StartFailed(_) | Refusal::BadSettings(_) | Refusal::BadScript(_) => None,
         Refusal::NoKey | Refusal::BadKey(_) => None,
     }
 }
 
 /// The line of a fault with this status, which says what it is in these words.
 pub(crate) fn fault_line(status: Status, words: &str) -> ShortLine
-    requires { length words.now ≤ 21 }
+    requires { length words.now ≤ 23 }
     ensures { result.bytes ≡ fault_text status words.now }
 {
     let mut digits = Buffer::new();
@@ -67,7 +71,7 @@ pub(crate) fn fault_line(status: Status, words: &str) -> ShortLine
 }
 
 fn numbered_line(status: Status, number: u32) -> ShortLine
-    requires { length (status_name status) ≤ 10 }
+    requires { length (status_name status) ≤ 12 }
     ensures { result.bytes ≡ fault_text status (status_name status ++ spaced (decimal number)) }
 {
     let mut digits = Buffer::new();
@@ -98,10 +102,13 @@ fn detail(alloc: Global, refusal: &Refusal) -> Result<String, AllocError>
             variable_words(*cause)
         ),
         Refusal::BadSettings(error) => settings_words(alloc, error),
+        Refusal::BadScript(error) => script_words(alloc, *error),
         Refusal::WriteFault(number) => format!(in alloc; " {number}"),
         Refusal::NoGood(number) => format!(in alloc; " {number}"),
+        Refusal::ScriptFailed(number) => format!(in alloc; " {number}"),
         Refusal::StartFailed(name) => format!(in alloc; " {}", name.as_str()),
         Refusal::ReadFault | Refusal::NoTarget | Refusal::NoMemory => String::from_str(alloc, ""),
+        Refusal::StepLimit => String::from_str(alloc, ""),
     }
 }
 
@@ -208,6 +215,19 @@ fn settings_words(alloc: Global, error: &SettingsError) -> Result<String, AllocE
         ),
         SettingsError::NotUint32(name) => format!(in alloc; " NotUint32 {}", name.as_str()),
         SettingsError::NoMemory => String::from_str(alloc, " NoMemory"),
+    }
+}
+
+fn script_words(alloc: Global, error: ScriptError) -> Result<String, AllocError>
+    ensures { IfOk result (λ words. string_bytes words ≡ spaced (script_words error)) }
+{
+    match error {
+        ScriptError::TooLong => String::from_str(alloc, " TooLong"),
+        ScriptError::NotText => String::from_str(alloc, " NotText"),
+        ScriptError::Unclosed(at) => format!(in alloc; " Unclosed {at}"),
+        ScriptError::Unexpected(at) => format!(in alloc; " Unexpected {at}"),
+        ScriptError::TooDeep(at) => format!(in alloc; " TooDeep {at}"),
+        ScriptError::NoMemory => String::from_str(alloc, " NoMemory"),
     }
 }
 

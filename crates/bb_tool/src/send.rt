@@ -5,10 +5,9 @@ ghost use Rattle.bb_tool.specs.Sending.{IsSentOrCut, IsSentMade, IsSentMemory, I
 ghost use Rattle.bb_tool.specs.Sending.{IsSentRefusal};
 ghost use Rattle.bb_tool.specs.Sending.{IsSentReport, status_unsent};
 ghost use Rattle.bb_plan.specs.Refusal.{takes_memory};
-ghost use Rattle.bb_session.specs.Work.{IsSendable};
 
 use crate::line::{fault_line, fixed_line, line};
-use bb_base::{Bytes, NoMemory, Sink};
+use bb_base::{Bytes, Failed, NoMemory, Sink};
 use bb_plan::{Refusal, Status};
 use bb_session::Report;
 use std::alloc::{AllocError, Global};
@@ -44,16 +43,40 @@ pub fn send_fault<K: Sink>(status: Status, words: &str, sink: &mut K) -> Status
 }
 
 /// Sends what a session's work gave, and gives the status with which the session ends. The line of
-/// a refusal goes out in one piece with the text before it, which takes memory; where that is
-/// refused, so is the session.
+/// a refusal that names something goes out in one piece with the text before it, which takes
+/// memory; where that is refused, so is the session. Every other line takes none, and goes out in a
+/// piece of its own.
 pub(crate) fn send_report<K: Sink>(alloc: Global, report: Report, sink: &mut K) -> Status
-    requires { IsSendable report }
     ensures told { IsSentReport report (K.sink sink.old) (K.sink sink.new) result }
 {
     let Report { text, refusal } = report;
     match refusal {
         None => send_text(text.as_slice(), Status::Done, sink),
-        Some(refusal) => send_after(alloc, text, &refusal, sink),
+        Some(refusal) => send_both(alloc, text, &refusal, sink),
+    }
+}
+
+fn send_both<K: Sink>(alloc: Global, text: Bytes, refusal: &Refusal, sink: &mut K) -> Status
+    ensures told { IsSentOr (takes_memory refusal.now) (text ++ line_of refusal.now)
+        (status_of refusal.now) (K.sink sink.old) (K.sink sink.new) result }
+{
+    match fixed_line(refusal) {
+        Some(line) => {
+            let line = line.as_str().as_bytes();
+            send_pieces(text.as_slice(), line, refusal.status(), sink)
+        }
+        None => send_after(alloc, text, refusal, sink),
+    }
+}
+
+// Sends two pieces, the second only where the first was sent whole.
+fn send_pieces<K: Sink>(first: &[u8], second: &[u8], ended: Status, sink: &mut K) -> Status
+    ensures told { IsSentOrCut (first.now ++ second.now) ended (K.sink sink.old) (K.sink sink.new)
+        result }
+{
+    match sink.write(first) {
+        Ok(()) => send_text(second, ended, sink),
+        Err(Failed) => status_unsent(ended),
     }
 }
 

@@ -1,4 +1,4 @@
-ghost use Rattle.std.specs.Prelude.{◌≡◌, false, IfErr, IfOk};
+ghost use Rattle.std.specs.Prelude.{◌≡◌, false, IfErr};
 ghost use Rattle.bb_flash.specs.Cuts.{IsLater};
 ghost use Rattle.bb_flash.specs.Device.{IsDevice};
 ghost use Rattle.bb_tool.specs.Calls.{IsSession};
@@ -9,7 +9,6 @@ ghost use Rattle.bb_plan.specs.Plan.{IsTaskFor, names_file, task_as};
 ghost use Rattle.bb_tool.specs.Ran.{ran_by};
 ghost use Rattle.bb_plan.specs.FilesRead.{IsFolderLater};
 ghost use Rattle.bb_plan.specs.Refusal.{IsSendableRefusal};
-ghost use Rattle.bb_session.specs.Work.{IsSendable};
 
 use crate::drill::drill_report;
 use crate::send::{send_refusal, send_report};
@@ -85,7 +84,6 @@ fn session<N: Files, B: Board>(
     ensures gives { IsSessionAnswer words.now (N.folder files.old) (N.folder files.new)
         (B.device board.old) (B.device board.new) result }
     ensures tellable { IfErr result IsSendableRefusal }
-    ensures sends { IfOk result IsSendable }
     ensures files { IsFolderLater (N.folder files.old) (N.folder files.new) }
     ensures unread { names_file words.now (B.device board.old).geometry ≡ false
         → N.folder files.new ≡ N.folder files.old }
@@ -101,7 +99,6 @@ fn do_task<B: Board>(alloc: Global, board: &mut B, task: PlannedTask) -> Result<
     requires whole { IsDevice (B.device board.old) }
     ensures done { IsTaskDone (task_as task) (B.device board.old) (B.device board.new) result }
     ensures tellable { IfErr result IsSendableRefusal }
-    ensures sends { IfOk result IsSendable }
     ensures later { IsLater (B.device board.old) (B.device board.new) }
 {
     match task {

@@ -4,7 +4,7 @@ use Rattle.hex.specs.Hex.{decode_pairs}
 use Rattle.bb_words.specs.declared.command.CauseWord.{CauseWord}
 use Rattle.bb_words.specs.declared.command.CauseWord.TheVariants.{PowerOn, Reset, Other}
 use Rattle.bb_words.specs.declared.command.Command.{Command}
-use Rattle.bb_words.specs.declared.command.Command.TheVariants.{State, MarkGood, Boot, Menu}
+use Rattle.bb_words.specs.declared.command.Command.TheVariants.{State, MarkGood, Boot, Shell, Menu}
 use Rattle.bb_words.specs.declared.command.Action.{Action}
 use Rattle.bb_words.specs.declared.command.Action.TheVariants.{Set, Get, Dump, DumpShell}
 use Rattle.bb_words.specs.declared.command.RawAction.TheVariants.{Look, Write}
@@ -267,6 +267,60 @@ cause_of_good = refl
 boot_dumps_nothing : words_of (codes "boot" ∷ codes "-d" ∷ []) ≡ Err 1
 unfolding words_from
 boot_dumps_nothing = refl
+
+-- ---- `shell`
+
+abbrev shell : List ℕ → List ℕ → List ℕ → Option (List ℕ) → CauseWord → Command
+shell file settings script key cause = Shell (record {
+  boot = record { described = record { file = file; name = None; key = key }; settings = settings; cause = cause };
+  script = script;
+})
+
+shell_alone : words_of (codes "shell" ∷ codes "-i" ∷ codes "b.dts" ∷ codes "-c" ∷ codes "set.txt" ∷ codes "-x" ∷ codes "s" ∷ [])
+    ≡ Ok (shell (codes "b.dts") (codes "set.txt") (codes "s") None Other)
+unfolding words_from
+shell_alone = refl
+
+shell_any_order : words_of (codes "shell" ∷ codes "-x" ∷ codes "-c" ∷ codes "--cause" ∷ codes "reset" ∷ codes "-k" ∷ codes "-x" ∷ codes "-c" ∷ codes "a" ∷ codes "--input=b" ∷ [])
+    ≡ Ok (shell (codes "b") (codes "a") (codes "-c") (Some (codes "-x")) Reset)
+unfolding words_from
+shell_any_order = refl
+
+shell_without_script : words_of (codes "shell" ∷ codes "-i" ∷ codes "a" ∷ codes "-c" ∷ codes "b" ∷ []) ≡ Err 5
+unfolding words_from
+shell_without_script = refl
+
+shell_without_settings : words_of (codes "shell" ∷ codes "-i" ∷ codes "a" ∷ codes "-x" ∷ codes "b" ∷ []) ≡ Err 5
+unfolding words_from
+shell_without_settings = refl
+
+no_script : words_of (codes "shell" ∷ codes "-x" ∷ []) ≡ Err 2
+unfolding words_from
+no_script = refl
+
+second_script : words_of (codes "shell" ∷ codes "-x" ∷ codes "a" ∷ codes "-x" ∷ codes "a" ∷ []) ≡ Err 3
+unfolding words_from
+second_script = refl
+
+script_joined : words_of (codes "shell" ∷ codes "-x=a" ∷ []) ≡ Err 1
+unfolding words_from
+script_joined = refl
+
+script_of_boot : words_of (codes "boot" ∷ codes "-x" ∷ codes "a" ∷ []) ≡ Err 1
+unfolding words_from
+script_of_boot = refl
+
+script_of_state : words_of (codes "state" ∷ codes "-x" ∷ codes "a" ∷ []) ≡ Err 1
+unfolding words_from
+script_of_state = refl
+
+shell_sets_nothing : words_of (codes "shell" ∷ codes "-s" ∷ codes "a=b" ∷ []) ≡ Err 1
+unfolding words_from
+shell_sets_nothing = refl
+
+shell_dumps_nothing : words_of (codes "shell" ∷ codes "-d" ∷ []) ≡ Err 1
+unfolding words_from
+shell_dumps_nothing = refl
 
 -- ---- `menu`
 

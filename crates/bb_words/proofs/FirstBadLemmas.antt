@@ -12,7 +12,7 @@ use Rattle.bb_words.specs.declared.command.Command.TheVariants as commands
 use Rattle.bb_words.specs.declared.command.RawAction.TheVariants.{Look, Write}
 use Rattle.bb_words.specs.declared.given.Given.{Given}
 use Rattle.bb_words.specs.declared.option.Valued.{Valued}
-use Rattle.bb_words.specs.declared.option.Valued.TheVariants.{Input, Name, Get as GetOption, Set as SetOption, Settings, Key, Cause}
+use Rattle.bb_words.specs.declared.option.Valued.TheVariants.{Input, Name, Get as GetOption, Set as SetOption, Settings, Script, Key, Cause}
 use Rattle.bb_words.specs.declared.row.Row.{Row}
 use Rattle.bb_words.specs.declared.row.Row.TheVariants as rows
 use Rattle.bb_words.specs.FirstBad.{Begins}
@@ -58,7 +58,7 @@ file_completed start row given None behind =
     let rest = behind (start + 1 + 1) [] in (codes "-i" ∷ [] ∷ rest.0, rest.1, rest.2)
 file_completed start row given (Some file) behind = behind start file
 
--- and the settings, in two of them
+-- and the settings, in three of them
 abbrev with_both : Given → List ℕ → Option (List ℕ) → Given
 with_both given file settings = record given { file = Some file; settings = settings }
 
@@ -74,12 +74,29 @@ unfolding words_from
 boot_completed start file given None = (codes "-c" ∷ [] ∷ [], _, refl)
 boot_completed start file given (Some settings) = ([], _, refl)
 
+-- and the script besides, in one
+abbrev with_all : Given → List ℕ → Option (List ℕ) → Option (List ℕ) → Given
+with_all given file settings script =
+    record given { file = Some file; settings = settings; script = script }
+
+shell_completed : (start : ℕ) (file : List ℕ) (given : Given)
+    (settings script : Option (List ℕ)) →
+    Continues start (Options rows.Shell None (with_all given file settings script)) []
+unfolding words_from
+shell_completed start file given None None =
+    (codes "-c" ∷ [] ∷ codes "-x" ∷ [] ∷ [], _, refl)
+shell_completed start file given None (Some script) = (codes "-c" ∷ [] ∷ [], _, refl)
+shell_completed start file given (Some settings) None = (codes "-x" ∷ [] ∷ [], _, refl)
+shell_completed start file given (Some settings) (Some script) = ([], _, refl)
+
 row_completed : (row : Row) (given : Given) (start : ℕ) (file : List ℕ) →
     Continues start (Options row None (record given { file = Some file })) []
 unfolding words_from
 row_completed rows.State given start file = ([], _, refl)
 row_completed rows.MarkGood given start file = mark_completed start file given given.settings
 row_completed rows.Boot given start file = boot_completed start file given given.settings
+row_completed rows.Shell given start file =
+    shell_completed start file given given.settings given.script
 
 options_completed : (start : ℕ) (row : Row) (given : Given) →
     Continues start (Options row None given) []
@@ -97,6 +114,9 @@ value_completed start row Name given =
     ([] ∷ rest.0, rest.1, rest.2)
 value_completed start row Settings given =
     let rest = options_completed (start + 1) row (record given { settings = Some [] }) in
+    ([] ∷ rest.0, rest.1, rest.2)
+value_completed start row Script given =
+    let rest = options_completed (start + 1) row (record given { script = Some [] }) in
     ([] ∷ rest.0, rest.1, rest.2)
 value_completed start row Key given =
     let rest = options_completed (start + 1) row (record given { key = Some [] }) in

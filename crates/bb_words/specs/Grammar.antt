@@ -14,7 +14,7 @@ use Rattle.bb_words.specs.declared.command.RawAction.TheVariants.{Look, Write}
 use Rattle.bb_words.specs.declared.command.RawCommand.{RawCommand}
 use Rattle.bb_words.specs.declared.given.Given.{Given}
 use Rattle.bb_words.specs.declared.option.Valued.{Valued}
-use Rattle.bb_words.specs.declared.option.Valued.TheVariants.{Input, Name, Get as GetOption, Set as SetOption, Settings, Key, Cause}
+use Rattle.bb_words.specs.declared.option.Valued.TheVariants.{Input, Name, Get as GetOption, Set as SetOption, Settings, Script, Key, Cause}
 use Rattle.bb_words.specs.declared.row.Row.{Row}
 use Rattle.bb_words.specs.declared.row.Row.TheVariants as rows
 use Rattle.bb_words.specs.Options.{cause_word_of, has_sign, set_in}
@@ -70,12 +70,14 @@ own_form Name = codes "-n"
 own_form GetOption = codes "-g"
 own_form SetOption = codes "-s"
 own_form Settings = codes "-c"
+own_form Script = codes "-x"
 own_form Key = codes "-k"
 own_form Cause = codes "--cause"
 
 -- whether there is a long form besides, and it
 abbrev pub has_long : Valued → Bool
 has_long Settings = false
+has_long Script = false
 has_long Key = false
 has_long Cause = false
 has_long _ = true
@@ -86,6 +88,7 @@ long_form Name = codes "--name"
 long_form GetOption = codes "--get"
 long_form SetOption = codes "--set"
 long_form Settings = []
+long_form Script = []
 long_form Key = []
 long_form Cause = []
 
@@ -117,8 +120,8 @@ has_item row (Takes form valued value) =
     has_option row valued && (has_form form valued && is_value valued value)
 has_item row _ = has_dumps row
 
--- the file, the state's name, the files of the settings and of the key, the cause and the action
--- that an item gives
+-- the file, the state's name, the files of the settings, of the script and of the key, the cause
+-- and the action that an item gives
 abbrev pub file_in : Item → Option (List ℕ)
 file_in (Takes form Input value) = Some value
 file_in _ = None
@@ -130,6 +133,10 @@ state_name_in _ = None
 abbrev pub settings_in : Item → Option (List ℕ)
 settings_in (Takes form Settings value) = Some value
 settings_in _ = None
+
+abbrev pub script_file_in : Item → Option (List ℕ)
+script_file_in (Takes form Script value) = Some value
+script_file_in _ = None
 
 abbrev pub key_file_in : Item → Option (List ℕ)
 key_file_in (Takes form Key value) = Some value
@@ -143,6 +150,7 @@ abbrev pub action_in : Item → Option Action
 action_in (Takes form Input value) = None
 action_in (Takes form Name value) = None
 action_in (Takes form Settings value) = None
+action_in (Takes form Script value) = None
 action_in (Takes form Key value) = None
 action_in (Takes form Cause value) = None
 action_in (Takes form GetOption value) = Some (Get value)
@@ -152,8 +160,8 @@ action_in LongDump = Some Dump
 action_in ShellDump = Some DumpShell
 
 -- the command's name, and items that it has in any order: at most one file, one name, one file of
--- settings, one of a key and one cause, and the actions in their order; they make the command where
--- those are there that must be
+-- settings, one of a script, one of a key and one cause, and the actions in their order; they make
+-- the command where those are there that must be
 pub record IsSpelt (row : Row) (words : List (List ℕ)) (command : Command) : Type 0 where
   pub items : List Item
   pub given : Given
@@ -162,6 +170,7 @@ pub record IsSpelt (row : Row) (words : List (List ℕ)) (command : Command) : T
   pub file_is : filter_map file_in items ≡ option_to_list given.file
   pub name_is : filter_map state_name_in items ≡ option_to_list given.name
   pub settings_are : filter_map settings_in items ≡ option_to_list given.settings
+  pub script_is : filter_map script_file_in items ≡ option_to_list given.script
   pub key_is : filter_map key_file_in items ≡ option_to_list given.key
   pub cause_is : filter_map cause_in items ≡ option_to_list given.cause
   pub actions_are : filter_map action_in items ≡ given.actions
@@ -176,6 +185,7 @@ Spells words (commands.Raw raw) =
 Spells words (commands.State state) = IsSpelt rows.State words (commands.State state)
 Spells words (commands.MarkGood mark) = IsSpelt rows.MarkGood words (commands.MarkGood mark)
 Spells words (commands.Boot boot) = IsSpelt rows.Boot words (commands.Boot boot)
+Spells words (commands.Shell shell) = IsSpelt rows.Shell words (commands.Shell shell)
 Spells words (commands.Menu menu) = words ≡ codes "menu" ∷ codes "--dir" ∷ menu.dir ∷ []
 Spells words (commands.Drill numbers) =
     (rest : List (List ℕ)) × (words ≡ codes "drill" ∷ rest) × IsDrill rest numbers

@@ -9,7 +9,7 @@ use Rattle.bb_words.specs.declared.command.CauseWord.{CauseWord}
 use Rattle.bb_words.specs.declared.command.CauseWord.TheVariants.{PowerOn, Reset, Other}
 use Rattle.bb_words.specs.declared.given.Given.{Given}
 use Rattle.bb_words.specs.declared.option.Valued.{Valued}
-use Rattle.bb_words.specs.declared.option.Valued.TheVariants.{Input, Name, Get as GetOption, Set as SetOption, Settings, Key, Cause}
+use Rattle.bb_words.specs.declared.option.Valued.TheVariants.{Input, Name, Get as GetOption, Set as SetOption, Settings, Script, Key, Cause}
 
 -- ---- what a word is
 
@@ -31,6 +31,7 @@ valued_of word =
     else if bytes_eq word (codes "-s") then Some SetOption
     else if bytes_eq word (codes "-c") then Some Settings
     else if bytes_eq word (codes "-k") then Some Key
+    else if bytes_eq word (codes "-x") then Some Script
     else if bytes_eq word (codes "--cause") then Some Cause
     else long_of word
 
@@ -74,6 +75,7 @@ none_given = record {
   file = None;
   name = None;
   settings = None;
+  script = None;
   key = None;
   cause = None;
   actions = [];
@@ -92,6 +94,7 @@ abbrev pub with_option : Valued → List ℕ → Given → Option Given
 with_option Input value given = Some (record given { file = Some value })
 with_option Name value given = Some (record given { name = Some value })
 with_option Settings value given = Some (record given { settings = Some value })
+with_option Script value given = Some (record given { script = Some value })
 with_option Key value given = Some (record given { key = Some value })
 with_option Cause value given =
     option_map (λ cause. record given { cause = Some cause }) (cause_word_of value)
@@ -103,6 +106,7 @@ abbrev pub given_once : Valued → Given → Bool
 given_once Input given = is_some given.file
 given_once Name given = is_some given.name
 given_once Settings given = is_some given.settings
+given_once Script given = is_some given.script
 given_once Key given = is_some given.key
 given_once Cause given = is_some given.cause
 given_once GetOption given = false

@@ -3,6 +3,7 @@
 use Rattle.std.specs.Prelude.{ℕ, Bool, true, false, ◌&&◌, ◌||◌, not, List, codes, Option, Some, None, option_and_then, unwrap_or, if◌then◌else◌}
 use Rattle.std.specs.Option.{option_map}
 use Rattle.std.specs.Str.{bytes_eq}
+use Rattle.bb_words.specs.declared.command.BootCommand.{BootCommand}
 use Rattle.bb_words.specs.declared.command.CauseWord.{CauseWord}
 use Rattle.bb_words.specs.declared.command.CauseWord.TheVariants.{Other}
 use Rattle.bb_words.specs.declared.command.Command.{Command}
@@ -10,7 +11,7 @@ use Rattle.bb_words.specs.declared.command.Command.TheVariants as commands
 use Rattle.bb_words.specs.declared.command.Described.{Described}
 use Rattle.bb_words.specs.declared.given.Given.{Given}
 use Rattle.bb_words.specs.declared.option.Valued.{Valued}
-use Rattle.bb_words.specs.declared.option.Valued.TheVariants.{Input, Name, Get as GetOption, Set as SetOption, Settings, Key, Cause}
+use Rattle.bb_words.specs.declared.option.Valued.TheVariants.{Input, Name, Get as GetOption, Set as SetOption, Settings, Script, Key, Cause}
 use Rattle.bb_words.specs.declared.row.Row.{Row}
 use Rattle.bb_words.specs.declared.row.Row.TheVariants as rows
 use Rattle.bb_words.specs.Options.{given_once}
@@ -20,6 +21,7 @@ abbrev pub command_name_of : Row → List ℕ
 command_name_of rows.State = codes "state"
 command_name_of rows.MarkGood = codes "mark-good"
 command_name_of rows.Boot = codes "boot"
+command_name_of rows.Shell = codes "shell"
 
 -- the command that is called so
 abbrev pub row_of : List ℕ → Option Row
@@ -27,6 +29,7 @@ row_of word =
     if bytes_eq word (command_name_of rows.State) then Some rows.State
     else if bytes_eq word (command_name_of rows.MarkGood) then Some rows.MarkGood
     else if bytes_eq word (command_name_of rows.Boot) then Some rows.Boot
+    else if bytes_eq word (command_name_of rows.Shell) then Some rows.Shell
     else None
 
 -- whether every row has an option: it says which state, or by which key
@@ -43,6 +46,9 @@ has_besides rows.State SetOption = true
 has_besides rows.MarkGood Settings = true
 has_besides rows.Boot Settings = true
 has_besides rows.Boot Cause = true
+has_besides rows.Shell Settings = true
+has_besides rows.Shell Script = true
+has_besides rows.Shell Cause = true
 has_besides _ _ = false
 
 -- whether a row has an option with a value
@@ -63,8 +69,18 @@ abbrev pub described_in : Given → Option Described
 described_in given =
     option_map (λ file. record { file = file; name = given.name; key = given.key }) given.file
 
+-- what `boot` is given: the state, the settings and the cause
+abbrev pub boot_in : Given → Option BootCommand
+boot_in given =
+    option_and_then
+    (λ described.
+    option_map
+    (λ settings. record { described = described; settings = settings; cause = cause_given given })
+    given.settings)
+    (described_in given)
+
 -- the command that its options make, where those are given that must be: of `state` the file, of
--- `mark-good` and `boot` that of the settings too
+-- `mark-good`, `boot` and `shell` that of the settings too, and of `shell` that of the script
 abbrev pub command_of : Row → Given → Option Command
 command_of rows.State given =
     option_map
@@ -77,17 +93,12 @@ command_of rows.MarkGood given =
     (λ settings. commands.MarkGood (record { described = described; settings = settings }))
     given.settings)
     (described_in given)
-command_of rows.Boot given =
+command_of rows.Boot given = option_map (λ boot. commands.Boot boot) (boot_in given)
+command_of rows.Shell given =
     option_and_then
-    (λ described.
-    option_map
-    (λ settings. commands.Boot (record {
-      described = described;
-      settings = settings;
-      cause = cause_given given;
-    }))
-    given.settings)
-    (described_in given)
+    (λ boot.
+    option_map (λ script. commands.Shell (record { boot = boot; script = script })) given.script)
+    (boot_in given)
 
 -- whether an option may come: the command has it, and it wasn't given before if it comes once
 abbrev pub may_come : Row → Valued → Given → Bool

@@ -8,6 +8,7 @@ pub enum Command {
     State(StateCommand),
     MarkGood(MarkGoodCommand),
     Boot(BootCommand),
+    Shell(ShellCommand),
     Menu(MenuCommand),
     Drill(DrillNumbers),
 }
@@ -66,6 +67,15 @@ pub struct BootCommand {
     pub settings: Text,
     /// `--cause`: why the machine starts, `other` if that isn't said.
     pub cause: CauseWord,
+}
+
+/// `shell`: a script is run, which may start a target as `boot` does.
+#[derive(Debug, Drop)]
+pub struct ShellCommand {
+    /// What `boot` is given too.
+    pub boot: BootCommand,
+    /// `-x`: the file with the script.
+    pub script: Text,
 }
 
 /// `menu`: the order of the boot entries in a folder.

@@ -1,4 +1,5 @@
 ghost use Rattle.std.specs.Prelude.{◌≡◌, None, Some, IfOk, IfErr, OnOk, option_and_then};
+ghost use Rattle.std.specs.Prelude.{unwrap_or};
 ghost use Rattle.std.specs.Option.{ok_or, option_map};
 ghost use Rattle.bb_words.specs.Answer.{IsSized, Refuses};
 ghost use Rattle.bb_words.specs.Options.{given_once, none_given, set_in, joined_value_in};
@@ -11,8 +12,8 @@ ghost use Rattle.bb_words.specs.Words.{before_value, command_at, next};
 use crate::option::{Valued, cause_of, cut_at_sign, dump_of, value_in, valued_of};
 use crate::row::Row;
 use crate::{
-    Action, ActionList, BootCommand, CauseWord, Command, Described, MarkGoodCommand, StateCommand,
-    WordsError,
+    Action, ActionList, BootCommand, CauseWord, Command, Described, MarkGoodCommand, ShellCommand,
+    StateCommand, WordsError,
 };
 use bb_base::{NoMemory, Text};
 use std::alloc::Global;
@@ -23,6 +24,7 @@ pub(crate) struct Given {
     pub file: Option<Text>,
     pub name: Option<Text>,
     pub settings: Option<Text>,
+    pub script: Option<Text>,
     pub key: Option<Text>,
     pub cause: Option<CauseWord>,
     pub actions: ActionList,
@@ -37,6 +39,7 @@ impl Given {
             file: None,
             name: None,
             settings: None,
+            script: None,
             key: None,
             cause: None,
             actions: ActionList::none(alloc),
@@ -122,6 +125,7 @@ impl Given {
             Valued::Input => self.file.is_some(),
             Valued::Name => self.name.is_some(),
             Valued::Settings => self.settings.is_some(),
+            Valued::Script => self.script.is_some(),
             Valued::Key => self.key.is_some(),
             Valued::Cause => self.cause.is_some(),
             Valued::Get | Valued::Set => false,
@@ -144,6 +148,7 @@ impl Given {
             Valued::Input => self.file = Some(Text::of(alloc, value)?),
             Valued::Name => self.name = Some(Text::of(alloc, value)?),
             Valued::Settings => self.settings = Some(Text::of(alloc, value)?),
+            Valued::Script => self.script = Some(Text::of(alloc, value)?),
             Valued::Key => self.key = Some(Text::of(alloc, value)?),
             Valued::Cause => self.cause = Some(cause_of(value).ok_or(WordsError::BadWord(place))?),
             Valued::Get => self.actions.push(Action::Get(Text::of(alloc, value)?))?,
@@ -177,22 +182,39 @@ impl Given {
             name: self.name,
             key: self.key,
         };
-        match (row, self.settings) {
-            (Row::State, _) => Ok(Command::State(StateCommand {
+        match (row, self.settings, self.script) {
+            (Row::State, _, _) => Ok(Command::State(StateCommand {
                 described,
                 actions: self.actions,
             })),
-            (Row::MarkGood, Some(settings)) => Ok(Command::MarkGood(MarkGoodCommand {
+            (Row::MarkGood, Some(settings), _) => Ok(Command::MarkGood(MarkGoodCommand {
                 described,
                 settings,
             })),
-            (Row::Boot, Some(settings)) => Ok(Command::Boot(BootCommand {
-                described,
-                settings,
-                cause: self.cause.unwrap_or(CauseWord::Other),
+            (Row::Boot, Some(settings), _) => {
+                Ok(Command::Boot(boot_by(described, settings, self.cause)))
+            }
+            (Row::Shell, Some(settings), Some(script)) => Ok(Command::Shell(ShellCommand {
+                boot: boot_by(described, settings, self.cause),
+                script,
             })),
             _ => Err(WordsError::BadWord(place)),
         }
+    }
+}
+
+// What `boot` is given. The cause is `other` where none is said.
+fn boot_by(described: Described, settings: Text, cause: Option<CauseWord>) -> BootCommand
+    ensures { result ≡ record {
+      described = described;
+      settings = settings;
+      cause = unwrap_or cause CauseWord.Other;
+    } }
+{
+    BootCommand {
+        described,
+        settings,
+        cause: cause.unwrap_or(CauseWord::Other),
     }
 }
 

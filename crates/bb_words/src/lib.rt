@@ -19,7 +19,7 @@ mod word;
 pub use action_list::ActionList;
 pub use command::{
     Action, BootCommand, CauseWord, Command, Described, DrillNumbers, MarkGoodCommand, MenuCommand,
-    RawAction, RawCommand, StateCommand,
+    RawAction, RawCommand, ShellCommand, StateCommand,
 };
 pub use error::WordsError;
 pub use law::{law_accepted_words, law_first_bad_word};

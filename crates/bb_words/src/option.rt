@@ -21,6 +21,8 @@ pub(crate) enum Valued {
     Settings,
     /// `-k`, which has no long form
     Key,
+    /// `-x`, which has no long form
+    Script,
     /// `--cause`, whose value is the next word alone
     Cause,
 }
@@ -56,6 +58,7 @@ pub(crate) fn valued_of(word: &str) -> Option<Valued>
         "-s" => Some(Valued::Set),
         "-c" => Some(Valued::Settings),
         "-k" => Some(Valued::Key),
+        "-x" => Some(Valued::Script),
         "--cause" => Some(Valued::Cause),
         _ => long_of(word),
     }

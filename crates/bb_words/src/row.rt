@@ -10,6 +10,7 @@ pub(crate) enum Row {
     State,
     MarkGood,
     Boot,
+    Shell,
 }
 
 impl Row {
@@ -21,6 +22,7 @@ impl Row {
             "state" => Some(Row::State),
             "mark-good" => Some(Row::MarkGood),
             "boot" => Some(Row::Boot),
+            "shell" => Some(Row::Shell),
             _ => None,
         }
     }
@@ -38,8 +40,9 @@ impl Row {
     {
         match valued {
             Valued::Get | Valued::Set => matches!(self, Row::State),
-            Valued::Settings => matches!(self, Row::MarkGood | Row::Boot),
-            Valued::Cause => matches!(self, Row::Boot),
+            Valued::Settings => matches!(self, Row::MarkGood | Row::Boot | Row::Shell),
+            Valued::Script => matches!(self, Row::Shell),
+            Valued::Cause => matches!(self, Row::Boot | Row::Shell),
             Valued::Input | Valued::Name | Valued::Key => false,
         }
     }

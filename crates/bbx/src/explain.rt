@@ -61,6 +61,7 @@ fn sentence_of(status: Status) -> Option<(&'static str, &'static str)> {
         Status::NoTarget => ("no target has a priority and attempts left", ""),
         Status::StartFailed => ("no target could be started, and the last one was ", ""),
         Status::BadSettings => ("the settings can't be used: ", ""),
+        Status::BadScript | Status::ScriptFailed | Status::StepLimit => return of_script(status),
         Status::SinkFault => ("the output can't be written", ""),
         Status::BadKey => (
             "the state's records stand under a key, and there is none: ",
@@ -69,6 +70,16 @@ fn sentence_of(status: Status) -> Option<(&'static str, &'static str)> {
         Status::NoGood => ("no target was chosen last, since last_chosen is ", ""),
         Status::NoMemory => ("memory was refused", ""),
     })
+}
+
+// The same of the statuses that only a script has.
+fn of_script(status: Status) -> Option<(&'static str, &'static str)> {
+    match status {
+        Status::BadScript => Some(("the script can't be read: ", "")),
+        Status::ScriptFailed => Some(("the script ended with status ", "")),
+        Status::StepLimit => Some(("the script has more than 10000 commands and rounds", "")),
+        _ => None,
+    }
 }
 
 // What stands before the file's name and after it.

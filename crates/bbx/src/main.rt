@@ -102,7 +102,7 @@ fn begin<'r>(rt: &'r HostRuntime, line: &CommandLine) -> Result<FileBoard<'r>, E
     }
 }
 
-// Opens the device, and makes way for the plan of a boot.
+// Opens the device, and makes way for the plan of a boot, which a script may do too.
 fn open<'r>(
     rt: &'r HostRuntime,
     device: &Device,
@@ -127,7 +127,7 @@ fn open<'r>(
 
 fn starts_a_system(words: &TextList) -> bool {
     match words.get(0) {
-        Some(command) => command.as_str() == "boot",
+        Some(command) => matches!(command.as_str(), "boot" | "shell"),
         None => false,
     }
 }

@@ -54,6 +54,12 @@ COMMAND
                        attempts left, and the rounds tried.
      --cause WORD      why the machine starts: power-on, reset or other, which it is without the
                        option
+  shell -i FILE -c FILE -x FILE [-n NAME] [-k FILE] [--cause WORD]
+                       reads what `boot` reads, and the script FILE of -x. Loads the state and
+                       runs the script, which may set variables, save, mark the last target
+                       good, and boot. A start ends it, and DEVICE.plan has its plan, as after a
+                       boot. Prints what the script sends.
+     -x FILE           the script, up to 65536 bytes
   menu --dir DIR       prints a line for each boot entry of the folder DIR: its file's name, a
                        space and its title. Where the title is empty, `linux` stands in its
                        place. The first is the one that starts a target whose setting names the
@@ -87,9 +93,13 @@ STATUS
   10 NoTarget    no target has a priority and attempts left. Nothing is saved.
   11 StartFailed no target could be started. The line has the last one, and the line before it
                  how many rounds were tried.
+  12 BadScript   the script isn't one. The line has the cause, and its place in bytes where it
+                 has one.
   13 BadSettings the settings aren't settings, or a variable of theirs isn't in the layout or is
                  no uint32. The line has the cause, and its line or the variable.
   14 SinkFault   the output can't be written
+  15 ScriptFailed  the script ended with a status other than 0, which the line has
+  16 StepLimit   the script has more than 10000 commands and rounds of loops
   17 BadKey      the state's records stand under a key, and -k is missing or its FILE holds
                  none. The line has the cause.
   18 NoGood      no target was chosen last. The line has last_chosen.

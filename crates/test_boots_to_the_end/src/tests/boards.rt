@@ -1,6 +1,6 @@
 // The example board, and the same with smaller flashes: of 192 bytes, with a stride of 64 for each
-// copy, and of 384 in pages of 64, with a block of 128 for each copy, which holds one record or a
-// log of two entries.
+// copy; of 384 in pages of 64, with a block of 128 for each copy, which holds one record or a log
+// of two entries; and of 12,288 in the same pages, with a log of 64 entries for each copy.
 use bb_base::{Bytes, NoMemory};
 use bb_flash::{MemBoard, geometry_of};
 use std::alloc::Global;
@@ -14,6 +14,7 @@ pub(super) enum Kind {
     Stride,
     OneBlock,
     Log,
+    LongLog,
 }
 
 fn geometry_word(kind: Kind) -> &'static str {
@@ -21,6 +22,7 @@ fn geometry_word(kind: Kind) -> &'static str {
         Kind::Example => "ov:1048576",
         Kind::Stride => "ov:192",
         Kind::OneBlock | Kind::Log => "er:64:128:384",
+        Kind::LongLog => "er:64:4096:12288",
     }
 }
 
@@ -29,6 +31,15 @@ fn room(kind: Kind) -> u32 {
     match kind {
         Kind::Example => 8000000,
         Kind::Stride | Kind::OneBlock | Kind::Log => 8000,
+        Kind::LongLog => 40000,
+    }
+}
+
+// So many calls a session may make of it.
+fn most_calls(kind: Kind) -> u32 {
+    match kind {
+        Kind::Example | Kind::Stride | Kind::OneBlock | Kind::Log => 100,
+        Kind::LongLog => 1000,
     }
 }
 
@@ -38,7 +49,13 @@ pub(super) fn fresh(alloc: Global, kind: Kind) -> Result<MemBoard, Fail> {
         return Err(Fail::from("no geometry"));
     };
     let bytes = vec![in alloc; 0xffu8; geometry.size as usize]?;
-    Ok(MemBoard::of(alloc, geometry, bytes.as_slice(), 100, room(kind))?)
+    Ok(MemBoard::of(
+        alloc,
+        geometry,
+        bytes.as_slice(),
+        most_calls(kind),
+        room(kind),
+    )?)
 }
 
 // Its devicetree.
@@ -80,12 +97,16 @@ fn partition(kind: Kind) -> &'static [u8] {
             b"            partition@0 { label = \"state\"; reg = <0x0 0x180>; phandle = <0x01>; };
 "
         }
+        Kind::LongLog => {
+            b"            partition@0 { label = \"state\"; reg = <0x0 0x3000>; phandle = <0x01>; };
+"
+        }
     }
 }
 
 fn storage(kind: Kind) -> &'static [u8] {
     match kind {
-        Kind::Example | Kind::Stride | Kind::Log => {
+        Kind::Example | Kind::Stride | Kind::Log | Kind::LongLog => {
             b"        };
     };
     state {

@@ -49,13 +49,27 @@ pub(super) fn files(alloc: Global, kind: Kind, retry: Retry) -> Result<MemFiles,
     Ok(files)
 }
 
-fn words(alloc: Global) -> Result<TextList, Fail> {
+fn words(alloc: Global, line: &str) -> Result<TextList, Fail> {
     let mut list = TextList::none(alloc);
-    for word in ["boot", "-i", "board.dts", "-c", "set.txt"] {
+    for word in line.split(' ') {
         list.push(Text::of(alloc, word)?)?;
     }
     Ok(list)
 }
+
+// What a session of the words of this line answers.
+pub(super) fn session(
+    alloc: Global,
+    files: &mut MemFiles,
+    device: &mut MemBoard,
+    line: &str,
+    out: &mut MemSink,
+) -> Result<Status, Fail> {
+    let list = words(alloc, line)?;
+    Ok(run(alloc, &list, files, device, out))
+}
+
+const BOOT: &str = "boot -i board.dts -c set.txt";
 
 // What a boot answers.
 pub(super) fn boot(
@@ -64,8 +78,7 @@ pub(super) fn boot(
     device: &mut MemBoard,
 ) -> Result<Status, Fail> {
     let mut out = MemSink::with_room(alloc, 100)?;
-    let list = words(alloc)?;
-    Ok(run(alloc, &list, files, device, &mut out))
+    session(alloc, files, device, BOOT, &mut out)
 }
 
 // What a boot answers and sends.
@@ -78,8 +91,7 @@ pub(super) fn says(
     sends: &str,
 ) -> Result<(), Fail> {
     let mut out = MemSink::with_room(alloc, 100)?;
-    let list = words(alloc)?;
-    let answer = run(alloc, &list, files, device, &mut out);
+    let answer = session(alloc, files, device, BOOT, &mut out)?;
     assert_eq!(rt; out.sent_bytes(), sends.as_bytes());
     assert_eq!(rt; answer, status);
     Ok(())

@@ -42,6 +42,24 @@ fn a_boot_has_its_bad_words(rt: HostRuntime) -> Result<(), Fail> {
     are_bad(&rt, rt.alloc(), boots())
 }
 
+fn shells() -> &'static [(&'static str, usize)] {
+    &[
+        ("shell -i a -c b", 5),
+        ("shell -i a -x b", 5),
+        ("shell -i a -c b -x", 6),
+        ("shell -x=a", 1),
+        ("shell -x a -x a", 3),
+        ("shell -s a=b", 1),
+        ("boot -x a", 1),
+        ("state -x a", 1),
+    ]
+}
+
+#[test]
+fn a_script_has_its_bad_words(rt: HostRuntime) -> Result<(), Fail> {
+    are_bad(&rt, rt.alloc(), shells())
+}
+
 fn menus() -> &'static [(&'static str, usize)] {
     &[
         ("menu", 1),

@@ -4,7 +4,7 @@ use super::lists::words_in;
 use bb_base::Text;
 use bb_words::{
     Action, BootCommand, CauseWord, Command, MarkGoodCommand, MenuCommand, RawAction, RawCommand,
-    StateCommand, read_words,
+    ShellCommand, StateCommand, read_words,
 };
 use std::alloc::Global;
 use std::process::Abort;
@@ -43,6 +43,13 @@ fn mark_good(alloc: Global, line: &str) -> Result<MarkGoodCommand, Fail> {
 fn boot(alloc: Global, line: &str) -> Result<BootCommand, Fail> {
     match command(alloc, line)? {
         Command::Boot(boot) => Ok(boot),
+        _ => Err(Fail::from("another command")),
+    }
+}
+
+fn shell(alloc: Global, line: &str) -> Result<ShellCommand, Fail> {
+    match command(alloc, line)? {
+        Command::Shell(shell) => Ok(shell),
         _ => Err(Fail::from("another command")),
     }
 }
@@ -156,6 +163,19 @@ fn a_cause_is_said(rt: HostRuntime) -> Result<(), Fail> {
     says(&rt, &boot.described.name, "--cause");
     says(&rt, &boot.described.key, "key.hex");
     same(&rt, boot.cause, CauseWord::PowerOn);
+    Ok(())
+}
+
+#[test]
+fn a_script_is_named(rt: HostRuntime) -> Result<(), Fail> {
+    let line = "shell -k key.hex -x -x --cause reset --name=a -c set.txt -i b.dts";
+    let shell = shell(rt.alloc(), line)?;
+    has_text(&rt, &shell.script, "-x");
+    has_text(&rt, &shell.boot.described.file, "b.dts");
+    has_text(&rt, &shell.boot.settings, "set.txt");
+    says(&rt, &shell.boot.described.name, "a");
+    says(&rt, &shell.boot.described.key, "key.hex");
+    same(&rt, shell.boot.cause, CauseWord::Reset);
     Ok(())
 }
 

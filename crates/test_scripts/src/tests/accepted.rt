@@ -1,5 +1,5 @@
 // Scripts that are read, and how many steps they have.
-use bb_script::{Script, ScriptCommand, read_script};
+use bb_script::{Script, ScriptCommand, SpeltScript, read_script};
 use std::alloc::Global;
 use std::process::Abort;
 use std::test::Fail;
@@ -11,6 +11,13 @@ fn script(alloc: Global, text: &[u8]) -> Result<Script, Fail> {
 fn has_steps(rt: &impl Abort, alloc: Global, text: &[u8], wanted: usize) -> Result<(), Fail> {
     let script = script(alloc, text)?;
     assert_eq!(rt; script.steps.len(), wanted);
+    Ok(())
+}
+
+#[test]
+fn a_spelt_script_has_its_steps(rt: HostRuntime) -> Result<(), Fail> {
+    let spelt = SpeltScript::read(rt.alloc(), b"a && b; c")?;
+    assert_eq!(rt; spelt.as_script().steps.len(), 3);
     Ok(())
 }
 

@@ -2,8 +2,9 @@ use Rattle.std.proofs.Common.{List, Option, ap, refl, sym}
 use Rattle.bb_chooser.specs.Binding.{Binding}
 use Rattle.bb_flash.specs.declared.plan.Plan.{Plan as StartPlan}
 use Rattle.bb_layout.specs.Layout.{fields_of}
-use Rattle.bb_plan.specs.PlanSteps.{actions_by, binding_reading, cause_of, plans_reading}
-use Rattle.bb_plan.specs.Plan.{Boot, Good, Work, acting, booting, work_reading}
+use Rattle.bb_script.specs.Tree.{ScriptTree}
+use Rattle.bb_plan.specs.PlanSteps.{actions_by, binding_reading, cause_of, plans_reading, script_reading}
+use Rattle.bb_plan.specs.Plan.{Boot, Good, Run, Work, acting, boot_reading, run_of, run_reading, work_reading}
 use Rattle.bb_plan.specs.FilesRead.{Yields}
 use Rattle.bb_plan.proofs.Planned.{acting_by, unfit}
 use Rattle.bb_plan.proofs.Readings.{gone_on, refused_step, same_reading, step, stopped, yielded}
@@ -48,7 +49,7 @@ pub returns-in_err-chooser-in-Boot-clause-read : goal.returns-in_err-chooser-in-
 returns-in_err-chooser-in-Boot-clause-read g c =
     let layout = fields_of c.args.keyed.now.layout in
     same_reading (λ r. work_reading r layout) (λ (w : Work). w) c.in-Boot.is
-    (stopped (booting c.in-Boot.cause) (binding_reading c.in-Boot.settings layout)
+    (stopped (boot_reading c.in-Boot.cause) (binding_reading c.in-Boot.settings layout)
     (λ (b : Binding). b) (λ (w : Work). w) c.in_err-chooser-in-Boot.ensures.read
     c.from_residual-in_err-chooser-in-Boot.result c.from_residual-in_err-chooser-in-Boot.ensures.1)
 
@@ -57,7 +58,7 @@ returns-in_err-plans-in-Boot-clause-read g c =
     let layout = fields_of c.args.keyed.now.layout in
     let targets = c.in_ok-chooser-in-Boot.chooser in
     same_reading (λ r. work_reading r layout) (λ (w : Work). w) c.in-Boot.is
-    (gone_on (booting c.in-Boot.cause) (binding_reading c.in-Boot.settings layout)
+    (gone_on (boot_reading c.in-Boot.cause) (binding_reading c.in-Boot.settings layout)
     (λ (b : Binding). b) (λ (w : Work). w) targets c.in_ok-chooser-in-Boot.ensures.read
     (stopped
     (λ (plans : List (Option StartPlan)). Yields (Boot targets (cause_of c.in-Boot.cause) plans))
@@ -70,7 +71,7 @@ returns-in_ok-plans-in-Boot-clause-read g c =
     let layout = fields_of c.args.keyed.now.layout in
     let targets = c.in_ok-chooser-in-Boot.chooser in
     same_reading (λ r. work_reading r layout) (λ (w : Work). w) c.in-Boot.is
-    (gone_on (booting c.in-Boot.cause) (binding_reading c.in-Boot.settings layout)
+    (gone_on (boot_reading c.in-Boot.cause) (binding_reading c.in-Boot.settings layout)
     (λ (b : Binding). b) (λ (w : Work). w) targets c.in_ok-chooser-in-Boot.ensures.read
     (gone_on
     (λ (plans : List (Option StartPlan)). Yields (Boot targets (cause_of c.in-Boot.cause) plans))
@@ -78,3 +79,62 @@ returns-in_ok-plans-in-Boot-clause-read g c =
     c.in_ok-plans-in-Boot.plans c.in_ok-plans-in-Boot.ensures.read
     (yielded (λ (w : Work). w)
     (ap (λ cause. Boot targets cause c.in_ok-plans-in-Boot.plans) (sym c.cause_of.ensures)))))
+
+pub returns-in_err-chooser-in-Run-clause-read : goal.returns-in_err-chooser-in-Run-clause-read
+returns-in_err-chooser-in-Run-clause-read g c =
+    let layout = fields_of c.args.keyed.now.layout in
+    same_reading (λ r. work_reading r layout) (λ (w : Work). w) c.in-Run.is
+    (stopped (run_reading c.in-Run.script_file c.in-Run.cause)
+    (binding_reading c.in-Run.settings layout)
+    (λ (b : Binding). b) (λ (w : Work). w) c.in_err-chooser-in-Run.ensures.read
+    c.from_residual-in_err-chooser-in-Run.result c.from_residual-in_err-chooser-in-Run.ensures.1)
+
+pub returns-in_err-script-in-Run-clause-read : goal.returns-in_err-script-in-Run-clause-read
+returns-in_err-script-in-Run-clause-read g c =
+    let layout = fields_of c.args.keyed.now.layout in
+    let targets = c.in_ok-chooser-in-Run.chooser in
+    same_reading (λ r. work_reading r layout) (λ (w : Work). w) c.in-Run.is
+    (gone_on (run_reading c.in-Run.script_file c.in-Run.cause)
+    (binding_reading c.in-Run.settings layout)
+    (λ (b : Binding). b) (λ (w : Work). w) targets c.in_ok-chooser-in-Run.ensures.read
+    (stopped (run_of c.in-Run.cause targets) (script_reading c.in-Run.script_file)
+    (λ (s : ScriptTree). s) (λ (w : Work). w) c.in_err-script-in-Run.ensures.read
+    c.from_residual-in_err-script-in-Run.result c.from_residual-in_err-script-in-Run.ensures.1))
+
+pub returns-in_err-plans-in-Run-clause-read : goal.returns-in_err-plans-in-Run-clause-read
+returns-in_err-plans-in-Run-clause-read g c =
+    let layout = fields_of c.args.keyed.now.layout in
+    let targets = c.in_ok-chooser-in-Run.chooser in
+    let script = c.in_ok-script-in-Run.script in
+    same_reading (λ r. work_reading r layout) (λ (w : Work). w) c.in-Run.is
+    (gone_on (run_reading c.in-Run.script_file c.in-Run.cause)
+    (binding_reading c.in-Run.settings layout)
+    (λ (b : Binding). b) (λ (w : Work). w) targets c.in_ok-chooser-in-Run.ensures.read
+    (gone_on (run_of c.in-Run.cause targets) (script_reading c.in-Run.script_file)
+    (λ (s : ScriptTree). s) (λ (w : Work). w) script c.in_ok-script-in-Run.ensures.read
+    (stopped
+    (λ (plans : List (Option StartPlan)).
+    Yields (Run script targets (cause_of c.in-Run.cause) plans))
+    (plans_reading targets) (λ (plans : List (Option StartPlan)). plans) (λ (w : Work). w)
+    c.in_err-plans-in-Run.ensures.read c.from_residual-in_err-plans-in-Run.result
+    c.from_residual-in_err-plans-in-Run.ensures.1)))
+
+pub returns-in_ok-plans-in-Run-clause-read : goal.returns-in_ok-plans-in-Run-clause-read
+returns-in_ok-plans-in-Run-clause-read g c =
+    let layout = fields_of c.args.keyed.now.layout in
+    let targets = c.in_ok-chooser-in-Run.chooser in
+    let script = c.in_ok-script-in-Run.script in
+    same_reading (λ r. work_reading r layout) (λ (w : Work). w) c.in-Run.is
+    (gone_on (run_reading c.in-Run.script_file c.in-Run.cause)
+    (binding_reading c.in-Run.settings layout)
+    (λ (b : Binding). b) (λ (w : Work). w) targets c.in_ok-chooser-in-Run.ensures.read
+    (gone_on (run_of c.in-Run.cause targets) (script_reading c.in-Run.script_file)
+    (λ (s : ScriptTree). s) (λ (w : Work). w) script c.in_ok-script-in-Run.ensures.read
+    (gone_on
+    (λ (plans : List (Option StartPlan)).
+    Yields (Run script targets (cause_of c.in-Run.cause) plans))
+    (plans_reading targets) (λ (plans : List (Option StartPlan)). plans) (λ (w : Work). w)
+    c.in_ok-plans-in-Run.plans c.in_ok-plans-in-Run.ensures.read
+    (yielded (λ (w : Work). w)
+    (ap (λ cause. Run script targets cause c.in_ok-plans-in-Run.plans)
+    (sym c.cause_of-in-Run.ensures))))))

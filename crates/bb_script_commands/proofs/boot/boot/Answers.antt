@@ -10,4 +10,5 @@ pub returns : goal.returns
 returns g c =
     let boot = c.boot_run-end.ensures in
     boot_called c.args.state.now c.boot_run-end.new.state c.args.by.now c.args.so_far.now _ c.boot_run-end.result c.reply_to.result
-    (g.B.Flash.device c.args.board.now) (g.B.Flash.device c.boot_run-end.new.board) c.requires boot.booted boot.keyed boot.sure boot.on refl c.ended_fault-so_far.ensures c.reply_to.ensures
+    (g.B.Flash.device c.args.board.now) (g.B.Flash.device c.boot_run-end.new.board) c.requires boot.booted boot.keyed boot.sure boot.on refl c.ended_fault-so_far.ensures
+    c.reply_to.ensures.counted c.reply_to.ensures.replies

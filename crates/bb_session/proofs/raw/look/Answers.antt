@@ -2,6 +2,7 @@ use Rattle.std.proofs.Common.{◌≡◌, ◌∙◌, [], Err, refl, ap, option_ma
 use Rattle.std.specs.Vec.{with_items}
 use Rattle.bb_state.specs.State.{keyed_of}
 use Rattle.bb_plan.specs.Refusal.{copy_refusal}
+use Rattle.bb_session.specs.Acting.{no_answers}
 use Rattle.bb_session.specs.Doing.{IsTold}
 use Rattle.bb_session.specs.Looking.{look_text}
 use Rattle.bb_plan.specs.declared.plan.Work.TheVariants.{Show}
@@ -12,7 +13,7 @@ pub returns-in_err-found-clause-gives : goal.returns-in_err-found-clause-gives
 returns-in_err-found-clause-gives g c =
     let done = c.in_err-found.ensures in
     worked_out (keyed_of c.args.state.now) Show (g.F.Flash.device c.args.flash.now)
-    (g.F.Flash.device c.look.new.flash) (Err c.in_err-found.field-0.0) [] c.from_residual-in_err-found.result
+    (g.F.Flash.device c.look.new.flash) (Err c.in_err-found.field-0.0) no_answers c.from_residual-in_err-found.result
     (record {
       looked = record { told = λ image told. tt; fails = done.fails; faults = done.faults; read_faults = done.read_faults; quiet = done.quiet };
       none = refl;
@@ -33,4 +34,4 @@ returns-clause-gives g c =
     (ap look_text
     (ap (option_map (λ area. area.items)) c.then_some.ensures
     ∙ refilled c.in_ok-found.found filled c.look.new.area items))
-    (c.of.ensures.told _ c.look_text.ensures))
+    (c.of.ensures _ c.look_text.ensures))

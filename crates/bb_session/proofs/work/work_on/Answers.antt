@@ -11,9 +11,9 @@ use Rattle.bb_session.proofs.work.work_on.Goals as goal
 pub returns-in_err-load-clause-gives : goal.returns-in_err-load-clause-gives
 returns-in_err-load-clause-gives g c =
     let done = c.in_err-load.ensures in
-    done_unloaded (keyed_of c.args.state.now) c.args.work.now (g.B.Flash.device c.args.board.now)
+    done_unloaded (keyed_of c.args.state) c.args.work (g.B.Flash.device c.args.board.now)
     (g.B.Flash.device c.load.new.flash) c.in_err-load.field-0.0 c.from_residual.result
-    c.requires.on.geometry (let e = c.needs_table.ensures in cc) c.args.state.now.facts.copied.least
+    c.requires.on.geometry (let e = c.needs_table.ensures in cc) c.args.state.facts.copied.least
     (record {
       images = done.images;
       outside = done.outside;
@@ -26,15 +26,15 @@ returns-in_err-load-clause-gives g c =
 
 pub returns-clause-gives : goal.returns-clause-gives
 returns-clause-gives g c =
-    let keyed = keyed_of c.args.state.now in
+    let keyed = keyed_of c.args.state in
     let mid = g.B.Flash.device c.load.new.flash in
     let to = g.B.Flash.device c.work_at.new.board in
     let table = c.load.new.self.table in
     let done = c.in_ok-load.ensures in
     let gave : IsLoadedArea keyed table c.in_ok-load.field-0 (g.B.Flash.device c.args.board.now) mid =
     record { gives = done.gives; defaults = done.defaults; exact = done.exact; erases = done.erases } in
-    done_out keyed c.args.work.now (g.B.Flash.device c.args.board.now) mid to table c.in_ok-load.field-0 c.work_at.result
-    c.requires.on.geometry (let e = c.needs_table.ensures in cc) c.args.state.now.facts.copied.least gave
+    done_out keyed c.args.work (g.B.Flash.device c.args.board.now) mid to table c.in_ok-load.field-0 c.work_at.result
+    c.requires.on.geometry (let e = c.needs_table.ensures in cc) c.args.state.facts.copied.least gave
     (record {
       images = done.images;
       outside = done.outside;
@@ -43,10 +43,10 @@ returns-clause-gives g c =
       gives = record { area = table; loaded = c.in_ok-load.field-0; gave = gave; taken = refl; used_is = refl };
       fails = tt;
     })
-    (subst (λ (k : Keyed). IsDone k (used_after c.in_ok-load.field-0) table c.args.work.now mid to c.work_at.result) done.keyed
-    (subst (λ (u : Option ℕ). IsDone (keyed_of c.load.new.self) u table c.args.work.now mid to c.work_at.result) done.used c.work_at.ensures.did))
+    (subst (λ (k : Keyed). IsDone k (used_after c.in_ok-load.field-0) table c.args.work mid to c.work_at.result) done.keyed
+    (subst (λ (u : Option ℕ). IsDone (keyed_of c.load.new.self) u table c.args.work mid to c.work_at.result) done.used c.work_at.ensures.did))
 
 pub returns-clause-later : goal.returns-clause-later
 returns-clause-later g c =
-    done_later (keyed_of c.load.new.self) _ _ c.args.work.now (g.B.Flash.device c.args.board.now) (g.B.Flash.device c.load.new.flash) _
+    done_later (keyed_of c.load.new.self) _ _ c.args.work (g.B.Flash.device c.args.board.now) (g.B.Flash.device c.load.new.flash) _
     c.work_at.ensures.did.answers c.work_at.ensures.did.ran c.in_ok-load.ensures.later

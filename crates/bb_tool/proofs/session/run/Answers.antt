@@ -4,8 +4,9 @@ use Rattle.bb_plan.specs.declared.status.Status.TheVariants as statuses
 use Rattle.bb_tool.specs.Calls.{IsSession, KeepsFiles, KeepsHistory, LeavesUnnamedFiles}
 use Rattle.bb_tool.specs.Clauses.{EndsEarly, KeepsTheCopies, KnowsItsCauses, LeavesTheRest, SendsTheSession, StartsTheBest, WorksUndisturbed}
 use Rattle.bb_tool.specs.Ran.{Ran}
-use Rattle.bb_tool.proofs.Endings.{bad_words_of, comes_alone, comes_planned, copy_of_fault, file_fault_of, front_of, no_memory_of, read_fault_of, sink_fault_of, sink_faults_of, unasked_of, write_fault_of}
+use Rattle.bb_tool.proofs.Endings.{bad_words_of, comes_alone, comes_planned, copy_of_fault, file_fault_of, front_of, read_fault_of, sink_fault_of, sink_faults_of, unasked_of, write_fault_of}
 use Rattle.bb_tool.proofs.Copying.{at_exit, beside, calm_of, on_a_trail, unread_of, write_faults_of}
+use Rattle.bb_tool.proofs.ScriptEnds.{no_memory_of, script_failed_of, shown_of, step_limit_of}
 use Rattle.bb_tool.proofs.Starting.{boots_of, rounds_of, start_causes_of, start_failed_of, start_faults_of, starts_of, starts_once_of, starts_saved_of}
 use Rattle.bb_tool.proofs.Tables.{no_good_of, no_target_of}
 use Rattle.bb_tool.proofs.Wholes.{early_done_of, early_memory_of, early_of, file_faults_of, undisturbed_alone_of, undisturbed_of, unplanned_alone_of, unplanned_of}
@@ -71,6 +72,7 @@ causes ran session later = record {
   bad_key = comes_planned ran session statuses.BadKey (λ h. cc) (λ h. cc) refl (λ h. cc);
   bad_variable = comes_planned ran session statuses.BadVariable (λ h. cc) (λ h. cc) refl (λ h. cc);
   bad_settings = comes_planned ran session statuses.BadSettings (λ h. cc) (λ h. cc) refl (λ h. cc);
+  bad_script = comes_planned ran session statuses.BadScript (λ h. cc) (λ h. cc) refl (λ h. cc);
   read_fault = read_fault_of ran session later.read_faults;
   read_fault_content = unread_of ran;
   write_fault = write_fault_of ran session later.faults;
@@ -80,6 +82,9 @@ causes ran session later = record {
   no_target = no_target_of ran session;
   start_failed = start_failed_of ran session;
   start_failed_cause = start_causes_of ran;
+  script_failed = script_failed_of ran session;
+  script_failed_status = shown_of ran session;
+  step_limit = step_limit_of ran session;
   sink_fault = sink_fault_of ran session;
   no_memory = no_memory_of ran session;
 }

@@ -1,5 +1,5 @@
 -- What a session gave before anything was sent, by its plan and the work of that.
-use Rattle.std.proofs.Common.{◌≡◌, ℕ, List, [], Option, None, Some, Result, Ok, Err, refl, sym, ap, subst, inl, inr, ◌∙◌, false}
+use Rattle.std.proofs.Common.{◌≡◌, ℕ, List, Option, None, Some, Result, Ok, Err, refl, sym, ap, subst, inl, inr, ◌∙◌, false}
 use Rattle.std.proofs.lemmas.Result.{err_from_is_err_and}
 use Rattle.bb_base.specs.Folder.{Folder}
 use Rattle.bb_flash.specs.Device.{Device}
@@ -13,6 +13,7 @@ use Rattle.bb_plan.specs.declared.plan.PlannedTask.TheVariants as tasks
 use Rattle.bb_plan.specs.declared.refusal.Refusal.{Refusal}
 use Rattle.bb_plan.specs.declared.refusal.Refusal.TheVariants as refusals
 use Rattle.bb_plan.proofs.Readings.{read_as_later, read_as_none}
+use Rattle.bb_session.specs.Acting.{no_answers}
 use Rattle.bb_session.specs.Session.{Answers, session_by}
 use Rattle.bb_session.specs.Work.{Gives, SendsByMemory}
 use Rattle.bb_session.specs.declared.report.Report.{Report}
@@ -22,7 +23,7 @@ use Rattle.bb_tool.proofs.session.session.Goals as goal
 
 -- where nothing was asked of the device
 abbrev early_answers : FileAnswers → Option DrillCounts → Answers
-early_answers files drill = record { files = files; load = Ok None; rounds = []; drill = drill }
+early_answers files drill = record { files = files; load = Ok None; work = no_answers; drill = drill }
 
 module _ (words : List (List ℕ)) (folder folder' : Folder) (before after : Device) where
   -- what was answered to the plan of these words
@@ -50,10 +51,10 @@ module _ (words : List (List ℕ)) (folder folder' : Folder) (before after : Dev
       (given : Result Report Refusal) → IsTaskDone (task_as task) before after given → IsSessionAnswer words folder folder' before after given
   planned_done task (inr (memory, short)) given done = absurd cc
   planned_done (tasks.OnCopies plan) (inl read) given (inl done) =
-      given_by (record { files = read.answers; load = done.load; rounds = done.answers; drill = None }) (Ok (plan_as plan)) (ap planned read.gives)
+      given_by (record { files = read.answers; load = done.load; work = done.answers; drill = None }) (Ok (plan_as plan)) (ap planned read.gives)
       read.are done.work refl given done.gives
   planned_done (tasks.OnCopies plan) (inl read) given (inr (inl text)) =
-      let answers : Answers = record { files = read.answers; load = text.load; rounds = text.answers; drill = None } in
+      let answers : Answers = record { files = read.answers; load = text.load; work = text.answers; drill = None } in
       inr (inl (record {
         answers = answers;
         answered = answered_by answers (Ok (plan_as plan)) (ap planned read.gives) read.are text.work refl;

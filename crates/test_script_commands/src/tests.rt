@@ -1,0 +1,3 @@
+mod devices;
+mod each_fault;
+mod rig;
