@@ -52,27 +52,27 @@ struct Row {
 #[test]
 fn strides(rt: HostRuntime) -> Result<(), Fail> {
     let kind = Kind::Stride;
-    meets_each(&rt, rt.alloc(), row(kind, false, 3, 12))?;
-    meets_each(&rt, rt.alloc(), row(kind, true, 6, 12))
+    meets_each(&rt, rt.alloc(), row_of(kind, false, 3, 12))?;
+    meets_each(&rt, rt.alloc(), row_of(kind, true, 6, 12))
 }
 
 // An erase comes before each program.
 #[test]
 fn blocks_of_one_record(rt: HostRuntime) -> Result<(), Fail> {
     let kind = Kind::OneBlock;
-    meets_each(&rt, rt.alloc(), row(kind, false, 3, 24))?;
-    meets_each(&rt, rt.alloc(), row(kind, true, 6, 24))
+    meets_each(&rt, rt.alloc(), row_of(kind, false, 3, 24))?;
+    meets_each(&rt, rt.alloc(), row_of(kind, true, 6, 24))
 }
 
 // Four entries fit a block. Where there are two, the third save erases the blocks.
 #[test]
 fn logs(rt: HostRuntime) -> Result<(), Fail> {
     let kind = Kind::Log;
-    meets_each(&rt, rt.alloc(), row(kind, false, 24, 12))?;
-    meets_each(&rt, rt.alloc(), row(kind, true, 18, 15))
+    meets_each(&rt, rt.alloc(), row_of(kind, false, 24, 12))?;
+    meets_each(&rt, rt.alloc(), row_of(kind, true, 18, 15))
 }
 
-fn row(kind: Kind, stored: bool, reads: u32, writes: u32) -> Row {
+fn row_of(kind: Kind, stored: bool, reads: u32, writes: u32) -> Row {
     Row {
         kind,
         stored,
