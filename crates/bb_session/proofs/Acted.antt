@@ -23,7 +23,7 @@ use Rattle.bb_session.proofs.Plays.{plays_to}
 
 -- ---- a look, or rounds after a load
 
-looks_only : (work : Work) → needs_table work ≡ false → work ≡ Show
+pub looks_only : (work : Work) → needs_table work ≡ false → work ≡ Show
 looks_only Show none = refl
 looks_only _ none = absurd cc
 

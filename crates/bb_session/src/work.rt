@@ -83,6 +83,9 @@ fn work_at<B: Board>(
         Work::Run(script, chooser, cause, plans) => {
             run(alloc, board, state, &script, chooser, cause, plans)
         }
-        Work::Show | Work::Write(_) | Work::Act(_) | Work::Good(_) => unreachable!(),
+        Work::Show => unreachable!(),
+        Work::Write(_area) => unreachable!(),
+        Work::Act(_actions) => unreachable!(),
+        Work::Good(_chooser) => unreachable!(),
     }
 }
