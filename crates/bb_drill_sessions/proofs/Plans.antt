@@ -67,9 +67,10 @@ record IsPlan (given : Result Keyed Refusal) (starts : Bool) (plan : SessionPlan
   keyed : given ≡ Ok plan.keyed
   none : starts ≡ false → start_plans_of plan.work ≡ []
 
--- a request that isn't to boot starts nothing
+-- a request that is neither to boot nor to run a script starts nothing
 abbrev starts_by : Request → Bool
 starts_by (requests.Boot settings cause) = true
+starts_by (requests.Run settings script cause) = true
 starts_by _ = false
 
 none_acted : (bound : Result (List BoundAction) Refusal) (work : Work) → acting bound ≡ Ok work →
@@ -88,6 +89,7 @@ none_started files (requests.Good settings) layout work h e =
     let targets = split next files work (binding_reading settings layout) h in
     ap start_plans_of (sym (same_Ok (works.Good targets.value) work targets.second))
 none_started files (requests.Boot settings cause) layout work h e = absurd cc
+none_started files (requests.Run settings script cause) layout work h e = absurd cc
 
 same_plan : (p q : SessionPlan) →
     ◌≡◌ {A = Result Task Refusal} (Ok (OnCopies p)) (Ok (OnCopies q)) → p ≡ q
