@@ -9,3 +9,7 @@ pub mod Starting
 pub mod Tables
 pub mod Told
 pub mod Wholes
+pub mod Once
+pub mod Moved
+mod Unfit
+mod Silent
