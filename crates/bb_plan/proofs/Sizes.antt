@@ -336,6 +336,7 @@ work_ends (requests.Boot settings cause) layout sized =
     (λ (plans : List (Option StartPlan)). Yields (Boot targets (cause_of cause) plans))
     (plans_reading targets) (entries_end 0 (entries_of targets))
     (λ plans any. record { layout_is = sized; bound = bound.0; binding = bound.1 }))
+work_ends requests.Name layout sized = tt
 
 described_ends : (described : Described) (geometry : Geometry) (request : Request) →
     Ends IsSizedTask (described_reading described geometry request)
@@ -370,6 +371,8 @@ command_ends (commands.MarkGood command) geometry =
     described_ends command.described geometry (requests.Good command.settings)
 command_ends (commands.Boot command) geometry =
     described_ends command.described geometry (requests.Boot command.settings command.cause)
+command_ends (commands.ShowName described) geometry =
+    described_ends described geometry requests.Name
 command_ends (commands.Menu command) geometry = λ found. menu_ends command.dir found
 command_ends (commands.Drill numbers) geometry = tt
 

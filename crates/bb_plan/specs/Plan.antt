@@ -34,7 +34,7 @@ use Rattle.bb_plan.specs.declared.request.Request.TheVariants as requests
 use Rattle.bb_plan.specs.declared.status.Status.{Status}
 use Rattle.bb_plan.specs.Refusal.{status_of}
 pub use Rattle.bb_plan.specs.declared.plan.Work.{Work}
-pub use Rattle.bb_plan.specs.declared.plan.Work.TheVariants.{Act, Boot, Good, Show, Write}
+pub use Rattle.bb_plan.specs.declared.plan.Work.TheVariants.{Act, Boot, Good, Name, Show, Write}
 
 -- the layout with the block of its key, if its records stand under one, and the work
 pub record SessionPlan : Type 0 where
@@ -91,6 +91,7 @@ work_reading (requests.Good settings) layout =
     and_then (λ targets. Yields (Good targets)) (binding_reading settings layout)
 work_reading (requests.Boot settings cause) layout =
     and_then (booting cause) (binding_reading settings layout)
+work_reading requests.Name layout = Yields Name
 
 -- the layout and its key, and then the work on its copies
 abbrev pub on_copies : Keyed → Work → Reading Task
@@ -113,6 +114,8 @@ command_reading (commands.MarkGood command) geometry =
     described_reading command.described geometry (requests.Good command.settings)
 command_reading (commands.Boot command) geometry =
     described_reading command.described geometry (requests.Boot command.settings command.cause)
+command_reading (commands.ShowName described) geometry =
+    described_reading described geometry requests.Name
 command_reading (commands.Menu command) geometry =
     and_then (λ text. Yields (Prints text)) (menu_reading command.dir)
 command_reading (commands.Drill numbers) geometry = Yields (Drills numbers)
@@ -201,6 +204,7 @@ IsServed keyed (Write area) = IsUnkeyedRaw keyed × (length area ≡ keyed.layou
 IsServed keyed (Act actions) = AreBoundTo keyed.layout.vars actions
 IsServed keyed (Good targets) = IsBoundAt keyed.layout targets
 IsServed keyed (Boot targets cause plans) = IsBoundAt keyed.layout targets
+IsServed keyed Name = ⊤
 
 -- a layout for a device of this geometry, with a key exactly where its records stand under one
 pub record IsLaidFor (geometry : Geometry) (keyed : Keyed) : Type 0 where

@@ -21,6 +21,8 @@ pub enum Work {
     /// To load them, to reset by this cause, and then round by round to spend an attempt of the
     /// best target, to save the table, and to start the target by its plan, if it has one.
     Boot(Chooser, Cause, PlanList),
+    /// To load them, and to send the layout's name.
+    Name,
 }
 
 /// What a session is to do.

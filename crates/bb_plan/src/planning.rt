@@ -62,6 +62,9 @@ fn plan_command<N: Files>(
             let request = Request::Boot(command.settings, command.cause);
             plan_described(alloc, &command.described, request, files, geometry)
         }
+        Command::ShowName(described) => {
+            plan_described(alloc, &described, Request::Name, files, geometry)
+        }
         Command::Menu(command) => {
             let text = read_menu(alloc, files, &command.dir)?;
             Ok(PlannedTask::Prints(text))

@@ -25,6 +25,8 @@ pub enum Request {
     Good(Text),
     /// To start the best target by the settings in this file, after a reset of this cause.
     Boot(Text, CauseWord),
+    /// To send its name.
+    Name,
 }
 
 /// The work that is asked for, on the copies of that layout: its actions are bound, its settings
@@ -54,6 +56,7 @@ pub(crate) fn read_work<N: Files>(
             let plans = read_entries(alloc, files, &chooser)?;
             Ok(Work::Boot(chooser, cause_of(cause), plans))
         }
+        Request::Name => Ok(Work::Name),
     }
 }
 

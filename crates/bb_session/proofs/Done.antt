@@ -156,7 +156,7 @@ module _ (keyed : Keyed) (used : Option ℕ) (table new : List ℕ) (from to : D
     done_saved : {A : Type 0} (saved : Result A Refusal) (o : Option CopyFault) (now : Option ℕ) →
         IsSaveRun keyed (kept_before work table) used now new o from to → SaveGives o saved →
         GivesSaved (said_of keyed.layout work new) saved given → IsDone keyed used table work from to given
-    done_saved {A} (Ok done) None now run is told =
+    done_saved (Ok done) None now run is told =
         once_done None now run
         (text_ends (text_after (record { keyed = keyed; work = work }) (Some table) (Rounds None)) (Rounds None) given
         (subst (λ text. IsTold text given) (said_text work (Rounds None) stored acts) told))
@@ -165,7 +165,7 @@ module _ (keyed : Keyed) (used : Option ℕ) (table new : List ℕ) (from to : D
         let same : refusal ≡ copy_refusal fault = cc in
         once_done (Some fault) now run
         (refused_ends (copy_refusal fault) (Rounds (Some fault)) given (told ∙ ap (λ (r : Refusal). Err r) same))
-    done_saved {A} _ _ now run is told = absurd cc
+    done_saved _ _ now run is told = absurd cc
 
 -- of a state in which that table was put
 pub done_stored : {A : Type 0} (put state : State) (work : Work) (always : Bool) (from to : Device)

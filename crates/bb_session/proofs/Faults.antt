@@ -215,8 +215,7 @@ work_explains plan from to (Err fault) answers refusal device work h = record {
       load_known plan from done.used to answers fault
       (subst (λ (d : Device). IsLoaded plan.keyed done.used from d (Err fault)) (sym done.ran.1) done.loaded))
       (λ shows done.
-      let read : fault ≡ faults.ReadFault = done.looked.fails in
-      subst (IsKnown plan from to (Err fault) answers) (sym read)
+      subst (IsKnown plan from to (Err fault) answers) (sym done.looked.fails)
       (record {
         tells = (
           subst (Rose from.faults) (sym done.looked.faults) (one_more_rose from.faults),

@@ -11,7 +11,7 @@ use Rattle.bb_shell.specs.Boot.{AreRounds, Round, all_attempts, first_table, las
 use Rattle.bb_shell.specs.Sequence.{save_round}
 use Rattle.bb_shell.specs.Rounds.{RoundAnswer, best_of, rounds_by, sound_answer}
 use Rattle.bb_plan.specs.declared.plan.Work.{Work}
-use Rattle.bb_plan.specs.declared.plan.Work.TheVariants.{Act, Boot, Good, Show, Write}
+use Rattle.bb_plan.specs.declared.plan.Work.TheVariants.{Act, Boot, Good, Name, Show, Write}
 use Rattle.bb_plan.specs.declared.refusal.Refusal.{Refusal}
 use Rattle.bb_plan.specs.declared.refusal.Refusal.TheVariants as refusals
 use Rattle.bb_session.specs.Marking.{lost_place}
@@ -51,6 +51,7 @@ boots_of targets table =
 -- after a load of this table
 abbrev pub acts_of : Laid → Work → List ℕ → Acts
 acts_of layout Show table = SavesNone
+acts_of layout Name table = SavesNone
 acts_of layout (Write area) table = SavesOnce area
 acts_of layout (Act actions) table = SavesOnce (after_all table actions)
 acts_of layout (Good targets) table =

@@ -1,7 +1,7 @@
 -- What a session answers: the text that its work gathered, the refusal that ended it, if one did,
 -- and the rounds that it ran. It is a function of the words, the device's geometry, and what the
 -- files and the device answered.
-use Rattle.std.specs.Prelude.{ℕ, List, [], Option, Some, None, Result, Ok, Err, unwrap_or, if◌then◌else◌}
+use Rattle.std.specs.Prelude.{ℕ, List, [], ◌++◌, codes, Option, Some, None, Result, Ok, Err, unwrap_or, if◌then◌else◌}
 use Rattle.std.specs.Option.{option_map_or}
 use Rattle.bb_actions.specs.Actions.{actions_text, after_all}
 use Rattle.bb_base.specs.Folder.{FileMap}
@@ -22,7 +22,7 @@ use Rattle.bb_shell.specs.Sequence.{refused_in}
 use Rattle.bb_session.specs.Booting.{end_refusal, end_text}
 use Rattle.bb_plan.specs.Plan.{Drilled, EarlyEnd, FileAnswers, Printed, Refused, SessionPlan, files_for, plan_by_words}
 use Rattle.bb_plan.specs.declared.plan.Work.{Work}
-use Rattle.bb_plan.specs.declared.plan.Work.TheVariants.{Act, Boot, Good}
+use Rattle.bb_plan.specs.declared.plan.Work.TheVariants.{Act, Boot, Good, Name}
 use Rattle.bb_plan.specs.Refusal.{copy_refusal, status_of}
 use Rattle.bb_plan.specs.declared.refusal.Refusal.{Refusal}
 use Rattle.bb_plan.specs.declared.refusal.Refusal.TheVariants.{NoMemory}
@@ -66,12 +66,16 @@ ended_status session = option_map_or status_of session.refusal Done
 abbrev pub loaded_area : Laid → Option (List ℕ) → List ℕ
 loaded_area layout found = unwrap_or found (defaults_of layout.area_len layout.vars)
 
+abbrev pub name_line : Laid → List ℕ
+name_line layout = layout.name ++ codes "\n"
+
 -- the text that a work on a loaded table sends where no save was refused
 abbrev pub work_text : Laid → Work → List ℕ → List Round → List ℕ
 work_text layout (Act actions) table rounds =
     actions_text layout (after_all table actions) actions
 work_text layout (Good targets) table rounds = good_text targets (mark_good_of targets table)
 work_text layout (Boot targets cause plans) table rounds = end_text targets (boot_end targets rounds)
+work_text layout Name table rounds = name_line layout
 work_text layout _ table rounds = []
 
 -- and the refusal after it, where a boot's end brings one

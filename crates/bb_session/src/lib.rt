@@ -4,6 +4,7 @@
 
 mod boot;
 mod mark_good;
+mod name;
 mod raw;
 mod report;
 mod store;

@@ -53,7 +53,7 @@ fn put(state: &mut State, work: &Work) -> Result<(), Refusal>
             Ok(())
         }
         Work::Good(chooser) => mark(state, chooser),
-        Work::Show | Work::Boot(_, _, _) => unreachable!(),
+        Work::Show | Work::Name | Work::Boot(_, _, _) => unreachable!(),
     }
 }
 
@@ -105,6 +105,6 @@ fn say(alloc: Global, state: &State, work: &Work) -> Result<Bytes, NoMemory>
     match work {
         Work::Act(actions) => actions_text(alloc, state.layout(), state.table.bytes(), actions),
         Work::Good(chooser) => good_text(alloc, chooser, &state.table),
-        Work::Show | Work::Write(_) | Work::Boot(_, _, _) => Ok(Bytes::none(alloc)),
+        Work::Show | Work::Name | Work::Write(_) | Work::Boot(_, _, _) => Ok(Bytes::none(alloc)),
     }
 }

@@ -9,6 +9,7 @@ ghost use Rattle.bb_plan.specs.Refusal.{IsSendableRefusal};
 ghost use Rattle.bb_session.specs.Work.{IsSendable, IsWorkedOut};
 
 use crate::boot::boot;
+use crate::name::name_line;
 use crate::raw::look;
 use crate::report::Report;
 use crate::store::store;
@@ -77,6 +78,7 @@ fn work_at<B: Board>(
 {
     match work {
         Work::Show => unreachable!(),
+        Work::Name => Report::of(name_line(alloc, state.layout())),
         Work::Write(_) | Work::Act(_) | Work::Good(_) => store(alloc, board, state, work),
         Work::Boot(chooser, cause, plans) => boot(alloc, board, state, chooser, plans, *cause),
     }

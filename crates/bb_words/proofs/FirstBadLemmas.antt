@@ -78,6 +78,7 @@ row_completed : (row : Row) (given : Given) (start : ℕ) (file : List ℕ) →
     Continues start (Options row None (record given { file = Some file })) []
 unfolding words_from
 row_completed rows.State given start file = ([], _, refl)
+row_completed rows.ShowName given start file = ([], _, refl)
 row_completed rows.MarkGood given start file = mark_completed start file given given.settings
 row_completed rows.Boot given start file = boot_completed start file given given.settings
 

@@ -306,6 +306,7 @@ unfolding words_from
 row_begins rows.State rest = refl
 row_begins rows.MarkGood rest = refl
 row_begins rows.Boot rest = refl
+row_begins rows.ShowName rest = refl
 
 options_accepted : (row : Row) (words : List (List ℕ)) (command : Command) → IsSpelt row words command → words_of words ≡ Ok command
 unfolding Makes
@@ -345,6 +346,7 @@ accepted words (Raw raw) is = ap words_of is.1 ∙ raw_accepted is.0 raw is.2
 accepted words (commands.State state) is = options_accepted rows.State words _ is
 accepted words (commands.MarkGood mark) is = options_accepted rows.MarkGood words _ is
 accepted words (commands.Boot boot) is = options_accepted rows.Boot words _ is
+accepted words (commands.ShowName shown) is = options_accepted rows.ShowName words _ is
 accepted words (Menu menu) is = ap words_of is ∙ menu_accepted menu.dir
 accepted words (Drill numbers) is = ap words_of is.1 ∙ drill_accepted is.0 numbers is.2
 
@@ -823,6 +825,8 @@ row_made rows.State words given command made =
     of_described rows.State words
     (λ d. commands.State (record { described = d; actions = given.actions }))
     (λ d is. is) given command made
+row_made rows.ShowName words given command made =
+    of_described rows.ShowName words commands.ShowName (λ d is. is) given command made
 row_made rows.MarkGood words given command made =
     of_settings rows.MarkGood words
     (λ d settings. commands.MarkGood (record { described = d; settings = settings }))
@@ -850,7 +854,8 @@ row_named : (w : List ℕ) (row : Row) → row_of w ≡ Some row → w ≡ comma
 row_named w row =
     named_step w row rows.State _ (
     named_step w row rows.MarkGood _ (
-    named_step w row rows.Boot None (λ none. absurd (cc))))
+    named_step w row rows.Boot _ (
+    named_step w row rows.ShowName None (λ none. absurd (cc)))))
 
 options_of_words : (row : Row) (w : List ℕ) (rest : List (List ℕ)) (command : Command) → row_of w ≡ Some row → words_from 1 (Options row None none_given) rest ≡ Ok command →
     Spells (w ∷ rest) command

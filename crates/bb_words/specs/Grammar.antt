@@ -176,6 +176,7 @@ Spells words (commands.Raw raw) =
 Spells words (commands.State state) = IsSpelt rows.State words (commands.State state)
 Spells words (commands.MarkGood mark) = IsSpelt rows.MarkGood words (commands.MarkGood mark)
 Spells words (commands.Boot boot) = IsSpelt rows.Boot words (commands.Boot boot)
+Spells words (commands.ShowName shown) = IsSpelt rows.ShowName words (commands.ShowName shown)
 Spells words (commands.Menu menu) = words ≡ codes "menu" ∷ codes "--dir" ∷ menu.dir ∷ []
 Spells words (commands.Drill numbers) =
     (rest : List (List ℕ)) × (words ≡ codes "drill" ∷ rest) × IsDrill rest numbers

@@ -20,6 +20,7 @@ abbrev pub command_name_of : Row → List ℕ
 command_name_of rows.State = codes "state"
 command_name_of rows.MarkGood = codes "mark-good"
 command_name_of rows.Boot = codes "boot"
+command_name_of rows.ShowName = codes "show-name"
 
 -- the command that is called so
 abbrev pub row_of : List ℕ → Option Row
@@ -27,6 +28,7 @@ row_of word =
     if bytes_eq word (command_name_of rows.State) then Some rows.State
     else if bytes_eq word (command_name_of rows.MarkGood) then Some rows.MarkGood
     else if bytes_eq word (command_name_of rows.Boot) then Some rows.Boot
+    else if bytes_eq word (command_name_of rows.ShowName) then Some rows.ShowName
     else None
 
 -- whether every row has an option: it says which state, or by which key
@@ -88,6 +90,7 @@ command_of rows.Boot given =
     }))
     given.settings)
     (described_in given)
+command_of rows.ShowName given = option_map commands.ShowName (described_in given)
 
 -- whether an option may come: the command has it, and it wasn't given before if it comes once
 abbrev pub may_come : Row → Valued → Given → Bool

@@ -10,6 +10,8 @@ pub enum Command {
     Boot(BootCommand),
     Menu(MenuCommand),
     Drill(DrillNumbers),
+    /// `show-name`: the name of the layout.
+    ShowName(Described),
 }
 
 /// The state that words name, and how its file describes it.

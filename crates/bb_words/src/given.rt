@@ -191,6 +191,7 @@ impl Given {
                 settings,
                 cause: self.cause.unwrap_or(CauseWord::Other),
             })),
+            (Row::ShowName, _) => Ok(Command::ShowName(described)),
             _ => Err(WordsError::BadWord(place)),
         }
     }

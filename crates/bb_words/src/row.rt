@@ -10,6 +10,7 @@ pub(crate) enum Row {
     State,
     MarkGood,
     Boot,
+    ShowName,
 }
 
 impl Row {
@@ -21,6 +22,7 @@ impl Row {
             "state" => Some(Row::State),
             "mark-good" => Some(Row::MarkGood),
             "boot" => Some(Row::Boot),
+            "show-name" => Some(Row::ShowName),
             _ => None,
         }
     }

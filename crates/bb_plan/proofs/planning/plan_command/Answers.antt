@@ -25,6 +25,11 @@ returns-in-Boot-clause-read g c =
     same_reading (λ w. command_reading w c.args.geometry) task_as c.in-Boot.is
     c.plan_described-in-Boot.ensures.read
 
+pub returns-in-ShowName-clause-read : goal.returns-in-ShowName-clause-read
+returns-in-ShowName-clause-read g c =
+    same_reading (λ w. command_reading w c.args.geometry) task_as c.in-ShowName.is
+    c.plan_described-in-ShowName.ensures.read
+
 pub returns-in_err-text-in-Menu-clause-read : goal.returns-in_err-text-in-Menu-clause-read
 returns-in_err-text-in-Menu-clause-read g c =
     same_reading (λ w. command_reading w c.args.geometry) task_as c.in-Menu.is

@@ -78,3 +78,8 @@ returns-in_ok-plans-in-Boot-clause-read g c =
     c.in_ok-plans-in-Boot.plans c.in_ok-plans-in-Boot.ensures.read
     (yielded (λ (w : Work). w)
     (ap (λ cause. Boot targets cause c.in_ok-plans-in-Boot.plans) (sym c.cause_of.ensures)))))
+
+pub returns-in-Name-clause-read : goal.returns-in-Name-clause-read
+returns-in-Name-clause-read g c =
+    same_reading (λ r. work_reading r (fields_of c.args.keyed.now.layout)) (λ (w : Work). w)
+    c.in-Name.is (yielded (λ (w : Work). w) refl)
