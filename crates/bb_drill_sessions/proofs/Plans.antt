@@ -87,6 +87,7 @@ none_started files (requests.Good settings) layout work h e =
     let next : Binding → Reading Work = λ t. Yields (works.Good t) in
     let targets = split next files work (binding_reading settings layout) h in
     ap start_plans_of (sym (same_Ok (works.Good targets.value) work targets.second))
+none_started files requests.Name layout work h e = ap start_plans_of (sym (same_Ok works.Name work h))
 none_started files (requests.Boot settings cause) layout work h e = absurd cc
 
 same_plan : (p q : SessionPlan) →

@@ -66,7 +66,7 @@ fn follow(plan: &PlannedWork, table: &mut Table) -> Result<(), NoMemory>
     ensures { OnOk result (table.new ≡ made_by (plan_as plan.now) table.old) }
 {
     match &plan.work {
-        Work::Show => {}
+        Work::Show | Work::Name => {}
         Work::Write(_) => return Err(NoMemory),
         Work::Act(actions) => put_values(table, actions),
         Work::Good(chooser) => mark(chooser, table),
