@@ -62,25 +62,26 @@ take-front text n h = grind (arith, common_steps)
 pub All-prefix : (p : ℕ → Bool) (Q : ℕ → Type 0) → ((c : ℕ) → p c ≡ true → Q c)
     → (text : List ℕ) → All Q (take (prefix_len p text) text)
 All-prefix p Q has [] = All-nil Q
-All-prefix p Q has (c ∷ cs) = step (p c) refl
+All-prefix p Q has (c ∷ cs) = step (All-prefix p Q has cs) (p c) refl
   where
-    step : (b : Bool) → p c ≡ b → All Q (take (cond b (1 + prefix_len p cs) 0) (c ∷ cs))
-    step true is =
+    step : All Q (take (prefix_len p cs) cs) → (b : Bool) → p c ≡ b
+        → All Q (take (cond b (1 + prefix_len p cs) 0) (c ∷ cs))
+    step rest true is =
         let more : 1 + prefix_len p cs ≡ suc (prefix_len p cs) = omega arith in
-        rw more (All-cons Q c (take (prefix_len p cs) cs) (has c is) (All-prefix p Q has cs))
-    step false is = All-nil Q
+        rw more (All-cons Q c (take (prefix_len p cs) cs) (has c is) rest)
+    step rest false is = All-nil Q
 
 length-front : (p : ℕ → Bool) (text : List ℕ)
     → length (take (prefix_len p text) text) ≡ prefix_len p text
 length-front p [] = refl
-length-front p (c ∷ cs) = step (p c)
+length-front p (c ∷ cs) = step (length-front p cs) (p c)
   where
-    step : (b : Bool)
+    step : length (take (prefix_len p cs) cs) ≡ prefix_len p cs → (b : Bool)
         → length (take (cond b (1 + prefix_len p cs) 0) (c ∷ cs)) ≡ cond b (1 + prefix_len p cs) 0
-    step true =
+    step rest true =
         let more : 1 + prefix_len p cs ≡ suc (prefix_len p cs) = omega arith in
-        rw more (ap suc (length-front p cs))
-    step false = refl
+        rw more (ap suc rest)
+    step rest false = refl
 
 pub no_slash_name : (c : ℕ) → is_name_character c ≡ true → (c == 47) ≡ false
 no_slash_name c is = grind (arith, nat_tests)

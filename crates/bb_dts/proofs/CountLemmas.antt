@@ -9,7 +9,7 @@ pub count-node : (n : List ℕ) (ps : List (List ℕ × List Part)) (ks rest : F
 count-node n ps ks rest = omega (arith, length-append (preorder_of ks) (preorder_of rest))
 
 pub count-more : (nodes more : List (Branch (List Part))) → count (forest (nodes ++ more)) ≡ count (forest nodes) + count (forest more)
-count-more [] more = refl
+count-more [] more = omega arith
 count-more (x ∷ xs) more = omega (arith, count-more xs more, count-node x.name x.props x.nodes (forest (xs ++ more)), count-node x.name x.props x.nodes (forest xs))
 
 pub count-one : (b : Branch (List Part)) → count (forest (b ∷ [])) ≡ 1 + count b.nodes

@@ -167,7 +167,7 @@ GrowsBy-there slots k c name sound h = record {
   stand = λ s n. s;
 }
 
-named_push : (names : List (List ℕ)) (name : List ℕ) → ArePathNames names → IsPathName name
+pub named_push : (names : List (List ℕ)) (name : List ℕ) → ArePathNames names → IsPathName name
     → ArePathNames (names ++ name ∷ [])
 named_push [] name a n = (n, tt)
 named_push (m ∷ names) name a n = (a.0, named_push names name a.1 n)

@@ -4,10 +4,10 @@ use Rattle.bb_tree.specs.Places.{ArePathNames}
 use Rattle.bb_dts.proofs.reader.Reader.go_to_root.Goals as goal
 
 pub returns-clause-stem : goal.returns-clause-stem
-returns-clause-stem c = ap path_behind c.root.ensures.named
+returns-clause-stem c = ap path_behind c.root-self.ensures.named
 
 pub returns-clause-placed : goal.returns-clause-placed
 returns-clause-placed c = record {
-  within = c.root.ensures.within;
-  named = subst ArePathNames (sym c.root.ensures.named) tt;
+  within = c.root-self.ensures.within;
+  named = subst ArePathNames (sym c.root-self.ensures.named) tt;
 }

@@ -11,7 +11,7 @@ put-requires c =
 pub returns-clause-puts : goal.returns-clause-puts
 returns-clause-puts c = record {
   input = refl;
-  draft = c.in_ok-put.ensures
+  draft = c.in_ok-self.ensures
       ∙ ap (λ (d : PlacedValue). placed_changed d c.args.self.now.at
       (with_prop c.args.prop.name c.args.prop.parts)) c.replace-draft.ensures.value;
   at = refl;
