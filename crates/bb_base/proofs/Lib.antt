@@ -1,4 +1,5 @@
 pub mod Capped
+pub mod Checks
 pub mod Counts
 pub mod Division
 pub mod Entries

@@ -1,4 +1,5 @@
 -- Definitions that contracts cite. These a reader has to believe.
+pub mod Checked
 pub mod Crc
 pub mod Faults
 pub mod Folder

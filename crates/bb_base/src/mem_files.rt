@@ -9,7 +9,7 @@ ghost use Rattle.bb_base.specs.MemFiles.{after_call, folder_of, refuses_next};
 ghost use Rattle.bb_base.specs.declared.files.FileFail.TheVariants.{TooLong};
 
 use crate::planned::is_planned;
-use crate::{Bytes, FILE_LIMIT, FileFail, Files, NoMemory, Text, TextList};
+use crate::{Bytes, FILE_LIMIT, FaultCount, FileFail, Files, NoMemory, Text, TextList};
 use std::alloc::Global;
 use std::collections::BTreeMap;
 use std::marker::Model;
@@ -21,7 +21,7 @@ pub struct MemFiles {
     files: BTreeMap<String, Bytes>,
     planned: Vec<u32>,
     calls: u64,
-    faults: u64,
+    faults: FaultCount,
 }
 
 impl Model for MemFiles {
@@ -38,7 +38,7 @@ impl Model for MemFiles {
       files = from_sorted (by_bytes m.files.entries);
       planned = m.planned.items;
       calls = m.calls;
-      faults = m.faults;
+      faults = m.faults.count;
     } };
 
     ghost invariant = { λ m. IsOrdered string_cmp m.files };
@@ -54,7 +54,7 @@ impl MemFiles {
             files: BTreeMap::new(alloc),
             planned: Vec::new(alloc),
             calls: 0,
-            faults: 0,
+            faults: FaultCount::none(),
         }
     }
 
@@ -90,7 +90,7 @@ impl MemFiles {
         let refused = is_planned(self.planned.as_slice(), self.calls);
         self.calls = self.calls.saturating_add(1);
         if refused {
-            self.faults = self.faults.saturating_add(1);
+            self.faults.raise();
         }
         refused
     }

@@ -4,7 +4,7 @@ ghost use Rattle.bb_base.specs.MemSink.{after_write, sink_of, refuses_next};
 ghost use Rattle.bb_base.specs.SinkRecord.{Sends, SendsFront};
 
 use crate::planned::is_planned;
-use crate::{Failed, NoMemory, Sink};
+use crate::{Failed, FaultCount, NoMemory, Sink};
 use std::alloc::Global;
 use std::marker::Model;
 
@@ -15,7 +15,7 @@ pub struct MemSink {
     room: u32,
     planned: Vec<u32>,
     writes: u64,
-    faults: u64,
+    faults: FaultCount,
 }
 
 impl Model for MemSink {
@@ -29,7 +29,7 @@ impl Model for MemSink {
       room = s.room;
       planned = s.planned.items;
       writes = s.writes;
-      faults = s.faults;
+      faults = s.faults.count;
     } };
 
     ghost invariant = { λ s. (length s.sent.items ≤ s.room) × (s.room ≤ vec_capacity s.sent) };
@@ -46,7 +46,7 @@ impl MemSink {
             room,
             planned: Vec::new(alloc),
             writes: 0,
-            faults: 0,
+            faults: FaultCount::none(),
         })
     }
 
@@ -91,7 +91,7 @@ impl Sink for MemSink {
         let refused = self.refuses(piece);
         self.writes = self.writes.saturating_add(1);
         if refused {
-            self.faults = self.faults.saturating_add(1);
+            self.faults.raise();
             return Err(Failed);
         }
         self.sent.extend_from_slice(piece).unwrap();

@@ -3,6 +3,8 @@ pub mod BlockCalls
 pub mod Candidates
 pub mod Erases
 pub mod Examples
+pub mod Healths
+pub mod InPieces
 pub mod OneBlockCalls
 pub mod OneCall
 pub mod Making
@@ -11,5 +13,6 @@ pub mod Pages
 pub mod Programs
 pub mod Quiet
 pub mod Runs
+pub mod Sights
 pub mod StrideCalls
 pub mod Within

@@ -1,11 +1,13 @@
 -- A read changes nothing that a device tells but the number of its reads.
-use Rattle.std.proofs.Common.{◌≡◌, Bool, Option, Some, None, Result, refl, sym, ap, ◌∙◌, option_map}
+use Rattle.std.proofs.Common.{◌≡◌, Bool, Option, Some, None, Result, IsTrue, refl, sym, ap, ◌∙◌, option_map, subst}
 use Rattle.std.specs.Result.{is_ok}
 use Rattle.bb_flash.specs.Calls.{IsReadCall, told_after_read}
 use Rattle.bb_flash.specs.Device.{Device, IsDevice, ReadKeeps, Told}
 use Rattle.bb_flash.proofs.Moments.{later_joined, later_same}
 use Rattle.bb_flash.proofs.Readings.{keeps_of_read}
-use Rattle.bb_bucket.specs.Calls.{IsQuiet, but_reads, told_but_reads}
+use Rattle.bb_flash.specs.declared.geometry.Geometry.{Geometry}
+use Rattle.bb_bucket.specs.Calls.{Agrees, HasFound, IsQuiet, but_reads, candidate_in, told_but_reads}
+use Rattle.bb_bucket.specs.Kind.{Holding, part_of}
 
 counted_but_reads : (done : Bool) (told : Option Told) →
     option_map but_reads (option_map (told_after_read done) told) ≡ option_map but_reads told
@@ -66,4 +68,20 @@ keeps_of_quiet from to quiet = record {
       ∙ image_of_rest from.told;
   starts = quiet.starts.starts;
   start_faults = quiet.starts.start_faults;
+}
+
+-- so what a bucket keeps of its region agrees with it as before
+pub agrees_kept :
+    (holding : Holding) (from to : Device) → ReadKeeps from to → Agrees holding from →
+    Agrees holding to
+agrees_kept holding from to keeps agrees = record {
+  here = λ image e.
+      subst
+      (λ (geometry : Geometry).
+      IsTrue (holding.agrees (part_of geometry.page holding.kind.region image)))
+      (sym keeps.geometry) (agrees.here image (sym keeps.content ∙ e));
+  found = λ image e.
+      subst
+      (λ (geometry : Geometry). HasFound holding.found (candidate_in holding.kind geometry.page image))
+      (sym keeps.geometry) (agrees.found image (sym keeps.content ∙ e));
 }

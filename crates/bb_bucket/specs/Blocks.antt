@@ -22,13 +22,12 @@ is_block_of block geometry =
     && (nat_le (block.region.at + block.region.size) geometry.size
     && nat_le geometry.size size_limit))
 
--- what every bucket over a block keeps: a region of whole pages, and as many bytes of memory
-pub record IsBlockBucket (block : Block) (bytes : List ℕ) : Type 0 where
+-- what every bucket over a block keeps: a region of whole pages
+pub record IsBlockBucket (block : Block) : Type 0 where
   pub page_least : 16 ≤ block.page
   pub page_most : block.page ≤ block.region.size
   pub pages : block.region.size % block.page ≡ 0
   pub aligned : block.region.at % block.region.size ≡ 0
-  pub memory : length bytes ≡ block.region.size
 
 -- a block after an erase: each byte is 0xFF, and each page Fine
 abbrev pub erased_block : ℕ → ℕ → Image

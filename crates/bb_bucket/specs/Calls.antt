@@ -1,21 +1,49 @@
 -- What a bucket's calls make of a device.
-use Rattle.std.specs.Prelude.{◌≡◌, ℕ, ◌+◌, ◌/◌, ◌≤◌, ◌⊎◌, Bool, false, List, [], ◌∷◌, ◌++◌, length, take, slice_get, slice_index, slice_set, Contains, Option, Some, None, option_map, Result, IsErr, OnOk, IsTrue, if◌then◌else◌}
+use Rattle.std.specs.Prelude.{◌≡◌, ℕ, ◌+◌, ◌/◌, ◌≤◌, ◌⊎◌, Bool, false, List, [], ◌∷◌, ◌++◌, length, take, drop, ⊤, slice_get, slice_index, slice_set, Contains, Option, Some, None, option_map, Result, IsErr, OnOk, IsTrue, is_err, if◌then◌else◌}
 use Rattle.std.specs.Option.{ForSome}
-use Rattle.bb_base.specs.Faults.{one_more}
+use Rattle.bb_base.specs.Faults.{counted, one_more}
 use Rattle.bb_flash.specs.declared.geometry.Geometry.{Geometry}
 use Rattle.bb_flash.specs.declared.region.Region.{Region}
 use Rattle.bb_flash.specs.Calls.{HasNoChange}
 use Rattle.bb_flash.specs.Image.{Image, Torn}
 use Rattle.bb_flash.specs.Cuts.{EachTorn, IsLater}
-use Rattle.bb_flash.specs.Device.{Change, Device, IsDevice, LeavesStarts, Told, content, erases, moment}
+use Rattle.bb_flash.specs.Device.{Change, Device, IsDevice, LeavesStarts, Told, content, erases, moment, reads}
 use Rattle.bb_bucket.specs.declared.bucket.Found.{Found}
 use Rattle.bb_bucket.specs.Kind.{BucketKind, Holding, BeginsWithRecord, part_of}
 
--- the bucket keeps of its region what stands there, where the device tells it
+-- the candidate in an image of a device
+abbrev pub candidate_in : BucketKind → ℕ → Image → Option (List ℕ)
+candidate_in kind page image = kind.candidate_of (part_of page kind.region image)
+
+-- a length that was found, if one was, is that of the candidate
+abbrev pub HasFound : Option ℕ → Option (List ℕ) → Type 0
+HasFound None candidate = ⊤
+HasFound (Some len) candidate = option_map (λ bytes. length bytes) candidate ≡ Some len
+
+-- a length was found, and reaches to this end
+abbrev pub Reaches : Option ℕ → ℕ → Type 0
+Reaches None end = ⊥
+Reaches (Some len) end = end ≤ len
+
+-- a look found this candidate: its length, and whether a page of it is Worn
+pub record IsFoundOf (candidate : Option (List ℕ)) (is_worn : Bool) (found : Found) : Type 0 where
+  pub len : found.len ≡ option_map (λ bytes. length bytes) candidate
+  pub worn : found.worn ≡ is_worn
+
+-- these are bytes of the candidate, if there is one, from a place on
+abbrev pub IsPieceOf : Option (List ℕ) → ℕ → List ℕ → Type 0
+IsPieceOf candidate from out =
+    ForSome candidate (λ bytes. out ≡ take (length out) (drop from bytes))
+
+-- the bucket keeps of its region what stands there, where the device tells it, and a length that it
+-- found is that of the candidate
 pub record Agrees (holding : Holding) (device : Device) : Type 0 where
   pub here :
       ForSome (content device)
       (λ image. IsTrue (holding.agrees (part_of device.geometry.page holding.kind.region image)))
+  pub found :
+      ForSome (content device)
+      (λ image. HasFound holding.found (candidate_in holding.kind device.geometry.page image))
 
 -- a read found this candidate: its length, its bytes in front of `out`, and whether a page of it is
 -- Worn
@@ -102,10 +130,6 @@ pub record IsWithin (region : Region) (change : Change) : Type 0 where
 abbrev pub range_of : Change → Region
 range_of change = record { at = change.at; size = change.len }
 
--- the candidate in an image of a device
-abbrev pub candidate_in : BucketKind → ℕ → Image → Option (List ℕ)
-candidate_in kind page image = kind.candidate_of (part_of page kind.region image)
-
 -- the candidate of an image is that of the image before, or none
 abbrev pub IsOldOrNone : BucketKind → ℕ → Image → Image → Type 0
 IsOldOrNone kind page before image =
@@ -179,3 +203,29 @@ pub record FailsToLook
   pub fails : IsErr result
   pub quiet : IsQuiet from to
   pub read_faults : to.read_faults ≡ one_more from.read_faults
+
+-- A write of a record to a bucket: what it made of the device, and what it answered. A bucket that
+-- doesn't know where the record goes looks for that first.
+pub record IsBucketWrite
+    {T E : Type 0} (kind : BucketKind) (knows_place : Bool) (rec : List ℕ) (from to : Device)
+    (result : Result T E) : Type 0 where
+  pub done : OnOk result (Leaves kind.region (kind.after_write rec) from to)
+  pub calls : EachCall (IsWriteCall kind from.geometry.page rec) from to
+  pub within : ChangesWithin kind.region from to
+  pub erases : OnOk result (ErasesWhere kind.region (kind.write_erases rec) from to)
+  pub made : MakesCalls result kind.region (calls_of_write kind rec) from to
+  pub faults : to.faults ≡ counted (is_err result) from.faults
+  pub read_faults :
+      (to.read_faults ≡ from.read_faults) ⊎ FailsToLook knows_place result from to
+  pub reads : IsTrue knows_place → reads to ≡ reads from
+
+-- A void of a bucket: the same.
+pub record IsBucketVoid
+    {T E : Type 0} (kind : BucketKind) (from to : Device) (result : Result T E) : Type 0 where
+  pub done : OnOk result (Leaves kind.region kind.after_void from to)
+  pub calls : EachCall (IsVoidCall kind from.geometry.page) from to
+  pub within : ChangesWithin kind.region from to
+  pub erases : OnOk result (ErasesWhere kind.region (λ region. kind.void_erases) from to)
+  pub made : MakesCalls result kind.region (λ region. 1) from to
+  pub faults : to.faults ≡ counted (is_err result) from.faults
+  pub read_faults : to.read_faults ≡ from.read_faults

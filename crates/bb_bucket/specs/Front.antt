@@ -8,7 +8,6 @@ use Rattle.bb_flash.specs.declared.health.Health.{Health}
 use Rattle.bb_flash.specs.declared.health.Health.TheVariants.{Fine, Worn, Lost}
 use Rattle.bb_flash.specs.declared.region.Region.{Region}
 use Rattle.bb_flash.specs.Image.{Image, health_of, with_bytes}
-use Rattle.bb_bucket.specs.declared.bucket.Found.{Found}
 
 -- how many bytes a front has
 abbrev pub stride_header_len : ℕ
@@ -59,12 +58,6 @@ front_candidate page region =
 abbrev pub front_is_worn : ℕ → Image → Bool
 front_is_worn page region =
     is_some (front_candidate page region) && is_worn (record_health page region)
-
--- what a read finds, once the front gave a length, and the bytes after it were read in this health
-abbrev pub found_of : ℕ → Health → Found
-found_of len Fine = record { len = Some len; worn = false }
-found_of len Worn = record { len = Some len; worn = true }
-found_of len Lost = record { len = None; worn = false }
 
 -- a record with its front
 abbrev pub with_header : List ℕ → List ℕ

@@ -1,5 +1,5 @@
 -- What a bucket means: a region of a device that holds one record, and may be torn.
-use Rattle.std.specs.Prelude.{◌≡◌, ℕ, ◌+◌, ◌≤◌, ◌%◌, ◌++◌, Bool, List, length, take, drop, Option, Some, None, IsTrue}
+use Rattle.std.specs.Prelude.{◌≡◌, ℕ, ◌+◌, ◌≤◌, min, ◌%◌, ◌++◌, Bool, List, length, take, drop, Option, Some, None, IsTrue}
 use Rattle.bb_flash.specs.declared.geometry.Geometry.{Geometry}
 use Rattle.bb_flash.specs.declared.region.Region.{Region}
 use Rattle.bb_flash.specs.Image.{Image, IsImageOf, touched_pages}
@@ -13,9 +13,10 @@ part_of page region image = record {
 
 -- what stays the same for a bucket's whole life
 pub record BucketKind : Type 0 where
-  -- where it stands, and how long a record may be
+  -- where it stands, how long a record may be there, and how long one that is written
   pub region : Region
   pub room : ℕ
+  pub most : ℕ
   -- the geometries for which it was made
   pub serves : Geometry → Bool
   -- the bytes that stand in its region as its record, if any do, and whether a page of them is Worn
@@ -31,6 +32,10 @@ pub record BucketKind : Type 0 where
   pub write_erases : List ℕ → Image → Bool
   pub void_erases : Bool
 
+-- the same, where only records of so many bytes are written
+abbrev pub with_most : ℕ → BucketKind → BucketKind
+with_most len kind = record kind { most = min len kind.room }
+
 -- what a bucket means at one moment
 pub record Holding : Type 0 where
   pub kind : BucketKind
@@ -38,6 +43,8 @@ pub record Holding : Type 0 where
   pub agrees : Image → Bool
   -- it knows where a record goes without a look at the device
   pub knows_place : Bool
+  -- the length of the record that it found last, until the next write
+  pub found : Option ℕ
 
 -- a record begins what stands in a region
 pub record BeginsWithRecord (rec : List ℕ) (candidate : Option (List ℕ)) : Type 0 where
@@ -61,6 +68,7 @@ KeepsRecords kind geometry =
 
 -- what holds of every kind
 pub record IsKind (kind : BucketKind) : Type 0 where
+  pub fits : kind.most ≤ kind.room
   -- it stands on each device that it serves, and keeps what is written there
   pub lies : (geometry : Geometry) → IsTrue (kind.serves geometry) → LiesOn geometry kind.region
   pub written : (geometry : Geometry) → IsTrue (kind.serves geometry) → KeepsRecords kind geometry

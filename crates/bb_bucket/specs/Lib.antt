@@ -8,9 +8,11 @@ pub mod Calls
 pub mod Front
 pub mod Kind
 pub mod OneBlock
+pub mod Seen
 pub mod Stride
 -- Inside: what follows of them, of which the laws of the buckets are made.
 pub mod BlockLaws
 pub mod FrontLaws
+pub mod KindLaws
 pub mod OneBlockLaws
 pub mod StrideLaws

@@ -1,12 +1,14 @@
 -- A stride: a region on a device that is overwritten in place. It begins with a front, and the
 -- record follows.
-use Rattle.std.specs.Prelude.{◌≡◌, ℕ, ◌+◌, ◌-◌, ◌≤◌, ◌==◌, Bool, true, false, ◌&&◌, nat_le, List, [], ◌∷◌, length, replicate, Option}
+use Rattle.std.specs.Prelude.{◌≡◌, ℕ, ◌+◌, ◌-◌, ◌≤◌, ◌==◌, Bool, true, false, ◌&&◌, nat_le, List, [], ◌∷◌, length, replicate, Option, IfSome}
 use Rattle.bb_flash.specs.declared.geometry.Geometry.{Geometry}
 use Rattle.bb_flash.specs.Geometry.{size_limit}
 use Rattle.bb_flash.specs.declared.region.Region.{Region}
 use Rattle.bb_flash.specs.Image.{Image}
 use Rattle.bb_bucket.specs.Front.{with_header, first_bytes, front_candidate, front_is_worn, stride_header_len, put_at}
-use Rattle.bb_bucket.specs.Kind.{BucketKind, Holding}
+use Rattle.bb_bucket.specs.Kind.{BucketKind, Holding, with_most}
+use Rattle.bb_bucket.specs.Seen.{IsSeenIn, Sight, is_sight_of, sight_len}
+use Rattle.bb_bucket.specs.declared.seen.Seen.{Seen}
 
 -- a device that is overwritten in place, byte by byte
 abbrev pub is_in_place : Geometry → Bool
@@ -16,10 +18,15 @@ is_in_place geometry = geometry.block == 0 && (geometry.page == 1 && nat_le geom
 abbrev pub lies_on : Region → Geometry → Bool
 lies_on region geometry = is_in_place geometry && nat_le (region.at + region.size) geometry.size
 
--- what every stride keeps: a region with room for a front and a byte, and as many bytes of memory
-pub record IsStride (region : Region) (entry : List ℕ) : Type 0 where
+-- what every stride keeps: a region with room for a front and a byte, memory for a front and the
+-- longest record that is written, and what is kept of a record lies in both
+pub record IsStride (region : Region) (most : ℕ) (entry : List ℕ) (seen : Option Seen)
+    : Type 0 where
   pub least : stride_header_len + 1 ≤ region.size
-  pub memory : length entry ≡ region.size
+  pub fits : stride_header_len + most ≤ region.size
+  pub memory : length entry ≡ stride_header_len + most
+  pub inside :
+      IfSome seen (IsSeenIn stride_header_len (region.size - stride_header_len) (length entry))
 
 -- its pages are its bytes
 abbrev pub stride_candidate : Image → Option (List ℕ)
@@ -38,6 +45,7 @@ abbrev pub stride_kind : Region → BucketKind
 stride_kind region = record {
   region = region;
   room = region.size - stride_header_len;
+  most = region.size - stride_header_len;
   serves = lies_on region;
   candidate_of = stride_candidate;
   is_worn = stride_is_worn;
@@ -49,10 +57,18 @@ stride_kind region = record {
   void_erases = false;
 }
 
--- a stride keeps nothing of its region, and a record always goes to its start
-abbrev pub stride_holding : Region → Holding
-stride_holding region = record {
-  kind = stride_kind region;
-  agrees = λ stride. true;
+-- a stride, with how long a record may be that is written, and what it keeps of the record that it
+-- found last
+pub record SeenStride : Type 0 where
+  pub region : Region
+  pub most : ℕ
+  pub sight : Option Sight
+
+-- a record always goes to its start
+abbrev pub stride_holding : SeenStride → Holding
+stride_holding it = record {
+  kind = with_most it.most (stride_kind it.region);
+  agrees = λ stride. is_sight_of it.sight (stride_candidate stride);
   knows_place = true;
+  found = sight_len it.sight;
 }

@@ -9,7 +9,8 @@ use Rattle.bb_flash.specs.declared.region.Region.{Region}
 use Rattle.bb_bucket.specs.Front.{with_header}
 use Rattle.bb_bucket.specs.FrontLaws.{written_begins}
 use Rattle.bb_bucket.specs.Kind.{IsKind, LiesOn, part_of}
-use Rattle.bb_bucket.specs.Stride.{lies_on, stride_kind}
+use Rattle.bb_bucket.specs.KindLaws.{with_most_laws}
+use Rattle.bb_bucket.specs.Stride.{SeenStride, lies_on, stride_holding, stride_kind}
 
 -- a device that holds a region, and is overwritten in place
 pub record IsHeld (region : Region) (geometry : Geometry) : Type 0 where
@@ -36,8 +37,9 @@ stride_lies_on region geometry held = record {
   whole = ap (λ page. region.size % page) held.page ∙ mod-one region.size;
 }
 
-pub stride_laws : (region : Region) → IsKind (stride_kind region)
-stride_laws region = record {
+region_laws : (region : Region) → IsKind (stride_kind region)
+region_laws region = record {
+  fits = omega arith;
   lies = λ geometry serves. stride_lies_on region geometry (held_by region geometry serves);
   written = λ geometry serves rec image fits whole.
       let held = held_by region geometry serves in
@@ -45,3 +47,6 @@ stride_laws region = record {
       (omega (arith, fits, held.small, held.inside)) (sym (append-nil (with_header rec)));
   voided = λ stride. refl;
 }
+
+pub stride_laws : (it : SeenStride) → IsKind (stride_holding it).kind
+stride_laws it = with_most_laws it.most (stride_kind it.region) (region_laws it.region)

@@ -1,4 +1,4 @@
-ghost use Rattle.std.specs.Prelude.{◌≡◌, ◌≤◌, ◌+◌, IsTrue, OnOk, is_err, length};
+ghost use Rattle.std.specs.Prelude.{◌≡◌, ◌≤◌, ◌+◌, ◌%◌, IsTrue, OnOk, is_err, length};
 ghost use Rattle.bb_base.specs.Faults.{counted};
 ghost use Rattle.bb_flash.specs.Device.{reads};
 ghost use Rattle.bb_bucket.specs.Blocks.{is_block_of};
@@ -14,7 +14,7 @@ use bb_base::Failed;
 use bb_flash::Flash;
 
 /// Erases a block, and then writes a record and its front to its start, by one program. They are
-/// put together in `memory`, which has the block's size.
+/// put together in `memory`, which holds them and has whole pages.
 pub(crate) fn write_block<F: Flash>(
     flash: &mut F,
     block: Block,
@@ -23,7 +23,8 @@ pub(crate) fn write_block<F: Flash>(
 ) -> Result<(), Failed>
     requires held { IsTrue (is_block_of block (F.device flash.old).geometry) }
     requires room { stride_header_len + length rec.now ≤ block.region.size }
-    requires memory { length memory.old ≡ block.region.size }
+    requires memory { stride_header_len + length rec.now ≤ length memory.old }
+    requires pages { length memory.old % block.page ≡ 0 }
     ensures done { OnOk result (Leaves block.region ((one_block_kind block).after_write rec.now)
         (F.device flash.old) (F.device flash.new)) }
     ensures calls { EachCall

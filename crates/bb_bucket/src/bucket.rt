@@ -1,7 +1,8 @@
-ghost use Rattle.std.specs.Prelude.{◌≡◌, ◌≤◌, ◌⊎◌, IfOk, IfSome, IsTrue, OnOk, is_err, length};
+ghost use Rattle.std.specs.Prelude.{◌≡◌, ◌≤◌, ◌+◌, IfOk, IfSome, IsTrue, None, OnOk, is_err};
+ghost use Rattle.std.specs.Prelude.{length};
 ghost use Rattle.std.specs.Option.{ForSome};
 ghost use Rattle.bb_base.specs.Faults.{counted};
-ghost use Rattle.bb_flash.specs.Device.{content, reads};
+ghost use Rattle.bb_flash.specs.Device.{content};
 
 use bb_base::Failed;
 use bb_flash::{Flash, Region};
@@ -21,9 +22,8 @@ pub struct Found {
 /// one that answers Ok leaves it.
 pub trait Bucket {
     ghost use Rattle.bb_bucket.specs.Kind.{Holding, IsKind, part_of};
-    ghost use Rattle.bb_bucket.specs.Calls.{Agrees, ChangesWithin, EachCall, ErasesWhere, IsFound};
-    ghost use Rattle.bb_bucket.specs.Calls.{IsQuiet, IsVoidCall, IsWriteCall, Leaves, MakesCalls};
-    ghost use Rattle.bb_bucket.specs.Calls.{FailsToLook, calls_of_write};
+    ghost use Rattle.bb_bucket.specs.Calls.{Agrees, IsBucketVoid, IsBucketWrite, IsFound};
+    ghost use Rattle.bb_bucket.specs.Calls.{IsFoundOf, IsPieceOf, IsQuiet, Reaches, candidate_in};
 
     ghost holding: { Self → Holding };
 
@@ -34,6 +34,54 @@ pub trait Bucket {
     /// How many bytes a record may have, at most.
     fn room(&self) -> u32
         ensures { result ≡ (holding self.now).kind.room };
+
+    /// How many bytes a record may have that is written, at most: the bucket has memory for it.
+    fn most(&self) -> u32
+        ensures { result ≡ (holding self.now).kind.most };
+
+    /// Looks for the record, in pieces of at most 256 bytes, or a page where that is larger. It
+    /// changes nothing on the device. Once it answered Ok the bucket knows the record's length
+    /// until the next write. Where it fails both counts of faults rose by one.
+    fn find<F: Flash>(&mut self, flash: &mut F) -> Result<Found, Failed>
+        requires serves { IsTrue ((holding self.old).kind.serves (F.device flash.old).geometry) }
+        requires agreed { Agrees (holding self.old) (F.device flash.old) }
+        ensures done { IfOk result (λ found. ForSome (content (F.device flash.old)) (λ image.
+            let part = part_of (F.device flash.old).geometry.page (holding self.old).kind.region
+            image in
+            IsFoundOf ((holding self.old).kind.candidate_of part)
+            ((holding self.old).kind.is_worn part) found)) }
+        ensures found { IfOk result (λ found. (holding self.new).found ≡ found.len) }
+        ensures fits { IfOk result (λ found.
+            IfSome found.len (λ len. len ≤ (holding self.old).kind.room)) }
+        ensures quiet { IsQuiet (F.device flash.old) (F.device flash.new) }
+        ensures faults { (F.device flash.new).faults
+            ≡ counted (is_err result) (F.device flash.old).faults }
+        ensures read_faults { (F.device flash.new).read_faults
+            ≡ counted (is_err result) (F.device flash.old).read_faults }
+        ensures kind { (holding self.new).kind ≡ (holding self.old).kind }
+        ensures agrees { Agrees (holding self.new) (F.device flash.new) }
+        ensures placed { OnOk result (IsTrue (holding self.new).knows_place) };
+
+    /// Gives bytes of the record that `find` found, from the one at `from` on, by one read at most.
+    /// It changes nothing on the device. Where it fails both counts of faults rose by one, and what
+    /// `out` then holds isn't said.
+    fn part<F: Flash>(&mut self, flash: &mut F, from: u32, out: &mut [u8]) -> Result<(), Failed>
+        requires serves { IsTrue ((holding self.old).kind.serves (F.device flash.old).geometry) }
+        requires agreed { Agrees (holding self.old) (F.device flash.old) }
+        requires found { Reaches (holding self.old).found (from + length out.old) }
+        ensures done { OnOk result (ForSome (content (F.device flash.old)) (λ image.
+            IsPieceOf (candidate_in (holding self.old).kind (F.device flash.old).geometry.page
+            image) from out.new)) }
+        ensures found { OnOk result ((holding self.new).found ≡ (holding self.old).found) }
+        ensures quiet { IsQuiet (F.device flash.old) (F.device flash.new) }
+        ensures faults { (F.device flash.new).faults
+            ≡ counted (is_err result) (F.device flash.old).faults }
+        ensures read_faults { (F.device flash.new).read_faults
+            ≡ counted (is_err result) (F.device flash.old).read_faults }
+        ensures kind { (holding self.new).kind ≡ (holding self.old).kind }
+        ensures agrees { Agrees (holding self.new) (F.device flash.new) }
+        ensures placed { OnOk result (IsTrue (holding self.old).knows_place
+            → IsTrue (holding self.new).knows_place) };
 
     /// Looks for the record, and leaves it at the front of `out`, which has `room` bytes. It
     /// changes nothing on the device. Where it fails both counts of faults rose by one, and what
@@ -55,37 +103,26 @@ pub trait Bucket {
             ≡ counted (is_err result) (F.device flash.old).read_faults }
         ensures kind { (holding self.new).kind ≡ (holding self.old).kind }
         ensures agrees { Agrees (holding self.new) (F.device flash.new) }
-        ensures placed { OnOk result (IsTrue (holding self.new).knows_place) };
+        ensures placed { OnOk result (IsTrue (holding self.new).knows_place) }
+    {
+        let found = self.find(flash)?;
+        if let Some(len) = found.len {
+            self.part(flash, 0, &mut out[..len as usize])?;
+        }
+        Ok(found)
+    }
 
-    /// Writes a record of at most `room` bytes, which outlives a cut once the call answered Ok: by
+    /// Writes a record of at most `most` bytes, which outlives a cut once the call answered Ok: by
     /// one program, and one erase before it where the bucket's kind says so. A cut while it goes
     /// on, and a call that fails, change nothing outside the ranges that the kind names, which lie
     /// in the region.
     fn write<F: Flash>(&mut self, flash: &mut F, rec: &[u8]) -> Result<(), Failed>
         requires serves { IsTrue ((holding self.old).kind.serves (F.device flash.old).geometry) }
         requires agreed { Agrees (holding self.old) (F.device flash.old) }
-        requires room { length rec.now ≤ (holding self.old).kind.room }
-        ensures done { OnOk result (Leaves (holding self.old).kind.region
-            ((holding self.old).kind.after_write rec.now)
-            (F.device flash.old) (F.device flash.new)) }
-        ensures calls { EachCall
-            (IsWriteCall (holding self.old).kind (F.device flash.old).geometry.page rec.now)
-            (F.device flash.old) (F.device flash.new) }
-        ensures within { ChangesWithin (holding self.old).kind.region
-            (F.device flash.old) (F.device flash.new) }
-        ensures erases { OnOk result (ErasesWhere (holding self.old).kind.region
-            ((holding self.old).kind.write_erases rec.now)
-            (F.device flash.old) (F.device flash.new)) }
-        ensures made { MakesCalls result (holding self.old).kind.region
-            (calls_of_write (holding self.old).kind rec.now)
-            (F.device flash.old) (F.device flash.new) }
-        ensures faults { (F.device flash.new).faults
-            ≡ counted (is_err result) (F.device flash.old).faults }
-        ensures read_faults { ((F.device flash.new).read_faults ≡ (F.device flash.old).read_faults)
-            ⊎ FailsToLook (holding self.old).knows_place result
-            (F.device flash.old) (F.device flash.new) }
-        ensures reads { IsTrue (holding self.old).knows_place →
-            reads (F.device flash.new) ≡ reads (F.device flash.old) }
+        requires most { length rec.now ≤ (holding self.old).kind.most }
+        ensures write { IsBucketWrite (holding self.old).kind (holding self.old).knows_place rec.now
+            (F.device flash.old) (F.device flash.new) result }
+        ensures found { (holding self.new).found ≡ None }
         ensures kind { (holding self.new).kind ≡ (holding self.old).kind }
         ensures agrees { Agrees (holding self.new) (F.device flash.new) }
         ensures placed { OnOk result (IsTrue (holding self.new).knows_place) };
@@ -96,21 +133,9 @@ pub trait Bucket {
     fn void<F: Flash>(&mut self, flash: &mut F) -> Result<(), Failed>
         requires serves { IsTrue ((holding self.old).kind.serves (F.device flash.old).geometry) }
         requires agreed { Agrees (holding self.old) (F.device flash.old) }
-        ensures done { OnOk result (Leaves (holding self.old).kind.region
-            (holding self.old).kind.after_void (F.device flash.old) (F.device flash.new)) }
-        ensures calls { EachCall
-            (IsVoidCall (holding self.old).kind (F.device flash.old).geometry.page)
-            (F.device flash.old) (F.device flash.new) }
-        ensures within { ChangesWithin (holding self.old).kind.region
-            (F.device flash.old) (F.device flash.new) }
-        ensures erases { OnOk result (ErasesWhere (holding self.old).kind.region
-            (λ region. (holding self.old).kind.void_erases)
-            (F.device flash.old) (F.device flash.new)) }
-        ensures made { MakesCalls result (holding self.old).kind.region (λ region. 1)
-            (F.device flash.old) (F.device flash.new) }
-        ensures faults { (F.device flash.new).faults
-            ≡ counted (is_err result) (F.device flash.old).faults }
-        ensures read_faults { (F.device flash.new).read_faults ≡ (F.device flash.old).read_faults }
+        ensures void { IsBucketVoid (holding self.old).kind
+            (F.device flash.old) (F.device flash.new) result }
+        ensures found { (holding self.new).found ≡ None }
         ensures kind { (holding self.new).kind ≡ (holding self.old).kind }
         ensures agrees { Agrees (holding self.new) (F.device flash.new) }
         ensures placed { OnOk result (IsTrue (holding self.new).knows_place) };

@@ -48,7 +48,7 @@ pub(crate) fn write_filled_entry(rec: &[u8], out: &mut [u8])
 /// The least number of bytes that holds `len` ones in whole pages.
 pub fn whole_pages(page: u32, len: u32) -> u32
     requires some { 0 < page }
-    requires small { len + page < 2 ^ 32 }
+    requires small { filled_len page len < 2 ^ 32 }
     ensures value { result ≡ filled_len page len }
     ensures least { len ≤ result }
     ensures pages { result % page ≡ 0 }

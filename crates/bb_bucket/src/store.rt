@@ -12,7 +12,7 @@ use bb_base::Failed;
 use bb_flash::{Flash, Region};
 
 /// Writes a record and its front to the start of a stride, by one program. They are put together in
-/// `memory`, which has the stride's size.
+/// `memory`, which holds them.
 pub(crate) fn write_record<F: Flash>(
     flash: &mut F,
     stride: Region,
@@ -22,7 +22,7 @@ pub(crate) fn write_record<F: Flash>(
     requires held { IsTrue (lies_on stride (F.device flash.old).geometry) }
     requires room { stride_header_len + length rec.now ≤ stride.size }
     requires small { stride.size < 2 ^ 32 }
-    requires memory { length memory.old ≡ stride.size }
+    requires memory { stride_header_len + length rec.now ≤ length memory.old }
     ensures done { OnOk result (Leaves stride ((stride_kind stride).after_write rec.now)
         (F.device flash.old) (F.device flash.new)) }
     ensures calls { EachCall

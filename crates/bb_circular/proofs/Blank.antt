@@ -1,12 +1,11 @@
 -- Where each byte of a block is 0xFF no entry stands, whatever its pages' health.
-use Rattle.std.proofs.Common.{◌≡◌, ◌==◌, ◌&&◌, ◌*◌, ◌%◌, ◌-◌, ◌∙◌, ℕ, zero, suc, Bool, true, false, not, List, Option, Some, None, drop, take, replicate, nat_le, ap, refl, sym, subst, option_map, if◌then◌else◌}
+use Rattle.std.proofs.Common.{◌≡◌, ◌==◌, ◌&&◌, ◌*◌, ◌%◌, ◌-◌, ℕ, zero, suc, Bool, true, false, not, List, Option, Some, None, drop, replicate, nat_le, ap, refl, sym, subst, option_map, if◌then◌else◌}
 use Rattle.std.specs.Option.{option_and_then}
 use Rattle.byteorder.specs.Endian.{little_number}
 use Rattle.bb_flash.specs.Image.{Image}
 use Rattle.bb_bucket.proofs.Blank.{IsErased, drop_erased, take_erased}
 use Rattle.bb_bucket.specs.Front.{is_lost}
-use Rattle.bb_circular.specs.declared.kept.Entry.{Entry}
-use Rattle.bb_circular.specs.Circular.{circular_candidate, newest_of, readable, record_of}
+use Rattle.bb_circular.specs.Circular.{circular_candidate, readable, record_of}
 use Rattle.bb_circular.specs.Entries.{closed_entry, closing_len, closes, last_words, closing_len_of}
 use Rattle.bb_circular.specs.Pages.{Page, page_at, written_pages}
 

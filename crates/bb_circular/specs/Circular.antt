@@ -7,7 +7,9 @@ use Rattle.bb_flash.specs.Image.{Image, health_of}
 use Rattle.bb_bucket.specs.declared.block.Block.{Block}
 use Rattle.bb_bucket.specs.Blocks.{blank_of, is_block_of}
 use Rattle.bb_bucket.specs.Front.{first_bytes, is_lost, is_worn, put_at}
-use Rattle.bb_bucket.specs.Kind.{BucketKind, Holding}
+use Rattle.bb_bucket.specs.Kind.{BucketKind, Holding, with_most}
+use Rattle.bb_bucket.specs.Seen.{IsSeenIn, Sight, is_sight_of, sight_len}
+use Rattle.bb_bucket.specs.declared.seen.Seen.{Seen}
 use Rattle.bb_circular.specs.declared.kept.Entry.{Entry}
 use Rattle.bb_circular.specs.declared.kept.Kept.{Kept}
 use Rattle.bb_circular.specs.Entries.{closed_entry, closing_len, entry_len, log_entry}
@@ -78,6 +80,7 @@ abbrev pub circular_kind : Block → BucketKind
 circular_kind block = record {
   region = block.region;
   room = block.region.size - closing_len;
+  most = block.region.size - closing_len;
   serves = is_block_of block;
   candidate_of = circular_candidate block.page;
   is_worn = circular_is_worn block.page;
@@ -105,10 +108,13 @@ same_newest one two = false
 abbrev pub same_kept : Kept → Kept → Bool
 same_kept one two = one.next == two.next && same_newest one.newest two.newest
 
--- a circular block, with what a bucket keeps of it, if anything
+-- a circular block, with how long a record may be that is written, and what a bucket keeps of the
+-- block and of the record that it found last
 pub record Circle : Type 0 where
   pub block : Block
+  pub most : ℕ
   pub kept : Option Kept
+  pub sight : Option Sight
 
 -- what is kept, if anything, is what there is to keep
 abbrev pub agrees_with : ℕ → Option Kept → Image → Bool
@@ -118,9 +124,12 @@ agrees_with page (Some kept) old = same_kept kept (kept_of page old)
 -- a record goes to the place that is kept
 abbrev pub circular_holding : Circle → Holding
 circular_holding circle = record {
-  kind = circular_kind circle.block;
-  agrees = agrees_with circle.block.page circle.kept;
+  kind = with_most circle.most (circular_kind circle.block);
+  agrees = λ old.
+      agrees_with circle.block.page circle.kept old
+      && is_sight_of circle.sight (circular_candidate circle.block.page old);
   knows_place = is_some circle.kept;
+  found = sight_len circle.sight;
 }
 
 -- an entry has whole pages of its block, and room for its closing words
@@ -136,11 +145,25 @@ pub record IsKeptIn (block : Block) (kept : Kept) : Type 0 where
   pub aligned : kept.next % block.page ≡ 0
   pub newest : IfSome kept.newest (IsEntryIn block)
 
--- what every bucket over a log keeps
-pub record IsCircular (block : Block) (kept : Option Kept) (bytes : List ℕ) : Type 0 where
+-- the newest entry as it is kept
+abbrev pub newest_kept : Option Kept → Option Entry
+newest_kept kept = option_and_then (λ k. k.newest) kept
+
+-- a record that was seen is that of this entry, and what is kept of it lies in it and in a memory
+pub record IsOfEntry (block : Block) (newest : Option Entry) (room : ℕ) (seen : Seen)
+    : Type 0 where
+  pub entry : newest ≡ Some (record { at = seen.at; len = seen.len + closing_len })
+  pub inside : IsSeenIn seen.at (block.region.size - closing_len) room seen
+
+-- what every bucket over a log keeps, with memory for the longest entry that is written
+pub record IsCircular
+    (block : Block) (most : ℕ) (kept : Option Kept) (seen : Option Seen) (bytes : List ℕ)
+    : Type 0 where
   pub page_least : 16 ≤ block.page
   pub page_most : block.page ≤ block.region.size
   pub pages : block.region.size % block.page ≡ 0
   pub aligned : block.region.at % block.region.size ≡ 0
   pub inside : IfSome kept (IsKeptIn block)
-  pub memory : length bytes ≡ block.region.size
+  pub fits : most + closing_len ≤ block.region.size
+  pub memory : length bytes ≡ entry_len block.page most
+  pub sighted : IfSome seen (IsOfEntry block (newest_kept kept) (length bytes))

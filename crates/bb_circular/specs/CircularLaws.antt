@@ -15,6 +15,7 @@ use Rattle.bb_bucket.specs.Blocks.{blank_of}
 use Rattle.bb_bucket.specs.BlockLaws.{HasBlock, block_lies_on, block_of}
 use Rattle.bb_bucket.specs.Front.{is_lost, put_at}
 use Rattle.bb_bucket.specs.Kind.{BeginsWithRecord, IsKind, part_of}
+use Rattle.bb_bucket.specs.KindLaws.{with_most_laws}
 use Rattle.bb_bucket.proofs.Pages.{filled_fits, sum_aligned}
 use Rattle.bb_bucket.proofs.Within.{part_pages, part_size}
 use Rattle.bb_circular.specs.declared.kept.Entry.{Entry}
@@ -280,6 +281,7 @@ write_begins block rec old paged room =
 
 pub circular_laws : (block : Block) → IsKind (circular_kind block)
 circular_laws block = record {
+  fits = omega arith;
   lies = λ geometry serves. block_lies_on block geometry (block_of block geometry serves);
   written = λ geometry serves rec image fits whole.
       let held = block_of block geometry serves in
@@ -290,4 +292,5 @@ circular_laws block = record {
 }
 
 pub circle_laws : (circle : Circle) → IsKind (circular_holding circle).kind
-circle_laws circle = circular_laws circle.block
+circle_laws circle =
+    with_most_laws circle.most (circular_kind circle.block) (circular_laws circle.block)

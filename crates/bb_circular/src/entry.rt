@@ -63,9 +63,11 @@ pub(crate) fn pack_entry(block: Block, rec: &[u8], memory: &mut [u8]) -> u32
     requires pages { block.region.size % block.page ≡ 0 }
     requires small { block.region.size + block.page < 2 ^ 32 }
     requires room { length rec.now + closing_len ≤ block.region.size }
-    requires memory { length memory.old ≡ block.region.size }
+    requires memory { length rec.now + closing_len ≤ length memory.old }
+    requires whole { length memory.old % block.page ≡ 0 }
     ensures len { result ≡ entry_len block.page (length rec.now) }
     ensures inside { result ≤ block.region.size }
+    ensures held { result ≤ length memory.old }
     ensures entry { take result memory.new ≡ log_entry block.page rec.now }
 {
     let len = whole_pages(block.page, rec.len() as u32 + CLOSING_LEN);

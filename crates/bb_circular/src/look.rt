@@ -1,54 +1,52 @@
-ghost use Rattle.std.specs.Prelude.{◌≡◌, ◌≤◌, ◌-◌, IfOk, IfSome, IsTrue, OnErr, Some, None};
+ghost use Rattle.std.specs.Prelude.{◌≡◌, ◌≤◌, IfOk, IfSome, IsTrue, OnErr, Some, None};
 ghost use Rattle.std.specs.Prelude.{false, is_err, is_some, length, option_map, option_and_then};
 ghost use Rattle.std.specs.Prelude.{if◌then◌else◌};
 ghost use Rattle.std.specs.Option.{ForSome};
 ghost use Rattle.bb_base.specs.Faults.{counted};
 ghost use Rattle.bb_flash.specs.Device.{content, reads};
 ghost use Rattle.bb_bucket.specs.Blocks.{is_block_of};
-ghost use Rattle.bb_bucket.specs.Calls.{IsFoundAs, IsQuiet};
+ghost use Rattle.bb_bucket.specs.Calls.{IsQuiet};
 ghost use Rattle.bb_bucket.specs.Kind.{part_of};
-ghost use Rattle.bb_circular.specs.Circular.{IsEntryIn, IsKeptIn, agrees_with, circular_candidate};
-ghost use Rattle.bb_circular.specs.Circular.{circular_is_worn, kept_of, readable, record_of};
-ghost use Rattle.bb_circular.specs.Entries.{closing_len};
+ghost use Rattle.bb_bucket.specs.Seen.{IsLookOf};
+ghost use Rattle.bb_circular.specs.Circular.{IsEntryIn, IsKeptIn, IsOfEntry, agrees_with};
+ghost use Rattle.bb_circular.specs.Circular.{circular_candidate, circular_is_worn, kept_of};
+ghost use Rattle.bb_circular.specs.Circular.{readable, record_of};
 ghost use Rattle.bb_circular.specs.Looking.{IsKnown, worn_of};
 
 use crate::entry::{CLOSING_LEN, closed_entry};
 use crate::kept::{Entry, Kept};
 use crate::last_page::find_last_page;
 use bb_base::Failed;
-use bb_bucket::{Block, Found, read_part, record_found};
+use bb_bucket::{Block, Found, Look, NOTHING, look_with, read_pieces};
 use bb_flash::Flash;
-
-const NOTHING: Found = Found {
-    len: None,
-    worn: false,
-};
 
 #[tactic(auto, using(bb_bucket::proofs::Quiet::quiet_joined))]
 /// Looks for the record of a block, by what is kept of it or else from its end backwards. The
-/// answer is what was found, and what there is to keep.
-pub(crate) fn read_log<F: Flash>(
+/// answer is what was found, and what there is to keep. The piece that is kept of the record stands
+/// at the front of `memory`.
+pub(crate) fn find_log<F: Flash>(
     flash: &mut F,
     block: Block,
     kept: Option<Kept>,
-    memory: &mut [u8],
-    out: &mut [u8],
-) -> Result<(Found, Kept), Failed>
+    memory: &mut Vec<u8>,
+) -> Result<(Look, Kept), Failed>
     requires held { IsTrue (is_block_of block (F.device flash.old).geometry) }
     requires agreed { ForSome (content (F.device flash.old)) (λ image.
         IsTrue (agrees_with block.page kept (part_of block.page block.region image))) }
     requires inside { IfSome kept (IsKeptIn block) }
-    requires memory { length memory.old ≡ block.region.size }
-    requires room { length out.old ≡ block.region.size - closing_len }
+    requires memory { block.page ≤ length memory.old.items }
     ensures done { IfOk result (λ answer. ForSome (content (F.device flash.old)) (λ image.
         let old = part_of block.page block.region image in
-        IsFoundAs (circular_candidate block.page old) (circular_is_worn block.page old)
-        out.new answer.0)) }
-    ensures fits { IfOk result (λ answer.
-        IfSome answer.0.len (λ len. len ≤ block.region.size - closing_len)) }
+        IsLookOf (circular_candidate block.page old) (circular_is_worn block.page old)
+        memory.new.items answer.0)) }
+    ensures len { IfOk result (λ answer.
+        answer.0.found.len ≡ option_map (λ seen. seen.len) answer.0.seen) }
+    ensures seen { IfOk result (λ answer. IfSome answer.0.seen
+        (IsOfEntry block answer.1.newest (length memory.new.items))) }
     ensures kept { IfOk result (λ answer. ForSome (content (F.device flash.old)) (λ image.
         answer.1 ≡ kept_of block.page (part_of block.page block.region image))) }
     ensures inside { IfOk result (λ answer. IsKeptIn block answer.1) }
+    ensures memory { length memory.new.items ≡ length memory.old.items }
     ensures quiet { IsQuiet (F.device flash.old) (F.device flash.new) }
     ensures faults { (F.device flash.new).faults
         ≡ counted (is_err result) (F.device flash.old).faults }
@@ -56,8 +54,8 @@ pub(crate) fn read_log<F: Flash>(
         ≡ counted (is_err result) (F.device flash.old).read_faults }
 {
     let kept = look_up(flash, block, kept, memory)?;
-    let found = read_newest(flash, block, kept.newest, out)?;
-    Ok((found, confirm(kept, found)))
+    let look = see_newest(flash, block, kept.newest, memory)?;
+    Ok((look, confirm(kept, look.found)))
 }
 
 /// Where the next entry goes, and which is the newest as the block's last page says: what is kept,
@@ -72,7 +70,7 @@ pub(crate) fn look_up<F: Flash>(
     requires agreed { ForSome (content (F.device flash.old)) (λ image.
         IsTrue (agrees_with block.page kept (part_of block.page block.region image))) }
     requires inside { IfSome kept (IsKeptIn block) }
-    requires memory { length memory.old ≡ block.region.size }
+    requires memory { block.page ≤ length memory.old }
     ensures done { IfOk result (λ known. ForSome (content (F.device flash.old)) (λ image.
         IsKnown block.page (part_of block.page block.region image) known)) }
     ensures inside { IfOk result (IsKeptIn block) }
@@ -95,7 +93,7 @@ pub(crate) fn look_up<F: Flash>(
 // The same by a look from the end.
 fn find_newest<F: Flash>(flash: &mut F, block: Block, memory: &mut [u8]) -> Result<Kept, Failed>
     requires held { IsTrue (is_block_of block (F.device flash.old).geometry) }
-    requires memory { length memory.old ≡ block.region.size }
+    requires memory { block.page ≤ length memory.old }
     ensures done { IfOk result (λ known. ForSome (content (F.device flash.old)) (λ image.
         IsKnown block.page (part_of block.page block.region image) known)) }
     ensures inside { IfOk result (IsKeptIn block) }
@@ -114,22 +112,26 @@ fn find_newest<F: Flash>(flash: &mut F, block: Block, memory: &mut [u8]) -> Resu
 }
 
 #[tactic(auto, using(bb_bucket::proofs::Quiet::quiet_same))]
-// Reads the record of an entry, if there is one and none of its pages is Lost.
-fn read_newest<F: Flash>(
+// Looks for the record of an entry, if there is one and none of its pages is Lost.
+fn see_newest<F: Flash>(
     flash: &mut F,
     block: Block,
     newest: Option<Entry>,
-    out: &mut [u8],
-) -> Result<Found, Failed>
+    memory: &mut Vec<u8>,
+) -> Result<Look, Failed>
     requires held { IsTrue (is_block_of block (F.device flash.old).geometry) }
     requires inside { IfSome newest (IsEntryIn block) }
-    requires room { length out.old ≡ block.region.size - closing_len }
-    ensures done { IfOk result (λ found. ForSome (content (F.device flash.old)) (λ image.
+    requires memory { block.page ≤ length memory.old.items }
+    ensures done { IfOk result (λ look. ForSome (content (F.device flash.old)) (λ image.
         let old = part_of block.page block.region image in
         let read = option_and_then (readable block.page old) newest in
-        IsFoundAs (option_map (record_of old) read) (worn_of block.page old read) out.new found)) }
-    ensures fits { IfOk result (λ found.
-        IfSome found.len (λ len. len ≤ block.region.size - closing_len)) }
+        IsLookOf (option_map (record_of old) read) (worn_of block.page old read)
+        memory.new.items look)) }
+    ensures len { IfOk result (λ look.
+        look.found.len ≡ option_map (λ seen. seen.len) look.seen) }
+    ensures seen { IfOk result (λ look. IfSome look.seen
+        (IsOfEntry block newest (length memory.new.items))) }
+    ensures memory { length memory.new.items ≡ length memory.old.items }
     ensures quiet { IsQuiet (F.device flash.old) (F.device flash.new) }
     ensures faults { (F.device flash.new).faults
         ≡ counted (is_err result) (F.device flash.old).faults }
@@ -141,8 +143,8 @@ fn read_newest<F: Flash>(
         return Ok(NOTHING);
     };
     let len = entry.len - CLOSING_LEN;
-    let health = read_part(flash, block.region, entry.at, &mut out[..len as usize])?;
-    Ok(record_found(len, health))
+    let pieces = read_pieces(flash, block.region, entry.at, len, memory)?;
+    Ok(look_with(pieces.seen, pieces.health))
 }
 
 // What there is to keep, once the newest entry was read or found to be none.

@@ -21,8 +21,8 @@ use bb_bucket::{Block, erase_block, program_part, whole_pages};
 use bb_flash::Flash;
 
 /// Writes a record after the last page of a block that isn't blank, or into the erased block where
-/// its entry doesn't fit there. The entry is put together in `memory`, which has the block's size.
-/// The answer is what there is to keep.
+/// its entry doesn't fit there. The entry is put together in `memory`, which holds it and has whole
+/// pages. The answer is what there is to keep.
 pub(crate) fn write_log<F: Flash>(
     flash: &mut F,
     block: Block,
@@ -35,7 +35,9 @@ pub(crate) fn write_log<F: Flash>(
         IsTrue (agrees_with block.page kept (part_of block.page block.region image))) }
     requires inside { IfSome kept (IsKeptIn block) }
     requires room { length rec.now + closing_len ≤ block.region.size }
-    requires memory { length memory.old ≡ block.region.size }
+    requires page { block.page ≤ length memory.old }
+    requires memory { length rec.now + closing_len ≤ length memory.old }
+    requires pages { length memory.old % block.page ≡ 0 }
     ensures done { OnOk result (Leaves block.region ((circular_kind block).after_write rec.now)
         (F.device flash.old) (F.device flash.new)) }
     ensures kept { IfOk result (λ kept. ForSome (content (F.device flash.new)) (λ image.
@@ -76,7 +78,8 @@ fn put_entry<F: Flash>(
     requires aligned { next % block.page ≡ 0 }
     requires whole { IsDevice (F.device flash.old) }
     requires room { length rec.now + closing_len ≤ block.region.size }
-    requires memory { length memory.old ≡ block.region.size }
+    requires memory { length rec.now + closing_len ≤ length memory.old }
+    requires pages { length memory.old % block.page ≡ 0 }
     ensures done { OnOk result (Leaves block.region ((circular_kind block).after_write rec.now)
         (F.device flash.old) (F.device flash.new)) }
     ensures kept { IfOk result (λ kept. ForSome (content (F.device flash.new)) (λ image.
@@ -132,7 +135,8 @@ fn append<F: Flash>(
     requires whole { IsDevice (F.device flash.old) }
     requires fits { next + entry_len block.page (length rec.now) ≤ block.region.size }
     requires room { length rec.now + closing_len ≤ block.region.size }
-    requires memory { length memory.old ≡ block.region.size }
+    requires memory { length rec.now + closing_len ≤ length memory.old }
+    requires pages { length memory.old % block.page ≡ 0 }
     ensures done { OnOk result (Leaves block.region ((circular_kind block).after_write rec.now)
         (F.device flash.old) (F.device flash.new)) }
     ensures kept { OnOk result (ForSome (content (F.device flash.new)) (λ image.
@@ -168,7 +172,8 @@ fn start_anew<F: Flash>(
     requires full { ForSome (content (F.device flash.old)) (λ image.
         fits_after block rec.now (part_of block.page block.region image) ≡ false) }
     requires room { length rec.now + closing_len ≤ block.region.size }
-    requires memory { length memory.old ≡ block.region.size }
+    requires memory { length rec.now + closing_len ≤ length memory.old }
+    requires pages { length memory.old % block.page ≡ 0 }
     ensures done { OnOk result (Leaves block.region ((circular_kind block).after_write rec.now)
         (F.device flash.old) (F.device flash.new)) }
     ensures kept { OnOk result (ForSome (content (F.device flash.new)) (λ image.

@@ -31,11 +31,11 @@ content_before from to later after e =
     let told : is_some to.told ≡ true = sym (is_some_map map to.told) ∙ ap is_some e in
     some_of (content from) (is_some_map map from.told ∙ sym later.told ∙ told)
 
-pub written_good : (form : Form) (kind : BucketKind) (area : List ℕ) (from to : Device) → IsForm form → IsKind kind → IsTrue (kind.serves from.geometry) → IsTrue (form.fits area) → form.length ≤ kind.room → IsDevice from → IsLater from to → Leaves kind.region (kind.after_write (form.text area)) from to → IsGood form kind area from to
+pub written_good : (form : Form) (kind : BucketKind) (area : List ℕ) (from to : Device) → IsForm form → IsKind kind → IsTrue (kind.serves from.geometry) → IsTrue (form.fits area) → length (form.text area) ≤ kind.most → IsDevice from → IsLater from to → Leaves kind.region (kind.after_write (form.text area)) from to → IsGood form kind area from to
 written_good form kind area from to laws kinds serves fits room whole later leaves = record {
   passes = λ after e.
       let there = content_before from to later after e in
-      let begun = kinds.written from.geometry serves (form.text area) there.0 (omega (arith, laws.whole area fits)) (whole.image there.0 there.1) in
+      let begun = kinds.written from.geometry serves (form.text area) there.0 (omega (arith, room, kinds.fits)) (whole.image there.0 there.1) in
       ap (λ region. option_and_then form.passes (kind.candidate_of region)) (leaves.there there.0 there.1 after e) ∙ begun_passes form area _ laws fits begun;
 }
 
@@ -92,9 +92,9 @@ not_ok (Err x) e = refl
 pub whole_slice : {X : Type 0} (xs ys : List X) (n : ℕ) → length xs ≡ n → take n (xs ++ drop (length xs) ys) ≡ xs
 whole_slice xs ys n e = ap (λ k. take k (xs ++ drop (length xs) ys)) (sym e) ∙ take-append_seam xs (drop (length xs) ys)
 
-pub written_good_as : (form : Form) (kind : BucketKind) (area rec : List ℕ) (from to : Device) → rec ≡ form.text area → IsForm form → IsKind kind → IsTrue (kind.serves from.geometry) → IsTrue (form.fits area) → form.length ≤ kind.room → IsDevice from → IsLater from to → Leaves kind.region (kind.after_write rec) from to → IsGood form kind area from to
+pub written_good_as : (form : Form) (kind : BucketKind) (area rec : List ℕ) (from to : Device) → rec ≡ form.text area → IsForm form → IsKind kind → IsTrue (kind.serves from.geometry) → IsTrue (form.fits area) → length rec ≤ kind.most → IsDevice from → IsLater from to → Leaves kind.region (kind.after_write rec) from to → IsGood form kind area from to
 written_good_as form kind area rec from to packed laws kinds serves fits room whole later leaves =
-    written_good form kind area from to laws kinds serves fits room whole later (subst (λ (r : List ℕ). Leaves kind.region (kind.after_write r) from to) packed leaves)
+    written_good form kind area from to laws kinds serves fits (subst (λ (r : List ℕ). length r ≤ kind.most) packed room) whole later (subst (λ (r : List ℕ). Leaves kind.region (kind.after_write r) from to) packed leaves)
 
 -- ---- which calls failed
 

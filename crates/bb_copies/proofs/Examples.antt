@@ -13,10 +13,12 @@ use Rattle.bb_copies.specs.Passing.{passes_at, passings}
 form : Form
 form = record {
   area_len = 1;
-  length = 2;
+  length_of = λ len. 2;
+  reach = 2;
   fits = λ area. true;
   text = λ area. area ++ area;
   passes = passes_twice;
+  aged = λ bytes. false;
 }
   where
     passes_twice : List ℕ → Option (List ℕ)
@@ -29,6 +31,7 @@ kind_at : ℕ → BucketKind
 kind_at at = record {
   region = record { at = at; size = 2 };
   room = 2;
+  most = 2;
   serves = λ geometry. true;
   candidate_of = λ region. if get_or region.bytes 0 255 == 255 then None else Some region.bytes;
   is_worn = λ region. false;

@@ -10,7 +10,8 @@ use Rattle.bb_flash.specs.Device.{Device, ReadKeeps}
 use Rattle.bb_flash.specs.Image.{Image}
 use Rattle.bb_bucket.specs.Calls.{Agrees}
 use Rattle.bb_bucket.specs.Kind.{BucketKind, Holding, part_of}
-use Rattle.bb_copies.specs.declared.read.Passed.{Passed}
+use Rattle.bb_bucket.proofs.Quiet.{agrees_kept}
+use Rattle.bb_copies.specs.declared.read.PassingCopy.{PassingCopy}
 use Rattle.bb_copies.specs.Buckets.{AllAgree, EachCopy}
 use Rattle.bb_copies.specs.Looking.{FindsBelow, IsFresh, IsReadAt, PassNothing, area_by, good_by, used_by}
 use Rattle.bb_copies.specs.Passing.{IsReading, passing_of}
@@ -18,11 +19,6 @@ use Rattle.bb_copies.specs.Refreshing.{is_marked}
 use Rattle.bb_copies.proofs.Many.{get_set_other, get_set_same, same_or_not}
 
 -- ---- what a read leaves of the buckets
-
-agrees_kept : (holding : Holding) (from to : Device) → ReadKeeps from to → Agrees holding from → Agrees holding to
-agrees_kept holding from to keeps agrees = record {
-  here = λ image e. subst (λ (geometry : Geometry). IsTrue (holding.agrees (part_of geometry.page holding.kind.region image))) (sym keeps.geometry) (agrees.here image (sym keeps.content ∙ e));
-}
 
 pub read_agrees : {B : Type 0} (holding : B → Holding) (buckets : List B) (copy : ℕ) (new : B) (from to : Device) → ReadKeeps from to → AllAgree holding from buckets → Agrees (holding new) to → AllAgree holding to (set buckets copy new)
 read_agrees holding buckets copy new from to keeps agree here = λ place bucket e. elim (same_or_not place copy) [
@@ -45,7 +41,7 @@ decides_fresh form page kind image found area false same passes is_worn test = (
   λ fresh. test.1 (let both : Some found ≡ Some area = passes ∙ fresh.passes in cc),
 )
 
-good_decides : (form : Form) (page : ℕ) (kind : BucketKind) (image : Image) (found area : List ℕ) (passed : Option Passed) → IsReading form page kind image found passed → Decides (good_by found passed area) (IsFresh form page kind area image)
+good_decides : (form : Form) (page : ℕ) (kind : BucketKind) (image : Image) (found area : List ℕ) (passed : Option PassingCopy) → IsReading form page kind image found passed → Decides (good_by found passed area) (IsFresh form page kind area image)
 good_decides form page kind image found area None reading = (λ e. absurd cc, λ fresh. let both : None ≡ Some area = reading.area ∙ fresh.passes in absurd cc)
 good_decides form page kind image found area (Some passed) reading =
     decides_fresh form page kind image found area passed.worn (bytes_eq found area) reading.area reading.worn (bytes_eq-Decides found area)
@@ -59,7 +55,7 @@ mark_other : (good : List Bool) (bound copy : ℕ) (g : Bool) → copy < bound �
 mark_other good bound copy g low = get_or-set_other good bound copy g false (λ same. absurd (omega arith))
 
 -- the marks of the copies that were read, where those before are known
-fresh_more : (form : Form) (page : ℕ) (kinds : List BucketKind) (bound : ℕ) (found area : List ℕ) (good : List Bool) (passed : Option Passed) (image : Image) → bound < length good → EachCopy kinds (λ copy kind. copy < bound → Decides (is_marked good copy) (IsFresh form page kind area image)) → IsReadAt form page kinds bound image found passed → EachCopy kinds (λ copy kind. copy < bound + 1 → Decides (is_marked (set good bound (good_by found passed area)) copy) (IsFresh form page kind area image))
+fresh_more : (form : Form) (page : ℕ) (kinds : List BucketKind) (bound : ℕ) (found area : List ℕ) (good : List Bool) (passed : Option PassingCopy) (image : Image) → bound < length good → EachCopy kinds (λ copy kind. copy < bound → Decides (is_marked good copy) (IsFresh form page kind area image)) → IsReadAt form page kinds bound image found passed → EachCopy kinds (λ copy kind. copy < bound + 1 → Decides (is_marked (set good bound (good_by found passed area)) copy) (IsFresh form page kind area image))
 fresh_more form page kinds bound found area good passed image inside fresh reading = λ copy kind e low. elim (below_or_at copy bound low) [
   | inl lower ↦ subst (λ (b : Bool). Decides b (IsFresh form page kind area image)) (sym (mark_other good bound copy (good_by found passed area) lower)) (fresh copy kind e lower)
   | inr at ↦
@@ -74,7 +70,7 @@ none_fresh form page kinds bound area good image none = λ copy kind e low. (
   λ fresh. let both : None ≡ Some area = sym (none.each copy kind e low) ∙ fresh.passes in absurd cc,
 )
 
-pub finds_more : (form : Form) (page : ℕ) (kinds : List BucketKind) (bound : ℕ) (found area : List ℕ) (good : List Bool) (passed : Option Passed) (image : Image) (used : Option ℕ) → bound < length good → FindsBelow form page kinds bound area good image used → IsReadAt form page kinds bound image found passed → FindsBelow form page kinds (bound + 1) (area_by found passed area used) (set good bound (good_by found passed (area_by found passed area used))) image (used_by bound passed used)
+pub finds_more : (form : Form) (page : ℕ) (kinds : List BucketKind) (bound : ℕ) (found area : List ℕ) (good : List Bool) (passed : Option PassingCopy) (image : Image) (used : Option ℕ) → bound < length good → FindsBelow form page kinds bound area good image used → IsReadAt form page kinds bound image found passed → FindsBelow form page kinds (bound + 1) (area_by found passed area used) (set good bound (good_by found passed (area_by found passed area used))) image (used_by bound passed used)
 finds_more form page kinds bound found area good passed image (Some used) inside first reading =
     record { passes = first.passes; before = first.before; fresh = fresh_more form page kinds bound found area good passed image inside first.fresh reading }
 finds_more form page kinds bound found area good (Some passed) image None inside none reading = record {
@@ -93,44 +89,33 @@ finds_more form page kinds bound found area good None image None inside none rea
 pub finds_none : (form : Form) (page : ℕ) (kinds : List BucketKind) (area : List ℕ) (good : List Bool) (image : Image) → FindsBelow form page kinds 0 area good image None
 finds_none form page kinds area good image = record { each = λ copy kind e low. absurd (omega arith); unmarked = λ copy low. absurd (omega arith) }
 
-pub finds_step : (form : Form) (page : ℕ) (kinds : List BucketKind) (bound : ℕ) (found area after : List ℕ) (good : List Bool) (g : Bool) (passed : Option Passed) (image : Image) (used now : Option ℕ) → now ≡ used_by bound passed used → after ≡ area_by found passed area used → g ≡ good_by found passed after → bound < length good → FindsBelow form page kinds bound area good image used → IsReadAt form page kinds bound image found passed → FindsBelow form page kinds (bound + 1) after (set good bound g) image now
+pub finds_step : (form : Form) (page : ℕ) (kinds : List BucketKind) (bound : ℕ) (found area after : List ℕ) (good : List Bool) (g : Bool) (passed : Option PassingCopy) (image : Image) (used now : Option ℕ) → now ≡ used_by bound passed used → after ≡ area_by found passed area used → g ≡ good_by found passed after → bound < length good → FindsBelow form page kinds bound area good image used → IsReadAt form page kinds bound image found passed → FindsBelow form page kinds (bound + 1) after (set good bound g) image now
 finds_step form page kinds bound found area after good g passed image used now is_used is_area is_good inside finds reading =
     subst (λ (u : Option ℕ). FindsBelow form page kinds (bound + 1) after (set good bound g) image u) (sym is_used)
     (subst (λ (b : Bool). FindsBelow form page kinds (bound + 1) after (set good bound b) image (used_by bound passed used)) (sym is_good)
     (subst (λ (a : List ℕ). FindsBelow form page kinds (bound + 1) a (set good bound (good_by found passed a)) image (used_by bound passed used)) (sym is_area)
     (finds_more form page kinds bound found area good passed image used inside finds reading)))
 
-inside_by : (bound : ℕ) (passed : Option Passed) (used : Option ℕ) → IfSome used (λ copy. copy < bound) → IfSome (used_by bound passed used) (λ copy. copy < bound + 1)
+inside_by : (bound : ℕ) (passed : Option PassingCopy) (used : Option ℕ) → IfSome used (λ copy. copy < bound) → IfSome (used_by bound passed used) (λ copy. copy < bound + 1)
 inside_by bound passed (Some used) low = omega arith
 inside_by bound (Some passed) None low = omega arith
 inside_by bound None None low = low
 
-pub inside_step : (bound : ℕ) (passed : Option Passed) (used now : Option ℕ) → now ≡ used_by bound passed used → IfSome used (λ copy. copy < bound) → IfSome now (λ copy. copy < bound + 1)
+pub inside_step : (bound : ℕ) (passed : Option PassingCopy) (used now : Option ℕ) → now ≡ used_by bound passed used → IfSome used (λ copy. copy < bound) → IfSome now (λ copy. copy < bound + 1)
 inside_step bound passed used now is low = subst (λ (u : Option ℕ). IfSome u (λ copy. copy < bound + 1)) (sym is) (inside_by bound passed used low)
 
-fits_by : (form : Form) (bound : ℕ) (found area : List ℕ) (passed : Option Passed) (used : Option ℕ) → IfSome used (λ _. IsTrue (form.fits area)) → IfSome passed (λ _. IsTrue (form.fits found)) → IfSome (used_by bound passed used) (λ _. IsTrue (form.fits (area_by found passed area used)))
+fits_by : (form : Form) (bound : ℕ) (found area : List ℕ) (passed : Option PassingCopy) (used : Option ℕ) → IfSome used (λ _. IsTrue (form.fits area)) → IfSome passed (λ _. IsTrue (form.fits found)) → IfSome (used_by bound passed used) (λ _. IsTrue (form.fits (area_by found passed area used)))
 fits_by form bound found area passed (Some used) before here = before
 fits_by form bound found area (Some passed) None before here = here
 fits_by form bound found area None None before here = before
 
-pub fits_step : (form : Form) (bound : ℕ) (found area after : List ℕ) (passed : Option Passed) (used now : Option ℕ) → now ≡ used_by bound passed used → after ≡ area_by found passed area used → IfSome used (λ _. IsTrue (form.fits area)) → IfSome passed (λ _. IsTrue (form.fits found)) → IfSome now (λ _. IsTrue (form.fits after))
+pub fits_step : (form : Form) (bound : ℕ) (found area after : List ℕ) (passed : Option PassingCopy) (used now : Option ℕ) → now ≡ used_by bound passed used → after ≡ area_by found passed area used → IfSome used (λ _. IsTrue (form.fits area)) → IfSome passed (λ _. IsTrue (form.fits found)) → IfSome now (λ _. IsTrue (form.fits after))
 fits_step form bound found area after passed used now is_used is_area before here =
     subst (λ (u : Option ℕ). IfSome u (λ _. IsTrue (form.fits after))) (sym is_used)
     (subst (λ (a : List ℕ). IfSome (used_by bound passed used) (λ _. IsTrue (form.fits a))) (sym is_area) (fits_by form bound found area passed used before here))
 
 -- what a read gave of a device that reads alone brought from another
-pub reading_from : (form : Form) (kinds here : List BucketKind) (copy : ℕ) (image : Image) (found : List ℕ) (passed : Option Passed) (from mid : Device) → ReadKeeps from mid → here ≡ kinds → IsReadAt form mid.geometry.page here copy image found passed → IsReadAt form from.geometry.page kinds copy image found passed
+pub reading_from : (form : Form) (kinds here : List BucketKind) (copy : ℕ) (image : Image) (found : List ℕ) (passed : Option PassingCopy) (from mid : Device) → ReadKeeps from mid → here ≡ kinds → IsReadAt form mid.geometry.page here copy image found passed → IsReadAt form from.geometry.page kinds copy image found passed
 reading_from form kinds here copy image found passed from mid keeps same reading =
     subst (λ (ks : List BucketKind). IsReadAt form from.geometry.page ks copy image found passed) same
     (subst (λ (p : ℕ). IsReadAt form p here copy image found passed) (ap (λ geo. geo.page) keeps.geometry) reading)
-
--- ---- the room that every copy fits
-
-pub most_more : (kinds : List BucketKind) (copy : ℕ) (here : BucketKind) (most new : ℕ) → slice_get kinds copy ≡ Some here → EachCopy kinds (λ place kind. place < copy → kind.room ≤ most) → most ≤ new → here.room ≤ new → EachCopy kinds (λ place kind. place < copy + 1 → kind.room ≤ new)
-most_more kinds copy here most new e before more fits = λ place kind f low. elim (below_or_at place copy low) [
-  | inl lower ↦ let old = before place kind f lower in omega arith
-  | inr at ↦
-      let both : Some here ≡ Some kind = sym e ∙ ap (slice_get kinds) (sym at) ∙ f in
-      let same : here ≡ kind = cc in
-      subst (λ (k : BucketKind). k.room ≤ new) same fits
-]

@@ -4,7 +4,6 @@ use Rattle.std.specs.Prelude.{slice_get}
 use Rattle.std.specs.Option.{ForSome}
 use Rattle.std.proofs.lemmas.List.{get_or_past}
 use Rattle.std.proofs.lemmas.List.Sums.{get_or-le-sum_by, sum_by-cons, sum_by-set}
-use Rattle.std.proofs.lemmas.Option.{slice_get_within}
 use Rattle.bb_base.specs.Faults.{Rose}
 use Rattle.bb_base.specs.Form.{Form}
 use Rattle.bb_flash.specs.Cuts.{EachImage, IsLater}
@@ -12,11 +11,9 @@ use Rattle.bb_flash.specs.Device.{Device, Told, content}
 use Rattle.bb_flash.specs.Image.{Image}
 use Rattle.bb_flash.proofs.Moments.{images_joined}
 use Rattle.bb_bucket.specs.Kind.{BucketKind}
-use Rattle.bb_copies.specs.Buckets.{EachCopy}
 use Rattle.bb_copies.specs.Erasing.{EachBounded, IsBounded, IsBoundedInSum, unmarked_kinds}
-use Rattle.bb_copies.specs.Looking.{IsFirst}
 use Rattle.bb_copies.specs.Passing.{passing_of, passings}
-use Rattle.bb_copies.specs.Refreshing.{AllHeld, AllSettled, AllWritten, IsFirstMarked, IsSettledAt, IsUntouched, IsBoundedAt, IsWrittenAt, KeepsMarked, LeavesOthers, NeverEmpty, NoOther, area_if, is_marked}
+use Rattle.bb_copies.specs.Refreshing.{AllHeld, AllSettled, AllWritten, IsUntouched, IsBoundedAt, IsWrittenAt, KeepsMarked, LeavesOthers, MarkedPass, NeverEmpty, NoOther, area_if, is_marked}
 use Rattle.bb_copies.specs.Settling.{NothingFails, RoseBy}
 use Rattle.bb_copies.specs.StandsFor.{SomePasses}
 use Rattle.bb_copies.proofs.Below.{kind_inside, leaves_still, passes_still, still_leaves}
@@ -58,7 +55,7 @@ set_counts good copy mark =
     let sum : count_by not (set good copy false) + count (get_or good copy false) ≡ count_by not good + 1 = sum_by-set count good copy false false (marked_inside good copy mark) in
     omega (arith, here, sum)
 
-set_again : (good : List Bool) (copy : ℕ) → is_marked good copy ≡ true → set good copy true ≡ good
+pub set_again : (good : List Bool) (copy : ℕ) → is_marked good copy ≡ true → set good copy true ≡ good
 set_again [] copy mark = refl
 set_again (b ∷ good) zero mark = ap (λ x. x ∷ good) (sym mark)
 set_again (b ∷ good) (suc copy) mark = ap (λ xs. b ∷ xs) (set_again good copy mark)
@@ -84,25 +81,6 @@ never_joined form kinds one two three h k first second =
 
 -- ---- after the others were settled
 
--- the copies that were marked before passed the area
-pub MarkedPass : Form → List BucketKind → List ℕ → List Bool → Device → Type 0
-MarkedPass form kinds area marked device = EachCopy kinds (λ copy kind. is_marked marked copy ≡ true → ForSome (content device) (λ image. passing_of form device.geometry.page kind image ≡ Some area))
-
-pub first_marked : (form : Form) (kinds : List BucketKind) (area : List ℕ) (good : List Bool) (bound used : ℕ) (device : Device) → bound ≡ length kinds → ForSome (content device) (λ image. IsFirst form device.geometry.page kinds bound area good image used) → MarkedPass form kinds area (set good used true) device
-unfolding MarkedPass
-first_marked form kinds area good bound used device many first = λ copy kind e mark image f. elim (same_or_not copy used) [
-  | inl same ↦ (first image f).passes copy kind e same
-  | inr other ↦
-      let fresh : is_marked good copy ≡ true = sym (get_or-set_other good used copy true false other) ∙ mark in
-      (((first image f).fresh copy kind e (omega (arith, slice_get_within kinds copy kind e, many))).0 fresh).passes
-]
-
--- the used copy isn't touched while the others are settled
-pub used_spares : (form : Form) (kinds : List BucketKind) (area : List ℕ) (good : List Bool) (bound used : ℕ) (from to : Device) → bound ≡ length kinds → used < bound → used < length good → ForSome (content from) (λ image. IsFirst form from.geometry.page kinds bound area good image used) → KeepsMarked kinds (set good used true) from to → NeverEmpty form kinds from to
-used_spares form kinds area good bound used from to many low inside first kept =
-    let there = kind_inside kinds used (omega (arith, many)) in
-    spares_by form kinds used there.0 area from to there.1 (kept used there.0 there.1 (get_or-set_same good used true false inside)) (λ image f. (first image f).passes used there.0 there.1 refl)
-
 pub none_of_match : {X : Type 0} (r : Option X) (P : Type 0) (Q : X → Type 0) → MatchOption r P Q → is_some r ≡ false → P
 none_of_match None P Q h e = h
 none_of_match (Some x) P Q h e = absurd cc
@@ -112,7 +90,6 @@ some_of_match None P Q h e = absurd cc
 some_of_match (Some x) P Q h e = (x, h)
 
 pub held_all : (form : Form) (kinds : List BucketKind) (area : List ℕ) (marked good : List Bool) (from to : Device) → IsLater from to → MarkedPass form kinds area marked from → KeepsMarked kinds marked from to → AllSettled form kinds area marked good from to → AllHeld form kinds area good from to
-unfolding MarkedPass
 held_all form kinds area marked good from to later before kept settled = record {
   each = λ copy kind e. elim (true_or_false (is_marked marked copy)) [
     | inr fresh ↦ settled.each copy kind e fresh
@@ -123,7 +100,7 @@ held_all form kinds area marked good from to later before kept settled = record 
   dead = settled.dead;
 }
 
--- ---- after the used one was settled too
+-- ---- after the last one was settled too
 
 pub dead_set : (good : List Bool) (used : ℕ) (g : Bool) (one two three : Device) → is_marked good used ≡ true → IsLater two three → (g ≡ false → Rose two.faults three.faults) → RoseBy (count_by not good) one.faults two.faults → RoseBy (count_by not (set good used g)) one.faults three.faults
 dead_set good used true one two three mark k cause rose =
@@ -133,32 +110,6 @@ dead_set good used false one two three mark k cause rose =
     let more = cause refl in
     subst (λ (n : ℕ). RoseBy n one.faults three.faults) (sym (set_counts good used mark)) (omega (arith, rose, more))
 
-pub held_more : (form : Form) (kinds : List BucketKind) (area : List ℕ) (good : List Bool) (used : ℕ) (g : Bool) (from mid to : Device) → used < length good → is_marked good used ≡ true → IsLater from mid → IsLater mid to → AllHeld form kinds area good from mid → LeavesOthers kinds used mid to → IsSettledAt form kinds area used mid to g → AllHeld form kinds area (set good used g) from to
-held_more form kinds area good used g from mid to inside mark h k before others settled =
-    let page : mid.geometry.page ≡ from.geometry.page = ap (λ geo. geo.page) h.geometry in
-    record {
-      each = λ copy kind e. elim (same_or_not copy used) [
-        | inl same ↦
-            let now : is_marked (set good used g) copy ≡ g = ap (is_marked (set good used g)) same ∙ get_or-set_same good used g false inside in
-            subst (λ (b : Bool). ForSome (content to) (λ image. passing_of form from.geometry.page kind image ≡ area_if area b)) (sym now)
-            (subst (λ (p : ℕ). ForSome (content to) (λ image. passing_of form p kind image ≡ area_if area g)) page (settled.passes copy kind e same))
-        | inr other ↦
-            let now : is_marked (set good used g) copy ≡ is_marked good copy = get_or-set_other good used copy g false other in
-            subst (λ (b : Bool). ForSome (content to) (λ image. passing_of form from.geometry.page kind image ≡ area_if area b)) (sym now)
-            (passes_still form kind from.geometry.page (area_if area (is_marked good copy)) mid to page k (others copy kind e other) (before.each copy kind e))
-      ];
-      dead = dead_set good used g from mid to mark k settled.cause before.dead;
-    }
-
--- a copy other than the used one is good, so that some copy passes while the used one is settled
-pub spares_other : (form : Form) (kinds : List BucketKind) (area : List ℕ) (good : List Bool) (used copy : ℕ) (from mid to : Device) → IsLater from mid → length good ≡ length kinds → IsFirstMarked good used copy → AllHeld form kinds area good from mid → LeavesOthers kinds used mid to → NeverEmpty form kinds mid to
-spares_other form kinds area good used copy from mid to h many first before others =
-    let there = kind_inside kinds copy (omega (arith, first.inside)) in
-    let page : mid.geometry.page ≡ from.geometry.page = ap (λ geo. geo.page) h.geometry in
-    let passes : ForSome (content mid) (λ image. passing_of form from.geometry.page there.0 image ≡ Some area) = subst (λ (b : Bool). ForSome (content mid) (λ image. passing_of form from.geometry.page there.0 image ≡ area_if area b)) first.marked (before.each copy there.0 there.1) in
-    spares_by form kinds copy there.0 area mid to there.1 (others copy there.0 there.1 first.other)
-    (subst (λ (p : ℕ). ForSome (content mid) (λ image. passing_of form p there.0 image ≡ Some area)) (sym page) passes)
-
 -- ---- where no call failed
 
 other_of : (n used : ℕ) → 2 ≤ n → (copy : ℕ) × (copy < n) × (copy ≢ used)
@@ -166,11 +117,10 @@ other_of n zero many = (1, omega arith, λ e. absurd (omega arith))
 other_of n (suc used) many = (0, omega arith, λ e. absurd (omega arith))
 
 -- no copy is dead, so that another is good
-pub quiet_other : (form : Form) (kinds : List BucketKind) (area : List ℕ) (good : List Bool) (used : ℕ) (from to : Device) → 2 ≤ length good → NoOther good used → AllHeld form kinds area good from to → NothingFails from to → ⊥
-quiet_other form kinds area good used from to many none all quiet =
+pub quiet_other : (good : List Bool) (used : ℕ) (from to : Device) → 2 ≤ length good → NoOther good used → RoseBy (count_by not good) from.faults to.faults → NothingFails from to → ⊥
+quiet_other good used from to many none dead quiet =
     let other = other_of (length good) used many in
     let some = unmarked_counts good other.0 other.1 (none other.0 other.1 other.2) in
-    let dead = all.dead in
     quiet (omega (arith, some, dead))
 
 pub written_others : (kinds : List BucketKind) (rec : List ℕ) (good : List Bool) (used : ℕ) (from mid to : Device) → IsLater from mid → IsLater mid to → KeepsMarked kinds (set good used true) from mid → AllWritten kinds rec (set good used true) from mid → LeavesOthers kinds used mid to → IsWrittenAt kinds used rec mid to → used < length good → used < length kinds → is_marked good used ≡ false → AllWritten kinds rec good from to

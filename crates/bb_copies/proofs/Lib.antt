@@ -7,12 +7,14 @@ pub mod Erased
 pub mod Finding
 pub mod Held
 pub mod History
+pub mod Lasts
 pub mod Loads
 pub mod Many
 pub mod Marks
 pub mod OneCopy
 pub mod Below
 pub mod Passed
+pub mod Pieced
 pub mod Placed
 pub mod Places
 pub mod Runs

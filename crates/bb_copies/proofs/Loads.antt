@@ -15,7 +15,7 @@ use Rattle.bb_bucket.specs.Calls.{told_but_reads}
 use Rattle.bb_bucket.specs.Kind.{BucketKind, part_of}
 use Rattle.bb_copies.specs.declared.answers.Loaded.{Loaded}
 use Rattle.bb_copies.specs.declared.answers.Loaded.TheVariants.{Copy, NoCopy}
-use Rattle.bb_copies.specs.declared.read.Passed.{Passed}
+use Rattle.bb_copies.specs.declared.read.PassingCopy.{PassingCopy}
 use Rattle.bb_copies.specs.Buckets.{EachCopy}
 use Rattle.bb_copies.specs.Loading.{IsAllKept, IsEmpty, IsExact, IsFirstArea, IsLoadStuck, IsReadFault, LoadErases, LoadGives, LoadImages, LoadRuns, LoadsExactly, StandsStill}
 use Rattle.bb_copies.specs.Erasing.{ErasesBy, IsBounded, unmarked_kinds}
@@ -240,7 +240,7 @@ loads_erasing form kinds area rec good bound used from mid to many packed told h
 -- ---- a look
 
 -- the copies below one pass nothing, and it passes the area
-pub look_found : (form : Form) (kinds : List BucketKind) (area : List ℕ) (copy : ℕ) (passed : Option Passed) (from : Device) → copy < length kinds → is_some passed ≡ true → ForSome (content from) (λ image. EachCopy kinds (λ place kind. place < copy → passing_of form from.geometry.page kind image ≡ None)) → ForSome (content from) (λ image. IsReadAt form from.geometry.page kinds copy image area passed) → ForSome (content from) (λ image. IsFirstArea area (passings form from.geometry.page kinds image))
+pub look_found : (form : Form) (kinds : List BucketKind) (area : List ℕ) (copy : ℕ) (passed : Option PassingCopy) (from : Device) → copy < length kinds → is_some passed ≡ true → ForSome (content from) (λ image. EachCopy kinds (λ place kind. place < copy → passing_of form from.geometry.page kind image ≡ None)) → ForSome (content from) (λ image. IsReadAt form from.geometry.page kinds copy image area passed) → ForSome (content from) (λ image. IsFirstArea area (passings form from.geometry.page kinds image))
 look_found form kinds area copy None from inside some none reading = absurd cc
 look_found form kinds area copy (Some passed) from inside some none reading = λ image e.
     let there = kind_inside kinds copy inside in
@@ -252,7 +252,7 @@ look_found form kinds area copy (Some passed) from inside some none reading = λ
     }
 
 -- so does this one
-pub none_more : (form : Form) (page : ℕ) (kinds : List BucketKind) (area : List ℕ) (copy : ℕ) (passed : Option Passed) (image : Image) → is_some passed ≡ false → EachCopy kinds (λ place kind. place < copy → passing_of form page kind image ≡ None) → IsReadAt form page kinds copy image area passed → EachCopy kinds (λ place kind. place < copy + 1 → passing_of form page kind image ≡ None)
+pub none_more : (form : Form) (page : ℕ) (kinds : List BucketKind) (area : List ℕ) (copy : ℕ) (passed : Option PassingCopy) (image : Image) → is_some passed ≡ false → EachCopy kinds (λ place kind. place < copy → passing_of form page kind image ≡ None) → IsReadAt form page kinds copy image area passed → EachCopy kinds (λ place kind. place < copy + 1 → passing_of form page kind image ≡ None)
 none_more form page kinds area copy (Some passed) image some none reading = absurd cc
 none_more form page kinds area copy None image some none reading = λ place kind e low. elim (same_or_not place copy) [
   | inl same ↦ sym (reading place kind e same).area

@@ -12,7 +12,7 @@ use Rattle.bb_flash.specs.Image.{Image, Torn}
 use Rattle.bb_flash.proofs.Counting.{counted_both, counted_fewer}
 use Rattle.bb_flash.proofs.Moments.{Cuts-now, images_weaker}
 use Rattle.bb_flash.proofs.Regions.{Torn-region}
-use Rattle.bb_bucket.specs.Calls.{Agrees, EachCall, IsWithin, range_of}
+use Rattle.bb_bucket.specs.Calls.{Agrees, EachCall, HasFound, IsWithin, range_of}
 use Rattle.bb_bucket.specs.Kind.{BucketKind, Holding, IsKind, part_of}
 use Rattle.bb_copies.specs.Buckets.{AllAgree, AllServe, AreApart, EachCopy, IsApart, kinds_of}
 use Rattle.bb_copies.specs.Luck.{IsLucky}
@@ -199,6 +199,12 @@ agrees_beside holding from to later same agrees = record {
       let page = ap (λ geo. geo.page) later.geometry in
       subst (λ (p : ℕ). IsTrue (holding.agrees (part_of p holding.kind.region after))) (sym page)
       (subst (λ (part : Image). IsTrue (holding.agrees part)) (sym (same_part from.geometry.page holding.kind.region there.0 after region)) (agrees.here there.0 there.1));
+  found = λ after f.
+      let there = content_before from to later after f in
+      let region = images_now _ from to same.images there.0 after there.1 f in
+      let page = ap (λ geo. geo.page) later.geometry in
+      subst (λ (p : ℕ). HasFound holding.found (holding.kind.candidate_of (part_of p holding.kind.region after))) (sym page)
+      (subst (λ (part : Image). HasFound holding.found (holding.kind.candidate_of part)) (sym (same_part from.geometry.page holding.kind.region there.0 after region)) (agrees.found there.0 there.1));
 }
 
 -- the other buckets agree after one was settled

@@ -1,11 +1,12 @@
 -- The buckets of the copies, as their kinds.
-use Rattle.std.specs.Prelude.{◌≡◌, ◌≢◌, ◌⊎◌, ℕ, ◌+◌, ◌≤◌, List, map, slice_get, Some, IsTrue}
+use Rattle.std.specs.Prelude.{◌≡◌, ◌≢◌, ◌⊎◌, ℕ, ◌+◌, ◌<◌, ◌≤◌, List, length, map, slice_get, Some, IsTrue}
 use Rattle.bb_base.specs.Form.{Form}
 use Rattle.bb_flash.specs.declared.geometry.Geometry.{Geometry}
 use Rattle.bb_flash.specs.declared.region.Region.{Region}
 use Rattle.bb_flash.specs.Device.{Device}
 use Rattle.bb_bucket.specs.Calls.{Agrees}
 use Rattle.bb_bucket.specs.Kind.{BucketKind, Holding}
+use Rattle.bb_copies.specs.declared.room.Room.{Room}
 
 -- the kind of each bucket
 abbrev pub kinds_of : {B : Type 0} → (B → Holding) → List B → List BucketKind
@@ -34,15 +35,16 @@ AreApart kinds =
     EachCopy kinds
     (λ copy kind. EachCopy kinds (λ other beside. other ≢ copy → IsApart kind.region beside.region))
 
--- the copies have room for the form's records, and stand apart
-pub record HaveRoom (form : Form) (kinds : List BucketKind) : Type 0 where
-  pub room : EachCopy kinds (λ copy kind. form.length ≤ kind.room)
+-- a record of this length may be written to each copy, and the copies stand apart
+pub record HaveRoom (len : ℕ) (kinds : List BucketKind) : Type 0 where
+  pub room : EachCopy kinds (λ copy kind. len ≤ kind.most)
   pub apart : AreApart kinds
 
 -- they are made for devices of this geometry
 abbrev pub AllServe : List BucketKind → Geometry → Type 0
 AllServe kinds geometry = EachCopy kinds (λ copy kind. IsTrue (kind.serves geometry))
 
--- what is read of a copy fits a memory of this length
-abbrev pub AllFit : List BucketKind → ℕ → Type 0
-AllFit kinds len = EachCopy kinds (λ copy kind. kind.room ≤ len)
+-- the memory that copies are read into holds a byte of a record at least, and an area
+pub record HasMemory (form : Form) (memory : Room) : Type 0 where
+  pub piece : 0 < length memory.piece.items
+  pub area : length memory.area.items ≡ form.area_len

@@ -1,15 +1,16 @@
 -- What a load makes of a device, and what it answers.
-use Rattle.std.specs.Prelude.{◌≡◌, ℕ, ◌-◌, ◌<◌, ◌≤◌, Bool, List, length, Option, Some, None}
-use Rattle.std.specs.Prelude.{is_some, count_by, true, false}
+use Rattle.std.specs.Prelude.{◌≡◌, ◌≢◌, ℕ, ◌-◌, ◌<◌, ◌≤◌, Bool, List, length, Option, Some, None}
+use Rattle.std.specs.Prelude.{is_some, count_by, true, false, Result, IfOk, IfErr, is_err, IsTrue}
 use Rattle.std.specs.Bool.{Decides}
 use Rattle.std.specs.Option.{ForSome}
-use Rattle.bb_base.specs.Faults.{Rose, one_more}
+use Rattle.bb_base.specs.Faults.{Rose, counted, one_more}
 use Rattle.bb_base.specs.Form.{Form}
 use Rattle.bb_flash.specs.declared.region.Region.{Region}
 use Rattle.bb_flash.specs.Counted.{EachCounted}
 use Rattle.bb_flash.specs.Cuts.{EachImage, IsLater, IsSameRegion}
 use Rattle.bb_flash.specs.Device.{Device, IsDevice, LeavesStarts, changes, content, erases}
 use Rattle.bb_flash.specs.Image.{Image}
+use Rattle.bb_bucket.specs.Calls.{IsQuiet}
 use Rattle.bb_bucket.specs.Kind.{BucketKind, part_of}
 use Rattle.bb_copies.specs.declared.answers.CopyFault.{CopyFault}
 use Rattle.bb_copies.specs.declared.answers.CopyFault.TheVariants.{ReadFault, WriteFault, Unsure}
@@ -167,6 +168,17 @@ pub record LoadRuns (form : Form) (kinds : List BucketKind) (from to : Device) :
   pub starts : LeavesStarts from to
   pub whole : IsDevice to
 
+-- A load: what it made of the device, and what it answered. `area` is what it left in the memory
+-- for the area.
+pub record IsLoad (form : Form) (kinds : List BucketKind) (area : List ℕ) (from to : Device)
+    (answer : Result Loaded CopyFault) : Type 0 where
+  pub runs : LoadRuns form kinds from to
+  pub gives : IfOk answer (LoadGives form kinds area from to)
+  pub fits : IfOk answer (λ loaded. loaded ≢ NoCopy → IsTrue (form.fits area))
+  pub exact : IfOk answer (LoadsExactly form kinds area from to)
+  pub erases : IfOk answer (LoadsErasing form kinds area from to)
+  pub fails : IfErr answer (LoadFails form kinds area from to)
+
 -- what a look answers: whether a copy passes, and the area of the first
 abbrev pub LookGives : Form → List BucketKind → List ℕ → Device → Bool → Type 0
 LookGives form kinds area from true =
@@ -175,3 +187,13 @@ LookGives form kinds area from true =
 LookGives form kinds area from false =
     ForSome (content from)
     (λ image. SomePasses (passings form from.geometry.page kinds image) → ⊥)
+
+-- A look: what it answered, and that it only read. `area` is what it left in the memory for the
+-- area.
+pub record IsLook (form : Form) (kinds : List BucketKind) (area : List ℕ) (from to : Device)
+    (answer : Result Bool CopyFault) : Type 0 where
+  pub gives : IfOk answer (LookGives form kinds area from)
+  pub fails : IfErr answer (λ fault. fault ≡ ReadFault)
+  pub quiet : IsQuiet from to
+  pub faults : to.faults ≡ counted (is_err answer) from.faults
+  pub read_faults : to.read_faults ≡ counted (is_err answer) from.read_faults

@@ -5,7 +5,7 @@ use Rattle.std.specs.Str.{bytes_eq}
 use Rattle.bb_base.specs.Form.{Form}
 use Rattle.bb_flash.specs.Image.{Image}
 use Rattle.bb_bucket.specs.Kind.{BucketKind, part_of}
-use Rattle.bb_copies.specs.declared.read.Passed.{Passed}
+use Rattle.bb_copies.specs.declared.read.PassingCopy.{PassingCopy}
 use Rattle.bb_copies.specs.Buckets.{EachCopy}
 use Rattle.bb_copies.specs.Passing.{IsReading, passing_of}
 use Rattle.bb_copies.specs.Refreshing.{is_marked}
@@ -43,23 +43,23 @@ FindsBelow form page kinds bound area good image (Some used) =
     IsFirst form page kinds bound area good image used
 
 -- the first copy that passes, once the copy of a number was read too
-abbrev pub used_by : ℕ → Option Passed → Option ℕ → Option ℕ
+abbrev pub used_by : ℕ → Option PassingCopy → Option ℕ → Option ℕ
 used_by copy passed (Some used) = Some used
 used_by copy (Some found) None = Some copy
 used_by copy None None = None
 
 -- and its area
-abbrev pub area_by : List ℕ → Option Passed → List ℕ → Option ℕ → List ℕ
+abbrev pub area_by : List ℕ → Option PassingCopy → List ℕ → Option ℕ → List ℕ
 area_by found passed area (Some used) = area
 area_by found (Some passed) area None = found
 area_by found None area None = area
 
 -- whether the copy is fresh
-abbrev pub good_by : List ℕ → Option Passed → List ℕ → Bool
+abbrev pub good_by : List ℕ → Option PassingCopy → List ℕ → Bool
 good_by found (Some passed) area = not passed.worn && bytes_eq found area
 good_by found None area = false
 
 -- the copy of a number was read
-abbrev pub IsReadAt : Form → ℕ → List BucketKind → ℕ → Image → List ℕ → Option Passed → Type 0
+abbrev pub IsReadAt : Form → ℕ → List BucketKind → ℕ → Image → List ℕ → Option PassingCopy → Type 0
 IsReadAt form page kinds copy image out passed =
     EachCopy kinds (λ place kind. place ≡ copy → IsReading form page kind image out passed)

@@ -6,10 +6,10 @@ use Rattle.bb_copies.specs.Passing.{passes_at}
 
 -- Some copy passes in the image an area that it passes neither in what the call began from nor in
 -- what it leaves where it answers Ok. `passing` says what each copy passes as in an image.
-pub record IsLucky (passing : Image → List (Option (List ℕ))) (change : Change)
+pub record IsLucky {A : Type 0} (passing : Image → List (Option A)) (change : Change)
     (image : Image) : Type 0 where
   pub copy : ℕ
-  pub area : List ℕ
+  pub area : A
   pub passes : passes_at (passing image) copy ≡ Some area
   pub not_before : passes_at (passing change.before) copy ≢ Some area
   pub not_after : passes_at (passing change.after) copy ≢ Some area

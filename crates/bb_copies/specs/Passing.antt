@@ -2,10 +2,13 @@
 -- or what is in it.
 use Rattle.std.specs.Prelude.{◌≡◌, ℕ, List, map, slice_get, Option, IfSome, option_and_then}
 use Rattle.std.specs.Prelude.{option_map}
+use Rattle.std.specs.Option.{ForSome}
 use Rattle.bb_base.specs.Form.{Form}
+use Rattle.bb_base.specs.declared.format.Passed.{Passed}
 use Rattle.bb_flash.specs.Image.{Image}
+use Rattle.bb_bucket.specs.Calls.{candidate_in}
 use Rattle.bb_bucket.specs.Kind.{BucketKind, part_of}
-use Rattle.bb_copies.specs.declared.read.Passed.{Passed}
+use Rattle.bb_copies.specs.declared.read.PassingCopy.{PassingCopy}
 
 -- the area that a copy of this kind passes as: what stands in its region as its record passes
 abbrev pub passing_of : Form → ℕ → BucketKind → Image → Option (List ℕ)
@@ -17,12 +20,18 @@ abbrev pub passings : Form → ℕ → List BucketKind → Image → List (Optio
 passings form page kinds image = map (λ kind. passing_of form page kind image) kinds
 
 -- what the copy of a number passes as, counted from 0: nothing where there is no such copy
-abbrev pub passes_at : List (Option (List ℕ)) → ℕ → Option (List ℕ)
+abbrev pub passes_at : {A : Type 0} → List (Option A) → ℕ → Option A
 passes_at passing copy = option_and_then (λ area. area) (slice_get passing copy)
+
+-- what the record of a copy passes as was found, where it has one: an area, in `out`, or nothing
+abbrev pub IsChecked : Form → ℕ → BucketKind → Image → List ℕ → Option Passed → Type 0
+IsChecked form page kind image out passed =
+    ForSome (candidate_in kind page image)
+    (λ bytes. option_map (λ _. out) passed ≡ form.passes bytes)
 
 -- what reading a copy gave: the area that it passes as, in `out`, and whether a page of its record
 -- is Worn
 pub record IsReading (form : Form) (page : ℕ) (kind : BucketKind) (image : Image) (out : List ℕ)
-    (passed : Option Passed) : Type 0 where
-  pub area : option_map (λ _. out) passed ≡ passing_of form page kind image
-  pub worn : IfSome passed (λ found. found.worn ≡ kind.is_worn (part_of page kind.region image))
+    (reading : Option PassingCopy) : Type 0 where
+  pub area : option_map (λ _. out) reading ≡ passing_of form page kind image
+  pub worn : IfSome reading (λ found. found.worn ≡ kind.is_worn (part_of page kind.region image))

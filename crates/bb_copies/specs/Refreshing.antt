@@ -52,6 +52,20 @@ abbrev pub KeepsMarked : List BucketKind → List Bool → Device → Device →
 KeepsMarked kinds marked from to =
     EachCopy kinds (λ copy kind. is_marked marked copy ≡ true → IsUntouched kind from to)
 
+-- the marked copies pass the area
+abbrev pub MarkedPass : Form → List BucketKind → List ℕ → List Bool → Device → Type 0
+MarkedPass form kinds area marked device =
+    EachCopy kinds
+    (λ copy kind. is_marked marked copy ≡ true → ForSome (content device)
+    (λ image. passing_of form device.geometry.page kind image ≡ Some area))
+
+-- the copy of this number passes it
+abbrev pub PassesAt : Form → List BucketKind → List ℕ → ℕ → Device → Type 0
+PassesAt form kinds area copy device =
+    EachCopy kinds
+    (λ place kind. place ≡ copy → ForSome (content device)
+    (λ image. passing_of form device.geometry.page kind image ≡ Some area))
+
 -- what a copy passes that is good, or else dead
 abbrev pub area_if : List ℕ → Bool → Option (List ℕ)
 area_if area good = if good then Some area else None

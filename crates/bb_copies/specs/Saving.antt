@@ -1,6 +1,6 @@
 -- What a save makes of a device, and what it answers.
-use Rattle.std.specs.Prelude.{◌≡◌, ◌≢◌, ◌⊎◌, ℕ, ◌+◌, ◌-◌, ◌++◌, true, List, [], ◌∷◌, length, Option}
-use Rattle.std.specs.Prelude.{Some, None, is_some}
+use Rattle.std.specs.Prelude.{◌≡◌, ◌≢◌, ◌⊎◌, ◌↔◌, ℕ, ◌+◌, ◌-◌, ◌++◌, Bool, true, false, List, [], ◌∷◌}
+use Rattle.std.specs.Prelude.{length, Option, Some, None, IfSome, IfNone, is_some}
 use Rattle.std.specs.Option.{ForSome}
 use Rattle.bb_base.specs.Form.{Form}
 use Rattle.bb_flash.specs.Counted.{EachCounted}
@@ -11,12 +11,12 @@ use Rattle.bb_bucket.specs.Kind.{BucketKind}
 use Rattle.bb_copies.specs.declared.answers.CopyFault.{CopyFault}
 use Rattle.bb_copies.specs.declared.answers.CopyFault.TheVariants.{ReadFault, WriteFault, Unsure}
 use Rattle.bb_copies.specs.Buckets.{EachCopy}
-use Rattle.bb_copies.specs.Erasing.{IsBounded}
+use Rattle.bb_copies.specs.Erasing.{ErasesBy, IsBounded}
 use Rattle.bb_copies.specs.Loading.{IsAllKept, KeepsOutside}
 use Rattle.bb_copies.specs.Luck.{IsLucky}
 use Rattle.bb_copies.specs.Passing.{passes_at, passing_of, passings}
-use Rattle.bb_copies.specs.Refreshing.{IsStuckAt, IsUntouched}
-use Rattle.bb_copies.specs.Settling.{RoseBy}
+use Rattle.bb_copies.specs.Refreshing.{AllHeld, IsStuckAt, IsUntouched}
+use Rattle.bb_copies.specs.Settling.{NothingFails, RoseBy}
 use Rattle.bb_copies.specs.StandsFor.{SomeIsSpared, SomePasses, Stands, StandsFor}
 
 -- the copy that is used passes, or none passes where none is used
@@ -60,6 +60,13 @@ pub record IsAlone (form : Form) (kinds : List BucketKind) (used : Option ℕ) (
       (λ image. passing_of form from.geometry.page kind image ≡ None))
   pub cause : RoseBy (length kinds - 1) from.faults to.faults
   pub read_faults : to.read_faults ≡ from.read_faults
+
+-- how the copies end of which the last is settled after the others: all are settled, or no other
+-- took the area
+abbrev pub SettlesAll : Form → List BucketKind → List ℕ → ℕ → List Bool → Device → Device → Bool →
+    Type 0
+SettlesAll form kinds area last good from to true = AllHeld form kinds area good from to
+SettlesAll form kinds area last good from to false = IsAlone form kinds (Some last) last from to
 
 -- no copy was used, and none took the area: the answer names the last
 pub record IsHopeless (form : Form) (kinds : List BucketKind) (used : Option ℕ) (copy : ℕ)
@@ -110,3 +117,22 @@ pub record IsSaved (form : Form) (kinds : List BucketKind) (area : List ℕ) (no
   pub used : ℕ
   pub is : now ≡ Some used
   pub exit : IsAllKept form kinds area used live from to
+
+-- the same, and some copies pass it
+pub record IsSavedAs (form : Form) (kinds : List BucketKind) (area : List ℕ) (now : Option ℕ)
+    (from to : Device) : Type 0 where
+  pub live : ℕ
+  pub saved : IsSaved form kinds area now live from to
+
+-- A save: what it made of the device, and what it was refused for, if it was. `used` is the copy
+-- that was used before it, and `now` the one after it.
+pub record IsSave (form : Form) (kinds : List BucketKind) (was_sure : Bool) (used now : Option ℕ)
+    (area : List ℕ)
+    (from to : Device) (refusal : Option CopyFault) : Type 0 where
+  pub unsure : (refusal ≡ Some Unsure) ↔ (was_sure ≡ false)
+  pub runs : SaveRuns form kinds used area from to
+  pub stored : IfNone refusal (IsSavedAs form kinds area now from to)
+  pub fails : IfSome refusal (SaveFails form kinds used area from to)
+  pub exact :
+      NothingFails from to → IfNone refusal (EachWritten kinds (form.text area) from to)
+  pub erases : NothingFails from to → IfNone refusal (ErasesBy kinds (form.text area) from to)

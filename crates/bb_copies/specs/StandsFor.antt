@@ -1,6 +1,7 @@
 -- What the content of the copies stands for: a list of areas, oldest first, of which one is
 -- acknowledged. A content is seen as the list of what its copies pass, in their order: an area, or
--- none. No device, bucket or format is named here.
+-- none. What keeps and what decays is said of whatever a copy passes as, the type A. No device,
+-- bucket or format is named here.
 use Rattle.std.specs.Prelude.{◌≡◌, ◌⊎◌, ℕ, ◌<◌, ◌≤◌, List, [], ◌∷◌, length, All, slice_get, Option}
 use Rattle.std.specs.Prelude.{Some, None, is_some, IsTrue}
 use Rattle.std.specs.List.{AllZip, list_any}
@@ -8,44 +9,44 @@ use Rattle.std.specs.List.{AllZip, list_any}
 -- ---- what the copies pass
 
 -- some copy passes an area
-abbrev pub SomePasses : List (Option (List ℕ)) → Type 0
+abbrev pub SomePasses : {A : Type 0} → List (Option A) → Type 0
 SomePasses passed = IsTrue (list_any is_some passed)
 
 -- the area of the first copy that passes; `first` stands for a device where none does
-abbrev pub first_passed : List ℕ → List (Option (List ℕ)) → List ℕ
+abbrev pub first_passed : {A : Type 0} → A → List (Option A) → A
 first_passed first [] = first
 first_passed first (None ∷ passed) = first_passed first passed
 first_passed first (Some area ∷ passed) = area
 
 -- a copy passes one area or nothing
-abbrev pub IsAreaOrNone : List ℕ → Option (List ℕ) → Type 0
+abbrev pub IsAreaOrNone : {A : Type 0} → A → Option A → Type 0
 IsAreaOrNone area passes = (passes ≡ Some area) ⊎ (passes ≡ None)
 
 -- each copy does
-abbrev pub EachPassesOrNothing : List ℕ → List (Option (List ℕ)) → Type 0
+abbrev pub EachPassesOrNothing : {A : Type 0} → A → List (Option A) → Type 0
 EachPassesOrNothing area passed = All (IsAreaOrNone area) passed
 
 -- ---- from one content to another
 
 -- a copy passes what it passed before, or nothing
-abbrev pub IsKeptOrLost : Option (List ℕ) → Option (List ℕ) → Type 0
+abbrev pub IsKeptOrLost : {A : Type 0} → Option A → Option A → Type 0
 IsKeptOrLost before after = (after ≡ before) ⊎ (after ≡ None)
 
 -- it passes what it passed before, nothing, or the area that is written
-abbrev pub IsKeptOrTaken : List ℕ → Option (List ℕ) → Option (List ℕ) → Type 0
+abbrev pub IsKeptOrTaken : {A : Type 0} → A → Option A → Option A → Type 0
 IsKeptOrTaken area before image = IsKeptOrLost before image ⊎ (image ≡ Some area)
 
 -- each copy does
-abbrev pub KeepsOrTakes : List ℕ → List (Option (List ℕ)) → List (Option (List ℕ)) → Type 0
+abbrev pub KeepsOrTakes : {A : Type 0} → A → List (Option A) → List (Option A) → Type 0
 KeepsOrTakes area before image = AllZip (IsKeptOrTaken area) before image
 
 -- some copy passes, if one did before
-abbrev pub SomeIsSpared : List (Option (List ℕ)) → List (Option (List ℕ)) → Type 0
+abbrev pub SomeIsSpared : {A : Type 0} → List (Option A) → List (Option A) → Type 0
 SomeIsSpared before after = SomePasses before → SomePasses after
 
 -- What happens to the copies between sessions: each passes what it passed before, or nothing, and
 -- one that passes is spared.
-pub record Decay (before after : List (Option (List ℕ))) : Type 0 where
+pub record Decay {A : Type 0} (before after : List (Option A)) : Type 0 where
   pub each : AllZip IsKeptOrLost before after
   pub spares : SomeIsSpared before after
 

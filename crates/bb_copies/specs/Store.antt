@@ -1,10 +1,14 @@
 -- What copies mean to those who load and save through them.
 use Rattle.std.specs.Prelude.{◌≡◌, ℕ, ◌<◌, ◌≤◌, Bool, List, length, Option, Some, None, IfSome}
-use Rattle.bb_base.specs.Form.{Form}
+use Rattle.std.specs.Prelude.{Result, Ok, Err}
+use Rattle.bb_base.specs.Form.{Form, most_copies}
 use Rattle.bb_bucket.specs.Kind.{BucketKind}
+use Rattle.bb_copies.specs.declared.answers.CopyFault.{CopyFault}
 use Rattle.bb_copies.specs.declared.answers.Loaded.{Loaded}
 use Rattle.bb_copies.specs.declared.answers.Loaded.TheVariants.{Copy, NoCopy}
-use Rattle.bb_copies.specs.Buckets.{AllFit, HaveRoom}
+use Rattle.bb_copies.specs.declared.room.Room.{Room}
+use Rattle.bb_copies.specs.declared.tally.Taken.{Taken}
+use Rattle.bb_copies.specs.Buckets.{HasMemory, HaveRoom}
 
 -- the copies, and what is known of them
 pub record Store (B M : Type 0) : Type 0 where
@@ -16,22 +20,26 @@ pub record Store (B M : Type 0) : Type 0 where
   -- the last load or save answered Ok, and no look failed since
   pub sure : Bool
 
--- what always holds of copies that are mounted: `marks` of them may be marked, `found`, `rec` and
--- `area` bytes are at hand to read a copy, for its record and for its area; `placed` says that
--- where they are sure, their buckets know where a record goes
+-- what always holds of copies that are mounted: `marks` of them may be marked, `rec` bytes are at
+-- hand for a record, and `memory` to read copies into; `placed` says that where they are sure,
+-- their buckets know where a record goes
 pub record IsMounted (form : Form) (kinds : List BucketKind) (used : Option ℕ)
-    (marks found rec area : ℕ) (placed : Type 0) : Type 0 where
-  pub room : HaveRoom form kinds
+    (marks rec : ℕ) (memory : Room) (placed : Type 0) : Type 0 where
+  pub room : HaveRoom rec kinds
   pub many : 2 ≤ length kinds
-  pub few : length kinds ≤ 3
+  pub few : length kinds ≤ most_copies
   pub inside : IfSome used (λ copy. copy < length kinds)
   pub marked : marks ≡ length kinds
-  pub fits : AllFit kinds found
-  pub record_fits : rec ≡ form.length
-  pub area_fits : area ≡ form.area_len
+  pub record_fits : rec ≡ form.length_of form.area_len
+  pub at_hand : HasMemory form memory
   pub places : placed
 
 -- the copy that is used after a load
 abbrev pub used_after : Loaded → Option ℕ
 used_after (Copy used live) = Some used
 used_after NoCopy = None
+
+-- the copy that is used after a save that answered so, if it answered Ok
+abbrev pub used_in : Result Taken CopyFault → Option ℕ
+used_in (Ok taken) = Some taken.used
+used_in (Err fault) = None

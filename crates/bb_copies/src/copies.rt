@@ -1,23 +1,17 @@
-ghost use Rattle.std.specs.Prelude.{◌≡◌, ◌≢◌, ◌≤◌, ◌&&◌, ◌↔◌, IfErr, IfOk, IsErrOf, IsTrue};
-ghost use Rattle.std.specs.Prelude.{None, OnOk, false, is_err, is_ok, length};
-ghost use Rattle.bb_flash.specs.Cuts.{IsLater};
-ghost use Rattle.bb_base.specs.Faults.{counted};
-ghost use Rattle.bb_flash.specs.Device.{IsDevice, LeavesStarts};
-ghost use Rattle.bb_bucket.specs.Calls.{IsQuiet};
-ghost use Rattle.bb_copies.specs.declared.answers.Loaded.TheVariants.{NoCopy};
+ghost use Rattle.std.specs.Prelude.{◌≡◌, ◌≤◌, ◌&&◌, IfOk, IsTrue, None, OnOk, false, is_ok};
+ghost use Rattle.std.specs.Prelude.{length};
+ghost use Rattle.std.specs.Result.{result_err};
+ghost use Rattle.bb_base.specs.Form.{most_copies};
+ghost use Rattle.bb_flash.specs.Device.{IsDevice};
 ghost use Rattle.bb_copies.specs.Buckets.{AllAgree, AllServe, HaveRoom, kinds_of};
-ghost use Rattle.bb_copies.specs.Erasing.{ErasesBy, IsBounded};
-ghost use Rattle.bb_copies.specs.Loading.{KeepsOutside, LoadFails, LoadGives, LoadImages};
-ghost use Rattle.bb_copies.specs.Loading.{LoadsErasing, LoadsExactly, LookGives};
+ghost use Rattle.bb_copies.specs.Loading.{IsLoad, IsLook};
 ghost use Rattle.bb_copies.specs.Placing.{AllPlaced, ReadsNothing};
-ghost use Rattle.bb_copies.specs.Saving.{EachWritten, IsSaved, SaveFails, SaveImages};
-ghost use Rattle.bb_copies.specs.Settling.{NothingFails};
-ghost use Rattle.bb_copies.specs.declared.answers.CopyFault.TheVariants.{ReadFault, Unsure};
+ghost use Rattle.bb_copies.specs.Saving.{IsSave, IsSaved};
 ghost use Rattle.bb_copies.specs.Store.{used_after};
 
 use crate::load::{load_copies, used_copy};
 use crate::look::find_first;
-use crate::room::{Room, most_room};
+use crate::room::Room;
 use crate::save::save_copies;
 use crate::{BucketList, CopyFault, Loaded, Saved};
 use bb_base::{Format, NoMemory};
@@ -26,12 +20,17 @@ use bb_flash::Flash;
 use std::alloc::Global;
 use std::marker::Model;
 
+// In bytes: how much of a record is checked at a time, at most.
+const PIECE_LEN: usize = 256;
+
 /// An area that is kept in two or three copies. Clauses see a `Store`: the buckets, the format, the
 /// copy that is used, and whether the last load or save answered Ok and no look failed since.
 #[derive(Drop)]
 pub struct Copies<B: Bucket + Drop, M: Format + Drop> {
     buckets: Vec<B>,
     format: M,
+    // the record that is written
+    rec: Vec<u8>,
     room: Room,
     // which copies are fresh, and then which are good
     good: Vec<bool>,
@@ -56,9 +55,7 @@ impl<B: Bucket + Drop, M: Format + Drop> Model for Copies<B, M> {
 
     ghost invariant = { λ copies.
         IsMounted (M.form copies.format) (kinds_of B.holding copies.buckets.items) copies.used
-        (length copies.good.items) (length copies.room.found.items)
-        (length copies.room.record.items)
-        (length copies.room.area.items)
+        (length copies.good.items) (length copies.rec.items) copies.room
         (copies.sure ≡ true → AllPlaced B.holding copies.buckets.items) };
 }
 
@@ -67,26 +64,25 @@ impl<B: Bucket + Drop, M: Format + Drop> Copies<B, M> {
     /// takes all memory that `load` and `save` use.
     pub fn mount(alloc: Global, buckets: BucketList<B>, format: M) -> Result<Copies<B, M>, NoMemory>
         requires many { 2 ≤ length buckets }
-        requires few { length buckets ≤ 3 }
-        requires room { HaveRoom (M.form format) (kinds_of B.holding buckets) }
+        requires few { length buckets ≤ most_copies }
+        requires room { HaveRoom ((M.form format).length_of (M.form format).area_len)
+            (kinds_of B.holding buckets) }
         ensures buckets { IfOk result (λ copies. copies.buckets ≡ buckets) }
         ensures format { IfOk result (λ copies. copies.format ≡ format) }
         ensures used { IfOk result (λ copies. copies.used ≡ None) }
         ensures sure { IfOk result (λ copies. copies.sure ≡ false) }
     {
         let buckets = buckets.items;
-        let record = vec![in alloc; 0u8; format.length()]?;
-        let found = vec![in alloc; 0u8; most_room(&buckets)]?;
+        let len = format.length(format.area_len());
+        let rec = vec![in alloc; 0u8; len]?;
+        let piece = vec![in alloc; 0u8; PIECE_LEN.min(len).max(1)]?;
         let area = vec![in alloc; 0u8; format.area_len()]?;
         let good = vec![in alloc; false; buckets.len()]?;
         Ok(Copies {
             buckets,
             format,
-            room: Room {
-                record,
-                found,
-                area,
-            },
+            rec,
+            room: Room { piece, area },
             good,
             used: None,
             sure: false,
@@ -102,27 +98,8 @@ impl<B: Bucket + Drop, M: Format + Drop> Copies<B, M> {
         requires agreed { AllAgree B.holding (F.device flash.old) self.old.buckets }
         requires whole { IsDevice (F.device flash.old) }
         requires area { length area.old ≡ (M.form self.old.format).area_len }
-        ensures images { LoadImages (M.form self.old.format) (kinds_of B.holding self.old.buckets)
-            (F.device flash.old) (F.device flash.new) }
-        ensures gives { IfOk result (LoadGives (M.form self.old.format)
-            (kinds_of B.holding self.old.buckets) area.new
-            (F.device flash.old) (F.device flash.new)) }
-        ensures fails { IfErr result (LoadFails (M.form self.old.format)
-            (kinds_of B.holding self.old.buckets) area.new
-            (F.device flash.old) (F.device flash.new)) }
-        ensures fits { IfOk result (λ loaded. loaded ≢ NoCopy
-            → IsTrue ((M.form self.old.format).fits area.new)) }
-        ensures exact { IfOk result (LoadsExactly (M.form self.old.format)
-            (kinds_of B.holding self.old.buckets) area.new
-            (F.device flash.old) (F.device flash.new)) }
-        ensures erases { IfOk result (LoadsErasing (M.form self.old.format)
-            (kinds_of B.holding self.old.buckets) area.new
-            (F.device flash.old) (F.device flash.new)) }
-        ensures outside { KeepsOutside (kinds_of B.holding self.old.buckets) (F.device flash.old)
-            (F.device flash.new) }
-        ensures later { IsLater (F.device flash.old) (F.device flash.new) }
-        ensures starts { LeavesStarts (F.device flash.old) (F.device flash.new) }
-        ensures whole { IsDevice (F.device flash.new) }
+        ensures load { IsLoad (M.form self.old.format) (kinds_of B.holding self.old.buckets)
+            area.new (F.device flash.old) (F.device flash.new) result }
         ensures kinds { kinds_of B.holding self.new.buckets ≡ kinds_of B.holding self.old.buckets }
         ensures format { self.new.format ≡ self.old.format }
         ensures agrees { AllAgree B.holding (F.device flash.new) self.new.buckets }
@@ -137,6 +114,7 @@ impl<B: Bucket + Drop, M: Format + Drop> Copies<B, M> {
             &self.format,
             flash,
             area,
+            &mut self.rec,
             &mut self.room,
         )?;
         self.used = used_copy(loaded);
@@ -155,33 +133,14 @@ impl<B: Bucket + Drop, M: Format + Drop> Copies<B, M> {
         requires agreed { AllAgree B.holding (F.device flash.old) self.old.buckets }
         requires whole { IsDevice (F.device flash.old) }
         requires fits { IsTrue ((M.form self.old.format).fits area.now) }
-        ensures unsure { IsErrOf result Unsure ↔ (self.old.sure ≡ false) }
-        ensures unsure_store { IsErrOf result Unsure → self.new ≡ self.old }
-        ensures unsure_device { IsErrOf result Unsure
-            → F.device flash.new ≡ F.device flash.old }
-        ensures images { SaveImages (M.form self.old.format) (kinds_of B.holding self.old.buckets)
-            self.old.used area.now (F.device flash.old) (F.device flash.new) }
-        ensures bounds { IsBounded (kinds_of B.holding self.old.buckets)
-            ((M.form self.old.format).text area.now) (F.device flash.old) (F.device flash.new) }
-        ensures outside { KeepsOutside (kinds_of B.holding self.old.buckets) (F.device flash.old)
-            (F.device flash.new) }
-        ensures later { IsLater (F.device flash.old) (F.device flash.new) }
-        ensures starts { LeavesStarts (F.device flash.old) (F.device flash.new) }
-        ensures whole { IsDevice (F.device flash.new) }
+        ensures save { IsSave (M.form self.old.format) (kinds_of B.holding self.old.buckets)
+            self.old.sure self.old.used self.new.used area.now
+            (F.device flash.old) (F.device flash.new) (result_err result) }
         ensures saved { IfOk result (λ saved. IsSaved (M.form self.old.format)
             (kinds_of B.holding self.old.buckets)
             area.now self.new.used saved.live (F.device flash.old) (F.device flash.new)) }
-        ensures fails { IfErr result (SaveFails (M.form self.old.format)
-            (kinds_of B.holding self.old.buckets)
-            self.old.used area.now (F.device flash.old) (F.device flash.new)) }
-        ensures exact { NothingFails (F.device flash.old) (F.device flash.new)
-            → OnOk result (EachWritten (kinds_of B.holding self.old.buckets)
-            ((M.form self.old.format).text area.now)
-            (F.device flash.old) (F.device flash.new)) }
-        ensures erases { NothingFails (F.device flash.old) (F.device flash.new)
-            → OnOk result (ErasesBy (kinds_of B.holding self.old.buckets)
-            ((M.form self.old.format).text area.now)
-            (F.device flash.old) (F.device flash.new)) }
+        ensures unchanged { self.old.sure ≡ false → self.new ≡ self.old }
+        ensures idle { self.old.sure ≡ false → F.device flash.new ≡ F.device flash.old }
         ensures kinds { kinds_of B.holding self.new.buckets ≡ kinds_of B.holding self.old.buckets }
         ensures format { self.new.format ≡ self.old.format }
         ensures agrees { AllAgree B.holding (F.device flash.new) self.new.buckets }
@@ -200,6 +159,7 @@ impl<B: Bucket + Drop, M: Format + Drop> Copies<B, M> {
             &self.format,
             flash,
             area,
+            &mut self.rec,
             &mut self.room,
         )?;
         self.used = Some(taken.used as usize);
@@ -223,14 +183,8 @@ impl<B: Bucket + Drop, M: Format + Drop> Copies<B, M> {
         requires agreed { AllAgree B.holding (F.device flash.old) self.old.buckets }
         requires whole { IsDevice (F.device flash.old) }
         requires area { length area.old ≡ (M.form self.old.format).area_len }
-        ensures gives { IfOk result (LookGives (M.form self.old.format)
-            (kinds_of B.holding self.old.buckets) area.new (F.device flash.old)) }
-        ensures fails { IfErr result (λ fault. fault ≡ ReadFault) }
-        ensures quiet { IsQuiet (F.device flash.old) (F.device flash.new) }
-        ensures faults { (F.device flash.new).faults
-            ≡ counted (is_err result) (F.device flash.old).faults }
-        ensures read_faults { (F.device flash.new).read_faults
-            ≡ counted (is_err result) (F.device flash.old).read_faults }
+        ensures look { IsLook (M.form self.old.format) (kinds_of B.holding self.old.buckets)
+            area.new (F.device flash.old) (F.device flash.new) result }
         ensures kinds { kinds_of B.holding self.new.buckets ≡ kinds_of B.holding self.old.buckets }
         ensures format { self.new.format ≡ self.old.format }
         ensures agrees { AllAgree B.holding (F.device flash.new) self.new.buckets }

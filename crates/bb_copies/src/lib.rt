@@ -5,7 +5,6 @@
 mod answers;
 mod bucket_list;
 mod copies;
-mod fresh;
 mod load;
 mod look;
 mod overwrite;

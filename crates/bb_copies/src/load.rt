@@ -1,14 +1,13 @@
-ghost use Rattle.std.specs.Prelude.{◌≡◌, ◌≢◌, ◌≤◌, IfErr, IfOk, IsTrue, OnOk, length};
+ghost use Rattle.std.specs.Prelude.{◌≡◌, ◌≤◌, IsTrue, OnOk, length};
+ghost use Rattle.bb_base.specs.Form.{most_copies};
 ghost use Rattle.bb_flash.specs.Device.{IsDevice};
-ghost use Rattle.bb_copies.specs.declared.answers.Loaded.TheVariants.{NoCopy};
-ghost use Rattle.bb_copies.specs.Buckets.{AllAgree, AllFit, AllServe, HaveRoom, kinds_of};
-ghost use Rattle.bb_copies.specs.Loading.{LoadFails, LoadGives, LoadRuns};
-ghost use Rattle.bb_copies.specs.Loading.{LoadsErasing, LoadsExactly};
+ghost use Rattle.bb_copies.specs.Buckets.{AllAgree, AllServe, HasMemory, HaveRoom, kinds_of};
+ghost use Rattle.bb_copies.specs.Loading.{IsLoad};
 ghost use Rattle.bb_copies.specs.Placing.{AllPlaced};
 ghost use Rattle.bb_copies.specs.Store.{used_after};
 
-use crate::fresh::freshen;
 use crate::look::look_over;
+use crate::refresh::settle_all;
 use crate::room::Room;
 use crate::tally::tell;
 use crate::{CopyFault, Loaded};
@@ -23,43 +22,29 @@ pub(crate) fn load_copies<B: Bucket, M: Format, F: Flash>(
     format: &M,
     flash: &mut F,
     area: &mut [u8],
+    rec: &mut Vec<u8>,
     room: &mut Room,
 ) -> Result<Loaded, CopyFault>
-    requires room { HaveRoom (M.form format.now) (kinds_of B.holding buckets.old.items) }
+    requires room { HaveRoom (length rec.old.items) (kinds_of B.holding buckets.old.items) }
     requires serves { AllServe (kinds_of B.holding buckets.old.items)
         (F.device flash.old).geometry }
-    requires found { AllFit (kinds_of B.holding buckets.old.items) (length room.old.found.items) }
     requires agreed { AllAgree B.holding (F.device flash.old) buckets.old.items }
     requires whole { IsDevice (F.device flash.old) }
     requires marks { length good.old.items ≡ length buckets.old.items }
-    requires record { length room.old.record.items ≡ (M.form format.now).length }
-    requires scratch { length room.old.area.items ≡ (M.form format.now).area_len }
+    requires record { length rec.old.items
+        ≡ (M.form format.now).length_of (M.form format.now).area_len }
+    requires memory { HasMemory (M.form format.now) room.old }
     requires area { length area.old ≡ (M.form format.now).area_len }
     requires many { 2 ≤ length buckets.old.items }
-    requires few { length buckets.old.items ≤ 3 }
-    ensures runs { LoadRuns (M.form format.now) (kinds_of B.holding buckets.old.items)
-        (F.device flash.old) (F.device flash.new) }
-    ensures gives { IfOk result (LoadGives (M.form format.now)
-        (kinds_of B.holding buckets.old.items) area.new
-        (F.device flash.old) (F.device flash.new)) }
-    ensures fails { IfErr result (LoadFails (M.form format.now)
-        (kinds_of B.holding buckets.old.items) area.new
-        (F.device flash.old) (F.device flash.new)) }
-    ensures fits { IfOk result (λ loaded. loaded ≢ NoCopy
-        → IsTrue ((M.form format.now).fits area.new)) }
-    ensures exact { IfOk result (LoadsExactly (M.form format.now)
-        (kinds_of B.holding buckets.old.items) area.new
-        (F.device flash.old) (F.device flash.new)) }
-    ensures erases { IfOk result (LoadsErasing (M.form format.now)
-        (kinds_of B.holding buckets.old.items) area.new
-        (F.device flash.old) (F.device flash.new)) }
+    requires few { length buckets.old.items ≤ most_copies }
+    ensures load { IsLoad (M.form format.now) (kinds_of B.holding buckets.old.items) area.new
+        (F.device flash.old) (F.device flash.new) result }
     ensures kinds { kinds_of B.holding buckets.new.items ≡ kinds_of B.holding buckets.old.items }
     ensures agrees { AllAgree B.holding (F.device flash.new) buckets.new.items }
     ensures placed { OnOk result (AllPlaced B.holding buckets.new.items) }
     ensures marks { length good.new.items ≡ length good.old.items }
-    ensures found { length room.new.found.items ≡ length room.old.found.items }
-    ensures scratch { length room.new.area.items ≡ length room.old.area.items }
-    ensures record { length room.new.record.items ≡ length room.old.record.items }
+    ensures record { length rec.new.items ≡ length rec.old.items }
+    ensures memory { HasMemory (M.form format.now) room.new }
 {
     let Ok(found) = look_over(buckets, good, format, flash, area, room) else {
         return Err(CopyFault::ReadFault);
@@ -67,9 +52,9 @@ pub(crate) fn load_copies<B: Bucket, M: Format, F: Flash>(
     let Some(used) = found else {
         return Ok(Loaded::NoCopy);
     };
-    pack(format, area, room);
-    match freshen(buckets, good, used, format, flash, area, room) {
-        Ok(()) => {
+    pack(format, area, rec);
+    match settle_all(buckets, good, used, format, flash, area, rec, room) {
+        Ok(_) => {
             let taken = tell(good);
             Ok(Loaded::Copy {
                 used: taken.used,
@@ -80,16 +65,14 @@ pub(crate) fn load_copies<B: Bucket, M: Format, F: Flash>(
     }
 }
 
-/// Writes the record of an area into the room for it.
-pub(crate) fn pack<M: Format>(format: &M, area: &[u8], room: &mut Room)
+/// Writes the record of an area into the memory for it.
+pub(crate) fn pack<M: Format>(format: &M, area: &[u8], rec: &mut Vec<u8>)
     requires fits { IsTrue ((M.form format.now).fits area.now) }
-    requires whole { length room.old.record.items ≡ (M.form format.now).length }
-    ensures packed { room.new.record.items ≡ (M.form format.now).text area.now }
-    ensures record { length room.new.record.items ≡ length room.old.record.items }
-    ensures found { room.new.found ≡ room.old.found }
-    ensures scratch { room.new.area ≡ room.old.area }
+    requires whole { length rec.old.items ≡ (M.form format.now).length_of (length area.now) }
+    ensures packed { rec.new.items ≡ (M.form format.now).text area.now }
+    ensures record { length rec.new.items ≡ length rec.old.items }
 {
-    format.pack(area, &mut room.record);
+    format.pack(area, rec);
 }
 
 /// The copy that a load took.

@@ -3,12 +3,12 @@ ghost use Rattle.std.specs.Option.{ForSome};
 ghost use Rattle.bb_base.specs.Faults.{counted};
 ghost use Rattle.bb_flash.specs.Device.{IsDevice, content};
 ghost use Rattle.bb_bucket.specs.Calls.{IsQuiet};
-ghost use Rattle.bb_copies.specs.Buckets.{AllAgree, AllFit, AllServe, kinds_of};
+ghost use Rattle.bb_copies.specs.Buckets.{AllAgree, AllServe, HasMemory, kinds_of};
 ghost use Rattle.bb_copies.specs.Loading.{LookGives};
 ghost use Rattle.bb_copies.specs.Looking.{FindsBelow, IsReadAt, area_by, good_by, used_by};
 ghost use Rattle.bb_copies.specs.Placing.{AllPlaced, PlacesCopy};
 
-use crate::read::{Passed, read_copy};
+use crate::read::{PassingCopy, read_copy};
 use crate::room::Room;
 use bb_base::{Failed, Format};
 use bb_bucket::Bucket;
@@ -28,11 +28,10 @@ pub(crate) fn look_over<B: Bucket, M: Format, F: Flash>(
 ) -> Result<Option<usize>, Failed>
     requires serves { AllServe (kinds_of B.holding buckets.old.items)
         (F.device flash.old).geometry }
-    requires found { AllFit (kinds_of B.holding buckets.old.items) (length room.old.found.items) }
     requires agreed { AllAgree B.holding (F.device flash.old) buckets.old.items }
     requires whole { IsDevice (F.device flash.old) }
     requires marks { length good.old.items ≡ length buckets.old.items }
-    requires scratch { length room.old.area.items ≡ (M.form format.now).area_len }
+    requires memory { HasMemory (M.form format.now) room.old }
     requires area { length area.old ≡ (M.form format.now).area_len }
     ensures done { IfOk result (λ used. ForSome (content (F.device flash.old)) (λ image.
         FindsBelow (M.form format.now) (F.device flash.old).geometry.page
@@ -50,9 +49,7 @@ pub(crate) fn look_over<B: Bucket, M: Format, F: Flash>(
     ensures agrees { AllAgree B.holding (F.device flash.new) buckets.new.items }
     ensures placed { OnOk result (AllPlaced B.holding buckets.new.items) }
     ensures marks { length good.new.items ≡ length good.old.items }
-    ensures found { length room.new.found.items ≡ length room.old.found.items }
-    ensures scratch { length room.new.area.items ≡ length room.old.area.items }
-    ensures record { length room.new.record.items ≡ length room.old.record.items }
+    ensures memory { HasMemory (M.form format.now) room.new }
 {
     let mut used = None;
     for copy in 0..buckets.len() {
@@ -61,7 +58,7 @@ pub(crate) fn look_over<B: Bucket, M: Format, F: Flash>(
             copy,
             format,
             flash,
-            &mut room.found,
+            &mut room.piece,
             &mut room.area,
         )?;
         let (first, fresh) = compare(passed, &room.area, copy, used, area);
@@ -83,9 +80,9 @@ pub(crate) fn find_first<B: Bucket, M: Format, F: Flash>(
 ) -> Result<bool, Failed>
     requires serves { AllServe (kinds_of B.holding buckets.old.items)
         (F.device flash.old).geometry }
-    requires found { AllFit (kinds_of B.holding buckets.old.items) (length room.old.found.items) }
     requires agreed { AllAgree B.holding (F.device flash.old) buckets.old.items }
     requires whole { IsDevice (F.device flash.old) }
+    requires memory { HasMemory (M.form format.now) room.old }
     requires area { length area.old ≡ (M.form format.now).area_len }
     ensures gives { IfOk result (LookGives (M.form format.now)
         (kinds_of B.holding buckets.old.items) area.new (F.device flash.old)) }
@@ -98,12 +95,10 @@ pub(crate) fn find_first<B: Bucket, M: Format, F: Flash>(
     ensures agrees { AllAgree B.holding (F.device flash.new) buckets.new.items }
     ensures placed { OnOk result
         (AllPlaced B.holding buckets.old.items → AllPlaced B.holding buckets.new.items) }
-    ensures found { length room.new.found.items ≡ length room.old.found.items }
-    ensures scratch { room.new.area ≡ room.old.area }
-    ensures record { room.new.record ≡ room.old.record }
+    ensures memory { HasMemory (M.form format.now) room.new }
 {
     for copy in 0..buckets.len() {
-        let passed = read_at(buckets, copy, format, flash, &mut room.found, area)?;
+        let passed = read_at(buckets, copy, format, flash, &mut room.piece, area)?;
         if passed.is_some() {
             return Ok(true);
         }
@@ -117,14 +112,14 @@ fn read_at<B: Bucket, M: Format, F: Flash>(
     copy: usize,
     format: &M,
     flash: &mut F,
-    found: &mut [u8],
+    piece: &mut [u8],
     area: &mut [u8],
-) -> Result<Option<Passed>, Failed>
+) -> Result<Option<PassingCopy>, Failed>
     requires inside { copy < length buckets.old.items }
     requires serves { AllServe (kinds_of B.holding buckets.old.items)
         (F.device flash.old).geometry }
-    requires found { AllFit (kinds_of B.holding buckets.old.items) (length found.old) }
     requires agreed { AllAgree B.holding (F.device flash.old) buckets.old.items }
+    requires piece { 0 < length piece.old }
     requires area { length area.old ≡ (M.form format.now).area_len }
     ensures done { IfOk result (λ passed. ForSome (content (F.device flash.old)) (λ image.
         IsReadAt (M.form format.now) (F.device flash.old).geometry.page
@@ -142,14 +137,14 @@ fn read_at<B: Bucket, M: Format, F: Flash>(
     ensures placed { OnOk result
         (PlacesCopy B.holding copy buckets.old.items buckets.new.items) }
 {
-    read_copy(&mut buckets[copy], format, flash, found, area)
+    read_copy(&mut buckets[copy], format, flash, piece, area)
 }
 
 // What the copy of a number means for the first that passes, whose area is `area`: the copy takes
 // its place where none did yet. The answer is the first one's number now, and whether this copy is
 // fresh.
 fn compare(
-    passed: Option<Passed>,
+    passed: Option<PassingCopy>,
     found: &[u8],
     copy: usize,
     used: Option<usize>,

@@ -1,6 +1,7 @@
 ghost use Rattle.std.specs.Prelude.{◌≡◌, ◌≢◌, ◌≤◌, ◌∷◌, [], IsTrue, length};
 ghost use Rattle.bb_flash.specs.Device.{IsDevice};
 ghost use Rattle.bb_bucket.specs.Calls.{Agrees, told_but_reads};
+ghost use Rattle.bb_copies.specs.Buckets.{HasMemory};
 ghost use Rattle.bb_copies.specs.Erasing.{IsBoundedInSum};
 ghost use Rattle.bb_copies.specs.Placing.{ReadsNothing};
 ghost use Rattle.bb_copies.specs.Settling.{CountsAs, EndsAs, IsCompared, NothingFails};
@@ -24,13 +25,14 @@ pub(crate) enum Settled {
     Stuck,
 }
 
-/// Writes the record of an area, which `room` holds, to a copy; voids it where that fails; reads it
-/// back where that fails too. Each is tried once. The bucket knows where the record goes.
+/// Writes the record of an area to a copy; voids it where that fails; reads it back where that
+/// fails too. Each is tried once. The bucket knows where the record goes.
 pub(crate) fn settle<B: Bucket, M: Format, F: Flash>(
     bucket: &mut B,
     format: &M,
     flash: &mut F,
     area: &[u8],
+    rec: &[u8],
     room: &mut Room,
 ) -> Settled
     requires serves { IsTrue ((B.holding bucket.old).kind.serves (F.device flash.old).geometry) }
@@ -38,30 +40,27 @@ pub(crate) fn settle<B: Bucket, M: Format, F: Flash>(
     requires whole { IsDevice (F.device flash.old) }
     requires placed { IsTrue (B.holding bucket.old).knows_place }
     requires fits { IsTrue ((M.form format.now).fits area.now) }
-    requires packed { room.old.record.items ≡ (M.form format.now).text area.now }
-    requires room { (M.form format.now).length ≤ (B.holding bucket.old).kind.room }
-    requires found { (B.holding bucket.old).kind.room ≤ length room.old.found.items }
-    requires area { length room.old.area.items ≡ (M.form format.now).area_len }
+    requires packed { rec.now ≡ (M.form format.now).text area.now }
+    requires room { length rec.now ≤ (B.holding bucket.old).kind.most }
+    requires memory { HasMemory (M.form format.now) room.old }
     ensures ends { EndsAs (M.form format.now) (B.holding bucket.old).kind area.now
         (F.device flash.old) (F.device flash.new) result }
     ensures settles { SettlesCopy (M.form format.now) (B.holding bucket.old).kind area.now
         (F.device flash.old) (F.device flash.new) }
     ensures exact { NothingFails (F.device flash.old) (F.device flash.new)
-        → IsRepairWritten (B.holding bucket.old).kind room.old.record.items (F.device flash.old)
+        → IsRepairWritten (B.holding bucket.old).kind rec.now (F.device flash.old)
         (F.device flash.new) }
-    ensures counts { CountsAs (B.holding bucket.old).kind room.old.record.items
+    ensures counts { CountsAs (B.holding bucket.old).kind rec.now
         (F.device flash.old) (F.device flash.new) result }
-    ensures bounds { IsBoundedInSum ((B.holding bucket.old).kind ∷ []) room.old.record.items
+    ensures bounds { IsBoundedInSum ((B.holding bucket.old).kind ∷ []) rec.now
         (F.device flash.old) (F.device flash.new) }
     ensures kind { (B.holding bucket.new).kind ≡ (B.holding bucket.old).kind }
     ensures agrees { Agrees (B.holding bucket.new) (F.device flash.new) }
     ensures placed { result ≢ Stuck → IsTrue (B.holding bucket.new).knows_place }
     ensures reads { ReadsNothing (F.device flash.old) (F.device flash.new) }
-    ensures record { room.new.record.items ≡ room.old.record.items }
-    ensures found { length room.new.found.items ≡ length room.old.found.items }
-    ensures scratch { length room.new.area.items ≡ length room.old.area.items }
+    ensures memory { HasMemory (M.form format.now) room.new }
 {
-    if bucket.write(flash, &room.record).is_ok() {
+    if bucket.write(flash, rec).is_ok() {
         return Settled::Good;
     }
     if bucket.void(flash).is_ok() {
@@ -80,8 +79,7 @@ fn read_back<B: Bucket, M: Format, F: Flash>(
 ) -> Settled
     requires serves { IsTrue ((B.holding bucket.old).kind.serves (F.device flash.old).geometry) }
     requires agreed { Agrees (B.holding bucket.old) (F.device flash.old) }
-    requires found { (B.holding bucket.old).kind.room ≤ length room.old.found.items }
-    requires area { length room.old.area.items ≡ (M.form format.now).area_len }
+    requires memory { HasMemory (M.form format.now) room.old }
     ensures ends { ReadsAs (M.form format.now) (B.holding bucket.old).kind area.now
         (F.device flash.old) (F.device flash.new) result }
     ensures counts { ReadsOnce (F.device flash.old) (F.device flash.new) result }
@@ -91,11 +89,9 @@ fn read_back<B: Bucket, M: Format, F: Flash>(
     ensures kind { (B.holding bucket.new).kind ≡ (B.holding bucket.old).kind }
     ensures agrees { Agrees (B.holding bucket.new) (F.device flash.new) }
     ensures placed { result ≢ Stuck → IsTrue (B.holding bucket.new).knows_place }
-    ensures record { room.new.record.items ≡ room.old.record.items }
-    ensures found { length room.new.found.items ≡ length room.old.found.items }
-    ensures scratch { length room.new.area.items ≡ length room.old.area.items }
+    ensures memory { HasMemory (M.form format.now) room.new }
 {
-    match read_copy(bucket, format, flash, &mut room.found, &mut room.area) {
+    match read_copy(bucket, format, flash, &mut room.piece, &mut room.area) {
         Ok(None) => Settled::Dead,
         Ok(Some(_)) => compare_areas(&room.area, area),
         Err(Failed) => Settled::Stuck,

@@ -1,4 +1,5 @@
 ghost use Rattle.std.specs.Prelude.{◌≡◌, ℕ, ◌≤◌, MatchOption, count_by, false, length};
+ghost use Rattle.bb_base.specs.Form.{most_copies};
 ghost use Rattle.bb_copies.specs.Refreshing.{IsFirstMarked, NoOther, SomeMarked, is_marked};
 
 /// The first copy that is marked, but for the one of a number.
@@ -50,7 +51,7 @@ pub(crate) struct Taken {
 /// What the marks say of the copies, of which there are three at most.
 pub(crate) fn tell(good: &[bool]) -> Taken
     requires some { SomeMarked good.now }
-    requires few { length good.now ≤ 3 }
+    requires few { length good.now ≤ most_copies }
     ensures used { IsFirstMarked good.now (length good.now) result.used }
     ensures live { result.live ≡ count_by (λ marked. marked) good.now }
 {

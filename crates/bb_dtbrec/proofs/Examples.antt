@@ -69,7 +69,7 @@ a_large_byte_passes_nothing = refl
 -- ---- which areas fit
 
 -- an area of 8 bytes with a number and a byte as it is, and two bytes that no variable has
-sparse : List Piece
+unfoldable pub sparse : List Piece
 sparse =
     Value (record { at = 1; size = 4; spelling = NumberAsCell })
     ∷ Value (record { at = 6; size = 1; spelling = AsIs }) ∷ []

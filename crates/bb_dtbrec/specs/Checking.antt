@@ -1,11 +1,10 @@
 -- What a check looks at, field by field, and that it is what passes.
-use Rattle.std.proofs.Common.{◌≡◌, ℕ, ◌+◌, ◌≤◌, Bool, true, false, ◌&&◌, List, [], ◌∷◌, ◌++◌, length, take, drop, replicate, Option, Some, None, refl, sym, ap, ◌∙◌, subst, arith, cond, inl, inr}
-use Rattle.std.specs.Prelude.{nat_eq, nat_le, is_some, IfSome}
-use Rattle.std.proofs.lemmas.Bool.Decides.{leb_tells}
+use Rattle.std.proofs.Common.{◌≡◌, ℕ, ◌≤◌, Bool, true, false, ◌&&◌, List, [], ◌∷◌, ◌++◌, length, take, take_all, drop, replicate, Some, None, refl, sym, ap, ◌∙◌, arith, cond}
+use Rattle.std.specs.Prelude.{nat_eq}
 use Rattle.std.specs.Int.{w32, to_be_bytes}
 use Rattle.std.specs.List.{starts_with}
 use Rattle.std.specs.Str.{bytes_eq}
-use Rattle.std.proofs.lemmas.List.{drop-drop, length-replicate, reverse-reverse}
+use Rattle.std.proofs.lemmas.List.{drop-drop, drop-take, length-drop, length-replicate, reverse-reverse, take-take}
 use Rattle.std.proofs.lemmas.Slice.Eq.{bytes_eq-Decides}
 use Rattle.bb_dtbrec.specs.declared.piece.Piece.{Piece}
 use Rattle.bb_dtbrec.specs.declared.piece.Piece.TheVariants.{Fixed, Value}
@@ -13,16 +12,15 @@ use Rattle.bb_dtbrec.specs.declared.piece.Spelling.{Spelling}
 use Rattle.bb_dtbrec.specs.declared.piece.Spelling.TheVariants.{ByteAsCell, NumberAsCell, AsIs}
 use Rattle.bb_dtbrec.specs.Dtb.{Pattern, are_pieces, area_in, dtb_length, dtb_passes, dtb_text, field_len, field_of, is_pattern, piece_len, piece_text, pieces_len, pieces_text, record_crc, field_value, with_fields, with_piece}
 use Rattle.bb_dtbrec.specs.Pieces.{enough_behind, enough_first, length_piece_text, length_with_fields, pieces_behind, value_read}
-use Rattle.bb_dtbrec.specs.Laws.{enough_fields, fewer_fail, pieces_fit, pieces_whole, read_fits, read_whole, same_bytes, sound}
+use Rattle.bb_dtbrec.specs.Laws.{enough_fields, pieces_fit, pieces_whole, read_fits, read_whole, same_bytes, sound}
 
 -- ---- what a check looks at
 
--- the front is this one, and the CRC agrees
-abbrev pub head_agrees : List ℕ → ℕ → List ℕ → Bool
-head_agrees front len bytes =
-    bytes_eq front (take 76 bytes)
-    && bytes_eq (to_be_bytes w32 (record_crc (take 76 bytes) (take len (drop 80 bytes))))
-    (take 4 (drop 76 bytes))
+-- the bytes before the pieces are this front, and the CRC of a record with these pieces
+abbrev pub head_agrees : List ℕ → List ℕ → List ℕ → Bool
+head_agrees front pieces head =
+    bytes_eq front (take 76 head)
+    && bytes_eq (to_be_bytes w32 (record_crc front pieces)) (drop 76 head)
 
 -- the high bytes of a cell that holds one byte are 0
 abbrev pub field_agrees : Spelling → List ℕ → Bool
@@ -104,111 +102,65 @@ fields_begin (piece ∷ pieces) text area h enough =
     (fields_begin pieces (drop len text) next (pieces_behind piece pieces text area h first)
     (enough_behind piece pieces text enough))
 
--- a test in the middle may take what the others show
-middle : (a b c d : Bool) → (a ≡ true → b ≡ true → c ≡ d) → (a && (c && b)) ≡ ((a && d) && b)
-middle true true c d h = ap (λ s. s && true) (h refl refl)
+-- a test before another may take what that shows
+middle : (a b c d : Bool) → (b ≡ true → c ≡ d) → (a && (c && b)) ≡ ((a && d) && b)
+middle true true c d h = ap (λ s. s && true) (h refl)
 middle true false true true h = refl
 middle true false true false h = refl
 middle true false false true h = refl
 middle true false false false h = refl
 middle false b c d h = refl
 
--- the record of this area begins the bytes where their front, CRC and pieces agree
+-- the record of this area is the bytes where their front, CRC and pieces agree
 record_begins : (front pieces bytes : List ℕ) → length front ≡ 76 →
+    length (drop 80 bytes) ≡ length pieces →
     starts_with nat_eq bytes (front ++ (to_be_bytes w32 (record_crc front pieces) ++ pieces))
-    ≡ (head_agrees front (length pieces) bytes && starts_with nat_eq (drop 80 bytes) pieces)
-record_begins front pieces bytes e =
+    ≡ (head_agrees front (drop 80 bytes) (take 80 bytes)
+    && starts_with nat_eq (drop 80 bytes) pieces)
+record_begins front pieces bytes e whole =
     let crc : List ℕ = to_be_bytes w32 (record_crc front pieces) in
+    let rest : List ℕ = drop 80 bytes in
+    let found : List ℕ = to_be_bytes w32 (record_crc front rest) in
     let start : List ℕ = take 76 bytes in
-    let rest : List ℕ = take (length pieces) (drop 80 bytes) in
     let field : List ℕ = take 4 (drop 76 bytes) in
+    let begins : Bool = starts_with nat_eq rest pieces in
     begins_both front (crc ++ pieces) bytes
     ∙ ap (λ n. bytes_eq front (take n bytes) && starts_with nat_eq (drop n bytes) (crc ++ pieces)) e
     ∙ ap (λ s. bytes_eq front start && s)
     (begins_both crc pieces (drop 76 bytes)
     ∙ ap (λ l. bytes_eq crc field && starts_with nat_eq l pieces) (drop-drop 4 76 bytes))
-    ∙ middle (bytes_eq front start) (bytes_eq pieces rest) (bytes_eq crc field)
-    (bytes_eq (to_be_bytes w32 (record_crc start rest)) field)
-    (λ p q. ap (λ l. bytes_eq (to_be_bytes w32 (record_crc l pieces)) field)
-    ((bytes_eq-Decides front start).0 p)
-    ∙ ap (λ l. bytes_eq (to_be_bytes w32 (record_crc start l)) field)
-    ((bytes_eq-Decides pieces rest).0 q))
+    ∙ middle (bytes_eq front start) begins (bytes_eq crc field) (bytes_eq found field)
+    (λ p. ap (λ l. bytes_eq (to_be_bytes w32 (record_crc front l)) field)
+    ((bytes_eq-Decides pieces (take (length pieces) rest)).0 p
+    ∙ take_all (length pieces) rest (omega arith)))
+    ∙ ap (λ l. (bytes_eq front l && bytes_eq found field) && begins)
+    (sym (take-take 76 80 bytes (omega arith)))
+    ∙ ap (λ l. (bytes_eq front (take 76 (take 80 bytes)) && bytes_eq found l) && begins)
+    (sym (drop-take 76 4 bytes))
 
+-- bytes of a record's length pass where their front, CRC and pieces agree
 pub passes_by_fields : (pattern : Pattern) (bytes : List ℕ) → is_pattern pattern ≡ true →
-    dtb_length pattern ≤ length bytes →
+    length bytes ≡ dtb_length pattern →
     dtb_passes pattern bytes
     ≡ cond
-    (head_agrees pattern.front (pieces_len pattern.pieces) bytes
+    (head_agrees pattern.front (drop 80 bytes) (take 80 bytes)
     && fields_agree pattern.pieces (drop 80 bytes))
     (Some (area_in pattern bytes)) None
-passes_by_fields pattern bytes h enough =
+passes_by_fields pattern bytes h all =
     let area : List ℕ = area_in pattern bytes in
     let text : List ℕ = drop 80 bytes in
+    let head : Bool = head_agrees pattern.front text (take 80 bytes) in
     let fields : List ℕ = pieces_text pattern.pieces area in
-    let more : pieces_len pattern.pieces ≤ length text = enough_fields pattern bytes enough in
+    let more : pieces_len pattern.pieces ≤ length text =
+    enough_fields pattern bytes (omega arith) in
     let whole : length fields ≡ pieces_len pattern.pieces =
     pieces_whole pattern area h (read_whole pattern text h more) in
     ap (λ s. cond (s && starts_with nat_eq bytes (dtb_text pattern area)) (Some area) None)
     (read_fits pattern text h more)
     ∙ ap (λ s. cond s (Some area) None)
     (record_begins pattern.front fields bytes (sound pattern h).front
-    ∙ ap (λ n. head_agrees pattern.front n bytes && starts_with nat_eq text fields) whole
-    ∙ ap (λ s. head_agrees pattern.front (pieces_len pattern.pieces) bytes && s)
+    (omega (arith, whole, length-drop 80 bytes))
+    ∙ ap (λ s. head && s)
     (fields_begin pattern.pieces text (replicate pattern.area_len 0)
     (pieces_fit pattern (replicate pattern.area_len 0) h (length-replicate pattern.area_len 0))
     more))
-
--- a whole record begins the bytes, whose front, CRC and pieces agree
-abbrev pub record_agrees : List ℕ → List Piece → List ℕ → Bool
-record_agrees front pieces bytes =
-    nat_le (80 + pieces_len pieces) (length bytes)
-    && (head_agrees front (pieces_len pieces) bytes && fields_agree pieces (drop 80 bytes))
-
-pub passes_where_it_agrees : (pattern : Pattern) (bytes : List ℕ) → is_pattern pattern ≡ true →
-    dtb_passes pattern bytes
-    ≡ cond (record_agrees pattern.front pattern.pieces bytes) (Some (area_in pattern bytes)) None
-passes_where_it_agrees pattern bytes h = elim (leb_tells (dtb_length pattern) (length bytes)) [
-  | inl enough ↦
-      passes_by_fields pattern bytes h enough.1
-      ∙ ap
-      (λ b. cond
-      (b
-      && (head_agrees pattern.front (pieces_len pattern.pieces) bytes
-      && fields_agree pattern.pieces (drop 80 bytes)))
-      (Some (area_in pattern bytes)) None)
-      (sym enough.0)
-  | inr few ↦
-      fewer_fail pattern bytes (omega (arith, few.1))
-      ∙ ap
-      (λ b. cond
-      (b
-      && (head_agrees pattern.front (pieces_len pattern.pieces) bytes
-      && fields_agree pattern.pieces (drop 80 bytes)))
-      (Some (area_in pattern bytes)) None)
-      (sym few.0)
-]
-
-some_where : (b : Bool) (x : List ℕ) → is_some (cond b (Some x) None) ≡ b
-some_where true x = refl
-some_where false x = refl
-
-pub is_passed : (pattern : Pattern) (bytes : List ℕ) → is_pattern pattern ≡ true →
-    record_agrees pattern.front pattern.pieces bytes ≡ is_some (dtb_passes pattern bytes)
-is_passed pattern bytes h =
-    sym
-    (ap is_some (passes_where_it_agrees pattern bytes h)
-    ∙ some_where (record_agrees pattern.front pattern.pieces bytes) (area_in pattern bytes))
-
-if_some_where : (b : Bool) (x area : List ℕ) → (b ≡ true → area ≡ x) →
-    IfSome (cond b (Some x) None) (λ passed. area ≡ passed)
-if_some_where true x area h = h refl
-if_some_where false x area h = tt
-
-pub area_passed : (pattern : Pattern) (bytes area : List ℕ) → is_pattern pattern ≡ true →
-    (record_agrees pattern.front pattern.pieces bytes ≡ true → area ≡ area_in pattern bytes) →
-    IfSome (dtb_passes pattern bytes) (λ passed. area ≡ passed)
-area_passed pattern bytes area h read =
-    subst (λ (o : Option (List ℕ)). IfSome o (λ passed. area ≡ passed))
-    (sym (passes_where_it_agrees pattern bytes h))
-    (if_some_where (record_agrees pattern.front pattern.pieces bytes) (area_in pattern bytes) area
-    read)

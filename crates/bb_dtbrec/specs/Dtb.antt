@@ -6,7 +6,7 @@
 --   0 to 75   the front: header, reservations, and the tokens up to the value of `bb,crc32`
 --   76 to 79  CRC-32 of the whole record in which these 4 bytes are zero, big endian
 --   80 on     the pieces, one after another: bytes that are always the same, and values
-use Rattle.std.specs.Prelude.{ℕ, ◌+◌, ◌≤◌, ◌==◌, Bool, true, ◌&&◌, ◌||◌, List, [], ◌∷◌, ◌++◌, length, take, drop, reverse, replicate, nat_le, nat_eq, Option, Some, None, IsTrue, if◌then◌else◌}
+use Rattle.std.specs.Prelude.{ℕ, ◌+◌, ◌≤◌, ◌==◌, Bool, true, false, ◌&&◌, ◌||◌, List, [], ◌∷◌, ◌++◌, length, take, drop, reverse, replicate, nat_le, nat_eq, Option, Some, None, IsTrue, if◌then◌else◌}
 use Rattle.std.specs.Int.{w32, to_be_bytes}
 use Rattle.std.specs.List.{starts_with}
 use Rattle.std.specs.Str.{bytes_eq}
@@ -84,8 +84,11 @@ pieces_len [] = 0
 pieces_len (piece ∷ pieces) = piece_len piece + pieces_len pieces
 
 -- the CRC of a record with this front and these pieces: its own bytes count as zeros
+abbrev pub crc_text : List ℕ → List ℕ → List ℕ
+crc_text front pieces = front ++ ((0 ∷ 0 ∷ 0 ∷ 0 ∷ []) ++ pieces)
+
 abbrev pub record_crc : List ℕ → List ℕ → ℕ
-record_crc front pieces = crc_of (front ++ ((0 ∷ 0 ∷ 0 ∷ 0 ∷ []) ++ pieces))
+record_crc front pieces = crc_of (crc_text front pieces)
 
 -- a front, the CRC, and the pieces
 abbrev pub record_text : List ℕ → List ℕ → List ℕ
@@ -173,8 +176,10 @@ dtb_passes pattern bytes =
 abbrev pub dtb_form : Pattern → Form
 dtb_form pattern = record {
   area_len = pattern.area_len;
-  length = dtb_length pattern;
+  length_of = λ len. dtb_length pattern;
+  reach = dtb_length pattern;
   fits = dtb_fits pattern;
   text = dtb_text pattern;
   passes = dtb_passes pattern;
+  aged = λ bytes. false;
 }

@@ -203,18 +203,29 @@ count_of_pattern pattern bytes enough true h =
 count_of_pattern pattern bytes enough false h =
     no_pattern pattern (take (dtb_length pattern) bytes) h ∙ sym (no_pattern pattern bytes h)
 
-first_count : (pattern : Pattern) (bytes : List ℕ) →
+pub first_count : (pattern : Pattern) (bytes : List ℕ) →
     dtb_passes pattern (take (dtb_length pattern) bytes) ≡ dtb_passes pattern bytes
 first_count pattern bytes = elim (cases_lt (length bytes) (dtb_length pattern)) [
   | inl few ↦ ap (dtb_passes pattern) (take_all (dtb_length pattern) bytes (omega arith))
   | inr enough ↦ count_of_pattern pattern bytes enough (is_pattern pattern) refl
 ]
 
+passed_whole : (pattern : Pattern) (bytes area : List ℕ) → dtb_passes pattern bytes ≡ Some area →
+    dtb_length pattern ≤ length bytes
+passed_whole pattern bytes area e = elim (cases_lt (length bytes) (dtb_length pattern)) [
+  | inl few ↦ let none = fewer_fail pattern bytes few in absurd cc
+  | inr enough ↦ enough
+]
+
 pub dtb_laws : (pattern : Pattern) → IsForm (dtb_form pattern)
 dtb_laws pattern = record {
+  most = λ area fits. let same = (fit pattern area fits).whole in omega arith;
+  sized = λ area fits. (fit pattern area fits).whole;
   whole = text_whole pattern;
   text_passes = text_passes pattern;
+  text_fresh = λ area rest fits. refl;
   passed_fits = passed_fits pattern;
+  passed_whole = passed_whole pattern;
   first_count = first_count pattern;
-  fewer_fail = fewer_fail pattern;
+  first_aged = λ bytes. refl;
 }

@@ -1,15 +1,15 @@
 ghost use Rattle.std.specs.Prelude.{◌≡◌, IfOk};
 ghost use Rattle.bb_layout.specs.Layout.{fields_of};
-ghost use Rattle.bb_dtbrec.specs.Dtb.{IsPattern, dtb_form};
+ghost use Rattle.bb_dtbrec.specs.Dtb.{IsPattern, dtb_form, dtb_length};
 ghost use Rattle.bb_dtbrec.specs.Laws.{dtb_laws};
 ghost use Rattle.bb_dtbrec.specs.Layouts.{IsPatternOf, layout_pattern};
 
-use crate::check::read_record;
 use crate::crc::HEAD_LEN;
+use crate::feed::{DtbFeed, feed_record, is_whole, start_record};
 use crate::of_layout::{front, strings, structure};
 use crate::pack::write_record;
 use crate::piece::{Piece, pieces_len};
-use bb_base::{Bytes, Format, NoMemory};
+use bb_base::{Bytes, Format, NoMemory, Passed};
 use bb_layout::{FormatKind, Layout};
 use std::alloc::Global;
 use std::marker::Model;
@@ -61,10 +61,23 @@ impl Dtb {
             area_len,
         }
     }
+
+    // How many bytes a record has.
+    fn record_len(&self) -> usize
+        ensures { result ≡ dtb_length self.now }
+    {
+        HEAD_LEN + pieces_len(&self.pieces)
+    }
 }
 
 impl Format for Dtb {
+    ghost use Rattle.bb_dtbrec.specs.Feeding.{dtb_holds};
+
+    type Feed = DtbFeed;
+
     ghost form = { dtb_form };
+
+    ghost holds = { dtb_holds };
 
     ghost laws = { dtb_laws };
 
@@ -72,15 +85,34 @@ impl Format for Dtb {
         self.area_len
     }
 
-    fn length(&self) -> usize {
-        HEAD_LEN + pieces_len(&self.pieces)
+    fn reach(&self) -> usize {
+        self.record_len()
+    }
+
+    fn length(&self, _len: usize) -> usize {
+        self.record_len()
     }
 
     fn pack(&self, area: &[u8], out: &mut [u8]) {
         write_record(self.front.as_slice(), &self.pieces, area, out);
     }
 
-    fn check(&self, bytes: &[u8], area: &mut [u8]) -> bool {
-        read_record(self.front.as_slice(), &self.pieces, bytes, area)
+    fn start(&self) -> DtbFeed {
+        start_record(self.front.as_slice(), &self.pieces)
+    }
+
+    fn feed(&self, feed: &mut DtbFeed, piece: &[u8], area: &mut [u8]) {
+        feed_record(&self.pieces, feed, piece, area);
+    }
+
+    fn end(&self, feed: DtbFeed, area: &[u8]) -> Option<Passed> {
+        if is_whole(self.front.as_slice(), &feed) {
+            Some(Passed {
+                len: area.len(),
+                old: false,
+            })
+        } else {
+            None
+        }
     }
 }

@@ -4,16 +4,19 @@
 //! format may know it; what keeps records knows `Format` alone.
 #![tactic(auto)]
 
-mod check;
 mod crc;
 mod dtb;
+mod feed;
 mod nodes;
 mod of_layout;
 mod pack;
+mod parts;
 mod piece;
 mod token;
+mod walk;
 
 pub use dtb::Dtb;
+pub use feed::DtbFeed;
 
 #[cfg(test)]
 mod tests;

@@ -1,4 +1,4 @@
-ghost use Rattle.std.specs.Prelude.{◌≡◌, ◌∷◌, [], IfOk, replicate};
+ghost use Rattle.std.specs.Prelude.{◌≡◌, ◌<◌, ◌∷◌, [], IfOk, length, replicate};
 ghost use Rattle.bb_dtbrec.specs.declared.piece.Piece.TheVariants.{Fixed, Value};
 ghost use Rattle.bb_dtbrec.specs.declared.piece.Spelling.TheVariants.{ByteAsCell, NumberAsCell};
 
@@ -6,7 +6,7 @@ mod layouts;
 
 use super::*;
 use crate::piece::{Piece, Place, Spelling};
-use bb_base::{Bytes, Format, NoMemory};
+use bb_base::{Bytes, Format, NoMemory, Passed};
 use std::alloc::Global;
 use std::test::*;
 
@@ -52,13 +52,41 @@ fn record() -> [u8; 91] {
     record
 }
 
+// What every record of these variables passes as.
+const PASSED: Option<Passed> = Some(Passed { len: 6, old: false });
+
 #[test]
 fn the_worked_record_passes(rt: HostRuntime) -> Result<(), Fail> {
     let dtb = two_variables(rt.alloc()).ok().ok_or("there is memory")?;
     let mut area = [0xFFu8; 6];
-    assert_eq!(rt; dtb.length(), 91);
-    assert!(rt; dtb.check(&record(), &mut area));
+    assert_eq!(rt; dtb.reach(), 91);
+    assert_eq!(rt; dtb.check(&record(), &mut area), PASSED);
     assert_eq!(rt; area, [5, 0, 1, 2, 3, 4]);
+    Ok(())
+}
+
+// Checks bytes in pieces of so many bytes.
+fn check_by(dtb: &Dtb, bytes: &[u8], size: usize, area: &mut [u8]) -> Option<Passed>
+    requires some { 0 < size }
+    requires area { length area.old ≡ dtb.now.area_len }
+{
+    let mut feed = dtb.start();
+    for piece in bytes.chunks(size) {
+        dtb.feed(&mut feed, piece, area);
+    }
+    dtb.end(feed, area)
+}
+
+#[test]
+fn it_passes_in_pieces_of_any_length(rt: HostRuntime) -> Result<(), Fail> {
+    let dtb = two_variables(rt.alloc()).ok().ok_or("there is memory")?;
+    let mut longer = [9u8; 100];
+    longer[..91].copy_from_slice(&record());
+    for size in 1..101usize {
+        let mut area = [0xFFu8; 6];
+        assert_eq!(rt; check_by(&dtb, &longer, size, &mut area), PASSED);
+        assert_eq!(rt; area, [5, 0, 1, 2, 3, 4], "in pieces of {size}");
+    }
     Ok(())
 }
 
@@ -79,13 +107,23 @@ fn damaged_records_pass_nothing(rt: HostRuntime) -> Result<(), Fail> {
     for place in 0..91usize {
         let mut damaged = record();
         damaged[place] ^= 1;
-        assert!(rt;
-            !dtb.check(&damaged, &mut area),
+        assert_eq!(rt;
+            check_by(&dtb, &damaged, 7, &mut area),
+            None,
             "with byte {place} changed"
         );
     }
+    Ok(())
+}
+
+#[test]
+fn records_that_end_early_pass_nothing(rt: HostRuntime) -> Result<(), Fail> {
+    let dtb = two_variables(rt.alloc()).ok().ok_or("there is memory")?;
     let record = record();
-    let (cut, _) = record.split_at(90);
-    assert!(rt; !dtb.check(cut, &mut area));
+    let mut area = [0u8; 6];
+    for len in 0..91usize {
+        let (cut, _) = record.split_at(len);
+        assert_eq!(rt; check_by(&dtb, cut, 7, &mut area), None, "of {len} bytes");
+    }
     Ok(())
 }

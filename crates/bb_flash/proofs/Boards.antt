@@ -12,9 +12,10 @@ use Rattle.bb_flash.specs.declared.geometry.Geometry.{Geometry}
 use Rattle.bb_flash.specs.Geometry.{IsGeometry}
 use Rattle.bb_flash.specs.Calls.{CanErase, CanProgram, ChangesOnly, IsTornBy, HasNoChange, erased_bytes}
 use Rattle.bb_flash.specs.Cuts.{IsContinued, IsLater}
-use Rattle.bb_flash.specs.Device.{Change, IsDevice, Told, change_of, moment}
+use Rattle.bb_flash.specs.Device.{Change, IsDevice, Start, Told, change_of, moment}
+use Rattle.bb_flash.specs.declared.plan.Plan.{Plan}
 use Rattle.bb_flash.specs.Image.{Image, IsImageOf, IsInside}
-use Rattle.bb_flash.specs.Memory.{Memory, after_erase, after_program, after_read, with_blanks, device_of, erase_by, with_fault, fault_of, is_erase_refused, is_program_refused, is_read_refused, program_by, read_by, with_read_fault, with_write}
+use Rattle.bb_flash.specs.Memory.{Memory, after_erase, after_failed_start, after_program, after_read, after_start, with_blanks, device_of, erase_by, with_fault, fault_of, is_erase_refused, is_program_refused, is_read_refused, program_by, read_by, with_read_fault, with_write}
 use Rattle.bb_flash.proofs.Moments.{image_at-now}
 use Rattle.bb_flash.proofs.Tearing.{Torn-left_by}
 
@@ -79,6 +80,9 @@ inside_erase m block len whole can size =
 continued_same : (told : Told) (reads : ℕ) → IsContinued told (record told { reads = reads })
 continued_same told reads = record { changes = take_all (moment told) told.changes (same_number (moment told)); held = image_at-now told }
 
+continued_started : (told : Told) (starts : List Start) → IsContinued told (record told { starts = starts })
+continued_started told starts = record { changes = take_all (moment told) told.changes (same_number (moment told)); held = image_at-now told }
+
 get_last : {X : Type 0} → (xs : List X) (x : X) → slice_get (xs ++ x ∷ []) (length xs) ≡ Some x
 get_last [] x = refl
 get_last (y ∷ xs) x = get_last xs x
@@ -93,21 +97,21 @@ continued_more first last change before more =
     }
 
 -- reads
-read_whole_by : (m : Memory) (refused : Bool) (fault : Option Fault) → IsDevice (device_of m) → IsDevice (device_of (cond refused (with_read_fault m) (read_by fault m)))
-read_whole_by m true fault whole = whole_of m (with_read_fault m) whole refl refl refl refl
-read_whole_by m false None whole = whole_of m (read_by None m) whole refl refl refl refl
-read_whole_by m false (Some fault) whole = whole_of m (read_by (Some fault) m) whole refl refl refl refl
+read_whole_by : (m : Memory) (len : ℕ) (refused : Bool) (fault : Option Fault) → IsDevice (device_of m) → IsDevice (device_of (cond refused (with_read_fault m) (read_by fault len m)))
+read_whole_by m len true fault whole = whole_of m (with_read_fault m) whole refl refl refl refl
+read_whole_by m len false None whole = whole_of m (read_by None len m) whole refl refl refl refl
+read_whole_by m len false (Some fault) whole = whole_of m (read_by (Some fault) len m) whole refl refl refl refl
 
-pub read_whole : (m : Memory) → IsDevice (device_of m) → IsDevice (device_of (after_read m))
-read_whole m whole = read_whole_by m (is_read_refused m) (fault_of m) whole
+pub read_whole : (m : Memory) (len : ℕ) → IsDevice (device_of m) → IsDevice (device_of (after_read len m))
+read_whole m len whole = read_whole_by m len (is_read_refused m) (fault_of m) whole
 
-read_later_by : (m : Memory) (refused : Bool) (fault : Option Fault) → IsLater (device_of m) (device_of (cond refused (with_read_fault m) (read_by fault m)))
-read_later_by m true fault = later_of m (with_read_fault m) refl (more_is_more m.faults) (more_is_more m.read_faults) (continued_same m.told m.told.reads)
-read_later_by m false None = later_of m (read_by None m) refl (same_number m.faults) (same_number m.read_faults) (continued_same m.told (m.told.reads + 1))
-read_later_by m false (Some fault) = later_of m (read_by (Some fault) m) refl (more_is_more m.faults) (more_is_more m.read_faults) (continued_same m.told m.told.reads)
+read_later_by : (m : Memory) (len : ℕ) (refused : Bool) (fault : Option Fault) → IsLater (device_of m) (device_of (cond refused (with_read_fault m) (read_by fault len m)))
+read_later_by m len true fault = later_of m (with_read_fault m) refl (more_is_more m.faults) (more_is_more m.read_faults) (continued_same m.told m.told.reads)
+read_later_by m len false None = later_of m (read_by None len m) refl (same_number m.faults) (same_number m.read_faults) (continued_same m.told (m.told.reads + 1))
+read_later_by m len false (Some fault) = later_of m (read_by (Some fault) len m) refl (more_is_more m.faults) (more_is_more m.read_faults) (continued_same m.told m.told.reads)
 
-pub read_later : (m : Memory) → IsLater (device_of m) (device_of (after_read m))
-read_later m = read_later_by m (is_read_refused m) (fault_of m)
+pub read_later : (m : Memory) (len : ℕ) → IsLater (device_of m) (device_of (after_read len m))
+read_later m len = read_later_by m len (is_read_refused m) (fault_of m)
 
 -- programs and erases
 written_later : (m : Memory) (fault : Option Fault) (at : ℕ) (bytes : List ℕ) (faults : ℕ) → m.faults ≤ faults → IsLater (device_of m) (device_of (record (with_write fault at bytes m) { faults = faults }))
@@ -190,3 +194,10 @@ erase_whole_by m false (Some fault) block whole can =
 
 pub erase_whole : (m : Memory) (block : ℕ) → IsDevice (device_of m) → CanErase m.geometry block → IsDevice (device_of (after_erase block m))
 erase_whole m block whole can = erase_whole_by m (is_erase_refused m block) (fault_of m) block whole can
+
+-- starts
+pub start_later : (m : Memory) (plan : Plan) → IsLater (device_of m) (device_of (after_start plan m))
+start_later m plan = later_of m (after_start plan m) refl (same_number m.faults) (same_number m.read_faults) (continued_started m.told _)
+
+pub failed_start_later : (m : Memory) → IsLater (device_of m) (device_of (after_failed_start m))
+failed_start_later m = later_of m (after_failed_start m) refl (same_number m.faults) (same_number m.read_faults) (continued_same m.told m.told.reads)

@@ -1,5 +1,5 @@
 -- A board in memory as contracts see it.
-use Rattle.std.specs.Prelude.{ℕ, ◌+◌, ◌-◌, ◌*◌, ◌/◌, ◌^◌, ◌<◌, ◌≤◌, ◌==◌, ◌&&◌, ◌||◌, Bool, true, false, nat_le, nat_lt, List, [], length, find, replicate, Option, Some, None, option_map, is_some, is_none, slice_index, slice_set, if◌then◌else◌}
+use Rattle.std.specs.Prelude.{ℕ, ◌+◌, ◌-◌, ◌*◌, ◌/◌, ◌^◌, ◌<◌, ◌≤◌, ◌==◌, ◌&&◌, ◌||◌, Bool, true, false, nat_le, nat_lt, max, List, [], length, find, replicate, Option, Some, None, option_map, is_some, is_none, slice_index, slice_set, if◌then◌else◌}
 use Rattle.std.specs.List.{list_any}
 use Rattle.bb_base.specs.Faults.{one_more}
 use Rattle.bb_flash.specs.declared.geometry.Geometry.{Geometry}
@@ -38,6 +38,8 @@ pub record Memory : Type 0 where
   -- the programs and the erases that answered Ok
   pub programs : ℕ
   pub erase_count : ℕ
+  -- how many bytes the longest read had that answered Ok
+  pub largest_read : ℕ
 
 -- the board as a flash device
 abbrev pub device_of : Memory → Device
@@ -75,6 +77,7 @@ fresh_memory geometry bytes most_calls most_bytes = record {
   was_cut = false;
   programs = 0;
   erase_count = 0;
+  largest_read = 0;
 }
 
 -- the fault that was last planned for a call
@@ -145,15 +148,19 @@ with_call fault len memory =
       was_cut = memory.was_cut || is_cut fault;
     }
 
--- after a read that met this fault, or none
-abbrev pub read_by : Option Fault → Memory → Memory
-read_by None memory = record (with_call None 0 memory) { told = told_after_read true memory.told }
-read_by (Some fault) memory = with_read_fault (with_call (Some fault) 0 memory)
+-- after a read of so many bytes that met this fault, or none
+abbrev pub read_by : Option Fault → ℕ → Memory → Memory
+read_by None len memory =
+    record (with_call None 0 memory) {
+      told = told_after_read true memory.told;
+      largest_read = max memory.largest_read len;
+    }
+read_by (Some fault) len memory = with_read_fault (with_call (Some fault) 0 memory)
 
--- after a read
-abbrev pub after_read : Memory → Memory
-after_read memory =
-    if is_read_refused memory then with_read_fault memory else read_by (fault_of memory) memory
+-- after a read of so many bytes
+abbrev pub after_read : ℕ → Memory → Memory
+after_read len memory =
+    if is_read_refused memory then with_read_fault memory else read_by (fault_of memory) len memory
 
 -- with one call more that was to write bytes, and left of them what its planned fault says
 abbrev pub with_write : Option Fault → ℕ → List ℕ → Memory → Memory

@@ -16,7 +16,7 @@ mod starts;
 use crate::cells::Cells;
 use crate::log::Log;
 use crate::{Fault, Flash, Geometry, Health};
-use bb_base::{Failed, NoMemory};
+use bb_base::{Failed, FaultCount, NoMemory};
 use starts::StartMade;
 use std::alloc::Global;
 use std::marker::Model;
@@ -35,17 +35,18 @@ pub struct MemBoard {
     blank: Vec<u8>,
     erases: Vec<u64>,
     reads: u64,
-    faults: u64,
-    read_faults: u64,
+    faults: FaultCount,
+    read_faults: FaultCount,
     calls: u32,
     plan: Vec<(u32, Fault)>,
     was_cut: bool,
     programs: u64,
     erase_count: u64,
+    largest_read: u32,
     starts: Vec<StartMade>,
-    start_faults: u64,
-    faults_before: u64,
-    start_faults_before: u64,
+    start_faults: FaultCount,
+    faults_before: FaultCount,
+    start_faults_before: FaultCount,
     tried: u64,
     failing: Vec<u32>,
 }
@@ -66,11 +67,11 @@ impl Model for MemBoard {
             reads = board.reads;
             changes = history board.geometry.page board.log.saved board.cells;
           };
-          faults = board.faults;
-          read_faults = board.read_faults;
-          start_faults = board.start_faults;
-          faults_before = board.faults_before;
-          start_faults_before = board.start_faults_before;
+          faults = board.faults.count;
+          read_faults = board.read_faults.count;
+          start_faults = board.start_faults.count;
+          faults_before = board.faults_before.count;
+          start_faults_before = board.start_faults_before.count;
           most_calls = board.log.most_calls;
           most_bytes = board.log.most_bytes;
           calls = board.calls;
@@ -81,6 +82,7 @@ impl Model for MemBoard {
           was_cut = board.was_cut;
           programs = board.programs;
           erase_count = board.erase_count;
+          largest_read = board.largest_read;
         } };
 
     ghost invariant = { λ board.
@@ -116,17 +118,18 @@ impl MemBoard {
             blank: vec![in alloc; 0xFF; geometry.block as usize]?,
             erases: vec![in alloc; 0; geometry.blocks() as usize]?,
             reads: 0,
-            faults: 0,
-            read_faults: 0,
+            faults: FaultCount::none(),
+            read_faults: FaultCount::none(),
             calls: 0,
             plan: Vec::new(alloc),
             was_cut: false,
             programs: 0,
             erase_count: 0,
+            largest_read: 0,
             starts: Vec::new(alloc),
-            start_faults: 0,
-            faults_before: 0,
-            start_faults_before: 0,
+            start_faults: FaultCount::none(),
+            faults_before: FaultCount::none(),
+            start_faults_before: FaultCount::none(),
             tried: 0,
             failing: Vec::new(alloc),
         })
@@ -165,7 +168,8 @@ impl MemBoard {
     pub fn faulted(&self) -> bool
         ensures { result ≡ memory.has_faulted self.now }
     {
-        self.faults_before < self.faults || self.start_faults_before < self.start_faults
+        self.faults_before.count < self.faults.count
+            || self.start_faults_before.count < self.start_faults.count
     }
 
     #[tactic(auto, unfolding(crate::specs::Saved::history))]
@@ -191,7 +195,7 @@ impl Flash for MemBoard {
     fn read(&mut self, at: u32, out: &mut [u8]) -> Result<Health, Failed>
         requires { at + length out.old ≤ self.old.geometry.size }
         ensures answer { is_err result ≡ memory.fails_to_read self.old }
-        ensures after { self.new ≡ memory.after_read self.old }
+        ensures after { self.new ≡ memory.after_read (length out.old) self.old }
         ensures done { IfOk result (λ health. ForSome (content (device_of self.old)) (λ image.
             IsReading self.old.geometry.page image at out.new health)) }
         ensures call { IsReadCall result (device_of self.old) (device_of self.new) }

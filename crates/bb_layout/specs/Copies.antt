@@ -2,6 +2,7 @@
 -- a record takes there (barebox User Manual, State Framework).
 use Rattle.std.specs.Prelude.{ℕ, ◌+◌, ◌*◌, ◌/◌, min}
 use Rattle.std.specs.Int.{next_multiple_of}
+use Rattle.bb_base.specs.Form.{most_copies}
 use Rattle.bb_bucket.specs.Front.{stride_header_len}
 use Rattle.bb_flash.specs.declared.geometry.Geometry.{Geometry}
 use Rattle.bb_flash.specs.declared.region.Region.{Region}
@@ -21,7 +22,7 @@ region_of geometry storage partition copy =
 
 -- how many copies there are: as many as fit, at most three
 abbrev pub copies_of : Geometry → Storage → Region → ℕ
-copies_of geometry storage partition = min 3 (partition.size / spacing geometry storage)
+copies_of geometry storage partition = min most_copies (partition.size / spacing geometry storage)
 
 -- how many bytes a copy with a record of that length takes: a front stands before the record, or
 -- as many bytes after it where an entry of whole pages ends with them

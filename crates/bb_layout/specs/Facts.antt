@@ -8,7 +8,7 @@ use Rattle.bb_layout.specs.declared.storage.Storage.{Storage}
 use Rattle.bb_layout.specs.declared.storage.Storage.TheVariants.{Stride, OneBlock, Circular}
 use Rattle.bb_layout.specs.declared.var.Var.{Var}
 use Rattle.std.specs.Coded.{Unit-prop, le_prop}
-use Rattle.bb_base.specs.Form.{area_limit}
+use Rattle.bb_base.specs.Form.{area_limit, most_copies}
 use Rattle.bb_layout.specs.Ranges.{end_of}
 use Rattle.bb_layout.specs.Variables.{IsWellFormed}
 use Rattle.bb_vars.specs.Kind.{HasFewNames}
@@ -61,7 +61,7 @@ pub record HasCopies (geometry : Geometry) (partition : Region) (storage : Stora
   pub on_device : partition.at + partition.size ≤ geometry.size
   pub whole_blocks : IsAligned geometry partition
   pub least : 2 ≤ copies
-  pub most : copies ≤ 3
+  pub most : copies ≤ most_copies
   pub inside : (copy : ℕ) → copy < copies → IsWithin partition (region_of geometry storage partition copy)
   pub aligned : (copy : ℕ) → IsAligned geometry (region_of geometry storage partition copy)
   pub apart : (first second : ℕ) → first < second

@@ -7,6 +7,7 @@ ghost use Rattle.bb_layout.specs.Storage as spec;
 
 use crate::state_props::Props;
 use crate::{LayoutError, Storage};
+use bb_base::MOST_COPIES;
 use bb_bucket::FRONT_LEN;
 use bb_flash::{Geometry, Region};
 
@@ -83,12 +84,12 @@ pub(crate) fn check_room(
     Ok(())
 }
 
-/// How many copies fit, at most 3.
+/// How many copies fit, at most `MOST_COPIES`.
 pub(crate) fn copies(geometry: Geometry, storage: Storage, partition: Region) -> u32
     ensures { result ≡ copy.copies_of geometry storage partition }
 {
     match partition.size.checked_div(spacing(geometry, storage)) {
-        Some(count) => count.min(3),
+        Some(count) => count.min(MOST_COPIES),
         None => 0,
     }
 }

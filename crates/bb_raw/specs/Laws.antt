@@ -146,7 +146,7 @@ passed_whole kind bytes area e =
     ∙ length-take-le kind.area_len (drop 16 bytes) (omega (arith, length-drop 16 bytes))
 
 -- a field that lies within some first bytes is one of them
-field_within : (len at number m : ℕ) (bytes : List ℕ) → at + len ≤ m →
+pub field_within : (len at number m : ℕ) (bytes : List ℕ) → at + len ≤ m →
     has_field len at number (take m bytes) ≡ has_field len at number bytes
 field_within len at number m bytes inside =
     let split : m ≡ at + (m - at) = omega arith in
@@ -173,10 +173,10 @@ part_within at len m bytes inside =
     ∙ ap (take len) (drop-take at (m - at) bytes)
     ∙ take-take len (m - at) (drop at bytes) (omega arith)
 
-and_same : {a b c d : Bool} → a ≡ c → b ≡ d → (a && b) ≡ (c && d)
+pub and_same : {a b c d : Bool} → a ≡ c → b ≡ d → (a && b) ≡ (c && d)
 and_same {a} {b} {c} {d} p q = ap (λ x. x && b) p ∙ ap (λ y. c && y) q
 
-header_within : (magic area_len m : ℕ) (bytes : List ℕ) → 16 ≤ m →
+pub header_within : (magic area_len m : ℕ) (bytes : List ℕ) → 16 ≤ m →
     header_agrees magic area_len (take m bytes) ≡ header_agrees magic area_len bytes
 header_within magic area_len m bytes inside =
     let kept : List ℕ = take m bytes in
@@ -186,7 +186,7 @@ header_within magic area_len m bytes inside =
     (ap (λ l. has_field 4 12 (crc_of l) kept) (take-take 12 m bytes (omega arith))
     ∙ field_within 4 12 (crc_of (take 12 bytes)) m bytes (omega arith))
 
-area_within : (area_len m : ℕ) (bytes : List ℕ) → 16 + area_len ≤ m →
+pub area_within : (area_len m : ℕ) (bytes : List ℕ) → 16 + area_len ≤ m →
     area_of area_len (take m bytes) ≡ area_of area_len bytes
 area_within area_len m bytes inside = part_within 16 area_len m bytes inside
 
@@ -204,7 +204,7 @@ code_within key count m bytes inside =
     ∙ ap (bytes_eq (hmac_text key (take count bytes)))
     (part_within count (code_len key) m bytes inside)
 
-agrees_within : (kind : RawKind) (bytes : List ℕ) →
+pub agrees_within : (kind : RawKind) (bytes : List ℕ) →
     raw_agrees kind (take (raw_length kind) bytes) ≡ raw_agrees kind bytes
 agrees_within kind bytes =
     let m : ℕ = raw_length kind in
@@ -224,27 +224,35 @@ first_count kind bytes =
     ∙ ap (λ area. cond (raw_agrees kind bytes) (Some area) None)
     (area_within kind.area_len (raw_length kind) bytes (omega arith))
 
-too_few : (m n : ℕ) → n < m → nat_le m n ≡ false
+pub too_few : (m n : ℕ) → n < m → nat_le m n ≡ false
 too_few m n h = elim (leb_tells m n)
     [ inl enough ↦ absurd (omega (arith, enough.1)) | inr few ↦ few.0 ]
 
-fails_first : (a b c d : Bool) (x : List ℕ) → a ≡ false →
+pub fails_first : (a b c d : Bool) (x : List ℕ) → a ≡ false →
     cond (((a && b) && c) && d) (Some x) None ≡ None
 fails_first false b c d x e = refl
 fails_first true b c d x e = absurd cc
 
-fewer_fail : (kind : RawKind) (bytes : List ℕ) → length bytes < raw_length kind →
-    raw_passes kind bytes ≡ None
-fewer_fail kind bytes few =
-    fails_first _ (header_agrees kind.magic kind.area_len bytes) (area_agrees kind.area_len bytes) _
-    (area_of kind.area_len bytes)
-    (too_few (raw_length kind) (length bytes) few)
+passed_enough : (kind : RawKind) (bytes area : List ℕ) → raw_passes kind bytes ≡ Some area →
+    raw_length kind ≤ length bytes
+passed_enough kind bytes area e =
+    let choice = some_of_cond (raw_agrees kind bytes) (area_of kind.area_len bytes) area e in
+    leb-true _ _ (and_parts _ _ (and_parts _ _ (and_parts _ _ choice.0).0).0).0
 
 pub raw_laws : (kind : RawKind) → IsForm (raw_form kind)
 raw_laws kind = record {
-  whole = λ area fits. text_whole kind area (eqb-true _ _ fits);
+  most = λ area fits. let e = eqb-true _ _ fits in omega arith;
+  sized = λ area fits. eqb-true _ _ fits;
+  whole = λ area fits.
+      let e = eqb-true _ _ fits in
+      text_whole kind area e ∙ ap (λ n. 16 + n + code_len kind.key) (sym e);
   text_passes = λ area rest fits. text_passes kind area rest (eqb-true _ _ fits);
+  text_fresh = λ area rest fits. refl;
   passed_fits = λ bytes area passed. eq-eqb _ _ (passed_whole kind bytes area passed);
+  passed_whole = λ bytes area passed.
+      let e = passed_whole kind bytes area passed in
+      let enough = passed_enough kind bytes area passed in
+      omega arith;
   first_count = first_count kind;
-  fewer_fail = fewer_fail kind;
+  first_aged = λ bytes. refl;
 }

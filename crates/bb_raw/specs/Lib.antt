@@ -1,5 +1,6 @@
 -- Definitions that contracts cite. These a reader has to believe.
 pub use Rattle.bb_base.specs.Form
 pub mod Raw
--- Inside: that the raw record is a format.
+-- Inside: how a record comes in pieces, and that the raw record is a format.
+pub mod Feeding
 pub mod Laws

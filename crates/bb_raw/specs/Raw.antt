@@ -10,7 +10,7 @@
 --   12 to 15  header_crc   CRC-32 of bytes 0 to 11
 --   16 on     the area
 --   then      with a key   32 bytes, the HMAC-SHA256 of all bytes before it (RFC 2104)
-use Rattle.std.specs.Prelude.{ℕ, ◌+◌, ◌%◌, ◌^◌, ◌==◌, Bool, ◌&&◌, List, [], ◌++◌, length, take, drop, nat_le, Option, Some, None, if◌then◌else◌}
+use Rattle.std.specs.Prelude.{ℕ, ◌+◌, ◌%◌, ◌^◌, ◌==◌, Bool, false, ◌&&◌, List, [], ◌++◌, length, take, drop, nat_le, Option, Some, None, if◌then◌else◌}
 use Rattle.std.specs.Str.{bytes_eq}
 use Rattle.byteorder.specs.Endian.{little_number, little_bytes}
 use Rattle.bb_base.specs.Crc.{crc_of}
@@ -70,9 +70,12 @@ coded_text magic area =
 abbrev pub raw_text : RawKind → List ℕ → List ℕ
 raw_text kind area = coded_text kind.magic area ++ hmac_text kind.key (coded_text kind.magic area)
 
--- how many bytes it has
+-- how many bytes it has, by how many the area has
+abbrev pub length_of : RawKind → ℕ → ℕ
+length_of kind len = header_len + len + code_len kind.key
+
 abbrev pub raw_length : RawKind → ℕ
-raw_length kind = header_len + kind.area_len + code_len kind.key
+raw_length kind = length_of kind kind.area_len
 
 -- ---- what passes
 
@@ -96,12 +99,14 @@ raw_agrees kind bytes =
 abbrev pub raw_passes : RawKind → List ℕ → Option (List ℕ)
 raw_passes kind bytes = if raw_agrees kind bytes then Some (area_of kind.area_len bytes) else None
 
--- the raw record as a format
+-- the raw record as a format, in which nothing is old
 abbrev pub raw_form : RawKind → Form
 raw_form kind = record {
   area_len = kind.area_len;
-  length = raw_length kind;
+  length_of = length_of kind;
+  reach = raw_length kind;
   fits = λ area. length area == kind.area_len;
   text = raw_text kind;
   passes = raw_passes kind;
+  aged = λ bytes. false;
 }

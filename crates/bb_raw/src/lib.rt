@@ -3,6 +3,8 @@
 //! knows `Format` alone.
 #![tactic(auto)]
 
+mod feed;
 mod raw;
 
+pub use feed::RawFeed;
 pub use raw::{HEADER_LEN, Raw};

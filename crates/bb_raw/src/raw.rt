@@ -1,10 +1,14 @@
-ghost use Rattle.std.specs.Prelude.{◌≡◌, ◌+◌, ◌≤◌, ◌++◌, drop, length};
+ghost use Rattle.std.specs.Prelude.{◌≡◌, ◌+◌, ◌≤◌, ◌++◌, ◌&&◌, ◌==◌, drop, length, take};
+ghost use Rattle.std.specs.Str.{bytes_eq};
+ghost use Rattle.bb_base.specs.Crc.{crc_of};
 ghost use Rattle.bb_base.specs.Form.{area_limit};
-ghost use Rattle.bb_raw.specs.Raw.{area_agrees, code_len, hmac_text, coded_text, has_code};
-ghost use Rattle.bb_raw.specs.Raw.{header_agrees, header_len, header_text, raw_agrees, raw_form};
+ghost use Rattle.bb_raw.specs.Feeding.{parts_agree};
+ghost use Rattle.bb_raw.specs.Raw.{code_len, coded_text, has_field, header_agrees, header_len};
+ghost use Rattle.bb_raw.specs.Raw.{header_text, hmac_text, raw_form, raw_length};
 ghost use Rattle.bb_raw.specs.Laws.{raw_laws};
 
-use bb_base::{Format, crc32};
+use crate::feed::{RawFeed, take_in};
+use bb_base::{Format, Passed, crc32};
 use bb_hmac::{Key, hmac, same_mac};
 use byteorder::{ByteOrder, LittleEndian};
 use std::marker::Model;
@@ -52,23 +56,34 @@ impl Raw {
         }
     }
 
-    // How many bytes stand before the code: the header and the area.
-    fn coded_len(&self) -> usize
-        ensures { result ≡ header_len + self.now.area_len }
+    // How many bytes the record has.
+    fn record_len(&self) -> usize
+        ensures { result ≡ raw_length self.now }
     {
-        HEADER_LEN + self.area_len as usize
+        HEADER_LEN + self.area_len as usize + code_len(&self.key)
     }
 
-    // Whether a whole record begins the bytes, and its checks hold: the header's first, then the
-    // area's, then the code.
-    fn agrees(&self, bytes: &[u8]) -> bool
-        ensures { result ≡ raw_agrees self.now bytes.now }
+    // Whether a whole record came, and its checks hold.
+    fn passes(&self, feed: &RawFeed, area: &[u8]) -> bool
+        requires { length area.now ≡ self.now.area_len }
+        ensures { result ≡ (feed.now.count == raw_length self.now
+            && parts_agree self.now feed.now.header area.now
+            (take (code_len self.now.key) feed.now.code)) }
     {
-        let end = self.coded_len();
-        end + code_len(&self.key) <= bytes.len()
-            && header_passes(bytes, self.magic, self.area_len)
-            && area_passes(bytes, self.area_len)
-            && code_passes(&self.key, bytes, end)
+        feed.count == self.record_len()
+            && self.agrees(&feed.header, area, &feed.code[..code_len(&self.key)])
+    }
+
+    // Whether the checks of a record with these parts hold: the header's first, then the area's,
+    // then the code.
+    fn agrees(&self, header: &[u8; 16], area: &[u8], code: &[u8]) -> bool
+        requires area { length area.now ≡ self.now.area_len }
+        requires code { length code.now ≡ code_len self.now.key }
+        ensures { result ≡ parts_agree self.now header.now area.now code.now }
+    {
+        header_passes(header, self.magic, self.area_len)
+            && area_passes(header, area)
+            && code_passes(&self.key, header, area, code)
     }
 }
 
@@ -91,22 +106,20 @@ fn header_passes(bytes: &[u8], magic: u32, area_len: u32) -> bool
         && LittleEndian::read_u32(&bytes[12..]) == crc32(&bytes[..12])
 }
 
-fn area_passes(bytes: &[u8], area_len: u32) -> bool
-    requires whole { header_len + area_len ≤ length bytes.now }
-    requires small { area_len ≤ area_limit }
-    ensures { result ≡ area_agrees area_len bytes.now }
+fn area_passes(header: &[u8], area: &[u8]) -> bool
+    requires { length header.now ≡ header_len }
+    ensures { result ≡ has_field 4 8 (crc_of area.now) header.now }
 {
-    let end = HEADER_LEN + area_len as usize;
-    LittleEndian::read_u32(&bytes[8..]) == crc32(&bytes[HEADER_LEN..end])
+    LittleEndian::read_u32(&header[8..]) == crc32(area)
 }
 
-// Whether the code of the first `end` bytes stands after them. All of it is compared.
-fn code_passes(key: &Option<Key>, bytes: &[u8], end: usize) -> bool
-    requires { end + code_len key.now ≤ length bytes.now }
-    ensures { result ≡ has_code key.now end bytes.now }
+// Whether this is the code of the header and the area. All of it is compared.
+fn code_passes(key: &Option<Key>, header: &[u8], area: &[u8], code: &[u8]) -> bool
+    requires { length code.now ≡ code_len key.now }
+    ensures { result ≡ bytes_eq (hmac_text key.now (header.now ++ area.now)) code.now }
 {
     match key {
-        Some(key) => same_mac(&hmac(key, &bytes[..end], b""), &bytes[end..end + CODE_LEN]),
+        Some(key) => same_mac(&hmac(key, header, area), code),
         None => true,
     }
 }
@@ -146,7 +159,13 @@ fn write_code(key: &Option<Key>, text: &[u8], out: &mut [u8])
 }
 
 impl Format for Raw {
+    ghost use Rattle.bb_raw.specs.Feeding.{raw_holds};
+
+    type Feed = RawFeed;
+
     ghost form = { raw_form };
+
+    ghost holds = { raw_holds };
 
     ghost laws = { raw_laws };
 
@@ -154,8 +173,13 @@ impl Format for Raw {
         self.area_len as usize
     }
 
-    fn length(&self) -> usize {
-        self.coded_len() + code_len(&self.key)
+    fn reach(&self) -> usize {
+        self.record_len()
+    }
+
+    fn length(&self, len: usize) -> usize {
+        let _most = self.area_len;
+        HEADER_LEN + len + code_len(&self.key)
     }
 
     fn pack(&self, area: &[u8], out: &mut [u8]) {
@@ -164,11 +188,26 @@ impl Format for Raw {
         write_code(&self.key, coded, code);
     }
 
-    fn check(&self, bytes: &[u8], area: &mut [u8]) -> bool {
-        let passes = self.agrees(bytes);
-        if passes {
-            area.copy_from_slice(&bytes[HEADER_LEN..HEADER_LEN + area.len()]);
+    fn start(&self) -> RawFeed {
+        RawFeed {
+            header: [0; 16],
+            code: [0; 32],
+            count: 0,
         }
-        passes
+    }
+
+    fn feed(&self, feed: &mut RawFeed, piece: &[u8], area: &mut [u8]) {
+        take_in(feed, code_len(&self.key), piece, area);
+    }
+
+    fn end(&self, feed: RawFeed, area: &[u8]) -> Option<Passed> {
+        if self.passes(&feed, area) {
+            Some(Passed {
+                len: area.len(),
+                old: false,
+            })
+        } else {
+            None
+        }
     }
 }

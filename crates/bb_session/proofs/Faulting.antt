@@ -21,6 +21,7 @@ use Rattle.bb_copies.proofs.Runs.{later_refl}
 use Rattle.bb_flash.specs.Cuts.{IsLater}
 use Rattle.bb_flash.specs.Device.{Device, content}
 use Rattle.bb_flash.specs.Image.{Image}
+use Rattle.bb_layout.specs.Layout.{laid_len}
 use Rattle.bb_state.specs.Keyed.{Keyed}
 use Rattle.bb_state.specs.Kinds.{any_holding, bucket_at, laid_buckets, laid_form, laid_kinds}
 use Rattle.bb_session.specs.Acting.{WorkAnswers}
@@ -50,7 +51,7 @@ rise_from rise first middle last more rose = omega arith
 pub copies_are : (keyed : Keyed) → length (laid_kinds keyed.layout) ≡ keyed.layout.copies
 copies_are keyed =
     length-map (laid_buckets keyed.layout) (λ bucket. (any_holding bucket).kind)
-    ∙ length-map (range_with_len 0 keyed.layout.copies) (bucket_at keyed.layout.geometry keyed.layout.storage keyed.layout.region)
+    ∙ length-map (range_with_len 0 keyed.layout.copies) (bucket_at keyed.layout.geometry keyed.layout.storage keyed.layout.region (laid_len keyed.layout))
     ∙ length-range_with_len 0 keyed.layout.copies
 
 get_inside : {X : Type 0} → (xs : List X) (k : ℕ) → k < length xs → (x : X) × (slice_get xs k ≡ Some x)

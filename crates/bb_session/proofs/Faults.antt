@@ -27,6 +27,7 @@ use Rattle.bb_shell.specs.declared.outcome.Outcome.{Outcome}
 use Rattle.bb_shell.specs.declared.outcome.Outcome.TheVariants as outcomes
 use Rattle.bb_shell.proofs.LastRounds.{refused_cons}
 use Rattle.bb_shell.proofs.Reached.{begun_saving, idle_saving}
+use Rattle.bb_shell.proofs.Saves.{begun_sure}
 use Rattle.bb_shell.proofs.Sequence.{failed_before, failed_unrefused}
 use Rattle.bb_shell.proofs.Starts.{round_later, unrefused}
 use Rattle.bb_plan.specs.Plan.{SessionPlan}
@@ -200,7 +201,7 @@ rounds_explain plan from to found answers fault work refused =
       run = subst (λ used. AreRun plan.keyed plans kept work.used used last.earlier work.middle last.middle) is last.run;
     })
     (λ none. gave.taken ∙ nothing_taken gave.area gave.loaded (sym gave.used_is ∙ last.lost none))
-    last.begun.sure last.begun.fails
+    (begun_sure plan.keyed last.copy last.now last.last.table fault last.middle to last.begun) last.begun.fails
 
 pub work_explains : (plan : SessionPlan) (from to : Device) (load : LoadAnswer) (answers : WorkAnswers) (refusal : Refusal) →
     is_device_fault (status_of refusal) ≡ true → IsWork plan from to load answers →

@@ -5,11 +5,9 @@ use Rattle.std.proofs.lemmas.Slice.Eq.{bytes_eq-Decides}
 use Rattle.std.specs.Option.{IfNone}
 use Rattle.std.specs.Prelude.{is_some}
 use Rattle.std.specs.Str.{bytes_eq}
-use Rattle.bb_copies.specs.Erasing.{ErasesBy}
 use Rattle.bb_copies.specs.Loading.{KeepsOutside}
 use Rattle.bb_copies.specs.Passing.{passings}
-use Rattle.bb_copies.specs.Saving.{EachWritten, SaveFails, SaveRuns}
-use Rattle.bb_copies.specs.Settling.{NothingFails}
+use Rattle.bb_copies.specs.Saving.{IsSave, SaveFails, SaveRuns}
 use Rattle.bb_copies.specs.StandsFor.{EachPassesOrNothing}
 use Rattle.bb_copies.specs.declared.answers.CopyFault.{CopyFault}
 use Rattle.bb_copies.specs.declared.answers.CopyFault.TheVariants.{ReadFault, WriteFault, Unsure}
@@ -26,7 +24,7 @@ use Rattle.bb_state.specs.State.{IsStored, form_of, has_changed, is_kept, is_sur
 use Rattle.bb_state.specs.declared.state.State.{State}
 use Rattle.bb_shell.proofs.Joins.{outside_refl, stored_refl}
 use Rattle.bb_shell.specs.Ends.{EndsByWriteFault, StaysStored}
-use Rattle.bb_shell.specs.Running.{IsSaveRun, same_as_kept}
+use Rattle.bb_shell.specs.Running.{IsBegun, IsSaveRun, same_as_kept}
 
 -- ---- the state's words
 
@@ -45,41 +43,32 @@ chosen_fits b state table bound others =
 -- a save that answered Ok
 pub saved_ok : (state : State) (now : Option ℕ) (from to : Device) → is_sure state ≡ true →
     (has_changed state ≡ false → to ≡ from) →
-    (has_changed state ≡ true → SaveRuns (form_of state) (kinds_of state) (used_of state) state.table from to) →
-    (has_changed state ≡ true → IsStored (keyed_of state) state.table now from to) →
-    (has_changed state ≡ true → NothingFails from to → EachWritten (kinds_of state) ((form_of state).text state.table) from to) →
-    (has_changed state ≡ true → NothingFails from to → ErasesBy (kinds_of state) ((form_of state).text state.table) from to) →
+    (has_changed state ≡ true → IsSave (form_of state) (kinds_of state) (is_sure state) (used_of state) now state.table from to None) →
     (is_kept state ≡ true → now ≡ used_of state) →
     IsSaveRun (keyed_of state) (Some (last_table_of state)) (used_of state) now state.table None from to
-saved_ok state now from to sure idle runs stored exact erases used = record {
+saved_ok state now from to sure idle save used = record {
   idle = λ same. record { device = idle (changed_is state true sure same); copy = used (known_is state sure same); done = refl };
-  begun = λ other. record {
-    runs = runs (changed_is state false sure other);
-    stored = stored (changed_is state false sure other);
-    fails = tt;
-    sure = tt;
-    exact = exact (changed_is state false sure other);
-    erases = erases (changed_is state false sure other);
-  };
+  begun = λ other.
+      subst (λ (s : Bool). IsSave (form_of state) (kinds_of state) s (used_of state) now state.table from to None) sure
+      (save (changed_is state false sure other));
 }
 
 -- and one that was refused
 pub saved_err : (state : State) (now : Option ℕ) (fault : CopyFault) (from to : Device) → is_sure state ≡ true →
-    (is_kept state ≡ true → ⊥) → fault ≢ Unsure →
-    (has_changed state ≡ true → SaveRuns (form_of state) (kinds_of state) (used_of state) state.table from to) →
-    SaveFails (form_of state) (kinds_of state) (used_of state) state.table from to fault →
+    (is_kept state ≡ true → ⊥) →
+    (has_changed state ≡ true → IsSave (form_of state) (kinds_of state) (is_sure state) (used_of state) now state.table from to (Some fault)) →
     IsSaveRun (keyed_of state) (Some (last_table_of state)) (used_of state) now state.table (Some fault) from to
-saved_err state now fault from to sure other known runs fails = record {
+saved_err state now fault from to sure other save = record {
   idle = λ same. absurd (other (known_is state sure same));
-  begun = λ changed. record {
-    runs = runs (changed_is state false sure changed);
-    stored = tt;
-    fails = fails;
-    sure = known;
-    exact = λ _. tt;
-    erases = λ _. tt;
-  };
+  begun = λ changed.
+      subst (λ (s : Bool). IsSave (form_of state) (kinds_of state) s (used_of state) now state.table from to (Some fault)) sure
+      (save (changed_is state false sure changed));
 }
+
+-- a save of copies that are sure isn't refused as unsure
+pub begun_sure : (keyed : Keyed) (used now : Option ℕ) (table : List ℕ) (fault : CopyFault) (from to : Device) →
+    IsBegun keyed used now table (Some fault) from to → fault ≢ Unsure
+begun_sure keyed used now table fault from to save = λ is. false≢true (sym (save.unsure.0 (ap (λ f. Some f) is)))
 
 -- what is kept where a table is the one that is
 pub kept_is : (kept : Option (List ℕ)) (table : List ℕ) → same_as_kept kept table ≡ true → kept ≡ Some table
@@ -87,24 +76,13 @@ kept_is None table e = absurd (false≢true e)
 kept_is (Some kept) table e = ap (λ t. Some t) (sym ((bytes_eq-Decides table kept).0 e))
 
 -- a save that is made whatever was last loaded or saved
-pub always_ok : (state : State) (now : Option ℕ) (from to : Device) →
-    SaveRuns (form_of state) (kinds_of state) (used_of state) state.table from to →
-    IsStored (keyed_of state) state.table now from to →
-    (NothingFails from to → EachWritten (kinds_of state) ((form_of state).text state.table) from to) →
-    (NothingFails from to → ErasesBy (kinds_of state) ((form_of state).text state.table) from to) →
-    IsSaveRun (keyed_of state) None (used_of state) now state.table None from to
-always_ok state now from to runs stored exact erases = record {
+pub always_saved : (state : State) (now : Option ℕ) (refusal : Option CopyFault) (from to : Device) → is_sure state ≡ true →
+    IsSave (form_of state) (kinds_of state) (is_sure state) (used_of state) now state.table from to refusal →
+    IsSaveRun (keyed_of state) None (used_of state) now state.table refusal from to
+always_saved state now refusal from to sure save = record {
   idle = λ same. absurd (false≢true same);
-  begun = λ other. record { runs = runs; stored = stored; fails = tt; sure = tt; exact = exact; erases = erases };
-}
-
-pub always_err : (state : State) (now : Option ℕ) (fault : CopyFault) (from to : Device) → fault ≢ Unsure →
-    SaveRuns (form_of state) (kinds_of state) (used_of state) state.table from to →
-    SaveFails (form_of state) (kinds_of state) (used_of state) state.table from to fault →
-    IsSaveRun (keyed_of state) None (used_of state) now state.table (Some fault) from to
-always_err state now fault from to known runs fails = record {
-  idle = λ same. absurd (false≢true same);
-  begun = λ other. record { runs = runs; stored = tt; fails = fails; sure = known; exact = λ _. tt; erases = λ _. tt };
+  begun = λ other.
+      subst (λ (s : Bool). IsSave (form_of state) (kinds_of state) s (used_of state) now state.table from to refusal) sure save;
 }
 
 -- ---- what follows of a save
@@ -158,4 +136,4 @@ write_fault keyed kept used now table fault from to run = at (same_as_kept kept 
 
     at : (same : Bool) → same_as_kept kept table ≡ same → EndsByWriteFault fault
     at true e = let none : Some fault ≡ None = (run.idle e).done in absurd (let f : Option CopyFault → Bool = λ o. is_some o in false≢true (sym (ap f none)))
-    at false e = by fault (run.begun e).fails (run.begun e).sure
+    at false e = by fault (run.begun e).fails (begun_sure keyed used now table fault from to (run.begun e))

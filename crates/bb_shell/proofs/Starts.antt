@@ -3,6 +3,7 @@ use Rattle.std.proofs.Common.{◌≡◌, ℕ, ◌+◌, ◌-◌, ◌^◌, ◌++�
 use Rattle.std.specs.Option.{IsSomeAnd, option_map}
 use Rattle.std.specs.Prelude.{is_some}
 use Rattle.bb_base.specs.Faults.{one_more}
+use Rattle.bb_bucket.specs.Calls.{HasFound, candidate_in}
 use Rattle.bb_bucket.specs.Kind.{Holding, part_of}
 use Rattle.bb_copies.specs.Buckets.{AllAgree}
 use Rattle.bb_copies.specs.Loading.{KeepsOutside}
@@ -63,11 +64,14 @@ start_erases plan outcome from to = by_start from to (λ d. erases d ≡ erases 
 pub start_agrees : {B : Type 0} (holding : B → Holding) (buckets : List B) (plan : Option Plan) (outcome : Outcome) (from to : Device) →
     IsTried plan outcome from to → AllAgree holding from buckets → AllAgree holding to buckets
 start_agrees holding buckets plan outcome from to tried agree copy bucket e =
-    let here = (agree copy bucket e).here in
+    let old = agree copy bucket e in
     record {
       here = λ image told.
           subst (λ (g : Geometry). IsTrue ((holding bucket).agrees (part_of g.page (holding bucket).kind.region image)))
-          (sym (start_geometry plan outcome from to tried)) (here image (sym (start_content plan outcome from to tried) ∙ told));
+          (sym (start_geometry plan outcome from to tried)) (old.here image (sym (start_content plan outcome from to tried) ∙ told));
+      found = λ image told.
+          subst (λ (g : Geometry). HasFound (holding bucket).found (candidate_in (holding bucket).kind g.page image))
+          (sym (start_geometry plan outcome from to tried)) (old.found image (sym (start_content plan outcome from to tried) ∙ told));
     }
 
 pub start_outside : (keyed : Keyed) (plan : Option Plan) (outcome : Outcome) (from to : Device) → IsTried plan outcome from to → KeepsOutside (laid_kinds keyed.layout) from to

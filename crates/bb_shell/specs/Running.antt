@@ -1,19 +1,15 @@
 -- What the rounds of a boot make of a device: first each save, then each start.
-use Rattle.std.specs.Prelude.{◌≡◌, ◌≢◌, ℕ, Bool, true, false, not, List, [], ◌∷◌, Option, Some, None, IfNone, IfSome, IsSomeAnd, is_some, option_map}
+use Rattle.std.specs.Prelude.{◌≡◌, ℕ, Bool, true, false, not, List, [], ◌∷◌, Option, Some, None, IsSomeAnd, is_some, option_map}
 use Rattle.std.specs.Str.{bytes_eq}
 use Rattle.bb_base.specs.Faults.{counted}
-use Rattle.bb_copies.specs.Erasing.{ErasesBy}
-use Rattle.bb_copies.specs.Saving.{EachWritten, SaveFails, SaveRuns}
-use Rattle.bb_copies.specs.Settling.{NothingFails}
+use Rattle.bb_copies.specs.Saving.{IsSave}
 use Rattle.bb_copies.specs.declared.answers.CopyFault.{CopyFault}
-use Rattle.bb_copies.specs.declared.answers.CopyFault.TheVariants.{Unsure}
 use Rattle.bb_flash.specs.declared.plan.Plan.{Plan}
 use Rattle.bb_flash.specs.Calls.{told_after_start}
 use Rattle.bb_flash.specs.Cuts.{IsLater}
 use Rattle.bb_flash.specs.Device.{Device, IsDevice, StartKeeps}
 use Rattle.bb_state.specs.Keyed.{Keyed}
 use Rattle.bb_state.specs.Kinds.{laid_form, laid_kinds}
-use Rattle.bb_state.specs.State.{IsStored}
 use Rattle.bb_shell.specs.Boot.{Round, plan_at}
 use Rattle.bb_shell.specs.declared.outcome.Outcome.{Outcome}
 use Rattle.bb_shell.specs.declared.outcome.Outcome.TheVariants.{Refused, Unplanned, Failed, Started}
@@ -39,19 +35,10 @@ pub record SavesNothing
 
 -- It is another one, and is saved to the copies, of which `used` is the first that passes the last
 -- one, and `now` the first that passes this one.
-pub record IsBegun
-    (keyed : Keyed) (used now : Option ℕ) (table : List ℕ) (refusal : Option CopyFault)
-    (from to : Device) : Type 0 where
-  pub runs : SaveRuns (laid_form keyed) (laid_kinds keyed.layout) used table from to
-  pub stored : IfNone refusal (IsStored keyed table now from to)
-  pub fails : IfSome refusal (SaveFails (laid_form keyed) (laid_kinds keyed.layout) used table from to)
-  pub sure : IfSome refusal (λ fault. fault ≢ Unsure)
-  pub exact :
-      NothingFails from to →
-      IfNone refusal (EachWritten (laid_kinds keyed.layout) ((laid_form keyed).text table) from to)
-  pub erases :
-      NothingFails from to →
-      IfNone refusal (ErasesBy (laid_kinds keyed.layout) ((laid_form keyed).text table) from to)
+abbrev pub IsBegun :
+    Keyed → Option ℕ → Option ℕ → List ℕ → Option CopyFault → Device → Device → Type 0
+IsBegun keyed used now table refusal from to =
+    IsSave (laid_form keyed) (laid_kinds keyed.layout) true used now table from to refusal
 
 -- The table is the one that was last loaded or saved. Where none is known to be, it is another.
 abbrev pub same_as_kept : Option (List ℕ) → List ℕ → Bool

@@ -27,13 +27,13 @@ part_erased page region image erased =
 copy_passes : (form : Form) (page : ℕ) (bucket : AnyBucket) (image : Image) → IsErased image →
     passing_of form page (any_holding bucket).kind image ≡ None
 unfolding any_holding
-copy_passes form page (Stride region) image erased =
+copy_passes form page (Stride it) image erased =
     ap (option_and_then form.passes)
-    (front_of_erased 1 (part_of page region image) (part_erased page region image erased))
-copy_passes form page (OneBlock block) image erased =
+    (front_of_erased 1 (part_of page it.region image) (part_erased page it.region image erased))
+copy_passes form page (OneBlock it) image erased =
     ap (option_and_then form.passes)
-    (front_of_erased block.page (part_of page block.region image)
-    (part_erased page block.region image erased))
+    (front_of_erased it.block.page (part_of page it.block.region image)
+    (part_erased page it.block.region image erased))
 copy_passes form page (Circular circle) image erased =
     ap (option_and_then form.passes)
     (log_of_erased circle.block.page (part_of page circle.block.region image)

@@ -1,12 +1,11 @@
 -- The buckets that a layout has.
-use Rattle.std.proofs.Common.{◌≡◌, ℕ, zero, suc, ◌+◌, ◌*◌, ◌/◌, ◌%◌, ◌<◌, ◌≤◌, eqb, false, List, [], ◌∷◌, ◌++◌, Option, None, Some, is_some, length, map, slice_get, refl, sym, ap, ◌∙◌, subst, arith, IsTrue, inl, inr, ◌≢◌}
+use Rattle.std.proofs.Common.{◌≡◌, ℕ, zero, suc, ◌+◌, ◌*◌, ◌/◌, ◌%◌, ◌<◌, ◌≤◌, eqb, true, false, List, [], ◌∷◌, ◌++◌, Option, None, Some, is_some, length, map, slice_get, refl, sym, ap, ◌∙◌, subst, arith, IsTrue, inl, inr, ◌≢◌}
 use Rattle.std.specs.List.{range_with_len}
 use Rattle.std.proofs.lemmas.List.FromFn.{length-map-range_with_len, get_or-map-range_with_len, map-range_with_len_more}
 use Rattle.std.proofs.lemmas.Simd.{map-map}
 use Rattle.std.proofs.lemmas.Bool.{cases_lt, eqb-true}
 use Rattle.std.proofs.lemmas.Bool.Decides.{nat_tests}
 use Rattle.std.proofs.lemmas.Option.{slice_get_within, get_or_from_slice_get}
-use Rattle.bb_base.specs.Form.{Form}
 use Rattle.std.proofs.Math.Nat.{add-mul}
 use Rattle.bb_flash.specs.Geometry.{IsGeometry}
 use Rattle.bb_flash.proofs.Geometries.{whole_times}
@@ -29,46 +28,48 @@ use Rattle.bb_layout.specs.declared.format_kind.FormatKind.TheVariants.{Dtb, Raw
 use Rattle.bb_layout.specs.declared.storage.Storage.{Storage}
 use Rattle.bb_layout.specs.declared.storage.Storage.TheVariants.{Stride, OneBlock, Circular}
 use Rattle.bb_state.specs.Keyed.{FitsKey, Keyed}
-use Rattle.bb_state.specs.Kinds.{any_form, any_holding, block_at, bucket_at, format_for, format_of, key_of_format, laid_buckets, laid_form, laid_kinds, raw_under}
+use Rattle.bb_state.specs.Kinds.{any_form, any_holding, block_at, bucket_at, buckets_for, format_for, format_of, key_of_format, laid_buckets, laid_form, laid_kinds, longest, raw_under}
 use Rattle.bb_state.specs.declared.any_bucket.AnyBucket.{AnyBucket}
+use Rattle.bb_state.specs.declared.any_format.AnyFormat.{AnyFormat}
 
 -- one bucket more
-pub buckets_more : (geometry : Geometry) (storage : Storage) (partition : Region) (copy : ℕ) →
-    map (bucket_at geometry storage partition) (range_with_len 0 copy) ++ bucket_at geometry storage partition copy ∷ []
-    ≡ map (bucket_at geometry storage partition) (range_with_len 0 (copy + 1))
-buckets_more geometry storage partition copy = sym (map-range_with_len_more (bucket_at geometry storage partition) 0 copy copy (omega arith))
+pub buckets_more : (geometry : Geometry) (storage : Storage) (partition : Region) (len copy : ℕ) →
+    map (bucket_at geometry storage partition len) (range_with_len 0 copy) ++ bucket_at geometry storage partition len copy ∷ []
+    ≡ map (bucket_at geometry storage partition len) (range_with_len 0 (copy + 1))
+buckets_more geometry storage partition len copy = sym (map-range_with_len_more (bucket_at geometry storage partition len) 0 copy copy (omega arith))
 
-kind_at : Geometry → Storage → Region → ℕ → BucketKind
-kind_at geometry storage partition copy = (any_holding (bucket_at geometry storage partition copy)).kind
+kind_at : Geometry → Storage → Region → ℕ → ℕ → BucketKind
+kind_at geometry storage partition len copy = (any_holding (bucket_at geometry storage partition len copy)).kind
 
-kinds_are : (layout : Laid) → laid_kinds layout ≡ map (kind_at layout.geometry layout.storage layout.region) (range_with_len 0 layout.copies)
+kinds_are : (layout : Laid) → laid_kinds layout ≡ map (kind_at layout.geometry layout.storage layout.region (laid_len layout)) (range_with_len 0 layout.copies)
 unfolding kind_at
-kinds_are layout = map-map (λ (b : AnyBucket). (any_holding b).kind) (bucket_at layout.geometry layout.storage layout.region) (range_with_len 0 layout.copies)
+kinds_are layout = map-map (λ (b : AnyBucket). (any_holding b).kind) (bucket_at layout.geometry layout.storage layout.region (laid_len layout)) (range_with_len 0 layout.copies)
 
 pub buckets_len : (layout : Laid) → length (laid_buckets layout) ≡ layout.copies
-buckets_len layout = length-map-range_with_len (bucket_at layout.geometry layout.storage layout.region) 0 layout.copies
+buckets_len layout = length-map-range_with_len (bucket_at layout.geometry layout.storage layout.region (laid_len layout)) 0 layout.copies
 
 -- the copy of a number stands among the copies, and has the kind of its number
 record IsAt (layout : Laid) (copy : ℕ) (kind : BucketKind) : Type 0 where
   inside : copy < layout.copies
-  kind_is : kind_at layout.geometry layout.storage layout.region copy ≡ kind
+  kind_is : kind_at layout.geometry layout.storage layout.region (laid_len layout) copy ≡ kind
 
 kind_there : (layout : Laid) (copy : ℕ) (kind : BucketKind) → slice_get (laid_kinds layout) copy ≡ Some kind → IsAt layout copy kind
 kind_there layout copy kind h =
     let there = subst (λ kinds. slice_get kinds copy ≡ Some kind) (kinds_are layout) h in
-    let numbers = map (kind_at layout.geometry layout.storage layout.region) (range_with_len 0 layout.copies) in
+    let make = kind_at layout.geometry layout.storage layout.region (laid_len layout) in
+    let numbers = map make (range_with_len 0 layout.copies) in
     let within = slice_get_within numbers copy kind there in
-    let len = length-map-range_with_len (kind_at layout.geometry layout.storage layout.region) 0 layout.copies in
+    let len = length-map-range_with_len make 0 layout.copies in
     let inside : copy < layout.copies = omega (arith, within, len) in
     record {
       inside = inside;
-      kind_is = sym (get_or-map-range_with_len (kind_at layout.geometry layout.storage layout.region) 0 layout.copies copy copy kind inside (omega arith)) ∙ get_or_from_slice_get numbers copy kind kind there;
+      kind_is = sym (get_or-map-range_with_len make 0 layout.copies copy copy kind inside (omega arith)) ∙ get_or_from_slice_get numbers copy kind kind there;
     }
 
--- a bucket stands in its region, with room for a record, on the device
-record IsFit (form : Form) (geometry : Geometry) (region : Region) (kind : BucketKind) : Type 0 where
+-- a bucket stands in its region on the device, and records of so many bytes may be written to it
+record IsFit (need : ℕ) (geometry : Geometry) (region : Region) (kind : BucketKind) : Type 0 where
   region_is : kind.region ≡ region
-  room : form.length ≤ kind.room
+  room : need ≤ kind.most
   serves : IsTrue (kind.serves geometry)
 
 -- the region of a copy on a device that is erased in blocks
@@ -129,7 +130,7 @@ code_short (Some _) = omega arith
 
 -- a record has no more bytes than its layout counts
 record_short : (format : FormatKind) (keyed : Keyed) → keyed.layout.format ≡ format → IsLaid keyed.layout →
-    (any_form (format_for format keyed)).length ≤ record_len format (recorded_of keyed.layout) keyed.layout.area_len
+    longest (any_form (format_for format keyed)) ≤ record_len format (recorded_of keyed.layout) keyed.layout.area_len
 record_short Raw keyed is facts = omega arith
 record_short RawHmac keyed is facts = let code = code_short keyed.key in omega arith
 record_short Dtb keyed is facts =
@@ -145,15 +146,41 @@ record_some Dtb layout is facts =
     let counted = ap (λ format. record_len format (recorded_of layout) layout.area_len) is in
     omega (arith, layout_length layout is facts.vars_are, counted)
 
+-- under a key that fits, the longest record has as many bytes as the layout counts
+code_whole : (key : Option (List ℕ)) → is_some key ≡ true → code_len key ≡ 32
+code_whole None h = absurd cc
+code_whole (Some _) h = refl
+
+longest_at : (format : FormatKind) (keyed : Keyed) → keyed.layout.format ≡ format → FitsKey format keyed.key → IsLaid keyed.layout →
+    longest (any_form (format_for format keyed)) ≡ record_len format (recorded_of keyed.layout) keyed.layout.area_len
+longest_at Raw keyed is fits facts = omega arith
+longest_at RawHmac keyed is fits facts = let code = code_whole keyed.key fits in omega arith
+longest_at Dtb keyed is fits facts =
+    let layout = keyed.layout in
+    let counted = ap (λ format. record_len format (recorded_of layout) layout.area_len) is in
+    omega (arith, layout_length layout is facts.vars_are, counted)
+
+longest_is : (keyed : Keyed) → FitsKey keyed.layout.format keyed.key → IsLaid keyed.layout → longest (laid_form keyed) ≡ laid_len keyed.layout
+longest_is keyed fits facts = longest_at keyed.layout.format keyed refl fits facts
+
+-- so buckets for the longest record of the layout's format are those of the layout
+pub laid_are : (keyed : Keyed) (format : AnyFormat) (len : ℕ) (buckets : List AnyBucket) →
+    FitsKey keyed.layout.format keyed.key → IsLaid keyed.layout → format ≡ format_of keyed → len ≡ longest (any_form format) →
+    buckets ≡ buckets_for len keyed.layout → buckets ≡ laid_buckets keyed.layout
+laid_are keyed format len buckets fits facts is long made =
+    made
+    ∙ ap (λ n. buckets_for n keyed.layout)
+    (long ∙ ap (λ (f : AnyFormat). longest (any_form f)) is ∙ longest_is keyed fits facts)
+
 -- a record has bytes
 pub laid_some : (layout : Laid) → IsLaid layout → 1 ≤ laid_len layout
 laid_some layout facts = record_some layout.format layout refl facts
 
-fit_of : (storage : Storage) (form : Form) (geometry : Geometry) (partition : Region) (copies len copy : ℕ) → form.length ≤ len → IsGeometry geometry →
+fit_of : (storage : Storage) (need : ℕ) (geometry : Geometry) (partition : Region) (copies len copy : ℕ) → need ≤ len → IsGeometry geometry →
     HasCopies geometry partition storage copies len → copy < copies →
-    IsFit form geometry (region_of geometry storage partition copy) (kind_at geometry storage partition copy)
+    IsFit need geometry (region_of geometry storage partition copy) (kind_at geometry storage partition len copy)
 unfolding kind_at any_holding
-fit_of (Stride stride) form geometry partition copies len copy short is has below =
+fit_of (Stride stride) need geometry partition copies len copy short is has below =
     let within = has.inside copy below in
     let room = has.room in
     let none : geometry.block ≡ 0 = eqb-true geometry.block 0 (sym has.strides) in
@@ -166,22 +193,22 @@ fit_of (Stride stride) form geometry partition copies len copy short is has belo
       room = omega arith;
       serves = grind (arith, nat_tests);
     }
-fit_of OneBlock form geometry partition copies len copy short is has below =
+fit_of OneBlock need geometry partition copies len copy short is has below =
     let room = has.room in
     record { region_is = refl; room = omega arith; serves = serves_block OneBlock geometry partition copies len copy is has below refl refl }
-fit_of Circular form geometry partition copies len copy short is has below =
+fit_of Circular need geometry partition copies len copy short is has below =
     let room = has.room in
     record { region_is = refl; room = omega arith; serves = serves_block Circular geometry partition copies len copy is has below refl refl }
 
 -- what the facts of a layout say of a copy
 kind_fit : (keyed : Keyed) (copy : ℕ) (kind : BucketKind) → IsLaid keyed.layout → slice_get (laid_kinds keyed.layout) copy ≡ Some kind →
-    (copy < keyed.layout.copies) × IsFit (laid_form keyed) keyed.layout.geometry (region_of keyed.layout.geometry keyed.layout.storage keyed.layout.region copy) kind
+    (copy < keyed.layout.copies) × IsFit (longest (laid_form keyed)) keyed.layout.geometry (region_of keyed.layout.geometry keyed.layout.storage keyed.layout.region copy) kind
 kind_fit keyed copy kind facts h =
     let layout = keyed.layout in
     let at = kind_there layout copy kind h in (
       at.inside,
-      subst (IsFit (laid_form keyed) layout.geometry (region_of layout.geometry layout.storage layout.region copy)) at.kind_is
-          (fit_of layout.storage (laid_form keyed) layout.geometry layout.region layout.copies (laid_len layout) copy (record_short layout.format keyed refl facts) facts.geometry_is facts.copied at.inside),
+      subst (IsFit (longest (laid_form keyed)) layout.geometry (region_of layout.geometry layout.storage layout.region copy)) at.kind_is
+          (fit_of layout.storage (longest (laid_form keyed)) layout.geometry layout.region layout.copies (laid_len layout) copy (record_short layout.format keyed refl facts) facts.geometry_is facts.copied at.inside),
     )
 
 apart_of : (layout : Laid) (one two : ℕ) → IsLaid layout → one ≢ two →
@@ -205,7 +232,7 @@ apart_of layout one two facts differ =
 regions_apart : (one two a b : Region) → one ≡ a → two ≡ b → IsApart a b → IsApart one two
 regions_apart one two a b ea eb h = subst (λ r. IsApart r two) (sym ea) (subst (IsApart a) (sym eb) h)
 
-pub have_room : (keyed : Keyed) → IsLaid keyed.layout → HaveRoom (laid_form keyed) (laid_kinds keyed.layout)
+pub have_room : (keyed : Keyed) → IsLaid keyed.layout → HaveRoom (longest (laid_form keyed)) (laid_kinds keyed.layout)
 have_room keyed facts = record {
   room = λ copy kind there. (kind_fit keyed copy kind facts there).1.room;
   apart = λ copy kind there other beside found differ.
@@ -220,21 +247,21 @@ all_serve keyed facts copy kind there = (kind_fit keyed copy kind facts there).1
 
 -- ---- what holds of a fresh state
 
-bucket_agrees : (geometry : Geometry) (storage : Storage) (partition : Region) (copy : ℕ) (device : Device) → Agrees (any_holding (bucket_at geometry storage partition copy)) device
+bucket_agrees : (geometry : Geometry) (storage : Storage) (partition : Region) (len copy : ℕ) (device : Device) → Agrees (any_holding (bucket_at geometry storage partition len copy)) device
 unfolding any_holding
-bucket_agrees geometry (Stride stride) partition copy device = record { here = λ image told. refl }
-bucket_agrees geometry OneBlock partition copy device = record { here = λ image told. refl }
-bucket_agrees geometry Circular partition copy device = record { here = λ image told. refl }
+bucket_agrees geometry (Stride stride) partition len copy device = record { here = λ image told. refl; found = λ image told. tt }
+bucket_agrees geometry OneBlock partition len copy device = record { here = λ image told. refl; found = λ image told. tt }
+bucket_agrees geometry Circular partition len copy device = record { here = λ image told. refl; found = λ image told. tt }
 
 -- the buckets of a layout keep nothing yet
 pub all_agree : (layout : Laid) (device : Device) → AllAgree any_holding device (laid_buckets layout)
 all_agree layout device copy bucket there =
-    let make = bucket_at layout.geometry layout.storage layout.region in
+    let make = bucket_at layout.geometry layout.storage layout.region (laid_len layout) in
     let within = slice_get_within (laid_buckets layout) copy bucket there in
     let len = length-map-range_with_len make 0 layout.copies in
     let inside : copy < layout.copies = omega (arith, within, len) in
     let is : make copy ≡ bucket = sym (get_or-map-range_with_len make 0 layout.copies copy copy bucket inside (omega arith)) ∙ get_or_from_slice_get (laid_buckets layout) copy bucket bucket there in
-    subst (λ (b : AnyBucket). Agrees (any_holding b) device) is (bucket_agrees layout.geometry layout.storage layout.region copy device)
+    subst (λ (b : AnyBucket). Agrees (any_holding b) device) is (bucket_agrees layout.geometry layout.storage layout.region (laid_len layout) copy device)
 
 -- ---- the key of a format
 

@@ -16,7 +16,7 @@ pub record Backed : Type 0 where
   pub used : Option ℕ
   -- whether the last load or save answered Ok, and no look failed since
   pub sure : Bool
-  -- the table that it loaded or saved
+  -- the table that it loaded or saved; after a load that was refused, what that found
   pub kept : List ℕ
 
 -- the format of its copies, and their kinds

@@ -1,5 +1,5 @@
 -- The kinds of buckets and of formats, and which of them the copies of a layout have under its key.
-use Rattle.std.specs.Prelude.{ℕ, List, Option, None, map}
+use Rattle.std.specs.Prelude.{ℕ, ◌-◌, min, List, Option, None, map}
 use Rattle.std.specs.List.{range_with_len}
 use Rattle.bb_base.specs.Form.{Form, IsForm}
 use Rattle.bb_flash.specs.Image.{Image}
@@ -7,19 +7,21 @@ use Rattle.bb_flash.specs.declared.geometry.Geometry.{Geometry}
 use Rattle.bb_flash.specs.declared.region.Region.{Region}
 use Rattle.bb_bucket.specs.Kind.{BucketKind, Holding, IsKind}
 use Rattle.bb_bucket.specs.declared.block.Block.{Block}
+use Rattle.bb_bucket.specs.Front.{stride_header_len}
 use Rattle.bb_bucket.specs.OneBlock.{one_block_holding}
 use Rattle.bb_bucket.specs.OneBlockLaws.{one_block_laws}
 use Rattle.bb_bucket.specs.Stride.{stride_holding}
 use Rattle.bb_bucket.specs.StrideLaws.{stride_laws}
 use Rattle.bb_circular.specs.Circular.{circular_holding}
 use Rattle.bb_circular.specs.CircularLaws.{circle_laws}
+use Rattle.bb_circular.specs.Entries.{closing_len}
 use Rattle.bb_dtbrec.specs.Dtb.{dtb_form}
 use Rattle.bb_dtbrec.specs.Laws.{dtb_laws}
 use Rattle.bb_dtbrec.specs.Layouts.{layout_pattern}
 use Rattle.bb_raw.specs.Laws.{raw_laws}
 use Rattle.bb_raw.specs.Raw.{raw_form}
 use Rattle.bb_layout.specs.Copies.{region_of}
-use Rattle.bb_layout.specs.Layout.{Laid}
+use Rattle.bb_layout.specs.Layout.{Laid, laid_len}
 use Rattle.bb_layout.specs.declared.format_kind.FormatKind.{FormatKind}
 use Rattle.bb_layout.specs.declared.format_kind.FormatKind.TheVariants as formats
 use Rattle.bb_layout.specs.declared.storage.Storage.{Storage}
@@ -35,14 +37,14 @@ use Rattle.bb_state.specs.declared.any_format.AnyFormat.TheVariants.{Dtb, Raw}
 -- ---- each is what the kind inside is
 
 unfoldable pub any_holding : AnyBucket → Holding
-any_holding (Stride region) = stride_holding region
-any_holding (OneBlock block) = one_block_holding block
+any_holding (Stride it) = stride_holding it
+any_holding (OneBlock it) = one_block_holding it
 any_holding (Circular circle) = circular_holding circle
 
 pub any_bucket_laws : (bucket : AnyBucket) → IsKind (any_holding bucket).kind
 unfolding any_holding
-any_bucket_laws (Stride region) = stride_laws region
-any_bucket_laws (OneBlock block) = one_block_laws block
+any_bucket_laws (Stride it) = stride_laws it
+any_bucket_laws (OneBlock it) = one_block_laws it
 any_bucket_laws (Circular circle) = circle_laws circle
 
 abbrev pub any_form : AnyFormat → Form
@@ -53,6 +55,10 @@ pub any_format_laws : (format : AnyFormat) → IsForm (any_form format)
 any_format_laws (Raw kind) = raw_laws kind
 any_format_laws (Dtb pattern) = dtb_laws pattern
 
+-- how many bytes the longest record of a format has
+abbrev pub longest : Form → ℕ
+longest form = form.length_of form.area_len
+
 -- ---- of a layout
 
 -- the block of a copy, counted from 0
@@ -60,19 +66,42 @@ abbrev pub block_at : Geometry → Storage → Region → ℕ → Block
 block_at geometry storage partition copy =
     record { region = region_of geometry storage partition copy; page = geometry.page }
 
--- its bucket, which keeps nothing yet
-abbrev pub bucket_at : Geometry → Storage → Region → ℕ → AnyBucket
-bucket_at geometry (storages.Stride stride) partition copy =
-    Stride (region_of geometry (storages.Stride stride) partition copy)
-bucket_at geometry storages.OneBlock partition copy =
-    OneBlock (block_at geometry storages.OneBlock partition copy)
-bucket_at geometry storages.Circular partition copy =
-    Circular (record { block = block_at geometry storages.Circular partition copy; kept = None })
+-- its bucket, which keeps nothing yet, for records of so many bytes, or of as many as it has room
+-- for
+abbrev pub bucket_at : Geometry → Storage → Region → ℕ → ℕ → AnyBucket
+bucket_at geometry (storages.Stride stride) partition len copy =
+    let region = region_of geometry (storages.Stride stride) partition copy in
+    Stride (record {
+      region = region;
+      most = min len (region.size - stride_header_len);
+      sight = None;
+    })
+bucket_at geometry storages.OneBlock partition len copy =
+    let block = block_at geometry storages.OneBlock partition copy in
+    OneBlock (record {
+      block = block;
+      most = min len (block.region.size - stride_header_len);
+      sight = None;
+    })
+bucket_at geometry storages.Circular partition len copy =
+    let block = block_at geometry storages.Circular partition copy in
+    Circular (record {
+      block = block;
+      most = min len (block.region.size - closing_len);
+      kept = None;
+      sight = None;
+    })
 
--- the buckets of all copies, in their order, and their kinds
+-- the buckets of all copies, in their order, for records of so many bytes
+abbrev pub buckets_for : ℕ → Laid → List AnyBucket
+buckets_for len layout =
+    map
+    (bucket_at layout.geometry layout.storage layout.region len)
+    (range_with_len 0 layout.copies)
+
+-- those for the records of the layout, and their kinds
 abbrev pub laid_buckets : Laid → List AnyBucket
-laid_buckets layout =
-    map (bucket_at layout.geometry layout.storage layout.region) (range_with_len 0 layout.copies)
+laid_buckets layout = buckets_for (laid_len layout) layout
 
 abbrev pub laid_kinds : Laid → List BucketKind
 laid_kinds layout = kinds_of any_holding (laid_buckets layout)

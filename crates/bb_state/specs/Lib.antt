@@ -11,6 +11,7 @@ pub use Rattle.bb_copies.specs.Saving
 pub use Rattle.bb_copies.specs.StandsFor
 pub mod Backed
 pub mod Blank
+pub mod Feeds
 pub mod Keyed
 pub mod Kinds
 pub mod Lines

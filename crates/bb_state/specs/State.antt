@@ -7,7 +7,7 @@ use Rattle.bb_bucket.specs.Kind.{BucketKind}
 use Rattle.bb_copies.specs.Buckets.{AllAgree}
 use Rattle.bb_copies.specs.Loading.{LoadFails}
 use Rattle.bb_copies.specs.Placing.{AllPlaced}
-use Rattle.bb_copies.specs.Saving.{IsSaved}
+use Rattle.bb_copies.specs.Saving as saving
 use Rattle.bb_copies.specs.declared.answers.CopyFault.{CopyFault}
 use Rattle.bb_copies.specs.declared.answers.Loaded.{Loaded}
 use Rattle.bb_copies.specs.declared.answers.Loaded.TheVariants.{Copy, NoCopy}
@@ -32,7 +32,8 @@ form_of state = form_in state.backing
 abbrev pub kinds_of : State → List BucketKind
 kinds_of state = kinds_in state.backing
 
--- the table that was last loaded or saved, and the copy that passed it first, if any did
+-- the table that was last loaded or saved, or what a load that was refused found; and the copy that
+-- passed it first, if any did
 abbrev pub last_table_of : State → List ℕ
 last_table_of state = state.backing.kept
 
@@ -77,8 +78,7 @@ pub record IsRefused (keyed : Keyed) (from to : Device) (fault : CopyFault) : Ty
   pub area : List ℕ
   pub fails : LoadFails (laid_form keyed) (laid_kinds keyed.layout) area from to fault
 
--- all copies pass the table or nothing, and the first that passes it is used
-pub record IsStored
-    (keyed : Keyed) (table : List ℕ) (used : Option ℕ) (from to : Device) : Type 0 where
-  pub live : ℕ
-  pub saved : IsSaved (laid_form keyed) (laid_kinds keyed.layout) table used live from to
+-- all copies pass the table or nothing, some pass it, and the first that does is used
+abbrev pub IsStored : Keyed → List ℕ → Option ℕ → Device → Device → Type 0
+IsStored keyed table used from to =
+    saving.IsSavedAs (laid_form keyed) (laid_kinds keyed.layout) table used from to

@@ -39,11 +39,27 @@ impl Bucket for AnyBucket {
         }
     }
 
-    fn read<F: Flash>(&mut self, flash: &mut F, out: &mut [u8]) -> Result<Found, Failed> {
+    fn most(&self) -> u32 {
         match self {
-            AnyBucket::Stride(stride) => stride.read(flash, out),
-            AnyBucket::OneBlock(block) => block.read(flash, out),
-            AnyBucket::Circular(log) => log.read(flash, out),
+            AnyBucket::Stride(stride) => stride.most(),
+            AnyBucket::OneBlock(block) => block.most(),
+            AnyBucket::Circular(log) => log.most(),
+        }
+    }
+
+    fn find<F: Flash>(&mut self, flash: &mut F) -> Result<Found, Failed> {
+        match self {
+            AnyBucket::Stride(stride) => stride.find(flash),
+            AnyBucket::OneBlock(block) => block.find(flash),
+            AnyBucket::Circular(log) => log.find(flash),
+        }
+    }
+
+    fn part<F: Flash>(&mut self, flash: &mut F, from: u32, out: &mut [u8]) -> Result<(), Failed> {
+        match self {
+            AnyBucket::Stride(stride) => stride.part(flash, from, out),
+            AnyBucket::OneBlock(block) => block.part(flash, from, out),
+            AnyBucket::Circular(log) => log.part(flash, from, out),
         }
     }
 

@@ -1,27 +1,21 @@
-ghost use Rattle.std.specs.Prelude.{◌≡◌, ◌<◌, ◌&&◌, ◌↔◌, IfErr, IfOk, IsErrOf, IsTrue, OnOk};
-ghost use Rattle.std.specs.Prelude.{false, is_err, is_ok, length};
+ghost use Rattle.std.specs.Prelude.{◌≡◌, ◌<◌, ◌&&◌, IfOk, IsTrue, OnOk, false, is_ok, length};
+ghost use Rattle.std.specs.Result.{result_err};
 ghost use Rattle.std.specs.Str.{bytes_eq};
-ghost use Rattle.bb_base.specs.Faults.{counted};
-ghost use Rattle.bb_flash.specs.Cuts.{IsLater};
-ghost use Rattle.bb_flash.specs.Device.{Device, IsDevice, LeavesStarts};
-ghost use Rattle.bb_bucket.specs.Calls.{IsQuiet};
+ghost use Rattle.bb_flash.specs.Device.{Device, IsDevice};
 ghost use Rattle.bb_copies.specs.Buckets.{AllAgree};
-ghost use Rattle.bb_copies.specs.Erasing.{ErasesBy};
-ghost use Rattle.bb_copies.specs.Loading.{KeepsOutside, LoadGives, LoadImages, LoadsErasing};
-ghost use Rattle.bb_copies.specs.Loading.{LoadsExactly, LookGives};
+ghost use Rattle.bb_copies.specs.Loading.{IsLoad, IsLook};
 ghost use Rattle.bb_copies.specs.Placing.{AllPlaced, ReadsNothing};
-ghost use Rattle.bb_copies.specs.Saving.{EachWritten, SaveFails, SaveRuns};
-ghost use Rattle.bb_copies.specs.Settling.{NothingFails};
+ghost use Rattle.bb_copies.specs.Saving.{IsSave};
 ghost use Rattle.bb_copies.specs.Store.{used_after};
-ghost use Rattle.bb_copies.specs.declared.answers.CopyFault.TheVariants.{ReadFault, Unsure};
 ghost use Rattle.bb_layout.specs.Layout.{fields_of};
 ghost use Rattle.bb_state.specs.Backed.{form_in, kinds_in};
 ghost use Rattle.bb_state.specs.Keyed.{FitsKey};
-ghost use Rattle.bb_state.specs.Kinds.{any_holding, bucket_at, format_of, laid_buckets};
-ghost use Rattle.bb_state.specs.State.{IsDefault, IsRefused, IsStored};
+ghost use Rattle.bb_state.specs.Kinds.{any_form, any_holding, bucket_at, buckets_for, format_of};
+ghost use Rattle.bb_state.specs.Kinds.{laid_buckets, longest};
+ghost use Rattle.bb_state.specs.State.{IsDefault};
 
 use crate::{AnyBucket, AnyFormat};
-use bb_base::NoMemory;
+use bb_base::{Format, NoMemory};
 use bb_bucket::{OneBlock, Stride};
 use bb_circular::Circular;
 use bb_copies::{BucketList, Copies, CopyFault, Loaded};
@@ -77,8 +71,9 @@ impl Backing {
         ensures sure { IfOk result (λ b. b.sure ≡ false) }
     {
         let kept = vec![in alloc; 0u8; layout.area_len as usize]?;
-        let buckets = buckets_of(alloc, &layout)?;
         let format = format_of(alloc, &layout, key)?;
+        let most = longest_of(&format);
+        let buckets = buckets_of(alloc, &layout, most)?;
         let copies = Copies::mount(alloc, buckets, format)?;
         Ok(Backing {
             layout,
@@ -103,28 +98,15 @@ impl Backing {
     }
 
     /// Loads the copies. The table that they have, or the defaults where no copy passes, is then at
-    /// hand.
+    /// hand; after a refusal the area that they had, if they had one.
     pub(crate) fn load<F: Flash>(&mut self, flash: &mut F) -> Result<Loaded, CopyFault>
         requires geometry { (F.device flash.old).geometry ≡ self.old.keyed.layout.geometry }
         requires agreed { AllAgree any_holding (F.device flash.old) self.old.buckets }
         requires whole { IsDevice (F.device flash.old) }
-        ensures images { LoadImages (form_in self.old) (kinds_in self.old)
-            (F.device flash.old) (F.device flash.new) }
-        ensures gives { IfOk result (LoadGives (form_in self.old) (kinds_in self.old) self.new.kept
-            (F.device flash.old) (F.device flash.new)) }
+        ensures load { IsLoad (form_in self.old) (kinds_in self.old) self.new.kept
+            (F.device flash.old) (F.device flash.new) result }
         ensures defaults { IfOk result (IsDefault self.old.keyed.layout self.new.kept) }
         ensures fits { OnOk result (IsTrue ((form_in self.old).fits self.new.kept)) }
-        ensures fails { IfErr result (IsRefused self.old.keyed
-            (F.device flash.old) (F.device flash.new)) }
-        ensures exact { IfOk result (LoadsExactly (form_in self.old) (kinds_in self.old)
-            self.new.kept (F.device flash.old) (F.device flash.new)) }
-        ensures erases { IfOk result (LoadsErasing (form_in self.old) (kinds_in self.old)
-            self.new.kept (F.device flash.old) (F.device flash.new)) }
-        ensures outside { KeepsOutside (kinds_in self.old) (F.device flash.old)
-            (F.device flash.new) }
-        ensures later { IsLater (F.device flash.old) (F.device flash.new) }
-        ensures starts { LeavesStarts (F.device flash.old) (F.device flash.new) }
-        ensures whole { IsDevice (F.device flash.new) }
         ensures keyed { self.new.keyed ≡ self.old.keyed }
         ensures agrees { AllAgree any_holding (F.device flash.new) self.new.buckets }
         ensures placed { OnOk result (AllPlaced any_holding self.new.buckets) }
@@ -145,21 +127,10 @@ impl Backing {
         requires whole { IsDevice (F.device flash.old) }
         requires sized { length table.now ≡ self.old.keyed.layout.area_len }
         requires fits { IsTrue ((form_in self.old).fits table.now) }
-        ensures unsure { IsErrOf result Unsure ↔ (self.old.sure ≡ false) }
+        ensures save { IsSave (form_in self.old) (kinds_in self.old) self.old.sure self.old.used
+            self.new.used table.now (F.device flash.old) (F.device flash.new) (result_err result) }
         ensures idle { self.old.sure ≡ false → F.device flash.new ≡ F.device flash.old }
         ensures unchanged { self.old.sure ≡ false → self.new ≡ self.old }
-        ensures runs { SaveRuns (form_in self.old) (kinds_in self.old) self.old.used table.now
-            (F.device flash.old) (F.device flash.new) }
-        ensures saved { OnOk result (IsStored self.old.keyed table.now self.new.used
-            (F.device flash.old) (F.device flash.new)) }
-        ensures fails { IfErr result (SaveFails (form_in self.old) (kinds_in self.old) self.old.used
-            table.now (F.device flash.old) (F.device flash.new)) }
-        ensures exact { NothingFails (F.device flash.old) (F.device flash.new)
-            → OnOk result (EachWritten (kinds_in self.old) ((form_in self.old).text table.now)
-            (F.device flash.old) (F.device flash.new)) }
-        ensures erases { NothingFails (F.device flash.old) (F.device flash.new)
-            → OnOk result (ErasesBy (kinds_in self.old) ((form_in self.old).text table.now)
-            (F.device flash.old) (F.device flash.new)) }
         ensures keyed { self.new.keyed ≡ self.old.keyed }
         ensures agrees { AllAgree any_holding (F.device flash.new) self.new.buckets }
         ensures placed { OnOk result (AllPlaced any_holding self.new.buckets) }
@@ -183,14 +154,8 @@ impl Backing {
         requires agreed { AllAgree any_holding (F.device flash.old) self.old.buckets }
         requires whole { IsDevice (F.device flash.old) }
         requires sized { length area.old ≡ self.old.keyed.layout.area_len }
-        ensures gives { IfOk result (LookGives (form_in self.old) (kinds_in self.old) area.new
-            (F.device flash.old)) }
-        ensures fails { IfErr result (λ fault. fault ≡ ReadFault) }
-        ensures quiet { IsQuiet (F.device flash.old) (F.device flash.new) }
-        ensures faults { (F.device flash.new).faults
-            ≡ counted (is_err result) (F.device flash.old).faults }
-        ensures read_faults { (F.device flash.new).read_faults
-            ≡ counted (is_err result) (F.device flash.old).read_faults }
+        ensures look { IsLook (form_in self.old) (kinds_in self.old) area.new
+            (F.device flash.old) (F.device flash.new) result }
         ensures keyed { self.new.keyed ≡ self.old.keyed }
         ensures agrees { AllAgree any_holding (F.device flash.new) self.new.buckets }
         ensures placed { OnOk result
@@ -210,28 +175,40 @@ impl Backing {
     }
 }
 
+// How many bytes the longest record of a format has.
+fn longest_of(format: &AnyFormat) -> usize
+    ensures { result ≡ longest (any_form format.now) }
+{
+    format.length(format.area_len())
+}
+
 #[tactic(auto, using(crate::proofs::Mounting::buckets_more))]
-fn buckets_of(alloc: Global, layout: &Layout) -> Result<BucketList<AnyBucket>, NoMemory>
-    ensures { IfOk result (λ buckets. buckets ≡ laid_buckets (fields_of layout.now)) }
+// Buckets for records of at most so many bytes.
+fn buckets_of(
+    alloc: Global,
+    layout: &Layout,
+    most: usize,
+) -> Result<BucketList<AnyBucket>, NoMemory>
+    ensures { IfOk result (λ buckets. buckets ≡ buckets_for most (fields_of layout.now)) }
 {
     let mut buckets = BucketList::none(alloc);
     for copy in 0..layout.copies {
-        buckets.push(bucket_at(alloc, layout, copy)?)?;
+        buckets.push(bucket_at(alloc, layout, most, copy)?)?;
     }
     Ok(buckets)
 }
 
-fn bucket_at(alloc: Global, layout: &Layout, copy: u32) -> Result<AnyBucket, NoMemory>
+fn bucket_at(alloc: Global, layout: &Layout, most: usize, copy: u32) -> Result<AnyBucket, NoMemory>
     requires { copy < layout.now.copies }
     ensures { IfOk result (λ bucket. bucket
-        ≡ bucket_at layout.now.geometry layout.now.storage layout.now.region copy) }
+        ≡ bucket_at layout.now.geometry layout.now.storage layout.now.region most copy) }
 {
     let region = layout.region(copy);
     let page = layout.geometry.page;
     match layout.storage {
-        Storage::Stride(_) => Ok(AnyBucket::Stride(Stride::of(alloc, region)?)),
-        Storage::OneBlock => Ok(AnyBucket::OneBlock(OneBlock::of(alloc, region, page)?)),
-        Storage::Circular => Ok(AnyBucket::Circular(Circular::of(alloc, region, page)?)),
+        Storage::Stride(_) => Ok(AnyBucket::Stride(Stride::of(alloc, region, most)?)),
+        Storage::OneBlock => Ok(AnyBucket::OneBlock(OneBlock::of(alloc, region, page, most)?)),
+        Storage::Circular => Ok(AnyBucket::Circular(Circular::of(alloc, region, page, most)?)),
     }
 }
 

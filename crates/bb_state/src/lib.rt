@@ -14,7 +14,7 @@ mod state;
 mod value;
 
 pub use any_bucket::AnyBucket;
-pub use any_format::AnyFormat;
+pub use any_format::{AnyFeed, AnyFormat};
 pub use bb_copies::{CopyFault, Loaded};
 pub use error::StateError;
 pub use lines::{add_dump, add_shell_dump, add_value_line};

@@ -28,27 +28,19 @@ pub struct State {
 
 impl State {
     ghost use Rattle.std.specs.Prelude.{◌≡◌, ◌&&◌, ◌↔◌, ◌++◌, IfErr, IfOk, IsErrOf, IsOk, None};
-    ghost use Rattle.std.specs.Prelude.{Ok, OnErr, OnOk, Some, false, is_err, is_ok, length, true};
-    ghost use Rattle.std.specs.Result.{result_map_both};
-    ghost use Rattle.bb_base.specs.Faults.{counted};
-    ghost use Rattle.bb_flash.specs.Cuts.{IsLater};
-    ghost use Rattle.bb_flash.specs.Device.{LeavesStarts};
-    ghost use Rattle.bb_bucket.specs.Calls.{IsQuiet};
-    ghost use Rattle.bb_copies.specs.Erasing.{ErasesBy};
-    ghost use Rattle.bb_copies.specs.Loading.{KeepsOutside, LoadGives, LoadImages, LoadsErasing};
-    ghost use Rattle.bb_copies.specs.Loading.{LoadsExactly, LookGives};
+    ghost use Rattle.std.specs.Prelude.{Ok, OnErr, OnOk, Some, false, is_ok, length, true};
+    ghost use Rattle.std.specs.Result.{result_err, result_map_both};
+    ghost use Rattle.bb_copies.specs.Loading.{IsLoad, IsLook};
     ghost use Rattle.bb_copies.specs.Placing.{ReadsNothing};
-    ghost use Rattle.bb_copies.specs.Saving.{EachWritten, SaveFails, SaveRuns};
-    ghost use Rattle.bb_copies.specs.Settling.{NothingFails};
+    ghost use Rattle.bb_copies.specs.Saving.{IsSave};
     ghost use Rattle.bb_copies.specs.Store.{used_after};
-    ghost use Rattle.bb_copies.specs.declared.answers.CopyFault.TheVariants.{ReadFault, Unsure};
+    ghost use Rattle.bb_copies.specs.declared.answers.CopyFault.TheVariants.{Unsure};
     ghost use Rattle.bb_layout.specs.Layout.{fields_of};
     ghost use Rattle.bb_layout.specs.Outside.{ChangesVarsAlone};
     ghost use Rattle.bb_state.specs.Keyed.{FitsKey};
     ghost use Rattle.bb_state.specs.Named.{Refuses, after_set, refusal_for, text_for};
     ghost use Rattle.bb_state.specs.State.{form_of, kinds_of, IsDefault, FitsEveryDevice, IsOn};
-    ghost use Rattle.bb_state.specs.State.{IsPlaced};
-    ghost use Rattle.bb_state.specs.State.{IsRefused, IsStored, has_changed, is_kept, is_sure};
+    ghost use Rattle.bb_state.specs.State.{IsPlaced, has_changed, is_kept, is_sure};
     ghost use Rattle.bb_state.specs.State.{last_table_of, keyed_of, laid_of, used_of};
 
     /// The state of a layout, of which no copy was looked at yet. The table has the defaults. A key
@@ -79,21 +71,9 @@ impl State {
     /// defaults. After a refusal it is as before.
     pub fn load<F: Flash>(&mut self, flash: &mut F) -> Result<Loaded, CopyFault>
         requires { IsOn self.old (F.device flash.old) }
-        ensures images { LoadImages (form_of self.old) (kinds_of self.old)
-            (F.device flash.old) (F.device flash.new) }
-        ensures gives { IfOk result (LoadGives (form_of self.old) (kinds_of self.old) self.new.table
-            (F.device flash.old) (F.device flash.new)) }
+        ensures load { IsLoad (form_of self.old) (kinds_of self.old) (last_table_of self.new)
+            (F.device flash.old) (F.device flash.new) result }
         ensures defaults { IfOk result (IsDefault (laid_of self.old) self.new.table) }
-        ensures fails { IfErr result (IsRefused (keyed_of self.old)
-            (F.device flash.old) (F.device flash.new)) }
-        ensures exact { IfOk result (LoadsExactly (form_of self.old) (kinds_of self.old)
-            self.new.table (F.device flash.old) (F.device flash.new)) }
-        ensures erases { IfOk result (LoadsErasing (form_of self.old) (kinds_of self.old)
-            self.new.table (F.device flash.old) (F.device flash.new)) }
-        ensures outside { KeepsOutside (kinds_of self.old)
-            (F.device flash.old) (F.device flash.new) }
-        ensures later { IsLater (F.device flash.old) (F.device flash.new) }
-        ensures starts { LeavesStarts (F.device flash.old) (F.device flash.new) }
         ensures unchanged { OnErr result (self.new.table ≡ self.old.table) }
         ensures keyed { keyed_of self.new ≡ keyed_of self.old }
         ensures kept { OnOk result (last_table_of self.new ≡ self.new.table) }
@@ -117,22 +97,10 @@ impl State {
         ensures same { is_kept self.old ≡ true → IsOk result }
         ensures idle { has_changed self.old ≡ false → F.device flash.new ≡ F.device flash.old }
         ensures unchanged { has_changed self.old ≡ false → self.new ≡ self.old }
-        ensures runs { has_changed self.old ≡ true
-            → SaveRuns (form_of self.old) (kinds_of self.old) (used_of self.old) self.old.table
-            (F.device flash.old) (F.device flash.new) }
-        ensures saved { OnOk result (has_changed self.old ≡ true
-            → IsStored (keyed_of self.old) self.old.table (used_of self.new)
-            (F.device flash.old) (F.device flash.new)) }
-        ensures fails { IfErr result (SaveFails (form_of self.old) (kinds_of self.old)
-            (used_of self.old) self.old.table (F.device flash.old) (F.device flash.new)) }
-        ensures exact { has_changed self.old ≡ true
-            → NothingFails (F.device flash.old) (F.device flash.new)
-            → OnOk result (EachWritten (kinds_of self.old) ((form_of self.old).text self.old.table)
-            (F.device flash.old) (F.device flash.new)) }
-        ensures erases { has_changed self.old ≡ true
-            → NothingFails (F.device flash.old) (F.device flash.new)
-            → OnOk result (ErasesBy (kinds_of self.old) ((form_of self.old).text self.old.table)
-            (F.device flash.old) (F.device flash.new)) }
+        ensures save { has_changed self.old ≡ true
+            → IsSave (form_of self.old) (kinds_of self.old) (is_sure self.old)
+            (used_of self.old) (used_of self.new) self.old.table
+            (F.device flash.old) (F.device flash.new) (result_err result) }
         ensures table { self.new.table ≡ self.old.table }
         ensures keyed { keyed_of self.new ≡ keyed_of self.old }
         ensures kept { OnOk result (last_table_of self.new ≡ self.new.table) }
@@ -151,22 +119,11 @@ impl State {
     /// Saves the table to all copies, whatever was last loaded or saved. Unsure as in `save`.
     pub fn save_always<F: Flash>(&mut self, flash: &mut F) -> Result<(), CopyFault>
         requires { IsOn self.old (F.device flash.old) }
-        ensures unsure { IsErrOf result Unsure ↔ (is_sure self.old ≡ false) }
+        ensures save { IsSave (form_of self.old) (kinds_of self.old) (is_sure self.old)
+            (used_of self.old) (used_of self.new) self.old.table
+            (F.device flash.old) (F.device flash.new) (result_err result) }
         ensures idle { is_sure self.old ≡ false → F.device flash.new ≡ F.device flash.old }
         ensures unchanged { is_sure self.old ≡ false → self.new ≡ self.old }
-        ensures runs { SaveRuns (form_of self.old) (kinds_of self.old) (used_of self.old)
-            self.old.table (F.device flash.old) (F.device flash.new) }
-        ensures saved { OnOk result
-            (IsStored (keyed_of self.old) self.old.table (used_of self.new)
-            (F.device flash.old) (F.device flash.new)) }
-        ensures fails { IfErr result (SaveFails (form_of self.old) (kinds_of self.old)
-            (used_of self.old) self.old.table (F.device flash.old) (F.device flash.new)) }
-        ensures exact { NothingFails (F.device flash.old) (F.device flash.new)
-            → OnOk result (EachWritten (kinds_of self.old) ((form_of self.old).text self.old.table)
-            (F.device flash.old) (F.device flash.new)) }
-        ensures erases { NothingFails (F.device flash.old) (F.device flash.new)
-            → OnOk result (ErasesBy (kinds_of self.old) ((form_of self.old).text self.old.table)
-            (F.device flash.old) (F.device flash.new)) }
         ensures table { self.new.table ≡ self.old.table }
         ensures keyed { keyed_of self.new ≡ keyed_of self.old }
         ensures kept { OnOk result (last_table_of self.new ≡ self.new.table) }
@@ -184,14 +141,8 @@ impl State {
     pub fn look<F: Flash>(&mut self, flash: &mut F, area: &mut [u8]) -> Result<bool, CopyFault>
         requires sized { length area.old ≡ (laid_of self.old).area_len }
         requires on { IsOn self.old (F.device flash.old) }
-        ensures gives { IfOk result (LookGives (form_of self.old) (kinds_of self.old) area.new
-            (F.device flash.old)) }
-        ensures fails { IfErr result (λ fault. fault ≡ ReadFault) }
-        ensures quiet { IsQuiet (F.device flash.old) (F.device flash.new) }
-        ensures faults { (F.device flash.new).faults
-            ≡ counted (is_err result) (F.device flash.old).faults }
-        ensures read_faults { (F.device flash.new).read_faults
-            ≡ counted (is_err result) (F.device flash.old).read_faults }
+        ensures look { IsLook (form_of self.old) (kinds_of self.old) area.new
+            (F.device flash.old) (F.device flash.new) result }
         ensures table { self.new.table ≡ self.old.table }
         ensures keyed { keyed_of self.new ≡ keyed_of self.old }
         ensures kept { last_table_of self.new ≡ last_table_of self.old }

@@ -6,7 +6,7 @@ use crate::disk::{blank_through, write_through};
 use crate::open_error::{Cause, OpenError};
 use crate::plan_file::PlanFile;
 use crate::read_ahead::ReadAhead;
-use bb_base::Failed;
+use bb_base::{Failed, FaultCount};
 use bb_flash::{Board, Flash, Geometry, Health, Plan};
 use std::fs::File;
 use std::io;
@@ -20,9 +20,9 @@ pub struct FileBoard<'r> {
     ahead: ReadAhead,
     plan_file: PlanFile,
     geometry: Geometry,
-    faults: u64,
-    read_faults: u64,
-    start_faults: u64,
+    faults: FaultCount,
+    read_faults: FaultCount,
+    start_faults: FaultCount,
     error: Option<io::Error>,
     start_error: Option<io::Error>,
     ghost bounds: { IsGeometry geometry },
@@ -48,9 +48,9 @@ impl<'r> FileBoard<'r> {
             ahead: ReadAhead::of(rt.alloc(), geometry).map_err(no_memory)?,
             plan_file: PlanFile::of(rt, path, plan).map_err(no_memory)?,
             geometry,
-            faults: 0,
-            read_faults: 0,
-            start_faults: 0,
+            faults: FaultCount::none(),
+            read_faults: FaultCount::none(),
+            start_faults: FaultCount::none(),
             error: None,
             start_error: None,
         })
@@ -76,9 +76,9 @@ impl<'r> Flash for FileBoard<'r> {
     ghost device = { λ b. record {
       geometry = b.geometry;
       told = None;
-      faults = b.faults;
-      read_faults = b.read_faults;
-      start_faults = b.start_faults;
+      faults = b.faults.count;
+      read_faults = b.read_faults.count;
+      start_faults = b.start_faults.count;
     } };
 
     fn geometry(&self) -> Geometry {
@@ -88,8 +88,8 @@ impl<'r> Flash for FileBoard<'r> {
     fn read(&mut self, at: u32, out: &mut [u8]) -> Result<Health, Failed> {
         if let Err(error) = self.ahead.read_exact_at(&self.file, out, u64::from(at)) {
             self.error = Some(error);
-            self.faults = self.faults.saturating_add(1);
-            self.read_faults = self.read_faults.saturating_add(1);
+            self.faults.raise();
+            self.read_faults.raise();
             return Err(Failed);
         }
         Ok(Health::Fine)
@@ -99,7 +99,7 @@ impl<'r> Flash for FileBoard<'r> {
         self.ahead.forget();
         if let Err(error) = write_through(&self.file, u64::from(at), bytes) {
             self.error = Some(error);
-            self.faults = self.faults.saturating_add(1);
+            self.faults.raise();
             return Err(Failed);
         }
         Ok(())
@@ -111,7 +111,7 @@ impl<'r> Flash for FileBoard<'r> {
         self.ahead.forget();
         if let Err(error) = blank_through(&self.file, start, start.saturating_add(len)) {
             self.error = Some(error);
-            self.faults = self.faults.saturating_add(1);
+            self.faults.raise();
             return Err(Failed);
         }
         Ok(())
@@ -122,7 +122,7 @@ impl<'r> Board for FileBoard<'r> {
     fn start(&mut self, plan: &Plan) -> Result<(), Failed> {
         if let Err(error) = self.plan_file.write(self.rt, plan) {
             self.start_error = Some(error);
-            self.start_faults = self.start_faults.saturating_add(1);
+            self.start_faults.raise();
             return Err(Failed);
         }
         Ok(())

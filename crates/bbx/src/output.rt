@@ -1,6 +1,6 @@
 ghost use Rattle.std.specs.Prelude.{◌≡◌, None};
 
-use bb_base::{Bytes, Failed, Sink};
+use bb_base::{Bytes, Failed, FaultCount, Sink};
 use std::alloc::Global;
 use std::io;
 use std::io::Write;
@@ -9,7 +9,7 @@ use std::io::Write;
 #[derive(Drop)]
 pub struct Out<W: Write> {
     writer: W,
-    faults: u64,
+    faults: FaultCount,
     error: Option<io::Error>,
     // Whether a fault line that is sent is kept.
     keeps_line: bool,
@@ -21,7 +21,7 @@ impl<W: Write> Out<W> {
     pub fn new(alloc: Global, writer: W) -> Out<W> {
         Out {
             writer,
-            faults: 0,
+            faults: FaultCount::none(),
             error: None,
             keeps_line: false,
             line: Bytes::none(alloc),
@@ -51,12 +51,12 @@ impl<W: Write> Out<W> {
 }
 
 impl<W: Write> Sink for Out<W> {
-    ghost sink = { λ o. record { sent = None; faults = o.faults } };
+    ghost sink = { λ o. record { sent = None; faults = o.faults.count } };
 
     fn write(&mut self, piece: &[u8]) -> Result<(), Failed> {
         if let Err(error) = self.writer.write_all(piece) {
             self.error = Some(error);
-            self.faults = self.faults.saturating_add(1);
+            self.faults.raise();
             return Err(Failed);
         }
         if self.keeps_line {

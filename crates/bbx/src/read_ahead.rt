@@ -10,11 +10,11 @@ use std::os::unix::fs::FileExt;
 // The most bytes that are read from the system at once.
 const PIECE_LEN: u32 = 65_536;
 
-/// A piece of a device's file, kept for a look that goes over it page by page, backwards too. Who
+/// A piece of a device's file, kept for a look that goes over it in small reads, backwards too. Who
 /// writes the file has to say `forget` first.
 #[derive(Drop)]
 pub struct ReadAhead {
-    // Room for a piece of whole pages, or for none where nothing is read ahead.
+    // Room for a piece of whole pages.
     piece: Vec<u8>,
     // Where the piece that was read last begins, if one is kept.
     start: Option<u64>,
@@ -23,15 +23,12 @@ pub struct ReadAhead {
 }
 
 impl ReadAhead {
-    /// Reads ahead on a device that is erased in blocks, where a look goes over blank pages, and on
-    /// no other.
+    /// Reads ahead on a device of this geometry. The room is no longer than the device.
     pub fn of(alloc: Global, geometry: Geometry) -> io::Result<ReadAhead>
         requires { IsGeometry geometry }
     {
-        let room = match geometry.block {
-            0 => 0,
-            _ => PIECE_LEN - PIECE_LEN % geometry.page,
-        };
+        let most = PIECE_LEN.min(geometry.size);
+        let room = most - most % geometry.page;
         Ok(ReadAhead {
             piece: vec![in alloc; 0; room as usize]?,
             start: None,

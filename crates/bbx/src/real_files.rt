@@ -4,7 +4,7 @@ ghost use Rattle.bb_base.specs.Faults.{counted};
 ghost use Rattle.bb_base.specs.Folder.{file_limit, is_fault};
 ghost use Rattle.bb_base.specs.declared.files.FileFail.TheVariants.{Fault, TooLong};
 
-use bb_base::{Bytes, FILE_LIMIT, FileFail, Files, NoMemory, Text, TextList};
+use bb_base::{Bytes, FILE_LIMIT, FaultCount, FileFail, Files, NoMemory, Text, TextList};
 use std::alloc::Global;
 use std::fs::{DirEntry, File};
 use std::io::{ErrorKind, Read};
@@ -16,7 +16,7 @@ use std::{fs, io};
 #[derive(Drop)]
 pub struct RealFiles<'r> {
     rt: &'r HostRuntime,
-    faults: u64,
+    faults: FaultCount,
     error: Option<io::Error>,
 }
 
@@ -24,7 +24,7 @@ impl<'r> RealFiles<'r> {
     pub fn new(rt: &'r HostRuntime) -> RealFiles<'r> {
         RealFiles {
             rt,
-            faults: 0,
+            faults: FaultCount::none(),
             error: None,
         }
     }
@@ -38,14 +38,14 @@ impl<'r> RealFiles<'r> {
     fn answer_to(&mut self, error: &io::Error) -> Result<bool, FileFail>
         ensures missing { IfOk result (λ there. there ≡ false) }
         ensures never_long { ¬ IsErrOf result TooLong }
-        ensures counts { self.new.faults ≡ counted (is_fault result) self.old.faults }
+        ensures counts { self.new.faults.count ≡ counted (is_fault result) self.old.faults.count }
     {
         self.error = Some(*error);
         match error.kind() {
             ErrorKind::NotFound => Ok(false),
             ErrorKind::OutOfMemory => Err(FileFail::NoMemory),
             _ => {
-                self.faults = self.faults.saturating_add(1);
+                self.faults.raise();
                 Err(FileFail::Fault)
             }
         }
@@ -53,7 +53,7 @@ impl<'r> RealFiles<'r> {
 }
 
 impl<'r> Files for RealFiles<'r> {
-    ghost folder = { λ f. record { told = None; faults = f.faults } };
+    ghost folder = { λ f. record { told = None; faults = f.faults.count } };
 
     fn read(&mut self, name: &str, out: &mut Bytes) -> Result<bool, FileFail> {
         let bytes = match read_front(self.rt, name) {

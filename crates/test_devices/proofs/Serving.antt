@@ -7,10 +7,11 @@ use Rattle.bb_bucket.specs.Blocks.{is_block_of}
 use Rattle.bb_bucket.specs.Calls.{ErasesWhere, Leaves}
 use Rattle.bb_bucket.specs.Kind.{BucketKind}
 use Rattle.bb_bucket.specs.OneBlock.{one_block_kind}
+use Rattle.bb_bucket.specs.Stride.{lies_on, stride_kind}
 use Rattle.bb_circular.specs.Circular.{circular_kind}
 use Rattle.bb_circular.specs.Wear.{IsWritten}
 use Rattle.bb_circular.proofs.Wearing.{was_written}
-use Rattle.test_devices.specs.Trials.{tried_block, tried_device}
+use Rattle.test_devices.specs.Trials.{tried_block, tried_device, tried_stride}
 
 tried_serves : (geometry : Geometry) → geometry ≡ tried_device → IsTrue (is_block_of tried_block geometry)
 tried_serves geometry is = subst (λ (g : Geometry). IsTrue (is_block_of tried_block g)) (sym is) refl
@@ -20,6 +21,9 @@ circular_serves kind geometry is on = subst (λ (k : BucketKind). IsTrue (k.serv
 
 pub one_block_serves : (kind : BucketKind) (geometry : Geometry) → kind ≡ one_block_kind tried_block → geometry ≡ tried_device → IsTrue (kind.serves geometry)
 one_block_serves kind geometry is on = subst (λ (k : BucketKind). IsTrue (k.serves geometry)) (sym is) (tried_serves geometry on)
+
+pub stride_serves : (kind : BucketKind) (geometry : Geometry) → kind ≡ stride_kind tried_stride → IsTrue (lies_on tried_stride geometry) → IsTrue (kind.serves geometry)
+stride_serves kind geometry is held = subst (λ (k : BucketKind). IsTrue (k.serves geometry)) (sym is) held
 
 pub ok_written :
     {T E : Type 0} (result : Result T E) (kind : BucketKind) (rec : List ℕ) (from to : Device) →

@@ -1,18 +1,26 @@
-use bb_base::Format;
+ghost use Rattle.std.specs.Prelude.{◌≡◌, ◌<◌, length};
+
+use bb_base::{Format, Passed};
 use bb_hmac::{Key, KeyError};
 use bb_raw::Raw;
+use std::process::Abort;
+use std::test::Fail;
 
 // The record of `123456789` under the magic 0x12345678.
 const RECORD: [u8; 25] =
     *b"\x78\x56\x34\x12\x00\x00\x09\x00\x26\x39\xf4\xcb\x03\x2e\x3c\xdf123456789";
+
+// What the record of nine bytes passes as.
+const PASSED: Option<Passed> = Some(Passed { len: 9, old: false });
 
 #[test]
 fn the_worked_record_passes(rt: HostRuntime) {
     let raw = Raw::of(0x1234_5678, 9, None);
     let mut area = [0u8; 9];
     assert_eq!(rt; raw.area_len(), 9);
-    assert_eq!(rt; raw.length(), 25);
-    assert!(rt; raw.check(&RECORD, &mut area));
+    assert_eq!(rt; raw.length(9), 25);
+    assert_eq!(rt; raw.reach(), 25);
+    assert_eq!(rt; raw.check(&RECORD, &mut area), PASSED);
     assert_eq!(rt; area, *b"123456789");
 }
 
@@ -32,10 +40,15 @@ fn damaged_records_pass_nothing(rt: HostRuntime) {
         if place < 25 {
             record[place] ^= 1;
         }
-        assert!(rt; !raw.check(&record, &mut area), "with byte {place} changed");
+        assert_eq!(rt;
+            raw.check(&record, &mut area),
+            None,
+            "with byte {place} changed"
+        );
     }
-    assert!(rt; !raw.check(&RECORD[..24], &mut area));
-    assert!(rt; !Raw::of(0x1234_5679, 9, None).check(&RECORD, &mut area));
+    assert_eq!(rt; raw.check(&RECORD[..24], &mut area), None);
+    let other = Raw::of(0x1234_5679, 9, None);
+    assert_eq!(rt; other.check(&RECORD, &mut area), None);
 }
 
 // The same record under the key `Jefe`; its code is what OpenSSL gives.
@@ -49,8 +62,8 @@ fn keyed_record() -> [u8; 57] {
 fn area_passed(key: &[u8], bytes: &[u8]) -> Result<Option<[u8; 9]>, KeyError> {
     let raw = Raw::of(0x1234_5678, 9, Some(Key::from_hex(key)?));
     let mut area = [0u8; 9];
-    let passes = raw.check(bytes, &mut area);
-    Ok(passes.then_some(area))
+    let passed = raw.check(bytes, &mut area);
+    Ok(passed.is_some().then_some(area))
 }
 
 #[test]
@@ -67,6 +80,42 @@ fn without_its_whole_code_a_record_passes_nothing(rt: HostRuntime) {
     let (cut, _) = record.split_at(56);
     assert_eq!(rt; area_passed(b"4a656665", cut), Ok(None));
     assert_eq!(rt; area_passed(b"4a656665", &RECORD), Ok(None));
+}
+
+// Checks bytes in pieces of so many bytes.
+fn check_by(raw: &Raw, bytes: &[u8], size: usize, area: &mut [u8]) -> Option<Passed>
+    requires some { 0 < size }
+    requires area { length area.old ≡ raw.now.area_len }
+{
+    let mut feed = raw.start();
+    for piece in bytes.chunks(size) {
+        raw.feed(&mut feed, piece, area);
+    }
+    raw.end(feed, area)
+}
+
+// The record passes whole, and with bytes after it, but not without its last byte.
+fn passes_by(rt: &impl Abort, raw: &Raw, size: usize)
+    requires some { 0 < size }
+    requires area { raw.now.area_len ≡ 9 }
+{
+    let mut longer = [9u8; 60];
+    longer[..57].copy_from_slice(&keyed_record());
+    let mut area = [0u8; 9];
+    assert_eq!(rt; check_by(raw, &longer, size, &mut area), PASSED);
+    assert_eq!(rt; area, *b"123456789", "in pieces of {size}");
+    assert_eq!(rt; check_by(raw, &longer[..57], size, &mut area), PASSED);
+    assert_eq!(rt; check_by(raw, &longer[..56], size, &mut area), None);
+}
+
+#[test]
+fn pieces_of_any_length_give_the_same(rt: HostRuntime) -> Result<(), Fail> {
+    let key = Key::from_hex(b"4a656665").ok().ok_or("a key")?;
+    let raw = Raw::of(0x1234_5678, 9, Some(key));
+    for size in 1..61usize {
+        passes_by(&rt, &raw, size);
+    }
+    Ok(())
 }
 
 #[test]
@@ -87,7 +136,7 @@ fn the_worked_area_is_packed_under_a_key(rt: HostRuntime) {
     let mut out = [0xFFu8; 57];
     if let Ok(key) = Key::from_hex(b"4a656665") {
         let raw = Raw::of(0x1234_5678, 9, Some(key));
-        assert_eq!(rt; raw.length(), 57);
+        assert_eq!(rt; raw.length(9), 57);
         raw.pack(b"123456789", &mut out);
     }
     assert_eq!(rt; out, keyed_record());

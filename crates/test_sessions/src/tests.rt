@@ -1,15 +1,17 @@
 ghost use Rattle.std.specs.Prelude.{◌≤◌};
 
 use bb_base::{MemFiles, MemSink, Text, TextList};
-use bb_flash::{MemBoard, geometry_of};
+use bb_flash::{Flash, Health, MemBoard, geometry_of};
 use bb_tool::{Status, run};
 use std::alloc::Global;
 use std::process::Abort;
 use std::test::Fail;
 
 mod bad_words;
+mod ends;
 mod faults;
 mod menus;
+mod pieces;
 mod raw;
 mod states;
 
@@ -73,7 +75,7 @@ fn board_of(alloc: Global, word: &str, bytes: &[u8]) -> Result<MemBoard, Fail> {
     if bytes.len() != geometry.size as usize {
         return Err(Fail::from("other bytes than the device has"));
     }
-    Ok(MemBoard::of(alloc, geometry, bytes, 100, 1000)?)
+    Ok(MemBoard::of(alloc, geometry, bytes, 200, 4000)?)
 }
 
 fn words(alloc: Global, all: &[&str]) -> Result<TextList, Fail> {
@@ -87,6 +89,14 @@ fn add_words(alloc: Global, list: &mut TextList, all: &[&str]) -> Result<(), Fai
         list.push(Text::of(alloc, word)?)?;
     }
     Ok(())
+}
+
+// A page of a device whose pages are bytes is lost.
+fn lose(rt: &impl Abort, device: &mut MemBoard, page: u32) {
+    let geometry = device.geometry();
+    assert_eq!(rt; geometry.page, 1);
+    assert!(rt; page < geometry.size);
+    device.set_health(page, Health::Lost);
 }
 
 // What a session of these words answers. It sends to `out`.

@@ -81,9 +81,9 @@ fn the_record_of_a_layout_is_the_blob_of_dtc(rt: HostRuntime) -> Result<(), Fail
         return Err(Fail::from("another area"));
     }
     let dtb = Dtb::of(rt.alloc(), &layout)?;
-    assert_eq!(rt; dtb.length(), 208);
+    assert_eq!(rt; dtb.reach(), 208);
     let mut area = [0xFFu8; 1];
-    assert!(rt; dtb.check(&record(), &mut area));
+    assert!(rt; dtb.check(&record(), &mut area).is_some());
     assert_eq!(rt; area, [5]);
     Ok(())
 }

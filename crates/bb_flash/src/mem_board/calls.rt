@@ -33,14 +33,14 @@ impl MemBoard {
     fn fail(&mut self) -> Failed
         ensures { self.new ≡ memory.with_fault self.old }
     {
-        self.faults = self.faults.saturating_add(1);
+        self.faults.raise();
         Failed
     }
 
     fn fail_read(&mut self) -> Failed
         ensures { self.new ≡ memory.with_read_fault self.old }
     {
-        self.read_faults = self.read_faults.saturating_add(1);
+        self.read_faults.raise();
         self.fail()
     }
 
@@ -49,7 +49,7 @@ impl MemBoard {
         requires { at + length out.old ≤ self.old.geometry.size }
         ensures answer { is_err result ≡ memory.fails_to_read self.old }
         ensures whole { IsDevice (device_of self.old) }
-        ensures after { self.new ≡ memory.after_read self.old }
+        ensures after { self.new ≡ memory.after_read (length out.old) self.old }
         ensures done { IfOk result
             (IsReading self.old.geometry.page self.old.told.image at out.new) }
     {
@@ -63,6 +63,7 @@ impl MemBoard {
             return Err(self.fail_read());
         }
         self.reads += 1;
+        self.largest_read = self.largest_read.max(out.len() as u32);
         Ok(copy_out(
             &self.cells.bytes,
             &self.cells.health,

@@ -24,6 +24,14 @@ impl MemBoard {
         self.reads
     }
 
+    /// How many bytes the longest read had that answered Ok, or 0 where none did. A restart keeps
+    /// it.
+    pub fn largest_read(&self) -> u32
+        ensures { result ≡ self.now.largest_read }
+    {
+        self.largest_read
+    }
+
     /// How many programs answered Ok.
     pub fn programs(&self) -> u64
         ensures { result ≡ self.now.programs }
@@ -49,14 +57,14 @@ impl MemBoard {
     pub fn faults(&self) -> u64
         ensures { result ≡ self.now.faults }
     {
-        self.faults
+        self.faults.count
     }
 
     /// How many starts failed, but at most 2^64 - 1. A restart keeps it.
     pub fn start_faults(&self) -> u64
         ensures { result ≡ self.now.start_faults }
     {
-        self.start_faults
+        self.start_faults.count
     }
 
     /// A planned cut was met since the last restart.

@@ -95,7 +95,7 @@ impl MemBoard {
         ensures { self.new
             ≡ record self.old { start_faults = one_more self.old.start_faults } }
     {
-        self.start_faults = self.start_faults.saturating_add(1);
+        self.start_faults.raise();
         Failed
     }
 }

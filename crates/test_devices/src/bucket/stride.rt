@@ -1,5 +1,7 @@
-ghost use Rattle.std.specs.Prelude.{◌≡◌, ◌<◌, IfOk, IsTrue};
-ghost use Rattle.bb_bucket.specs.Stride.{lies_on};
+ghost use Rattle.std.specs.Prelude.{◌≡◌, ◌<◌, None, IfOk, IsTrue};
+ghost use Rattle.bb_bucket.specs.Calls.{Agrees};
+ghost use Rattle.bb_bucket.specs.Stride.{lies_on, stride_holding, stride_kind};
+ghost use Rattle.bb_flash.specs.Memory.{device_of};
 ghost use Rattle.test_devices.specs.Trials.{tried_stride};
 
 use bb_base::{Failed, NoMemory};
@@ -19,9 +21,10 @@ fn worked() -> [u8; 25] {
 
 // The second of three strides of 64 bytes.
 fn stride(alloc: Global) -> Result<Stride, NoMemory>
-    ensures { IfOk result (λ stride. stride ≡ tried_stride) }
+    ensures { IfOk result (λ stride.
+        stride ≡ record { region = tried_stride; most = 56; sight = None }) }
 {
-    Stride::of(alloc, Region { at: 64, size: 64 })
+    Stride::of(alloc, Region { at: 64, size: 64 }, 56)
 }
 
 fn board(alloc: Global) -> Result<MemBoard, NoMemory>
@@ -37,28 +40,34 @@ fn board(alloc: Global) -> Result<MemBoard, NoMemory>
 
 // Writes the record.
 fn write(stride: &mut Stride, board: &mut MemBoard) -> Result<(), Failed>
-    requires here { stride.old ≡ tried_stride }
+    requires here { (stride_holding stride.old).kind ≡ stride_kind tried_stride }
     requires held { IsTrue (lies_on tried_stride board.old.geometry) }
-    ensures here { stride.new ≡ tried_stride }
+    requires agreed { Agrees (stride_holding stride.old) (device_of board.old) }
+    ensures here { (stride_holding stride.new).kind ≡ stride_kind tried_stride }
     ensures held { IsTrue (lies_on tried_stride board.new.geometry) }
+    ensures agreed { Agrees (stride_holding stride.new) (device_of board.new) }
 {
     stride.write(board, &worked())
 }
 
 fn void(stride: &mut Stride, board: &mut MemBoard) -> Result<(), Failed>
-    requires here { stride.old ≡ tried_stride }
+    requires here { (stride_holding stride.old).kind ≡ stride_kind tried_stride }
     requires held { IsTrue (lies_on tried_stride board.old.geometry) }
-    ensures here { stride.new ≡ tried_stride }
+    requires agreed { Agrees (stride_holding stride.old) (device_of board.old) }
+    ensures here { (stride_holding stride.new).kind ≡ stride_kind tried_stride }
     ensures held { IsTrue (lies_on tried_stride board.new.geometry) }
+    ensures agreed { Agrees (stride_holding stride.new) (device_of board.new) }
 {
     stride.void(board)
 }
 
 fn read(stride: &mut Stride, board: &mut MemBoard, out: &mut [u8; 56]) -> Result<Found, Failed>
-    requires here { stride.old ≡ tried_stride }
+    requires here { (stride_holding stride.old).kind ≡ stride_kind tried_stride }
     requires held { IsTrue (lies_on tried_stride board.old.geometry) }
-    ensures here { stride.new ≡ tried_stride }
+    requires agreed { Agrees (stride_holding stride.old) (device_of board.old) }
+    ensures here { (stride_holding stride.new).kind ≡ stride_kind tried_stride }
     ensures held { IsTrue (lies_on tried_stride board.new.geometry) }
+    ensures agreed { Agrees (stride_holding stride.new) (device_of board.new) }
 {
     stride.read(board, out)
 }
@@ -79,10 +88,12 @@ fn finds(
     len: Option<u32>,
     worn: bool,
 ) -> bool
-    requires here { stride.old ≡ tried_stride }
+    requires here { (stride_holding stride.old).kind ≡ stride_kind tried_stride }
     requires held { IsTrue (lies_on tried_stride board.old.geometry) }
-    ensures here { stride.new ≡ tried_stride }
+    requires agreed { Agrees (stride_holding stride.old) (device_of board.old) }
+    ensures here { (stride_holding stride.new).kind ≡ stride_kind tried_stride }
     ensures held { IsTrue (lies_on tried_stride board.new.geometry) }
+    ensures agreed { Agrees (stride_holding stride.new) (device_of board.new) }
 {
     read(stride, board, out) == Ok(Found { len, worn })
 }
@@ -126,7 +137,7 @@ fn a_voided_stride_holds_no_record(rt: HostRuntime) -> Result<(), Fail> {
     Ok(())
 }
 
-// A record was written, and a page then gets another health.
+// A record was written, and a page then gets another health, which a new bucket meets.
 fn tells(
     rt: &impl Abort,
     alloc: Global,
@@ -137,13 +148,14 @@ fn tells(
 ) -> Result<(), NoMemory>
     requires inside { page < 128 }
 {
-    let mut stride = stride(alloc)?;
+    let mut written = stride(alloc)?;
     let mut board = board(alloc)?;
-    assert!(rt; write(&mut stride, &mut board).is_ok(), "page {page}");
+    assert!(rt; write(&mut written, &mut board).is_ok(), "page {page}");
     set_health(&mut board, page, health);
+    let mut fresh = stride(alloc)?;
     let mut out = [0; 56];
     assert!(rt;
-        finds(&mut stride, &mut board, &mut out, len, worn),
+        finds(&mut fresh, &mut board, &mut out, len, worn),
         "page {page}"
     );
     Ok(())

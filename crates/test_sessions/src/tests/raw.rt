@@ -1,9 +1,10 @@
 // Raw areas that are printed and saved, and what the device's copies say of them.
 use super::{
-    ENTRY_LEN, FOUND, NONE, board, board_of, entry, fresh, holds, look, save, says, shows, strides,
-    written,
+    ENTRY_LEN, FOUND, NONE, answers, board, board_of, entry, fresh, holds, look, lose, save, says,
+    session, shows, strides, written,
 };
-use bb_flash::{Fault, Fill, Flash, Health, MemBoard};
+use bb_base::MemSink;
+use bb_flash::{Fault, Fill, MemBoard};
 use bb_tool::Status;
 use std::alloc::Global;
 use std::process::Abort;
@@ -59,13 +60,6 @@ fn lose_three(rt: &impl Abort, device: &mut MemBoard) {
     lose(rt, device, 128 + 32);
 }
 
-fn lose(rt: &impl Abort, device: &mut MemBoard, page: u32) {
-    let geometry = device.geometry();
-    assert_eq!(rt; geometry.page, 1);
-    assert!(rt; page < geometry.size);
-    device.set_health(page, Health::Lost);
-}
-
 #[test]
 fn bytes_in_lost_pages_dont_count(rt: HostRuntime) -> Result<(), Fail> {
     let alloc = rt.alloc();
@@ -107,6 +101,61 @@ fn an_area_of_no_byte_is_saved(rt: HostRuntime) -> Result<(), Fail> {
     let alloc = rt.alloc();
     let mut device = board_of(alloc, "ov:72", &[0xff; 72])?;
     no_byte_is_saved(&rt, alloc, &mut device)
+}
+
+// An area of 300 bytes, whose record has 316.
+const LONG: &str = "\
+    00070e151c232a31383f464d545b626970777e858c939aa1a8afb6bdc4cb\
+    d2d9e0e7eef5fc030a11181f262d343b424950575e656c737a81888f969d\
+    a4abb2b9c0c7ced5dce3eaf1f8ff060d141b222930373e454c535a61686f\
+    767d848b9299a0a7aeb5bcc3cad1d8dfe6edf4fb020910171e252c333a41\
+    484f565d646b727980878e959ca3aab1b8bfc6cdd4dbe2e9f0f7fe050c13\
+    1a21282f363d444b525960676e757c838a91989fa6adb4bbc2c9d0d7dee5\
+    ecf3fa01080f161d242b323940474e555c636a71787f868d949ba2a9b0b7\
+    bec5ccd3dae1e8eff6fd040b121920272e353c434a51585f666d747b8289\
+    90979ea5acb3bac1c8cfd6dde4ebf2f900070e151c232a31383f464d545b\
+    626970777e858c939aa1a8afb6bdc4cbd2d9e0e7eef5fc030a11181f262d";
+
+fn long_is_saved(rt: &impl Abort, alloc: Global, device: &mut MemBoard) -> Result<(), Fail> {
+    let save = ["raw", "0x12345678", "300", "-s", LONG];
+    says(rt, alloc, &save, device, Status::Done, "")
+}
+
+fn long_is_shown(rt: &impl Abort, alloc: Global, device: &mut MemBoard) -> Result<(), Fail> {
+    let mut out = MemSink::with_room(alloc, 700)?;
+    let look = ["raw", "0x12345678", "300", "-g"];
+    let answer = session(alloc, &look, device, &mut out)?;
+    answers(rt, answer, Status::Done, LONG);
+    is_long(rt, out.sent_bytes());
+    Ok(())
+}
+
+fn is_long(rt: &impl Abort, sent: &[u8]) {
+    assert_eq!(rt; sent.len(), 601);
+    assert!(rt; sent.starts_with(LONG.as_bytes()));
+}
+
+// No read is longer than a piece.
+fn long_is_read_in_pieces(
+    rt: &impl Abort,
+    alloc: Global,
+    device: &mut MemBoard,
+) -> Result<(), Fail> {
+    long_is_saved(rt, alloc, device)?;
+    long_is_saved(rt, alloc, device)?;
+    long_is_shown(rt, alloc, device)?;
+    // The record of another length passes nothing.
+    shows(rt, alloc, device, NONE)?;
+    assert_eq!(rt; device.programs(), 6);
+    assert_eq!(rt; device.largest_read(), 256);
+    Ok(())
+}
+
+#[test]
+fn a_long_record_is_read_in_pieces(rt: HostRuntime) -> Result<(), Fail> {
+    let alloc = rt.alloc();
+    let mut device = board_of(alloc, "ov:1200", &[0xff; 1200])?;
+    long_is_read_in_pieces(&rt, alloc, &mut device)
 }
 
 // A read of each copy's front, and then the write of copy 0, which fails.

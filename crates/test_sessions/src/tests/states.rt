@@ -50,7 +50,7 @@ fn session(
 }
 
 // A session of these words answers and sends this.
-fn says(
+pub(super) fn says(
     rt: &impl Abort,
     alloc: Global,
     all: &[&str],
@@ -67,7 +67,7 @@ fn says(
 }
 
 // The same over a file with this text.
-fn says_of(
+pub(super) fn says_of(
     rt: &impl Abort,
     alloc: Global,
     all: &[&str],

@@ -2,7 +2,7 @@ use Rattle.std.proofs.Common.{◌≡◌, ℕ, ◌+◌, ◌≤◌, length, take, 
 use Rattle.std.proofs.lemmas.List.{length-take, length-take-le}
 use Rattle.bb_flash.specs.declared.geometry.Geometry.{Geometry}
 use Rattle.bb_flash.specs.Image.{Image, IsBlank}
-use Rattle.bb_bucket.specs.Blocks.{erased_block, filled_len, filled_to}
+use Rattle.bb_bucket.specs.Blocks.{erased_block, filled_to}
 use Rattle.bb_bucket.specs.BlockLaws.{block_lies_on, block_of}
 use Rattle.bb_bucket.specs.Front.{with_header}
 use Rattle.bb_bucket.specs.Kind.{LiesOn, part_of}
@@ -21,18 +21,23 @@ returns-in_err-erase_block-clause-calls g c =
     one_block_erase c.args.block c.args.rec.now (g.F.Flash.device c.args.flash.now) (g.F.Flash.device c.erase_block.new.flash)
     (block_of c.args.block (g.F.Flash.device c.args.flash.now).geometry c.requires.held) made.within.later made.within.whole made.changes
 
+pub whole_pages-len-requires-clause-small : goal.whole_pages-len-requires-clause-small
+whole_pages-len-requires-clause-small g c =
+    let held = block_of c.args.block (g.F.Flash.device c.args.flash.now).geometry c.requires.held in
+    let fits = filled_fits c.args.block.page (8 + length c.args.rec.now) c.args.block.region.size (omega (arith, held.page_least)) held.pages c.requires.room in
+    omega (arith, fits, held.inside, held.small)
+
 pub slice_bounds-entry-end : goal.slice_bounds-entry-end
 slice_bounds-entry-end g c =
     let held = block_of c.args.block (g.F.Flash.device c.args.flash.now).geometry c.requires.held in
-    let fits = filled_fits c.args.block.page (8 + length c.args.rec.now) c.args.block.region.size (omega (arith, held.page_least)) held.pages c.requires.room in
-    subst (λ n. n ≤ length c.args.memory.now) (sym c.whole_pages-len.ensures.value)
-    (subst (λ n. filled_len c.args.block.page (8 + length c.args.rec.now) ≤ n) (sym c.requires.memory) fits)
+    let fits = filled_fits c.args.block.page (8 + length c.args.rec.now) (length c.args.memory.now) (omega (arith, held.page_least)) c.requires.pages c.requires.memory in
+    subst (λ n. n ≤ length c.args.memory.now) (sym c.whole_pages-len.ensures.value) fits
 
 pub slice_bounds-entry-end-2 : goal.slice_bounds-entry-end-2
 slice_bounds-entry-end-2 g c =
     let held = block_of c.args.block (g.F.Flash.device c.args.flash.now).geometry c.requires.held in
-    let fits = filled_fits c.args.block.page (8 + length c.args.rec.now) c.args.block.region.size (omega (arith, held.page_least)) held.pages c.requires.room in
-    let room : c.whole_pages-len.result ≤ length c.args.memory.now = omega (arith, fits, c.whole_pages-len.ensures.value, c.requires.memory) in
+    let fits = filled_fits c.args.block.page (8 + length c.args.rec.now) (length c.args.memory.now) (omega (arith, held.page_least)) c.requires.pages c.requires.memory in
+    let room : c.whole_pages-len.result ≤ length c.args.memory.now = omega (arith, fits, c.whole_pages-len.ensures.value) in
     sym (length-take-le c.whole_pages-len.result c.args.memory.now room)
 
 pub program_part-requires-clause-lies : goal.program_part-requires-clause-lies
@@ -41,12 +46,19 @@ program_part-requires-clause-lies g c =
     subst (λ (geometry : Geometry). LiesOn geometry c.args.block.region) (sym c.erase_block.ensures.within.later.geometry)
     (block_lies_on c.args.block (g.F.Flash.device c.args.flash.now).geometry held)
 
+pub program_part-requires-clause-within : goal.program_part-requires-clause-within
+program_part-requires-clause-within g c =
+    let held = block_of c.args.block (g.F.Flash.device c.args.flash.now).geometry c.requires.held in
+    let fits = filled_fits c.args.block.page (8 + length c.args.rec.now) c.args.block.region.size (omega (arith, held.page_least)) held.pages c.requires.room in
+    omega (arith, fits, c.write_filled_entry.auto.out, length-take c.whole_pages-len.result c.args.memory.now, c.whole_pages-len.ensures.value)
+
 pub program_part-requires-clause-blank : goal.program_part-requires-clause-blank
 program_part-requires-clause-blank g c = λ blocks image told.
     let held = block_of c.args.block (g.F.Flash.device c.args.flash.now).geometry c.requires.held in
     let page : ℕ = (g.F.Flash.device c.args.flash.now).geometry.page in
     let lies = block_lies_on c.args.block (g.F.Flash.device c.args.flash.now).geometry held in
-    let long : length c.write_filled_entry.new.out ≤ c.args.block.region.size = omega (arith, c.write_filled_entry.auto.out, length-take c.whole_pages-len.result c.args.memory.now, c.requires.memory) in
+    let fits = filled_fits c.args.block.page (8 + length c.args.rec.now) c.args.block.region.size (omega (arith, held.page_least)) held.pages c.requires.room in
+    let long : length c.write_filled_entry.new.out ≤ c.args.block.region.size = omega (arith, fits, c.write_filled_entry.auto.out, length-take c.whole_pages-len.result c.args.memory.now, c.whole_pages-len.ensures.value) in
     let after =
     part_after c.args.block.region (λ part. erased_block page c.args.block.region.size) (g.F.Flash.device c.args.flash.now) (g.F.Flash.device c.erase_block.new.flash)
     image c.erase_block.ensures.within.later c.in_ok-erase_block.ensures.done told in
@@ -58,8 +70,8 @@ program_part-requires-clause-blank g c = λ blocks image told.
 pub returns-clause-done : goal.returns-clause-done
 returns-clause-done g c =
     let held = block_of c.args.block (g.F.Flash.device c.args.flash.now).geometry c.requires.held in
-    let fits = filled_fits c.args.block.page (8 + length c.args.rec.now) c.args.block.region.size (omega (arith, held.page_least)) held.pages c.requires.room in
-    let room : c.whole_pages-len.result ≤ length c.args.memory.now = omega (arith, fits, c.whole_pages-len.ensures.value, c.requires.memory) in
+    let fits = filled_fits c.args.block.page (8 + length c.args.rec.now) (length c.args.memory.now) (omega (arith, held.page_least)) c.requires.pages c.requires.memory in
+    let room : c.whole_pages-len.result ≤ length c.args.memory.now = omega (arith, fits, c.whole_pages-len.ensures.value) in
     let len : length (take c.whole_pages-len.result c.args.memory.now) ≡ block_entry_len c.args.block.page (length c.args.rec.now) = length-take-le c.whole_pages-len.result c.args.memory.now room ∙ c.whole_pages-len.ensures.value in
     let is : c.write_filled_entry.new.out ≡ block_entry c.args.block.page c.args.rec.now = c.write_filled_entry.ensures ∙ ap (λ n. filled_to n (with_header c.args.rec.now)) len in
     on_ok_weaker _ _ c.program_part.result
@@ -70,7 +82,8 @@ pub returns-clause-calls : goal.returns-clause-calls
 returns-clause-calls g c =
     let held = block_of c.args.block (g.F.Flash.device c.args.flash.now).geometry c.requires.held in
     let fits = filled_fits c.args.block.page (8 + length c.args.rec.now) c.args.block.region.size (omega (arith, held.page_least)) held.pages c.requires.room in
-    let room : c.whole_pages-len.result ≤ length c.args.memory.now = omega (arith, fits, c.whole_pages-len.ensures.value, c.requires.memory) in
+    let held_fits = filled_fits c.args.block.page (8 + length c.args.rec.now) (length c.args.memory.now) (omega (arith, held.page_least)) c.requires.pages c.requires.memory in
+    let room : c.whole_pages-len.result ≤ length c.args.memory.now = omega (arith, held_fits, c.whole_pages-len.ensures.value) in
     let len : length (take c.whole_pages-len.result c.args.memory.now) ≡ block_entry_len c.args.block.page (length c.args.rec.now) = length-take-le c.whole_pages-len.result c.args.memory.now room ∙ c.whole_pages-len.ensures.value in
     let is : c.write_filled_entry.new.out ≡ block_entry c.args.block.page c.args.rec.now = c.write_filled_entry.ensures ∙ ap (λ n. filled_to n (with_header c.args.rec.now)) len in
     let long : length c.write_filled_entry.new.out ≡ block_entry_len c.args.block.page (length c.args.rec.now) = c.write_filled_entry.auto.out ∙ len in

@@ -9,6 +9,12 @@ use Rattle.bb_circular.specs.Looking.{kept_at}
 use Rattle.bb_circular.proofs.Looks.{kept_inside}
 use Rattle.bb_circular.proofs.store.put_entry.Goals as goal
 
+pub whole_pages-len-requires-clause-small : goal.whole_pages-len-requires-clause-small
+whole_pages-len-requires-clause-small g c =
+    let held = block_of c.args.block (g.F.Flash.device c.args.flash.now).geometry c.requires.held in
+    let fits = entry_fits c.args.block.page c.args.block.region.size (length c.args.rec.now) held.page_least held.pages c.requires.room in
+    omega (arith, fits, held.inside, held.small)
+
 pub returns-in_ok-append-clause-inside : goal.returns-in_ok-append-clause-inside
 returns-in_ok-append-clause-inside g c =
     let held = block_of c.args.block (g.F.Flash.device c.args.flash.now).geometry c.requires.held in

@@ -31,9 +31,12 @@ loop-copy-preserved g c =
       kinds = r.kinds ∙ i.kinds;
       agrees = r.agrees;
       placed = λ all place. r.placed place (λ other. i.placed all place);
-      found = ap length (whole_slice c.read_at.new.found c.loop-copy.room.found.items _ (c.read_at.auto.found ∙ c.deref_mut.ensures.len)) ∙ c.read_at.auto.found ∙ ap length c.deref_mut.ensures.value ∙ i.found;
-      scratch = i.scratch;
-      packed = i.packed;
+      memory = record {
+        piece =
+            let kept = ap length (whole_slice c.read_at.new.piece c.loop-copy.room.piece.items _ (c.read_at.auto.piece ∙ c.deref_mut.ensures.len)) ∙ c.read_at.auto.piece ∙ ap length c.deref_mut.ensures.value in
+            omega (arith, kept, i.memory.piece);
+        area = i.memory.area;
+      };
       sized = c.read_at.auto.area ∙ i.sized;
     }
 
@@ -63,8 +66,12 @@ returns-then-is_some-clause-placed g c = λ all place. c.in_ok-passed.ensures.pl
 pub read_at-requires-clause-inside : goal.read_at-requires-clause-inside
 read_at-requires-clause-inside g c = grind (arith, common_steps)
 
-pub returns-in_err-passed-clause-found : goal.returns-in_err-passed-clause-found
-returns-in_err-passed-clause-found g c = grind (arith, common_steps)
+pub returns-in_err-passed-clause-memory : goal.returns-in_err-passed-clause-memory
+returns-in_err-passed-clause-memory g c =
+    let i = c.loop-copy.invariant in
+    record { piece = grind (arith, common_steps, i.memory.piece); area = i.memory.area }
 
-pub returns-then-is_some-clause-found : goal.returns-then-is_some-clause-found
-returns-then-is_some-clause-found g c = grind (arith, common_steps)
+pub returns-then-is_some-clause-memory : goal.returns-then-is_some-clause-memory
+returns-then-is_some-clause-memory g c =
+    let i = c.loop-copy.invariant in
+    record { piece = grind (arith, common_steps, i.memory.piece); area = i.memory.area }

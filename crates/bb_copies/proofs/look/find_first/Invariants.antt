@@ -2,7 +2,7 @@ use Rattle.std.proofs.Common.{◌≡◌, ◌<◌, None, length}
 use Rattle.std.specs.Option.{ForSome}
 use Rattle.bb_flash.specs.Device.{content}
 use Rattle.bb_bucket.specs.Calls.{IsQuiet}
-use Rattle.bb_copies.specs.Buckets.{AllAgree, EachCopy, kinds_of}
+use Rattle.bb_copies.specs.Buckets.{AllAgree, EachCopy, HasMemory, kinds_of}
 use Rattle.bb_copies.specs.Passing.{passing_of}
 use Rattle.bb_copies.specs.Placing.{AllPlaced}
 use Rattle.bb_copies.proofs.look.find_first.Given as goal
@@ -22,8 +22,6 @@ invariant-loop-copy g l =
       kinds : kinds_of g.B.Bucket.holding l.buckets.items ≡ kinds_of g.B.Bucket.holding l.fn.buckets.items;
       agrees : AllAgree g.B.Bucket.holding now l.buckets.items;
       placed : AllPlaced g.B.Bucket.holding l.fn.buckets.items → AllPlaced g.B.Bucket.holding l.buckets.items;
-      found : length l.room.found.items ≡ length l.fn.room.found.items;
-      scratch : l.room.area ≡ l.fn.room.area;
-      packed : l.room.record ≡ l.fn.room.record;
+      memory : HasMemory form l.room;
       sized : length l.area ≡ length l.fn.area;
     }

@@ -42,9 +42,12 @@ loop-copy-preserved g c =
       agrees = r.agrees;
       placed = λ place low. r.placed place (λ other. i.placed place (omega arith));
       marks = size ∙ i.marks;
-      found = ap length (whole_slice c.read_at.new.found c.loop-copy.room.found.items _ (c.read_at.auto.found ∙ c.deref_mut.ensures.len)) ∙ c.read_at.auto.found ∙ ap length c.deref_mut.ensures.value ∙ i.found;
-      scratch = ap length (whole_slice out c.loop-copy.room.area.items _ (c.read_at.auto.area ∙ c.deref_mut-in-loop-copy.ensures.len)) ∙ c.read_at.auto.area ∙ ap length c.deref_mut-in-loop-copy.ensures.value ∙ i.scratch;
-      packed = i.packed;
+      memory = record {
+        piece =
+            let kept = ap length (whole_slice c.read_at.new.piece c.loop-copy.room.piece.items _ (c.read_at.auto.piece ∙ c.deref_mut.ensures.len)) ∙ c.read_at.auto.piece ∙ ap length c.deref_mut.ensures.value in
+            omega (arith, kept, i.memory.piece);
+        area = ap length (whole_slice out c.loop-copy.room.area.items _ (c.read_at.auto.area ∙ c.deref_mut-in-loop-copy.ensures.len)) ∙ c.read_at.auto.area ∙ ap length c.deref_mut-in-loop-copy.ensures.value ∙ i.memory.area;
+      };
       sized = c.compare-first.auto.area ∙ i.sized;
     }
 

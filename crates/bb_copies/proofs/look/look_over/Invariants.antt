@@ -2,7 +2,7 @@ use Rattle.std.proofs.Common.{◌≡◌, ℕ, ◌<◌, length, IfSome, IsTrue}
 use Rattle.std.specs.Option.{ForSome}
 use Rattle.bb_flash.specs.Device.{content}
 use Rattle.bb_bucket.specs.Calls.{IsQuiet}
-use Rattle.bb_copies.specs.Buckets.{AllAgree, kinds_of}
+use Rattle.bb_copies.specs.Buckets.{AllAgree, HasMemory, kinds_of}
 use Rattle.bb_copies.specs.Looking.{FindsBelow}
 use Rattle.bb_copies.specs.Placing.{IsPlacedAt}
 use Rattle.bb_copies.proofs.look.look_over.Given as goal
@@ -24,8 +24,6 @@ invariant-loop-copy g l =
       agrees : AllAgree g.B.Bucket.holding now l.buckets.items;
       placed : (copy : ℕ) → copy < l.copy → IsPlacedAt g.B.Bucket.holding l.buckets.items copy;
       marks : length l.good.items ≡ length l.fn.good.items;
-      found : length l.room.found.items ≡ length l.fn.room.found.items;
-      scratch : length l.room.area.items ≡ length l.fn.room.area.items;
-      packed : length l.room.record.items ≡ length l.fn.room.record.items;
+      memory : HasMemory form l.room;
       sized : length l.area ≡ length l.fn.area;
     }

@@ -5,7 +5,7 @@ use Rattle.bb_base.specs.Form.{Form}
 use Rattle.bb_flash.specs.Device.{Device, content}
 use Rattle.bb_bucket.specs.Kind.{BucketKind}
 use Rattle.bb_bucket.proofs.Quiet.{keeps_of_quiet}
-use Rattle.bb_copies.specs.declared.read.Passed.{Passed}
+use Rattle.bb_copies.specs.declared.read.PassingCopy.{PassingCopy}
 use Rattle.bb_copies.specs.Buckets.{kinds_of}
 use Rattle.bb_copies.specs.Looking.{IsReadAt}
 use Rattle.bb_copies.specs.Passing.{IsReading}
@@ -26,11 +26,6 @@ read_copy-requires-clause-agreed g c =
     let there = slice_get_read c.args.buckets.now.items (length c.args.buckets.now.items) c.args.copy _ refl c.requires.inside c.index_mut.ensures.value in
     c.requires.agreed c.args.copy _ there
 
-pub read_copy-requires-clause-room : goal.read_copy-requires-clause-room
-read_copy-requires-clause-room g c =
-    let there = slice_get_read c.args.buckets.now.items (length c.args.buckets.now.items) c.args.copy _ refl c.requires.inside c.index_mut.ensures.value in
-    c.requires.found c.args.copy _ (kind_at g.B.Bucket.holding c.args.buckets.now.items c.args.copy _ there)
-
 pub returns-clause-done : goal.returns-clause-done
 returns-clause-done g c =
     let form : Form = g.M.Format.form c.args.format.now in
@@ -40,8 +35,8 @@ returns-clause-done g c =
     let out : List ℕ = c.read_copy.new.area in
     let there = slice_get_read c.args.buckets.now.items (length c.args.buckets.now.items) c.args.copy _ refl c.requires.inside c.index_mut.ensures.value in
     let here = kind_at g.B.Bucket.holding c.args.buckets.now.items c.args.copy _ there in
-    ok_weaker c.read_copy.result (λ (passed : Option Passed). ForSome (content from) (λ image. IsReading form from.geometry.page kind image out passed))
-    (λ (passed : Option Passed). ForSome (content from) (λ image. IsReadAt form from.geometry.page kinds c.args.copy image out passed))
+    ok_weaker c.read_copy.result (λ (passed : Option PassingCopy). ForSome (content from) (λ image. IsReading form from.geometry.page kind image out passed))
+    (λ (passed : Option PassingCopy). ForSome (content from) (λ image. IsReadAt form from.geometry.page kinds c.args.copy image out passed))
     (λ passed reading image e. at_copy (λ k. IsReading form from.geometry.page k image out passed) kinds c.args.copy kind here (reading image e))
     c.read_copy.ensures.done
 

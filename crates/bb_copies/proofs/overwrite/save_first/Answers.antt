@@ -7,7 +7,7 @@ use Rattle.bb_bucket.specs.Kind.{BucketKind}
 use Rattle.bb_copies.specs.Buckets.{kinds_of}
 use Rattle.bb_copies.specs.Refreshing.{IsFirstMarked, NoOther}
 use Rattle.bb_copies.proofs.Held.{none_of_match}
-use Rattle.bb_copies.proofs.Saves.{first_erases, hopeless}
+use Rattle.bb_copies.proofs.Saves.{all_erases, hopeless}
 use Rattle.bb_copies.proofs.Touched.{others_tried}
 use Rattle.bb_copies.proofs.overwrite.save_first.Goals as goal
 
@@ -16,7 +16,7 @@ returns-then-is_none-clause-fails g c =
     let form : Form = g.M.Format.form c.args.format.now in
     let kinds : List BucketKind = kinds_of g.B.Bucket.holding c.args.buckets.now.items in
     let area : List ℕ = c.args.area.now in
-    let rec : List ℕ = c.args.room.now.record.items in
+    let rec : List ℕ = c.args.rec.now in
     let marked : List Bool = c.args.good.now.items in
     let from : Device = g.F.Flash.device c.args.flash.now in
     let mid : Device = g.F.Flash.device c.refresh.new.flash in
@@ -36,7 +36,7 @@ returns-clause-exact g c =
     let form : Form = g.M.Format.form c.args.format.now in
     let kinds : List BucketKind = kinds_of g.B.Bucket.holding c.args.buckets.now.items in
     let area : List ℕ = c.args.area.now in
-    let rec : List ℕ = c.args.room.now.record.items in
+    let rec : List ℕ = c.args.rec.now in
     let marked : List Bool = c.args.good.now.items in
     let from : Device = g.F.Flash.device c.args.flash.now in
     let mid : Device = g.F.Flash.device c.refresh.new.flash in
@@ -49,13 +49,13 @@ returns-clause-erases g c =
     let form : Form = g.M.Format.form c.args.format.now in
     let kinds : List BucketKind = kinds_of g.B.Bucket.holding c.args.buckets.now.items in
     let area : List ℕ = c.args.area.now in
-    let rec : List ℕ = c.args.room.now.record.items in
+    let rec : List ℕ = c.args.rec.now in
     let marked : List Bool = c.args.good.now.items in
     let from : Device = g.F.Flash.device c.args.flash.now in
     let mid : Device = g.F.Flash.device c.refresh.new.flash in
     let r = c.refresh.ensures in
     let many : length c.args.buckets.now.items ≡ length kinds = sym (length-map c.args.buckets.now.items _) in
-    λ quiet. first_erases kinds rec marked from mid c.requires.unmarked (r.exact quiet)
+    λ quiet. all_erases kinds rec marked from mid c.requires.unmarked (r.exact quiet)
 
 pub returns-clause-placed : goal.returns-clause-placed
 returns-clause-placed g c = λ copy. c.in_ok-refresh.ensures.placed copy (λ mark. let clash = c.requires.unmarked copy in absurd cc)
@@ -66,14 +66,14 @@ returns-in_err-refresh-clause-inside g c = grind (arith, common_steps)
 pub returns-in_err-refresh-clause-bounds : goal.returns-in_err-refresh-clause-bounds
 returns-in_err-refresh-clause-bounds g c =
     let kinds : List BucketKind = kinds_of g.B.Bucket.holding c.args.buckets.now.items in
-    others_tried kinds c.args.room.now.record.items c.args.good.now.items (g.F.Flash.device c.args.flash.now) (g.F.Flash.device c.refresh.new.flash) c.refresh.ensures.bounds c.refresh.ensures.each_copy
+    others_tried kinds c.args.rec.now c.args.good.now.items (g.F.Flash.device c.args.flash.now) (g.F.Flash.device c.refresh.new.flash) c.refresh.ensures.bounds c.refresh.ensures.each_copy
 
 pub returns-then-is_none-clause-bounds : goal.returns-then-is_none-clause-bounds
 returns-then-is_none-clause-bounds g c =
     let kinds : List BucketKind = kinds_of g.B.Bucket.holding c.args.buckets.now.items in
-    others_tried kinds c.args.room.now.record.items c.args.good.now.items (g.F.Flash.device c.args.flash.now) (g.F.Flash.device c.refresh.new.flash) c.refresh.ensures.bounds c.refresh.ensures.each_copy
+    others_tried kinds c.args.rec.now c.args.good.now.items (g.F.Flash.device c.args.flash.now) (g.F.Flash.device c.refresh.new.flash) c.refresh.ensures.bounds c.refresh.ensures.each_copy
 
 pub returns-clause-bounds : goal.returns-clause-bounds
 returns-clause-bounds g c =
     let kinds : List BucketKind = kinds_of g.B.Bucket.holding c.args.buckets.now.items in
-    others_tried kinds c.args.room.now.record.items c.args.good.now.items (g.F.Flash.device c.args.flash.now) (g.F.Flash.device c.refresh.new.flash) c.refresh.ensures.bounds c.refresh.ensures.each_copy
+    others_tried kinds c.args.rec.now c.args.good.now.items (g.F.Flash.device c.args.flash.now) (g.F.Flash.device c.refresh.new.flash) c.refresh.ensures.bounds c.refresh.ensures.each_copy

@@ -14,15 +14,13 @@ use Rattle.bb_copies.proofs.refresh.refresh.Goals as goal
 
 pub loop-copy-init : goal.loop-copy-init
 loop-copy-init g c = record {
-  below = none_refreshed (g.M.Format.form c.args.format.now) (kinds_of g.B.Bucket.holding c.args.buckets.now.items) c.args.area.now c.args.room.now.record.items c.args.good.now.items (g.F.Flash.device c.args.flash.now) c.requires.whole;
+  below = none_refreshed (g.M.Format.form c.args.format.now) (kinds_of g.B.Bucket.holding c.args.buckets.now.items) c.args.area.now c.args.rec.now c.args.good.now.items (g.F.Flash.device c.args.flash.now) c.requires.whole;
   kinds = refl;
   placed = none_placed g.B.Bucket.holding c.args.good.now.items c.args.buckets.now.items;
   reads = λ quiet. refl;
   agrees = c.requires.agreed;
   marks = refl;
-  found = refl;
-  scratch = refl;
-  packed = refl;
+  memory = c.requires.memory;
 }
 
 pub loop-copy-preserved-then-index : goal.loop-copy-preserved-then-index
@@ -32,15 +30,13 @@ loop-copy-preserved-then-index g c =
     let mark = sym (get_or_read c.loop-copy.good.items c.loop-copy.copy _ inside c.index.ensures false) ∙ c.if-index.true in
     let first = sym (i.below.same c.loop-copy.copy (inr (omega arith))) ∙ mark in
     record {
-      below = skipped (g.M.Format.form c.args.format.now) (kinds_of g.B.Bucket.holding c.args.buckets.now.items) c.args.area.now c.args.room.now.record.items c.args.good.now.items c.loop-copy.good.items c.loop-copy.copy (g.F.Flash.device c.args.flash.now) (g.F.Flash.device c.loop-copy.flash) inside mark i.below;
+      below = skipped (g.M.Format.form c.args.format.now) (kinds_of g.B.Bucket.holding c.args.buckets.now.items) c.args.area.now c.args.rec.now c.args.good.now.items c.loop-copy.good.items c.loop-copy.copy (g.F.Flash.device c.args.flash.now) (g.F.Flash.device c.loop-copy.flash) inside mark i.below;
       kinds = i.kinds;
       placed = skipped_placed g.B.Bucket.holding c.args.good.now.items c.loop-copy.copy c.args.buckets.now.items c.loop-copy.buckets.items first i.placed;
       reads = i.reads;
       agrees = i.agrees;
       marks = i.marks;
-      found = i.found;
-      scratch = i.scratch;
-      packed = i.packed;
+      memory = i.memory;
     }
 
 pub returns-in_err-good-clause-refreshes : goal.returns-in_err-good-clause-refreshes
@@ -59,7 +55,7 @@ returns-in_err-good-clause-kept g c =
     let unmarked = sym (get_or_read c.loop-copy.good.items c.loop-copy.copy _ inside c.index.ensures false) ∙ c.if-index.false in
     let mid : Device = g.F.Flash.device c.loop-copy.flash in
     let to : Device = g.F.Flash.device c.settle_copy.new.flash in
-    stuck_keeps (g.M.Format.form c.args.format.now) (kinds_of g.B.Bucket.holding c.args.buckets.now.items) c.args.area.now c.args.room.now.record.items c.args.good.now.items c.loop-copy.good.items c.loop-copy.copy (g.F.Flash.device c.args.flash.now) mid to unmarked i.below c.settle_copy.ensures.refreshes.later
+    stuck_keeps (g.M.Format.form c.args.format.now) (kinds_of g.B.Bucket.holding c.args.buckets.now.items) c.args.area.now c.args.rec.now c.args.good.now.items c.loop-copy.good.items c.loop-copy.copy (g.F.Flash.device c.args.flash.now) mid to unmarked i.below c.settle_copy.ensures.refreshes.later
     (subst (λ (ks : List BucketKind). LeavesOthers ks c.loop-copy.copy mid to) i.kinds c.settle_copy.ensures.others)
 
 pub returns-in_err-good-clause-stuck : goal.returns-in_err-good-clause-stuck
@@ -104,7 +100,7 @@ loop-copy-preserved g c =
     let form : Form = g.M.Format.form c.args.format.now in
     let kinds : List BucketKind = kinds_of g.B.Bucket.holding c.args.buckets.now.items in
     let area : List ℕ = c.args.area.now in
-    let rec : List ℕ = c.args.room.now.record.items in
+    let rec : List ℕ = c.args.rec.now in
     let copy : ℕ = c.loop-copy.copy in
     let good : List Bool = c.loop-copy.good.items in
     let from : Device = g.F.Flash.device c.args.flash.now in
@@ -120,23 +116,21 @@ loop-copy-preserved g c =
           (subst (λ (ks : List BucketKind). Refreshes form ks area mid to) i.kinds s.refreshes)
           (subst (λ (ks : List BucketKind). LeavesOthers ks copy mid to) i.kinds s.others)
           (subst (λ (ks : List BucketKind). IsSettledAt form ks area copy mid to c.in_ok-good.field-0) i.kinds c.in_ok-good.ensures.settled)
-          (λ quiet. subst (λ (ks : List BucketKind). IsWrittenAt ks copy rec mid to) i.kinds (subst (λ (r : List ℕ). IsWrittenAt (kinds_of g.B.Bucket.holding c.loop-copy.buckets.items) copy r mid to) i.packed (s.exact quiet)))
-          (subst (λ (ks : List BucketKind). IsBoundedAt ks copy rec mid to) i.kinds (subst (λ (r : List ℕ). IsBoundedAt (kinds_of g.B.Bucket.holding c.loop-copy.buckets.items) copy r mid to) i.packed s.bounds))
+          (λ quiet. subst (λ (ks : List BucketKind). IsWrittenAt ks copy rec mid to) i.kinds (s.exact quiet))
+          (subst (λ (ks : List BucketKind). IsBoundedAt ks copy rec mid to) i.kinds s.bounds)
           c.in_ok-good.ensures.read_faults;
       kinds = s.kinds ∙ i.kinds;
       placed = settled_placed g.B.Bucket.holding c.args.good.now.items copy c.args.buckets.now.items c.loop-copy.buckets.items c.settle_copy.new.buckets.items i.placed c.in_ok-good.ensures.placed;
       reads = λ quiet. s.reads (undisturbed_second from mid to i.below.refreshes.later quiet) ∙ i.reads (undisturbed_first from mid to s.refreshes.later quiet);
       agrees = s.agrees;
       marks = size ∙ i.marks;
-      found = s.found ∙ i.found;
-      scratch = s.scratch ∙ i.scratch;
-      packed = s.«record» ∙ i.packed;
+      memory = s.memory;
     }
 
 pub returns-clause-kept : goal.returns-clause-kept
 returns-clause-kept g c =
     let i = c.loop-copy.invariant in
-    keeps_marked (g.M.Format.form c.args.format.now) (kinds_of g.B.Bucket.holding c.args.buckets.now.items) c.args.area.now c.args.room.now.record.items c.args.good.now.items c.loop-copy.good.items c.loop-copy.copy (g.F.Flash.device c.args.flash.now) (g.F.Flash.device c.loop-copy.flash) i.below
+    keeps_marked (g.M.Format.form c.args.format.now) (kinds_of g.B.Bucket.holding c.args.buckets.now.items) c.args.area.now c.args.rec.now c.args.good.now.items c.loop-copy.good.items c.loop-copy.copy (g.F.Flash.device c.args.flash.now) (g.F.Flash.device c.loop-copy.flash) i.below
 
 pub returns-clause-settled : goal.returns-clause-settled
 returns-clause-settled g c =
@@ -147,8 +141,8 @@ returns-clause-settled g c =
     let to : Device = g.F.Flash.device c.loop-copy.flash in
     let all : c.loop-copy.copy ≡ length c.loop-copy.good.items = omega (arith, i.marks, c.requires.marks, c.len-copy-end.ensures, c.args.buckets.now.ok) in
     let many : length c.loop-copy.good.items ≡ length kinds = i.marks ∙ c.requires.marks ∙ sym (length-map c.args.buckets.now.items _) in
-    all_settled form kinds c.args.area.now c.args.room.now.record.items c.args.good.now.items c.loop-copy.good.items from to many
-    (subst (λ (n : ℕ). RefreshedBelow form kinds c.args.area.now c.args.room.now.record.items c.args.good.now.items c.loop-copy.good.items n from to) all i.below)
+    all_settled form kinds c.args.area.now c.args.rec.now c.args.good.now.items c.loop-copy.good.items from to many
+    (subst (λ (n : ℕ). RefreshedBelow form kinds c.args.area.now c.args.rec.now c.args.good.now.items c.loop-copy.good.items n from to) all i.below)
 
 pub returns-clause-exact : goal.returns-clause-exact
 returns-clause-exact g c =
@@ -159,8 +153,8 @@ returns-clause-exact g c =
     let to : Device = g.F.Flash.device c.loop-copy.flash in
     let all : c.loop-copy.copy ≡ length c.loop-copy.good.items = omega (arith, i.marks, c.requires.marks, c.len-copy-end.ensures, c.args.buckets.now.ok) in
     let many : length c.loop-copy.good.items ≡ length kinds = i.marks ∙ c.requires.marks ∙ sym (length-map c.args.buckets.now.items _) in
-    all_written form kinds c.args.area.now c.args.room.now.record.items c.args.good.now.items c.loop-copy.good.items from to many
-    (subst (λ (n : ℕ). RefreshedBelow form kinds c.args.area.now c.args.room.now.record.items c.args.good.now.items c.loop-copy.good.items n from to) all i.below)
+    all_written form kinds c.args.area.now c.args.rec.now c.args.good.now.items c.loop-copy.good.items from to many
+    (subst (λ (n : ℕ). RefreshedBelow form kinds c.args.area.now c.args.rec.now c.args.good.now.items c.loop-copy.good.items n from to) all i.below)
 
 pub returns-clause-placed : goal.returns-clause-placed
 returns-clause-placed g c =
@@ -178,7 +172,7 @@ returns-in_err-good-clause-bounds g c =
     let i = c.loop-copy.invariant in
     let s = c.settle_copy.ensures in
     let kinds : List BucketKind = kinds_of g.B.Bucket.holding c.args.buckets.now.items in
-    let rec : List ℕ = c.args.room.now.record.items in
+    let rec : List ℕ = c.args.rec.now in
     let copy : ℕ = c.loop-copy.copy in
     let good : List Bool = c.loop-copy.good.items in
     let mid : Device = g.F.Flash.device c.loop-copy.flash in
@@ -188,24 +182,24 @@ returns-in_err-good-clause-bounds g c =
     let many : length kinds ≡ length c.args.buckets.now.items = length-map c.args.buckets.now.items _ in
     stuck_bounded (g.M.Format.form c.args.format.now) kinds c.args.area.now rec c.args.good.now.items good copy (g.F.Flash.device c.args.flash.now) mid to
     (omega (arith, inside, i.marks)) (omega (arith, inside, i.marks, c.requires.marks, many)) unmarked i.below
-    (subst (λ (ks : List BucketKind). IsBoundedAt ks copy rec mid to) i.kinds (subst (λ (r : List ℕ). IsBoundedAt (kinds_of g.B.Bucket.holding c.loop-copy.buckets.items) copy r mid to) i.packed s.bounds))
+    (subst (λ (ks : List BucketKind). IsBoundedAt ks copy rec mid to) i.kinds s.bounds)
 
 pub returns-clause-bounds : goal.returns-clause-bounds
 returns-clause-bounds g c =
-    all_bounded (g.M.Format.form c.args.format.now) (kinds_of g.B.Bucket.holding c.args.buckets.now.items) c.args.area.now c.args.room.now.record.items c.args.good.now.items c.loop-copy.good.items c.loop-copy.copy (g.F.Flash.device c.args.flash.now) (g.F.Flash.device c.loop-copy.flash) c.loop-copy.invariant.below
+    all_bounded (g.M.Format.form c.args.format.now) (kinds_of g.B.Bucket.holding c.args.buckets.now.items) c.args.area.now c.args.rec.now c.args.good.now.items c.loop-copy.good.items c.loop-copy.copy (g.F.Flash.device c.args.flash.now) (g.F.Flash.device c.loop-copy.flash) c.loop-copy.invariant.below
 
 pub returns-in_err-good-clause-each_copy : goal.returns-in_err-good-clause-each_copy
 returns-in_err-good-clause-each_copy g c =
     let i = c.loop-copy.invariant in
     let s = c.settle_copy.ensures in
     let kinds : List BucketKind = kinds_of g.B.Bucket.holding c.args.buckets.now.items in
-    let rec : List ℕ = c.args.room.now.record.items in
+    let rec : List ℕ = c.args.rec.now in
     let copy : ℕ = c.loop-copy.copy in
     let mid : Device = g.F.Flash.device c.loop-copy.flash in
     let to : Device = g.F.Flash.device c.settle_copy.new.flash in
     each_more (g.M.Format.form c.args.format.now) kinds c.args.area.now rec c.args.good.now.items c.loop-copy.good.items copy (g.F.Flash.device c.args.flash.now) mid to i.below s.refreshes.later
     (subst (λ (ks : List BucketKind). LeavesOthers ks copy mid to) i.kinds s.others)
-    (subst (λ (ks : List BucketKind). IsBoundedAt ks copy rec mid to) i.kinds (subst (λ (r : List ℕ). IsBoundedAt (kinds_of g.B.Bucket.holding c.loop-copy.buckets.items) copy r mid to) i.packed s.bounds))
+    (subst (λ (ks : List BucketKind). IsBoundedAt ks copy rec mid to) i.kinds s.bounds)
 
 pub returns-clause-each_copy : goal.returns-clause-each_copy
 returns-clause-each_copy g c = c.loop-copy.invariant.below.each_copy

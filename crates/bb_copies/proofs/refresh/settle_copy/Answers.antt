@@ -28,11 +28,6 @@ settle-settled-requires-clause-room g c =
     let there = slice_get_read c.args.buckets.now.items (length c.args.buckets.now.items) c.args.copy _ refl c.requires.inside c.index_mut.ensures.value in
     c.requires.room.room c.args.copy _ (kind_at g.B.Bucket.holding c.args.buckets.now.items c.args.copy _ there)
 
-pub settle-settled-requires-clause-found : goal.settle-settled-requires-clause-found
-settle-settled-requires-clause-found g c =
-    let there = slice_get_read c.args.buckets.now.items (length c.args.buckets.now.items) c.args.copy _ refl c.requires.inside c.index_mut.ensures.value in
-    c.requires.found c.args.copy _ (kind_at g.B.Bucket.holding c.args.buckets.now.items c.args.copy _ there)
-
 pub returns-clause-refreshes : goal.returns-clause-refreshes
 returns-clause-refreshes g c =
     let there = slice_get_read c.args.buckets.now.items (length c.args.buckets.now.items) c.args.copy _ refl c.requires.inside c.index_mut.ensures.value in
@@ -67,13 +62,13 @@ returns-clause-stuck g c =
     let there = slice_get_read c.args.buckets.now.items (length c.args.buckets.now.items) c.args.copy _ refl c.requires.inside c.index_mut.ensures.value in
     let here = kind_at g.B.Bucket.holding c.args.buckets.now.items c.args.copy _ there in
     subst (λ r. IfErr r (λ at. IsStuckAt form kinds c.args.area.now at from to)) (sym c.answer.ensures)
-    (stuck_at form kinds c.args.area.now c.args.room.now.record.items c.args.copy _ from to c.settle-settled.result here c.settle-settled.ensures.ends c.settle-settled.ensures.counts)
+    (stuck_at form kinds c.args.area.now c.args.rec.now c.args.copy _ from to c.settle-settled.result here c.settle-settled.ensures.ends c.settle-settled.ensures.counts)
 
 pub returns-clause-exact : goal.returns-clause-exact
 returns-clause-exact g c = λ quiet.
     let there = slice_get_read c.args.buckets.now.items (length c.args.buckets.now.items) c.args.copy _ refl c.requires.inside c.index_mut.ensures.value in
     let here = kind_at g.B.Bucket.holding c.args.buckets.now.items c.args.copy _ there in
-    at_copy (λ kind. IsRepairWritten kind c.args.room.now.record.items (g.F.Flash.device c.args.flash.now) (g.F.Flash.device c.settle-settled.new.flash)) (kinds_of g.B.Bucket.holding c.args.buckets.now.items) c.args.copy _ here (c.settle-settled.ensures.exact quiet)
+    at_copy (λ kind. IsRepairWritten kind c.args.rec.now (g.F.Flash.device c.args.flash.now) (g.F.Flash.device c.settle-settled.new.flash)) (kinds_of g.B.Bucket.holding c.args.buckets.now.items) c.args.copy _ here (c.settle-settled.ensures.exact quiet)
 
 pub returns-clause-kinds : goal.returns-clause-kinds
 returns-clause-kinds g c =
@@ -107,11 +102,11 @@ pub returns-clause-bounds : goal.returns-clause-bounds
 returns-clause-bounds g c =
     let there = slice_get_read c.args.buckets.now.items (length c.args.buckets.now.items) c.args.copy _ refl c.requires.inside c.index_mut.ensures.value in
     let here = kind_at g.B.Bucket.holding c.args.buckets.now.items c.args.copy _ there in
-    at_copy (λ kind. IsBoundedInSum (kind ∷ []) c.args.room.now.record.items (g.F.Flash.device c.args.flash.now) (g.F.Flash.device c.settle-settled.new.flash)) (kinds_of g.B.Bucket.holding c.args.buckets.now.items) c.args.copy _ here c.settle-settled.ensures.bounds
+    at_copy (λ kind. IsBoundedInSum (kind ∷ []) c.args.rec.now (g.F.Flash.device c.args.flash.now) (g.F.Flash.device c.settle-settled.new.flash)) (kinds_of g.B.Bucket.holding c.args.buckets.now.items) c.args.copy _ here c.settle-settled.ensures.bounds
 
 pub returns-clause-read_faults : goal.returns-clause-read_faults
 returns-clause-read_faults g c =
     let from : Device = g.F.Flash.device c.args.flash.now in
     let to : Device = g.F.Flash.device c.settle-settled.new.flash in
     subst (λ r. OnOk r (to.read_faults ≡ from.read_faults)) (sym c.answer.ensures)
-    (settled_calm c.args.copy _ c.args.room.now.record.items from to c.settle-settled.result c.settle-settled.ensures.counts)
+    (settled_calm c.args.copy _ c.args.rec.now from to c.settle-settled.result c.settle-settled.ensures.counts)

@@ -1,34 +1,70 @@
-use Rattle.std.proofs.Common.{◌≡◌, ◌∙◌, ℕ, Bool, List, count_by, length, sym, subst, ap}
+use Rattle.std.proofs.Common.{◌≡◌, ◌∙◌, ℕ, Bool, List, Some, count_by, length, sym, subst, ap, refl}
 use Rattle.std.proofs.lemmas.List.{length-map}
 use Rattle.bb_base.specs.Form.{Form}
 use Rattle.bb_flash.specs.Device.{Device}
 use Rattle.bb_bucket.specs.Kind.{BucketKind}
 use Rattle.bb_copies.specs.Buckets.{kinds_of}
-use Rattle.bb_copies.specs.Erasing.{IsBounded}
+use Rattle.bb_copies.specs.Erasing.{ErasesBy, IsBounded}
 use Rattle.bb_copies.specs.Refreshing.{IsFirstMarked}
+use Rattle.bb_copies.specs.Saving.{EachWritten, IsSaved}
 use Rattle.bb_copies.proofs.Loads.{all_kept}
 use Rattle.bb_copies.proofs.Runs.{later_refl}
 use Rattle.bb_copies.proofs.Saves.{save_runs}
 use Rattle.bb_copies.proofs.save.save_copies.Goals as goal
 
-pub returns-in-Ok-clause-runs : goal.returns-in-Ok-clause-runs
-returns-in-Ok-clause-runs g c =
-    save_runs (g.M.Format.form c.args.format.now) (kinds_of g.B.Bucket.holding c.args.buckets.now.items) c.args.used c.args.area.now (g.F.Flash.device c.args.flash.now) (g.F.Flash.device c.save_all.new.flash) c.save_all.ensures.refreshes c.save_all.ensures.spares
-    (subst (λ (rec : List ℕ). IsBounded (kinds_of g.B.Bucket.holding c.args.buckets.now.items) rec (g.F.Flash.device c.args.flash.now) (g.F.Flash.device c.save_all.new.flash)) c.pack.ensures.packed c.save_all.ensures.bounds)
-
-pub returns-in-Ok-clause-taken : goal.returns-in-Ok-clause-taken
-returns-in-Ok-clause-taken g c =
+pub returns-in-Ok-clause-saved : goal.returns-in-Ok-clause-saved
+returns-in-Ok-clause-saved g c =
     let form : Form = g.M.Format.form c.args.format.now in
     let kinds : List BucketKind = kinds_of g.B.Bucket.holding c.args.buckets.now.items in
     let from : Device = g.F.Flash.device c.args.flash.now in
     let to : Device = g.F.Flash.device c.save_all.new.flash in
     let good : List Bool = c.save_all.new.good.items in
     let many : length good ≡ length kinds = c.save_all.ensures.marks ∙ c.clear.ensures.len ∙ c.requires.marks ∙ sym (length-map c.args.buckets.now.items _) in
-    all_kept form kinds c.args.area.now good c.tell.result.used c.tell.result.live from from to many (later_refl from)
-    (subst (λ (xs : List Bool). IsFirstMarked xs (length xs) c.tell.result.used) c.deref.ensures.value c.tell.ensures.used)
-    (c.tell.ensures.live ∙ ap (count_by (λ marked. marked)) c.deref.ensures.value) c.in-Ok.ensures.held c.in-Ok.ensures.read_faults
+    record {
+      used = c.tell.result.used;
+      is = refl;
+      exit =
+          all_kept form kinds c.args.area.now good c.tell.result.used c.tell.result.live from from to many (later_refl from)
+          (subst (λ (xs : List Bool). IsFirstMarked xs (length xs) c.tell.result.used) c.deref-in-Ok.ensures.value c.tell.ensures.used)
+          (c.tell.ensures.live ∙ ap (count_by (λ marked. marked)) c.deref-in-Ok.ensures.value) c.in-Ok.ensures.held c.in-Ok.ensures.read_faults;
+    }
 
-pub returns-in-Err-clause-runs : goal.returns-in-Err-clause-runs
-returns-in-Err-clause-runs g c =
-    save_runs (g.M.Format.form c.args.format.now) (kinds_of g.B.Bucket.holding c.args.buckets.now.items) c.args.used c.args.area.now (g.F.Flash.device c.args.flash.now) (g.F.Flash.device c.save_all.new.flash) c.save_all.ensures.refreshes c.save_all.ensures.spares
-    (subst (λ (rec : List ℕ). IsBounded (kinds_of g.B.Bucket.holding c.args.buckets.now.items) rec (g.F.Flash.device c.args.flash.now) (g.F.Flash.device c.save_all.new.flash)) c.pack.ensures.packed c.save_all.ensures.bounds)
+pub returns-in-Ok-clause-save : goal.returns-in-Ok-clause-save
+returns-in-Ok-clause-save g c =
+    let form : Form = g.M.Format.form c.args.format.now in
+    let kinds : List BucketKind = kinds_of g.B.Bucket.holding c.args.buckets.now.items in
+    let from : Device = g.F.Flash.device c.args.flash.now in
+    let to : Device = g.F.Flash.device c.save_all.new.flash in
+    let packed = c.deref.ensures.value ∙ c.pack.ensures.packed in
+    record {
+      unsure = (λ e. absurd cc, λ e. absurd cc);
+      runs =
+          save_runs form kinds c.args.used c.args.area.now from to c.save_all.ensures.refreshes c.save_all.ensures.spares
+          (subst (λ (rec : List ℕ). IsBounded kinds rec from to) packed c.save_all.ensures.bounds);
+      stored = record { live = c.tell.result.live; saved = returns-in-Ok-clause-saved g c };
+      fails = tt;
+      exact = λ quiet. subst (λ (rec : List ℕ). EachWritten kinds rec from to) packed (c.in-Ok.ensures.exact quiet);
+      erases = λ quiet. subst (λ (rec : List ℕ). ErasesBy kinds rec from to) packed (c.in-Ok.ensures.erases quiet);
+    }
+
+pub returns-in-Err-clause-save : goal.returns-in-Err-clause-save
+returns-in-Err-clause-save g c =
+    let form : Form = g.M.Format.form c.args.format.now in
+    let kinds : List BucketKind = kinds_of g.B.Bucket.holding c.args.buckets.now.items in
+    let from : Device = g.F.Flash.device c.args.flash.now in
+    let to : Device = g.F.Flash.device c.save_all.new.flash in
+    record {
+      unsure = (λ e. absurd cc, λ e. absurd cc);
+      runs =
+          save_runs form kinds c.args.used c.args.area.now from to c.save_all.ensures.refreshes c.save_all.ensures.spares
+          (subst (λ (rec : List ℕ). IsBounded kinds rec from to) (c.deref.ensures.value ∙ c.pack.ensures.packed) c.save_all.ensures.bounds);
+      stored = tt;
+      fails = c.in-Err.ensures.fails;
+      exact = λ quiet. tt;
+      erases = λ quiet. tt;
+    }
+
+pub pack-requires-clause-whole : goal.pack-requires-clause-whole
+pack-requires-clause-whole g c =
+    let form : Form = g.M.Format.form c.args.format.now in
+    c.requires.«record» ∙ ap form.length_of (sym ((g.met.M.Format.laws c.args.format.now).sized c.args.area.now c.requires.fits))

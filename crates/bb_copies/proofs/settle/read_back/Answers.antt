@@ -34,20 +34,14 @@ returns-in-Err-clause-settles g c =
 pub returns-in-Err-clause-placed : goal.returns-in-Err-clause-placed
 returns-in-Err-clause-placed g c = λ other. absurd (other refl)
 
-pub returns-in-Ok-None-clause-found : goal.returns-in-Ok-None-clause-found
-returns-in-Ok-None-clause-found g c = grind (arith, common_steps)
+pub returns-in-Ok-None-clause-memory : goal.returns-in-Ok-None-clause-memory
+returns-in-Ok-None-clause-memory g c = record { piece = grind (arith, common_steps, c.requires.memory.piece); area = grind (arith, common_steps, c.requires.memory.area) }
 
-pub returns-in-Ok-None-clause-scratch : goal.returns-in-Ok-None-clause-scratch
-returns-in-Ok-None-clause-scratch g c = grind (arith, common_steps)
+pub returns-in-Ok-Some-clause-memory : goal.returns-in-Ok-Some-clause-memory
+returns-in-Ok-Some-clause-memory g c = record { piece = grind (arith, common_steps, c.requires.memory.piece); area = grind (arith, common_steps, c.requires.memory.area) }
 
-pub returns-in-Ok-Some-clause-found : goal.returns-in-Ok-Some-clause-found
-returns-in-Ok-Some-clause-found g c = grind (arith, common_steps)
-
-pub returns-in-Err-clause-found : goal.returns-in-Err-clause-found
-returns-in-Err-clause-found g c = grind (arith, common_steps)
-
-pub returns-in-Err-clause-scratch : goal.returns-in-Err-clause-scratch
-returns-in-Err-clause-scratch g c = grind (arith, common_steps)
+pub returns-in-Err-clause-memory : goal.returns-in-Err-clause-memory
+returns-in-Err-clause-memory g c = record { piece = grind (arith, common_steps, c.requires.memory.piece); area = grind (arith, common_steps, c.requires.memory.area) }
 
 pub returns-in-Ok-Some-clause-counts : goal.returns-in-Ok-Some-clause-counts
 returns-in-Ok-Some-clause-counts g c =

@@ -8,7 +8,7 @@ use Rattle.bb_drill_sessions.proofs.look.look_at.Goals as goal
 pub returns-then-not-found-clause-found : goal.returns-then-not-found-clause-found
 returns-then-not-found-clause-found g c = λ image held.
     sym (ap (λ (found : Bool). then_some found c.look.new.area) c.if-not-found.true)
-    ∙ look_told (keyed_of c.args.state.now) c.look.new.area c.in-Ok.found (g.F.Flash.device c.args.flash.now) c.in-Ok.ensures.gives image held
+    ∙ look_told (keyed_of c.args.state.now) c.look.new.area c.in-Ok.found (g.F.Flash.device c.args.flash.now) c.in-Ok.ensures.look.gives image held
 
 pub returns-clause-found : goal.returns-clause-found
 returns-clause-found g c = λ image held.
@@ -18,4 +18,10 @@ returns-clause-found g c = λ image held.
     c.in_ok-add.ensures.ok ∙ ap (λ (front : List ℕ). front ++ c.as_slice.result.now) c.none-table.ensures ∙ c.as_slice.ensures.value ∙ items in
     ap (λ (t : List ℕ). Some t) table
     ∙ sym (ap (λ (found : Bool). then_some found c.look.new.area) c.if-not-found.false)
-    ∙ look_told (keyed_of c.args.state.now) c.look.new.area c.in-Ok.found (g.F.Flash.device c.args.flash.now) c.in-Ok.ensures.gives image held
+    ∙ look_told (keyed_of c.args.state.now) c.look.new.area c.in-Ok.found (g.F.Flash.device c.args.flash.now) c.in-Ok.ensures.look.gives image held
+
+pub returns-then-not-found-clause-calm : goal.returns-then-not-found-clause-calm
+returns-then-not-found-clause-calm g c = c.in-Ok.ensures.look.faults
+
+pub returns-clause-calm : goal.returns-clause-calm
+returns-clause-calm g c = c.in-Ok.ensures.look.faults

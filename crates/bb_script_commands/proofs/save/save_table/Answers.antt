@@ -1,4 +1,4 @@
-use Rattle.std.proofs.Common.{◌∙◌, Some, None, Err, ap, refl, sym}
+use Rattle.std.proofs.Common.{◌∙◌, Some, None, ap, refl}
 use Rattle.std.proofs.lemmas.Bool.{false≢true}
 use Rattle.bb_interpreter.specs.declared.commands.Reply.TheVariants as reply
 use Rattle.bb_shell.proofs.Saves.{saved_err, saved_ok}
@@ -15,7 +15,7 @@ returns-in-Ok g c =
     let from = g.B.Flash.device c.args.board.now in
     let to = g.B.Flash.device c.save.new.flash in
     save_called c.args.state.now c.save.new.self c.args.by.now c.args.so_far.now c.args.so_far.now None (reply.Done 0 c.none.result) from to c.requires
-    (saved_ok c.args.state.now (used_of c.save.new.self) from to c.requires.sure saved.idle saved.runs saved.saved saved.exact saved.erases saved.used)
+    (saved_ok c.args.state.now (used_of c.save.new.self) from to c.requires.sure saved.idle saved.save saved.used)
     (λ _. saved.kept ∙ saved.table) saved.sure saved.keyed saved.on c.requires.unfailed refl saved.table (ap (λ text. reply.Done 0 text) c.none.ensures)
 
 pub returns-in-Err : goal.returns-in-Err
@@ -26,6 +26,5 @@ returns-in-Err g c =
     let to = g.B.Flash.device c.save.new.flash in
     save_called c.args.state.now c.save.new.self c.args.by.now c.args.so_far.now (record c.args.so_far.now { fault = Some fault }) (Some fault) reply.Fault from to
     c.requires
-    (saved_err c.args.state.now (used_of c.save.new.self) fault from to c.requires.sure (λ kept. false≢true (saved.same kept))
-    (λ same. false≢true (sym (saved.unsure.0 (ap Err same)) ∙ c.requires.sure)) saved.runs saved.fails)
+    (saved_err c.args.state.now (used_of c.save.new.self) fault from to c.requires.sure (λ kept. false≢true (saved.same kept)) saved.save)
     (λ p. cc) saved.sure saved.keyed saved.on refl refl saved.table refl

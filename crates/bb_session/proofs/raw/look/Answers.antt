@@ -11,7 +11,7 @@ use Rattle.bb_session.proofs.raw.look.Goals as goal
 
 pub returns-in_err-found-clause-gives : goal.returns-in_err-found-clause-gives
 returns-in_err-found-clause-gives g c =
-    let done = c.in_err-found.ensures in
+    let done = c.in_err-found.ensures.look in
     worked_out (keyed_of c.args.state.now) Show (g.F.Flash.device c.args.flash.now)
     (g.F.Flash.device c.look.new.flash) (Err c.in_err-found.field-0.0) no_answers c.from_residual-in_err-found.result
     (record {
@@ -26,7 +26,7 @@ returns-clause-gives g c =
     let filled = with_items c.in_ok-area.area c.look.new.area in
     let items : filled.items ≡ c.look.new.area =
     take-refill _ _ _ (omega (arith, c.in_ok-area.ensures.len, c.look.auto.area, c.deref_mut.ensures.len)) in
-    let done = c.in_ok-found.ensures in
+    let done = c.in_ok-found.ensures.look in
     looked_ok (keyed_of c.args.state.now) c.look.new.area c.in_ok-found.found
     (g.F.Flash.device c.args.flash.now) (g.F.Flash.device c.look.new.flash) c.of.result done.gives done.faults
     done.read_faults done.quiet
@@ -35,3 +35,9 @@ returns-clause-gives g c =
     (ap (option_map (λ area. area.items)) c.then_some.ensures
     ∙ refilled c.in_ok-found.found filled c.look.new.area items))
     (c.of.ensures _ c.look_text.ensures))
+
+pub returns-in_err-found-clause-later : goal.returns-in_err-found-clause-later
+returns-in_err-found-clause-later g c = c.in_err-found.ensures.look.quiet.later
+
+pub returns-clause-later : goal.returns-clause-later
+returns-clause-later g c = c.in_ok-found.ensures.look.quiet.later

@@ -1,10 +1,12 @@
-use Rattle.std.proofs.Common.{◌≡◌, ℕ, false, Option, refl, subst, sym}
+use Rattle.std.proofs.Common.{◌≡◌, ℕ, List, false, Option, Ok, refl, subst, sym}
 use Rattle.bb_state.specs.Keyed.{Keyed}
+use Rattle.bb_copies.specs.Loading.{IsLoad}
 use Rattle.bb_copies.specs.Store.{used_after}
 use Rattle.bb_plan.specs.declared.plan.Work.{Work}
 use Rattle.bb_session.specs.Acting.{needs_table}
 use Rattle.bb_session.specs.Doing.{IsDone}
 use Rattle.bb_session.specs.Work.{IsLoadedArea, IsWorkedOut}
+use Rattle.bb_state.specs.Kinds.{laid_form, laid_kinds}
 use Rattle.bb_state.specs.State.{keyed_of}
 use Rattle.bb_session.proofs.Acted.{looks_only}
 use Rattle.bb_session.proofs.Done.{done_later, done_out, done_unloaded}
@@ -22,17 +24,17 @@ returns-then-not-needs_table-clause-gives g c =
 
 pub returns-in_err-load-clause-gives : goal.returns-in_err-load-clause-gives
 returns-in_err-load-clause-gives g c =
-    let done = c.in_err-load.ensures in
+    let done = c.in_err-load.ensures.load in
     done_unloaded (keyed_of c.args.state) c.args.work (g.B.Flash.device c.args.board.now)
     (g.B.Flash.device c.load.new.flash) c.in_err-load.field-0.0 c.from_residual.result
     c.requires.on.geometry (let e = c.needs_table.ensures in cc) c.args.state.facts.copied.least
     (record {
-      images = done.images;
-      outside = done.outside;
-      later = done.later;
-      starts = done.starts;
+      images = done.runs.images;
+      outside = done.runs.outside;
+      later = done.runs.later;
+      starts = done.runs.starts;
       gives = tt;
-      fails = done.fails;
+      fails = record { area = c.load.new.self.backing.kept; fails = done.fails };
     })
     (refused_by c.from_residual.result _ c.from_residual.ensures.1)
 
@@ -43,22 +45,28 @@ returns-clause-gives g c =
     let to = g.B.Flash.device c.work_at.new.board in
     let table = c.load.new.self.table in
     let done = c.in_ok-load.ensures in
+    let load : IsLoad (laid_form keyed) (laid_kinds keyed.layout) table (g.B.Flash.device c.args.board.now) mid (Ok c.in_ok-load.field-0) =
+    subst (λ (area : List ℕ). IsLoad (laid_form keyed) (laid_kinds keyed.layout) area (g.B.Flash.device c.args.board.now) mid (Ok c.in_ok-load.field-0))
+    done.kept done.load in
     let gave : IsLoadedArea keyed table c.in_ok-load.field-0 (g.B.Flash.device c.args.board.now) mid =
-    record { gives = done.gives; defaults = done.defaults; exact = done.exact; erases = done.erases } in
+    record { gives = load.gives; defaults = done.defaults; exact = load.exact; erases = load.erases } in
     done_out keyed c.args.work (g.B.Flash.device c.args.board.now) mid to table c.in_ok-load.field-0 c.work_at.result
     c.requires.on.geometry (let e = c.needs_table.ensures in cc) c.args.state.facts.copied.least gave
     (record {
-      images = done.images;
-      outside = done.outside;
-      later = done.later;
-      starts = done.starts;
+      images = load.runs.images;
+      outside = load.runs.outside;
+      later = load.runs.later;
+      starts = load.runs.starts;
       gives = record { area = table; loaded = c.in_ok-load.field-0; gave = gave; taken = refl; used_is = refl };
       fails = tt;
     })
     (subst (λ (k : Keyed). IsDone k (used_after c.in_ok-load.field-0) table c.args.work mid to c.work_at.result) done.keyed
     (subst (λ (u : Option ℕ). IsDone (keyed_of c.load.new.self) u table c.args.work mid to c.work_at.result) done.used c.work_at.ensures.did))
 
+pub returns-in_err-load-clause-later : goal.returns-in_err-load-clause-later
+returns-in_err-load-clause-later g c = c.in_err-load.ensures.load.runs.later
+
 pub returns-clause-later : goal.returns-clause-later
 returns-clause-later g c =
     done_later (keyed_of c.load.new.self) _ _ c.args.work (g.B.Flash.device c.args.board.now) (g.B.Flash.device c.load.new.flash) _
-    c.work_at.ensures.did.answers c.work_at.ensures.did.ran c.in_ok-load.ensures.later
+    c.work_at.ensures.did.answers c.work_at.ensures.did.ran c.in_ok-load.ensures.load.runs.later

@@ -34,3 +34,6 @@ of-requires-in-Circular-clause-some c =
 
 pub returns-in_ok-of-in-Circular : goal.returns-in_ok-of-in-Circular
 returns-in_ok-of-in-Circular c = search rules
+
+pub returns-in_ok-of-in-OneBlock : goal.returns-in_ok-of-in-OneBlock
+returns-in_ok-of-in-OneBlock c = search rules

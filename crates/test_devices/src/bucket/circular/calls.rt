@@ -16,9 +16,10 @@ use std::alloc::Global;
 use std::process::Abort;
 
 pub(super) fn log(alloc: Global) -> Result<Circular, NoMemory>
-    ensures { IfOk result (λ log. log ≡ record { block = tried_block; kept = None }) }
+    ensures { IfOk result (λ log.
+        log ≡ record { block = tried_block; most = 56; kept = None; sight = None }) }
 {
-    Circular::of(alloc, Region { at: 64, size: 64 }, 16)
+    Circular::of(alloc, Region { at: 64, size: 64 }, 16, 56)
 }
 
 fn read(log: &mut Circular, board: &mut MemBoard, out: &mut [u8; 56]) -> Result<Found, Failed>

@@ -1,4 +1,4 @@
-ghost use Rattle.std.specs.Prelude.{◌≡◌, IfOk};
+ghost use Rattle.std.specs.Prelude.{◌≡◌, None, IfOk};
 ghost use Rattle.bb_flash.specs.Memory.{device_of};
 ghost use Rattle.bb_bucket.specs.Calls.{Agrees};
 ghost use Rattle.bb_bucket.specs.OneBlock.{one_block_holding, one_block_kind};
@@ -14,9 +14,10 @@ use std::alloc::Global;
 use std::process::Abort;
 
 pub(super) fn one_block(alloc: Global) -> Result<OneBlock, NoMemory>
-    ensures { IfOk result (λ block. block ≡ tried_block) }
+    ensures { IfOk result (λ block.
+        block ≡ record { block = tried_block; most = 56; sight = None }) }
 {
-    OneBlock::of(alloc, Region { at: 64, size: 64 }, 16)
+    OneBlock::of(alloc, Region { at: 64, size: 64 }, 16, 56)
 }
 
 fn read(block: &mut OneBlock, board: &mut MemBoard, out: &mut [u8; 56]) -> Result<Found, Failed>

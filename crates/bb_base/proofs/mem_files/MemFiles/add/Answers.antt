@@ -9,5 +9,5 @@ returns-clause-ok c =
     let named : string_bytes c.in_ok-name.name ≡ c.args.name.now = search rules in
     let filled : c.add.new.self ≡ c.args.bytes.now = search rules in
     let added = insert-by_bytes _ _ _ _ c.in_ok-insert.ensures.entries c.self.invariant c.insert.ensures.ordered ∙ ap₂ (map.insert _) named filled in
-    ap (λ files. record { files = files; planned = c.self.inside.planned.items; calls = c.self.inside.calls; faults = c.self.inside.faults }) added
+    ap (λ files. record { files = files; planned = c.self.inside.planned.items; calls = c.self.inside.calls; faults = c.self.inside.faults.count }) added
     ∙ ap (λ s. record { files = map.insert s.files c.args.name.now c.args.bytes.now; planned = s.planned; calls = s.calls; faults = s.faults }) c.self.view_is

@@ -1,20 +1,24 @@
-use Rattle.std.proofs.Common.{ℕ, List, ap, sym, subst}
-use Rattle.bb_base.specs.Form.{Form}
-use Rattle.bb_flash.specs.Device.{Device}
-use Rattle.bb_bucket.specs.Kind.{BucketKind}
+use Rattle.std.proofs.Common.{List, Ok, Err, ap, refl, sym, subst}
 use Rattle.bb_copies.specs.Buckets.{kinds_of}
-use Rattle.bb_copies.specs.Loading.{LookGives}
+use Rattle.bb_copies.specs.Loading.{IsLook}
 use Rattle.bb_copies.specs.Placing.{AllPlaced}
+use Rattle.bb_copies.specs.Store.{Store}
 use Rattle.bb_copies.proofs.copies.Copies.look.Goals as goal
 
-pub returns-clause-gives : goal.returns-clause-gives
-returns-clause-gives g c =
-    let form : Form = g.M.Format.form c.self.inside.format in
-    let kinds : List BucketKind = kinds_of g.B.Bucket.holding c.self.inside.buckets.items in
-    let from : Device = g.F.Flash.device c.args.flash.now in
-    let area : List ℕ = c.find_first-looked.new.area in
-    subst (λ (f : Form). LookGives f (kinds_of g.B.Bucket.holding c.args.self.now.buckets) area from c.in-Ok.passes) (ap (λ store. g.M.Format.form store.format) c.self.view_is)
-    (subst (λ (ks : List BucketKind). LookGives form ks area from c.in-Ok.passes) (ap (λ store. kinds_of g.B.Bucket.holding store.buckets) c.self.view_is) c.in-Ok.ensures.gives)
+pub returns-in_default-clause-look : goal.returns-in_default-clause-look
+returns-in_default-clause-look g c = record {
+  gives = tt;
+  fails = refl;
+  quiet = c.in_default.ensures.quiet;
+  faults = c.in_default.ensures.faults;
+  read_faults = c.in_default.ensures.read_faults;
+}
+
+pub returns-clause-look : goal.returns-clause-look
+returns-clause-look g c =
+    let k = c.in-Ok.ensures in
+    subst (λ (store : Store _ _). IsLook (g.M.Format.form store.format) (kinds_of g.B.Bucket.holding store.buckets) c.find_first-looked.new.area (g.F.Flash.device c.args.flash.now) (g.F.Flash.device c.find_first-looked.new.flash) (Ok c.in-Ok.passes))
+    c.self.view_is (record { gives = k.gives; fails = tt; quiet = k.quiet; faults = k.faults; read_faults = k.read_faults })
 
 pub returns-clause-placed : goal.returns-clause-placed
 returns-clause-placed g c = λ all.

@@ -1,8 +1,10 @@
-use Rattle.std.proofs.Common.{◌≡◌, ◌∙◌, ℕ, IsTrue, ap, subst, sym, ◌++◌, List, drop, length, arith, take}
+use Rattle.std.proofs.Common.{◌≡◌, ◌∙◌, ℕ, Err, IsTrue, ap, subst, sym, ◌++◌, List, drop, length, arith, take, refl}
 use Rattle.std.proofs.lemmas.Bool.{false≢true}
 use Rattle.std.proofs.lemmas.Grind.{common_steps}
+use Rattle.std.proofs.lemmas.Result.{err_from_is_err_and}
 use Rattle.bb_base.specs.Form.{Form}
 use Rattle.bb_copies.specs.Buckets.{AllAgree, kinds_of}
+use Rattle.bb_copies.specs.Loading.{IsLoad}
 use Rattle.bb_copies.specs.declared.answers.Loaded.TheVariants.{NoCopy}
 use Rattle.bb_layout.specs.Defaults.{defaults_of}
 use Rattle.bb_layout.specs.Layout.{fields_of}
@@ -11,77 +13,41 @@ use Rattle.bb_state.specs.Keyed.{Keyed}
 use Rattle.bb_state.specs.Kinds.{any_form, any_holding, key_of_format, laid_form, laid_kinds}
 use Rattle.bb_state.specs.declared.any_bucket.AnyBucket.{AnyBucket}
 use Rattle.bb_state.proofs.Fitting.{defaults_fit}
-use Rattle.bb_state.proofs.Handed.{erasing_of, exact_of, gives_of, images_of, outside_of, raised, refused_of, whole_written}
+use Rattle.bb_state.proofs.Handed.{load_empty, load_of, none_taken, whole_written}
 use Rattle.bb_state.proofs.backing.Backing.load.Goals as goal
-
-pub returns-in_err-loaded-clause-fails : goal.returns-in_err-loaded-clause-fails
-returns-in_err-loaded-clause-fails g c =
-    let kinds : kinds_of any_holding c.self.inside.copies.buckets ≡ laid_kinds c.args.self.now.keyed.layout = c.self.invariant.kinds ∙ ap (λ (b : Backed). laid_kinds b.keyed.layout) c.self.view_is in
-    let form : any_form c.self.inside.copies.format ≡ laid_form c.args.self.now.keyed = ap any_form c.self.invariant.format_is ∙ ap (λ (b : Backed). laid_form b.keyed) c.self.view_is in
-    raised _ c.from_residual.result c.in_err-loaded.field-0.0 c.from_residual.ensures.1
-    (refused_of _ _ c.args.self.now.keyed c.load.new.area _ _ c.in_err-loaded.field-0.0 form kinds c.in_err-loaded.ensures.fails)
-
-pub returns-in_err-loaded-clause-outside : goal.returns-in_err-loaded-clause-outside
-returns-in_err-loaded-clause-outside g c =
-    let kinds : kinds_of any_holding c.self.inside.copies.buckets ≡ laid_kinds c.args.self.now.keyed.layout = c.self.invariant.kinds ∙ ap (λ (b : Backed). laid_kinds b.keyed.layout) c.self.view_is in
-    outside_of _ c.args.self.now.keyed.layout _ _ kinds c.load.ensures.outside
-
-pub returns-then-eq-clause-outside : goal.returns-then-eq-clause-outside
-returns-then-eq-clause-outside g c =
-    let kinds : kinds_of any_holding c.self.inside.copies.buckets ≡ laid_kinds c.args.self.now.keyed.layout = c.self.invariant.kinds ∙ ap (λ (b : Backed). laid_kinds b.keyed.layout) c.self.view_is in
-    outside_of _ c.args.self.now.keyed.layout _ _ kinds c.load.ensures.outside
-
-pub returns-else-eq-clause-outside : goal.returns-else-eq-clause-outside
-returns-else-eq-clause-outside g c =
-    let kinds : kinds_of any_holding c.self.inside.copies.buckets ≡ laid_kinds c.args.self.now.keyed.layout = c.self.invariant.kinds ∙ ap (λ (b : Backed). laid_kinds b.keyed.layout) c.self.view_is in
-    outside_of _ c.args.self.now.keyed.layout _ _ kinds c.load.ensures.outside
-
-pub returns-else-eq-clause-exact : goal.returns-else-eq-clause-exact
-returns-else-eq-clause-exact g c =
-    let kinds : kinds_of any_holding c.self.inside.copies.buckets ≡ laid_kinds c.args.self.now.keyed.layout = c.self.invariant.kinds ∙ ap (λ (b : Backed). laid_kinds b.keyed.layout) c.self.view_is in
-    let form : any_form c.self.inside.copies.format ≡ laid_form c.args.self.now.keyed = ap any_form c.self.invariant.format_is ∙ ap (λ (b : Backed). laid_form b.keyed) c.self.view_is in
-    let kept = take c.self.inside.kept.len (c.load.new.area ++ drop (length c.load.new.area) c.self.inside.kept.items) in
-    let same : kept ≡ c.load.new.area = whole_written c.self.inside.kept.len c.load.new.area c.self.inside.kept.items (grind arith) (grind arith) in
-    exact_of _ _ c.args.self.now.keyed c.load.new.area kept (g.F.Flash.device c.args.flash.now) (g.F.Flash.device c.load.new.flash) c.in_ok-loaded.loaded form kinds same c.in_ok-loaded.ensures.exact
-
-pub returns-else-eq-clause-erases : goal.returns-else-eq-clause-erases
-returns-else-eq-clause-erases g c =
-    let kinds : kinds_of any_holding c.self.inside.copies.buckets ≡ laid_kinds c.args.self.now.keyed.layout = c.self.invariant.kinds ∙ ap (λ (b : Backed). laid_kinds b.keyed.layout) c.self.view_is in
-    let form : any_form c.self.inside.copies.format ≡ laid_form c.args.self.now.keyed = ap any_form c.self.invariant.format_is ∙ ap (λ (b : Backed). laid_form b.keyed) c.self.view_is in
-    let kept = take c.self.inside.kept.len (c.load.new.area ++ drop (length c.load.new.area) c.self.inside.kept.items) in
-    let same : kept ≡ c.load.new.area = whole_written c.self.inside.kept.len c.load.new.area c.self.inside.kept.items (grind arith) (grind arith) in
-    erasing_of _ _ c.args.self.now.keyed c.load.new.area kept (g.F.Flash.device c.args.flash.now) (g.F.Flash.device c.load.new.flash) c.in_ok-loaded.loaded form kinds same c.in_ok-loaded.ensures.erases
 
 pub load-requires-clause-agreed : goal.load-requires-clause-agreed
 load-requires-clause-agreed g c =
     let buckets : c.self.inside.copies.buckets ≡ c.args.self.now.buckets = ap (λ (b : Backed). b.buckets) c.self.view_is in
     subst (λ (buckets : List AnyBucket). AllAgree any_holding (g.F.Flash.device c.args.flash.now) buckets) (sym buckets) c.requires.agreed
 
-pub returns-in_err-loaded-clause-images : goal.returns-in_err-loaded-clause-images
-returns-in_err-loaded-clause-images g c =
-    let kinds : kinds_of any_holding c.self.inside.copies.buckets ≡ laid_kinds c.args.self.now.keyed.layout = c.self.invariant.kinds ∙ ap (λ (b : Backed). laid_kinds b.keyed.layout) c.self.view_is in
-    let form : any_form c.self.inside.copies.format ≡ laid_form c.args.self.now.keyed = ap any_form c.self.invariant.format_is ∙ ap (λ (b : Backed). laid_form b.keyed) c.self.view_is in
-    images_of _ _ c.args.self.now.keyed (g.F.Flash.device c.args.flash.now) (g.F.Flash.device c.load.new.flash) form kinds c.load.ensures.images
-
-pub returns-then-eq-clause-images : goal.returns-then-eq-clause-images
-returns-then-eq-clause-images g c =
-    let kinds : kinds_of any_holding c.self.inside.copies.buckets ≡ laid_kinds c.args.self.now.keyed.layout = c.self.invariant.kinds ∙ ap (λ (b : Backed). laid_kinds b.keyed.layout) c.self.view_is in
-    let form : any_form c.self.inside.copies.format ≡ laid_form c.args.self.now.keyed = ap any_form c.self.invariant.format_is ∙ ap (λ (b : Backed). laid_form b.keyed) c.self.view_is in
-    images_of _ _ c.args.self.now.keyed (g.F.Flash.device c.args.flash.now) (g.F.Flash.device c.load.new.flash) form kinds c.load.ensures.images
-
-pub returns-else-eq-clause-images : goal.returns-else-eq-clause-images
-returns-else-eq-clause-images g c =
-    let kinds : kinds_of any_holding c.self.inside.copies.buckets ≡ laid_kinds c.args.self.now.keyed.layout = c.self.invariant.kinds ∙ ap (λ (b : Backed). laid_kinds b.keyed.layout) c.self.view_is in
-    let form : any_form c.self.inside.copies.format ≡ laid_form c.args.self.now.keyed = ap any_form c.self.invariant.format_is ∙ ap (λ (b : Backed). laid_form b.keyed) c.self.view_is in
-    images_of _ _ c.args.self.now.keyed (g.F.Flash.device c.args.flash.now) (g.F.Flash.device c.load.new.flash) form kinds c.load.ensures.images
-
-pub returns-else-eq-clause-gives : goal.returns-else-eq-clause-gives
-returns-else-eq-clause-gives g c =
+pub returns-in_err-loaded-clause-load : goal.returns-in_err-loaded-clause-load
+returns-in_err-loaded-clause-load g c =
     let kinds : kinds_of any_holding c.self.inside.copies.buckets ≡ laid_kinds c.args.self.now.keyed.layout = c.self.invariant.kinds ∙ ap (λ (b : Backed). laid_kinds b.keyed.layout) c.self.view_is in
     let form : any_form c.self.inside.copies.format ≡ laid_form c.args.self.now.keyed = ap any_form c.self.invariant.format_is ∙ ap (λ (b : Backed). laid_form b.keyed) c.self.view_is in
     let kept = take c.self.inside.kept.len (c.load.new.area ++ drop (length c.load.new.area) c.self.inside.kept.items) in
     let same : kept ≡ c.load.new.area = whole_written c.self.inside.kept.len c.load.new.area c.self.inside.kept.items (grind arith) (grind arith) in
-    gives_of _ _ c.args.self.now.keyed c.load.new.area kept (g.F.Flash.device c.args.flash.now) (g.F.Flash.device c.load.new.flash) c.in_ok-loaded.loaded form kinds same c.in_ok-loaded.ensures.gives
+    let p = err_from_is_err_and c.from_residual.result c.from_residual.ensures.1 in
+    subst (λ r. IsLoad (laid_form c.args.self.now.keyed) (laid_kinds c.args.self.now.keyed.layout) kept (g.F.Flash.device c.args.flash.now) (g.F.Flash.device c.load.new.flash) r)
+    (sym (p.1 ∙ ap (λ e. Err e) p.2))
+    (load_of _ _ c.args.self.now.keyed c.load.new.area kept (g.F.Flash.device c.args.flash.now) (g.F.Flash.device c.load.new.flash) _ form kinds same c.in_err-loaded.ensures.load)
+
+pub returns-then-eq-clause-load : goal.returns-then-eq-clause-load
+returns-then-eq-clause-load g c =
+    let kinds : kinds_of any_holding c.self.inside.copies.buckets ≡ laid_kinds c.args.self.now.keyed.layout = c.self.invariant.kinds ∙ ap (λ (b : Backed). laid_kinds b.keyed.layout) c.self.view_is in
+    let form : any_form c.self.inside.copies.format ≡ laid_form c.args.self.now.keyed = ap any_form c.self.invariant.format_is ∙ ap (λ (b : Backed). laid_form b.keyed) c.self.view_is in
+    let none : c.in_ok-loaded.loaded ≡ NoCopy =
+    none_taken c.in_ok-loaded.loaded (λ used live is. (let equal = rw is at c.eq.ensures in false≢true (sym equal ∙ c.if-eq.true))) in
+    load_empty (laid_form c.args.self.now.keyed) (laid_kinds c.args.self.now.keyed.layout) c.load.new.area _ (g.F.Flash.device c.args.flash.now) (g.F.Flash.device c.load.new.flash) c.in_ok-loaded.loaded none
+    (load_of _ _ c.args.self.now.keyed c.load.new.area c.load.new.area (g.F.Flash.device c.args.flash.now) (g.F.Flash.device c.load.new.flash) _ form kinds refl c.in_ok-loaded.ensures.load)
+
+pub returns-else-eq-clause-load : goal.returns-else-eq-clause-load
+returns-else-eq-clause-load g c =
+    let kinds : kinds_of any_holding c.self.inside.copies.buckets ≡ laid_kinds c.args.self.now.keyed.layout = c.self.invariant.kinds ∙ ap (λ (b : Backed). laid_kinds b.keyed.layout) c.self.view_is in
+    let form : any_form c.self.inside.copies.format ≡ laid_form c.args.self.now.keyed = ap any_form c.self.invariant.format_is ∙ ap (λ (b : Backed). laid_form b.keyed) c.self.view_is in
+    let kept = take c.self.inside.kept.len (c.load.new.area ++ drop (length c.load.new.area) c.self.inside.kept.items) in
+    let same : kept ≡ c.load.new.area = whole_written c.self.inside.kept.len c.load.new.area c.self.inside.kept.items (grind arith) (grind arith) in
+    load_of _ _ c.args.self.now.keyed c.load.new.area kept (g.F.Flash.device c.args.flash.now) (g.F.Flash.device c.load.new.flash) _ form kinds same c.in_ok-loaded.ensures.load
 
 pub returns-then-eq-clause-fits : goal.returns-then-eq-clause-fits
 returns-then-eq-clause-fits g c =
@@ -101,7 +67,7 @@ returns-else-eq-clause-fits g c =
     let same : kept ≡ c.load.new.area = whole_written c.self.inside.kept.len c.load.new.area c.self.inside.kept.items (grind arith) (grind arith) in
     let some : c.in_ok-loaded.loaded ≡ NoCopy → ⊥ = λ is. (let equal = rw is at c.eq.ensures in false≢true (sym c.if-eq.false ∙ equal)) in
     subst (λ (f : Form). IsTrue (f.fits kept)) form
-    (subst (λ (table : List ℕ). IsTrue ((any_form c.self.inside.copies.format).fits table)) (sym same) (c.in_ok-loaded.ensures.fits some))
+    (subst (λ (table : List ℕ). IsTrue ((any_form c.self.inside.copies.format).fits table)) (sym same) (c.in_ok-loaded.ensures.load.fits some))
 
 pub invariant_of-self : goal.invariant_of-self
 invariant_of-self g c = grind (arith, common_steps)

@@ -1,35 +1,51 @@
 use Rattle.std.proofs.Common.{◌≡◌, ℕ, List, Option, arith, ap, subst, sym, ◌∙◌, length}
+use Rattle.bb_base.specs.Form.{Form}
 use Rattle.bb_copies.specs.Buckets.{AllAgree, HaveRoom, kinds_of}
 use Rattle.bb_layout.specs.Layout.{fields_of}
 use Rattle.bb_state.specs.Keyed.{Keyed}
-use Rattle.bb_state.specs.Kinds.{any_form, any_holding, format_of, key_of_format, laid_buckets, laid_form}
+use Rattle.bb_state.specs.Kinds.{any_form, any_holding, format_of, key_of_format, laid_buckets, laid_form, longest}
 use Rattle.bb_state.specs.declared.any_bucket.AnyBucket.{AnyBucket}
-use Rattle.bb_state.proofs.Mounting.{all_agree, all_serve, buckets_len, have_room, key_is}
+use Rattle.bb_state.proofs.Mounting.{all_agree, all_serve, buckets_len, have_room, key_is, laid_are}
 use Rattle.bb_state.proofs.backing.Backing.mount.Goals as goal
 
 pub mount-requires-clause-many : goal.mount-requires-clause-many
 mount-requires-clause-many c =
-    let len = ap (λ (b : List AnyBucket). length b) c.in_ok-buckets.ensures ∙ buckets_len (fields_of c.args.layout) in
+    let keyed : Keyed = record { layout = fields_of c.args.layout; key = c.args.key } in
+    let laid =
+    laid_are keyed c.in_ok-format.format c.longest_of-most.result c.in_ok-buckets.buckets c.requires c.args.layout.facts
+    c.in_ok-format.ensures c.longest_of-most.ensures c.in_ok-buckets.ensures in
+    let len = ap (λ (b : List AnyBucket). length b) laid ∙ buckets_len (fields_of c.args.layout) in
     let least = c.args.layout.facts.copied.least in
     omega arith
 
 pub mount-requires-clause-few : goal.mount-requires-clause-few
 mount-requires-clause-few c =
-    let len = ap (λ (b : List AnyBucket). length b) c.in_ok-buckets.ensures ∙ buckets_len (fields_of c.args.layout) in
+    let keyed : Keyed = record { layout = fields_of c.args.layout; key = c.args.key } in
+    let laid =
+    laid_are keyed c.in_ok-format.format c.longest_of-most.result c.in_ok-buckets.buckets c.requires c.args.layout.facts
+    c.in_ok-format.ensures c.longest_of-most.ensures c.in_ok-buckets.ensures in
+    let len = ap (λ (b : List AnyBucket). length b) laid ∙ buckets_len (fields_of c.args.layout) in
     let most = c.args.layout.facts.copied.most in
     omega arith
 
 pub mount-requires-clause-room : goal.mount-requires-clause-room
 mount-requires-clause-room c =
     let keyed : Keyed = record { layout = fields_of c.args.layout; key = c.args.key } in
-    let kinds = ap (kinds_of any_holding) c.in_ok-buckets.ensures in
+    let laid =
+    laid_are keyed c.in_ok-format.format c.longest_of-most.result c.in_ok-buckets.buckets c.requires c.args.layout.facts
+    c.in_ok-format.ensures c.longest_of-most.ensures c.in_ok-buckets.ensures in
+    let kinds = ap (kinds_of any_holding) laid in
     let form = ap any_form c.in_ok-format.ensures in
-    subst (λ form. HaveRoom form (kinds_of any_holding c.in_ok-buckets.buckets)) (sym form) (subst (HaveRoom (laid_form keyed)) (sym kinds) (have_room keyed c.args.layout.facts))
+    subst (λ (form : Form). HaveRoom (longest form) (kinds_of any_holding c.in_ok-buckets.buckets)) (sym form)
+    (subst (HaveRoom (longest (laid_form keyed))) (sym kinds) (have_room keyed c.args.layout.facts))
 
 pub invariant_of-result : goal.invariant_of-result
 invariant_of-result c =
     let keyed : Keyed = record { layout = fields_of c.args.layout; key = c.args.key } in
-    let buckets : c.in_ok-copies.copies.buckets ≡ laid_buckets (fields_of c.args.layout) = c.in_ok-copies.ensures.buckets ∙ c.in_ok-buckets.ensures in
+    let laid =
+    laid_are keyed c.in_ok-format.format c.longest_of-most.result c.in_ok-buckets.buckets c.requires c.args.layout.facts
+    c.in_ok-format.ensures c.longest_of-most.ensures c.in_ok-buckets.ensures in
+    let buckets : c.in_ok-copies.copies.buckets ≡ laid_buckets (fields_of c.args.layout) = c.in_ok-copies.ensures.buckets ∙ laid in
     let format : c.in_ok-copies.copies.format ≡ format_of keyed = c.in_ok-copies.ensures.format ∙ c.in_ok-format.ensures in
     let key : key_of_format c.in_ok-copies.copies.format ≡ c.args.key = ap key_of_format format ∙ key_is keyed c.requires in
     record {
@@ -47,4 +63,16 @@ returns-clause-keyed c =
 
 pub returns-clause-agrees : goal.returns-clause-agrees
 returns-clause-agrees c = λ device.
-    subst (λ (buckets : List AnyBucket). AllAgree any_holding device buckets) (sym (c.in_ok-copies.ensures.buckets ∙ c.in_ok-buckets.ensures)) (all_agree (fields_of c.args.layout) device)
+    let keyed : Keyed = record { layout = fields_of c.args.layout; key = c.args.key } in
+    let laid =
+    laid_are keyed c.in_ok-format.format c.longest_of-most.result c.in_ok-buckets.buckets c.requires c.args.layout.facts
+    c.in_ok-format.ensures c.longest_of-most.ensures c.in_ok-buckets.ensures in
+    subst (λ (buckets : List AnyBucket). AllAgree any_holding device buckets) (sym (c.in_ok-copies.ensures.buckets ∙ laid)) (all_agree (fields_of c.args.layout) device)
+
+pub returns-clause-buckets : goal.returns-clause-buckets
+returns-clause-buckets c =
+    let keyed : Keyed = record { layout = fields_of c.args.layout; key = c.args.key } in
+    let laid =
+    laid_are keyed c.in_ok-format.format c.longest_of-most.result c.in_ok-buckets.buckets c.requires c.args.layout.facts
+    c.in_ok-format.ensures c.longest_of-most.ensures c.in_ok-buckets.ensures in
+    c.in_ok-copies.ensures.buckets ∙ laid

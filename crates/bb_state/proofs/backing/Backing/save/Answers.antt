@@ -1,54 +1,43 @@
-use Rattle.std.proofs.Common.{◌≡◌, ◌∙◌, List, ap, subst, sym}
+use Rattle.std.proofs.Common.{◌≡◌, ◌∙◌, Err, List, None, Some, false, ap, subst, sym}
+use Rattle.std.proofs.lemmas.Result.{err_from_is_err_and}
+use Rattle.std.specs.Result.{result_err}
 use Rattle.bb_copies.specs.Buckets.{AllAgree, kinds_of}
-use Rattle.bb_state.specs.Backed.{Backed}
+use Rattle.bb_copies.specs.Saving.{IsSave}
+use Rattle.bb_copies.specs.declared.answers.CopyFault.TheVariants.{Unsure}
+use Rattle.bb_state.specs.Backed.{Backed, form_in, kinds_in}
 use Rattle.bb_state.specs.Kinds.{any_form, any_holding, laid_form, laid_kinds}
 use Rattle.bb_state.specs.declared.any_bucket.AnyBucket.{AnyBucket}
-use Rattle.bb_state.proofs.Handed.{erased_of, fails_of, raised, runs_of, stored_of, written_of}
+use Rattle.bb_state.proofs.Handed.{save_of}
 use Rattle.bb_state.proofs.backing.Backing.save.Goals as goal
-
-pub returns-clause-saved : goal.returns-clause-saved
-returns-clause-saved g c =
-    let kinds : kinds_of any_holding c.self.inside.copies.buckets ≡ laid_kinds c.args.self.now.keyed.layout = c.self.invariant.kinds ∙ ap (λ (b : Backed). laid_kinds b.keyed.layout) c.self.view_is in
-    let form : any_form c.self.inside.copies.format ≡ laid_form c.args.self.now.keyed = ap any_form c.self.invariant.format_is ∙ ap (λ (b : Backed). laid_form b.keyed) c.self.view_is in
-    stored_of _ _ c.args.self.now.keyed c.args.table.now _ c.in_ok-save.field-0.live _ _ form kinds c.in_ok-save.ensures.saved
-
-pub returns-in_err-save-clause-runs : goal.returns-in_err-save-clause-runs
-returns-in_err-save-clause-runs g c =
-    let kinds : kinds_of any_holding c.self.inside.copies.buckets ≡ laid_kinds c.args.self.now.keyed.layout = c.self.invariant.kinds ∙ ap (λ (b : Backed). laid_kinds b.keyed.layout) c.self.view_is in
-    let form : any_form c.self.inside.copies.format ≡ laid_form c.args.self.now.keyed = ap any_form c.self.invariant.format_is ∙ ap (λ (b : Backed). laid_form b.keyed) c.self.view_is in
-    let used = ap (λ (b : Backed). b.used) c.self.view_is in
-    let k = c.save.ensures in
-    runs_of _ _ _ c.args.self.now c.args.table.now _ _ form kinds used k.images k.bounds k.outside k.later k.starts k.whole
-
-pub returns-clause-runs : goal.returns-clause-runs
-returns-clause-runs g c =
-    let kinds : kinds_of any_holding c.self.inside.copies.buckets ≡ laid_kinds c.args.self.now.keyed.layout = c.self.invariant.kinds ∙ ap (λ (b : Backed). laid_kinds b.keyed.layout) c.self.view_is in
-    let form : any_form c.self.inside.copies.format ≡ laid_form c.args.self.now.keyed = ap any_form c.self.invariant.format_is ∙ ap (λ (b : Backed). laid_form b.keyed) c.self.view_is in
-    let used = ap (λ (b : Backed). b.used) c.self.view_is in
-    let k = c.save.ensures in
-    runs_of _ _ _ c.args.self.now c.args.table.now _ _ form kinds used k.images k.bounds k.outside k.later k.starts k.whole
 
 pub save-requires-clause-agreed : goal.save-requires-clause-agreed
 save-requires-clause-agreed g c =
     let buckets : c.self.inside.copies.buckets ≡ c.args.self.now.buckets = ap (λ (b : Backed). b.buckets) c.self.view_is in
     subst (λ (buckets : List AnyBucket). AllAgree any_holding (g.F.Flash.device c.args.flash.now) buckets) (sym buckets) c.requires.agreed
 
-pub returns-in_err-save-clause-fails : goal.returns-in_err-save-clause-fails
-returns-in_err-save-clause-fails g c =
+pub returns-in_err-save-clause-save : goal.returns-in_err-save-clause-save
+returns-in_err-save-clause-save g c =
     let kinds : kinds_of any_holding c.self.inside.copies.buckets ≡ laid_kinds c.args.self.now.keyed.layout = c.self.invariant.kinds ∙ ap (λ (b : Backed). laid_kinds b.keyed.layout) c.self.view_is in
     let form : any_form c.self.inside.copies.format ≡ laid_form c.args.self.now.keyed = ap any_form c.self.invariant.format_is ∙ ap (λ (b : Backed). laid_form b.keyed) c.self.view_is in
     let used = ap (λ (b : Backed). b.used) c.self.view_is in
-    raised _ c.from_residual.result c.in_err-save.field-0.0 c.from_residual.ensures.1
-    (fails_of _ _ _ c.args.self.now c.args.table.now (g.F.Flash.device c.args.flash.now) (g.F.Flash.device c.save.new.flash) c.in_err-save.field-0.0 form kinds used c.in_err-save.ensures.fails)
+    let sure = ap (λ (b : Backed). b.sure) c.self.view_is in
+    let seen = c.args.self.now in
+    let p = err_from_is_err_and c.from_residual.result c.from_residual.ensures.1 in
+    subst (λ r. IsSave (form_in seen) (kinds_in seen) seen.sure seen.used c.save.new.self.used c.args.table.now (g.F.Flash.device c.args.flash.now) (g.F.Flash.device c.save.new.flash) (result_err r))
+    (sym (p.1 ∙ ap (λ e. Err e) p.2))
+    (save_of _ _ _ _ seen c.save.new.self.used c.args.table.now (g.F.Flash.device c.args.flash.now) (g.F.Flash.device c.save.new.flash) (Some c.in_err-save.field-0.0) form kinds sure used c.in_err-save.ensures.save)
 
-pub returns-clause-exact : goal.returns-clause-exact
-returns-clause-exact g c = λ quiet.
+pub returns-clause-save : goal.returns-clause-save
+returns-clause-save g c =
     let kinds : kinds_of any_holding c.self.inside.copies.buckets ≡ laid_kinds c.args.self.now.keyed.layout = c.self.invariant.kinds ∙ ap (λ (b : Backed). laid_kinds b.keyed.layout) c.self.view_is in
     let form : any_form c.self.inside.copies.format ≡ laid_form c.args.self.now.keyed = ap any_form c.self.invariant.format_is ∙ ap (λ (b : Backed). laid_form b.keyed) c.self.view_is in
-    written_of _ _ c.args.self.now.keyed c.args.table.now (g.F.Flash.device c.args.flash.now) (g.F.Flash.device c.save.new.flash) form kinds (c.in_ok-save.ensures.exact quiet)
+    let used = ap (λ (b : Backed). b.used) c.self.view_is in
+    let sure = ap (λ (b : Backed). b.sure) c.self.view_is in
+    save_of _ _ _ _ c.args.self.now c.save.new.self.used c.args.table.now (g.F.Flash.device c.args.flash.now) (g.F.Flash.device c.save.new.flash) None form kinds sure used c.in_ok-save.ensures.save
 
-pub returns-clause-erases : goal.returns-clause-erases
-returns-clause-erases g c = λ quiet.
-    let kinds : kinds_of any_holding c.self.inside.copies.buckets ≡ laid_kinds c.args.self.now.keyed.layout = c.self.invariant.kinds ∙ ap (λ (b : Backed). laid_kinds b.keyed.layout) c.self.view_is in
-    let form : any_form c.self.inside.copies.format ≡ laid_form c.args.self.now.keyed = ap any_form c.self.invariant.format_is ∙ ap (λ (b : Backed). laid_form b.keyed) c.self.view_is in
-    erased_of _ _ c.args.self.now.keyed c.args.table.now (g.F.Flash.device c.args.flash.now) (g.F.Flash.device c.save.new.flash) form kinds (c.in_ok-save.ensures.erases quiet)
+-- copies that aren't sure refuse a save
+pub returns-clause-unchanged : goal.returns-clause-unchanged
+returns-clause-unchanged g c = λ off.
+    let was : c.self.inside.copies.sure ≡ false = ap (λ (b : Backed). b.sure) c.self.view_is ∙ off in
+    let none : None ≡ Some Unsure = c.in_ok-save.ensures.save.unsure.1 was in
+    absurd cc

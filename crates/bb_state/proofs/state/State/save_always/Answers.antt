@@ -1,0 +1,22 @@
+use Rattle.std.proofs.Common.{◌∙◌, List, ℕ, ap, subst, sym}
+use Rattle.std.specs.Result.{result_err}
+use Rattle.bb_copies.specs.Saving.{IsSave}
+use Rattle.bb_state.specs.Keyed.{Keyed}
+use Rattle.bb_state.specs.State.{form_of, is_sure, kinds_of, used_of}
+use Rattle.bb_state.proofs.state.State.save_always.Goals as goal
+
+pub returns-clause-save : goal.returns-clause-save
+returns-clause-save g c =
+    let state = c.args.self.now in
+    subst
+    (λ (table : List ℕ). IsSave (form_of state) (kinds_of state) (is_sure state) (used_of state) c.save.new.self.used table (g.F.Flash.device c.args.flash.now) (g.F.Flash.device c.save.new.flash) (result_err c.save.result))
+    c.bytes.ensures c.save.ensures.save
+
+pub returns-clause-on : goal.returns-clause-on
+returns-clause-on g c =
+    let runs = c.save.ensures.save.runs in
+    record {
+      geometry = runs.later.geometry ∙ c.requires.geometry ∙ ap (λ (k : Keyed). k.layout.geometry) (sym c.save.ensures.keyed);
+      agrees = c.save.ensures.agrees;
+      whole = runs.whole;
+    }
