@@ -258,13 +258,13 @@ unasked_of ran s h = elim (own_or_first ran s) [
 -- ---- a fault of the device
 
 -- a session that ends so was refused by its work, for a fault of the device
-record IsFaulted (ran : Ran) (answers : Answers) (plan : PlanEnd) (answer : Status) : Type 0 where
-  work : SessionPlan
-  plan_is : plan ≡ Ok work
-  fault : CopyFault
-  refusal_is : (session_by plan answers).refusal ≡ Some (copy_refusal fault)
-  status_is : status_of (copy_refusal fault) ≡ answer
-  tells : FaultTells work.keyed (From ran) (To ran) fault
+pub record IsFaulted (ran : Ran) (answers : Answers) (plan : PlanEnd) (answer : Status) : Type 0 where
+  pub work : SessionPlan
+  pub plan_is : plan ≡ Ok work
+  pub fault : CopyFault
+  pub refusal_is : (session_by plan answers).refusal ≡ Some (copy_refusal fault)
+  pub status_is : status_of (copy_refusal fault) ≡ answer
+  pub tells : FaultTells work.keyed (From ran) (To ran) fault
 
 module _ (ran : Ran) (answer : Status) (late : is_planning answer ≡ false)
     (memory : answer ≢ statuses.NoMemory) (other : answer ≢ statuses.Done)
@@ -288,7 +288,7 @@ module _ (ran : Ran) (answer : Status) (late : is_planning answer ≡ false)
         tells = why.known.tells;
       }
 
-  faulted : (own : IsOwn ran answer) →
+  pub faulted : (own : IsOwn ran answer) →
       IsFaulted ran own.by.answers (plan_of ran own.by.answers) answer
   faulted own =
       let by = own.by in

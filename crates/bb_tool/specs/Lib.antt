@@ -29,3 +29,4 @@ pub mod ScriptEnds
 pub mod Sending
 pub mod SessionAnswer
 pub mod Starting
+pub mod Trial

@@ -11,4 +11,4 @@ mod session;
 pub use bb_plan::Status;
 pub use law::{law_attempts, law_chronicle, law_wear};
 pub use send::{send_fault, send_text};
-pub use session::run;
+pub use session::{run, run_silently};

@@ -7,6 +7,7 @@ ghost use Rattle.bb_tool.specs.Clauses.{SendsTheSession, StartsTheBest, WorksUnd
 ghost use Rattle.bb_tool.specs.SessionAnswer.{IsSessionAnswer, IsTaskDone};
 ghost use Rattle.bb_plan.specs.Plan.{IsTaskFor, names_file, task_as};
 ghost use Rattle.bb_tool.specs.Ran.{ran_by};
+ghost use Rattle.bb_tool.specs.Trial.{ButSession, LacksSession};
 ghost use Rattle.bb_plan.specs.FilesRead.{IsFolderLater};
 ghost use Rattle.bb_plan.specs.Refusal.{IsSendableRefusal};
 
@@ -105,5 +106,26 @@ fn do_task<B: Board>(alloc: Global, board: &mut B, task: PlannedTask) -> Result<
         PlannedTask::OnCopies(plan) => do_work(alloc, board, plan),
         PlannedTask::Prints(text) => Ok(Report::done(text)),
         PlannedTask::Drills(numbers) => drill_report(alloc, numbers),
+    }
+}
+
+/// A trial: `answer` with an arm more, by which a session that ends with ReadFault sends no line.
+/// All facts of `run` but `session` hold of it, which doesn't where that arm was taken.
+pub fn run_silently<N: Files, B: Board, K: Sink>(
+    alloc: Global,
+    words: &TextList,
+    files: &mut N,
+    board: &mut B,
+    sink: &mut K,
+) -> Status
+    ensures whole { ButSession (ran_by N.folder B.device K.sink words.now
+        files.old files.new board.old board.new sink.old sink.new result) }
+    ensures lacks { LacksSession (ran_by N.folder B.device K.sink words.now
+        files.old files.new board.old board.new sink.old sink.new result) }
+{
+    match session(alloc, words, files, board) {
+        Ok(report) => send_report(alloc, report, sink),
+        Err(Refusal::ReadFault) => Status::ReadFault,
+        Err(refusal) => send_refusal(alloc, &refusal, sink),
     }
 }
