@@ -31,8 +31,8 @@ pub struct ReadAhead {
 }
 
 impl ReadAhead {
-    /// Reads ahead on a device of this geometry. No piece is longer than the device. Memory is taken
-    /// here alone.
+    /// Reads ahead on a device of this geometry. No piece is longer than the device. Memory is
+    /// taken here alone.
     pub fn of(alloc: Global, geometry: Geometry) -> io::Result<ReadAhead>
         requires { IsGeometry geometry }
     {
