@@ -60,9 +60,9 @@ impl CommandLine {
         match env::args(rt) {
             Ok(mut args) => {
                 let _ = args.next();
-                let mut words = TextList::none(rt.alloc());
+                let mut words = Vec::new(rt.alloc());
                 for word in args {
-                    words.push(Text::of(rt.alloc(), word.as_str())?)?;
+                    words.push(word)?;
                 }
                 CommandLine::of(rt.alloc(), &words)
             }
@@ -92,18 +92,15 @@ impl CommandLine {
     }
 
     // What these words, all after the program's name, ask for.
-    fn of(alloc: Global, words: &TextList) -> Result<CommandLine, NoMemory> {
+    fn of(alloc: Global, words: &[String]) -> Result<CommandLine, NoMemory> {
         let mut options = Options::none();
-        for place in 0..words.len() {
-            let Some(word) = words.get(place) else {
-                unreachable!()
-            };
+        for (place, word) in words.iter().enumerate() {
             match options.take(alloc, word.as_str())? {
                 Taken::Taken => {}
                 Taken::Device => {
                     return Ok(CommandLine {
                         options,
-                        call: Call::of(words, place)?,
+                        call: Call::of(alloc, words, place)?,
                         words: words_from(alloc, words, place.saturating_add(2))?,
                     });
                 }
@@ -159,20 +156,20 @@ fn once(noted: &mut bool) -> Taken {
 
 impl Call {
     // What the words from a place on ask for. `--help` and `--version` count only as the one word.
-    fn of(words: &TextList, place: usize) -> Result<Call, NoMemory> {
+    fn of(alloc: Global, words: &[String], place: usize) -> Result<Call, NoMemory> {
         let (Some(path), Some(geometry)) = (words.get(place), words.get(place.saturating_add(1)))
         else {
             return Ok(lone(words));
         };
         Ok(Call::Session(Device {
-            path: path.copy()?,
-            geometry: geometry.copy()?,
+            path: Text::of(alloc, path.as_str())?,
+            geometry: Text::of(alloc, geometry.as_str())?,
         }))
     }
 }
 
 // What fewer words than two after the options ask for.
-fn lone(words: &TextList) -> Call {
+fn lone(words: &[String]) -> Call {
     let (Some(word), 1) = (words.get(0), words.len()) else {
         return Call::NoSession;
     };
@@ -183,14 +180,11 @@ fn lone(words: &TextList) -> Call {
     }
 }
 
-// A copy of the words from a place on.
-fn words_from(alloc: Global, words: &TextList, start: usize) -> Result<TextList, NoMemory> {
+// The words from a place on.
+fn words_from(alloc: Global, words: &[String], start: usize) -> Result<TextList, NoMemory> {
     let mut rest = TextList::none(alloc);
-    for place in start..words.len() {
-        let Some(word) = words.get(place) else {
-            unreachable!()
-        };
-        rest.push(word.copy()?)?;
+    for word in words.iter().skip(start) {
+        rest.push(Text::of(alloc, word.as_str())?)?;
     }
     Ok(rest)
 }

@@ -7,27 +7,41 @@ use std::fs::File;
 use std::io;
 use std::os::unix::fs::FileExt;
 
-// The most bytes that are read from the system at once.
-const PIECE_LEN: u32 = 65_536;
+// The most bytes that are read at once of a device that is erased in blocks.
+const BLOCK_PIECE_LEN: u32 = 65_536;
 
-// The bytes that are read at first of a device that isn't erased in blocks: most records are
-// shorter. Where the next read goes on there, the rest of a piece follows.
-const FRONT_LEN: u32 = 1_024;
+// The most of any other. From 65,536 bytes on the C library tidies up where they are freed.
+const RUN_PIECE_LEN: u32 = 65_280;
+
+// The bytes that are read there at first. Most records are shorter.
+const FRONT_LEN: usize = 1_024;
 
 /// A piece of a device's file, kept for a look that goes over it in small reads, backwards too. Who
 /// writes the file has to say `forget` first.
 #[derive(Drop)]
 pub struct ReadAhead {
-    // What was read last, in memory that was taken for the longest piece.
-    piece: Vec<u8>,
-    // Where it begins, if one is kept.
-    start: Option<u64>,
-    // How many bytes the system gave.
-    len: usize,
-    // A piece begins at a multiple of this.
-    align: u64,
-    front_len: usize,
+    // The bytes that are kept, in memory that was taken for the longest piece.
+    bytes: Vec<u8>,
+    // The piece that was asked for, if one is kept.
+    piece: Option<Piece>,
+    // How many bytes of it the system gave.
+    given: usize,
     most_len: usize,
+    is_in_blocks: bool,
+    // The reads that went on from one to the next, up to the last.
+    run: Run,
+}
+
+#[derive(Clone, Copy)]
+struct Piece {
+    start: u64,
+    len: usize,
+}
+
+#[derive(Clone, Copy)]
+struct Run {
+    start: u64,
+    end: u64,
 }
 
 impl ReadAhead {
@@ -36,27 +50,35 @@ impl ReadAhead {
     pub fn of(alloc: Global, geometry: Geometry) -> io::Result<ReadAhead>
         requires { IsGeometry geometry }
     {
-        let whole = PIECE_LEN.min(geometry.size);
-        let pages = whole - whole % geometry.page;
-        let (align, front_len, most_len) = match geometry.block {
-            0 => (1, FRONT_LEN.min(whole), (PIECE_LEN - FRONT_LEN).min(whole)),
-            _ => (pages, pages, pages),
+        let is_in_blocks = geometry.block != 0;
+        let most = match is_in_blocks {
+            true => BLOCK_PIECE_LEN.min(geometry.size),
+            false => RUN_PIECE_LEN.min(geometry.size),
         };
+        let most_len = (most - most % geometry.page) as usize;
         Ok(ReadAhead {
-            piece: Vec::with_capacity(alloc, most_len as usize)?,
-            start: None,
-            len: 0,
-            align: u64::from(align),
-            front_len: front_len as usize,
-            most_len: most_len as usize,
+            bytes: Vec::with_capacity(alloc, most_len)?,
+            piece: None,
+            given: 0,
+            most_len,
+            is_in_blocks,
+            run: Run { start: 0, end: 0 },
         })
     }
 
     /// Reads as `read_exact_at` of the file does. Where a whole piece can't be read, only these
     /// bytes are.
     pub fn read_exact_at(&mut self, file: &File, out: &mut [u8], at: u64) -> io::Result<()> {
+        self.run = Run {
+            start: if at == self.run.end {
+                self.run.start
+            } else {
+                at
+            },
+            end: at.saturating_add(out.len() as u64),
+        };
         if self.kept(at, out.len()).is_none() {
-            self.keep(file, at);
+            self.keep(file, self.piece_at(at));
         }
         match self.kept(at, out.len()) {
             Some(bytes) => {
@@ -69,43 +91,52 @@ impl ReadAhead {
 
     /// Drops what was read ahead.
     pub fn forget(&mut self) {
-        self.start = None;
+        self.piece = None;
     }
 
-    // Reads the piece with this place, where it isn't kept.
-    fn keep(&mut self, file: &File, at: u64) {
-        let start = at - at.checked_rem(self.align).unwrap_or(0);
-        if self.start == Some(start) {
-            return;
+    // The piece to be read for a read at this place. On a device in blocks it begins at a multiple
+    // of its length. On any other it is short for the first read of a run. For a later one it is
+    // long, and has the whole run where it can.
+    fn piece_at(&self, at: u64) -> Piece {
+        let len = self.most_len;
+        if self.is_in_blocks {
+            let start = at - at.checked_rem(len as u64).unwrap_or(0);
+            return Piece { start, len };
         }
-        let len = match self.goes_on(at) {
-            true => self.most_len,
-            false => self.front_len,
-        };
-        self.start = None;
-        if self.piece.len() < len && self.piece.resize(len, 0).is_err() {
-            return;
+        let Run { start, end } = self.run;
+        if at == start {
+            return Piece {
+                start,
+                len: FRONT_LEN.min(len),
+            };
         }
-        if let Some(room) = self.piece.as_mut_slice().get_mut(..len) {
-            self.len = file.read_at(room, start).unwrap_or(0);
-            self.start = Some(start);
+        match end.saturating_sub(start) <= len as u64 {
+            true => Piece { start, len },
+            false => Piece { start: at, len },
         }
     }
 
-    // Whether this place is in the piece that is kept, or the next after it.
-    fn goes_on(&self, at: u64) -> bool {
-        let Some(start) = self.start else {
-            return false;
-        };
-        start <= at && at - start <= self.len as u64
+    // Reads this piece, unless it is kept.
+    fn keep(&mut self, file: &File, piece: Piece) {
+        if matches!(self.piece, Some(kept) if kept.start == piece.start && kept.len == piece.len) {
+            return;
+        }
+        self.piece = None;
+        if self.bytes.len() < piece.len && self.bytes.resize(piece.len, 0).is_err() {
+            return;
+        }
+        if let Some(room) = self.bytes.as_mut_slice().get_mut(..piece.len) {
+            self.given = file.read_at(room, piece.start).unwrap_or(0);
+            self.piece = Some(piece);
+        }
     }
 
     // So many bytes from this place on, where the piece has them.
     fn kept(&self, at: u64, len: usize) -> Option<&[u8]>
         ensures { IfSome result (λ bytes. length bytes.now ≡ len) }
     {
-        let offset = at.checked_sub(self.start?)?;
-        let bytes = self.piece.get(..self.len)?;
+        let offset = at.checked_sub(self.piece?.start)?;
+        let bytes = self.bytes.get(..self.given)?;
         bytes.get(offset as usize..)?.get(..len)
     }
 }
