@@ -99,13 +99,15 @@ fn passes_by(rt: &impl Abort, raw: &Raw, size: usize)
     requires some { 0 < size }
     requires area { raw.now.area_len ≡ 9 }
 {
+    let record = keyed_record();
+    let (cut, _) = record.split_at(56);
     let mut longer = [9u8; 60];
-    longer[..57].copy_from_slice(&keyed_record());
+    longer[..57].copy_from_slice(&record);
     let mut area = [0u8; 9];
     assert_eq!(rt; check_by(raw, &longer, size, &mut area), PASSED);
     assert_eq!(rt; area, *b"123456789", "in pieces of {size}");
-    assert_eq!(rt; check_by(raw, &longer[..57], size, &mut area), PASSED);
-    assert_eq!(rt; check_by(raw, &longer[..56], size, &mut area), None);
+    assert_eq!(rt; check_by(raw, &record, size, &mut area), PASSED);
+    assert_eq!(rt; check_by(raw, cut, size, &mut area), None);
 }
 
 #[test]

@@ -6,7 +6,7 @@ use Rattle.test_devices.specs.Trials.{tried_stride}
 use Rattle.test_devices.proofs.bucket.stride.void.Goals as goal
 
 pub void-requires-clause-serves : goal.void-requires-clause-serves
-void-requires-clause-serves c = stride_serves _ _ c.requires.here c.requires.held
+void-requires-clause-serves c = stride_serves _ c.args.board.now.geometry c.requires.here c.requires.held
 
 pub returns-clause-held : goal.returns-clause-held
 returns-clause-held c =

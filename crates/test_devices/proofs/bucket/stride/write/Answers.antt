@@ -6,7 +6,7 @@ use Rattle.test_devices.specs.Trials.{tried_stride}
 use Rattle.test_devices.proofs.bucket.stride.write.Goals as goal
 
 pub write-requires-clause-serves : goal.write-requires-clause-serves
-write-requires-clause-serves c = stride_serves _ _ c.requires.here c.requires.held
+write-requires-clause-serves c = stride_serves _ c.args.board.now.geometry c.requires.here c.requires.held
 
 pub returns-clause-held : goal.returns-clause-held
 returns-clause-held c =
