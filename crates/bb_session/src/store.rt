@@ -58,7 +58,8 @@ fn put(state: &mut State, work: &Work) -> Result<(), Refusal>
             Ok(())
         }
         Work::Good(chooser) => mark(state, chooser),
-        Work::Show | Work::Boot(_, _, _) | Work::Run(_, _, _, _) => unreachable!(),
+        Work::Show | Work::Boot(_, _, _) => unreachable!(),
+        Work::Run(_, _, _, _) | Work::Install(_, _, _) => unreachable!(),
     }
 }
 
@@ -112,5 +113,6 @@ fn say(alloc: Global, state: &State, work: &Work) -> Result<Bytes, NoMemory>
         Work::Good(chooser) => good_text(alloc, chooser, &state.table),
         Work::Show | Work::Write(_) => Ok(Bytes::none(alloc)),
         Work::Boot(_, _, _) | Work::Run(_, _, _, _) => Ok(Bytes::none(alloc)),
+        Work::Install(_, _, _) => Ok(Bytes::none(alloc)),
     }
 }

@@ -1,19 +1,20 @@
-ghost use Rattle.std.specs.Prelude.{◌≡◌, IfErr, true};
+ghost use Rattle.std.specs.Prelude.{◌≡◌, IfErr, length, true};
 ghost use Rattle.bb_flash.specs.Cuts.{IsLater};
 ghost use Rattle.bb_flash.specs.Device.{IsDevice};
 ghost use Rattle.bb_state.specs.State.{IsOn, keyed_of, used_of};
 ghost use Rattle.bb_session.specs.Acting.{needs_table};
-ghost use Rattle.bb_session.specs.Doing.{IsAtHand, IsDone};
+ghost use Rattle.bb_session.specs.Doing.{IsAtHand, IsDone, page_len};
 ghost use Rattle.bb_plan.specs.Plan.{IsPlannedFor, IsServed, plan_as};
 ghost use Rattle.bb_plan.specs.Refusal.{IsSendableRefusal};
 ghost use Rattle.bb_session.specs.Work.{IsWorkedOut};
 
 use crate::boot::boot;
+use crate::install::install;
 use crate::raw::look;
 use crate::report::Report;
 use crate::script::run;
 use crate::store::{store, stores};
-use bb_flash::Board;
+use bb_flash::{Board, Geometry};
 use bb_plan::{PlannedWork, Refusal, Work};
 use bb_state::State;
 use std::alloc::Global;
@@ -49,8 +50,9 @@ fn work_on<B: Board>(
     if !needs_table(&work) {
         return look(alloc, board, &mut state);
     }
+    let mut page = vec![in alloc; 0u8; page_len(board.geometry(), &work)]?;
     state.load(board)?;
-    work_at(alloc, board, state, work)
+    work_at(alloc, board, state, work, &mut page)
 }
 
 // Whether a work is done on a table that was loaded.
@@ -60,16 +62,29 @@ fn needs_table(work: &Work) -> bool
     !matches!(work, Work::Show)
 }
 
+// How long a page is that a work needs memory for, or 0: it is filled before a program.
+fn page_len(geometry: Geometry, work: &Work) -> usize
+    ensures { result ≡ page_len geometry work.now }
+{
+    if let Work::Install(_, _, _) = work {
+        geometry.page as usize
+    } else {
+        0
+    }
+}
+
 // The work on a table that was just loaded.
 fn work_at<B: Board>(
     alloc: Global,
     board: &mut B,
     mut state: State,
     work: Work,
+    page: &mut [u8],
 ) -> Result<Report, Refusal>
     requires needs { needs_table work ≡ true }
     requires served { IsServed (keyed_of state) work }
     requires hand { IsAtHand state (B.device board.old) }
+    requires page { length page.old ≡ page_len (B.device board.old).geometry work }
     ensures did { IsDone (keyed_of state) (used_of state) state.table work
         (B.device board.old) (B.device board.new) result }
 {
@@ -82,6 +97,9 @@ fn work_at<B: Board>(
         }
         Work::Run(script, chooser, cause, plans) => {
             run(alloc, board, state, &script, chooser, cause, plans)
+        }
+        Work::Install(chooser, target, place) => {
+            install(alloc, board, &mut state, &chooser, target, &place, page)
         }
         Work::Show => unreachable!(),
         Work::Write(_area) => unreachable!(),

@@ -49,7 +49,7 @@ abbrev unmade : RoundAnswer
 unmade = record { save = Some (faults.WriteFault 1); starts = false }
 
 abbrev answered : List RoundAnswer → WorkAnswers
-answered rounds = record { rounds = rounds; grants = None }
+answered rounds = record { rounds = rounds; grants = None; stuck = None }
 
 -- ---- sessions, for what was answered
 
@@ -61,7 +61,7 @@ save = codes "raw" ∷ codes "0x12345678" ∷ codes "9" ∷ codes "-s" ∷ codes
 
 -- by the device, where no file is read
 abbrev given : LoadAnswer → List RoundAnswer → Answers
-given load rounds = record { files = []; load = load; work = answered rounds; drill = None }
+given load rounds = record { files = []; load = load; work = answered rounds; drill = None; compared = None }
 
 abbrev saved : Option Refusal → Option CopyFault → Session
 saved refusal fault =
@@ -90,12 +90,12 @@ raw_sessions = (refl, refl, refl, refl, refl, refl, refl)
 abbrev without_tree : List ℕ → Session
 without_tree command =
     session_of (command ∷ codes "-i" ∷ codes "b.dts" ∷ codes "-c" ∷ codes "set.txt" ∷ []) in_place
-    (record { files = Ok None ∷ []; load = Ok None; work = no_answers; drill = None })
+    (record { files = Ok None ∷ []; load = Ok None; work = no_answers; drill = None; compared = None })
 
 abbrev drilling : Option DrillCounts → Session
 drilling counts =
     session_of (codes "drill" ∷ codes "3" ∷ codes "1" ∷ []) in_place
-    (record { files = []; load = Ok None; work = no_answers; drill = counts })
+    (record { files = []; load = Ok None; work = no_answers; drill = counts; compared = None })
 
 abbrev one_session : DrillCounts
 one_session =
