@@ -9,7 +9,7 @@
 # options, and what completes the value of each: written by tests/style/commands.
 # begin words
 _bbx_first="--plan= --read-only --explain --progress"
-_bbx_commands="raw state mark-good boot shell install verify menu drill"
+_bbx_commands="raw state mark-good boot shell install verify history menu drill"
 declare -gA _bbx_before=() _bbx_options=() _bbx_values=()
 _bbx_before[raw]=2
 _bbx_options[raw]="-g -s"
@@ -19,6 +19,7 @@ _bbx_options[boot]="-i --input -c -n --name -k --cause"
 _bbx_options[shell]="-i --input -c -x -n --name -k --cause"
 _bbx_options[install]="-i --input -c -t -p -f --sha256 -n --name -k"
 _bbx_options[verify]="-i --input -p -f -n --name"
+_bbx_options[history]="-i --input -n --name -k"
 _bbx_options[menu]="--dir"
 _bbx_before[drill]=2
 _bbx_options[drill]=""

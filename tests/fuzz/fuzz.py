@@ -17,7 +17,7 @@ from words import Call
 
 # The findings of which the files are kept.
 KEPT = 40
-COMMANDS = ('raw', 'state', 'mark-good', 'boot', 'shell', 'menu', 'drill')
+COMMANDS = ('raw', 'state', 'mark-good', 'boot', 'shell', 'history', 'menu', 'drill')
 PLAIN = set(b'abcdefghijklmnopqrstuvwxyzABCDEFGHIJKLMNOPQRSTUVWXYZ0123456789_./:=,@%+-')
 
 

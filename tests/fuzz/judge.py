@@ -3,7 +3,7 @@ import os
 import re
 import sys
 
-from device import Strides, Table, Targets, passing
+from device import Strides, Table, Targets, converted, history, passing
 from folder import content
 from foresee import Foreseen
 from shell import Shell
@@ -46,6 +46,7 @@ DONE = {
     'mark-good': rb'good [A-Za-z0-9_-]+ [0-9]+\n',
     'boot': rb'start [A-Za-z0-9_-]+ left [0-9]+ tries [0-9]+\n',
     'shell': rb'.*',
+    'history': rb'copy 0 entries [0-9]+\n.*',
     'help': rb'bbx DEVICE GEOMETRY COMMAND .*\n',
     'version': rb'bbx [0-9.]+\n',
 }
@@ -99,6 +100,8 @@ class Wanted:
             self.want_raw(command)
         elif foreseen.sure and command and command.name == 'drill':
             self.answers = [(0, COUNTS)]
+        elif foreseen.sure and command and command.name == 'history':
+            self.want_history()
         elif foreseen.sure and command:
             try:
                 self.want_state(command)
@@ -108,16 +111,25 @@ class Wanted:
     def want_raw(self, command):
         self.layout = Strides(command, self.foreseen.call.geometry)
         found = [area for area in passing(self.layout, self.base, None) if area is not None]
-        text = (found[0].hex() if found else 'none') + '\n'
+        text = (converted(self.layout, found[0]).hex() if found else 'none') + '\n'
         if command.area is not None:
             text, self.area, self.writes, self.saves = '', command.area, True, command.area not in found
         self.answers = [(0, text.encode())]
+
+    def want_history(self):
+        lines = []
+        for copy, areas in enumerate(history(self.layout, self.base, self.foreseen.key)):
+            lines.append(b'copy %d entries %d\n' % (copy, len(areas)))
+            for number, area in enumerate(areas, 1):
+                table = Table(self.layout, converted(self.layout, area))
+                lines.append(b'entry %d\n' % number + table.lines('dump'))
+        self.answers = [(0, b''.join(lines))]
 
     def want_state(self, command):
         foreseen = self.foreseen
         found = passing(self.layout, self.base, foreseen.key)
         loaded = next((area for area in found if area is not None), None)
-        first = self.layout.defaults() if loaded is None else loaded
+        first = converted(self.layout, loaded or b'')
         table, begun = Table(self.layout, first), None
         if command.name == 'state':
             status, text = 0, table.act(command.actions)
@@ -135,9 +147,10 @@ class Wanted:
         self.answers = [(status, text if isinstance(text, bytes) else text.encode())]
         last = first if status in (10, 18) else bytes(table.area)
         self.saves = last != first and last not in found
-        if last != first or loaded is not None:
-            self.area = last
-            self.writes = last != first or any(area != last for area in found)
+        kept = last if last != first else loaded
+        if kept is not None:
+            self.area = kept
+            self.writes = last != first or any(area != kept for area in found)
         if begun is not None:
             self.area, self.writes, self.saves = last, True, begun not in found
 
@@ -191,7 +204,7 @@ def judge_form(run, call, got):
     if got.status == 14:
         form = b''
     elif got.status:
-        front = rb'tries [0-9]+\n' if got.status == 11 else b'.*' if name == 'shell' else b''
+        front = rb'tries [0-9]+\n' if got.status == 11 else b'.*' if name in ('shell', 'history') else b''
         form = front + rb'fault %d (?:%s)\n' % (got.status, FAULTS[got.status])
     if not re.fullmatch(form if run.output == 'kept' else b'', got.text, re.S):
         yield f'it ends with {got.status} and sends {shown(got.text)}'

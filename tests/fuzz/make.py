@@ -102,8 +102,8 @@ class Maker:
     def board(self):
         """A session of new words on a device that a layout's copies stand on."""
         dice, run, corpus = self.dice, self.run, self.corpus
-        command = dice.pick([b'state'] * 5 + [b'boot'] * 3 + [b'mark-good'] + [b'shell'] * 3)
-        is_any = command == b'state' or dice.once_in(9)
+        command = dice.pick([b'state'] * 5 + [b'boot'] * 3 + [b'mark-good'] + [b'shell'] * 3 + [b'history'])
+        is_any = command in (b'state', b'history') or dice.once_in(9)
         under_a_key = is_any and dice.once_in(5)
         boards = corpus.boards if is_any else corpus.booting
         board = dice.pick(corpus.keyed if under_a_key else boards)
@@ -121,7 +121,7 @@ class Maker:
             words += [b'-n', dice.pick([layout.name, b'state', b'other', b''])]
         if command == b'state':
             words = self.actions(layout, words)
-        else:
+        elif command != b'history':
             self.targets()
             words += [b'-c', b'set.txt']
         if command == b'shell':

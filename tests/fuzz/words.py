@@ -5,7 +5,7 @@ import re
 from values import geometry_of, is_number, is_utf8, number
 
 LONG = {'--input': '-i', '--name': '-n', '--get': '-g', '--set': '-s'}
-ONCE = {'state': 'ink', 'mark-good': 'inkc', 'boot': 'inkc', 'shell': 'inkcx'}
+ONCE = {'state': 'ink', 'history': 'ink', 'mark-good': 'inkc', 'boot': 'inkc', 'shell': 'inkcx'}
 SESSIONS = range(1, 1001)
 TARGET = re.compile(r'[A-Za-z0-9_-]+')
 GENERAL = ('targets', 'state_prefix', 'default_attempts', 'default_priority', 'reset_attempts',

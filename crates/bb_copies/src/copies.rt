@@ -101,6 +101,13 @@ impl<B: Bucket + Drop, M: Format + Drop> Copies<B, M> {
         })
     }
 
+    /// The format of its records.
+    pub fn format(&self) -> &M
+        ensures { result.now ≡ self.now.format }
+    {
+        &self.format
+    }
+
     /// Reads all copies, takes the area of the first that passes, of whatever length, which is then
     /// in front of `area`, and makes the others pass it too: each that doesn't, or has a Worn page,
     /// is written; where that fails it is voided. The used copy is written anew only where it is

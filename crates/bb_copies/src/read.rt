@@ -12,7 +12,7 @@ use bb_flash::Flash;
 
 /// A copy that passes.
 #[derive(Clone, Copy, Debug, PartialEq, Eq)]
-pub(crate) struct PassingCopy {
+pub struct PassingCopy {
     /// A page of its record is Worn: it is to be written anew.
     pub worn: bool,
     /// How many bytes its area has.
@@ -21,7 +21,7 @@ pub(crate) struct PassingCopy {
 
 /// Reads a copy, and leaves in front of `area` the area that it passes as, if it does. Its record
 /// is read and checked in pieces as long as `piece`.
-pub(crate) fn read_copy<B: Bucket, M: Format, F: Flash>(
+pub fn read_copy<B: Bucket, M: Format, F: Flash>(
     bucket: &mut B,
     format: &M,
     flash: &mut F,

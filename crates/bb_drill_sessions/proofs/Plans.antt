@@ -81,6 +81,8 @@ none_acted (Err refusal) work h = absurd cc
 none_started : (files : FileMap) (request : Request) (layout : Laid) (work : Work) →
     result_over files (work_reading request layout) ≡ Ok work → starts_by request ≡ false →
     start_plans_of work ≡ []
+none_started files requests.History layout work h e =
+    ap start_plans_of (sym (same_Ok works.History work h))
 none_started files (requests.Act actions) layout work h e =
     let bound = actions_by layout.vars actions in
     none_acted bound work (sym (over_of files (acting bound)) ∙ h)

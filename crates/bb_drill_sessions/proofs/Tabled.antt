@@ -16,6 +16,7 @@ use Rattle.bb_layout.specs.Kept.{IsLaid}
 use Rattle.bb_layout.specs.Layout.{Laid}
 use Rattle.bb_plan.specs.Plan.{SessionPlan, first_area}
 use Rattle.bb_plan.specs.declared.plan.Work.{Work}
+use Rattle.bb_plan.specs.declared.plan.Work.TheVariants.{History, Show}
 use Rattle.bb_session.proofs.Acted.{by_work, session_after}
 use Rattle.bb_session.proofs.Faulting.{copies_are}
 use Rattle.bb_session.specs.Acting.{WorkAnswers, acts_of, kept_before, needs_table, sound_answers, start_plans_of, rounds_for}
@@ -58,16 +59,23 @@ found_after keyed page (Some area) x z some alike =
 
 -- ---- the area that was saved last
 
+-- work that only reads has none
+none_last : (plan : SessionPlan) (others : WorkAnswers) (found : Option (List ℕ)) → needs_table plan.work ≡ false →
+    is_some (last_area plan found others) ≡ false
+none_last plan others found reads = by plan.work reads
+  where
+    by : (w : Work) → needs_table w ≡ false → is_some (last_area (record { keyed = plan.keyed; work = w }) found others) ≡ false
+    by Show reads = refl
+    by History reads = refl
+    by _ reads = absurd cc
+
 -- work that loads or saves one has copies
 pub has_copies : (plan : SessionPlan) (from to : Device) (load : LoadAnswer) (answers others : WorkAnswers) (found : Option (List ℕ)) →
     IsWork plan from to load answers → is_some (last_area plan found others) ≡ true → 1 ≤ plan.keyed.layout.copies
 has_copies plan from to load answers others found work some =
     by_work plan from to load answers work
     (λ needs done. let many = done.many in omega (arith, many))
-    (λ shows done.
-    absurd
-    (false≢true
-    (sym (ap (λ (w : Work). is_some (last_area (record { keyed = plan.keyed; work = w }) found others)) shows) ∙ some)))
+    (λ reads done. absurd (false≢true (sym (none_last plan others found reads) ∙ some)))
 
 -- what was loaded is the defaults where no copy passed
 last_either : (needs : Bool) (areas : List (List ℕ)) (first : List ℕ) →

@@ -19,15 +19,17 @@ use Rattle.bb_plan.specs.declared.refusal.Refusal.TheVariants as refusals
 use Rattle.bb_plan.specs.declared.status.Status.{Status}
 use Rattle.bb_plan.specs.declared.status.Status.TheVariants as statuses
 use Rattle.bb_session.proofs.Barred.{HasMemory, HasNoFault, fault_call, is_call_fault, is_memory}
+use Rattle.bb_session.proofs.Acted.{session_after}
 use Rattle.bb_session.proofs.Exact.{plan_done, plan_makes}
-use Rattle.bb_session.proofs.Unrefused.{unrefused, work_gives, work_same}
-use Rattle.bb_session.specs.Acting.{WorkAnswers, kept_before, taken_by}
+use Rattle.bb_session.proofs.Unrefused.{sound_with, unrefused, work_gives, work_same}
+use Rattle.bb_session.specs.Acting.{Acts, BootsFrom, Lists, Plays, SavesAround, SavesNone, SavesOnce, Stops, WorkAnswers, kept_before, rounds_for, start_plans_of, taken_by}
 use Rattle.bb_session.specs.Booting.{start_of}
 use Rattle.bb_session.specs.Exactly.{CopyWrite, EachContent, EachTold, LeavesRegions, PassAlike, erases_in, last_area, last_area_of, loaded_region, place_after, saved_region, saves_made, slot_erases, sum_of_writes, worked_region, writes_of_load, writes_of_saves, writes_of_work}
-use Rattle.bb_session.specs.Looking.{first_found, passed_in}
-use Rattle.bb_session.specs.Session.{LoadAnswer, Session, answers_after, ended_status, loaded_area, work_session}
+use Rattle.bb_session.specs.Looking.{first_found, listed_by, passed_in}
+use Rattle.bb_session.specs.Session.{LoadAnswer, Session, acts_after, answers_after, ended_status, loaded_area, work_session}
 use Rattle.bb_session.specs.Work.{Gives, IsWork, IsWorkedOut}
 use Rattle.bb_session.specs.declared.report.Report.{Report}
+use Rattle.bb_shell.specs.Boot.{Round}
 use Rattle.bb_shell.specs.Stages.{saves_of}
 use Rattle.bb_state.specs.Keyed.{Keyed}
 use Rattle.bb_state.specs.Kinds.{laid_form, laid_kinds}
@@ -42,12 +44,12 @@ use Rattle.bb_drill_sessions.proofs.Tabled.{has_copies, table_after}
 -- ---- where nothing fails: what is left hangs on the saves that are made
 
 module _ (plan : SessionPlan) (found : Option (List ℕ)) (one two : WorkAnswers)
-    (same : work_session plan (Ok found) one ≡ work_session plan (Ok found) two) where
+    (same : (work_session plan (Ok found) one).rounds ≡ (work_session plan (Ok found) two).rounds) where
   abbrev Taken : Option (List ℕ)
   Taken = taken_by plan.work found
 
   saves_same : saves_made plan found one ≡ saves_made plan found two
-  saves_same = ap (λ (s : Session). saves_of (kept_before plan.work (loaded_area plan.keyed.layout found)) s.rounds) same
+  saves_same = ap (saves_of (kept_before plan.work (loaded_area plan.keyed.layout found))) same
 
   region_same : (kind : BucketKind) (region : Image) → worked_region plan found one kind region ≡ worked_region plan found two kind region
   region_same kind region =
@@ -64,6 +66,26 @@ module _ (plan : SessionPlan) (found : Option (List ℕ)) (one two : WorkAnswers
 
   last_same : last_area plan found one ≡ last_area plan found two
   last_same = ap (last_area_of Taken) saves_same
+
+-- what is listed makes no round
+listed_aside : (plan : SessionPlan) (found : Option (List ℕ)) (text : List ℕ) →
+    (work_session plan (Ok found) (sound_with text (answers_after plan (Ok found)))).rounds
+    ≡ (work_session plan (Ok found) (answers_after plan (Ok found))).rounds
+listed_aside plan found text =
+    let sound = answers_after plan (Ok found) in
+    session_after plan found (sound_with text sound)
+    ∙ by (acts_after plan found) sound
+    ∙ sym (session_after plan found sound)
+  where
+    by : (acts : Acts) (answers : WorkAnswers) →
+        rounds_for (start_plans_of plan.work) acts (sound_with text answers) ≡ rounds_for (start_plans_of plan.work) acts answers
+    by SavesNone answers = refl
+    by Lists answers = refl
+    by (Stops bar) answers = refl
+    by (SavesOnce table) answers = refl
+    by (SavesAround first place second) answers = refl
+    by (BootsFrom targets table) answers = refl
+    by (Plays script known) answers = refl
 
 -- ---- a plan that was followed
 
@@ -116,10 +138,14 @@ module _ (plan : SessionPlan) (before after : Memory) (geometry : before.geometr
   whole : HasNoFault (work_session plan (Ok found) answers)
   whole = unrefused plan (device_of before) (device_of after) (Ok found) answers work calm.calls
 
-  same : work_session plan (Ok Held) answers ≡ work_session plan (Ok Held) Sound
+  -- the rounds are those of answers that refuse nothing, whatever these list
+  same : (work_session plan (Ok Held) answers).rounds ≡ (work_session plan (Ok Held) Sound).rounds
   same =
-      subst (λ f. work_session plan (Ok f) answers ≡ work_session plan (Ok f) (answers_after plan (Ok f))) held_is
-      (work_same plan (device_of before) (device_of after) found answers work whole memory (inr calm.starts))
+      subst
+      (λ f. (work_session plan (Ok f) answers).rounds ≡ (work_session plan (Ok f) (answers_after plan (Ok f))).rounds) held_is
+      (ap (λ (s : Session). s.rounds)
+      (work_same plan (device_of before) (device_of after) found answers work whole memory X refl (inr calm.starts))
+      ∙ listed_aside plan found (listed_by plan.work plan.keyed before.geometry.page X))
 
   left : LeavesRegions (laid_kinds plan.keyed.layout) board_geometry.page (worked_region plan Held answers) X Y
   left =
@@ -154,8 +180,8 @@ module _ (plan : SessionPlan) (before after : Memory) (geometry : before.geometr
   start : MakesStart (start_at (Ok plan) (board_state_of before)) (board_state_of before) (board_state_of after)
   start =
       makes_start (start_at (Ok plan) (board_state_of before)) before after
-      (subst (λ (s : Session). AddsOne (start_of plan.work s.rounds) (device_of before) (device_of after))
-      (ap (λ f. work_session plan (Ok f) answers) held_is ∙ same)
+      (subst (λ (rounds : List Round). AddsOne (start_of plan.work rounds) (device_of before) (device_of after))
+      (ap (λ f. (work_session plan (Ok f) answers).rounds) held_is ∙ same)
       (work_start plan (device_of before) (device_of after) (Ok found) answers work))
 
   pub followed_sound : IsFollowedSound (Ok plan) (board_state_of before) (board_state_of after)

@@ -340,6 +340,7 @@ IsSizedOn layout work = IsSizedWork work layout
 
 work_ends : (request : Request) (layout : Laid) → IsSized layout →
     Ends (IsSizedOn layout) (work_reading request layout)
+work_ends requests.History layout sized = tt
 work_ends (requests.Act actions) layout sized =
     both_end Any (IsSizedOn layout) (λ (bound : List BoundAction). Ok (Act bound))
     (actions_by layout.vars actions)
@@ -502,6 +503,8 @@ command_ends (commands.Shell command) geometry =
     (requests.Run command.boot.settings command.script command.boot.cause)
 command_ends (commands.Install command) geometry = install_ends command geometry
 command_ends (commands.Verify command) geometry = verify_ends command geometry
+command_ends (commands.History command) geometry =
+    described_ends command.described geometry requests.History
 command_ends (commands.Menu command) geometry = λ found. menu_ends command.dir found
 command_ends (commands.Drill numbers) geometry = tt
 

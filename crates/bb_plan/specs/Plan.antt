@@ -38,7 +38,7 @@ use Rattle.bb_plan.specs.declared.request.Request.{Request}
 use Rattle.bb_plan.specs.declared.request.Request.TheVariants as requests
 use Rattle.bb_plan.specs.declared.status.Status.{Status}
 use Rattle.bb_plan.specs.Refusal.{status_of}
-pub use Rattle.bb_plan.specs.Tasks.{Act, Boot, Compares, Drills, Good, Install, OnCopies, Prints, Run, SessionPlan, Show, Task, Work, Write, on_copies}
+pub use Rattle.bb_plan.specs.Tasks.{Act, Boot, Compares, Drills, Good, History, Install, OnCopies, Prints, Run, SessionPlan, Show, Task, Work, Write, on_copies}
 
 -- how a session ends without a work on copies: it sends a text, it runs a drill, it compares a slot
 -- with an image, or it is refused
@@ -88,6 +88,7 @@ run_reading file cause targets = and_then (run_of cause targets) (script_reading
 
 -- the work that is asked for, by the layout
 abbrev pub work_reading : Request → Laid → Reading Work
+work_reading requests.History layout = Yields History
 work_reading (requests.Act actions) layout = reading_of (acting (actions_by layout.vars actions))
 work_reading (requests.Good settings) layout =
     and_then (λ targets. Yields (Good targets)) (binding_reading settings layout)
@@ -120,6 +121,8 @@ command_reading (commands.Shell command) geometry =
     (requests.Run command.boot.settings command.script command.boot.cause)
 command_reading (commands.Install command) geometry = install_reading command geometry
 command_reading (commands.Verify command) geometry = verify_reading command geometry
+command_reading (commands.History command) geometry =
+    described_reading command.described geometry requests.History
 command_reading (commands.Menu command) geometry =
     and_then (λ text. Yields (Prints text)) (menu_reading command.dir)
 command_reading (commands.Drill numbers) geometry = Yields (Drills numbers)
@@ -217,9 +220,11 @@ pub record IsInstallable (layout : Laid) (targets : Binding) (target : ℕ) (pla
   pub fits : FitsBeside layout place
 
 -- a layout serves a work: a look and a save of an area are of raw records, a save is of an area of
--- the layout's length, and actions and targets are bound to its variables
+-- the layout's length, and actions and targets are bound to its variables. Every layout serves a
+-- history
 abbrev pub IsServed : Keyed → Work → Type 0
 IsServed keyed Show = IsUnkeyedRaw keyed
+IsServed keyed History = ⊤
 IsServed keyed (Write area) = IsUnkeyedRaw keyed × (length area ≡ keyed.layout.area_len)
 IsServed keyed (Act actions) = AreBoundTo keyed.layout.vars actions
 IsServed keyed (Good targets) = IsBoundAt keyed.layout targets

@@ -5,7 +5,7 @@ use Rattle.bb_words.specs.declared.command.DrillNumbers.{DrillNumbers}
 use Rattle.bb_plan.specs.FilesRead.{Reading, Yields}
 use Rattle.bb_plan.specs.declared.plan.SlotImage.{SlotImage}
 pub use Rattle.bb_plan.specs.declared.plan.Work.{Work}
-pub use Rattle.bb_plan.specs.declared.plan.Work.TheVariants.{Act, Boot, Good, Install, Run, Show, Write}
+pub use Rattle.bb_plan.specs.declared.plan.Work.TheVariants.{Act, Boot, Good, History, Install, Run, Show, Write}
 
 -- the layout with the block of its key, if its records stand under one, and the work
 pub record SessionPlan : Type 0 where

@@ -11,6 +11,8 @@ use bb_words::DrillNumbers;
 pub enum Work {
     /// To look at them, and to send the area of the first that passes in hexadecimal.
     Show,
+    /// To read what their regions still hold, and to send the areas that pass, oldest first.
+    History,
     /// To load them, and to save this area.
     Write(Bytes),
     /// To load them, to put the values among these actions, to save the table that this makes where

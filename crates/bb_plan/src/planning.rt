@@ -70,6 +70,9 @@ fn plan_command<N: Files>(
         }
         Command::Install(command) => plan_install(alloc, command, files, geometry),
         Command::Verify(command) => plan_verify(alloc, command, files, geometry),
+        Command::History(command) => {
+            plan_described(alloc, &command.described, Request::History, files, geometry)
+        }
         Command::Menu(command) => {
             let text = read_menu(alloc, files, &command.dir)?;
             Ok(PlannedTask::Prints(text))

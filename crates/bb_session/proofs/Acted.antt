@@ -14,7 +14,7 @@ use Rattle.bb_shell.specs.Sequence.{refused_in, save_round}
 use Rattle.bb_shell.specs.Rounds.{answer_of, best_of, rounds_by}
 use Rattle.bb_shell.proofs.Answering.{rounds_are}
 use Rattle.bb_layout.specs.Layout.{Laid}
-use Rattle.bb_session.specs.Acting.{Acts, AreRoundsOf, BootsFrom, LastOne, NoneBest, Plays, SavesAround, SavesOnce, Stops, WorkAnswers, acts_of, around_rounds, boots_of, kept_before, marks_of, needs_table, place_in, rounds_for, save_rounds, save_rounds_around, start_plans_of}
+use Rattle.bb_session.specs.Acting.{Acts, AreRoundsOf, BootsFrom, LastOne, Lists, NoneBest, Plays, SavesAround, SavesOnce, Stops, WorkAnswers, acts_of, around_rounds, boots_of, kept_before, marks_of, needs_table, place_in, rounds_for, save_rounds, save_rounds_around, start_plans_of}
 use Rattle.bb_session.specs.Around.{slot_of_work, slot_refusal}
 use Rattle.bb_session.specs.Marking.{lost_place}
 use Rattle.bb_session.specs.Installing.{installed_name}
@@ -22,7 +22,7 @@ use Rattle.bb_session.specs.Looking.{look_text}
 use Rattle.bb_plan.specs.Plan.{SessionPlan}
 use Rattle.bb_plan.specs.declared.plan.SlotImage.{SlotImage}
 use Rattle.bb_plan.specs.declared.plan.Work.{Work}
-use Rattle.bb_plan.specs.declared.plan.Work.TheVariants.{Boot, Good, Install, Show}
+use Rattle.bb_plan.specs.declared.plan.Work.TheVariants.{Boot, Good, History, Install, Show}
 use Rattle.bb_plan.specs.declared.refusal.Refusal.{Refusal}
 use Rattle.bb_session.specs.Session.{LoadAnswer, acts_after, ended_by, loaded_area, refusal_at_end, rounds_after, session_by_acts, shown, text_after, text_unstuck, work_session, work_text}
 use Rattle.bb_session.specs.Doing.{session_on}
@@ -32,20 +32,16 @@ use Rattle.bb_session.proofs.Plays.{plays_to}
 
 -- ---- a look, or rounds after a load
 
-pub looks_only : (work : Work) → needs_table work ≡ false → work ≡ Show
-looks_only Show none = refl
-looks_only _ none = absurd cc
-
 -- a fact about the work of a plan is one of rounds after a load, or of a look
 pub by_work : {P : Type 0} (plan : SessionPlan) (from to : Device) (load : LoadAnswer) (answers : WorkAnswers) →
     IsWork plan from to load answers →
     (needs_table plan.work ≡ true → IsTableWork plan from to load answers → P) →
-    (plan.work ≡ Show → IsLookWork plan from to load answers → P) → P
+    (needs_table plan.work ≡ false → IsLookWork plan from to load answers → P) → P
 by_work plan from to load answers work table look = elim (cases_Bool (needs_table plan.work)) [
   | inl needs ↦
       table needs (MatchBool-at_true (IsTableWork plan from to load answers) (IsLookWork plan from to load answers) needs work)
   | inr none ↦
-      look (looks_only plan.work none)
+      look none
       (MatchBool-at_false (IsTableWork plan from to load answers) (IsLookWork plan from to load answers) none work)
 ]
 
@@ -98,6 +94,7 @@ acted_rounds plan found (Plays script known) answers = refl
 acted_rounds plan found (SavesAround first place second) answers =
     let rounds = save_rounds_around first second answers.stuck answers.rounds in
     ended_rounds (refused_in rounds) (text_unstuck answers.stuck (text_after plan found rounds)) (slot_refusal answers.stuck) rounds
+acted_rounds plan found Lists answers = refl
 acted_rounds plan found acts answers =
     let rounds = rounds_for (start_plans_of plan.work) acts answers in
     ended_rounds (refused_in rounds) (text_after plan found rounds) (refusal_at_end acts rounds) rounds
@@ -158,11 +155,35 @@ module _ {plan : SessionPlan} {from to : Device} {found : Option (List ℕ)} {an
       (work.loaded.later.geometry ∙ work.geometry) (slot_is plan.keyed.layout plan.work (loaded_area plan.keyed.layout found))
       work.ran.are work.ran.run
 
--- of a look
-pub look_rounds : (plan : SessionPlan) (load : LoadAnswer) (answers : WorkAnswers) → plan.work ≡ Show → (work_session plan load answers).rounds ≡ []
-look_rounds plan (Err fault) answers is = refl
-look_rounds plan (Ok found) answers is =
-    ap (λ (w : Work). (work_session (record { keyed = plan.keyed; work = w }) (Ok found) answers).rounds) is
+-- of a work that only reads there are none
+pub look_after : (plan : SessionPlan) (found : Option (List ℕ)) (answers : WorkAnswers) → needs_table plan.work ≡ false →
+    rounds_after plan found answers ≡ []
+look_after plan found answers none = by plan.work none
+  where
+    by : (w : Work) → needs_table w ≡ false → rounds_after (record { keyed = plan.keyed; work = w }) found answers ≡ []
+    by Show none = refl
+    by History none = refl
+    by _ none = absurd cc
+
+-- and no slot is written
+pub look_place : (layout : Laid) (work : Work) (table : List ℕ) → needs_table work ≡ false → place_in (acts_of layout work table) ≡ None
+look_place layout Show table none = refl
+look_place layout History table none = refl
+look_place layout _ table none = absurd cc
+
+pub look_rounds : (plan : SessionPlan) (load : LoadAnswer) (answers : WorkAnswers) → needs_table plan.work ≡ false → (work_session plan load answers).rounds ≡ []
+look_rounds plan (Err fault) answers none = refl
+look_rounds plan (Ok found) answers none = session_after plan found answers ∙ look_after plan found answers none
+
+-- and none of it is refused
+pub look_unrefused : (plan : SessionPlan) (found : Option (List ℕ)) (answers : WorkAnswers) → needs_table plan.work ≡ false →
+    (work_session plan (Ok found) answers).refusal ≡ None
+look_unrefused plan found answers none = by plan.work none
+  where
+    by : (w : Work) → needs_table w ≡ false → (work_session (record { keyed = plan.keyed; work = w }) (Ok found) answers).refusal ≡ None
+    by Show none = refl
+    by History none = refl
+    by _ none = absurd cc
 
 -- one on a table hangs on the table alone
 pub table_session : (plan : SessionPlan) (found : Option (List ℕ)) (answers : WorkAnswers) → needs_table plan.work ≡ true →
@@ -182,6 +203,7 @@ table_session plan found answers needs = by (acts_after plan found)
     by (SavesAround first place second) =
         let rounds = save_rounds_around first second answers.stuck answers.rounds in
         ap (λ text. ended_by (refused_in rounds) (text_unstuck answers.stuck text) (slot_refusal answers.stuck) rounds) (texts rounds)
+    by Lists = refl
     by acts =
         let rounds = rounds_for (start_plans_of plan.work) acts answers in
         ap (λ text. ended_by (refused_in rounds) text (refusal_at_end acts rounds) rounds) (texts rounds)

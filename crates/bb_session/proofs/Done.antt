@@ -122,6 +122,7 @@ done_by keyed used table work acts at rounds now from to given are played unplac
             around_of keyed (start_plans_of work) (place_in (acts_of keyed.layout work table)) (kept_before work table) used now rounds None
             from to (ap place_in at ∙ unplaced) run;
         played = subst (λ a. IsPlayOf a answers rounds) (sym at) played;
+        listed = refl;
       };
       ends =
           subst (λ (s : Session). EndsWith s given)

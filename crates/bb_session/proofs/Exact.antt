@@ -48,16 +48,14 @@ use Rattle.bb_shell.proofs.Reached.{begun_saving, idle_saving, rounds_later}
 use Rattle.bb_shell.proofs.Starts.{by_start, round_later, start_later, unrefused as unrefused_round}
 use Rattle.bb_plan.specs.Plan.{SessionPlan}
 use Rattle.bb_plan.specs.declared.plan.SlotImage.{SlotImage}
-use Rattle.bb_plan.specs.declared.plan.Work.{Work}
-use Rattle.bb_plan.specs.declared.plan.Work.TheVariants.{Show}
-use Rattle.bb_session.specs.Acting.{WorkAnswers, acts_of, kept_before, needs_table, place_in, start_plans_of, taken_by}
+use Rattle.bb_session.specs.Acting.{WorkAnswers, kept_before, needs_table, start_plans_of, taken_by}
 use Rattle.bb_session.specs.Around.{AreRunAround, IsSlotRun, IsSlotRunAfter}
 use Rattle.bb_session.specs.Exactly.{HoldsImage, LeavesRegions, PassAlike, is_fresh, place_after, last_area, last_area_of, loaded_region, saved_region, saves_made, worked_region, writes_of_load, writes_of_saves, writes_of_work}
 use Rattle.bb_session.specs.Looking.{first_found, passed_in}
 use Rattle.bb_session.specs.Session.{LoadAnswer, acts_after, loaded_area, shown, work_session}
 use Rattle.bb_session.specs.Work.{IsLoadedArea, IsLookWork, IsTableWork, IsWork, area_taken}
 use Rattle.bb_session.proofs.Accounts.{Account, Makes, Writes, account, account_of, makes_by, makes_none, quiet_account, same_account, told_same}
-use Rattle.bb_session.proofs.Acted.{by_work, look_rounds, ran_of, session_rounds}
+use Rattle.bb_session.proofs.Acted.{by_work, look_place, look_rounds, ran_of, session_rounds}
 use Rattle.bb_session.proofs.Around.{acts_stop, joined_only, one_round, slot_parts}
 use Rattle.bb_session.proofs.Barred.{HasNoFault, fault_call}
 use Rattle.bb_session.proofs.Faulting.{rose_by, rose_from, rose_on}
@@ -508,11 +506,11 @@ module _ (plan : SessionPlan) (from to : Device) (answers : WorkAnswers) (first 
             subst (λ (g : Geometry). IfSome place (λ p. HoldsImage g p last.image)) early.geometry after.holds;
       })
 
-  look_left : (found : Option (List ℕ)) → plan.work ≡ Show → IsLookWork plan from to (Ok found) answers → IsWorkLeft found
-  look_left found shows work =
-      work_left found None [] (ap (λ (w : Work). taken_by w found) shows)
-      (ap (tables_of (kept_before plan.work (loaded_area plan.keyed.layout found))) (look_rounds plan (Ok found) answers shows))
-      (subst (λ (w : Work). AreLeftAfter (place_in (acts_of plan.keyed.layout w (loaded_area plan.keyed.layout found))) None []) (sym shows)
+  look_left : (found : Option (List ℕ)) → needs_table plan.work ≡ false → IsLookWork plan from to (Ok found) answers → IsWorkLeft found
+  look_left found reads work =
+      work_left found None [] (ap (λ n. if n then found else None) reads)
+      (ap (tables_of (kept_before plan.work (loaded_area plan.keyed.layout found))) (look_rounds plan (Ok found) answers reads))
+      (subst (λ (p : Option SlotImage). AreLeftAfter p None []) (sym (look_place plan.keyed.layout plan.work (loaded_area plan.keyed.layout found) reads))
       (record {
         copies =
             subst (AreLeftBy plan.keyed from.geometry None None [] (account_of first))
@@ -529,7 +527,7 @@ module _ (plan : SessionPlan) (from to : Device) (answers : WorkAnswers) (first 
       let whole = unrefused plan from to (Ok found) answers work calm in
       subst IsWorkLeft (work_gives plan from to found answers work first.image (told_content from first e))
       (by_work plan from to (Ok found) answers work (λ needs done. table_left found needs done whole calm)
-      (λ shows done. look_left found shows done))
+      (λ reads done. look_left found reads done))
 
 pub plan_makes : (plan : SessionPlan) (from to : Device) (load : LoadAnswer) (answers : WorkAnswers) → IsWork plan from to load answers →
     NothingFails from to → (first last : Told) → from.told ≡ Some first → to.told ≡ Some last →

@@ -35,19 +35,18 @@ use Rattle.bb_shell.proofs.Starts.{round_later, unrefused}
 use Rattle.bb_install.specs.Beside.{IsBesideCopies}
 use Rattle.bb_plan.specs.Plan.{SessionPlan}
 use Rattle.bb_plan.specs.declared.plan.SlotImage.{SlotImage}
-use Rattle.bb_plan.specs.declared.plan.Work.{Work}
 use Rattle.bb_plan.specs.Refusal.{copy_refusal, status_of}
 use Rattle.bb_plan.specs.declared.refusal.Refusal.{Refusal}
 use Rattle.bb_plan.specs.declared.refusal.Refusal.TheVariants as refusals
 use Rattle.bb_plan.specs.declared.status.Status.{Status}
 use Rattle.bb_plan.specs.declared.status.Status.TheVariants as statuses
-use Rattle.bb_session.specs.Acting.{Acts, AreRoundsOf, LastOne, LostPlace, NoneBest, Plays, SavesAround, TableBar, WorkAnswers, bar_refusal, kept_before, place_in, play_of, rounds_for, save_rounds_around, start_plans_of}
+use Rattle.bb_session.specs.Acting.{Acts, AreRoundsOf, LastOne, Lists, LostPlace, NoneBest, Plays, SavesAround, TableBar, WorkAnswers, bar_refusal, kept_before, place_in, play_of, rounds_for, save_rounds_around, start_plans_of}
 use Rattle.bb_session.specs.Around.{AreRunAround, IsSlotRun, IsSlotRunAfter}
 use Rattle.bb_session.specs.Exactly.{last_area_of}
 use Rattle.bb_session.specs.Session.{LoadAnswer, acts_after, around_session, loaded_area, rounds_after, session_by_acts, shown, work_session}
 use Rattle.bb_session.specs.Work.{IsLoaded, IsLoadedArea, IsTableWork, IsWork, area_taken}
 use Rattle.bb_session.specs.WriteFault.{IsWriteFault}
-use Rattle.bb_session.proofs.Acted.{by_work, rounds_is, session_rounds}
+use Rattle.bb_session.proofs.Acted.{by_work, look_after, look_unrefused, rounds_is, session_rounds}
 use Rattle.bb_session.proofs.Around.{acts_stop, around_of, joined_only, one_round}
 use Rattle.bb_session.proofs.Barred.{fault_device, is_call_fault, is_device_fault}
 use Rattle.bb_session.proofs.Ended.{around_has, script_has, session_fault, worked_has}
@@ -356,6 +355,7 @@ acts_stuck plan found (SavesAround first place second) answers kept used now rou
     stuck_rose plan.keyed (start_plans_of plan.work) place kept used now rounds answers.stuck at from to stuck
     (acts_stop (start_plans_of plan.work) (SavesAround first place second) rounds are) none run) refusal
     (subst (λ (r : List Round). (around_session plan found answers.stuck r).refusal ≡ Some refusal) is h)
+acts_stuck plan found Lists answers kept used now rounds from to are is run refusal h = absurd (none-some refusal h)
 acts_stuck plan found acts answers kept used now rounds from to are is run refusal h =
     worked_has (IsSlotStuck from to) (λ bar call other. absurd (both_ways _ (bar_whole bar) call)) plan found
     (rounds_for (start_plans_of plan.work) acts answers)
@@ -379,10 +379,7 @@ work_stuck plan from to (Ok found) answers refusal call other work h =
     acts_stuck plan (shown plan.keyed.layout found) (acts_after plan found) answers (kept_before plan.work (loaded_area plan.keyed.layout found)) done.used
     done.ran.now done.ran.rounds done.middle to done.ran.are (rounds_is done) done.ran.run refusal h call other in
     rose_later from.faults done.middle.faults to.faults done.loaded.later.faults rose)
-    (λ shows done.
-    absurd
-    (none-some refusal
-    (sym (ap (λ (w : Work). (work_session (record { keyed = plan.keyed; work = w }) (Ok found) answers).refusal) shows) ∙ h)))
+    (λ reads done. absurd (none-some refusal (sym (look_unrefused plan found answers reads) ∙ h)))
 
 -- ---- the place that a refusal for a slot names
 
@@ -419,6 +416,7 @@ acts_place plan found (SavesAround first place second) answers =
     (save_rounds_around first second answers.stuck answers.rounds)
     (λ fault last at e. absurd (no_slot (copy_refusal fault) at (fault_beside fault) e)) answers.stuck
     (λ at stuck none other e. let same : at ≡ other = cc in stuck ∙ ap (λ n. Some n) same)
+acts_place plan found Lists answers = λ refusal h. absurd (none-some refusal h)
 acts_place plan found acts answers =
     worked_has (IsPlaceOf answers.stuck) (λ bar at e. absurd (no_slot (bar_refusal bar) at (bar_beside bar) e)) plan found
     (rounds_for (start_plans_of plan.work) acts answers)
@@ -480,7 +478,7 @@ work_explains plan from to (Err fault) answers refusal device work h = record {
       (λ needs done.
       load_known plan from done.used to answers fault
       (subst (λ (d : Device). IsLoaded plan.keyed done.used from d (Err fault)) (sym done.ran.1) done.loaded))
-      (λ shows done.
+      (λ reads done.
       let read : fault ≡ faults.ReadFault = done.looked.fails in
       subst (IsKnown plan from to (Err fault) answers) (sym read)
       (record {
@@ -499,10 +497,10 @@ work_explains plan from to (Ok found) answers refusal device work h =
       known =
           by_work plan from to (Ok found) answers work
           (λ needs done. rounds_explain plan from to found answers fault.fault done fault.last)
-          (λ shows done.
+          (λ reads done.
           absurd
           (none-some fault.fault
-          (sym (ap (λ (w : Work). refused_in (rounds_after (record { keyed = plan.keyed; work = w }) found answers)) shows) ∙ fault.last)));
+          (sym (ap refused_in (look_after plan found answers reads)) ∙ fault.last)));
     }
 
 -- ---- in the words of a call

@@ -84,7 +84,7 @@ module _ (keyed : Keyed) (used : Option ℕ) (table : List ℕ) (targets : Bindi
         IsDone keyed used table Does from to given
     done_around early stuck late now from to given run ends =
         let rounds : List Round = around_rounds First Second early stuck late in
-        let answers : WorkAnswers = record { rounds = map answer_of rounds; grants = None; stuck = stuck } in
+        let answers : WorkAnswers = record { rounds = map answer_of rounds; grants = None; stuck = stuck; listed = [] } in
         let saved : IsSavedAround First Second stuck rounds = record { early = early; late = late; is = refl } in
         record {
           answers = answers;
@@ -95,6 +95,7 @@ module _ (keyed : Keyed) (used : Option ℕ) (table : List ℕ) (targets : Bindi
             are = subst (λ (a : Acts). AreRoundsOf [] a rounds) (sym goes) (stuck, saved);
             run = subst (λ (a : Acts). AreRunAround keyed [] (place_in a) (Some table) used now rounds stuck from to) (sym goes) run;
             played = subst (λ (a : Acts). IsPlayOf a answers rounds) (sym goes) (refl, saved);
+            listed = refl;
           };
           ends =
               subst (λ (s : Session). EndsWith s given)

@@ -10,6 +10,7 @@ pub mod Faults
 pub mod FirstSave
 pub mod Installed
 pub mod Kept
+pub mod Listed
 pub mod Played
 pub mod Plays
 pub mod Regions

@@ -88,7 +88,7 @@ module _ (state : State) (targets : Binding) (plans : List (Option StartPlan)) (
     Ran = called_rounds device over.ran.acts over.ran.called
 
     abbrev Answered : WorkAnswers
-    Answered = record { rounds = map answer_of Ran; grants = over.grants; stuck = None }
+    Answered = record { rounds = map answer_of Ran; grants = over.grants; stuck = None; listed = [] }
 
     abbrev AsPlayed : IsPlay script Knows over.grants Ran
     AsPlayed =
@@ -112,6 +112,7 @@ module _ (state : State) (targets : Binding) (plans : List (Option StartPlan)) (
             around_of (keyed_of state) plans None (Some state.table) (used_of state) over.new.commands.backed.used Ran None (device from) (device to)
             refl run_kept;
         played = AsPlayed;
+        listed = refl;
       };
       ends =
           inl

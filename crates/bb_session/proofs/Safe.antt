@@ -44,7 +44,7 @@ use Rattle.bb_plan.specs.Plan.{SessionPlan}
 use Rattle.bb_plan.specs.Refusal.{copy_refusal}
 use Rattle.bb_plan.specs.declared.plan.SlotImage.{SlotImage}
 use Rattle.bb_plan.specs.declared.plan.Work.{Work}
-use Rattle.bb_plan.specs.declared.plan.Work.TheVariants.{Install, Show}
+use Rattle.bb_plan.specs.declared.plan.Work.TheVariants.{Install}
 use Rattle.bb_session.specs.Acting.{Acts, AreRoundsOf, IsSavedAround, LastOne, SavesAround, Stops, WorkAnswers, acts_of, around_rounds, kept_before, needs_table, place_in, rounds_for, saves_always, start_plans_of}
 use Rattle.bb_session.specs.Around.{AreRunAround, IsSlotRun, IsSlotRunAfter, slot_of_work, slot_refusal}
 use Rattle.bb_session.specs.Exactly.{HoldsImage}
@@ -54,7 +54,7 @@ use Rattle.bb_session.specs.Safe.{HoldsAfter, IsSafe, IsSafeBy, StandsForOne}
 use Rattle.bb_session.specs.Session.{LoadAnswer, acts_after, around_session, ended_by, loaded_area, session_by_acts, shown, text_after, text_unstuck, work_session}
 use Rattle.bb_session.specs.SessionTurns.{table_turn, turn_of}
 use Rattle.bb_session.specs.Work.{IsPlayOf, IsTableWork, IsWork}
-use Rattle.bb_session.proofs.Acted.{by_work, ran_of, rounds_is, session_rounds}
+use Rattle.bb_session.proofs.Acted.{by_work, look_place, ran_of, rounds_is, session_rounds}
 use Rattle.bb_session.proofs.Around.{acts_stop, joined_only, passes_same, told_at}
 use Rattle.bb_session.proofs.Exact.{held_still, part_beside, part_kept}
 use Rattle.bb_session.proofs.Faults.{refused_alone}
@@ -140,10 +140,9 @@ holds_after plan from to (Ok found) answers work done =
     by_work plan from to (Ok found) answers work
     (λ needs table.
     by table (acts_after plan found) (rounds_is table) table.ran.are table.ran.run done)
-    (λ shows look.
-    subst
-    (λ (w : Work). IfSome (place_in (acts_of plan.keyed.layout w (loaded_area plan.keyed.layout found)))
-    (λ place. ForSome (content to) (HoldsImage from.geometry place))) (sym shows) tt)
+    (λ reads look.
+    subst (λ (o : Option SlotImage). IfSome o (λ place. ForSome (content to) (HoldsImage from.geometry place)))
+    (sym (look_place plan.keyed.layout plan.work (loaded_area plan.keyed.layout found) reads)) tt)
   where
     by : (work : IsTableWork plan from to (Ok found) answers) → (acts : Acts) →
         rounds_for (start_plans_of plan.work) acts answers ≡ work.ran.rounds → AreRoundsOf (start_plans_of plan.work) acts work.ran.rounds →
@@ -535,10 +534,15 @@ table_safe plan from to load answers work (Install targets target place) does =
         unloaded_safe plan from to fault answers work (StagesOf plan (Err fault) answers) targets target place beside
 table_safe plan from to load answers work _ does = λ one e last f before is stands image counts. tt
 
-look_safe : (plan : SessionPlan) (from to : Device) (load : LoadAnswer) (answers : WorkAnswers) → plan.work ≡ Show →
+look_safe : (plan : SessionPlan) (from to : Device) (load : LoadAnswer) (answers : WorkAnswers) → needs_table plan.work ≡ false →
     IsSafe plan from to load answers
-look_safe plan from to load answers shows = λ first e last f before is stands image counts.
-    subst (λ (w : Work). IsSafeBy plan.keyed from.geometry.page (StagesOf plan load answers before) w load first.image image) (sym shows) tt
+look_safe plan from to load answers reads = λ first e last f before is stands image counts.
+    by (StagesOf plan load answers before) first.image image plan.work reads
+  where
+    by : (stages : List Stage) (first image : Image) (w : Work) → needs_table w ≡ false →
+        IsSafeBy plan.keyed from.geometry.page stages w load first image
+    by stages first image (Install targets target place) reads = absurd cc
+    by stages first image _ reads = tt
 
 pub work_safe : (plan : SessionPlan) (from to : Device) (load : LoadAnswer) (answers : WorkAnswers) → IsWork plan from to load answers →
     IsSafe plan from to load answers
@@ -547,4 +551,4 @@ work_safe plan from to load answers work =
     (λ needs table.
     subst (λ p. SafeAt p plan.keyed (StagesOf plan load answers) plan.work load from to) (sym (ap (λ (g : Geometry). g.page) table.geometry))
     (table_safe plan from to load answers table plan.work refl))
-    (λ shows look. look_safe plan from to load answers shows)
+    (λ reads look. look_safe plan from to load answers reads)

@@ -32,17 +32,16 @@ use Rattle.bb_state.specs.State.{IsStored}
 use Rattle.bb_plan.specs.Plan.{SessionPlan}
 use Rattle.bb_plan.specs.Refusal.{copy_refusal}
 use Rattle.bb_plan.specs.declared.plan.SlotImage.{SlotImage}
-use Rattle.bb_plan.specs.declared.plan.Work.{Work}
 use Rattle.bb_plan.specs.declared.refusal.Refusal.{Refusal}
 use Rattle.bb_plan.specs.declared.refusal.Refusal.TheVariants as refusals
 use Rattle.bb_script_commands.specs.Playing.{course_at, course_end}
-use Rattle.bb_session.specs.Acting.{Acts, AreRoundsOf, IsSavedAround, Plays, SavesAround, WorkAnswers, bar_refusal, kept_before, place_in, play_of, rounds_for, start_plans_of}
+use Rattle.bb_session.specs.Acting.{Acts, AreRoundsOf, IsSavedAround, Lists, Plays, SavesAround, WorkAnswers, bar_refusal, kept_before, place_in, play_of, rounds_for, start_plans_of}
 use Rattle.bb_session.specs.Around.{AreRunAround, IsSlotRun, IsSlotRunAfter}
 use Rattle.bb_session.specs.Looking.{passed_in}
 use Rattle.bb_session.specs.Session.{LoadAnswer, acts_after, around_session, loaded_area, session_by_acts, shown, work_session}
 use Rattle.bb_session.specs.Work.{IsLoadedArea, IsPlayOf, IsTableWork, IsWork}
 use Rattle.bb_session.specs.WriteFault.{RoseAboveLost}
-use Rattle.bb_session.proofs.Acted.{by_work, rounds_is}
+use Rattle.bb_session.proofs.Acted.{by_work, look_unrefused, rounds_is}
 use Rattle.bb_session.proofs.Around.{acts_stop, held_same, one_round}
 use Rattle.bb_session.proofs.Ended.{around_has, script_has, worked_has}
 use Rattle.bb_session.proofs.Faulting.{rise_from}
@@ -226,6 +225,7 @@ module _ (plan : SessionPlan) (from to : Device) (found : Option (List ℕ)) (an
       (work.loaded.later.geometry ∙ work.geometry) (acts_stop Plans (SavesAround first place second) work.ran.rounds are) played.1 run stuck none
       work.loaded.later (load_counted plan.keyed gave.area gave.loaded from work.middle work.geometry gave.gave work.loaded.later)) refusal
       (subst (λ (r : List Round). (around_session plan Shown answers.stuck r).refusal ≡ Some refusal) is h)
+  acts_lost Lists are is run played refusal h = absurd (none-some refusal h)
   acts_lost acts are is run played refusal h =
       worked_has IsSlotLost (λ bar at e. absurd (no_slot (bar_refusal bar) at (bar_beside bar) e)) plan Shown (rounds_for Plans acts answers)
       (λ fault last at e. absurd (no_slot (copy_refusal fault) at (fault_beside fault) e)) acts
@@ -249,7 +249,4 @@ work_lost plan from to (Err fault) answers at work h =
 work_lost plan from to (Ok found) answers at work h =
     by_work plan from to (Ok found) answers work
     (λ needs table. table_lost plan from to found answers at table h)
-    (λ shows look.
-    absurd
-    (none-some (refusals.SlotFault at)
-    (sym (ap (λ (w : Work). (work_session (record { keyed = plan.keyed; work = w }) (Ok found) answers).refusal) shows) ∙ h)))
+    (λ reads look. absurd (none-some (refusals.SlotFault at) (sym (look_unrefused plan found answers reads) ∙ h)))

@@ -1,7 +1,7 @@
 -- What a session says of rounds and starts, from its work.
-use Rattle.std.proofs.Common.{◌≡◌, ◌⊎◌, ℕ, true, List, [], Option, Some, IsNone, is_some, Ok, Err, refl, sym, ap, subst, ◌∙◌, inl, inr, arith}
+use Rattle.std.proofs.Common.{◌≡◌, ◌⊎◌, ℕ, true, false, List, [], Option, Some, IsNone, is_some, Ok, Err, refl, sym, ap, subst, ◌∙◌, inl, inr, arith}
 use Rattle.std.proofs.lemmas.Bool.{both_ways, false≢true}
-use Rattle.std.proofs.lemmas.Option.{same_Some}
+use Rattle.std.proofs.lemmas.Option.{none-some, same_Some}
 use Rattle.std.specs.Option.{ForSome, option_and_then}
 use Rattle.bb_base.specs.Faults.{Rose}
 use Rattle.bb_chooser.specs.Binding.{Binding}
@@ -24,9 +24,10 @@ use Rattle.bb_shell.proofs.Sequence.{adds_from}
 use Rattle.bb_plan.specs.Plan.{SessionPlan}
 use Rattle.bb_plan.specs.Refusal.{copy_refusal, status_of}
 use Rattle.bb_plan.specs.declared.plan.Work.{Work}
+use Rattle.bb_plan.specs.declared.plan.Work.TheVariants.{History, Show}
 use Rattle.bb_plan.specs.declared.refusal.Refusal.{Refusal}
 use Rattle.bb_plan.specs.declared.status.Status.TheVariants as statuses
-use Rattle.bb_session.specs.Acting.{Acts, AreBootRounds, AreRoundsOf, LastOne, LostPlace, NoneBest, Plays, SavesAround, TableBar, WorkAnswers, acts_of, bar_refusal, kept_before, play_of, rounds_for, saves_always, start_plans_of}
+use Rattle.bb_session.specs.Acting.{Acts, AreBootRounds, AreRoundsOf, LastOne, Lists, LostPlace, NoneBest, Plays, SavesAround, TableBar, WorkAnswers, acts_of, bar_refusal, kept_before, needs_table, play_of, rounds_for, saves_always, start_plans_of}
 use Rattle.bb_session.specs.Looking.{passed_in}
 use Rattle.bb_session.specs.Session.{LoadAnswer, acts_after, around_session, loaded_area, rounds_after, session_by_acts, shown, work_session, worked_on}
 use Rattle.bb_session.specs.Work.{IsTableWork, IsWork}
@@ -37,16 +38,26 @@ use Rattle.bb_session.proofs.Kept.{kept_has, loaded_left}
 
 -- ---- the rounds of a session
 
+-- a work that only reads has none
+none_are : (plan : SessionPlan) (found : Option (List ℕ)) → needs_table plan.work ≡ false →
+    AreRoundsOf (start_plans_of plan.work) (acts_after plan found) []
+none_are plan found reads = by plan.work reads
+  where
+    by : (w : Work) → needs_table w ≡ false →
+        AreRoundsOf (start_plans_of w) (acts_of plan.keyed.layout w (loaded_area plan.keyed.layout found)) []
+    by Show reads = refl
+    by History reads = refl
+    by _ reads = absurd cc
+
 pub work_rounds : (plan : SessionPlan) (from to : Device) (found : Option (List ℕ)) (answers : WorkAnswers) → IsWork plan from to (Ok found) answers →
     AreRoundsOf (start_plans_of plan.work) (acts_after plan found) (work_session plan (Ok found) answers).rounds
 work_rounds plan from to found answers work =
     by_work plan from to (Ok found) answers work
     (λ needs done.
     subst (AreRoundsOf (start_plans_of plan.work) (acts_after plan found)) (sym (session_rounds done)) done.ran.are)
-    (λ shows done.
-    subst
-    (λ (w : Work). AreRoundsOf (start_plans_of w) (acts_of plan.keyed.layout w (loaded_area plan.keyed.layout found))
-    (work_session (record { keyed = plan.keyed; work = w }) (Ok found) answers).rounds) (sym shows) refl)
+    (λ reads done.
+    subst (AreRoundsOf (start_plans_of plan.work) (acts_after plan found)) (sym (look_rounds plan (Ok found) answers reads))
+    (none_are plan found reads))
 
 -- ---- starts
 
@@ -80,8 +91,8 @@ pub work_started : (plan : SessionPlan) (from to : Device) (load : LoadAnswer) (
 work_started plan from to load answers work =
     by_work plan from to load answers work
     (λ needs done. table_started plan from to load answers done)
-    (λ shows done.
-    none_started (start_plans_of plan.work) (work_session plan load answers).rounds from to (look_rounds plan load answers shows) done.looked.quiet.starts)
+    (λ reads done.
+    none_started (start_plans_of plan.work) (work_session plan load answers).rounds from to (look_rounds plan load answers reads) done.looked.quiet.starts)
 
 -- ---- a start comes after its save
 
@@ -116,7 +127,7 @@ work_stored plan from to found answers work started =
     (λ needs done.
     subst (PassAfter plan found from to) (sym (session_rounds done))
     (table_stored plan from to found answers done (sym (ap started_last (session_rounds done)) ∙ started)))
-    (λ shows done. absurd (false≢true (sym (ap started_last (look_rounds plan (Ok found) answers shows)) ∙ started)))
+    (λ reads done. absurd (false≢true (sym (ap started_last (look_rounds plan (Ok found) answers reads)) ∙ started)))
 
 -- ---- a start that failed
 
@@ -176,6 +187,7 @@ module _ (plans : List (Option StartPlan)) (rounds : List Round) (from to : Devi
       around_has (λ r. IsStartFailed r → FailsBy plans (last_round rounds) from to) (λ bar e. absurd (not_bar bar e)) plan found rounds
       (λ fault last e. absurd (not_fault fault e)) answers.stuck (λ at is none e. absurd cc) refusal
       (subst (λ (r : List Round). (around_session plan found answers.stuck r).refusal ≡ Some refusal) is h)
+  acted_cause plan found Lists answers are is refusal h = absurd (none-some refusal h)
   acted_cause plan found acts answers are is refusal h =
       worked_cause plan found acts are refusal
       (subst (λ (r : List Round). (worked_on plan found acts r).refusal ≡ Some refusal) is h)

@@ -32,12 +32,12 @@ use Rattle.bb_plan.specs.Plan.{SessionPlan}
 use Rattle.bb_plan.specs.Refusal.{status_of, IsSendableRefusal, copy_refusal}
 use Rattle.bb_plan.specs.declared.refusal.Refusal.{Refusal}
 use Rattle.bb_plan.specs.declared.status.Status.TheVariants.{Done}
-use Rattle.bb_session.specs.Acting.{Acts, ArePlayedRounds, AreRoundsOf, BootsFrom, IsSavedAround, Plays, SavesAround, SavesOnce, Stops, WorkAnswers, around_rounds, most_rounds, place_in, play_of, rounds_for, save_rounds_around, sound_answers, start_plans_of}
+use Rattle.bb_session.specs.Acting.{Acts, ArePlayedRounds, AreRoundsOf, BootsFrom, IsSavedAround, Lists, Plays, SavesAround, SavesOnce, Stops, WorkAnswers, around_rounds, listing, most_rounds, needs_table, place_in, play_of, rounds_for, save_rounds_around, sound_answers, start_plans_of}
 use Rattle.bb_session.specs.Around.{slot_refusal}
-use Rattle.bb_session.specs.Looking.{first_found, passed_in}
+use Rattle.bb_session.specs.Looking.{first_found, listed_by, passed_in}
 use Rattle.bb_session.specs.Scripting.{refusal_by_end}
-use Rattle.bb_session.specs.Session.{LoadAnswer, Session, acts_after, answers_after, around_session, ended_by, played_session, refusal_at_end, session_by_acts, shown, text_after, text_unstuck, work_session, worked_on}
-use Rattle.bb_session.specs.Work.{IsLoadedAs, IsPlay, IsPlayOf, IsTableWork, IsWork, IsWorkedOut}
+use Rattle.bb_session.specs.Session.{LoadAnswer, Session, acts_after, answers_after, around_session, done_with, ended_by, played_session, refusal_at_end, session_by_acts, shown, text_after, text_unstuck, work_session, worked_on}
+use Rattle.bb_session.specs.Work.{IsListed, IsLoadedAs, IsPlay, IsPlayOf, IsTableWork, IsWork, IsWorkedOut}
 use Rattle.bb_session.proofs.Acted.{by_work, ran_of, rounds_back, session_after}
 use Rattle.bb_session.proofs.Around.{acts_stop}
 use Rattle.bb_session.proofs.Barred.{HasMemory, HasNoFault, fault_call, is_call_fault, is_device_fault, is_memory}
@@ -46,6 +46,7 @@ use Rattle.bb_session.proofs.Faults.{work_explains, work_stuck}
 use Rattle.bb_session.proofs.Kept.{load_found}
 use Rattle.bb_session.proofs.Plays.{ended_play, plays_session, plays_to}
 use Rattle.bb_plan.specs.declared.plan.Work.{Work}
+use Rattle.bb_plan.specs.declared.plan.Work.TheVariants.{History, Show}
 use Rattle.bb_plan.specs.declared.refusal.Refusal.TheVariants as refusals
 use Rattle.bb_session.specs.declared.report.Report.{Report}
 
@@ -100,6 +101,7 @@ script_unrefused ends.NoMemory rounds ending whole = ending
 acted_saved : (plan : SessionPlan) (found : Option (List ℕ)) (acts : Acts) (answers : WorkAnswers) (rounds : List Round) → answers.rounds ≡ map answer_of rounds →
     AreRoundsOf (start_plans_of plan.work) acts rounds → IsPlayOf acts answers rounds → HasNoFault (session_by_acts plan found acts answers) → AllSaved rounds
 acted_saved plan found (Stops bar) answers rounds is are played whole = subst AllSaved (sym are) tt
+acted_saved plan found Lists answers rounds is are played whole = subst AllSaved (sym are) tt
 acted_saved plan found (Plays script known) answers rounds is are played whole =
     all_saved rounds are.stops
     (script_unrefused played.end rounds played.ending
@@ -140,7 +142,7 @@ work_made plan from to (Err fault) answers work whole = absurd (both_ways _ whol
 work_made plan from to (Ok found) answers work whole =
     by_work plan from to (Ok found) answers work
     (λ needs done. subst AllMade (sym done.ran.answers_are) (rounds_made done.ran.rounds (rounds_saved done whole)))
-    (λ shows done. subst (λ (a : WorkAnswers). AllMade a.rounds) (sym done.none) refl)
+    (λ reads done. subst (λ (a : WorkAnswers). AllMade a.rounds) (sym done.alone) refl)
 
 -- ---- what a load gives is what the device holds
 
@@ -151,7 +153,7 @@ work_gives plan from to found answers work image held =
     (λ needs done.
     let gave : IsLoadedAs plan.keyed done.used from done.middle found = done.loaded.gives in
     gave.taken ∙ load_found plan.keyed gave.area gave.loaded from done.middle image gave.gave held)
-    (λ shows done. done.looked.told image held)
+    (λ reads done. done.looked.told image held)
 
 -- ---- a copy that is named is one of the three
 
@@ -281,38 +283,73 @@ around_same plan found first second None rounds are saved whole =
     ap (λ (r : List Round). around_session plan found None r)
     (are.is ∙ around_sound first second are.early are.late (subst AllSaved are.is saved))
 
-acted_same : (plan : SessionPlan) (found : Option (List ℕ)) (acts : Acts) (answers : WorkAnswers) (rounds : List Round) → answers.rounds ≡ map answer_of rounds →
-    AreRoundsOf (start_plans_of plan.work) acts rounds → IsPlayOf acts answers rounds → AllSaved rounds →
-    (target_started (rounds_for (start_plans_of plan.work) acts (sound_answers acts)) ≡ None) ⊎ NoneFailed rounds →
+-- what refuses nothing, with this text
+abbrev pub sound_with : List ℕ → WorkAnswers → WorkAnswers
+sound_with text answers = record answers { listed = text }
+
+acted_same : (plan : SessionPlan) (found : Option (List ℕ)) (acts : Acts) (answers : WorkAnswers) (text : List ℕ) (rounds : List Round) → answers.rounds ≡ map answer_of rounds →
+    AreRoundsOf (start_plans_of plan.work) acts rounds → IsPlayOf acts answers rounds → answers.listed ≡ text → AllSaved rounds →
+    (target_started (rounds_for (start_plans_of plan.work) acts (sound_with text (sound_answers acts))) ≡ None) ⊎ NoneFailed rounds →
     HasNoFault (session_by_acts plan found acts answers) → HasMemory (session_by_acts plan found acts answers) →
-    session_by_acts plan found acts answers ≡ session_by_acts plan found acts (sound_answers acts)
-acted_same plan found (Plays script known) answers rounds is are played saved calm whole memory =
+    session_by_acts plan found acts answers ≡ session_by_acts plan found acts (sound_with text (sound_answers acts))
+acted_same plan found Lists answers text rounds is are played listed saved calm whole memory = ap done_with listed
+acted_same plan found (Plays script known) answers text rounds is are played listed saved calm whole memory =
     played_same script known answers rounds is are played saved calm memory
-acted_same plan found (SavesAround first place second) answers rounds is are played saved calm whole memory =
+acted_same plan found (SavesAround first place second) answers text rounds is are played listed saved calm whole memory =
     let back = rounds_back (start_plans_of plan.work) (SavesAround first place second) answers rounds is are played in
     ap (λ (r : List Round). around_session plan found answers.stuck r) back
     ∙ around_same plan found first second answers.stuck rounds played.1 saved
     (subst (λ (r : List Round). HasNoFault (around_session plan found answers.stuck r)) back whole)
-acted_same plan found acts answers rounds is are played saved calm whole memory =
+acted_same plan found acts answers text rounds is are played listed saved calm whole memory =
     let plans = start_plans_of plan.work in
     ap (λ (r : List Round). worked_on plan found acts r)
     (rounds_back plans acts answers rounds is are played ∙ sym (sound_rounds plans acts rounds tt are saved calm))
 
+-- a work on a table lists nothing
+table_listed : (work : Work) (keyed : Keyed) (page : ℕ) (image : Image) → needs_table work ≡ true → [] ≡ listed_by work keyed page image
+table_listed History keyed page image needs = absurd cc
+table_listed _ keyed page image needs = refl
+
+-- and one that only reads what it lists
+look_listed : (work : Work) (keyed : Keyed) (from : Device) (found : Option (List ℕ)) (listed : List ℕ) → needs_table work ≡ false →
+    IsListed work keyed from (Ok found) listed → (image : Image) → content from ≡ Some image → listed ≡ listed_by work keyed from.geometry.page image
+look_listed Show keyed from found listed reads is image held = is
+look_listed History keyed from found listed reads is image held = is image held
+look_listed _ keyed from found listed reads is image held = absurd cc
+
+look_sound : (plan : SessionPlan) (found : Option (List ℕ)) (text : List ℕ) → needs_table plan.work ≡ false →
+    listing text ≡ sound_with text (answers_after plan (Ok found))
+look_sound plan found text reads = by plan.work reads
+  where
+    by : (w : Work) → needs_table w ≡ false → listing text ≡ sound_with text (answers_after (record { keyed = plan.keyed; work = w }) (Ok found))
+    by Show reads = refl
+    by History reads = refl
+    by _ reads = absurd cc
+
+-- what is answered to a plan over what a device holds, where nothing is refused
+abbrev pub sound_over : SessionPlan → ℕ → Image → LoadAnswer → WorkAnswers
+sound_over plan page image load = sound_with (listed_by plan.work plan.keyed page image) (answers_after plan load)
+
 pub work_same : (plan : SessionPlan) (from to : Device) (found : Option (List ℕ)) (answers : WorkAnswers) → IsWork plan from to (Ok found) answers →
     HasNoFault (work_session plan (Ok found) answers) → HasMemory (work_session plan (Ok found) answers) →
-    IsCalm from to (work_session plan (Ok found) (answers_after plan (Ok found))) →
-    work_session plan (Ok found) answers ≡ work_session plan (Ok found) (answers_after plan (Ok found))
-work_same plan from to found answers work whole memory calm =
+    (image : Image) → content from ≡ Some image →
+    IsCalm from to (work_session plan (Ok found) (sound_over plan from.geometry.page image (Ok found))) →
+    work_session plan (Ok found) answers ≡ work_session plan (Ok found) (sound_over plan from.geometry.page image (Ok found))
+work_same plan from to found answers work whole memory image held calm =
+    let text = listed_by plan.work plan.keyed from.geometry.page image in
     by_work plan from to (Ok found) answers work
     (λ needs done.
-    acted_same plan (shown plan.keyed.layout found) (acts_after plan found) answers done.ran.rounds done.ran.answers_are done.ran.are done.ran.played
+    acted_same plan (shown plan.keyed.layout found) (acts_after plan found) answers text done.ran.rounds done.ran.answers_are done.ran.are done.ran.played
+    (done.ran.listed ∙ table_listed plan.work plan.keyed from.geometry.page image needs)
     (rounds_saved done whole)
     (elim calm [
-      | inl unstarted ↦ inl (sym (ap target_started (session_after plan found (answers_after plan (Ok found)))) ∙ unstarted)
+      | inl unstarted ↦
+          inl (sym (ap target_started (session_after plan found (sound_over plan from.geometry.page image (Ok found)))) ∙ unstarted)
       | inr none ↦
           inr (none_failed done.ran.rounds done.middle.start_faults to.start_faults (ran_of done).start_faults
           (λ r. none (subst (λ k. Rose k to.start_faults) done.loaded.starts.start_faults r)))
     ]) whole memory)
-    (λ shows done.
+    (λ reads done.
     ap (work_session plan (Ok found))
-    (done.none ∙ sym (ap (λ (w : Work). answers_after (record { keyed = plan.keyed; work = w }) (Ok found)) shows)))
+    (done.alone ∙ ap listing (look_listed plan.work plan.keyed from found answers.listed reads done.listed image held)
+    ∙ look_sound plan found text reads))

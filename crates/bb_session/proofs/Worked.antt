@@ -87,7 +87,8 @@ looked_ok keyed stored area found from to given gives shows faults read_faults q
     worked_out keyed Show from to (Ok (then_some found stored)) no_answers given
     (record {
       looked = record { told = look_told keyed stored found from gives; fails = tt; faults = faults; read_faults = read_faults; quiet = quiet };
-      none = refl;
+      alone = refl;
+      listed = refl;
     })
     (text_ends (look_text (shown keyed.layout (then_some found stored))) [] given
     (subst (λ t. IsTold t given) (sym text) is))

@@ -18,8 +18,7 @@ use Rattle.bb_shell.specs.Counting.{turn_of_rounds}
 use Rattle.bb_shell.proofs.Joins.{still_outside}
 use Rattle.bb_plan.specs.Plan.{SessionPlan}
 use Rattle.bb_shell.specs.Stages.{first_area}
-use Rattle.bb_plan.specs.declared.plan.Work.{Work}
-use Rattle.bb_session.specs.Acting.{WorkAnswers, kept_before, needs_table, saves_always, start_plans_of}
+use Rattle.bb_session.specs.Acting.{WorkAnswers, kept_before, saves_always, start_plans_of}
 use Rattle.bb_session.specs.Looking.{passed_in}
 use Rattle.bb_session.specs.Session.{LoadAnswer, loaded_area}
 use Rattle.bb_session.specs.SessionTurns.{HasTrail, HasTrails, IsFairRun, LeadsOn, LeadsTo, table_turn, turn_of}
@@ -120,8 +119,8 @@ module _ (plan : SessionPlan) (from to : Device) (load : LoadAnswer) (answers : 
       (λ needs done.
       subst (λ n. Turned plan.keyed from to (λ marks. if n then table_turn plan load answers marks else Looked)) (sym needs)
       (table_turned plan from to load answers done))
-      (λ shows done.
-      subst (λ (w : Work). Turned plan.keyed from to (λ marks. if needs_table w then table_turn plan load answers marks else Looked)) (sym shows)
+      (λ reads done.
+      subst (λ n. Turned plan.keyed from to (λ marks. if n then table_turn plan load answers marks else Looked)) (sym reads)
       (look_turned plan.keyed from to done.looked.quiet))
 
   pub leads_on : LeadsOn plan from to load answers
@@ -135,7 +134,7 @@ module _ (plan : SessionPlan) (from to : Device) (load : LoadAnswer) (answers : 
   keeps_outside =
       by_work plan from to load answers work
       (λ needs done. table_outside plan from to load answers done)
-      (λ shows done.
+      (λ reads done.
       outside_both (laid_kinds plan.keyed.layout) (slot_of_work plan.work) from to
       (still_outside (laid_kinds plan.keyed.layout) from to (keeps_of_quiet from to done.looked.quiet).content
       (read_changes from to done.looked.quiet.told)))

@@ -18,7 +18,7 @@ use Rattle.bb_script_commands.specs.Held.{Known}
 use Rattle.bb_script_commands.specs.Playing.{AreScriptRounds, Played, most_script_rounds, script_played, script_rounds}
 use Rattle.bb_plan.specs.declared.plan.SlotImage.{SlotImage}
 use Rattle.bb_plan.specs.declared.plan.Work.{Work}
-use Rattle.bb_plan.specs.declared.plan.Work.TheVariants.{Act, Boot, Good, Install, Run, Show, Write}
+use Rattle.bb_plan.specs.declared.plan.Work.TheVariants.{Act, Boot, Good, History, Install, Run, Show, Write}
 use Rattle.bb_plan.specs.declared.refusal.Refusal.{Refusal}
 use Rattle.bb_plan.specs.declared.refusal.Refusal.TheVariants as refusals
 use Rattle.bb_session.specs.Installing.{installed_name}
@@ -26,9 +26,10 @@ use Rattle.bb_session.specs.Marking.{lost_place}
 
 -- ---- what it is to do
 
--- a work is done on a table that was loaded, unless it only looks
+-- a work is done on a table that was loaded, unless it only reads
 abbrev pub needs_table : Work → Bool
 needs_table Show = false
+needs_table History = false
 needs_table _ = true
 
 -- what was loaded for it, if a copy passed; a look loads nothing
@@ -42,10 +43,12 @@ pub data TableBar : Type 0 where
   NoneBest : TableBar
   LastOne : List ℕ → TableBar
 
--- nothing is saved; the table ends the session; one table is saved; one is saved, then a slot is
--- written, and then another table is saved; it is booted from a table on; or a script is run
+-- nothing is saved; so it is where a history is sent; the table ends the session; one table is
+-- saved; one is saved, then a slot is written, and then another table is saved; it is booted from a
+-- table on; or a script is run
 pub data Acts : Type 0 where
   SavesNone : Acts
+  Lists : Acts
   Stops : TableBar → Acts
   SavesOnce : List ℕ → Acts
   SavesAround : List ℕ → SlotImage → List ℕ → Acts
@@ -80,6 +83,7 @@ known_at layout targets cause plans table = record {
 -- after a load of this table
 abbrev pub acts_of : Laid → Work → List ℕ → Acts
 acts_of layout Show table = SavesNone
+acts_of layout History table = Lists
 acts_of layout (Write area) table = SavesOnce area
 acts_of layout (Act actions) table = SavesOnce (after_all table actions)
 acts_of layout (Good targets) table =
@@ -125,18 +129,30 @@ refusal_by_table _ = None
 
 -- To each of its rounds, in their order. A script asks for memory between them too: `grants` is how
 -- often it was granted before it was refused, where it was, and none for every other work. `stuck`
--- is where the call on a slot began that failed, where one did.
+-- is where the call on a slot began that failed, where one did. A history has a text that comes of
+-- what it reads: `listed` is that text, or as much of it as there was when a read failed, and
+-- nothing of every other work.
 pub record WorkAnswers : Type 0 where
   pub rounds : List RoundAnswer
   pub grants : Option ℕ
   pub stuck : Option ℕ
+  pub listed : List ℕ
 
 -- to a work that ran these rounds, and is no script
 abbrev pub answers_to_rounds : List Round → WorkAnswers
-answers_to_rounds rounds = record { rounds = map answer_of rounds; grants = None; stuck = None }
+answers_to_rounds rounds = record {
+  rounds = map answer_of rounds;
+  grants = None;
+  stuck = None;
+  listed = [];
+}
 
 abbrev pub no_answers : WorkAnswers
 no_answers = answers_to_rounds []
+
+-- to a work that only reads, of which this text comes
+abbrev pub listing : List ℕ → WorkAnswers
+listing text = record { rounds = []; grants = None; stuck = None; listed = text }
 
 -- the play of a script by these answers
 abbrev pub play_of : ScriptTree → Known → WorkAnswers → Course Played (Unit {0})
@@ -183,6 +199,7 @@ pub record ArePlayedRounds (known : Known) (rounds : List Round) : Type 0 where
 
 abbrev pub AreRoundsOf : List (Option StartPlan) → Acts → List Round → Type 0
 AreRoundsOf plans SavesNone rounds = rounds ≡ []
+AreRoundsOf plans Lists rounds = rounds ≡ []
 AreRoundsOf plans (Stops bar) rounds = rounds ≡ []
 AreRoundsOf plans (SavesOnce table) rounds = IsSavedOnce table rounds
 AreRoundsOf plans (SavesAround first place second) rounds =
@@ -204,6 +221,7 @@ save_rounds_around first second stuck (answer ∷ answers) =
 -- so they come of what they are answered, one answer a round
 abbrev pub rounds_for : List (Option StartPlan) → Acts → WorkAnswers → List Round
 rounds_for plans SavesNone answers = []
+rounds_for plans Lists answers = []
 rounds_for plans (Stops bar) answers = []
 rounds_for plans (SavesOnce table) answers = save_rounds table answers.rounds
 rounds_for plans (SavesAround first place second) answers =
@@ -218,6 +236,7 @@ rounds_for plans (Plays script known) answers =
 -- commands at most
 abbrev pub most_rounds : Acts → ℕ
 most_rounds SavesNone = 0
+most_rounds Lists = 0
 most_rounds (Stops bar) = 0
 most_rounds (SavesOnce table) = 1
 most_rounds (SavesAround first place second) = 2
@@ -227,4 +246,9 @@ most_rounds (Plays script known) = most_script_rounds
 -- each save is made, and each start, memory is never refused, and no call on a slot fails
 abbrev pub sound_answers : Acts → WorkAnswers
 sound_answers acts =
-    record { rounds = replicate (most_rounds acts) sound_answer; grants = None; stuck = None }
+    record {
+      rounds = replicate (most_rounds acts) sound_answer;
+      grants = None;
+      stuck = None;
+      listed = [];
+    }

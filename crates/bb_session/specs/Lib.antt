@@ -7,6 +7,7 @@ pub mod Doing
 pub mod DrillLine
 pub mod Exactly
 pub mod Installing
+pub mod Listing
 pub mod Looking
 pub mod Marking
 pub mod Safe

@@ -12,12 +12,12 @@ use Rattle.bb_flash.specs.declared.geometry.Geometry.{Geometry}
 use Rattle.bb_flash.specs.Image.{Image}
 use Rattle.bb_layout.specs.Convert.{convert}
 use Rattle.bb_layout.specs.Layout.{Laid}
-use Rattle.bb_session.specs.Acting.{Acts, BootsFrom, Plays, SavesAround, Stops, WorkAnswers, acts_of, bar_refusal, needs_table, no_answers, play_of, refusal_by_table, rounds_for, save_rounds_around, sound_answers, start_plans_of}
+use Rattle.bb_session.specs.Acting.{Acts, BootsFrom, Lists, Plays, SavesAround, Stops, WorkAnswers, acts_of, bar_refusal, needs_table, no_answers, play_of, refusal_by_table, rounds_for, save_rounds_around, sound_answers, start_plans_of}
 use Rattle.bb_session.specs.Around.{slot_refusal}
 use Rattle.bb_session.specs.Comparing.{CompareAnswer, compare_text}
 use Rattle.bb_session.specs.DrillLine.{drill_line}
 use Rattle.bb_session.specs.Installing.{installed_text}
-use Rattle.bb_session.specs.Looking.{first_found, look_text, passed_in}
+use Rattle.bb_session.specs.Looking.{first_found, listed_by, look_text, passed_in}
 use Rattle.bb_session.specs.Marking.{good_text}
 use Rattle.bb_session.specs.Scripting.{refusal_by_end, script_text}
 use Rattle.bb_interpreter.specs.Standing.{Course}
@@ -69,6 +69,10 @@ done_with text = record { text = text; refusal = None; rounds = [] }
 
 abbrev pub refused_for : Refusal → Session
 refused_for refusal = record { text = []; refusal = Some refusal; rounds = [] }
+
+-- or after this text
+abbrev pub stopped_after : List ℕ → Refusal → Session
+stopped_after text refusal = record { text = text; refusal = Some refusal; rounds = [] }
 
 abbrev pub ended_status : Session → Status
 ended_status session = option_map_or status_of session.refusal Done
@@ -142,13 +146,15 @@ around_session plan shown stuck rounds =
     ended_by (refused_in rounds) (text_unstuck stuck (text_after plan shown rounds))
     (slot_refusal stuck) rounds
 
--- by the table that was shown, if one was, and by what the work was answered
+-- by the table that was shown, if one was, and by what the work was answered; a history sends what
+-- it listed
 abbrev pub session_by_acts : SessionPlan → Option (List ℕ) → Acts → WorkAnswers → Session
 session_by_acts plan shown (Plays script known) answers =
     played_session (play_of script known answers)
 session_by_acts plan shown (SavesAround first place second) answers =
     around_session plan shown answers.stuck
     (save_rounds_around first second answers.stuck answers.rounds)
+session_by_acts plan shown Lists answers = done_with answers.listed
 session_by_acts plan shown acts answers =
     worked_on plan shown acts (rounds_for (start_plans_of plan.work) acts answers)
 
@@ -160,10 +166,11 @@ abbrev pub rounds_after : SessionPlan → Option (List ℕ) → WorkAnswers → 
 rounds_after plan found answers =
     rounds_for (start_plans_of plan.work) (acts_after plan found) answers
 
+-- a load or a look that was refused ends it; what a history had listed before is sent
 abbrev pub work_session : SessionPlan → LoadAnswer → WorkAnswers → Session
 work_session plan (Ok found) answers =
     session_by_acts plan (shown plan.keyed.layout found) (acts_after plan found) answers
-work_session plan (Err fault) answers = refused_for (copy_refusal fault)
+work_session plan (Err fault) answers = stopped_after answers.listed (copy_refusal fault)
 
 -- why the table that was loaded ends the session before any save, where it does
 abbrev pub barred_after : Result SessionPlan EarlyEnd → LoadAnswer → Option Refusal
@@ -223,6 +230,11 @@ abbrev pub answers_for : Result SessionPlan EarlyEnd → LoadAnswer → WorkAnsw
 answers_for (Ok plan) load = answers_after plan load
 answers_for (Err end) load = no_answers
 
+-- and what a plan lists at a device with this content
+abbrev pub listed_for : Result SessionPlan EarlyEnd → Geometry → Image → List ℕ
+listed_for (Ok plan) geometry image = listed_by plan.work plan.keyed geometry.page image
+listed_for (Err end) geometry image = []
+
 -- what is answered to a plan at a device with this content, where a drill counted this and a
 -- comparison found this
 abbrev pub answers_to :
@@ -233,7 +245,7 @@ answers_to files plan geometry image drill compared =
     record {
       files = files;
       load = load;
-      work = answers_for plan load;
+      work = record (answers_for plan load) { listed = listed_for plan geometry image };
       drill = drill;
       compared = compared;
     }

@@ -12,6 +12,7 @@ use Rattle.bb_copies.specs.declared.answers.Loaded.TheVariants.{Copy, NoCopy}
 use Rattle.bb_flash.specs.Cuts.{IsLater}
 use Rattle.bb_chooser.specs.Binding.{Binding}
 use Rattle.bb_flash.specs.Device.{Device, LeavesStarts, content}
+use Rattle.bb_history.specs.History.{AddsFront}
 use Rattle.bb_state.specs.Keyed.{Keyed}
 use Rattle.bb_shell.specs.Boot.{Round}
 use Rattle.bb_script.specs.Tree.{ScriptTree}
@@ -23,14 +24,15 @@ use Rattle.bb_script_commands.specs.Scripts.{EndsBy}
 use Rattle.bb_shell.specs.Rounds.{answer_of}
 use Rattle.bb_state.specs.Kinds.{laid_form, laid_kinds}
 use Rattle.bb_state.specs.State.{IsRefused}
-use Rattle.bb_session.specs.Acting.{Acts, AreRoundsOf, IsSavedAround, Plays, SavesAround, WorkAnswers, acts_of, kept_before, needs_table, no_answers, place_in, start_plans_of}
+use Rattle.bb_session.specs.Acting.{Acts, AreRoundsOf, IsSavedAround, Plays, SavesAround, WorkAnswers, acts_of, kept_before, listing, needs_table, no_answers, place_in, start_plans_of}
 use Rattle.bb_session.specs.Around.{AreRunAround, slot_of_work}
-use Rattle.bb_session.specs.Looking.{first_found, passed_in}
+use Rattle.bb_session.specs.Looking.{first_found, listed_by, passed_in}
 use Rattle.bb_shell.specs.declared.boot_end.BootEnd.{BootEnd}
 use Rattle.bb_session.specs.Booting.{end_refusal, end_text}
 use Rattle.bb_install.specs.Beside.{IsBesideCopies}
 use Rattle.bb_plan.specs.Plan.{SessionPlan}
 use Rattle.bb_plan.specs.declared.plan.Work.{Work}
+use Rattle.bb_plan.specs.declared.plan.Work.TheVariants.{History}
 use Rattle.bb_session.specs.Session.{LoadAnswer, Session, loaded_area, work_session}
 use Rattle.bb_plan.specs.Refusal.{takes_memory}
 use Rattle.bb_session.specs.declared.report.Report.{Report}
@@ -116,6 +118,7 @@ pub record IsRunAfter (keyed : Keyed) (work : Work) (table : List ℕ) (used : O
       AreRunAround keyed (start_plans_of work) (place_in (acts_of keyed.layout work table))
       (kept_before work table) used now rounds answers.stuck from to
   pub played : IsPlayOf (acts_of keyed.layout work table) answers rounds
+  pub listed : answers.listed ≡ []
 
 -- it comes after a load that answered Ok
 abbrev pub IsRunAfterLoad :
@@ -138,10 +141,24 @@ pub record IsTableWork (plan : SessionPlan) (from to : Device) (load : LoadAnswe
   pub loaded : IsLoaded plan.keyed used from middle load
   pub ran : IsRunAfterLoad plan used middle to load answers
 
+-- what was listed is the whole text, or where a read failed a front of it
+abbrev pub ListsFront : LoadAnswer → List ℕ → List ℕ → Type 0
+ListsFront (Ok found) whole listed = listed ≡ whole
+ListsFront (Err fault) whole listed = AddsFront whole [] listed
+
+-- a history listed what the copies' regions hold, and a look lists nothing
+abbrev pub IsListed : Work → Keyed → Device → LoadAnswer → List ℕ → Type 0
+IsListed History keyed from load listed =
+    ForSome (content from)
+    (λ image. ListsFront load (listed_by History keyed from.geometry.page image) listed)
+IsListed work keyed from load listed = listed ≡ []
+
+-- the copies were only read, by a look or for a history
 pub record IsLookWork (plan : SessionPlan) (from to : Device) (load : LoadAnswer)
     (answers : WorkAnswers) : Type 0 where
   pub looked : IsLooked plan.keyed from to load
-  pub none : answers ≡ no_answers
+  pub alone : answers ≡ listing answers.listed
+  pub listed : IsListed plan.work plan.keyed from load answers.listed
 
 abbrev pub IsWork : SessionPlan → Device → Device → LoadAnswer → WorkAnswers → Type 0
 IsWork plan from to load answers =

@@ -5,6 +5,7 @@
 
 mod boot;
 mod comparison;
+mod history;
 mod install;
 mod mark_good;
 mod raw;

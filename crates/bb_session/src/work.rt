@@ -1,4 +1,4 @@
-ghost use Rattle.std.specs.Prelude.{◌≡◌, IfErr, length, true};
+ghost use Rattle.std.specs.Prelude.{◌≡◌, IfErr, false, length, true};
 ghost use Rattle.bb_flash.specs.Cuts.{IsLater};
 ghost use Rattle.bb_flash.specs.Device.{IsDevice};
 ghost use Rattle.bb_state.specs.State.{IsOn, keyed_of, used_of};
@@ -9,18 +9,19 @@ ghost use Rattle.bb_plan.specs.Refusal.{IsSendableRefusal};
 ghost use Rattle.bb_session.specs.Work.{IsWorkedOut};
 
 use crate::boot::boot;
+use crate::history::history;
 use crate::install::install;
 use crate::raw::look;
 use crate::report::Report;
 use crate::script::run;
 use crate::store::{store, stores};
-use bb_flash::{Board, Geometry};
+use bb_flash::{Board, Flash, Geometry};
 use bb_plan::{PlannedWork, Refusal, Work};
 use bb_state::State;
 use std::alloc::Global;
 
 /// Does the work of a plan on the device, and gives what is sent of it. Its layout is mounted once,
-/// and its copies are loaded once, unless the work only looks at them.
+/// and its copies are loaded once, unless the work only reads them.
 pub fn do_work<B: Board>(alloc: Global, board: &mut B, plan: PlannedWork) -> Result<Report, Refusal>
     requires plan { IsPlannedFor (B.device board.old).geometry (plan_as plan) }
     requires whole { IsDevice (B.device board.old) }
@@ -48,7 +49,7 @@ fn work_on<B: Board>(
     ensures later { IsLater (B.device board.old) (B.device board.new) }
 {
     if !needs_table(&work) {
-        return look(alloc, board, &mut state);
+        return read(alloc, board, &mut state, &work);
     }
     let mut page = vec![in alloc; 0u8; page_len(board.geometry(), &work)]?;
     state.load(board)?;
@@ -59,7 +60,32 @@ fn work_on<B: Board>(
 fn needs_table(work: &Work) -> bool
     ensures { result ≡ needs_table work.now }
 {
-    !matches!(work, Work::Show)
+    !matches!(work, Work::Show | Work::History)
+}
+
+// A work that only reads.
+fn read<F: Flash>(
+    alloc: Global,
+    flash: &mut F,
+    state: &mut State,
+    work: &Work,
+) -> Result<Report, Refusal>
+    requires reads { needs_table work.now ≡ false }
+    requires on { IsOn state.old (F.device flash.old) }
+    ensures gives { IsWorkedOut (keyed_of state.old) work.now
+        (F.device flash.old) (F.device flash.new) result }
+    ensures later { IsLater (F.device flash.old) (F.device flash.new) }
+{
+    match work {
+        Work::Show => look(alloc, flash, state),
+        Work::History => history(alloc, flash, state),
+        Work::Write(_area) => unreachable!(),
+        Work::Act(_actions) => unreachable!(),
+        Work::Good(_chooser) => unreachable!(),
+        Work::Boot(_chooser, _cause, _plans) => unreachable!(),
+        Work::Run(_script, _chooser, _cause, _plans) => unreachable!(),
+        Work::Install(_chooser, _target, _place) => unreachable!(),
+    }
 }
 
 // How long a page is that a work needs memory for, or 0: it is filled before a program.
@@ -102,6 +128,7 @@ fn work_at<B: Board>(
             install(alloc, board, &mut state, &chooser, target, &place, page)
         }
         Work::Show => unreachable!(),
+        Work::History => unreachable!(),
         Work::Write(_area) => unreachable!(),
         Work::Act(_actions) => unreachable!(),
         Work::Good(_chooser) => unreachable!(),

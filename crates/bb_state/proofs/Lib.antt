@@ -8,6 +8,7 @@ pub mod Limits
 pub mod Lists
 pub mod Mounting
 pub mod NamedVars
+pub mod Places
 pub mod Rooms
 pub mod Sets
 pub mod Showing

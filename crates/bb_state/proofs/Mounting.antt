@@ -115,7 +115,7 @@ block_at_copy storage geometry partition copies area_len copy is has blocks size
       aligned = ap (λ n. (partition.at + copy * spacing geometry storage) % n) size ∙ at.at some;
     }
 
-serves_block : (storage : Storage) (geometry : Geometry) (partition : Region) (copies area_len copy : ℕ) → IsGeometry geometry →
+pub serves_block : (storage : Storage) (geometry : Geometry) (partition : Region) (copies area_len copy : ℕ) → IsGeometry geometry →
     HasCopies geometry partition storage copies area_len → copy < copies → is_stride storage ≡ false →
     spacing geometry storage ≡ geometry.block → IsTrue (is_block_of (block_at geometry storage partition copy) geometry)
 serves_block storage geometry partition copies area_len copy is has below blocks size =

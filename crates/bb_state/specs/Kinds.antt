@@ -100,6 +100,13 @@ buckets_for len layout =
     (bucket_at layout.geometry layout.storage layout.region len)
     (range_with_len 0 layout.copies)
 
+-- the regions of all copies, in their order
+abbrev pub laid_regions : Laid → List Region
+laid_regions layout =
+    map
+    (region_of layout.geometry layout.storage layout.region)
+    (range_with_len 0 layout.copies)
+
 -- how many bytes the longest area has that records of a format keep, where there is room: raw
 -- records keep areas of any length, and blobs those of their layout
 abbrev pub longest_area : FormatKind → ℕ → ℕ

@@ -108,6 +108,13 @@ impl Backing {
         front(&self.memory, self.stored_len)
     }
 
+    /// The format of its records.
+    pub(crate) fn format(&self) -> &AnyFormat
+        ensures { result.now ≡ format_of self.now.keyed }
+    {
+        self.copies.format()
+    }
+
     /// The table that was last loaded or saved.
     pub(crate) fn kept_table(&self) -> &[u8]
         ensures kept { result.now ≡ self.now.kept }

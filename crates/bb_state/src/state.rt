@@ -6,10 +6,10 @@ ghost use Rattle.std.specs.Prelude.{◌≡◌, IfOk, IsTrue, length};
 ghost use Rattle.bb_layout.specs.Defaults.{defaults_of};
 
 use crate::backing::Backing;
-use crate::{StateError, get_value, set_value};
+use crate::{AnyFormat, StateError, get_value, set_value};
 use bb_base::{Bytes, NoMemory};
 use bb_copies::{CopyFault, Loaded};
-use bb_flash::Flash;
+use bb_flash::{Flash, Region};
 use bb_hmac::Key;
 use bb_layout::Layout;
 use bb_vars::Table;
@@ -28,18 +28,21 @@ pub struct State {
 
 impl State {
     ghost use Rattle.std.specs.Prelude.{◌≡◌, ◌&&◌, ◌↔◌, ◌++◌, IfErr, IfOk, IsErrOf, IsOk, None};
-    ghost use Rattle.std.specs.Prelude.{Ok, OnErr, OnOk, Some, false, is_ok, length, true};
+    ghost use Rattle.std.specs.Prelude.{Ok, OnErr, OnOk, Some, false, is_ok, length, nat_lt, true};
+    ghost use Rattle.std.specs.Prelude.{if◌then◌else◌};
     ghost use Rattle.std.specs.Result.{result_err, result_map_both};
     ghost use Rattle.bb_copies.specs.Loading.{IsLoad, IsLook};
     ghost use Rattle.bb_copies.specs.Placing.{ReadsNothing};
     ghost use Rattle.bb_copies.specs.Saving.{IsSave};
     ghost use Rattle.bb_copies.specs.Store.{used_after};
     ghost use Rattle.bb_copies.specs.declared.answers.CopyFault.TheVariants.{Unsure};
+    ghost use Rattle.bb_layout.specs.Copies.{region_of};
     ghost use Rattle.bb_layout.specs.Convert.{convert};
     ghost use Rattle.bb_layout.specs.Layout.{fields_of};
     ghost use Rattle.bb_layout.specs.Outside.{ChangesVarsAlone};
     ghost use Rattle.bb_state.specs.Backed.{HasItsKinds};
     ghost use Rattle.bb_state.specs.Keyed.{FitsKey};
+    ghost use Rattle.bb_state.specs.Kinds.{format_of};
     ghost use Rattle.bb_state.specs.Named.{Refuses, after_set, refusal_for, text_for};
     ghost use Rattle.bb_state.specs.State.{form_of, kinds_of, looked_as, FitsEveryDevice, IsOn};
     ghost use Rattle.bb_state.specs.State.{IsPlaced, has_changed, is_kept, is_sure, stored_of};
@@ -66,6 +69,27 @@ impl State {
         ensures { fields_of result.now ≡ laid_of self.now }
     {
         self.backing.layout()
+    }
+
+    /// The format of its records.
+    pub fn format(&self) -> &AnyFormat
+        ensures { result.now ≡ format_of (keyed_of self.now) }
+    {
+        self.backing.format()
+    }
+
+    /// Where the copy of this number stands, from 0. None exactly from the number of copies on.
+    pub fn region(&self, copy: u32) -> Option<Region>
+        ensures { result ≡ (if nat_lt copy (laid_of self.now).copies
+            then Some (region_of (laid_of self.now).geometry (laid_of self.now).storage
+            (laid_of self.now).region copy) else None) }
+    {
+        let layout = self.layout();
+        if copy < layout.copies {
+            Some(layout.region(copy))
+        } else {
+            None
+        }
     }
 
     /// The area that was last loaded or looked at, as long as it is stored: none of its bytes where

@@ -49,7 +49,7 @@ abbrev unmade : RoundAnswer
 unmade = record { save = Some (faults.WriteFault 1); starts = false }
 
 abbrev answered : List RoundAnswer → WorkAnswers
-answered rounds = record { rounds = rounds; grants = None; stuck = None }
+answered rounds = record { rounds = rounds; grants = None; stuck = None; listed = [] }
 
 -- ---- sessions, for what was answered
 

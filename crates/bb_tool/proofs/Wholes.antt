@@ -1,6 +1,6 @@
 -- Sessions where nothing failed: what was answered is what the files and the device hold. And those
 -- that end early.
-use Rattle.std.proofs.Common.{◌≡◌, ◌⊎◌, false, Option, None, Some, IsSome, Result, Ok, Err, IsErr, refl, sym, ap, subst, ◌∙◌, inl, inr, true}
+use Rattle.std.proofs.Common.{◌≡◌, ◌⊎◌, false, Option, None, Some, IsSome, Result, Ok, Err, IsErr, refl, sym, ap, subst, ◌∙◌, inl, inr, true, ℕ, List}
 use Rattle.std.specs.Option.{option_map_or}
 use Rattle.bb_base.proofs.Counts.{one_more_rose}
 use Rattle.bb_base.specs.Faults.{Rose}
@@ -18,10 +18,10 @@ use Rattle.bb_plan.specs.declared.status.Status.{Status}
 use Rattle.bb_plan.specs.declared.status.Status.TheVariants as statuses
 use Rattle.bb_plan.proofs.Readings.{EndsAtFault, one_fault}
 use Rattle.bb_plan.proofs.Plans.{alone_uncompared, faulty_plan, plan_held}
-use Rattle.bb_session.specs.Session.{Answers, LoadAnswer, Session, answers_after, answers_of, answers_to, ended_status, session_by, work_session}
+use Rattle.bb_session.specs.Session.{Answers, LoadAnswer, Session, answers_of, answers_to, ended_status, session_by, work_session}
 use Rattle.bb_session.specs.Work.{IsWork, SendsByMemory}
 use Rattle.bb_session.proofs.Barred.{HasMemory, HasNoFault, fault_call, is_call_fault, is_memory}
-use Rattle.bb_session.proofs.Unrefused.{IsCalm, unrefused, work_gives, work_made, work_same}
+use Rattle.bb_session.proofs.Unrefused.{IsCalm, sound_over, unrefused, work_gives, work_made, work_same}
 use Rattle.bb_session.specs.Looking.{first_found, passed_in}
 use Rattle.bb_tool.specs.Calls.{CountsFileFaults, FailsNoStart, IsAnswered, IsFoundBy, IsSession, IsUndisturbed, IsUndisturbedAlone, IsWholeFor, KeepsFiles, LeavesBy, LeavesUnplanned, LeavesUnplannedAlone, MayAnswer, NamesNoFile, geometry_of, plan_over, session_for, session_plan_for}
 use Rattle.bb_tool.specs.Copying.{EndsDoneAlone, LeavesDevice, MakesItsSaves, StopsAtFileFault, StopsBetweenSaves}
@@ -39,14 +39,17 @@ use Rattle.bb_tool.specs.Sending.{IsSent, sent_of}
 load_same : (plan : SessionPlan) (from to : Device) (load : LoadAnswer) (answers : WorkAnswers) → IsWork plan from to load answers → HasNoFault (work_session plan load answers) →
     HasMemory (work_session plan load answers) → (image : Image) → content from ≡ Some image →
     let held : LoadAnswer = Ok (first_found (passed_in plan.keyed from.geometry.page image)) in
-    IsCalm from to (work_session plan held (answers_after plan held)) → work_session plan load answers ≡ work_session plan held (answers_after plan held)
+    IsCalm from to (work_session plan held (sound_over plan from.geometry.page image held)) →
+    work_session plan load answers ≡ work_session plan held (sound_over plan from.geometry.page image held)
 load_same plan from to (Err fault) answers done none memory image told calm =
     absurd (let e : true ≡ false = sym (fault_call fault) ∙ none in cc)
 load_same plan from to (Ok found) answers done none memory image told calm =
     let same = work_gives plan from to found answers done image told in
-    work_same plan from to found answers done none memory
-    (subst (λ f. IsCalm from to (work_session plan (Ok f) (answers_after plan (Ok f)))) (sym same) calm)
-    ∙ ap (λ f. work_session plan (Ok f) (answers_after plan (Ok f))) same
+    let sound : Option (List ℕ) → Session =
+    λ f. work_session plan (Ok f) (sound_over plan from.geometry.page image (Ok f)) in
+    work_same plan from to found answers done none memory image told
+    (subst (λ f. IsCalm from to (sound f)) (sym same) calm)
+    ∙ ap sound same
 
 plan_same : (plan : Result SessionPlan EarlyEnd) (before after : Device) (answers : Answers) (files : FileAnswers) → IsFollowed plan before after answers → (Rose before.faults after.faults → ⊥) → HasMemory (session_by plan answers) → (image : Image) → content before ≡ Some image → IsCalm before after (session_by plan (answers_to files plan before.geometry image answers.drill answers.compared)) → session_by plan answers ≡ session_by plan (answers_to files plan before.geometry image answers.drill answers.compared)
 plan_same (Err end) before after answers files done whole memory image told calm = refl

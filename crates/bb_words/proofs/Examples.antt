@@ -4,7 +4,7 @@ use Rattle.hex.specs.Hex.{decode_pairs}
 use Rattle.bb_words.specs.declared.command.CauseWord.{CauseWord}
 use Rattle.bb_words.specs.declared.command.CauseWord.TheVariants.{PowerOn, Reset, Other}
 use Rattle.bb_words.specs.declared.command.Command.{Command}
-use Rattle.bb_words.specs.declared.command.Command.TheVariants.{State, MarkGood, Boot, Shell, Install, Verify, Menu}
+use Rattle.bb_words.specs.declared.command.Command.TheVariants.{State, MarkGood, Boot, Shell, Install, Verify, Menu, History}
 use Rattle.bb_words.specs.declared.command.Action.{Action}
 use Rattle.bb_words.specs.declared.command.Action.TheVariants.{Set, Get, Dump, DumpShell}
 use Rattle.bb_words.specs.declared.command.RawAction.TheVariants.{Look, Write}
@@ -388,6 +388,41 @@ settings_of_verify = refl
 target_of_boot : words_of (codes "boot" ∷ codes "-t" ∷ codes "system0" ∷ []) ≡ Err 1
 unfolding words_from
 target_of_boot = refl
+
+-- ---- `history`
+
+abbrev history : List ℕ → Option (List ℕ) → Option (List ℕ) → Command
+history file name key =
+    History (record { described = record { file = file; name = name; key = key } })
+
+history_alone : words_of (codes "history" ∷ codes "-i" ∷ codes "b.dts" ∷ []) ≡ Ok (history (codes "b.dts") None None)
+unfolding words_from
+history_alone = refl
+
+history_any_order : words_of (codes "history" ∷ codes "-k" ∷ codes "key" ∷ codes "--name=boot" ∷ codes "--input" ∷ codes "-n" ∷ [])
+    ≡ Ok (history (codes "-n") (Some (codes "boot")) (Some (codes "key")))
+unfolding words_from
+history_any_order = refl
+
+history_without_a_file : words_of (codes "history" ∷ []) ≡ Err 1
+unfolding words_from
+history_without_a_file = refl
+
+history_sets_nothing : words_of (codes "history" ∷ codes "-s" ∷ codes "a=b" ∷ []) ≡ Err 1
+unfolding words_from
+history_sets_nothing = refl
+
+history_gets_nothing : words_of (codes "history" ∷ codes "-i" ∷ codes "a" ∷ codes "-g" ∷ codes "b" ∷ []) ≡ Err 3
+unfolding words_from
+history_gets_nothing = refl
+
+history_has_no_settings : words_of (codes "history" ∷ codes "-c" ∷ codes "a" ∷ []) ≡ Err 1
+unfolding words_from
+history_has_no_settings = refl
+
+history_dumps_nothing : words_of (codes "history" ∷ codes "-d" ∷ []) ≡ Err 1
+unfolding words_from
+history_dumps_nothing = refl
 
 -- ---- `menu`
 

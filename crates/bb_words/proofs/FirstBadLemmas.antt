@@ -201,6 +201,7 @@ row_completed rows.Shell given start file =
     shell_completed start file given given.settings given.script
 row_completed rows.Install given start file = install_completed start file given
 row_completed rows.Verify given start file = verify_completed start file given given.label given.image
+row_completed rows.History given start file = ([], _, refl)
 
 options_completed : (start : ℕ) (row : Row) (given : Given) →
     Continues start (Options row None given) []

@@ -421,6 +421,7 @@ row_begins rows.Boot rest = refl
 row_begins rows.Shell rest = refl
 row_begins rows.Install rest = refl
 row_begins rows.Verify rest = refl
+row_begins rows.History rest = refl
 
 options_accepted : (row : Row) (words : List (List ℕ)) (command : Command) → IsSpelt row words command → words_of words ≡ Ok command
 unfolding Makes
@@ -463,6 +464,7 @@ accepted words (commands.Boot boot) is = options_accepted rows.Boot words _ is
 accepted words (commands.Shell shell) is = options_accepted rows.Shell words _ is
 accepted words (commands.Install install) is = options_accepted rows.Install words _ is
 accepted words (commands.Verify verify) is = options_accepted rows.Verify words _ is
+accepted words (commands.History history) is = options_accepted rows.History words _ is
 accepted words (Menu menu) is = ap words_of is ∙ menu_accepted menu.dir
 accepted words (Drill numbers) is = ap words_of is.1 ∙ drill_accepted is.0 numbers is.2
 
@@ -1020,6 +1022,10 @@ row_made rows.Install words given command made =
 row_made rows.Verify words given command made =
     of_part rows.Verify words (λ (verify : VerifyCommand). commands.Verify verify)
     (λ verify is. is) (verify_in given) command made
+row_made rows.History words given command made =
+    of_part rows.History words
+    (λ (d : Described). commands.History (record { described = d }))
+    (λ d is. is) (described_in given) command made
 
 -- a word that is found in the table is a row's name, by each of its rows
 named_step : (w : List ℕ) (row first : Row) (rest : Option Row) →
@@ -1041,7 +1047,8 @@ row_named w row =
     named_step w row rows.Boot _ (
     named_step w row rows.Shell _ (
     named_step w row rows.Install _ (
-    named_step w row rows.Verify None (λ none. absurd (cc)))))))
+    named_step w row rows.Verify _ (
+    named_step w row rows.History None (λ none. absurd (cc))))))))
 
 options_of_words : (row : Row) (w : List ℕ) (rest : List (List ℕ)) (command : Command) → row_of w ≡ Some row → words_from 1 (Options row None none_given) rest ≡ Ok command →
     Spells (w ∷ rest) command

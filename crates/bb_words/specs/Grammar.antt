@@ -226,6 +226,7 @@ Spells words (commands.Boot boot) = IsSpelt rows.Boot words (commands.Boot boot)
 Spells words (commands.Shell shell) = IsSpelt rows.Shell words (commands.Shell shell)
 Spells words (commands.Install install) = IsSpelt rows.Install words (commands.Install install)
 Spells words (commands.Verify verify) = IsSpelt rows.Verify words (commands.Verify verify)
+Spells words (commands.History history) = IsSpelt rows.History words (commands.History history)
 Spells words (commands.Menu menu) = words ≡ codes "menu" ∷ codes "--dir" ∷ menu.dir ∷ []
 Spells words (commands.Drill numbers) =
     (rest : List (List ℕ)) × (words ≡ codes "drill" ∷ rest) × IsDrill rest numbers

@@ -27,6 +27,7 @@ command_name_of rows.Boot = codes "boot"
 command_name_of rows.Shell = codes "shell"
 command_name_of rows.Install = codes "install"
 command_name_of rows.Verify = codes "verify"
+command_name_of rows.History = codes "history"
 
 -- the command that is called so
 abbrev pub row_of : List ℕ → Option Row
@@ -37,6 +38,7 @@ row_of word =
     else if bytes_eq word (command_name_of rows.Shell) then Some rows.Shell
     else if bytes_eq word (command_name_of rows.Install) then Some rows.Install
     else if bytes_eq word (command_name_of rows.Verify) then Some rows.Verify
+    else if bytes_eq word (command_name_of rows.History) then Some rows.History
     else None
 
 -- whether every row has an option: it says which state
@@ -67,6 +69,7 @@ has_besides rows.Install Image = true
 has_besides rows.Install Digest = true
 has_besides rows.Verify Label = true
 has_besides rows.Verify Image = true
+has_besides rows.History Key = true
 has_besides _ _ = false
 
 -- whether a row has an option with a value
@@ -136,10 +139,10 @@ verify_in given =
     (slot_given given.label given.image))
     (described_in given)
 
--- the command that its options make, where those are given that must be: of `state` the file, of
--- `mark-good`, `boot`, `shell` and `install` that of the settings too, of `shell` that of the
--- script, of `install` and `verify` the slot and its image, and of `install` the target and the
--- digest
+-- the command that its options make, where those are given that must be: of `state` and `history`
+-- the file, of `mark-good`, `boot`, `shell` and `install` that of the settings too, of `shell` that
+-- of the script, of `install` and `verify` the slot and its image, and of `install` the target and
+-- the digest
 abbrev pub command_of : Row → Given → Option Command
 command_of rows.State given =
     option_map
@@ -160,6 +163,10 @@ command_of rows.Shell given =
     (boot_in given)
 command_of rows.Install given = option_map (λ install. commands.Install install) (install_in given)
 command_of rows.Verify given = option_map (λ verify. commands.Verify verify) (verify_in given)
+command_of rows.History given =
+    option_map
+    (λ described. commands.History (record { described = described }))
+    (described_in given)
 
 -- whether an option may come: the command has it, and it wasn't given before if it comes once
 abbrev pub may_come : Row → Valued → Given → Bool

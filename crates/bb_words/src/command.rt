@@ -10,6 +10,7 @@ pub enum Command {
     Shell(ShellCommand),
     Install(InstallCommand),
     Verify(VerifyCommand),
+    History(HistoryCommand),
     Menu(MenuCommand),
     Drill(DrillNumbers),
 }
@@ -106,6 +107,12 @@ pub struct InstallCommand {
 pub struct VerifyCommand {
     pub described: Described,
     pub slot: SlotWords,
+}
+
+/// `history`: what the copies' regions still hold, oldest first.
+#[derive(Debug, Drop)]
+pub struct HistoryCommand {
+    pub described: Described,
 }
 
 /// `menu`: the order of the boot entries in a folder.

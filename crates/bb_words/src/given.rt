@@ -13,8 +13,8 @@ use crate::made::{boot_by, described_by, install_by, slot_given};
 use crate::option::{Valued, cause_of, cut_at_sign, dump_of, value_in, valued_of};
 use crate::row::Row;
 use crate::{
-    Action, ActionList, CauseWord, Command, MarkGoodCommand, ShellCommand, StateCommand,
-    VerifyCommand, WordsError,
+    Action, ActionList, CauseWord, Command, HistoryCommand, MarkGoodCommand, ShellCommand,
+    StateCommand, VerifyCommand, WordsError,
 };
 use bb_base::{Bytes, NoMemory, Text};
 use std::alloc::Global;
@@ -234,6 +234,7 @@ impl Given {
                 let slot = slot_given(self.label, self.image)?;
                 Some(Command::Verify(VerifyCommand { described, slot }))
             }
+            (Row::History, _, _) => Some(Command::History(HistoryCommand { described })),
             _ => None,
         }
     }

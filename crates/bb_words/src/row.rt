@@ -13,6 +13,7 @@ pub(crate) enum Row {
     Shell,
     Install,
     Verify,
+    History,
 }
 
 impl Row {
@@ -27,6 +28,7 @@ impl Row {
             "shell" => Some(Row::Shell),
             "install" => Some(Row::Install),
             "verify" => Some(Row::Verify),
+            "history" => Some(Row::History),
             _ => None,
         }
     }

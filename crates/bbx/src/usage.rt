@@ -77,6 +77,12 @@ COMMAND
   verify -i FILE -p LABEL -f IMAGE [-n NAME]
                        compares the slot with the image, and loads nothing. Prints `same`, or
                        `differs` and the first byte that differs, from 0.
+  history -i FILE [-n NAME] [-k FILE]
+                       reads the devicetree as `state` does, and what the copies' regions still
+                       hold. Prints for each copy how many areas pass there, and then each
+                       area's variables, oldest first. A log may hold many, other storage one.
+                       It changes nothing of the device, and doesn't say that an older area was
+                       ever acknowledged.
   menu --dir DIR       prints a line for each boot entry of the folder DIR: its file's name, a
                        space and its title. Where the title is empty, `linux` stands in its
                        place. The first is the one that starts a target whose setting names the

@@ -40,6 +40,11 @@ returns-in-Verify-clause-read g c =
     same_reading (λ w. command_reading w c.args.geometry) task_as c.in-Verify.is
     c.plan_verify.ensures.read
 
+pub returns-in-History-clause-read : goal.returns-in-History-clause-read
+returns-in-History-clause-read g c =
+    same_reading (λ w. command_reading w c.args.geometry) task_as c.in-History.is
+    c.plan_described-in-History.ensures.read
+
 pub returns-in_err-text-in-Menu-clause-read : goal.returns-in_err-text-in-Menu-clause-read
 returns-in_err-text-in-Menu-clause-read g c =
     same_reading (λ w. command_reading w c.args.geometry) task_as c.in-Menu.is

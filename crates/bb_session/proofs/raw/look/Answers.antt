@@ -18,7 +18,8 @@ returns-in_err-found-clause-gives g c =
     (g.F.Flash.device c.look.new.flash) (Err c.in_err-found.field-0.0) no_answers c.from_residual-in_err-found.result
     (record {
       looked = record { told = λ image told. tt; fails = done.fails; faults = done.faults; read_faults = done.read_faults; quiet = done.quiet };
-      none = refl;
+      alone = refl;
+      listed = refl;
     })
     (refused_ends (copy_refusal c.in_err-found.field-0.0) [] c.from_residual-in_err-found.result
     (refused_by c.from_residual-in_err-found.result _ c.from_residual-in_err-found.ensures.1))

@@ -1,27 +1,15 @@
-use Rattle.std.proofs.Common.{◌≡◌, ◌∙◌, ℕ, false, length, Option, Ok, ap, arith, refl, subst, sym}
+use Rattle.std.proofs.Common.{◌≡◌, ◌∙◌, ℕ, length, Option, Ok, ap, arith, refl, subst, sym}
 use Rattle.bb_flash.specs.declared.geometry.Geometry.{Geometry}
 use Rattle.bb_state.specs.Keyed.{Keyed}
 use Rattle.bb_copies.specs.Loading.{IsLoad}
 use Rattle.bb_copies.specs.Store.{used_after}
-use Rattle.bb_plan.specs.declared.plan.Work.{Work}
-use Rattle.bb_session.specs.Acting.{needs_table}
 use Rattle.bb_session.specs.Doing.{IsDone, page_len}
-use Rattle.bb_session.specs.Work.{IsLoadedArea, IsWorkedOut}
+use Rattle.bb_session.specs.Work.{IsLoadedArea}
 use Rattle.bb_state.specs.Kinds.{laid_form, laid_kinds}
 use Rattle.bb_state.specs.State.{keyed_of, stored_of}
-use Rattle.bb_session.proofs.Acted.{looks_only}
 use Rattle.bb_session.proofs.Done.{beside_slot, done_later, done_out, done_unloaded}
 use Rattle.bb_session.proofs.Worked.{refused_by}
 use Rattle.bb_session.proofs.work.work_on.Goals as goal
-
-pub returns-then-not-needs_table-clause-gives : goal.returns-then-not-needs_table-clause-gives
-returns-then-not-needs_table-clause-gives g c =
-    let none : needs_table c.args.work ≡ false =
-    (let e = c.needs_table.ensures in let f = c.if-not-needs_table.true in cc) in
-    subst
-    (λ (w : Work). IsWorkedOut (keyed_of c.args.state) w (g.B.Flash.device c.args.board.now)
-    (g.B.Flash.device c.look.new.flash) c.look.result)
-    (sym (looks_only c.args.work none)) c.look.ensures.gives
 
 pub returns-in_err-load-clause-gives : goal.returns-in_err-load-clause-gives
 returns-in_err-load-clause-gives g c =

@@ -1,0 +1,13 @@
+use Rattle.std.proofs.Common.{◌∙◌, ap, arith, reverse}
+use Rattle.std.proofs.lemmas.Grind.{common_steps}
+use Rattle.bb_history.proofs.Backwards.{pushed_back}
+use Rattle.bb_history.proofs.places.Places.push.Goals as goal
+
+pub returns-clause-ok : goal.returns-clause-ok
+returns-clause-ok c =
+    pushed_back c.self.inside.found.items _ c.push.new.self.items c.args.place c.self.view_is
+    (grind (arith, common_steps, c.in_ok-push.ensures.items))
+
+pub returns-in_err-push-clause-err : goal.returns-in_err-push-clause-err
+returns-in_err-push-clause-err c =
+    ap reverse (grind (arith, common_steps, c.in_err-push.ensures.items)) ∙ c.self.view_is
